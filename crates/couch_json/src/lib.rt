@@ -1,0 +1,5 @@
+#![tactic(auto)]
+
+mod no_memory;
+
+pub use no_memory::{Got, NoMemory};
