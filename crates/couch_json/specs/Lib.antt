@@ -1,0 +1,6 @@
+pub mod Value
+pub mod Range
+pub mod Lawful
+pub mod Canonical
+pub mod Collation
+pub mod View

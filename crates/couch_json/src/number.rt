@@ -1,0 +1,29 @@
+ghost use Rattle.std.specs.Prelude.{◌≡◌, MatchOption};
+ghost use Rattle.couch_json.specs.Range.{IsInRange};
+
+/// A whole number from -2^63 to 2^63 - 1: the numbers that this store keeps.
+#[derive(Clone, Copy, Debug, PartialEq, Eq)]
+pub struct Number {
+    value: i128,
+    ghost in_range: { IsInRange value },
+}
+
+impl Number {
+    /// The number, or `None` exactly where it lies outside of -2^63 to 2^63 - 1.
+    pub fn new(value: i128) -> Option<Number>
+        ensures { MatchOption result (¬ IsInRange value) (λ n. IsInRange value × (n.value ≡ value)) }
+    {
+        if value < i64::MIN as i128 || value > i64::MAX as i128 {
+            return None;
+        }
+        Some(Number { value })
+    }
+
+    /// The number as an integer, from -2^63 to 2^63 - 1.
+    pub fn value(&self) -> i128
+        ensures number { result ≡ self.now.value }
+        ensures in_range { IsInRange result }
+    {
+        self.value
+    }
+}
