@@ -4,3 +4,4 @@ pub mod Lawful
 pub mod Canonical
 pub mod Collation
 pub mod View
+pub mod Written
