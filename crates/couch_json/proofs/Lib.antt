@@ -1,2 +1,4 @@
+pub mod Items
 pub mod Objects
 pub mod Texts
+pub mod Readings

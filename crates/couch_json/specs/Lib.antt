@@ -4,4 +4,6 @@ pub mod Lawful
 pub mod Canonical
 pub mod Collation
 pub mod View
+pub mod Nesting
+pub mod Reading
 pub mod Written

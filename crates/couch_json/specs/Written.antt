@@ -1,21 +1,18 @@
 -- A value as the kit's serde_json and json see it, for private clauses and proofs.
 -- The kit's own definitions of data, outline and tokens decide.
-use Rattle.std.specs.Prelude.{ℤ, pos, negsuc, List}
+use Rattle.std.specs.Prelude.{List}
 use Rattle.json.specs.Token.{Token}
 use Rattle.json.specs.Tree as tree
 use Rattle.serde_json.specs.Data as serde
+use Rattle.serde_json.specs.Find.{of_integer}
 use Rattle.serde_json.specs.Written.{outline, items_outline, members_outline}
 use Rattle.couch_json.specs.Value.{Value, null, truth, whole, text, array, object, Items, no_items, item, Members, no_members, member}
-
-abbrev pub number_data : ℤ → serde.Num
-number_data (pos n) = serde.unsigned n
-number_data (negsuc n) = serde.negative (negsuc n)
 
 abbrev mutual
   pub data_of : Value → serde.Data
   data_of null = serde.null
   data_of (truth b) = serde.boolean b
-  data_of (whole n) = serde.number (number_data n)
+  data_of (whole n) = serde.number (of_integer n)
   data_of (text s) = serde.string s
   data_of (array vs) = serde.array (items_data vs)
   data_of (object ms) = serde.object (members_data ms)

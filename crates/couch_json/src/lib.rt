@@ -1,12 +1,18 @@
 #![tactic(auto)]
 
+mod converting;
 mod copying;
+mod fault;
+mod nesting;
 mod no_memory;
 mod number;
+mod reading;
 mod value;
 mod writing;
 
+pub use fault::JsonFault;
 pub use no_memory::{Got, NoMemory};
 pub use number::Number;
+pub use reading::read;
 pub use value::Json;
 pub use writing::canon;

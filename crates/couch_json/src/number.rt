@@ -27,3 +27,13 @@ impl Number {
         self.value
     }
 }
+
+impl From<i64> for Number {
+    ghost from_gives = { λ whole number. number.value ≡ whole };
+
+    fn from(whole: i64) -> Number {
+        Number {
+            value: i128::from(whole),
+        }
+    }
+}
