@@ -2,3 +2,4 @@ pub mod Items
 pub mod Objects
 pub mod Texts
 pub mod Readings
+pub mod ReadingBack
