@@ -88,6 +88,7 @@ mutual
   members_within : (ms : Members) (k : ℕ) (rest : List Token) → k + 1 ≤ max_open → passes (k + 1) (members_tokens ms ++ rest) ≡ false → (k + 1 + members_depth ms ≤ max_open) × (passes k rest ≡ false)
   members_within no_members k rest small h = (omega arith, sym (closed k rest small) ∙ (or_parts _ _ h).1)
   members_within (member name j ms) k rest small h =
-      let first = depth_within j (k + 1) (members_tokens ms ++ rest) (sym (ap (passes (k + 1)) (append_assoc (json_tokens j) (members_tokens ms) rest)) ∙ (or_parts _ _ h).1) in
-      let others = members_within ms k rest small first.1 in
-      (omega (arith, first.0, others.0), others.1)
+      let first : (k + 1 + depth j ≤ max_open) × (passes (k + 1) (members_tokens ms ++ rest) ≡ false) =
+      depth_within j (k + 1) (members_tokens ms ++ rest) (sym (ap (passes (k + 1)) (append_assoc (json_tokens j) (members_tokens ms) rest)) ∙ (or_parts _ _ h).1) in
+      let others : (k + 1 + members_depth ms ≤ max_open) × (passes k rest ≡ false) = members_within ms k rest small first.1 in
+      (omega arith, others.1)

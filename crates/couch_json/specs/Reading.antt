@@ -2,9 +2,12 @@
 -- RFC 8259 as serde_json reads it: its own definition says what a JSON text is, and of a repeated name the last value stands.
 use Rattle.std.specs.Prelude.{ℕ, List, Option, Some, None, Result, Ok, Err, if◌then◌else◌, option_map, option_and_then}
 use Rattle.std.specs.Str.{is_utf8}
+use Rattle.json.specs.Lex.{tokens}
+use Rattle.json.specs.Json.{if_last}
+use Rattle.json.specs.Json as json
 use Rattle.serde_json.specs.Data as serde
 use Rattle.serde_json.specs.Find.{as_i64}
-use Rattle.serde_json.specs.Read.{read}
+use Rattle.serde_json.specs.Read.{read, of_json}
 use Rattle.couch_json.specs.declared.fault.JsonFault.{JsonFault}
 use Rattle.couch_json.specs.declared.fault.JsonFault.TheVariants.{Syntax, Number, Depth}
 use Rattle.couch_json.specs.Nesting.{nests_too_deep}
@@ -45,3 +48,7 @@ data_read bytes = if is_utf8 bytes then read bytes else None
 -- the value of the bytes, or the first fault: nesting, then syntax, then a number
 abbrev pub reading : List ℕ → Result Value JsonFault
 reading bytes = if nests_too_deep bytes then Err Depth else value_or_fault (data_read bytes)
+
+-- what serde_json would read with another limit on depth than its own
+abbrev pub data_read_within : ℕ → List ℕ → Option serde.Data
+data_read_within limit bytes = option_and_then of_json (option_and_then (λ p. if_last p.0 p.1) (json.value limit (tokens bytes)))

@@ -55,7 +55,10 @@ fn convert_items(alloc: Global, source: Vec<Value>) -> Result<Vec<Json>, JsonFau
 }
 
 #[cycle(convert)]
-fn convert_members(alloc: Global, source: Map<String, Value>) -> Result<BTreeMap<String, Json>, JsonFault>
+fn convert_members(
+    alloc: Global,
+    source: Map<String, Value>,
+) -> Result<BTreeMap<String, Json>, JsonFault>
     ensures value { IfOk result (λ members. members_of_data (members_data source.entries) no_members
         ≡ Some (members_view members.entries)) }
     ensures fault { IfErr result (λ e. e ≢ JsonFault.Memory

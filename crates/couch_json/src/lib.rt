@@ -3,10 +3,13 @@
 mod converting;
 mod copying;
 mod fault;
+pub mod laws;
 mod nesting;
 mod no_memory;
 mod number;
 mod reading;
+#[cfg(test)]
+mod tests;
 mod value;
 mod writing;
 

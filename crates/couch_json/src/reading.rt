@@ -7,8 +7,8 @@ use crate::converting::convert;
 use crate::fault::JsonFault;
 use crate::nesting::nests_too_deep;
 use crate::value::Json;
-use serde_json::error::Category;
 use serde_json::Value;
+use serde_json::error::Category;
 use std::alloc::Global;
 
 /// The value that the bytes have as a JSON text, or the first fault that applies:

@@ -1,7 +1,9 @@
-ghost use Rattle.std.specs.Prelude.{◌≡◌, ◌++◌, IfOk, OnOk, string_bytes};
+ghost use Rattle.std.specs.Prelude.{◌≡◌, ◌≤◌, ◌++◌, IfOk, OnOk, Ok, string_bytes};
 ghost use Rattle.couch_json.specs.Canonical.{canonical};
 ghost use Rattle.couch_json.specs.Lawful.{IsLawful, AreLawfulItems, HasAscendingNames, AreLawfulMembers};
-ghost use Rattle.couch_json.specs.Value.{array, object};
+ghost use Rattle.couch_json.specs.Nesting.{max_open};
+ghost use Rattle.couch_json.specs.Reading.{reading};
+ghost use Rattle.couch_json.specs.Value.{array, object, depth};
 ghost use Rattle.couch_json.specs.View.{view, items_view, members_view};
 ghost use Rattle.couch_json.specs.Written.{value_tokens};
 
@@ -17,6 +19,10 @@ use std::collections::BTreeMap;
 pub fn canon(alloc: Global, value: &Json) -> Got<String>
     ensures text { IfOk result (λ text. string_bytes text ≡ canonical (view value.now)) }
     ensures lawful { OnOk result (IsLawful (view value.now)) }
+
+    // The text of a value at most 110 deep reads as that value.
+    ensures reads_back { IfOk result (λ text. depth (view value.now) ≤ max_open
+        → reading (string_bytes text) ≡ Ok (view value.now)) }
 {
     let mut out = Writer::new(Vec::new(alloc));
     put_value(&mut out, value)?;

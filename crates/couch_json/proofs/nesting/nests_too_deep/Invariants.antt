@@ -6,5 +6,5 @@ use Rattle.couch_json.proofs.nesting.nests_too_deep.Given as goal
 abbrev pub invariant-loop-byte : goal.invariant-loop-byte
 invariant-loop-byte l = record {
   rest : list_any (nat_lt max_open) (open_counts l.place l.open_count (drop l.byte-index l.bytes)) ≡ nests_too_deep l.bytes;
-  few : l.open_count ≤ max_open
+  few : l.open_count ≤ max_open;
 }

@@ -8,12 +8,12 @@ abbrev pub invariant-put_items-loop-item : goal.invariant-put_items-loop-item
 invariant-put_items-loop-item l = record {
   written : l.out.tokens ++ elements_tokens (items_view (drop l.item-index l.item-items)) ≡ l.initial.out.tokens ++ elements_tokens (items_view l.item-items);
   before : l.out.before ≡ l.initial.out.before;
-  lawful : AreLawfulItems (items_view (drop l.item-index l.item-items)) → AreLawfulItems (items_view l.item-items)
+  lawful : AreLawfulItems (items_view (drop l.item-index l.item-items)) → AreLawfulItems (items_view l.item-items);
 }
 
 abbrev pub invariant-put_members-loop-name : goal.invariant-put_members-loop-name
 invariant-put_members-loop-name l = record {
   written : l.out.tokens ++ object_tokens (members_view l.name-iterator) ≡ l.initial.out.tokens ++ object_tokens (members_view l.members.entries);
   before : l.out.before ≡ l.initial.out.before;
-  lawful : AreLawfulMembers (members_view l.name-iterator) → AreLawfulMembers (members_view l.members.entries)
+  lawful : AreLawfulMembers (members_view l.name-iterator) → AreLawfulMembers (members_view l.members.entries);
 }

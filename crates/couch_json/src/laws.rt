@@ -1,0 +1,26 @@
+//! What holds of the definitions alone: each law is the contract of a function with an empty body.
+ghost use Rattle.std.specs.Prelude.{◌≡◌, ◌≤◌, ℕ, false, Some, Ok};
+ghost use Rattle.serde_json.specs.Data.{Data};
+ghost use Rattle.serde_json.specs.Read.{read};
+ghost use Rattle.couch_json.specs.Canonical.{canonical};
+ghost use Rattle.couch_json.specs.Lawful.{IsLawful};
+ghost use Rattle.couch_json.specs.Nesting.{max_open, nests_too_deep};
+ghost use Rattle.couch_json.specs.Reading.{reading, data_read_within};
+ghost use Rattle.couch_json.specs.Value.{Value, depth};
+
+/// The canonical text of a lawful value at most 110 deep reads as that value.
+pub fn canonical_text_reads_back()
+    ensures { (v : Value) → IsLawful v → depth v ≤ max_open → reading (canonical v) ≡ Ok v }
+{}
+
+/// Lawful values with one canonical text are equal.
+pub fn canonical_text_is_of_one_value()
+    ensures { (v w : Value) → IsLawful v → IsLawful w → canonical v ≡ canonical w → v ≡ w }
+{}
+
+/// The limit that serde_json itself sets on nesting refuses no text that passes the test for
+/// depth: what it would read with any other limit, it reads.
+pub fn own_limit_of_serde_json_never_shows(bytes: &[u8])
+    ensures { nests_too_deep bytes.now ≡ false → (limit : ℕ) (d : Data)
+        → data_read_within limit bytes.now ≡ Some d → read bytes.now ≡ Some d }
+{}
