@@ -1,8 +1,8 @@
 -- A list of values before the elements of an array.
-use Rattle.std.proofs.Common.{◌≡◌, List, [], ◌∷◌, ◌++◌, Option, Some, None, option_map, option_and_then, refl, ap}
+use Rattle.std.proofs.Common.{◌≡◌, List, [], ◌∷◌, ◌++◌, Option, Some, None, option_map, refl, ap}
 use Rattle.serde_json.specs.Data as serde
 use Rattle.couch_json.specs.Reading.{value_of, items_of_data}
-use Rattle.couch_json.specs.Value.{Value, Items, no_items, item}
+use Rattle.couch_json.specs.Value.{Items, no_items, item}
 use Rattle.couch_json.specs.View.{view, items_view}
 use Rattle.couch_json.specs.declared.value.Json.{Json}
 

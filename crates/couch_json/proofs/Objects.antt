@@ -1,18 +1,18 @@
 -- The members of an object, beside the entries of the map that holds them.
-use Rattle.std.proofs.Common.{◌≡◌, ℕ, List, [], ◌∷◌, ◌++◌, String, Global, Some, Ordering, Less, Equal, Greater, string_bytes, string_cmp, nat_cmp, refl, sym, ap, ◌∙◌, append_assoc, rules}
+use Rattle.std.proofs.Common.{◌≡◌, ℕ, List, [], ◌∷◌, String, Global, Option, Some, None, option_map, is_eq, cond, Bor, BTreeMap, Ordering, Less, Equal, Greater, string_bytes, string_cmp, nat_cmp, refl, sym, ap, ◌∙◌, rules}
 use Rattle.std.proofs.lemmas.Cmp.{nat_list_cmp_total}
 use Rattle.std.specs.Cmp.Lexicographic.{slice_cmp}
 use Rattle.std.specs.List.{AllByRecursion}
 use Rattle.std.specs.List.Sorted.{IsStrictlySortedBy}
-use Rattle.std.specs.Map.{keys_of}
+use Rattle.std.specs.Map.{keys_of, lookup}
 use Rattle.std.specs.Ordering.{match_ordering, ordering_reverse}
-use Rattle.std.specs.BTreeMap.{insert_entry}
+use Rattle.std.specs.BTreeMap.{insert_entry, is_at}
 use Rattle.serde_json.specs.Data as serde
 use Rattle.couch_json.specs.Reading.{value_of, members_of_data}
-use Rattle.couch_json.specs.Value.{Value, Members, no_members, member, put, put_all}
+use Rattle.couch_json.specs.Value.{Value, Members, no_members, member, put, put_all, member_at, object}
 use Rattle.couch_json.specs.Lawful.{IsBefore, HasAscendingNames}
 use Rattle.couch_json.specs.View.{view, members_view}
-use Rattle.couch_json.specs.declared.value.Json.{Json}
+use Rattle.couch_json.specs.declared.value.Json.{Json, Object, the_lemmas}
 
 abbrev pub Entry : Type 0
 Entry = String Global × Json
@@ -81,3 +81,23 @@ put_all-no_members ms h = put_all_onto ms no_members h
 pub next_member : (es fs : List Entry) (name : String Global) (d : serde.Data) (ds : serde.Members) (v : Json) → value_of d ≡ Some (view v) → fs ≡ insert_entry string_cmp es name v
     → members_of_data (serde.member (string_bytes name) d ds) (members_view es) ≡ members_of_data ds (members_view fs)
 next_member es fs name d ds v is inserted = rw (is, inserted, members_view-insert_entry)
+
+-- ---- a member by its name
+
+found_or : (o : Ordering) (v : Json) (rest : Option Json) (others : Option Value) → option_map view rest ≡ others
+    → option_map view (cond (is_eq o) (Some v) rest) ≡ match_ordering o others (Some (view v)) others
+found_or Less v rest others same = same
+found_or Equal v rest others same = refl
+found_or Greater v rest others same = same
+
+-- what a look-up in the map finds is the member of that name
+pub view-lookup : (name : List ℕ) (es : List Entry) → option_map view (lookup (is_at (λ k. slice_cmp nat_cmp name (string_bytes k))) es) ≡ member_at name (members_view es)
+view-lookup name [] = refl
+view-lookup name (e ∷ es) = found_or (slice_cmp nat_cmp name (string_bytes e.0)) e.1 _ _ (view-lookup name es)
+
+pub view_of_reference : (found : Option (Bor Json)) → option_map (λ v. view v.now) found ≡ option_map view (option_map (λ v. v.now) found)
+view_of_reference None = refl
+view_of_reference (Some v) = refl
+
+pub view-Object : (m : BTreeMap (String Global) Json) → view (Object m) ≡ object (members_view m.entries)
+view-Object m = search (rules, the_lemmas)

@@ -1,6 +1,6 @@
 -- How many brackets are open, counted over the bytes of a text and over its tokens: where no token is bad, both pass the limit or neither does.
-use Rattle.std.proofs.Common.{◌≡◌, ℕ, ◌+◌, ◌-◌, ◌≤◌, ◌==◌, ◌||◌, List, [], ◌∷◌, Bool, true, false, cond, Option, Some, None, nat_lt, refl, sym, ap, ◌∙◌, subst, arith}
-use Rattle.std.proofs.lemmas.Bool.{false≢true, true≢false, eqb-true, or_parts, ltb-false, le-ltb}
+use Rattle.std.proofs.Common.{◌≡◌, ℕ, ◌+◌, ◌-◌, ◌≤◌, ◌==◌, ◌||◌, List, [], ◌∷◌, Bool, true, false, cond, Option, Some, None, nat_lt, refl, sym, ap, ◌∙◌, arith}
+use Rattle.std.proofs.lemmas.Bool.{false≢true, eqb-true, or_parts, ltb-false, le-ltb}
 use Rattle.std.specs.Prelude.{⊤}
 use Rattle.std.specs.List.{list_any}
 use Rattle.json.specs.Align.{is_good}
@@ -8,7 +8,7 @@ use Rattle.json.specs.Text.{content, plain}
 use Rattle.json.specs.Token.{Token, begin_object, end_object, begin_array, end_array, key, string, number, boolean, null, bad}
 use Rattle.json.specs.Word.{is_operator, is_space, word}
 use Rattle.json.specs.Lex.{Lexeme, token, comma, colon, string_token, Class, quote, backslash, operator, space, other, class, Mode, between, in_word, in_string, in_escape, operator_lexeme, lex_byte, lex, Place, fresh, after_value, after_comma, after_key, may_begin, may_close, begins_colon, if_allowed, place_token, punctuate, tokens}
-use Rattle.couch_json.specs.Nesting.{place_after, open_after, open_counts, max_open, nests_too_deep}
+use Rattle.couch_json.specs.Nesting.{open_counts, max_open, nests_too_deep}
 use Rattle.couch_json.proofs.Words.{NoMark, clean, clean-word, clean-rest, not_clean, IsWord, IsWord-word, operators}
 use Rattle.couch_json.specs.declared.nesting.Place as ours
 use Rattle.couch_json.specs.declared.nesting.Place.TheVariants.{Outside, Inside, Escaped}

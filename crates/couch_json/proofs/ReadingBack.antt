@@ -1,17 +1,15 @@
 -- The canonical text of a lawful value reads as that value, and is the text of no other.
 -- serde_json's own limit on depth refuses no text that is not nested too deep.
-use Rattle.std.proofs.Common.{◌≡◌, ℕ, suc, ◌^◌, ◌<◌, ◌≤◌, ◌-◌, ℤ, pos, negsuc, List, [], ◌∷◌, ◌++◌, Bool, true, false, Ordering, Less, Equal, Greater, Option, Some, None, option_map, option_and_then, nat_cmp, nat_lt, IsUtf8, refl, sym, ap, ◌∙◌, arith, lt-ltb, Ok, subst, append-nil, ◌+◌}
+use Rattle.std.proofs.Common.{◌≡◌, ℕ, suc, ◌^◌, ◌<◌, ◌≤◌, ℤ, pos, negsuc, List, [], ◌∷◌, ◌++◌, true, false, Ordering, Less, Equal, Greater, Option, Some, None, option_and_then, nat_cmp, IsUtf8, refl, sym, ap, ◌∙◌, arith, lt-ltb, Ok, subst, append-nil, ◌+◌}
 use Rattle.std.proofs.lemmas.Int.{ints}
 use Rattle.std.proofs.lemmas.Fmt.{IsAscii-signed}
 use Rattle.std.proofs.lemmas.Str.{IsUtf8-append, IsUtf8-nil, IsUtf8-from_ascii}
-use Rattle.std.specs.Prelude.{⊤}
 use Rattle.std.specs.Cmp.Lexicographic.{slice_cmp}
-use Rattle.std.specs.Fmt.{signed_decimal}
 use Rattle.std.specs.List.{AllByRecursion, join_with_byte}
 use Rattle.std.specs.Ordering.{match_ordering}
 use Rattle.json.specs.Token.{Token}
 use Rattle.json.specs.Lex.{tokens}
-use Rattle.json.specs.Print.{print, quoted, ArePrintable}
+use Rattle.json.specs.Print.{quoted}
 use Rattle.json.specs.Json.{if_last}
 use Rattle.json.specs.Json as json
 use Rattle.json.specs.Tree as tree
@@ -28,7 +26,7 @@ use Rattle.serde_json.specs.Written.{number_text, outline, items_outline, member
 use Rattle.serde_json.proofs.Numbers.{number_of-decimal, number_of-negative}
 use Rattle.couch_json.specs.Range.{IsInRange}
 use Rattle.couch_json.specs.Value.{Value, null, truth, whole, text, array, object, Items, no_items, item, Members, no_members, member, put, put_all, depth, items_depth, members_depth}
-use Rattle.couch_json.specs.Lawful.{IsLawful, AreLawfulItems, AreLawfulMembers, HasAscendingNames}
+use Rattle.couch_json.specs.Lawful.{IsLawful, AreLawfulItems, AreLawfulMembers}
 use Rattle.couch_json.specs.Canonical.{canonical, items_texts, members_texts}
 use Rattle.couch_json.specs.Nesting.{max_open, nests_too_deep}
 use Rattle.couch_json.specs.Reading.{value_of, items_of_data, members_of_data, whole_or_fault, value_or_fault, reading, data_read_within}

@@ -1,6 +1,6 @@
 -- The canonical text of a value: compact, members in the order in which the object has them, the shortest escapes.
 -- RFC 8259, sections 2 to 7, for the grammar; which of its texts is canonical is this project's own choice.
-use Rattle.std.specs.Prelude.{ℕ, List, [], ◌∷◌, ◌++◌, Bool, true, false, codes}
+use Rattle.std.specs.Prelude.{ℕ, List, [], ◌∷◌, ◌++◌, true, false, codes}
 use Rattle.std.specs.Fmt.{signed_decimal}
 use Rattle.std.specs.List.{join_with_byte}
 use Rattle.json.specs.Print.{quoted}

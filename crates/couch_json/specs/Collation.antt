@@ -1,6 +1,6 @@
 -- The order of values: null, false, true, numbers, texts, arrays, objects.
 -- CouchDB manual, "Views Collation"; texts go by their bytes here, and not by ICU.
-use Rattle.std.specs.Prelude.{ℕ, List}
+use Rattle.std.specs.Prelude.{ℕ}
 use Rattle.std.specs.declared.cmp.Ordering.{Ordering}
 use Rattle.std.specs.declared.cmp.Ordering.TheVariants.{Less, Equal, Greater}
 use Rattle.std.specs.Ordering.{nat_cmp, int_cmp, bool_cmp, ordering_then}

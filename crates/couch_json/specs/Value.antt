@@ -55,3 +55,12 @@ abbrev mutual
 abbrev pub put_all : Members → Members → Members
 put_all no_members found = found
 put_all (member name v ms) found = put_all ms (put name v found)
+
+-- the value's member of this name, where it is an object that has one
+abbrev pub member_of : Value → List ℕ → Option Value
+member_of null name = None
+member_of (truth b) name = None
+member_of (whole n) name = None
+member_of (text s) name = None
+member_of (array vs) name = None
+member_of (object ms) name = member_at name ms

@@ -4,6 +4,7 @@ mod converting;
 mod copying;
 mod fault;
 pub mod laws;
+mod nested;
 mod nesting;
 mod no_memory;
 mod number;

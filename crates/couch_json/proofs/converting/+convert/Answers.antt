@@ -1,9 +1,9 @@
-use Rattle.std.proofs.Common.{◌≡◌, [], ◌∷◌, ◌++◌, Some, option_map, string_bytes, sym, ap, ◌∙◌, rules}
+use Rattle.std.proofs.Common.{◌≡◌, [], ◌∷◌, ◌++◌, Some, option_map, sym, ap, ◌∙◌, rules}
 use Rattle.std.proofs.lemmas.List.{nil_from_length}
 use Rattle.std.specs.Vec.Iter.{into_iter_items}
 use Rattle.serde_json.specs.View.{view as data_view, items_view as items_data, members_view as members_data}
 use Rattle.couch_json.specs.Reading.{items_of_data, members_of_data}
-use Rattle.couch_json.specs.View.{items_view, members_view}
+use Rattle.couch_json.specs.View.{members_view}
 use Rattle.couch_json.proofs.Items.{items_after, items_after-no_items, next_item}
 use Rattle.couch_json.proofs.Objects.{next_member}
 use Rattle.couch_json.proofs.converting.+convert.Goals as goal

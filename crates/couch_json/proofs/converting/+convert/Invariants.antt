@@ -2,7 +2,7 @@ use Rattle.std.proofs.Common.{◌≡◌, option_map}
 use Rattle.std.specs.Vec.Iter.{into_iter_items}
 use Rattle.serde_json.specs.View.{items_view as items_data, members_view as members_data}
 use Rattle.couch_json.specs.Value.{no_members}
-use Rattle.couch_json.specs.View.{items_view, members_view}
+use Rattle.couch_json.specs.View.{members_view}
 use Rattle.couch_json.specs.Reading.{items_of_data, members_of_data}
 use Rattle.couch_json.proofs.Items.{items_after}
 use Rattle.couch_json.proofs.converting.+convert.Given as goal

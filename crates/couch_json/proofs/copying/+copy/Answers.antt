@@ -1,6 +1,6 @@
 use Rattle.std.proofs.Common.{◌≡◌, string_bytes, sym, ap, ◌∙◌}
-use Rattle.couch_json.specs.Value.{put, put_all}
-use Rattle.couch_json.specs.View.{view, members_view}
+use Rattle.couch_json.specs.Value.{put_all}
+use Rattle.couch_json.specs.View.{members_view}
 use Rattle.couch_json.proofs.Objects.{members_view-insert_entry, ascending, put_all-no_members}
 use Rattle.couch_json.proofs.copying.+copy.Goals as goal
 
