@@ -4,6 +4,7 @@ mod converting;
 mod copying;
 mod fault;
 pub mod laws;
+mod members;
 mod nested;
 mod nesting;
 mod no_memory;
@@ -15,6 +16,7 @@ mod value;
 mod writing;
 
 pub use fault::JsonFault;
+pub use members::put_member;
 pub use no_memory::{Got, NoMemory};
 pub use number::Number;
 pub use reading::read;
