@@ -1,0 +1,3 @@
+pub mod TrimLemmas
+pub mod HeaderLemmas
+pub mod RoleLemmas

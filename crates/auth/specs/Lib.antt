@@ -1,0 +1,4 @@
+pub mod Hmac
+pub mod Headers
+pub mod Roles
+pub mod Callers

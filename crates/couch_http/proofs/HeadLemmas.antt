@@ -1,0 +1,54 @@
+-- What follows from the headers of a head.
+use Rattle.std.proofs.Common.{◌≡◌, ℕ, ◌<◌, false, List, [], ◌∷◌, map, take, refl, sym, ap, ◌∙◌, arith, Ok}
+use Rattle.std.specs.Prelude.{IsTrue, IsUtf8}
+use Rattle.std.proofs.lemmas.Bool.Decides.{nat_tests}
+use Rattle.std.proofs.lemmas.List.Elements.{All-weaker}
+use Rattle.std.proofs.lemmas.Str.{IsUtf8-from_ascii}
+use Rattle.std.proofs.lemmas.Str.Ascii.{IsAscii-from_all}
+use Rattle.httparse.specs.declared.spans.HeaderSpan.{HeaderSpan}
+use Rattle.httparse.specs.declared.spans.RequestSpans.{RequestSpans}
+use Rattle.httparse.specs.Grammar.{is_token_byte, AllPass, Field, RequestHead}
+use Rattle.httparse.specs.Spans.{span_bytes, header_bytes, name_and_value, IsRequestAt}
+use Rattle.couch_http.specs.Beginning.{field_at}
+use Rattle.couch_http.specs.Message.{HeaderField, Message}
+use Rattle.couch_http.specs.Fields.{has_transfer_encoding, content_length}
+use Rattle.couch_http.specs.Stream.{announced, with_body, after_head, field_of, front_of}
+
+-- the request that is announced awaits its body
+pub with_body-announced : (method target : List ℕ) (minor : ℕ) (headers : List HeaderField) (m : Message) (size : ℕ)
+    → has_transfer_encoding headers ≡ false → content_length headers ≡ Ok size → m ≡ announced method target minor headers
+    → (rest : List ℕ) → with_body m size rest ≡ after_head method target minor headers rest
+with_body-announced method target minor headers m size plain length same rest = rw (same, plain, length) refl
+
+token_is_ascii : (b : ℕ) → IsTrue (is_token_byte b) → b < 128
+unfolding is_token_byte
+token_is_ascii b token = grind (arith, nat_tests)
+
+-- a method is a text
+pub token_text : (bytes : List ℕ) → AllPass is_token_byte bytes → IsUtf8 bytes
+token_text bytes pass =
+    IsUtf8-from_ascii bytes (IsAscii-from_all bytes (All-weaker (λ b. IsTrue (is_token_byte b)) (λ b. b < 128) token_is_ascii bytes pass))
+
+-- a name and a value as a header
+with_name : List ℕ × List ℕ → HeaderField
+with_name p = record { name = p.0; value = p.1 }
+
+map_field_at : (head : List ℕ) (spans : List HeaderSpan) → map (field_at head) spans ≡ map with_name (map (header_bytes head) spans)
+unfolding with_name
+map_field_at head [] = refl
+map_field_at head (s ∷ spans) = ap (λ (l : List HeaderField). field_at head s ∷ l) (map_field_at head spans)
+
+map_field_of : (fields : List Field) → map field_of fields ≡ map with_name (map name_and_value fields)
+unfolding with_name
+map_field_of [] = refl
+map_field_of (f ∷ fields) = ap (λ (l : List HeaderField). field_of f ∷ l) (map_field_of fields)
+
+-- the parts that were found are those of the head
+pub after_head-found : (head : List ℕ) (spans : List HeaderSpan) (found : RequestSpans) (h : RequestHead)
+    → IsRequestAt head spans found h → (rest : List ℕ)
+    → after_head (span_bytes head found.method) (span_bytes head found.path) found.version (map (field_at head) (take found.headers spans)) rest
+    ≡ front_of h rest
+after_head-found head spans found h at rest =
+    let fields : map (field_at head) (take found.headers spans) ≡ map field_of h.fields =
+    map_field_at head (take found.headers spans) ∙ ap (map with_name) at.fields ∙ sym (map_field_of h.fields) in
+    rw (at.method, at.path, at.version, fields) refl

@@ -1,0 +1,19 @@
+use Rattle.std.proofs.Common.{refl, [], append-nil}
+use Rattle.couch_http.specs.Message.{message_of}
+use Rattle.couch_http.specs.Stream.{unfinished, faulty}
+use Rattle.couch_http.proofs.BeginLemmas.{Begins_shorter}
+use Rattle.couch_http.proofs.begun.cut_all.Goals as goal
+
+pub returns-in-Waits : goal.returns-in-Waits
+returns-in-Waits c =
+    let begun = rw c.in-Waits.is at c.in_ok-stage.ensures in
+    (begun.2, rw begun.1 (rw append-nil at (c.loop-requests.invariant [] (unfinished c.loop-requests.rest.now) (begun.0, refl))))
+
+pub returns-in-Broken : goal.returns-in-Broken
+returns-in-Broken c =
+    let begun = rw c.in-Broken.is at c.in_ok-stage.ensures in
+    (tt, rw append-nil at (c.loop-requests.invariant [] (faulty c.in-Broken.fault) begun))
+
+pub loop-requests-smaller : goal.loop-requests-smaller
+loop-requests-smaller c =
+    Begins_shorter c.loop-requests.rest.now (message_of c.in-Whole.request) c.in-Whole.more.now (rw c.in-Whole.is at c.in_ok-stage.ensures)

@@ -1,0 +1,17 @@
+use Rattle.std.proofs.Common.{◌∙◌, inl}
+use Rattle.std.proofs.lemmas.Result.{IfOk-weaker}
+use Rattle.couch_http.specs.Beginning.{IsHeadRead}
+use Rattle.couch_http.proofs.HeadLemmas.{token_text, after_head-found}
+use Rattle.couch_http.proofs.head.read_head.Goals as goal
+
+pub announced-requires-clause-method_text : goal.announced-requires-clause-method_text
+announced-requires-clause-method_text c =
+    let found = c.in-Some.ensures.found in
+    rw found.2.method (token_text found.0.method found.2.reads.0.method.1)
+
+pub returns-in-Some : goal.returns-in-Some
+returns-in-Some c =
+    let found = c.in-Some.ensures.found in
+    IfOk-weaker c.announced.result _ (IsHeadRead c.args.head.now)
+    (λ read is rest. inl (found.0, found.1, is rest ∙ after_head-found c.args.head.now c.find_parts.new.spans c.in-Some.found found.0 found.2 rest))
+    c.announced.ensures

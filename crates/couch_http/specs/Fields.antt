@@ -1,0 +1,72 @@
+-- What the headers of a request say of its body and its connection, and how its target is parted.
+-- RFC 9112, sections 6.1 to 6.3 and 9.6, and RFC 9110, sections 5.1, 5.5 and 7.6.1; the limit is this project's own.
+use Rattle.std.specs.Prelude.{ℕ, ◌+◌, ◌-◌, ◌*◌, Bool, ◌&&◌, List, [], ◌∷◌, length, map, if◌then◌else◌, ◌==◌, nat_lt, codes, Option, Some, None, Result, Ok, Err}
+use Rattle.std.specs.Char.{is_ascii_digit, to_ascii_lowercase}
+use Rattle.std.specs.List.{list_all, list_any, slice_split, position_or_len, before_first, after_first}
+use Rattle.std.specs.Str.{bytes_eq}
+use Rattle.httparse.specs.Ascii.{comma}
+use Rattle.httparse.specs.Grammar.{trim_ows}
+use Rattle.couch_http.specs.declared.fault.HttpFault.{HttpFault}
+use Rattle.couch_http.specs.declared.fault.HttpFault.TheVariants.{Syntax, TooLarge}
+use Rattle.couch_http.specs.Message.{HeaderField}
+
+-- a body has at most so many bytes
+unfoldable pub body_limit : ℕ
+body_limit = 4194304
+
+-- equal without ASCII case
+unfoldable pub same_name : List ℕ → List ℕ → Bool
+same_name a b = bytes_eq (map to_ascii_lowercase a) (map to_ascii_lowercase b)
+
+-- the values of the headers of a name, in order
+abbrev pub values_of : List ℕ → List HeaderField → List (List ℕ)
+values_of name [] = []
+values_of name (h ∷ headers) =
+    if same_name h.name name then h.value ∷ values_of name headers else values_of name headers
+
+-- the number that decimal digits write behind n; 48 is the digit 0
+abbrev pub decimal_after : ℕ → List ℕ → ℕ
+decimal_after n [] = n
+decimal_after n (digit ∷ digits) = decimal_after (n * 10 + (digit - 48)) digits
+
+-- a length is written in decimal digits, at least one, and may not pass the limit
+abbrev pub length_text : List ℕ → Result ℕ HttpFault
+length_text text =
+    if nat_lt 0 (length text) && list_all is_ascii_digit text
+    then (if nat_lt body_limit (decimal_after 0 text) then Err TooLarge else Ok (decimal_after 0 text))
+    else Err Syntax
+
+-- no `Content-Length` means 0, and two are refused
+abbrev pub length_of : List (List ℕ) → Result ℕ HttpFault
+length_of [] = Ok 0
+length_of (value ∷ []) = length_text value
+length_of (value ∷ other ∷ more) = Err Syntax
+
+abbrev pub content_length : List HeaderField → Result ℕ HttpFault
+content_length headers = length_of (values_of (codes "Content-Length") headers)
+
+abbrev pub has_transfer_encoding : List HeaderField → Bool
+has_transfer_encoding headers = nat_lt 0 (length (values_of (codes "Transfer-Encoding") headers))
+
+-- one of the parts between commas is `close`, with spaces and tabs around it dropped
+abbrev pub lists_close : List ℕ → Bool
+lists_close value = list_any (λ part. same_name (trim_ows part) (codes "close")) (slice_split (λ b. b == comma) value)
+
+-- some `Connection` header lists `close`
+abbrev pub asks_close : List HeaderField → Bool
+asks_close headers = list_any (λ value. lists_close value) (values_of (codes "Connection") headers)
+
+-- the byte of a question mark
+abbrev pub question_mark : ℕ
+question_mark = 63
+
+-- the target up to its first question mark
+abbrev pub path_of : List ℕ → List ℕ
+path_of target = before_first (λ b. b == question_mark) target
+
+-- what stands behind the first question mark, where there is one
+abbrev pub query_of : List ℕ → Option (List ℕ)
+query_of target =
+    if nat_lt (position_or_len (λ b. b == question_mark) target) (length target)
+    then Some (after_first (λ b. b == question_mark) target)
+    else None

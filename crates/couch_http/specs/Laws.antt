@@ -1,0 +1,45 @@
+-- What holds of every stream.
+-- RFC 9112 says none of it; it follows from the definitions of `Stream`, `Pieces` and `Places`.
+use Rattle.std.specs.Prelude.{◌≡◌, ℕ, ◌<◌, ◌↔◌, List, [], ◌++◌, length, All}
+use Rattle.couch_http.specs.Message.{Message}
+use Rattle.couch_http.specs.Head.{IsHead, head_scan, complete}
+use Rattle.couch_http.specs.Stream.{waits, Begins, StreamEnd, unfinished, ended, faulty, Cuts}
+use Rattle.couch_http.specs.Pieces.{joined, CutInPieces}
+use Rattle.couch_http.specs.Places.{EndsAt}
+use Rattle.couch_http.specs.declared.fault.HttpFault.{HttpFault}
+
+-- a stream holds one list of requests, and then stands in one way
+abbrev pub HasOneReading : Type 0
+HasOneReading =
+    (bytes : List ℕ) (messages others : List Message) (end other : StreamEnd)
+    → Cuts bytes messages end → Cuts bytes others other → (messages ≡ others) × (end ≡ other)
+
+-- more bytes leave the requests, and go on from what was left
+abbrev pub GoesOnFromRest : Type 0
+GoesOnFromRest =
+    (bytes more : List ℕ) (messages others : List Message) (rest : List ℕ) (end : StreamEnd)
+    → Cuts bytes messages (unfinished rest) → Cuts (rest ++ more) others end → Cuts (bytes ++ more) (messages ++ others) end
+
+-- an end and a fault stay, whatever comes
+abbrev pub StaysEnded : Type 0
+StaysEnded =
+    (bytes more : List ℕ) (messages : List Message)
+    → (Cuts bytes messages ended → Cuts (bytes ++ more) messages ended)
+    × ((fault : HttpFault) → Cuts bytes messages (faulty fault) → Cuts (bytes ++ more) messages (faulty fault))
+
+-- two ways to cut a stream into pieces give the same requests and the same end
+abbrev pub PiecesDoNotMatter : Type 0
+PiecesDoNotMatter =
+    (pieces others : List (List ℕ)) (messages also : List Message) (end other : StreamEnd) → joined pieces ≡ joined others
+    → CutInPieces [] pieces messages end → CutInPieces [] others also other → (messages ≡ also) × (end ≡ other)
+
+-- the front of a stream that a search for the end of a head passes is a head, and there is no other
+abbrev pub HeadsAreFound : Type 0
+HeadsAreFound =
+    (head rest : List ℕ) (lines : ℕ) → IsHead head lines ↔ (head_scan (head ++ rest) ≡ complete lines rest)
+
+-- a request comes with the piece that has its last byte
+abbrev pub ComesWithLastByte : Type 0
+ComesWithLastByte =
+    (left piece : List ℕ) (messages : List Message) (places : List ℕ)
+    → Begins left waits → EndsAt 0 (left ++ piece) messages places → All (λ place. length left < place) places

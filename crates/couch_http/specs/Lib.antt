@@ -1,0 +1,13 @@
+pub mod Message
+pub mod Head
+pub mod Scanning
+pub mod Fields
+pub mod Stream
+pub mod Cutting
+pub mod Stages
+pub mod Beginning
+pub mod Reply
+pub mod ReplyText
+pub mod Pieces
+pub mod Places
+pub mod Laws

@@ -1,0 +1,21 @@
+use crate::fault::HttpFault;
+use crate::request::Request;
+
+/// How a stream stands after the requests that a piece completed.
+#[derive(Clone, Copy, Debug, PartialEq, Eq)]
+pub enum Ending {
+    /// It goes on.
+    Open,
+    /// The last of these requests is the connection's last. Later bytes are dropped.
+    Last,
+    /// After these requests comes what is none: `Syntax`, `Encoding` or `TooLarge`.
+    Fault(HttpFault),
+}
+
+/// What one piece of a stream brought.
+#[derive(Debug, Drop)]
+pub struct Cut {
+    /// The requests whose last byte is in the piece, in order.
+    pub requests: Vec<Request>,
+    pub ending: Ending,
+}

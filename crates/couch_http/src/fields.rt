@@ -1,0 +1,142 @@
+//! What the headers of a request say of its body and its connection.
+
+ghost use Rattle.std.specs.Prelude.{◌≡◌, ◌||◌, ◌==◌, [], ◌∷◌, map, reverse, nat_lt, if◌then◌else◌, None, Some, MatchOption};
+ghost use Rattle.std.specs.Char.{is_ascii_digit};
+ghost use Rattle.std.specs.List.{list_all};
+ghost use Rattle.httparse.specs.Grammar.{skip_ows, trim_ows};
+ghost use Rattle.couch_http.specs.Message.{header_field};
+ghost use Rattle.couch_http.specs.Fields.{body_limit, same_name, values_of, decimal_after, length_text, content_length, has_transfer_encoding, lists_close, asks_close};
+
+use crate::fault::HttpFault;
+use crate::limits::BODY_LIMIT;
+use crate::request::Header;
+
+/// Whether two names are equal without ASCII case (RFC 9110, section 5.1).
+#[tactic(auto, unfolding(crate::specs::Fields::same_name))]
+fn is_same_name(a: &[u8], b: &[u8]) -> bool
+    ensures { result ≡ same_name a.now b.now }
+{
+    a.eq_ignore_ascii_case(b)
+}
+
+/// The value of the first header of a name, and the headers after it.
+fn find_header<'a>(headers: &'a [Header], name: &[u8]) -> Option<(&'a [u8], &'a [Header])>
+    ensures { MatchOption result (values_of name.now (map header_field headers.now) ≡ [])
+        (λ found. values_of name.now (map header_field headers.now)
+        ≡ found.0.now ∷ values_of name.now (map header_field found.1.now)) }
+{
+    for (i, header) in headers.iter().enumerate() {
+        if is_same_name(&header.name, name) {
+            return Some((&header.value, &headers[i + 1..]));
+        }
+    }
+    None
+}
+
+/// Whether there is a `Transfer-Encoding` header, whatever it says (RFC 9112, section 6.1).
+pub fn has_transfer_encoding(headers: &[Header]) -> bool
+    ensures { result ≡ has_transfer_encoding (map header_field headers.now) }
+{
+    find_header(headers, b"Transfer-Encoding").is_some()
+}
+
+/// How many bytes the body has (RFC 9112, section 6.3): what `Content-Length` says, and 0 without it.
+pub fn content_length(headers: &[Header]) -> Result<usize, HttpFault>
+    ensures { result ≡ content_length (map header_field headers.now) }
+{
+    match find_header(headers, b"Content-Length") {
+        None => Ok(0),
+        Some((value, others)) => match find_header(others, b"Content-Length") {
+            None => length_text(value),
+            Some(_) => Err(HttpFault::Syntax),
+        },
+    }
+}
+
+/// The length that a text writes in decimal digits.
+fn length_text(text: &[u8]) -> Result<usize, HttpFault>
+    ensures { result ≡ length_text text.now }
+{
+    if text.is_empty() || !are_digits(text) {
+        return Err(HttpFault::Syntax);
+    }
+    decimal(text).ok_or(HttpFault::TooLarge)
+}
+
+fn are_digits(text: &[u8]) -> bool
+    ensures { result ≡ list_all is_ascii_digit text.now }
+{
+    text.iter().all(|byte| byte.is_ascii_digit())
+}
+
+/// The number that these digits write, if it is a lawful length.
+#[tactic(auto, unfolding(crate::specs::Fields::body_limit))]
+fn decimal(digits: &[u8]) -> Option<usize>
+    ensures { result ≡ (if nat_lt body_limit (decimal_after 0 digits.now) then None else Some (decimal_after 0 digits.now)) }
+{
+    let mut number = 0;
+    for digit in digits {
+        number = number * 10 + usize::from(digit.saturating_sub(b'0'));
+        if number > BODY_LIMIT {
+            return None;
+        }
+    }
+    Some(number)
+}
+
+/// Whether a `Connection` header lists `close` (RFC 9112, section 9.6).
+fn asks_close(headers: &[Header]) -> bool
+    ensures { result ≡ asks_close (map header_field headers.now) }
+{
+    for header in headers {
+        if is_same_name(&header.name, b"Connection") && lists_close(&header.value) {
+            return true;
+        }
+    }
+    false
+}
+
+/// Whether a request is the last on its connection (RFC 9112, sections 9.3 and 9.6): one of version 1.0, or one that asks for
+/// the close.
+pub fn is_last(minor: u8, headers: &[Header]) -> bool
+    ensures { result ≡ (minor == 0 || asks_close (map header_field headers.now)) }
+{
+    minor == 0 || asks_close(headers)
+}
+
+/// Whether a list of parts between commas has `close`, without ASCII case (RFC 9110, section 7.6.1).
+fn lists_close(value: &[u8]) -> bool
+    ensures { result ≡ lists_close value.now }
+{
+    value
+        .split(|byte| *byte == b',')
+        .any(|part| is_same_name(trim(part), b"close"))
+}
+
+/// The bytes without the spaces and tabs at both ends.
+#[tactic(auto, unfolding(httparse::specs::Grammar::trim_ows))]
+fn trim(bytes: &[u8]) -> &[u8]
+    ensures { result.now ≡ trim_ows bytes.now }
+{
+    trim_end(trim_start(bytes))
+}
+
+fn trim_start(bytes: &[u8]) -> &[u8]
+    ensures { result.now ≡ skip_ows bytes.now }
+{
+    let mut rest = bytes;
+    while let [b' ' | b'\t', others @ ..] = rest {
+        rest = others;
+    }
+    rest
+}
+
+fn trim_end(bytes: &[u8]) -> &[u8]
+    ensures { result.now ≡ reverse (skip_ows (reverse bytes.now)) }
+{
+    let mut rest = bytes;
+    while let [others @ .., b' ' | b'\t'] = rest {
+        rest = others;
+    }
+    rest
+}

@@ -1,0 +1,34 @@
+//! Laws of the definitions alone: each function has an empty body, and its contract is the law.
+
+ghost use Rattle.couch_http.specs.Laws.{HasOneReading, GoesOnFromRest, StaysEnded, PiecesDoNotMatter, ComesWithLastByte, HeadsAreFound};
+
+/// A stream holds one list of requests, and then stands in one way.
+pub fn one_reading()
+    ensures { HasOneReading }
+{}
+
+/// More bytes leave the requests that a stream holds, and go on from what was left of it.
+pub fn goes_on_from_rest()
+    ensures { GoesOnFromRest }
+{}
+
+/// An ended stream stays ended, whatever comes after its last request or its fault.
+pub fn stays_ended()
+    ensures { StaysEnded }
+{}
+
+/// However a stream is cut into pieces, it gives the same requests and the same end.
+pub fn pieces_do_not_matter()
+    ensures { PiecesDoNotMatter }
+{}
+
+/// A request comes with the piece that has its last byte, and no earlier or later one.
+pub fn comes_with_last_byte()
+    ensures { ComesWithLastByte }
+{}
+
+/// The end of a head is found exactly where the lines say it: behind any number of empty lines, at least one that isn't empty,
+/// and an empty one.
+pub fn heads_are_found()
+    ensures { HeadsAreFound }
+{}

@@ -1,0 +1,25 @@
+/// A header of a request (RFC 9110, section 5).
+#[derive(Debug, Drop)]
+pub struct Header {
+    /// The name as it came. Names are compared without ASCII case.
+    pub name: Vec<u8>,
+    /// The value, without the spaces and tabs around it.
+    pub value: Vec<u8>,
+}
+
+/// A request (RFC 9112, section 3).
+#[derive(Debug, Drop)]
+pub struct Request {
+    /// The method as it came: methods have case (RFC 9110, section 9.1).
+    pub method: String,
+    /// The request target as it came, up to its first `?`.
+    pub path: String,
+    /// What stands behind the first `?` of the target, where there is one.
+    pub query: Option<String>,
+    /// The headers, in order.
+    pub headers: Vec<Header>,
+    /// The body: as many bytes as `Content-Length` says.
+    pub body: Vec<u8>,
+    /// Whether the connection ends after the reply: version 1.0, or `close` in a `Connection` header.
+    pub last: bool,
+}

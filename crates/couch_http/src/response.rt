@@ -1,0 +1,127 @@
+use crate::fault::HttpFault;
+use crate::fixed::Fixed;
+use crate::fixed_texts;
+use crate::reply_lines::{push_close, push_length, push_status, push_type};
+use couch_json::{Got, Json, canon};
+use std::alloc::Global;
+use std::marker::Model;
+
+/// A reply (RFC 9112, section 4), as it goes to the client.
+///
+/// Clauses see its status, its body and its bytes.
+#[derive(Debug, Drop)]
+pub struct Response {
+    status: u16,
+    /// Where the body begins.
+    head_len: usize,
+    text: ReplyText,
+}
+
+/// The bytes of a reply.
+#[derive(Debug, Drop)]
+pub enum ReplyText {
+    Made(String),
+    Fixed(&'static str),
+}
+
+impl Model for Response {
+    ghost use Rattle.couch_http.specs.Reply.{Reply};
+
+    ghost Value = { Reply };
+
+    ghost use Rattle.couch_http.specs.ReplyText.{seen_reply, HasHead};
+
+    ghost view = { seen_reply };
+
+    ghost invariant = { HasHead };
+}
+
+impl Response {
+    ghost use Rattle.std.specs.Prelude.{◌≡◌, ◌≤◌, length, drop, IfOk, IfErr};
+    ghost use Rattle.couch_json.specs.Canonical.{canonical};
+    ghost use Rattle.couch_json.specs.View.{view};
+    ghost use Rattle.couch_http.specs.Reply.{reply_of, fixed_reply};
+
+    /// The reply of a status and a value, with `Connection: close` where it is the connection's last.
+    ///
+    /// The status is one of the thirteen that have a phrase here (RFC 9110, section 15): 200, 201, 400, 401, 403,
+    /// 404, 405, 409, 412, 413, 500, 501 and 503. The body is the value's canonical text. `Memory` is the one
+    /// refusal.
+    pub fn made(alloc: Global, status: u16, value: &Json, last: bool) -> Result<Response, HttpFault>
+        ensures reply { IfOk result (λ reply. reply ≡ reply_of status (canonical (view value.now)) last) }
+        ensures refused { IfErr result (λ fault. fault ≡ HttpFault.Memory) }
+    {
+        let body = canon(alloc, value)?;
+        Ok(Response::of_text(alloc, status, body.as_str(), last)?)
+    }
+
+    /// The reply of a status and the text of its body.
+    fn of_text(alloc: Global, status: u16, body: &str, last: bool) -> Got<Response>
+        ensures { IfOk result (λ reply. reply ≡ reply_of status body.now last) }
+    {
+        let mut text = String::new(alloc);
+        push_status(&mut text, status)?;
+        push_type(&mut text)?;
+        push_length(&mut text, body.len())?;
+        push_close(&mut text, last)?;
+        text.push_str("\r\n")?;
+        let head_len = text.len();
+        text.push_str(body)?;
+        Ok(Response {
+            status,
+            head_len,
+            text: ReplyText::Made(text),
+        })
+    }
+
+    /// A reply that needs no memory.
+    pub fn fixed(fixed: Fixed) -> Response
+        ensures { result ≡ fixed_reply fixed }
+    {
+        match fixed {
+            Fixed::Syntax => Response::standing(400, 99, fixed_texts::SYNTAX),
+            Fixed::Encoding => Response::standing(501, 103, fixed_texts::ENCODING),
+            Fixed::TooLarge => Response::standing(413, 105, fixed_texts::TOO_LARGE),
+            Fixed::Store { last: false } => Response::standing(500, 90, fixed_texts::STORE),
+            Fixed::Store { last: true } => Response::standing(500, 109, fixed_texts::STORE_LAST),
+            Fixed::NoRoom { last: false } => Response::standing(503, 88, fixed_texts::NO_ROOM),
+            Fixed::NoRoom { last: true } => Response::standing(503, 107, fixed_texts::NO_ROOM_LAST),
+        }
+    }
+
+    /// A reply whose text stands already, with its head in the first bytes.
+    fn standing(status: u16, head_len: usize, text: &'static str) -> Response
+        requires { head_len ≤ length text.now }
+        ensures { result ≡ record { status = status; body = drop head_len text.now; bytes = text.now } }
+    {
+        Response {
+            status,
+            head_len,
+            text: ReplyText::Fixed(text),
+        }
+    }
+
+    /// The status code (RFC 9110, section 15).
+    pub fn status(&self) -> u16
+        ensures { result ≡ self.now.status }
+    {
+        self.status
+    }
+
+    /// The body.
+    pub fn body(&self) -> &[u8]
+        ensures { result.now ≡ self.now.body }
+    {
+        &self.bytes()[self.head_len..]
+    }
+
+    /// All bytes of the reply, from the status line to the end of the body.
+    pub fn bytes(&self) -> &[u8]
+        ensures { result.now ≡ self.now.bytes }
+    {
+        match &self.text {
+            ReplyText::Made(text) => text.as_bytes(),
+            ReplyText::Fixed(text) => text.as_bytes(),
+        }
+    }
+}

@@ -1,0 +1,242 @@
+-- One more write after a lawful list: which writes go on lawfully, and what the content then shows.
+use Rattle.std.proofs.Common.{◌≡◌, ◌≢◌, ◌⊎◌, ℕ, zero, suc, ◌+◌, ◌≤◌, ◌<◌, Bool, true, false, cond, not, ◌&&◌, eqb, eqb-true, List, [], ◌∷◌, ◌++◌, length, Option, Some, None, Result, Ok, Err, refl, sym, ap, subst, ◌∙◌, arith, inl, inr, length-append}
+use Rattle.std.specs.Prelude.{IsTrue, is_some, option_and_then, ⊤, ◌↔◌}
+use Rattle.std.proofs.lemmas.Bool.{false≢true}
+use Rattle.std.specs.Ordering.{eq_by_cmp}
+use Rattle.std.specs.FinMap.{get, same_map}
+use Rattle.tree.specs.Revision.{Revision, revision_cmp}
+use Rattle.tree.specs.Write.{Write, is_whole, counts_down, head, held_by, StandsIn, IsBehind, EndsWith, IsKnown, IsParent, IsBrought, IsPathEnd, AreWhole, IsLawful}
+use Rattle.tree.specs.History.{HistoryContent, is_known, parent_of, held_of, same_parent, agrees, keeps_parents, is_head_known, placement, content_of, with_write, GoesOn}
+use Rattle.tree.specs.declared.entry.Held.{Held}
+use Rattle.tree.specs.declared.entry.Entry.{Entry}
+use Rattle.tree.specs.declared.placement.Placed.{Placed}
+use Rattle.tree.specs.declared.placement.Placed.TheVariants.{Added, Known}
+use Rattle.tree.specs.declared.placement.TreeFault.{TreeFault}
+use Rattle.tree.specs.declared.placement.TreeFault.TheVariants.{BadPath, OtherParent}
+use Rattle.tree.proofs.Kept.{revision_cmp_total}
+use Rattle.tree.proofs.Revisions.{revision_cmp_exact, same, tied}
+use Rattle.tree.proofs.RevisionText.{parts}
+use Rattle.tree.proofs.Contents.{one_more_write}
+use Rattle.tree.proofs.Shown.{shown, is_known_writes, parent_below, parent_is, root_number, entry_of_known, whole_counts, behind_below}
+
+-- ---- lists with one more at the end
+
+pub whole_more : (ws : List Write) (w : Write) → AreWhole ws → is_whole w.path ≡ true → AreWhole (ws ++ w ∷ [])
+whole_more [] w h k = (k, tt)
+whole_more (v ∷ ws) w h k = (h.0, whole_more ws w h.1 k)
+
+whole_less : (ws : List Write) (w : Write) → AreWhole (ws ++ w ∷ []) → AreWhole ws × (is_whole w.path ≡ true)
+whole_less [] w h = (tt, h.0)
+whole_less (v ∷ ws) w h = let k = whole_less ws w h.1 in ((h.0, k.0), k.1)
+
+parent_more : (ws : List Write) (w : Write) (r p : Revision) → IsParent (ws ++ w ∷ []) r p → IsParent ws r p ⊎ IsBehind w.path r p
+parent_more [] w r p (inl b) = inr b
+parent_more [] w r p (inr b) = elim b [ ]
+parent_more (v ∷ ws) w r p (inl b) = inl (inl b)
+parent_more (v ∷ ws) w r p (inr b) = elim (parent_more ws w r p b) as (λ _. IsParent (v ∷ ws) r p ⊎ IsBehind w.path r p) [ inl k ↦ inl (inr k) | inr k ↦ inr k ]
+
+parent_kept : (ws : List Write) (w : Write) (r p : Revision) → IsParent ws r p → IsParent (ws ++ w ∷ []) r p
+parent_kept [] w r p b = elim b [ ]
+parent_kept (v ∷ ws) w r p (inl b) = inl b
+parent_kept (v ∷ ws) w r p (inr b) = inr (parent_kept ws w r p b)
+
+parent_last : (ws : List Write) (w : Write) (r p : Revision) → IsBehind w.path r p → IsParent (ws ++ w ∷ []) r p
+parent_last [] w r p b = inl b
+parent_last (v ∷ ws) w r p b = inr (parent_last ws w r p b)
+
+-- where a write stands in a list with one more at its end: last, or before
+split_last : (before after ws : List Write) (v w : Write) → before ++ v ∷ after ≡ ws ++ w ∷ [] → ((before ≡ ws) × (v ≡ w)) ⊎ ((rest : List Write) × (before ++ v ∷ rest ≡ ws))
+split_last [] after [] v w e = inl (refl, cc)
+split_last [] after (x ∷ ws) v w e = let h : v ≡ x = cc in inr (ws, ap (λ y. y ∷ ws) h)
+split_last (b ∷ before) after [] v w e =
+    let t : before ++ v ∷ after ≡ [] = cc in
+    let n : length (before ++ v ∷ after) ≡ 0 = ap (λ xs. length xs) t in
+    absurd (omega (arith, n, length-append before (v ∷ after)))
+split_last (b ∷ before) after (x ∷ ws) v w e =
+    let h : b ≡ x = cc in
+    let t : before ++ v ∷ after ≡ ws ++ w ∷ [] = cc in
+    elim (split_last before after ws v w t) as (λ _. ((b ∷ before ≡ x ∷ ws) × (v ≡ w)) ⊎ ((rest : List Write) × ((b ∷ before) ++ v ∷ rest ≡ x ∷ ws))) [
+      | inl k ↦ inl ((λ i. h i ∷ k.0 i), k.1)
+      | inr k ↦ inr (k.0, λ i. h i ∷ k.1 i)
+    ]
+
+-- ---- one path
+
+-- a revision stands once in a whole path, so one revision is behind it
+low_in_path : (path : List Revision) (r p : Revision) → counts_down path ≡ true → IsBehind path r p → r.number ≤ length path
+low_in_path [] r p w b = elim b [ ]
+low_in_path (s ∷ path) r p w (inl b) = let n = eqb-true s.number (suc (length path)) (parts _ _ w).0 in let m = ap (λ (x : Revision). x.number) b.0 in omega (arith, n, m)
+low_in_path (s ∷ path) r p w (inr b) = let n = low_in_path path r p (parts _ _ w).1 b in omega (arith, n)
+
+once : (path : List Revision) (r p q : Revision) → counts_down path ≡ true → IsBehind path r p → IsBehind path r q → p ≡ q
+once [] r p q w b c = elim b [ ]
+once (s ∷ path) r p q w (inl b) (inl c) = let e : Some p ≡ Some q = sym b.1 ∙ c.1 in cc
+once (s ∷ path) r p q w (inl b) (inr c) =
+    let n = eqb-true s.number (suc (length path)) (parts _ _ w).0 in
+    let m = ap (λ (x : Revision). x.number) b.0 in
+    let l = low_in_path path r q (parts _ _ w).1 c in
+    absurd (omega (arith, n, m, l))
+once (s ∷ path) r p q w (inr b) (inl c) =
+    let n = eqb-true s.number (suc (length path)) (parts _ _ w).0 in
+    let m = ap (λ (x : Revision). x.number) c.0 in
+    let l = low_in_path path r p (parts _ _ w).1 b in
+    absurd (omega (arith, n, m, l))
+once (s ∷ path) r p q w (inr b) (inr c) = once path r p q (parts _ _ w).1 b c
+
+pub same_parent_is : (o p : Option Revision) → same_parent o p ≡ true → o ≡ p
+same_parent_is None None e = refl
+same_parent_is None (Some q) e = cc
+same_parent_is (Some p) None e = cc
+same_parent_is (Some p) (Some q) e = ap Some (same p q e)
+
+is_same_parent : (o p : Option Revision) → o ≡ p → same_parent o p ≡ true
+is_same_parent None None e = refl
+is_same_parent None (Some q) e = cc
+is_same_parent (Some p) None e = cc
+is_same_parent (Some p) (Some q) e = let i : p ≡ q = cc in tied p q i
+
+-- what a path that keeps parents says of a known revision
+kept_parent : (h : HistoryContent) (path : List Revision) (r p : Revision) (e : Entry) → keeps_parents h path ≡ true → IsBehind path r p → get h r ≡ Some e → e.parent ≡ Some p
+kept_parent h [] r p e k b g = elim b [ ]
+kept_parent h (s ∷ path) r p e k (inl b) g =
+    let a = (parts _ _ k).0 in
+    let there : get h s ≡ Some e = ap (get h) b.0 ∙ g in
+    same_parent_is e.parent (head path) (ap (λ o. agrees o (head path)) (sym there) ∙ a) ∙ b.1
+kept_parent h (s ∷ path) r p e k (inr b) g = kept_parent h path r p e (parts _ _ k).1 b g
+
+-- ---- what is added goes on lawfully
+
+-- what `Added` means
+pub record IsAdded (h : HistoryContent) (path : List Revision) : Type 0 where
+  pub whole : is_whole path ≡ true
+  pub keeps : keeps_parents h path ≡ true
+  pub new : is_head_known h path ≡ false
+
+pub added_is : (h : HistoryContent) (path : List Revision) → placement h path ≡ Ok Added → IsAdded h path
+added_is h path e = by (is_whole path) (keeps_parents h path) (is_head_known h path) refl refl refl e
+  where
+    by : (a b c : Bool) → is_whole path ≡ a → keeps_parents h path ≡ b → is_head_known h path ≡ c → cond (not a) (Err BadPath) (cond (not b) (Err OtherParent) (cond c (Ok Known) (Ok Added))) ≡ Ok Added → IsAdded h path
+    by true true true x y z e = cc
+    by true true false x y z e = record { whole = x; keeps = y; new = z }
+    by true false c x y z e = cc
+    by false b c x y z e = cc
+
+pub keeps_where_placed : (h : HistoryContent) (path : List Revision) (p : Placed) → placement h path ≡ Ok p → keeps_parents h path ≡ true
+keeps_where_placed h path p e = by (is_whole path) (keeps_parents h path) refl refl e
+  where
+    by : (a b : Bool) → is_whole path ≡ a → keeps_parents h path ≡ b → cond (not a) (Err BadPath) (cond (not b) (Err OtherParent) (cond (is_head_known h path) (Ok Known) (Ok Added))) ≡ Ok p → keeps_parents h path ≡ true
+    by true true x y z = y
+    by true false x y z = cc
+    by false b x y z = cc
+
+is_added : (h : HistoryContent) (path : List Revision) → IsAdded h path → placement h path ≡ Ok Added
+is_added h path a = rw (a.whole, a.keeps, a.new) refl
+
+new_head : (h : HistoryContent) (path : List Revision) (r : Revision) → head path ≡ Some r → is_head_known h path ≡ is_known h r
+new_head h [] r e = cc
+new_head h (s ∷ path) r e = let i : s ≡ r = cc in ap (is_known h) i
+
+pub added_goes_on : (ws : List Write) (w : Write) → IsLawful ws → placement (content_of ws) w.path ≡ Ok Added → IsLawful (ws ++ w ∷ [])
+added_goes_on ws w lawful e = record { whole = whole_more ws w lawful.whole a.whole; heads_new = heads; one_parent = one }
+  where
+    a : IsAdded (content_of ws) w.path
+    a = added_is (content_of ws) w.path e
+
+    heads : (before after : List Write) (v : Write) (r : Revision) → before ++ v ∷ after ≡ ws ++ w ∷ [] → head v.path ≡ Some r → ¬ (IsKnown before r)
+    heads before after v r s h known =
+        elim (split_last before after ws v w s) as (λ _. ⊥) [
+          | inl k ↦
+              let head_w : head w.path ≡ Some r = ap (λ (x : Write). head x.path) (sym k.1) ∙ h in
+              let known_ws : IsKnown ws r = subst (λ (xs : List Write). IsKnown xs r) k.0 known in
+              false≢true (sym a.new ∙ new_head (content_of ws) w.path r head_w ∙ (is_known_writes ws r).1 known_ws)
+          | inr k ↦ lawful.heads_new before k.0 v r k.1 h known
+        ]
+
+    mixed : (r p q : Revision) → IsParent ws r p → IsBehind w.path r q → p ≡ q
+    mixed r p q b c =
+        let known = (is_known_writes ws r).1 (parent_below ws r p lawful.whole b).child_known in
+        let g = entry_of_known (content_of ws) r known in
+        let up = kept_parent (content_of ws) w.path r q g.0 a.keeps c g.1 in
+        lawful.one_parent r p q b (parent_is ws r q g.0 g.1 up)
+
+    both : (r p q : Revision) → IsParent ws r p ⊎ IsBehind w.path r p → IsParent ws r q ⊎ IsBehind w.path r q → p ≡ q
+    both r p q (inl b) (inl c) = lawful.one_parent r p q b c
+    both r p q (inl b) (inr c) = mixed r p q b c
+    both r p q (inr b) (inl c) = sym (mixed r q p c b)
+    both r p q (inr b) (inr c) = once w.path r p q (whole_counts w.path a.whole) b c
+
+    one : (r p q : Revision) → IsParent (ws ++ w ∷ []) r p → IsParent (ws ++ w ∷ []) r q → p ≡ q
+    one r p q b c = both r p q (parent_more ws w r p b) (parent_more ws w r q c)
+
+-- ---- and what goes on lawfully is added
+
+pub lawful_front : (ws : List Write) (w : Write) → IsLawful (ws ++ w ∷ []) → IsLawful ws
+lawful_front ws w lawful = record { whole = (whole_less ws w lawful.whole).0; heads_new = heads; one_parent = λ r p q b c. lawful.one_parent r p q (parent_kept ws w r p b) (parent_kept ws w r q c) }
+  where
+    joined : (before after : List Write) (v : Write) → (before ++ v ∷ after) ++ w ∷ [] ≡ before ++ v ∷ (after ++ w ∷ [])
+    joined [] after v = refl
+    joined (b ∷ before) after v = ap (λ xs. b ∷ xs) (joined before after v)
+
+    heads : (before after : List Write) (v : Write) (r : Revision) → before ++ v ∷ after ≡ ws → head v.path ≡ Some r → ¬ (IsKnown before r)
+    heads before after v r s h = lawful.heads_new before (after ++ w ∷ []) v r (sym (joined before after v) ∙ ap (λ xs. xs ++ w ∷ []) s) h
+
+pub goes_on_added : (ws : List Write) (w : Write) → IsLawful (ws ++ w ∷ []) → placement (content_of ws) w.path ≡ Ok Added
+goes_on_added ws w lawful = is_added (content_of ws) w.path (record { whole = whole; keeps = keeps w.path (whole_counts w.path whole) (λ r p b. parent_last ws w r p b); new = new })
+  where
+    front : IsLawful ws
+    front = lawful_front ws w lawful
+
+    whole : is_whole w.path ≡ true
+    whole = (whole_less ws w lawful.whole).1
+
+    agreed : (r : Revision) (next : Option Revision) → ((p : Revision) → next ≡ Some p → IsParent (ws ++ w ∷ []) r p) → ((p : Revision) → next ≡ Some p → (2 ≤ r.number)) → (next ≡ None → r.number ≡ 1) → (e : Entry) → get (content_of ws) r ≡ Some e → (o : Option Revision) → e.parent ≡ o → o ≡ next
+    agreed r None up high low e g None is = refl
+    agreed r None up high low e g (Some q) is =
+        let b = parent_below ws r q front.whole (parent_is ws r q e g is) in
+        let n = low refl in
+        absurd (omega (arith, n, b.number, b.positive))
+    agreed r (Some p) up high low e g None is =
+        let n = root_number ws r e front.whole g is in
+        let m = high p refl in
+        absurd (omega (arith, n, m))
+    agreed r (Some p) up high low e g (Some q) is = ap Some (lawful.one_parent r q p (parent_kept ws w r q (parent_is ws r q e g is)) (up p refl))
+
+    step : (r : Revision) (rest : List Revision) (o : Option Entry) → get (content_of ws) r ≡ o → counts_down (r ∷ rest) ≡ true → ((s p : Revision) → IsBehind (r ∷ rest) s p → IsParent (ws ++ w ∷ []) s p) → agrees o (head rest) ≡ true
+    step r rest None g c up = refl
+    step r rest (Some e) g c up =
+        let n = eqb-true r.number (suc (length rest)) (parts _ _ c).0 in
+        is_same_parent e.parent (head rest)
+        (agreed r (head rest) (λ p h. up r p (inl (refl, h))) (λ p h. high rest p h n) (λ h. low rest h n) e g e.parent refl)
+      where
+        high : (rest : List Revision) (p : Revision) → head rest ≡ Some p → r.number ≡ suc (length rest) → 2 ≤ r.number
+        high [] p h n = cc
+        high (s ∷ rest) p h n = omega (arith, n)
+
+        low : (rest : List Revision) → head rest ≡ None → r.number ≡ suc (length rest) → r.number ≡ 1
+        low [] h n = n
+        low (s ∷ rest) h n = cc
+
+    keeps : (path : List Revision) → counts_down path ≡ true → ((r p : Revision) → IsBehind path r p → IsParent (ws ++ w ∷ []) r p) → keeps_parents (content_of ws) path ≡ true
+    keeps [] c up = refl
+    keeps (r ∷ path) c up =
+        let a = step r path (get (content_of ws) r) refl c up in
+        let b = keeps path (parts _ _ c).1 (λ s p b. up s p (inr b)) in
+        rw (a, b) refl
+
+    new_at : (path : List Revision) (o : Option Revision) → head path ≡ o → head w.path ≡ o → is_head_known (content_of ws) path ≡ false
+    new_at [] o h k = refl
+    new_at (r ∷ path) o h k = by (is_known (content_of ws) r) refl
+      where
+        by : (b : Bool) → is_known (content_of ws) r ≡ b → is_known (content_of ws) r ≡ false
+        by true is = absurd (lawful.heads_new ws [] w r refl (k ∙ sym h) ((is_known_writes ws r).0 is))
+        by false is = is
+
+    new : is_head_known (content_of ws) w.path ≡ false
+    new = new_at w.path (head w.path) refl refl
+
+-- a write that was added goes on with whatever lawful list stands behind the content
+pub goes_on : (old : HistoryContent) (w : Write) (new : HistoryContent) → placement old w.path ≡ Ok Added → new ≡ with_write old w → GoesOn old w new
+goes_on old w new added is ws lawful behind = (
+  added_goes_on ws w lawful (ap (λ (h : HistoryContent). placement h w.path) (sym behind) ∙ added),
+  is ∙ ap (λ (h : HistoryContent). with_write h w) behind ∙ sym (one_more_write ws w),
+)

@@ -1,0 +1,113 @@
+-- A history kept as its nodes in order: look-ups and writes by the nodes are those of the content.
+use Rattle.std.proofs.Common.{◌≡◌, ℕ, suc, ◌+◌, ◌-◌, ◌<◌, ◌≤◌, Bool, true, false, cond, length, List, [], ◌∷◌, ◌++◌, get_or, map, Option, Some, None, Result, Ok, Err, refl, sym, ap, subst, ◌∙◌, rules, arith, append_assoc}
+use Rattle.std.specs.Prelude.{IsTrue, IfOk, IfErr, is_some, option_map, filter, slice_get}
+use Rattle.std.specs.List.{find as first_passing}
+use Rattle.std.specs.List.Sorted.{IsSearchInRange, IsBinarySearchResult}
+use Rattle.std.specs.declared.cmp.Ordering.TheVariants.{Less, Equal, Greater}
+use Rattle.std.proofs.lemmas.Option.{slice_get-get_or}
+use Rattle.tree.proofs.SortedEntries.{find_hit, find_miss, nondecreasing, put_gap}
+use Rattle.std.specs.Cmp.{IsTotalOrder, on_total, then_total, nat_cmp_total}
+use Rattle.std.specs.Cmp.Lexicographic.{lists_total, slice_cmp}
+use Rattle.std.specs.Ordering.{nat_cmp, on, then_cmp}
+use Rattle.std.specs.FinMap.{FinMap, find, put, is_sorted, entries, entries_sorted, from_sorted, entries-from_sorted, entries-insert, empty, empty_of_len, len-entries, same_entries_map, get, get-entries, get-from_sorted, insert}
+use Rattle.std.specs.FinMap.Entries.{is_sorted-put}
+use Rattle.tree.specs.Revision.{Revision, revision_cmp}
+use Rattle.tree.specs.Nodes.{nodes_with_new, nodes_with, IsPlaceOf, IsGapFor}
+use Rattle.tree.specs.History.{HistoryContent, with_new, with_entries, line, onward, parent_of}
+use Rattle.tree.specs.declared.entry.Entry.{Entry}
+use Rattle.std.proofs.Math.Dec.{T}
+
+abbrev pub Node : Type 0
+Node = Revision × Entry
+
+pub revision_cmp_total : IsTotalOrder revision_cmp
+revision_cmp_total = then_total (on_total (λ r. r.number) nat_cmp_total) (on_total (λ r. r.hash) (lists_total nat_cmp_total))
+
+T_from_true : (b : Bool) → b ≡ true → T b
+T_from_true b e = subst T (sym e) tt
+
+pub from_sorted-nil : from_sorted {X = Entry} {R = revision_cmp} [] ≡ empty
+from_sorted-nil = empty_of_len _ (len-entries _ ∙ ap (λ (es : List Node). length es) (entries-from_sorted revision_cmp [] tt))
+
+-- the nodes of a content that was made of them
+pub nodes_of : (es : List Node) → IsTrue (is_sorted revision_cmp es) → entries (from_sorted {R = revision_cmp} es) ≡ es
+nodes_of es h = entries-from_sorted revision_cmp es (T_from_true _ h)
+
+pub entry_of : (es : List Node) (r : Revision) → IsTrue (is_sorted revision_cmp es) → get (from_sorted {R = revision_cmp} es) r ≡ find revision_cmp r es
+entry_of es r h = get-from_sorted revision_cmp es r (T_from_true _ h)
+
+entries-with_new : (h : HistoryContent) (r : Revision) (e : Entry) → entries (with_new h r e) ≡ nodes_with_new (entries h) r e
+entries-with_new h r e =
+    elim (is_some (find revision_cmp r (entries h))) as (λ b. is_some (get h r) ≡ b → entries (cond (is_some (get h r)) h (insert h r e)) ≡ cond b (entries h) (put revision_cmp r e (entries h))) [
+      | true ↦ λ known. ap (λ b. entries (cond b h (insert h r e))) known
+      | false ↦ λ new. ap (λ b. entries (cond b h (insert h r e))) new ∙ entries-insert revision_cmp_total h r e
+    ] (ap is_some (get-entries h r))
+
+entries-with_entries : (h : HistoryContent) (es : List Node) → entries (with_entries h es) ≡ nodes_with (entries h) es
+entries-with_entries h [] = refl
+entries-with_entries h (e ∷ es) = entries-with_entries (with_new h e.0 e.1) es ∙ ap (λ nodes. nodes_with nodes es) (entries-with_new h e.0 e.1)
+
+pub with_nodes : (old new es : List Node) → IsTrue (is_sorted revision_cmp old) → IsTrue (is_sorted revision_cmp new) → new ≡ nodes_with old es → from_sorted {R = revision_cmp} new ≡ with_entries (from_sorted old) es
+with_nodes old new es h k e =
+    same_entries_map _ _ (nodes_of new k ∙ e ∙ ap (λ nodes. nodes_with nodes es) (sym (nodes_of old h)) ∙ sym (entries-with_entries (from_sorted old) es))
+
+-- ---- what a binary search answers
+
+placed_at : (es : List Node) (q : Revision) (i : ℕ) (d : Node) → IsTrue (is_sorted revision_cmp es) → i < length es → revision_cmp (get_or es i d).0 q ≡ Equal → IsPlaceOf es q i
+placed_at es q i d h lt t =
+    let hit = find_hit revision_cmp_total q es i d h lt t in
+    record { within = lt; known = ap is_some hit; there = ap (option_map (λ (e : Node). e.1)) (slice_get-get_or es i d lt) ∙ sym hit }
+
+pub placed : (es : List Node) (q : Revision) (r : Result ℕ ℕ) → IsTrue (is_sorted revision_cmp es) → IsSearchInRange r (length es) → IsBinarySearchResult (λ (e : Node). revision_cmp e.0 q) es r → IfOk r (IsPlaceOf es q)
+placed [] q (Ok i) h b p = absurd (omega arith)
+placed (e ∷ es) q (Ok i) h b p = placed_at (e ∷ es) q i e h b (p e)
+placed es q (Err i) h b p = tt
+
+pub gapped : (es : List Node) (q : Revision) (r : Result ℕ ℕ) → IsTrue (is_sorted revision_cmp es) → IsSearchInRange r (length es) → IsBinarySearchResult (λ (e : Node). revision_cmp e.0 q) es r → IfErr r (IsGapFor es q)
+gapped es q (Ok i) h b p = tt
+gapped es q (Err i) h b p =
+    let cut = p (nondecreasing revision_cmp_total q es h) in
+    let low : (k : ℕ) (d : Node) → k < i → k < length es → revision_cmp (get_or es k d).0 q ≡ Less = λ k d below within. cut.0 k d (omega arith) below in
+    let high : (k : ℕ) (d : Node) → i ≤ k → k < length es → revision_cmp (get_or es k d).0 q ≡ Greater = λ k d from within. cut.1 k d from within in
+    record {
+      within = b;
+      absent = find_miss revision_cmp_total q es i low high;
+      put_there = λ e. put_gap revision_cmp_total q e es i b low high;
+    }
+
+-- ---- the first of a list
+
+pub first_of_filter : {X Y : Type 0} (f : X → Y) (p : X → Bool) (xs : List X) → slice_get (map f (filter p xs)) 0 ≡ option_map f (first_passing p xs)
+first_of_filter f p [] = refl
+first_of_filter f p (x ∷ xs) =
+    elim (p x) as (λ b. slice_get (map f (cond b (x ∷ filter p xs) (filter p xs))) 0 ≡ option_map f (cond b (Some x) (first_passing p xs))) [ true ↦ refl | false ↦ first_of_filter f p xs ]
+
+pub first_in_front : {X : Type 0} (xs ys : List X) (x : X) → Some x ≡ slice_get xs 0 → Some x ≡ slice_get (xs ++ ys) 0
+first_in_front [] ys x e = cc
+first_in_front (y ∷ xs) ys x e = e
+
+pub first_behind : {X : Type 0} (xs ys : List X) (o : Option X) → None ≡ slice_get xs 0 → o ≡ slice_get ys 0 → o ≡ slice_get (xs ++ ys) 0
+first_behind [] ys o e f = f
+first_behind (y ∷ xs) ys o e f = cc
+
+-- ---- lines and writes
+
+pub line_more : (h : HistoryContent) (n i : ℕ) (r : Revision) → i < n → line h (n - i) r ≡ r ∷ onward (λ p. line h (n - (i + 1)) p) (parent_of h r)
+line_more h n i r lt = let e : n - i ≡ suc (n - (i + 1)) = omega arith in ap (λ k. line h k r) e
+
+pub line_pushed : (h : HistoryContent) (n i : ℕ) (r : Revision) (revs pushed whole : List Revision) (next after : Option Revision) → i < n → next ≡ Some r → after ≡ parent_of h r → pushed ≡ revs ++ r ∷ []
+    → revs ++ onward (λ p. line h (n - i) p) next ≡ whole → pushed ++ onward (λ p. line h (n - (i + 1)) p) after ≡ whole
+line_pushed h n i r revs pushed whole next after lt is up push so =
+    ap (λ (xs : List Revision). xs ++ onward (λ p. line h (n - (i + 1)) p) after) push
+    ∙ append_assoc revs (r ∷ []) (onward (λ p. line h (n - (i + 1)) p) after)
+    ∙ ap (λ (o : Option Revision). revs ++ (r ∷ onward (λ p. line h (n - (i + 1)) p) o)) up
+    ∙ ap (λ (xs : List Revision). revs ++ xs) (sym (line_more h n i r lt))
+    ∙ ap (λ (o : Option Revision). revs ++ onward (λ p. line h (n - i) p) o) (sym is)
+    ∙ so
+
+pub true_from_T : (b : Bool) → T b → b ≡ true
+true_from_T true h = refl
+true_from_T false h = absurd h
+
+pub sorted_put : (es : List Node) (r : Revision) (e : Entry) → IsTrue (is_sorted revision_cmp es) → IsTrue (is_sorted revision_cmp (put revision_cmp r e es))
+sorted_put es r e h = true_from_T _ (is_sorted-put revision_cmp revision_cmp_total r e es (T_from_true _ h))

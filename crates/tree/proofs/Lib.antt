@@ -1,0 +1,11 @@
+pub mod Contents
+pub mod Continued
+pub mod EditText
+pub mod Kept
+pub mod LawfulContents
+pub mod Leaves
+pub mod MadeRevision
+pub mod RevisionText
+pub mod Revisions
+pub mod Shown
+pub mod SortedEntries

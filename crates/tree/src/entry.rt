@@ -1,0 +1,82 @@
+ghost use Rattle.std.specs.Prelude.{◌≡◌, IfOk};
+ghost use Rattle.tree.specs.History.{is_marked, names, same_parent};
+
+use crate::body::Body;
+use crate::revision::Rev;
+use couch_json::Got;
+use std::alloc::Global;
+
+/// What a write brought for the revision that it made.
+#[derive(Drop)]
+pub struct Held {
+    /// Whether the write deletes the document.
+    pub deleted: bool,
+    /// The document without its special members.
+    pub body: Body,
+}
+
+/// What is known of a revision.
+#[derive(Drop)]
+pub struct Entry {
+    /// The revision before it, or `None` at a root.
+    pub parent: Option<Rev>,
+    /// What its write brought, or `None` where it only came inside a path.
+    pub held: Option<Held>,
+}
+
+impl Held {
+    pub fn copy(&self, alloc: Global) -> Got<Held>
+        ensures { IfOk result (λ held. held ≡ self.now) }
+    {
+        Ok(Held {
+            deleted: self.deleted,
+            body: self.body.copy(alloc)?,
+        })
+    }
+}
+
+impl Entry {
+    pub fn copy(&self, alloc: Global) -> Got<Entry>
+        ensures { IfOk result (λ entry. entry ≡ self.now) }
+    {
+        let held = match &self.held {
+            Some(held) => Some(held.copy(alloc)?),
+            None => None,
+        };
+        Ok(Entry {
+            parent: self.parent,
+            held,
+        })
+    }
+
+    /// Whether this is its parent.
+    pub fn has_parent(&self, rev: &Rev) -> bool
+        ensures { result ≡ names self.now.parent rev.now }
+    {
+        match self.parent {
+            Some(parent) => parent.cmp(rev).is_eq(),
+            None => false,
+        }
+    }
+
+    /// Whether it is deleted, or not, as the mark says.
+    pub fn is_marked(&self, deleted: bool) -> bool
+        ensures { result ≡ is_marked deleted self.now.held }
+    {
+        match &self.held {
+            Some(held) => held.deleted == deleted,
+            None => !deleted,
+        }
+    }
+
+    /// Whether its parent is this one, or it has none where none is given.
+    pub fn agrees(&self, parent: Option<Rev>) -> bool
+        ensures { result ≡ same_parent self.now.parent parent }
+    {
+        match (self.parent, parent) {
+            (Some(own), Some(other)) => own.cmp(&other).is_eq(),
+            (None, None) => true,
+            _ => false,
+        }
+    }
+}

@@ -1,0 +1,258 @@
+ghost use Rattle.std.specs.Prelude.{◌≡◌, ◌≢◌, Option, Some, None, Result, Ok, Err, IfOk, IfErr, OnOk, OnErr, IsTrue, MatchOption, option_copied, option_map};
+ghost use Rattle.std.specs.FinMap as map;
+ghost use Rattle.couch_json.specs.View.{view};
+ghost use Rattle.tree.specs.Revision.{revision_cmp};
+ghost use Rattle.tree.specs.Write.{counts_down, is_whole};
+ghost use Rattle.tree.specs.History.{GoesOn, agrees, chain, held_of, is_head_known, is_known, is_leaf, keeps_parents, leaves, line, parent_of, placement, winner, with_write};
+
+use crate::body::Body;
+use crate::entry::{Entry, Held};
+use crate::nodes;
+use crate::placement::{Placed, TreeFault};
+use crate::revision::Rev;
+use couch_json::{Got, Json};
+use std::alloc::Global;
+use std::marker::Model;
+
+/// The revision tree of one document: its known revisions, their parents, and the bodies held.
+///
+/// It has the content of the writes that it took in, in their order. Several roots are allowed;
+/// a revision that only came inside a path has no body. See the CouchDB manual,
+/// replication/conflicts.
+#[derive(Drop)]
+pub struct History {
+    nodes: Vec<(Rev, Entry)>,
+}
+
+impl Model for History {
+    ghost use Rattle.std.specs.Prelude.{IsTrue};
+    ghost use Rattle.std.specs.FinMap as map;
+    ghost use Rattle.tree.specs.HistoryCode.{content_code};
+    ghost use Rattle.tree.specs.History.{HistoryContent};
+    ghost use Rattle.tree.specs.Revision.{revision_cmp};
+
+    ghost Value = { HistoryContent };
+
+    ghost coded = { content_code };
+
+    ghost view = { λ h. map.from_sorted h.nodes.items };
+
+    ghost invariant = { λ h. IsTrue (map.is_sorted revision_cmp h.nodes.items) };
+}
+
+impl History {
+    /// The history of a document that was never written.
+    pub fn new(alloc: Global) -> History
+        ensures { result ≡ map.empty }
+    {
+        History {
+            nodes: Vec::new(alloc),
+        }
+    }
+
+    /// An equal history of its own.
+    pub fn copy(&self) -> Got<History>
+        ensures { IfOk result (λ h. h ≡ self.now) }
+    {
+        Ok(History {
+            nodes: nodes::copy(&self.nodes)?,
+        })
+    }
+
+    /// Takes in one more write, where it fits.
+    ///
+    /// The path goes from the new revision back to its root. Where the revision is known already
+    /// the answer is `Known` and nothing changes, whatever the mark and the body. `BadPath` comes
+    /// before `OtherParent`, and `OtherParent` before `Known`; `Memory` comes only where the
+    /// revision would be added. After a refusal the history is as it was.
+    pub fn insert(&mut self, path: &[Rev], deleted: bool, body: &Json) -> Result<Placed, TreeFault>
+        ensures placed { IfOk result (λ p. placement self.old path.now ≡ Ok p) }
+        ensures added { result ≡ Ok Placed.Added
+            → self.new ≡ with_write self.old (record { path = path.now; deleted = deleted; body = view body.now }) }
+        ensures lawful { result ≡ Ok Placed.Added
+            → GoesOn self.old (record { path = path.now; deleted = deleted; body = view body.now }) self.new }
+        ensures known { result ≡ Ok Placed.Known → self.new ≡ self.old }
+        ensures refused { IfErr result (λ e. e ≢ TreeFault.Memory → placement self.old path.now ≡ Err e) }
+        ensures memory { result ≡ Err TreeFault.Memory → placement self.old path.now ≡ Ok Placed.Added }
+        ensures err { OnErr result (self.new ≡ self.old) }
+    {
+        match self.placement(path)? {
+            Placed::Known => Ok(Placed::Known),
+            Placed::Added => {
+                self.put(path, deleted, body)?;
+                Ok(Placed::Added)
+            }
+        }
+    }
+
+    /// Takes in a write without asking whether it fits: each revision of the path that is not
+    /// known comes in. For a store that replays the writes that it accepted.
+    pub fn put(&mut self, path: &[Rev], deleted: bool, body: &Json) -> Got<()>
+        ensures ok { OnOk result (self.new ≡ with_write self.old (record { path = path.now; deleted = deleted; body = view body.now })) }
+        ensures err { OnErr result (self.new ≡ self.old) }
+    {
+        let body = Body::new(body.copy(*self.nodes.allocator())?);
+        self.nodes.reserve(path.len())?;
+        nodes::put_path(&mut self.nodes, path, Held { deleted, body });
+        Ok(())
+    }
+
+    /// The winning leaf, if anything was written: one that is not deleted before one that is, then
+    /// the greatest revision. Every replica picks the same.
+    pub fn winner(&self) -> Option<&Rev>
+        ensures { option_copied result ≡ winner self.now }
+    {
+        let nodes = self.nodes();
+        match nodes::best_leaf(nodes, false) {
+            Some(rev) => Some(rev),
+            None => nodes::best_leaf(nodes, true),
+        }
+    }
+
+    /// All leaves, the winner first, and so on in the order by which it is picked.
+    pub fn leaves(&self) -> Got<Vec<Rev>>
+        ensures { IfOk result (λ revs. revs.items ≡ leaves self.now) }
+    {
+        let alloc = *self.nodes.allocator();
+        let nodes = self.nodes();
+        let mut leaves = nodes::leaves(alloc, nodes, false)?;
+        let deleted = nodes::leaves(alloc, nodes, true)?;
+        leaves.extend_from_slice(&deleted)?;
+        Ok(leaves)
+    }
+
+    /// The path of a revision, from it back to its root, or `None` where it is not known.
+    pub fn chain(&self, rev: &Rev) -> Got<Option<Vec<Rev>>>
+        ensures { IfOk result (λ path. option_map (λ revs. revs.items) path ≡ chain self.now rev.now) }
+    {
+        if !self.knows(rev) {
+            return Ok(None);
+        }
+        Ok(Some(self.line(rev)?))
+    }
+
+    /// Whether a revision is deleted, and its body; `None` where it is not known or only came
+    /// inside a path.
+    pub fn body(&self, rev: &Rev) -> Option<(bool, &Json)>
+        ensures { MatchOption result (held_of self.now rev.now ≡ None)
+            (λ held. held_of self.now rev.now ≡ Some (record { deleted = held.0; body = view held.1.now })) }
+    {
+        let held = self.entry(rev)?.held.as_ref()?;
+        Some((held.deleted, held.body.json()))
+    }
+
+    /// Whether a revision is known and no known revision follows it.
+    pub fn is_leaf(&self, rev: &Rev) -> bool
+        ensures { result ≡ is_leaf self.now rev.now }
+    {
+        self.knows(rev) && !nodes::has_child(self.nodes(), rev)
+    }
+
+    /// Whether a revision stands in the path of some write.
+    pub fn knows(&self, rev: &Rev) -> bool
+        ensures { result ≡ is_known self.now rev.now }
+    {
+        self.entry(rev).is_some()
+    }
+
+    /// The known revisions in their order, each with its entry.
+    fn nodes(&self) -> &[(Rev, Entry)]
+        ensures value { result.now ≡ map.entries self.now }
+        ensures sorted { IsTrue (map.is_sorted revision_cmp result.now) }
+    {
+        &self.nodes
+    }
+
+    fn entry(&self, rev: &Rev) -> Option<&Entry>
+        ensures { option_copied result ≡ map.get self.now rev.now }
+    {
+        nodes::entry(self.nodes(), rev)
+    }
+
+    /// What becomes of a write with this path.
+    fn placement(&self, path: &[Rev]) -> Result<Placed, TreeFault>
+        ensures { result ≡ placement self.now path.now }
+    {
+        if !is_whole(path) {
+            return Err(TreeFault::BadPath);
+        }
+        if !self.keeps_parents(path) {
+            return Err(TreeFault::OtherParent);
+        }
+        if self.is_head_known(path) {
+            Ok(Placed::Known)
+        } else {
+            Ok(Placed::Added)
+        }
+    }
+
+    fn keeps_parents(&self, path: &[Rev]) -> bool
+        ensures { result ≡ keeps_parents self.now path.now }
+    {
+        for (i, rev) in path.iter().enumerate() {
+            if !self.agrees(rev, path.get(i + 1).copied()) {
+                return false;
+            }
+        }
+        true
+    }
+
+    /// Whether the revision has this parent, if it is known.
+    fn agrees(&self, rev: &Rev, parent: Option<Rev>) -> bool
+        ensures { result ≡ agrees (map.get self.now rev.now) parent }
+    {
+        match self.entry(rev) {
+            Some(entry) => entry.agrees(parent),
+            None => true,
+        }
+    }
+
+    fn is_head_known(&self, path: &[Rev]) -> bool
+        ensures { result ≡ is_head_known self.now path.now }
+    {
+        match path.first() {
+            Some(head) => self.knows(head),
+            None => false,
+        }
+    }
+
+    fn parent(&self, rev: &Rev) -> Option<Rev>
+        ensures { result ≡ parent_of self.now rev.now }
+    {
+        self.entry(rev)?.parent
+    }
+
+    /// The revision, its parent, and so on, at most as many as its number says.
+    fn line(&self, rev: &Rev) -> Got<Vec<Rev>>
+        ensures { IfOk result (λ revs. revs.items ≡ line self.now rev.now.number rev.now) }
+    {
+        let mut revs = Vec::new(*self.nodes.allocator());
+        let mut next = Some(*rev);
+        for _step in 0..rev.number() {
+            let Some(current) = next else {
+                break;
+            };
+            revs.push(current)?;
+            next = self.parent(&current);
+        }
+        Ok(revs)
+    }
+}
+
+/// Whether the numbers of a path go down by one to 1.
+fn is_whole(path: &[Rev]) -> bool
+    ensures { result ≡ is_whole path.now }
+{
+    !path.is_empty() && counts_down(path)
+}
+
+fn counts_down(path: &[Rev]) -> bool
+    ensures { result ≡ counts_down path.now }
+{
+    for (i, rev) in path.iter().enumerate() {
+        if rev.number() as usize != path.len() - i {
+            return false;
+        }
+    }
+    true
+}

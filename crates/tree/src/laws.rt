@@ -1,0 +1,94 @@
+//! What follows from the definitions alone. Each function has an empty body: its contract is the law.
+
+ghost use Rattle.std.specs.Prelude.{◌≡◌, ◌≢◌, ◌⊎◌, ◌↔◌, ℕ, List, [], ◌∷◌, ◌++◌, Some, Ok, IsTrue, MatchOption, is_some};
+ghost use Rattle.std.specs.FinMap.{get};
+ghost use Rattle.tree.specs.Revision.{Revision, is_revision, revision_read, text_of};
+ghost use Rattle.tree.specs.Write.{Write, IsLawful, IsPathEnd, StandsIn};
+ghost use Rattle.tree.specs.History.{HistoryContent, AreBestFirst, IsBetter, IsRooted, LooksAlike, Shows, chain, content_of, entry_after, held_of, inserted, is_known, is_leaf, leaves, parent_of, placement, winner, with_write};
+ghost use Rattle.tree.specs.declared.placement.Placed.{Placed};
+
+/// A lawful revision is read from its text, and what is read is written as that text.
+pub fn text_and_revision()
+    ensures read { (r : Revision) → IsTrue (is_revision r) → revision_read (text_of r) ≡ Some r }
+    ensures written { (text : List ℕ) (r : Revision) → revision_read text ≡ Some r → IsTrue (is_revision r) × (text_of r ≡ text) }
+{}
+
+/// The content of a lawful list of writes shows just what is known by the writes, and no other
+/// content does.
+pub fn content_shows_its_writes()
+    ensures shows { (ws : List Write) → IsLawful ws → Shows ws (content_of ws) }
+    ensures only { (ws : List Write) (h k : HistoryContent) → Shows ws h → Shows ws k → h ≡ k }
+{}
+
+/// One more write at the end of a list is one write more in its content.
+pub fn content_of_one_more_write()
+    ensures { (ws : List Write) (w : Write) → content_of (ws ++ w ∷ []) ≡ with_write (content_of ws) w }
+{}
+
+/// A write is added exactly where the list with it at its end is lawful.
+pub fn added_where_lawful()
+    ensures { (ws : List Write) (w : Write) → IsLawful ws
+        → (placement (content_of ws) w.path ≡ Ok Placed.Added) ↔ IsLawful (ws ++ w ∷ []) }
+{}
+
+/// A write keeps what is known of each known revision.
+pub fn entry_kept()
+    ensures { (h : HistoryContent) (w : Write) (r : Revision) → IsTrue (is_known h r) → get (with_write h w) r ≡ get h r }
+{}
+
+/// A write brings just what its path says of the revisions that were not known.
+pub fn path_entries()
+    ensures { (h : HistoryContent) (w : Write) (r : Revision) → get (with_write h w) r ≡ entry_after h w r }
+{}
+
+/// After a write that was added or known, its whole path is known.
+pub fn path_known()
+    ensures { (ws : List Write) (w : Write) (p : Placed) (r : Revision) → IsLawful ws
+        → placement (content_of ws) w.path ≡ Ok p → StandsIn w.path r → IsTrue (is_known (inserted (content_of ws) w) r) }
+{}
+
+/// Parents are known, numbers go down by one from child to parent, and roots have number 1.
+pub fn whole()
+    ensures { (ws : List Write) → IsLawful ws → IsRooted (content_of ws) }
+{}
+
+/// A path that some write brought, or its end, is the chain of its newest revision.
+pub fn chain_is_path()
+    ensures { (ws : List Write) (r : Revision) (rest : List Revision) → IsLawful ws
+        → IsPathEnd ws (r ∷ rest) → chain (content_of ws) r ≡ Some (r ∷ rest) }
+{}
+
+/// A leaf is a known revision that is no revision's parent.
+pub fn leaf_is_childless()
+    ensures { (h : HistoryContent) (r : Revision)
+        → IsTrue (is_leaf h r) ↔ (IsTrue (is_known h r) × ((s : Revision) → parent_of h s ≢ Some r)) }
+{}
+
+/// Something is held of each leaf.
+pub fn leaf_is_held()
+    ensures { (ws : List Write) (r : Revision) → IsLawful ws → IsTrue (is_leaf (content_of ws) r)
+        → IsTrue (is_some (held_of (content_of ws) r)) }
+{}
+
+/// The list of leaves has each leaf, and nothing else, each before all that it is better than; so
+/// each once.
+pub fn leaves_are()
+    ensures members { (h : HistoryContent) (r : Revision) → StandsIn (leaves h) r ↔ IsTrue (is_leaf h r) }
+    ensures order { (h : HistoryContent) → AreBestFirst h (leaves h) }
+    ensures strict { (h : HistoryContent) (r s : Revision) → IsBetter h r s → IsBetter h s r → ⊥ }
+    ensures once { (h : HistoryContent) (r : Revision) → IsBetter h r r → ⊥ }
+{}
+
+/// The winner is a leaf that is better than each other, and there is none where there is no leaf.
+pub fn winner_is_best()
+    ensures { (h : HistoryContent)
+        → MatchOption (winner h) ((r : Revision) → IsTrue (is_leaf h r) → ⊥)
+        (λ r. IsTrue (is_leaf h r) × ((s : Revision) → IsTrue (is_leaf h s) → (s ≡ r) ⊎ IsBetter h r s)) }
+{}
+
+/// Leaves and winner depend on the known revisions, their parents and the marks of the leaves
+/// alone: replicas that agree in these agree in the winner, though a body is held by one of them.
+pub fn leaves_same()
+    ensures leaves { (h k : HistoryContent) → LooksAlike h k → leaves h ≡ leaves k }
+    ensures winner { (h k : HistoryContent) → LooksAlike h k → winner h ≡ winner k }
+{}

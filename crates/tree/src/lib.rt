@@ -1,0 +1,21 @@
+//! The revision tree of one document: ids, revisions, and the history of a document's edits.
+#![tactic(auto)]
+
+mod body;
+mod document_id;
+mod entry;
+mod history;
+pub mod laws;
+mod next_revision;
+mod nodes;
+mod placement;
+mod revision;
+#[cfg(test)]
+mod tests;
+
+pub use body::Body;
+pub use document_id::{DocId, IdFault};
+pub use history::History;
+pub use next_revision::{RevFault, next_rev};
+pub use placement::{Placed, TreeFault};
+pub use revision::Rev;
