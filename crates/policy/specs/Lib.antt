@@ -1,0 +1,2 @@
+pub mod Security
+pub mod Verdict

@@ -1,0 +1,126 @@
+-- Which values are security objects, and whom one names as admins and members of its database.
+-- CouchDB manual, api/database/security; the limit on nesting is that of document bodies, and this server's own.
+use Rattle.std.specs.Prelude.{ℕ, Bool, true, false, ◌&&◌, ◌||◌, List, [], ◌∷◌, codes, Option, Some, None, nat_le, option_and_then}
+use Rattle.std.specs.List.{list_any}
+use Rattle.auth.specs.Callers.{Identity}
+use Rattle.auth.specs.Roles.{is_among, admin_role}
+use Rattle.couch_json.specs.Value.{Value, null, truth, whole, text, array, object, Items, no_items, item, Members, no_members, member, member_of, depth}
+
+abbrev pub is_text : Value → Bool
+is_text null = false
+is_text (truth b) = false
+is_text (whole n) = false
+is_text (text s) = true
+is_text (array vs) = false
+is_text (object ms) = false
+
+abbrev pub are_texts : Items → Bool
+are_texts no_items = true
+are_texts (item v vs) = is_text v && are_texts vs
+
+abbrev pub is_list_of_texts : Value → Bool
+is_list_of_texts null = false
+is_list_of_texts (truth b) = false
+is_list_of_texts (whole n) = false
+is_list_of_texts (text s) = false
+is_list_of_texts (array vs) = are_texts vs
+is_list_of_texts (object ms) = false
+
+abbrev pub is_object : Value → Bool
+is_object null = false
+is_object (truth b) = false
+is_object (whole n) = false
+is_object (text s) = false
+is_object (array vs) = false
+is_object (object ms) = true
+
+-- what may be absent, and passes the test where it is there
+abbrev pub is_absent_or : (Value → Bool) → Option Value → Bool
+is_absent_or test None = true
+is_absent_or test (Some v) = test v
+
+-- a group: an object whose `names` and `roles`, where there, are lists of texts
+abbrev pub is_group : Value → Bool
+is_group v =
+    is_object v && is_absent_or is_list_of_texts (member_of v (codes "names")) && is_absent_or is_list_of_texts (member_of v (codes "roles"))
+
+-- how deep a security object may nest
+abbrev pub max_depth : ℕ
+max_depth = 100
+
+-- an object whose `admins` and `members`, where there, are groups; it may have other members
+abbrev pub is_security : Value → Bool
+is_security v =
+    is_object v && is_absent_or is_group (member_of v (codes "admins")) && is_absent_or is_group (member_of v (codes "members"))
+    && nat_le (depth v) max_depth
+
+-- the group of server admins alone
+abbrev pub admins_only : Value
+admins_only = object (member (codes "roles") (array (item (text admin_role) no_items)) no_members)
+
+-- the security object of a new database
+abbrev pub closed : Value
+closed = object (member (codes "admins") admins_only (member (codes "members") admins_only no_members))
+
+-- ---- whom a security object names
+
+abbrev pub text_then : Value → List (List ℕ) → List (List ℕ)
+text_then null texts = texts
+text_then (truth b) texts = texts
+text_then (whole n) texts = texts
+text_then (text s) texts = s ∷ texts
+text_then (array vs) texts = texts
+text_then (object ms) texts = texts
+
+-- the texts among the elements
+abbrev pub item_texts : Items → List (List ℕ)
+item_texts no_items = []
+item_texts (item v vs) = text_then v (item_texts vs)
+
+-- those of a list
+abbrev pub list_texts : Value → List (List ℕ)
+list_texts null = []
+list_texts (truth b) = []
+list_texts (whole n) = []
+list_texts (text s) = []
+list_texts (array vs) = item_texts vs
+list_texts (object ms) = []
+
+abbrev pub texts_of : Option Value → List (List ℕ)
+texts_of None = []
+texts_of (Some v) = list_texts v
+
+-- the texts that a group lists under `names` or `roles`
+abbrev pub listed_in : Option Value → List ℕ → List (List ℕ)
+listed_in group part = texts_of (option_and_then (λ v. member_of v part) group)
+
+abbrev pub is_name_among : Option (List ℕ) → List (List ℕ) → Bool
+is_name_among None names = false
+is_name_among (Some name) names = is_among name names
+
+-- the caller is in the group, by name or by a role
+abbrev pub is_in : Option Value → Identity → Bool
+is_in group caller =
+    is_name_among caller.name (listed_in group (codes "names"))
+    || list_any (λ role. is_among role (listed_in group (codes "roles"))) caller.roles
+
+abbrev pub is_empty : List (List ℕ) → Bool
+is_empty [] = true
+is_empty (t ∷ ts) = false
+
+-- the group names nobody
+abbrev pub is_vacant : Option Value → Bool
+is_vacant group = is_empty (listed_in group (codes "names")) && is_empty (listed_in group (codes "roles"))
+
+-- the server's admins have the role `_admin`
+abbrev pub is_server_admin : Identity → Bool
+is_server_admin caller = is_among admin_role caller.roles
+
+abbrev pub is_database_admin : Value → Identity → Bool
+is_database_admin security caller = is_server_admin caller || is_in (member_of security (codes "admins")) caller
+
+-- a database whose members' group names nobody is open to everyone
+abbrev pub is_member : Value → Identity → Bool
+is_member security caller =
+    is_database_admin security caller || is_vacant (member_of security (codes "members"))
+    || is_in (member_of security (codes "members")) caller

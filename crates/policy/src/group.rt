@@ -1,0 +1,87 @@
+ghost use Rattle.std.specs.Prelude.{◌≡◌, [], option_map};
+ghost use Rattle.std.specs.List.{list_any};
+ghost use Rattle.auth.specs.Roles.{is_among as is_among_lem};
+ghost use Rattle.couch_json.specs.View.{view, items_view};
+ghost use Rattle.policy.specs.Security.{is_empty, is_in, is_name_among, is_vacant, item_texts, listed_in, text_then};
+
+use auth::Caller;
+use couch_json::Json;
+
+/// Whether the caller is in the group, by name or by a role.
+pub(crate) fn is_in(group: Option<&Json>, caller: &Caller) -> bool
+    ensures { result ≡ is_in (option_map (λ v. view v.now) group.entry) caller.now }
+{
+    is_named(listed(group, "names"), caller) || has_role(listed(group, "roles"), caller)
+}
+
+/// Whether the group names nobody.
+pub(crate) fn is_vacant(group: Option<&Json>) -> bool
+    ensures { result ≡ is_vacant (option_map (λ v. view v.now) group.entry) }
+{
+    has_no_text(listed(group, "names")) && has_no_text(listed(group, "roles"))
+}
+
+/// The elements of the list that a group has under this name, or none.
+fn listed<'a>(group: Option<&'a Json>, part: &str) -> &'a [Json]
+    ensures { item_texts (items_view result.now) ≡ listed_in (option_map (λ v. view v.now) group.entry) part.now }
+{
+    let Some(group) = group else {
+        return &[];
+    };
+    match group.member(part) {
+        Some(Json::Array(items)) => items.as_slice(),
+        _ => &[],
+    }
+}
+
+fn is_named(names: &[Json], caller: &Caller) -> bool
+    ensures { result ≡ is_name_among caller.now.name (item_texts (items_view names.now)) }
+{
+    match caller.name() {
+        Some(name) => is_among(names, name),
+        None => false,
+    }
+}
+
+fn has_role(roles: &[Json], caller: &Caller) -> bool
+    ensures { result ≡ list_any (λ role. is_among_lem role (item_texts (items_view roles.now))) caller.now.roles }
+{
+    for role in caller.roles() {
+        if is_among(roles, role.as_str()) {
+            return true;
+        }
+    }
+    false
+}
+
+/// Whether the text is one of the elements.
+fn is_among(items: &[Json], text: &str) -> bool
+    ensures { result ≡ is_among_lem text.now (item_texts (items_view items.now)) }
+{
+    for item in items {
+        if is_text(item, text) {
+            return true;
+        }
+    }
+    false
+}
+
+fn is_text(item: &Json, text: &str) -> bool
+    ensures { result ≡ is_among_lem text.now (text_then (view item.now) []) }
+{
+    match item {
+        Json::Text(found) => found.as_str() == text,
+        _ => false,
+    }
+}
+
+fn has_no_text(items: &[Json]) -> bool
+    ensures { result ≡ is_empty (item_texts (items_view items.now)) }
+{
+    for item in items {
+        if matches!(item, Json::Text(_)) {
+            return false;
+        }
+    }
+    true
+}

@@ -1,0 +1,5 @@
+pub mod Contents
+pub mod Logs
+pub mod Laters
+pub mod Plains
+pub mod Acceptable

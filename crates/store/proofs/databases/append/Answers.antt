@@ -1,0 +1,35 @@
+use Rattle.std.proofs.Common.{◌≡◌, ◌<◌, ◌++◌, length, ap, ◌∙◌, rules}
+use Rattle.std.specs.FinMap as map
+use Rattle.store.specs.Database.{with_all, empty_database}
+use Rattle.store.specs.Plain.{content}
+use Rattle.store.specs.Writing.{writings}
+use Rattle.store.specs.declared.plain.PlainDatabase.{PlainDatabase}
+use Rattle.store.proofs.Contents.{with_all-append, writings-append}
+use Rattle.store.proofs.Plains.{changed_at, unchanged_at, is_first, place_within, whatever}
+use Rattle.store.proofs.databases.append.Goals as goal
+
+pub index_mut-requires : goal.index_mut-requires
+index_mut-requires c =
+    let es = c.args.databases.now.items in
+    let within : c.args.at < length c.args.databases.now.items = place_within es c.args.at c.args.name.now (is_first es c.args.at c.args.name.now c.requires) in
+    search rules
+
+pub returns-in_err-append-clause-err : goal.returns-in_err-append-clause-err
+returns-in_err-append-clause-err c =
+    let e = c.index_mut.result.now in
+    let d : PlainDatabase = record { writes = c.append.new.self; security = e.1.security } in
+    let kept : c.append.new.self.items ≡ c.index_mut.result.now.1.writes.items = search rules in
+    whatever _ (ap map.from_entries (unchanged_at c.args.databases.now.items c.args.at e d c.index_mut.ensures.value (ap (λ ws. with_all (empty_database e.1.security) (writings ws)) kept)))
+
+pub returns-clause-ok : goal.returns-clause-ok
+returns-clause-ok c =
+    let e = c.index_mut.result.now in
+    let s = e.1.security in
+    let more = c.in_ok-more.more.items in
+    let old = e.1.writes.items in
+    let d : PlainDatabase = record { writes = c.append.new.self; security = s } in
+    let appended : c.append.new.self.items ≡ c.index_mut.result.now.1.writes.items ++ c.in_ok-more.more.items = search rules in
+    let made : content d ≡ with_all (content e.1) (writings c.args.writes.now) =
+    ap (λ ws. with_all (empty_database s) (writings ws)) appended ∙ ap (with_all (empty_database s)) (writings-append old more)
+    ∙ with_all-append (empty_database s) (writings old) (writings more) ∙ ap (with_all (content e.1)) c.in_ok-more.ensures in
+    changed_at c.args.databases.now.items c.args.at c.args.name.now e d (λ db. with_all db (writings c.args.writes.now)) c.requires c.index_mut.ensures.value made

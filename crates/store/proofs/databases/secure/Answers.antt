@@ -1,0 +1,19 @@
+use Rattle.std.proofs.Common.{◌<◌, length, rules}
+use Rattle.store.specs.Contents.{with_security}
+use Rattle.store.specs.Database.{empty_database}
+use Rattle.store.specs.Writing.{writings}
+use Rattle.store.proofs.Contents.{with_all-with_security}
+use Rattle.store.proofs.Plains.{changed_at, is_first, place_within}
+use Rattle.store.proofs.databases.secure.Goals as goal
+
+pub index_mut-requires : goal.index_mut-requires
+index_mut-requires c =
+    let es = c.args.databases.now.items in
+    let within : c.args.at < length c.args.databases.now.items = place_within es c.args.at c.args.name.now (is_first es c.args.at c.args.name.now c.requires) in
+    search rules
+
+pub returns : goal.returns
+returns c =
+    let e = c.index_mut.result.now in
+    changed_at c.args.databases.now.items c.args.at c.args.name.now e (record { writes = e.1.writes; security = c.args.security }) (λ db. with_security db c.args.security) c.requires
+    c.index_mut.ensures.value (with_all-with_security (empty_database e.1.security) c.args.security (writings e.1.writes.items))

@@ -1,0 +1,41 @@
+-- What a plain store holds, as contents; for private clauses and proofs.
+-- This crate's own.
+use Rattle.std.specs.Prelude.{ℕ, ◌+◌, List, [], ◌∷◌, map, Option, Some, None, if◌then◌else◌}
+use Rattle.std.specs.Ordering.{nat_cmp, eq_by_cmp}
+use Rattle.std.specs.Cmp.Lexicographic.{slice_cmp}
+use Rattle.std.specs.FinMap.{from_entries, empty, find}
+use Rattle.tree.specs.History.{HistoryContent, with_write}
+use Rattle.store.specs.Contents.{Contents}
+use Rattle.store.specs.Database.{Database, DocumentWrite, Log, with_all, empty_database, is_of}
+use Rattle.store.specs.Writing.{writings}
+use Rattle.store.specs.declared.plain.PlainDatabase.{PlainDatabase}
+
+abbrev pub Named : Type 0
+Named = List ℕ × PlainDatabase
+
+-- the database as the log of what happened to it
+abbrev pub log_of : PlainDatabase → Log
+log_of d = record { writes = writings d.writes.items; security = d.security; locals = empty }
+
+abbrev pub content : PlainDatabase → Database
+content d = with_all (empty_database d.security) (writings d.writes.items)
+
+abbrev pub listed : List Named → List (List ℕ × Database)
+listed es = map (λ e. (e.0, content e.1)) es
+
+abbrev pub contents_of : List Named → Contents
+contents_of es = from_entries (listed es)
+
+-- the database of this name
+abbrev pub found : List Named → List ℕ → Option Database
+found es name = find (slice_cmp nat_cmp) name (listed es)
+
+-- the first place, counted on from n, at which a database of this name stands
+abbrev pub place_from : ℕ → List ℕ → List Named → Option ℕ
+place_from n name [] = None
+place_from n name (e ∷ es) = if eq_by_cmp (slice_cmp nat_cmp) name e.0 then Some n else place_from (n + 1) name es
+
+-- the history that the writes of the document make of one
+abbrev pub history_after : HistoryContent → List ℕ → List DocumentWrite → HistoryContent
+history_after h id [] = h
+history_after h id (w ∷ ws) = history_after (if is_of id w then with_write h w.write else h) id ws

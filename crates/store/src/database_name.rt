@@ -1,0 +1,119 @@
+ghost use Rattle.std.specs.Prelude.{◌≡◌, ◌↔◌, false, List, ℕ, IfOk, IsErrOf, IsTrue, string_bytes};
+ghost use Rattle.std.specs.List.{list_all};
+ghost use Rattle.std.specs.Coded.{coded_list, coded_ℕ};
+ghost use Rattle.store.specs.DatabaseName.{is_database_name, is_lower_case, is_name_byte, is_sign};
+ghost use Rattle.store.specs.declared.database_name.NameFault.TheVariants.{Memory};
+
+use couch_json::Got;
+use std::alloc::{AllocError, Global};
+use std::marker::Model;
+use thiserror::Error;
+
+/// Why a text was refused as the name of a database.
+#[derive(Clone, Copy, Debug, PartialEq, Eq, Error)]
+pub enum NameFault {
+    /// It does not begin with a lower-case letter, has another byte than `a-z 0-9 _ $ ( ) + -`, or
+    /// is longer than 64 bytes.
+    #[error("not a database name")]
+    Shape = 1,
+    /// Memory ran out.
+    #[error("out of memory")]
+    Memory = 2,
+}
+
+impl From<AllocError> for NameFault {
+    ghost from_gives = { λ _ fault. fault ≡ Memory };
+
+    fn from(_error: AllocError) -> NameFault {
+        NameFault::Memory
+    }
+}
+
+/// The name of a database: a lower-case letter followed by `a-z 0-9 _ $ ( ) + -`, at most 64 bytes.
+///
+/// See the CouchDB manual, api/database/common.
+#[derive(Debug, Drop)]
+pub struct DbName {
+    text: String,
+}
+
+impl Model for DbName {
+    ghost Value = { List ℕ };
+
+    ghost coded = { coded_list coded_ℕ };
+
+    ghost view = { λ n. string_bytes n.text };
+
+    ghost invariant = { λ n. IsTrue (is_database_name (string_bytes n.text)) };
+}
+
+impl DbName {
+    /// The name that a text spells.
+    ///
+    /// `Shape` comes exactly where the text is no name; it is looked for before memory is taken.
+    pub fn new(alloc: Global, text: &str) -> Result<DbName, NameFault>
+        ensures ok { IfOk result (λ name. name ≡ text.now) }
+        ensures shape { IsErrOf result NameFault.Shape ↔ (is_database_name text.now ≡ false) }
+    {
+        if !is_database_name(text.as_bytes()) {
+            return Err(NameFault::Shape);
+        }
+        let text = String::from_str(alloc, text)?;
+        Ok(DbName { text })
+    }
+
+    /// The text of the name.
+    pub fn as_str(&self) -> &str
+        ensures text { result.now ≡ self.now }
+        ensures lawful { IsTrue (is_database_name self.now) }
+    {
+        self.text.as_str()
+    }
+
+    /// An equal name of its own.
+    pub fn copy(&self, alloc: Global) -> Got<DbName>
+        ensures { IfOk result (λ name. name ≡ self.now) }
+    {
+        let text = String::from_str(alloc, self.text.as_str())?;
+        Ok(DbName { text })
+    }
+}
+
+fn is_database_name(text: &[u8]) -> bool
+    ensures { result ≡ is_database_name text.now }
+{
+    match text.first() {
+        Some(first) => is_lower_case(*first) && text.len() <= 64 && are_name_bytes(text),
+        None => false,
+    }
+}
+
+fn are_name_bytes(text: &[u8]) -> bool
+    ensures { result ≡ list_all is_name_byte text.now }
+{
+    for byte in text {
+        if !is_name_byte(*byte) {
+            return false;
+        }
+    }
+    true
+}
+
+fn is_lower_case(byte: u8) -> bool
+    ensures { result ≡ is_lower_case byte }
+{
+    byte >= b'a' && byte <= b'z'
+}
+
+fn is_name_byte(byte: u8) -> bool
+    ensures { result ≡ is_name_byte byte }
+{
+    is_lower_case(byte) || byte >= b'0' && byte <= b'9' || is_sign(byte)
+}
+
+/// One of `_ $ ( ) + -`.
+fn is_sign(byte: u8) -> bool
+    ensures { result ≡ is_sign byte }
+{
+    matches!(byte, b'_' | b'$' | b'(' | b')' | b'+' | b'-')
+}

@@ -1,0 +1,20 @@
+//! The store of databases: what it is, in the words that everything above it speaks, and a plain store in memory.
+#![tactic(auto)]
+
+mod database_name;
+mod databases;
+mod fault;
+pub mod laws;
+mod plain;
+mod plain_store;
+mod replay;
+mod store;
+#[cfg(test)]
+mod tests;
+mod write;
+
+pub use database_name::{DbName, NameFault};
+pub use fault::StoreFault;
+pub use plain_store::PlainStore;
+pub use store::Store;
+pub use write::Write;

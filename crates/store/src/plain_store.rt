@@ -1,0 +1,93 @@
+ghost use Rattle.std.specs.Prelude.{◌≡◌, ⊤};
+ghost use Rattle.std.specs.FinMap as map;
+ghost use Rattle.store.specs.Plain.{contents_of};
+
+use crate::database_name::DbName;
+use crate::databases::{add, append, database_of, place_of, secure};
+use crate::fault::StoreFault;
+use crate::plain::Databases;
+use crate::replay::history_of;
+use crate::store::Store;
+use crate::write::Write;
+use policy::Security;
+use std::alloc::Global;
+use tree::{DocId, History};
+
+/// A store in memory that keeps the list of writes itself.
+///
+/// It meets [`Store`] as plainly as can be: histories are replayed from the writes. It never fails
+/// and is never damaged, so `Failed` and `Damaged` never come, and `faults` is 0.
+#[derive(Drop)]
+pub struct PlainStore {
+    databases: Databases,
+}
+
+impl PlainStore {
+    /// A store without databases. Takes no memory.
+    pub fn new(alloc: Global) -> PlainStore
+        ensures { contents_of result.databases.items ≡ map.empty }
+    {
+        PlainStore {
+            databases: Vec::new(alloc),
+        }
+    }
+}
+
+impl Store for PlainStore {
+    ghost contents = { λ s. contents_of s.databases.items };
+
+    ghost is_honest = { λ _. ⊤ };
+
+    ghost fault_count = { λ _. 0 };
+
+    ghost is_damaged = { λ _. ⊥ };
+
+    ghost lacks_room = { λ _ _. ⊥ };
+
+    fn create(&mut self, name: &DbName) -> Result<(), StoreFault> {
+        if place_of(&self.databases, name).is_some() {
+            return Err(StoreFault::Exists);
+        }
+        let alloc = *self.databases.allocator();
+        add(alloc, &mut self.databases, name)?;
+        Ok(())
+    }
+
+    fn security(&mut self, name: &DbName) -> Result<Security, StoreFault> {
+        let alloc = *self.databases.allocator();
+        match database_of(&self.databases, name) {
+            Some(database) => Ok(database.security.copy(alloc)?),
+            None => Err(StoreFault::NoDatabase),
+        }
+    }
+
+    fn set_security(&mut self, name: &DbName, security: &Security) -> Result<(), StoreFault> {
+        let alloc = *self.databases.allocator();
+        let Some(at) = place_of(&self.databases, name) else {
+            return Err(StoreFault::NoDatabase);
+        };
+        secure(&mut self.databases, at, name, security.copy(alloc)?);
+        Ok(())
+    }
+
+    fn history(&mut self, name: &DbName, id: &DocId) -> Result<History, StoreFault> {
+        let alloc = *self.databases.allocator();
+        match database_of(&self.databases, name) {
+            Some(database) => Ok(history_of(alloc, &database.writes, id)?),
+            None => Err(StoreFault::NoDatabase),
+        }
+    }
+
+    fn commit(&mut self, name: &DbName, writes: &[Write]) -> Result<(), StoreFault> {
+        let alloc = *self.databases.allocator();
+        let Some(at) = place_of(&self.databases, name) else {
+            return Err(StoreFault::NoDatabase);
+        };
+        append(alloc, &mut self.databases, at, name, writes)?;
+        Ok(())
+    }
+
+    fn faults(&self) -> u64 {
+        0
+    }
+}

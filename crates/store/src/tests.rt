@@ -1,0 +1,168 @@
+ghost use Rattle.std.specs.Prelude.{◌≡◌, ◌≤◌, Ok, OnOk, true};
+ghost use Rattle.couch_json.specs.Value.{depth};
+ghost use Rattle.couch_json.specs.View.{view};
+ghost use Rattle.policy.specs.Security.{is_object};
+ghost use Rattle.tree.specs.History.{placement, with_write};
+ghost use Rattle.store.specs.Writing.{writing_of};
+
+use crate::{DbName, NameFault, PlainStore, Store, StoreFault, Write};
+use couch_json::{Json, canon, read};
+use policy::Security;
+use std::alloc::Global;
+use std::test::Fail;
+use tree::{DocId, History, Placed, Rev};
+
+fn rev(text: &str) -> Result<Rev, Fail> {
+    Ok(Rev::parse(text.as_bytes()).ok_or("no revision")?)
+}
+
+/// A write of one path, newest first.
+fn write(alloc: Global, id: &str, path: &[&str], body: &str) -> Result<Write, Fail> {
+    let mut revs = Vec::new(alloc);
+    for text in path {
+        revs.push(rev(text)?)?;
+    }
+    Ok(Write {
+        id: DocId::new(alloc, id)?,
+        path: revs,
+        deleted: false,
+        body: read(alloc, body.as_bytes())?,
+    })
+}
+
+/// Commits a write of whose lawfulness it makes sure.
+fn commit_one(store: &mut PlainStore, db: &DbName, write: Write) -> Result<(), Fail> {
+    let mut history = store.history(db, &write.id)?;
+    take_in(&mut history, &write)?;
+    store.commit(db, &[write])?;
+    Ok(())
+}
+
+/// The same of two writes of one document.
+fn commit_two(store: &mut PlainStore, db: &DbName, writes: &[Write]) -> Result<(), Fail> {
+    let [first, second] = writes else {
+        return Err("not two")?;
+    };
+    if first.id.as_str() != second.id.as_str() {
+        return Err("two documents")?;
+    }
+    let mut history = store.history(db, &first.id)?;
+    take_in(&mut history, first)?;
+    take_in(&mut history, second)?;
+    store.commit(db, writes)?;
+    Ok(())
+}
+
+/// Adds the write to the history, if it may be.
+fn take_in(history: &mut History, write: &Write) -> Result<(), Fail>
+    ensures placed { OnOk result (placement history.old write.now.path.items ≡ Ok Placed.Added) }
+    ensures added { OnOk result (history.new ≡ with_write history.old (writing_of write.now).write) }
+    ensures body { OnOk result (is_object (view write.now.body) ≡ true) }
+    ensures shallow { OnOk result (depth (view write.now.body) ≤ 100) }
+{
+    if !matches!(write.body, Json::Object(_)) || !write.body.nests_within(100) {
+        return Err("no body")?;
+    }
+    match history.insert(&write.path, write.deleted, &write.body)? {
+        Placed::Added => Ok(()),
+        Placed::Known => Err("known")?,
+    }
+}
+
+#[test]
+fn names_at_the_edges_of_their_rule(rt: HostRuntime) -> Result<(), Fail> {
+    let alloc = rt.alloc();
+    let longest = "a234567890123456789012345678901234567890123456789012345678901234";
+    for text in ["a", "db", "z0_$()+-", longest] {
+        assert_eq!(rt; DbName::new(alloc, text)?.copy(alloc)?.as_str(), text);
+    }
+    let too_long = format!(in alloc; "{longest}5")?;
+    for text in [
+        "",
+        "A",
+        "DB",
+        "0a",
+        "_users",
+        "a/b",
+        "a.b",
+        "a b",
+        "\u{e9}",
+        too_long.as_str(),
+    ] {
+        assert_eq!(rt;
+            DbName::new(alloc, text).err(),
+            Some(NameFault::Shape),
+            "{text}"
+        );
+    }
+    Ok(())
+}
+
+#[test]
+fn databases_are_made_once_and_closed(rt: HostRuntime) -> Result<(), Fail> {
+    let alloc = rt.alloc();
+    let mut store = PlainStore::new(alloc);
+    let db = DbName::new(alloc, "db")?;
+    let other = DbName::new(alloc, "other")?;
+    assert_eq!(rt; store.security(&db).err(), Some(StoreFault::NoDatabase));
+    store.create(&db)?;
+    assert_eq!(rt; store.create(&db), Err(StoreFault::Exists));
+    store.create(&other)?;
+    let closed = r#"{"admins":{"roles":["_admin"]},"members":{"roles":["_admin"]}}"#;
+    assert_eq!(rt;
+        canon(alloc, store.security(&db)?.value())?.as_str(),
+        closed
+    );
+    let public = Security::read(alloc, &read(alloc, b"{}")?)?;
+    store.set_security(&db, &public)?;
+    assert_eq!(rt; canon(alloc, store.security(&db)?.value())?.as_str(), "{}");
+    assert_eq!(rt;
+        canon(alloc, store.security(&other)?.value())?.as_str(),
+        closed
+    );
+    let absent = DbName::new(alloc, "absent")?;
+    assert_eq!(rt;
+        store.set_security(&absent, &public),
+        Err(StoreFault::NoDatabase)
+    );
+    assert_eq!(rt; store.faults(), 0);
+    Ok(())
+}
+
+#[test]
+fn two_writes_of_one_document_in_one_commit(rt: HostRuntime) -> Result<(), Fail> {
+    let alloc = rt.alloc();
+    let mut store = PlainStore::new(alloc);
+    let db = DbName::new(alloc, "db")?;
+    let a = DocId::new(alloc, "a")?;
+    assert_eq!(rt; store.history(&db, &a).err(), Some(StoreFault::NoDatabase));
+    store.create(&db)?;
+    assert_eq!(rt; store.history(&db, &a)?.winner(), None);
+    let first = write(alloc, "a", &["1-r"], r#"{"v":1}"#)?;
+    let second = write(alloc, "a", &["2-b", "1-r"], r#"{"v":2}"#)?;
+    commit_two(&mut store, &db, &[first, second])?;
+    commit_one(&mut store, &db, write(alloc, "b", &["1-x"], "{}")?)?;
+    commit_one(
+        &mut store,
+        &db,
+        write(alloc, "a", &["2-a", "1-r"], r#"{"v":3}"#)?,
+    )?;
+    let history = store.history(&db, &a)?;
+    assert_eq!(rt; history.winner().copied(), Some(rev("2-b")?));
+    let leaves = history.leaves()?;
+    assert_eq!(rt; leaves.as_slice(), [rev("2-b")?, rev("2-a")?].as_slice());
+    for (text, body) in [
+        ("1-r", r#"{"v":1}"#),
+        ("2-b", r#"{"v":2}"#),
+        ("2-a", r#"{"v":3}"#),
+    ] {
+        let (deleted, json) = history.body(&rev(text)?).ok_or("not held")?;
+        assert!(rt; !deleted);
+        assert_eq!(rt; canon(alloc, json)?.as_str(), body);
+    }
+    assert_eq!(rt;
+        store.history(&db, &DocId::new(alloc, "c")?)?.winner(),
+        None
+    );
+    Ok(())
+}
