@@ -1,18 +1,15 @@
 -- The content of a list of writes: what it has at a revision, and what one more write makes of it.
-use Rattle.std.proofs.Common.{◌≡◌, ◌≢◌, ◌⊎◌, ℕ, suc, ◌≤◌, Bool, true, false, cond, ◌&&◌, eqb, eqb-true, List, [], ◌∷◌, ◌++◌, length, Option, Some, None, refl, sym, ap, subst, ◌∙◌, arith, inl, inr, append-nil}
-use Rattle.std.specs.Prelude.{IsTrue, is_some, option_and_then, flat_map, ⊤}
+use Rattle.std.proofs.Common.{◌≡◌, Bool, true, false, cond, List, [], ◌∷◌, ◌++◌, Option, Some, None, refl, sym, ap, ◌∙◌, append-nil}
+use Rattle.std.specs.Prelude.{IsTrue, is_some, flat_map}
 use Rattle.std.proofs.lemmas.Grind.{flat_map-append}
-use Rattle.std.proofs.lemmas.Bool.{false≢true}
 use Rattle.std.specs.Ordering.{eq_by_cmp}
-use Rattle.std.specs.FinMap.{find, get, insert, entries, contains_key, from_entries, get-from_entries, get-insert, same_map}
+use Rattle.std.specs.FinMap.{find, get, insert, get-from_entries, get-insert, same_map}
 use Rattle.tree.specs.Revision.{Revision, revision_cmp}
-use Rattle.tree.specs.Write.{Write, is_whole, counts_down, head, held_by, StandsIn, IsBehind, IsKnown, IsParent, IsBrought, AreWhole, IsLawful}
-use Rattle.tree.specs.History.{HistoryContent, is_known, parent_of, held_of, path_entries, write_entries, content_of, with_new, with_entries, with_write, entry_after}
-use Rattle.tree.specs.declared.entry.Held.{Held}
+use Rattle.tree.specs.Write.{Write}
+use Rattle.tree.specs.History.{HistoryContent, is_known, write_entries, content_of, with_new, with_entries, with_write, entry_after}
 use Rattle.tree.specs.declared.entry.Entry.{Entry}
 use Rattle.tree.proofs.Kept.{Node, revision_cmp_total}
-use Rattle.tree.proofs.Revisions.{revision_cmp_exact, same, tied, told}
-use Rattle.tree.proofs.RevisionText.{parts}
+use Rattle.tree.proofs.Revisions.{revision_cmp_exact, same}
 
 -- ---- options
 

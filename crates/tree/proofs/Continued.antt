@@ -1,23 +1,18 @@
 -- One more write after a lawful list: which writes go on lawfully, and what the content then shows.
-use Rattle.std.proofs.Common.{◌≡◌, ◌≢◌, ◌⊎◌, ℕ, zero, suc, ◌+◌, ◌≤◌, ◌<◌, Bool, true, false, cond, not, ◌&&◌, eqb, eqb-true, List, [], ◌∷◌, ◌++◌, length, Option, Some, None, Result, Ok, Err, refl, sym, ap, subst, ◌∙◌, arith, inl, inr, length-append}
-use Rattle.std.specs.Prelude.{IsTrue, is_some, option_and_then, ⊤, ◌↔◌}
+use Rattle.std.proofs.Common.{◌≡◌, ◌⊎◌, suc, ◌≤◌, Bool, true, false, cond, not, eqb, eqb-true, List, [], ◌∷◌, ◌++◌, length, Option, Some, None, Ok, Err, refl, sym, ap, subst, ◌∙◌, arith, inl, inr, length-append}
 use Rattle.std.proofs.lemmas.Bool.{false≢true}
-use Rattle.std.specs.Ordering.{eq_by_cmp}
-use Rattle.std.specs.FinMap.{get, same_map}
-use Rattle.tree.specs.Revision.{Revision, revision_cmp}
-use Rattle.tree.specs.Write.{Write, is_whole, counts_down, head, held_by, StandsIn, IsBehind, EndsWith, IsKnown, IsParent, IsBrought, IsPathEnd, AreWhole, IsLawful}
-use Rattle.tree.specs.History.{HistoryContent, is_known, parent_of, held_of, same_parent, agrees, keeps_parents, is_head_known, placement, content_of, with_write, GoesOn}
-use Rattle.tree.specs.declared.entry.Held.{Held}
+use Rattle.std.specs.FinMap.{get}
+use Rattle.tree.specs.Revision.{Revision}
+use Rattle.tree.specs.Write.{Write, is_whole, counts_down, head, IsBehind, IsKnown, IsParent, AreWhole, IsLawful}
+use Rattle.tree.specs.History.{HistoryContent, is_known, same_parent, agrees, keeps_parents, is_head_known, placement, content_of, with_write, GoesOn}
 use Rattle.tree.specs.declared.entry.Entry.{Entry}
 use Rattle.tree.specs.declared.placement.Placed.{Placed}
 use Rattle.tree.specs.declared.placement.Placed.TheVariants.{Added, Known}
-use Rattle.tree.specs.declared.placement.TreeFault.{TreeFault}
 use Rattle.tree.specs.declared.placement.TreeFault.TheVariants.{BadPath, OtherParent}
-use Rattle.tree.proofs.Kept.{revision_cmp_total}
-use Rattle.tree.proofs.Revisions.{revision_cmp_exact, same, tied}
+use Rattle.tree.proofs.Revisions.{same, tied}
 use Rattle.tree.proofs.RevisionText.{parts}
 use Rattle.tree.proofs.Contents.{one_more_write}
-use Rattle.tree.proofs.Shown.{shown, is_known_writes, parent_below, parent_is, root_number, entry_of_known, whole_counts, behind_below}
+use Rattle.tree.proofs.Shown.{is_known_writes, parent_below, parent_is, root_number, entry_of_known, whole_counts}
 
 -- ---- lists with one more at the end
 
@@ -62,26 +57,32 @@ split_last (b ∷ before) after (x ∷ ws) v w e =
 
 -- ---- one path
 
+first_number : (s : Revision) (path : List Revision) → counts_down (s ∷ path) ≡ true → s.number ≡ suc (length path)
+first_number s path w = eqb-true s.number (suc (length path)) (parts (eqb s.number (suc (length path))) (counts_down path) w).0
+
+rest_counts : (s : Revision) (path : List Revision) → counts_down (s ∷ path) ≡ true → counts_down path ≡ true
+rest_counts s path w = (parts (eqb s.number (suc (length path))) (counts_down path) w).1
+
 -- a revision stands once in a whole path, so one revision is behind it
 low_in_path : (path : List Revision) (r p : Revision) → counts_down path ≡ true → IsBehind path r p → r.number ≤ length path
 low_in_path [] r p w b = elim b [ ]
-low_in_path (s ∷ path) r p w (inl b) = let n = eqb-true s.number (suc (length path)) (parts _ _ w).0 in let m = ap (λ (x : Revision). x.number) b.0 in omega (arith, n, m)
-low_in_path (s ∷ path) r p w (inr b) = let n = low_in_path path r p (parts _ _ w).1 b in omega (arith, n)
+low_in_path (s ∷ path) r p w (inl b) = let n : s.number ≡ suc (length path) = first_number s path w in let m = ap (λ (x : Revision). x.number) b.0 in omega (arith, n, m)
+low_in_path (s ∷ path) r p w (inr b) = let n : r.number ≤ length path = low_in_path path r p (rest_counts s path w) b in omega (arith, n)
 
 once : (path : List Revision) (r p q : Revision) → counts_down path ≡ true → IsBehind path r p → IsBehind path r q → p ≡ q
 once [] r p q w b c = elim b [ ]
 once (s ∷ path) r p q w (inl b) (inl c) = let e : Some p ≡ Some q = sym b.1 ∙ c.1 in cc
 once (s ∷ path) r p q w (inl b) (inr c) =
-    let n = eqb-true s.number (suc (length path)) (parts _ _ w).0 in
+    let n = first_number s path w in
     let m = ap (λ (x : Revision). x.number) b.0 in
-    let l = low_in_path path r q (parts _ _ w).1 c in
+    let l : r.number ≤ length path = low_in_path path r q (rest_counts s path w) c in
     absurd (omega (arith, n, m, l))
 once (s ∷ path) r p q w (inr b) (inl c) =
-    let n = eqb-true s.number (suc (length path)) (parts _ _ w).0 in
+    let n = first_number s path w in
     let m = ap (λ (x : Revision). x.number) c.0 in
-    let l = low_in_path path r p (parts _ _ w).1 b in
+    let l : r.number ≤ length path = low_in_path path r p (rest_counts s path w) b in
     absurd (omega (arith, n, m, l))
-once (s ∷ path) r p q w (inr b) (inr c) = once path r p q (parts _ _ w).1 b c
+once (s ∷ path) r p q w (inr b) (inr c) = once path r p q (rest_counts s path w) b c
 
 pub same_parent_is : (o p : Option Revision) → same_parent o p ≡ true → o ≡ p
 same_parent_is None None e = refl

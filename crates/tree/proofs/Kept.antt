@@ -1,5 +1,5 @@
 -- A history kept as its nodes in order: look-ups and writes by the nodes are those of the content.
-use Rattle.std.proofs.Common.{◌≡◌, ℕ, suc, ◌+◌, ◌-◌, ◌<◌, ◌≤◌, Bool, true, false, cond, length, List, [], ◌∷◌, ◌++◌, get_or, map, Option, Some, None, Result, Ok, Err, refl, sym, ap, subst, ◌∙◌, rules, arith, append_assoc}
+use Rattle.std.proofs.Common.{◌≡◌, ℕ, suc, ◌+◌, ◌-◌, ◌<◌, ◌≤◌, Bool, true, false, cond, length, List, [], ◌∷◌, ◌++◌, get_or, map, Option, Some, None, Result, Ok, Err, refl, sym, ap, subst, ◌∙◌, arith, append_assoc}
 use Rattle.std.specs.Prelude.{IsTrue, IfOk, IfErr, is_some, option_map, filter, slice_get}
 use Rattle.std.specs.List.{find as first_passing}
 use Rattle.std.specs.List.Sorted.{IsSearchInRange, IsBinarySearchResult}
@@ -7,9 +7,8 @@ use Rattle.std.specs.declared.cmp.Ordering.TheVariants.{Less, Equal, Greater}
 use Rattle.std.proofs.lemmas.Option.{slice_get-get_or}
 use Rattle.tree.proofs.SortedEntries.{find_hit, find_miss, nondecreasing, put_gap}
 use Rattle.std.specs.Cmp.{IsTotalOrder, on_total, then_total, nat_cmp_total}
-use Rattle.std.specs.Cmp.Lexicographic.{lists_total, slice_cmp}
-use Rattle.std.specs.Ordering.{nat_cmp, on, then_cmp}
-use Rattle.std.specs.FinMap.{FinMap, find, put, is_sorted, entries, entries_sorted, from_sorted, entries-from_sorted, entries-insert, empty, empty_of_len, len-entries, same_entries_map, get, get-entries, get-from_sorted, insert}
+use Rattle.std.specs.Cmp.Lexicographic.{lists_total}
+use Rattle.std.specs.FinMap.{find, put, is_sorted, entries, from_sorted, entries-from_sorted, entries-insert, empty, empty_of_len, len-entries, same_entries_map, get, get-entries, get-from_sorted, insert}
 use Rattle.std.specs.FinMap.Entries.{is_sorted-put}
 use Rattle.tree.specs.Revision.{Revision, revision_cmp}
 use Rattle.tree.specs.Nodes.{nodes_with_new, nodes_with, IsPlaceOf, IsGapFor}

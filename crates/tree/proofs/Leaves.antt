@@ -1,17 +1,17 @@
 -- The leaves of a history: which revisions they are, their order, and what they depend on.
-use Rattle.std.proofs.Common.{◌≡◌, ◌≢◌, ◌⊎◌, Bool, true, false, cond, not, ◌&&◌, ◌||◌, List, [], ◌∷◌, ◌++◌, map, Option, Some, None, Ordering, refl, sym, ap, subst, ◌∙◌, inl, inr}
+use Rattle.std.proofs.Common.{◌≡◌, ◌≢◌, ◌⊎◌, Bool, true, false, cond, not, ◌&&◌, ◌||◌, List, [], ◌∷◌, ◌++◌, map, Option, Some, None, refl, sym, ap, subst, ◌∙◌, inl, inr}
 use Rattle.std.specs.Prelude.{IsTrue, is_some, option_and_then, filter, reverse, slice_get, ⊤, ◌↔◌, MatchOption}
 use Rattle.std.specs.List.{list_any}
 use Rattle.std.proofs.lemmas.List.{reverse-append}
 use Rattle.std.proofs.lemmas.Bool.{false≢true}
 use Rattle.std.specs.declared.cmp.Ordering.TheVariants.{Less, Equal, Greater}
-use Rattle.std.specs.Ordering.{is_lt, is_eq, is_gt, eq_by_cmp, ordering_reverse}
+use Rattle.std.specs.Ordering.{is_eq, eq_by_cmp, ordering_reverse}
 use Rattle.std.specs.Cmp.{tied_itself, first_so, second_so}
 use Rattle.std.specs.FinMap.{find, get, entries, entries_sorted, get-entries, is_sorted}
 use Rattle.std.specs.FinMap.Entries.{below_all}
 use Rattle.tree.specs.Revision.{Revision, revision_cmp}
-use Rattle.tree.specs.Write.{Write, head, StandsIn, IsBehind, IsKnown, IsParent, IsLawful}
-use Rattle.tree.specs.History.{HistoryContent, is_known, parent_of, held_of, is_deleted, names, is_parent_in, has_child, is_leaf, is_marked, is_leaf_in, leaves_in, leaves_marked, leaves, winner, IsBetter, BeatsAll, AreBestFirst, LooksAlike, content_of, Shows}
+use Rattle.tree.specs.Write.{Write, StandsIn, IsLawful}
+use Rattle.tree.specs.History.{HistoryContent, is_known, parent_of, held_of, is_deleted, names, has_child, is_leaf, is_marked, is_leaf_in, leaves_marked, leaves, winner, IsBetter, BeatsAll, AreBestFirst, LooksAlike, content_of, Shows}
 use Rattle.tree.specs.declared.entry.Held.{Held}
 use Rattle.tree.specs.declared.entry.Entry.{Entry}
 use Rattle.tree.proofs.Kept.{Node, revision_cmp_total, true_from_T}

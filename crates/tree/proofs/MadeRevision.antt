@@ -1,10 +1,8 @@
 -- A number and a hash that make a revision are kept as such.
-use Rattle.std.proofs.Common.{◌≡◌, ◌≢◌, ℕ, ◌+◌, ◌-◌, ◌≤◌, Bool, true, false, cond, ◌&&◌, List, [], ◌++◌, length, take, drop, replicate, Option, Some, None, refl, sym, ap, ◌∙◌, arith, leb-true}
-use Rattle.std.specs.Prelude.{IsTrue}
+use Rattle.std.proofs.Common.{◌≡◌, ℕ, ◌+◌, ◌-◌, ◌≤◌, true, List, ◌++◌, length, take, drop, replicate, refl, ap, ◌∙◌, arith, leb-true}
 use Rattle.std.proofs.lemmas.List.{take_at, drop_at, length-append, length-replicate}
-use Rattle.tree.specs.Revision.{Revision, is_revision, is_hash, is_number_text, number_read, is_dash, revision_read}
+use Rattle.tree.specs.Revision.{is_revision}
 use Rattle.tree.specs.KeptRevision.{kept, IsKept}
-use Rattle.tree.specs.declared.revision.Rev.TheInside.{Inside}
 use Rattle.tree.proofs.RevisionText.{parts}
 
 pub short_hash : (n : ℕ) (hash : List ℕ) → is_revision (record { number = n; hash = hash }) ≡ true → length hash ≤ 64

@@ -1,7 +1,6 @@
 -- The texts of revisions: each lawful text reads as one revision, and that revision is written as that text.
-use Rattle.std.proofs.Common.{◌≡◌, ◌≢◌, ℕ, ◌+◌, ◌-◌, ◌<◌, ◌≤◌, ◌^◌, Bool, true, false, cond, not, ◌&&◌, eqb, ltb, leb, List, [], ◌∷◌, ◌++◌, length, get_or, take, drop, Option, Some, None, Result, Ok, Err, refl, sym, ap, subst, ◌∙◌, arith, rules, codes, append_assoc, IsOk, MatchResult, MatchOption, lit<, le-leb, leb-true, eqb-true, zero, suc}
+use Rattle.std.proofs.Common.{◌≡◌, ◌≢◌, ℕ, ◌+◌, ◌<◌, ◌≤◌, ◌^◌, Bool, true, false, cond, ◌&&◌, leb, List, [], ◌∷◌, ◌++◌, length, get_or, drop, Option, Some, None, Result, Ok, Err, refl, sym, ap, subst, ◌∙◌, arith, codes, append_assoc, IsOk, MatchResult, MatchOption, lit<, le-leb, leb-true, eqb-true, zero, suc}
 use Rattle.std.specs.Cmp.{first_so, second_so}
-use Rattle.std.proofs.lemmas.Bool.{false≢true}
 use Rattle.std.proofs.lemmas.Bool.Decides.{nat_tests}
 use Rattle.std.proofs.lemmas.Str.Parse.{IsNumeralModel, numerals_by_value, tells_all_ascii_digits, parse_plain, digit_at}
 use Rattle.std.proofs.lemmas.Str.{IsUtf8-from_ascii}
@@ -10,12 +9,11 @@ use Rattle.std.proofs.lemmas.Fmt.{decimal-digits_value, decimal_digit, decimal_i
 use Rattle.std.proofs.lemmas.List.{length-append, length-drop, get_or_append_left, get_or_at, take_at, drop_at}
 use Rattle.std.proofs.lemmas.List.Sums.{split_at_first, passes_at_first, position_or_len_is}
 use Rattle.std.specs.Str.{all_ascii_digits, IsAscii, IsUtf8}
-use Rattle.std.specs.Str.Parse.{ParsesUnsigned, digits_value, IsNumeral}
+use Rattle.std.specs.Str.Parse.{ParsesUnsigned, digits_value}
 use Rattle.std.specs.Result.{OkIff}
 use Rattle.std.specs.Fmt.{decimal}
-use Rattle.std.specs.Int.{IsInRange}
 use Rattle.std.specs.List.{list_all, before_first, after_first, position_or_len}
-use Rattle.std.specs.Char.{is_ascii_alphanumeric, is_ascii_digit}
+use Rattle.std.specs.Char.{is_ascii_alphanumeric}
 use Rattle.tree.specs.Revision.{Revision, greatest_number, is_revision, is_number_text, number_read, is_hash, is_dash, revision_read, text_of}
 
 -- ---- tests

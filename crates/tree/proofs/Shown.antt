@@ -1,6 +1,6 @@
 -- The content of a lawful list of writes shows just what is known by the writes.
-use Rattle.std.proofs.Common.{◌≡◌, ◌≢◌, ◌⊎◌, ℕ, zero, suc, ◌+◌, ◌≤◌, ◌<◌, Bool, true, false, cond, ◌&&◌, eqb, eqb-true, List, [], ◌∷◌, ◌++◌, length, Option, Some, None, refl, sym, ap, subst, ◌∙◌, arith, inl, inr}
-use Rattle.std.specs.Prelude.{IsTrue, is_some, option_and_then, flat_map, ⊤, ◌↔◌}
+use Rattle.std.proofs.Common.{◌≡◌, ◌⊎◌, suc, ◌≤◌, true, false, cond, eqb-true, List, [], ◌∷◌, ◌++◌, length, Option, Some, None, refl, sym, ap, subst, ◌∙◌, arith, inl, inr}
+use Rattle.std.specs.Prelude.{IsTrue, is_some, option_and_then, flat_map, ◌↔◌}
 use Rattle.std.specs.Ordering.{eq_by_cmp}
 use Rattle.std.specs.FinMap.{find, get}
 use Rattle.tree.specs.Revision.{Revision, revision_cmp}

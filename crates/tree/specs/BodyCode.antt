@@ -1,7 +1,7 @@
 -- A code for JSON values: it tells any two of them apart, so that a type of the program may stand for one.
 -- No outside source decides.
 use Rattle.std.specs.Prelude.{◌≡◌, ℕ}
-use Rattle.std.proofs.Common.{sym, ap, ◌∙◌, arith}
+use Rattle.std.proofs.Common.{ap, arith}
 use base.Stored.{Gv, gnil, gnum, gcons, num, Coded, coded_ℕ, coded_ℤ, coded_bool, coded_list}
 use Rattle.couch_json.specs.Value.{Value, null, truth, whole, text, array, object, Items, no_items, item, Members, no_members, member}
 

@@ -1,9 +1,9 @@
 -- The content of a document's history: its known revisions, with their parents and what is held of them; leaves, winner and chains; how a write changes it.
 -- The CouchDB manual decides (replication/conflicts: the revision tree, conflicting leaves, and how the winner is picked).
-use Rattle.std.specs.Prelude.{◌≡◌, ◌⊎◌, ℕ, zero, suc, Bool, true, false, not, ◌&&◌, if◌then◌else◌, List, [], ◌∷◌, ◌++◌, map, filter, reverse, slice_get, Option, Some, None, is_some, option_and_then, Result, Ok, Err, IsTrue, ◌↔◌, ⊤}
+use Rattle.std.specs.Prelude.{◌≡◌, ◌⊎◌, ℕ, zero, suc, Bool, true, false, not, ◌&&◌, if◌then◌else◌, List, [], ◌∷◌, ◌++◌, map, filter, reverse, slice_get, Option, Some, None, option_and_then, Result, Ok, Err, IsTrue, ◌↔◌, ⊤}
 use Rattle.std.specs.List.{list_any, flat_map}
 use Rattle.std.specs.Ordering.{eq_by_cmp}
-use Rattle.std.specs.declared.cmp.Ordering.TheVariants.{Less, Equal, Greater}
+use Rattle.std.specs.declared.cmp.Ordering.TheVariants.{Greater}
 use Rattle.std.specs.FinMap.{FinMap, get, contains_key, insert, entries, from_entries, find}
 use Rattle.tree.specs.Revision.{Revision, revision_cmp}
 use Rattle.tree.specs.Write.{Write, is_whole, head, held_by, IsKnown, IsParent, IsBrought, IsLawful}

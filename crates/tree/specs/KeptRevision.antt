@@ -1,6 +1,6 @@
 -- How a revision is kept: its hash in the front of 64 bytes, with zeros behind it.
 -- No outside source decides; that it keeps every lawful revision exactly is proved here.
-use Rattle.std.specs.Prelude.{◌≡◌, ℕ, ◌-◌, ◌≤◌, List, ◌++◌, length, take, drop, replicate, IsTrue}
+use Rattle.std.specs.Prelude.{◌≡◌, ◌-◌, ◌≤◌, ◌++◌, length, take, drop, replicate, IsTrue}
 use Rattle.std.proofs.Common.{sym, ap, ◌∙◌, arith}
 use Rattle.std.proofs.lemmas.List.{length-take-le, take-append-drop}
 use Rattle.tree.specs.Revision.{Revision, is_revision}

@@ -1,7 +1,7 @@
 -- The revision that an edit makes: its number, and its hash, the MD5 (RFC 1321) in lower-case hexadecimal of a canonical text.
 -- The CouchDB manual decides that the hash follows from the edit (replication/conflicts, "Revision IDs"); of which text it is taken is this server's own choice.
 use Rattle.std.specs.Prelude.{ℕ, ◌+◌, Bool, List, [], pos, Option, Some, None}
-use Rattle.couch_json.specs.Value.{Value, truth, whole, text, array, Items, no_items, item}
+use Rattle.couch_json.specs.Value.{Value, truth, whole, text, array, no_items, item}
 use Rattle.couch_json.specs.Canonical.{canonical}
 use Rattle.md5.specs.Md5.{md5}
 use Rattle.hex.specs.Hex.{encode_lower}

@@ -1,6 +1,6 @@
 -- A history kept as a list of nodes in the order of their revisions: where a revision stands in it, and what taking one in makes of it.
--- No outside source decides: `proofs/Nodes` ties it to the content of a history.
-use Rattle.std.specs.Prelude.{◌≡◌, ℕ, ◌<◌, ◌≤◌, if◌then◌else◌, List, [], ◌∷◌, length, insert, slice_get, Option, Some, None, is_some, option_map, IsTrue}
+-- No outside source decides: `proofs/Kept` ties it to the content of a history.
+use Rattle.std.specs.Prelude.{◌≡◌, ℕ, ◌<◌, ◌≤◌, if◌then◌else◌, List, [], ◌∷◌, length, insert, slice_get, None, is_some, option_map, IsTrue}
 use Rattle.std.specs.FinMap.{find, put}
 use Rattle.tree.specs.Revision.{Revision, revision_cmp}
 use Rattle.tree.specs.declared.entry.Entry.{Entry}

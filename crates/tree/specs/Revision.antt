@@ -1,6 +1,6 @@
 -- Revisions of a document: a number and a hash, their text `N-hash`, and their order.
 -- The CouchDB manual decides (api/document/common, "Revision", and replication/conflicts); the bounds on the number and on the hash are this server's own.
-use Rattle.std.specs.Prelude.{ℕ, ◌==◌, Bool, ◌&&◌, if◌then◌else◌, List, [], ◌∷◌, ◌++◌, length, slice_index, nat_le, codes, Option, Some, None, refl}
+use Rattle.std.specs.Prelude.{ℕ, ◌==◌, Bool, ◌&&◌, if◌then◌else◌, List, ◌++◌, length, slice_index, nat_le, codes, Option, Some, None, refl}
 use Rattle.std.specs.List.{list_all, before_first, after_first}
 use Rattle.std.specs.Char.{is_ascii_alphanumeric}
 use Rattle.std.specs.Str.{all_ascii_digits}

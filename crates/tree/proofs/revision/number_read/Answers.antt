@@ -1,5 +1,5 @@
 -- A numeral that is no text, that `parse` refuses, and that it reads.
-use Rattle.std.proofs.Common.{◌≤◌, ◌≡◌, sym, ap, ◌∙◌, get_or, cond, Some, None, le-leb, arith}
+use Rattle.std.proofs.Common.{◌≤◌, sym, ap, ◌∙◌, get_or, cond, Some, None, le-leb, arith}
 use Rattle.tree.specs.Revision.{greatest_number}
 use Rattle.tree.proofs.RevisionText.{number_read-none, number_read-parse}
 use Rattle.tree.proofs.revision.number_read.Goals as goal

@@ -1,8 +1,6 @@
 -- A write that was added goes on lawfully.
 use Rattle.std.proofs.Common.{sym, ap, ◌∙◌, Ok}
 use Rattle.tree.specs.declared.placement.Placed.{Placed}
-use Rattle.tree.specs.declared.placement.TreeFault.{TreeFault}
-use Rattle.std.proofs.Common.{Result}
 use Rattle.tree.proofs.Continued.{goes_on}
 use Rattle.tree.proofs.history.History.insert.Goals as goal
 

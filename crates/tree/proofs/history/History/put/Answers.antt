@@ -1,5 +1,5 @@
 -- The nodes after a write are those of the content after it.
-use Rattle.std.proofs.Common.{◌≡◌, Some, sym, ap, ◌∙◌}
+use Rattle.std.proofs.Common.{Some, ap, ◌∙◌}
 use Rattle.couch_json.specs.Value.{Value}
 use Rattle.tree.specs.History.{HistoryContent, path_entries, with_entries}
 use Rattle.tree.proofs.Kept.{with_nodes}

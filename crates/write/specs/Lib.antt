@@ -1,0 +1,2 @@
+pub mod DocumentBody
+pub mod Admission

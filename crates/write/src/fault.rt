@@ -1,0 +1,59 @@
+ghost use Rattle.std.specs.Prelude.{◌≡◌};
+ghost use Rattle.write.specs.declared.fault.WriteFault.TheVariants.{Memory};
+
+use couch_json::NoMemory;
+use policy::Rule;
+use std::alloc::{AllocError, AllocFailed};
+use store::StoreFault;
+use thiserror::Error;
+
+/// Why a write was refused. Nothing has changed then.
+#[derive(Debug, Drop, Error)]
+pub enum WriteFault {
+    /// The document is no object, has a special member that it may not have, or its body nests
+    /// more than 100 deep.
+    #[error("a bad document")]
+    BadDocument,
+    /// A rule of the written policy refused it.
+    #[error("denied by a rule")]
+    Denied(Rule),
+    /// The path of revisions is not whole, or gives a known revision another parent.
+    #[error("a bad revision history")]
+    BadHistory,
+    /// The edit does not follow the revision that it would have to follow.
+    #[error("a conflict")]
+    Conflict,
+    /// No revision follows the one with the greatest number, 2,147,483,647.
+    #[error("no further generation")]
+    Generation,
+    /// The store refused, for another cause than want of memory.
+    #[error("{0}")]
+    Store(StoreFault),
+    /// Memory ran out, here or in the store.
+    #[error("out of memory")]
+    Memory,
+}
+
+impl From<NoMemory> for WriteFault {
+    ghost from_gives = { λ _ fault. fault ≡ Memory };
+
+    fn from(_no_memory: NoMemory) -> WriteFault {
+        WriteFault::Memory
+    }
+}
+
+impl From<AllocError> for WriteFault {
+    ghost from_gives = { λ _ fault. fault ≡ Memory };
+
+    fn from(_error: AllocError) -> WriteFault {
+        WriteFault::Memory
+    }
+}
+
+impl<T: Drop> From<AllocFailed<T>> for WriteFault {
+    ghost from_gives = { λ _ fault. fault ≡ Memory };
+
+    fn from(_failed: AllocFailed<T>) -> WriteFault {
+        WriteFault::Memory
+    }
+}
