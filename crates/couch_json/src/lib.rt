@@ -13,7 +13,6 @@ mod reading;
 #[cfg(test)]
 mod tests;
 mod value;
-mod walking;
 mod writing;
 
 pub use fault::JsonFault;
