@@ -1,0 +1,143 @@
+-- The answer to a request: its status, its value and the databases afterwards.
+-- CouchDB manual, api/document/common (`GET` and `PUT /{db}/{docid}`); the order of refusals is this server's own.
+use Rattle.std.specs.Prelude.{ℕ, List, [], ◌∷◌, map, Bool, true, false, Option, Some, None, Result, Ok, Err, codes}
+use Rattle.std.specs.FinMap.{get, insert}
+use Rattle.auth.specs.Callers.{Identity, Configuration}
+use Rattle.couch_http.specs.Message.{Message}
+use Rattle.couch_json.specs.Value.{Value, null, truth, text, object, no_members, put}
+use Rattle.policy.specs.Verdict.{verdict}
+use Rattle.policy.specs.declared.action.Action.{Action}
+use Rattle.policy.specs.declared.action.Action.TheVariants.{Read, WriteDocument}
+use Rattle.policy.specs.declared.rule.Rule.{Rule}
+use Rattle.read.specs.Shown.{document_in}
+use Rattle.read.specs.declared.fault.ReadFault.{ReadFault}
+use Rattle.read.specs.declared.fault.ReadFault.TheVariants as read
+use Rattle.store.specs.Contents.{Contents}
+use Rattle.store.specs.Database.{Database, DocumentWrite, with_all}
+use Rattle.tree.specs.Revision.{Revision, text_of}
+use Rattle.write.specs.Admission.{edit_in, new_revision}
+use Rattle.write.specs.declared.fault.WriteFault.{WriteFault}
+use Rattle.write.specs.declared.fault.WriteFault.TheVariants as write
+use Rattle.node.specs.Asking.{asking, body_of, denied, document_method, lacks_parameters}
+use Rattle.node.specs.Paths.{database_name_in, document_id_in}
+use Rattle.node.specs.Refusals.{refusal_value, status_of}
+use Rattle.node.specs.Routing.{page_of}
+use Rattle.node.specs.declared.method.DocumentMethod.{DocumentMethod}
+use Rattle.node.specs.declared.method.DocumentMethod.TheVariants.{Get, Put}
+use Rattle.node.specs.declared.page.Page.{Page}
+use Rattle.node.specs.declared.page.Page.TheVariants.{Document}
+use Rattle.node.specs.declared.refusal.Refusal.{Refusal}
+use Rattle.node.specs.declared.refusal.Refusal.TheVariants.{Path, Method, DatabaseName, NoDatabase, Id, Query, BadDocument, Conflict, Generation, Missing, Deleted}
+
+-- what a request comes to
+pub record Outcome : Type 0 where
+  pub status : ℕ
+  pub value : Value
+  -- the databases afterwards
+  pub after : Contents
+
+-- what comes next, where nothing was refused so far
+abbrev pub next : {A B : Type 0} → Result A Refusal → (A → Result B Refusal) → Result B Refusal
+next (Ok a) go = go a
+next (Err refusal) go = Err refusal
+
+-- what is there, or a refusal
+abbrev pub there_or : {A : Type 0} → Refusal → Option A → Result A Refusal
+there_or refusal None = Err refusal
+there_or refusal (Some a) = Ok a
+
+-- it holds, or a refusal
+abbrev pub true_or : Refusal → Bool → Result (Unit {0}) Refusal
+true_or refusal true = Ok tt
+true_or refusal false = Err refusal
+
+-- ---- a caller in a database
+
+abbrev pub allowed : Identity → List ℕ → Option Rule → Result (List ℕ) Refusal
+allowed caller name None = Ok name
+allowed caller name (Some rule) = Err (denied caller rule)
+
+abbrev pub allowed_in : Action → Identity → List ℕ → Option Database → Result (List ℕ) Refusal
+allowed_in action caller name None = Err NoDatabase
+allowed_in action caller name (Some db) = allowed caller name (verdict action caller db.security)
+
+-- the name of the database that the path leads into, where there is one and its policy lets the caller do this
+abbrev pub entered : Action → Identity → Contents → List ℕ → Result (List ℕ) Refusal
+entered action caller databases path =
+    next (there_or DatabaseName (database_name_in path)) (λ name. allowed_in action caller name (get databases name))
+
+-- the id of the document that the path leads to, in a request without parameters
+abbrev pub document_asked : Message → Result (List ℕ) Refusal
+document_asked m =
+    next (there_or Id (document_id_in m.path)) (λ id. next (true_or Query (lacks_parameters m.query)) (λ _. Ok id))
+
+-- ---- reading a document
+
+abbrev pub shown : Contents → Option (Result Value ReadFault) → Result Outcome Refusal
+shown databases None = Err NoDatabase
+shown databases (Some (Ok document)) = Ok (record { status = 200; value = document; after = databases })
+shown databases (Some (Err read.Deleted)) = Err Deleted
+shown databases (Some (Err fault)) = Err Missing
+
+abbrev pub document_read : Identity → Contents → Message → Result Outcome Refusal
+document_read caller databases m =
+    next (entered Read caller databases m.path) (λ name. next (document_asked m) (λ id. shown databases (document_in databases name id)))
+
+-- ---- writing a document
+
+abbrev pub with_writes_in : Contents → List ℕ → List DocumentWrite → Option Database → Contents
+with_writes_in databases name ws None = databases
+with_writes_in databases name ws (Some db) = insert databases name (with_all db ws)
+
+-- the databases once the one of this name has these writes at its end
+abbrev pub with_writes : Contents → List ℕ → List DocumentWrite → Contents
+with_writes databases name ws = with_writes_in databases name ws (get databases name)
+
+-- what an edit replies: the id and the new revision. An edit makes one write, which has a revision
+abbrev pub edited : List ℕ → List (Option Revision) → Value
+edited id (Some rev ∷ revs) =
+    object (put (codes "rev") (text (text_of rev)) (put (codes "ok") (truth true) (put (codes "id") (text id) no_members)))
+edited id (None ∷ revs) = null
+edited id [] = null
+
+abbrev pub refusal_of_fault : WriteFault → Refusal
+refusal_of_fault write.BadDocument = BadDocument
+refusal_of_fault write.Generation = Generation
+refusal_of_fault fault = Conflict
+
+abbrev pub written : Contents → List ℕ → List ℕ → Option (Result (List DocumentWrite) WriteFault) → Result Outcome Refusal
+written databases name id None = Err NoDatabase
+written databases name id (Some (Ok ws)) =
+    Ok (record { status = 201; value = edited id (map new_revision ws); after = with_writes databases name ws })
+written databases name id (Some (Err fault)) = Err (refusal_of_fault fault)
+
+abbrev pub document_written : Identity → Contents → Message → Result Outcome Refusal
+document_written caller databases m =
+    next (entered WriteDocument caller databases m.path) (λ name.
+    next (document_asked m) (λ id.
+    next (body_of m) (λ document. written databases name id (edit_in databases name id document))))
+
+-- ---- all requests
+
+abbrev pub by_method : Option DocumentMethod → Identity → Contents → Message → Result Outcome Refusal
+by_method None caller databases m = Err Method
+by_method (Some Get) caller databases m = document_read caller databases m
+by_method (Some Put) caller databases m = document_written caller databases m
+
+abbrev pub on_page : Option Page → Identity → Contents → Message → Result Outcome Refusal
+on_page None caller databases m = Err Path
+on_page (Some Document) caller databases m = by_method (document_method m.method) caller databases m
+
+-- what a request comes to, or the first refusal, in this order: the caller's token, the path, the method, the database's name,
+-- its absence, its policy, the document's id, the query, the body, and what the edit is refused for
+abbrev pub judged : Configuration → Contents → Message → Result Outcome Refusal
+judged c databases m = next (asking c m) (λ caller. on_page (page_of m.path) caller databases m)
+
+-- a refusal leaves the databases as they were
+abbrev pub settled : Contents → Result Outcome Refusal → Outcome
+settled databases (Ok outcome) = outcome
+settled databases (Err refusal) = record { status = status_of refusal; value = refusal_value refusal; after = databases }
+
+-- the answer to a request
+abbrev pub answer : Configuration → Contents → Message → Outcome
+answer c databases m = settled databases (judged c databases m)

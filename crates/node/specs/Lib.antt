@@ -1,0 +1,5 @@
+pub mod Paths
+pub mod Routing
+pub mod Refusals
+pub mod Asking
+pub mod Answer

@@ -1,0 +1,49 @@
+-- The parts of a path, and what a part says once its escapes are read.
+-- RFC 3986, sections 2.1 and 3.3 (escapes, segments); CouchDB manual, api/basics (names in paths are escaped).
+use Rattle.std.specs.Prelude.{ℕ, ◌==◌, Bool, ◌&&◌, not, List, Option, Some, None, option_and_then, if◌then◌else◌, slice_get}
+use Rattle.std.specs.List.{slice_split}
+use Rattle.std.specs.Str.{is_utf8}
+use Rattle.percent_encoding.specs.Percent.{percent_decode}
+use Rattle.tree.specs.DocumentId.{is_document_id, is_design_id, is_local_id}
+use Rattle.store.specs.DatabaseName.{is_database_name}
+
+-- the byte of a slash
+abbrev pub slash : ℕ
+slash = 47
+
+-- what stands between the slashes; the first part is what stands before the first slash
+abbrev pub parts_of : List ℕ → List (List ℕ)
+parts_of path = slice_split (λ b. b == slash) path
+
+-- the part at this place, counted from 0
+abbrev pub part_at : ℕ → List ℕ → Option (List ℕ)
+part_at place path = slice_get (parts_of path) place
+
+abbrev pub text_if : Bool → List ℕ → Option (List ℕ)
+text_if good text = if good then Some text else None
+
+-- the text that a part stands for, where it is UTF-8
+abbrev pub decoded : List ℕ → Option (List ℕ)
+decoded part = text_if (is_utf8 (percent_decode part)) (percent_decode part)
+
+-- the text that the part at this place stands for
+abbrev pub decoded_at : ℕ → List ℕ → Option (List ℕ)
+decoded_at place path = option_and_then (λ part. decoded part) (part_at place path)
+
+abbrev pub name_if : List ℕ → Option (List ℕ)
+name_if text = text_if (is_database_name text) text
+
+-- the name of the database that a path leads into, where it is one
+abbrev pub database_name_in : List ℕ → Option (List ℕ)
+database_name_in path = option_and_then (λ text. name_if text) (decoded_at 1 path)
+
+-- an id of a document that is served: no design document, and no local one
+abbrev pub is_served_id : List ℕ → Bool
+is_served_id text = is_document_id text && not (is_design_id text) && not (is_local_id text)
+
+abbrev pub id_if : List ℕ → Option (List ℕ)
+id_if text = text_if (is_served_id text) text
+
+-- the id of the document that a path leads to, where it is one
+abbrev pub document_id_in : List ℕ → Option (List ℕ)
+document_id_in path = option_and_then (λ text. id_if text) (decoded_at 2 path)

@@ -1,0 +1,75 @@
+//! What a request says besides its path: who asks, with which parameters, and with which body.
+
+ghost use Rattle.std.specs.Prelude.{◌≡◌, ◌≢◌, IfOk, IfErr, Ok, Err, Some, None, map, option_map, string_bytes};
+ghost use Rattle.auth.specs.Headers.{fields_of};
+ghost use Rattle.couch_json.specs.Reading.{reading};
+ghost use Rattle.couch_json.specs.View.{view};
+ghost use Rattle.couch_http.specs.Message.{header_field, message_of};
+ghost use Rattle.node.specs.Asking.{asking, body_of, denied, lacks_parameters, pair_of};
+
+use crate::refusal::Refusal;
+use crate::stop::Stop;
+use auth::{Auth, AuthFault, Caller};
+use couch_http::{Header, Request};
+use couch_json::{Got, Json, JsonFault, read};
+use policy::Rule;
+use std::alloc::Global;
+
+/// Who asks, by the proxy's headers.
+pub(crate) fn caller(alloc: Global, auth: &Auth, request: &Request) -> Result<Caller, Stop>
+    ensures ok { IfOk result (λ caller. asking auth.now (message_of request.now) ≡ Ok caller) }
+    ensures refused { (refusal : _) → result ≡ Err (Stop.Refused refusal) → asking auth.now (message_of request.now) ≡ Err refusal }
+    ensures working { result ≢ Err Stop.Failed }
+{
+    let headers = pairs(alloc, &request.headers)?;
+    match auth.caller(&headers) {
+        Ok(caller) => Ok(caller),
+        Err(AuthFault::Memory) => Err(Stop::NoRoom),
+        Err(AuthFault::Token) => Err(Stop::Refused(Refusal::Unauthorized(Rule::ProxyToken))),
+        Err(AuthFault::Repeated) => Err(Stop::Refused(Refusal::Unauthorized(Rule::ProxyToken))),
+    }
+}
+
+/// The headers, each as its name and its value.
+fn pairs<'a>(alloc: Global, headers: &'a [Header]) -> Got<Vec<(&'a [u8], &'a [u8])>>
+    ensures { IfOk result (λ pairs. map (λ p. (p.0.now, p.1.now)) pairs.items ≡ map pair_of (map header_field headers.now)) }
+{
+    let mut pairs = Vec::with_capacity(alloc, headers.len())?;
+    for header in headers {
+        pairs.push((header.name.as_slice(), header.value.as_slice()))?;
+    }
+    Ok(pairs)
+}
+
+/// The refusal of a caller by a rule.
+pub(crate) fn denied(caller: &Caller, rule: Rule) -> Refusal
+    ensures { result ≡ denied caller.now rule }
+{
+    match caller.name() {
+        None => Refusal::Unauthorized(rule),
+        Some(_) => Refusal::Forbidden(rule),
+    }
+}
+
+/// Whether the query has no parameter (URL Standard, section 5.1).
+pub(crate) fn lacks_parameters(query: &Option<String>) -> bool
+    ensures { result ≡ lacks_parameters (option_map string_bytes query.now) }
+{
+    match query {
+        None => true,
+        Some(query) => form_urlencoded::raw_pairs(query.as_bytes()).next().is_none(),
+    }
+}
+
+/// The value of a body.
+pub(crate) fn body(alloc: Global, request: &Request) -> Result<Json, Stop>
+    ensures ok { IfOk result (λ value. body_of (message_of request.now) ≡ Ok (view value)) }
+    ensures refused { (refusal : _) → result ≡ Err (Stop.Refused refusal) → body_of (message_of request.now) ≡ Err refusal }
+    ensures working { result ≢ Err Stop.Failed }
+{
+    match read(alloc, &request.body) {
+        Ok(value) => Ok(value),
+        Err(JsonFault::Memory) => Err(Stop::NoRoom),
+        Err(_) => Err(Stop::Refused(Refusal::Syntax)),
+    }
+}

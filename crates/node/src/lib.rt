@@ -1,0 +1,13 @@
+//! One node: the answer to a request over a store, as bytes.
+#![tactic(auto)]
+
+mod asking;
+mod members;
+mod method;
+mod page;
+mod path;
+mod refusal;
+mod routes;
+mod stop;
+
+pub use routes::Routes;

@@ -1,0 +1,6 @@
+/// What a path leads to.
+#[derive(Clone, Copy, Debug, PartialEq, Eq)]
+pub(crate) enum Page {
+    /// `/{db}/{id}`: a document.
+    Document,
+}

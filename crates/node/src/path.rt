@@ -1,0 +1,94 @@
+//! The parts of a request's path, and what a part says once its escapes are read (RFC 3986, sections 2.1 and 3.3).
+
+ghost use Rattle.std.specs.Prelude.{◌≡◌, ◌≢◌, IfOk, IfErr, Ok, Err, Some, None, option_map, option_copied, string_bytes};
+ghost use Rattle.node.specs.Paths.{database_name_in, decoded, decoded_at, document_id_in, part_at, text_if};
+ghost use Rattle.std.specs.Str.{is_utf8};
+
+use crate::refusal::Refusal;
+use crate::stop::Stop;
+use couch_json::Got;
+use percent_encoding::percent_decode;
+use std::alloc::Global;
+use std::str;
+use store::{DbName, NameFault};
+use tree::{DocId, IdFault};
+
+/// The name of the database that a path leads into.
+pub(crate) fn database_name(alloc: Global, path: &str) -> Result<DbName, Stop>
+    ensures ok { IfOk result (λ name. database_name_in path.now ≡ Some name) }
+    ensures refused { (refusal : _) → result ≡ Err (Stop.Refused refusal)
+        → (database_name_in path.now ≡ None) × (refusal ≡ Refusal.DatabaseName) }
+    ensures working { result ≢ Err Stop.Failed }
+{
+    let Some(text) = decoded_part(alloc, path, 1)? else {
+        return Err(Stop::Refused(Refusal::DatabaseName));
+    };
+    match DbName::new(alloc, text.as_str()) {
+        Ok(name) => Ok(name),
+        Err(NameFault::Shape) => Err(Stop::Refused(Refusal::DatabaseName)),
+        Err(NameFault::Memory) => Err(Stop::NoRoom),
+    }
+}
+
+/// The id of the document that a path leads to. Design documents and local ones are not served yet.
+pub(crate) fn document_id(alloc: Global, path: &str) -> Result<DocId, Stop>
+    ensures ok { IfOk result (λ id. document_id_in path.now ≡ Some id) }
+    ensures refused { (refusal : _) → result ≡ Err (Stop.Refused refusal)
+        → (document_id_in path.now ≡ None) × (refusal ≡ Refusal.Id) }
+    ensures working { result ≢ Err Stop.Failed }
+{
+    let Some(text) = decoded_part(alloc, path, 2)? else {
+        return Err(Stop::Refused(Refusal::Id));
+    };
+    let id = match DocId::new(alloc, text.as_str()) {
+        Ok(id) => id,
+        Err(IdFault::Shape) => return Err(Stop::Refused(Refusal::Id)),
+        Err(IdFault::Memory) => return Err(Stop::NoRoom),
+    };
+    if id.is_design() {
+        return Err(Stop::Refused(Refusal::Id));
+    }
+    if id.is_local() {
+        return Err(Stop::Refused(Refusal::Id));
+    }
+    Ok(id)
+}
+
+/// The text that the part of a path at a place stands for, where it is UTF-8.
+fn decoded_part(alloc: Global, path: &str, place: usize) -> Got<Option<String>>
+    ensures { IfOk result (λ text. option_map string_bytes text ≡ decoded_at place path.now) }
+{
+    match part(path.as_bytes(), place) {
+        Some(part) => decoded(alloc, part),
+        None => Ok(None),
+    }
+}
+
+/// What stands between the slashes of a path, at a place counted from 0.
+fn part(path: &[u8], place: usize) -> Option<&[u8]>
+    ensures { option_copied result ≡ part_at place path.now }
+{
+    path.split(|byte| *byte == b'/').nth(place)
+}
+
+/// The text that a part of a path stands for, where it is UTF-8.
+fn decoded(alloc: Global, part: &[u8]) -> Got<Option<String>>
+    ensures { IfOk result (λ text. option_map string_bytes text ≡ decoded part.now) }
+{
+    let mut bytes = Vec::new(alloc);
+    percent_decode(part).append_to(&mut bytes)?;
+    match text(&bytes) {
+        Some(text) => Ok(Some(String::from_str(alloc, text)?)),
+        None => Ok(None),
+    }
+}
+
+/// The bytes as a text, where they are UTF-8.
+fn text(bytes: &[u8]) -> Option<&str>
+    ensures { option_copied result ≡ text_if (is_utf8 bytes.now) bytes.now }
+{
+    match str::from_utf8(bytes) {
+        Ok(text) => Some(text),
+        Err(_) => None,
+    }
+}
