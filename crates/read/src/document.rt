@@ -1,8 +1,8 @@
 ghost use Rattle.std.specs.Prelude.{◌≡◌, ◌≢◌, ◌≤◌, IfOk, IfErr, Some, None, Ok, Err};
 ghost use Rattle.std.specs.FinMap as map;
 ghost use Rattle.couch_json.specs.View.{view};
-ghost use Rattle.store.specs.Causes.{HasFailed};
-ghost use Rattle.store.specs.declared.fault.StoreFault.TheVariants.{NoDatabase, Exists, Full, Failed, Damaged};
+ghost use Rattle.store.specs.declared.fault.StoreFault.TheVariants.{NoDatabase, Exists};
+ghost use Rattle.read.specs.Causes.{IsCaused};
 ghost use Rattle.read.specs.Shown.{document_by, document_in};
 
 use crate::fault::ReadFault;
@@ -34,12 +34,9 @@ pub fn get<S: Store>(
     ensures same { S.is_honest store.new → S.contents store.new ≡ S.contents store.old }
     ensures no_query { result ≢ Err ReadFault.BadQuery }
     ensures others { result ≢ Err (ReadFault.Store Exists) }
-    ensures spacious { result ≢ Err (ReadFault.Store Full) }
     ensures own_memory { result ≢ Err (ReadFault.Store StoreFault.Memory) }
-    ensures failed { result ≡ Err (ReadFault.Store Failed) → HasFailed (S.fault_count store.old) (S.fault_count store.new) }
-    ensures damaged { result ≡ Err (ReadFault.Store Damaged) → S.is_damaged store.old }
-    ensures counted { S.fault_count store.old ≤ S.fault_count store.new }
-    ensures honest { S.is_honest store.new → S.is_honest store.old }
+    ensures caused { IfErr result (λ fault. IsCaused (S.fault_count store.old) (S.fault_count store.new) (S.is_damaged store.old) fault) }
+    ensures onward { (S.fault_count store.old ≤ S.fault_count store.new) × (S.is_honest store.new → S.is_honest store.old) }
 {
     let history = match store.history(db, id) {
         Ok(history) => history,

@@ -1,6 +1,6 @@
 ghost use Rattle.std.specs.Prelude.{◌≡◌, ◌≢◌, ◌≤◌, ℕ, IfOk, IfErr, OnOk, OnErr, Ok, Err, Some, None, is_some, true, length, option_map};
 ghost use Rattle.std.specs.FinMap as map;
-ghost use Rattle.store.specs.Causes.{HasFailed};
+ghost use Rattle.store.specs.Causes.{IsCaused};
 ghost use Rattle.store.specs.Contents.{Contents, AreAcceptable, IfThere, new_database, with_security};
 ghost use Rattle.store.specs.Database.{history_at, with_all};
 ghost use Rattle.store.specs.Writing.{writings};
@@ -40,11 +40,8 @@ pub trait Store {
         ensures exists { is_honest self.new → result ≡ Err StoreFault.Exists → is_some (map.get (contents self.old) name.now) ≡ true }
         ensures err { is_honest self.new → OnErr result (contents self.new ≡ contents self.old) }
         ensures others { result ≢ Err StoreFault.NoDatabase }
-        ensures full { result ≡ Err StoreFault.Full → lacks_room self.old 1 }
-        ensures failed { result ≡ Err StoreFault.Failed → HasFailed (fault_count self.old) (fault_count self.new) }
-        ensures damaged { result ≡ Err StoreFault.Damaged → is_damaged self.old }
-        ensures counted { fault_count self.old ≤ fault_count self.new }
-        ensures honest { is_honest self.new → is_honest self.old };
+        ensures caused { IfErr result (λ fault. IsCaused (fault_count self.old) (fault_count self.new) (is_damaged self.old) (lacks_room self.old 1) fault) }
+        ensures onward { (fault_count self.old ≤ fault_count self.new) × (is_honest self.new → is_honest self.old) };
 
     /// The security object of a database. `NoDatabase` comes exactly where there is none.
     fn security(&mut self, name: &DbName) -> Result<Security, StoreFault>
@@ -52,11 +49,8 @@ pub trait Store {
         ensures missing { is_honest self.new → result ≡ Err StoreFault.NoDatabase → map.get (contents self.old) name.now ≡ None }
         ensures same { is_honest self.new → contents self.new ≡ contents self.old }
         ensures others { result ≢ Err StoreFault.Exists }
-        ensures spacious { result ≢ Err StoreFault.Full }
-        ensures failed { result ≡ Err StoreFault.Failed → HasFailed (fault_count self.old) (fault_count self.new) }
-        ensures damaged { result ≡ Err StoreFault.Damaged → is_damaged self.old }
-        ensures counted { fault_count self.old ≤ fault_count self.new }
-        ensures honest { is_honest self.new → is_honest self.old };
+        ensures caused { IfErr result (λ fault. IsCaused (fault_count self.old) (fault_count self.new) (is_damaged self.old) ⊥ fault) }
+        ensures onward { (fault_count self.old ≤ fault_count self.new) × (is_honest self.new → is_honest self.old) };
 
     /// Gives a database another security object. `NoDatabase` comes exactly where there is none.
     fn set_security(&mut self, name: &DbName, security: &Security) -> Result<(), StoreFault>
@@ -64,11 +58,8 @@ pub trait Store {
         ensures missing { is_honest self.new → result ≡ Err StoreFault.NoDatabase → map.get (contents self.old) name.now ≡ None }
         ensures err { is_honest self.new → OnErr result (contents self.new ≡ contents self.old) }
         ensures others { result ≢ Err StoreFault.Exists }
-        ensures spacious { result ≢ Err StoreFault.Full }
-        ensures failed { result ≡ Err StoreFault.Failed → HasFailed (fault_count self.old) (fault_count self.new) }
-        ensures damaged { result ≡ Err StoreFault.Damaged → is_damaged self.old }
-        ensures counted { fault_count self.old ≤ fault_count self.new }
-        ensures honest { is_honest self.new → is_honest self.old };
+        ensures caused { IfErr result (λ fault. IsCaused (fault_count self.old) (fault_count self.new) (is_damaged self.old) ⊥ fault) }
+        ensures onward { (fault_count self.old ≤ fault_count self.new) × (is_honest self.new → is_honest self.old) };
 
     /// The history of a document, empty where it was never written. `NoDatabase` comes exactly where
     /// there is no database of this name.
@@ -77,11 +68,8 @@ pub trait Store {
         ensures missing { is_honest self.new → result ≡ Err StoreFault.NoDatabase → map.get (contents self.old) name.now ≡ None }
         ensures same { is_honest self.new → contents self.new ≡ contents self.old }
         ensures others { result ≢ Err StoreFault.Exists }
-        ensures spacious { result ≢ Err StoreFault.Full }
-        ensures failed { result ≡ Err StoreFault.Failed → HasFailed (fault_count self.old) (fault_count self.new) }
-        ensures damaged { result ≡ Err StoreFault.Damaged → is_damaged self.old }
-        ensures counted { fault_count self.old ≤ fault_count self.new }
-        ensures honest { is_honest self.new → is_honest self.old };
+        ensures caused { IfErr result (λ fault. IsCaused (fault_count self.old) (fault_count self.new) (is_damaged self.old) ⊥ fault) }
+        ensures onward { (fault_count self.old ≤ fault_count self.new) × (is_honest self.new → is_honest self.old) };
 
     /// Appends all the writes to a database, or none of them. `NoDatabase` comes exactly where there
     /// is none of this name.
@@ -95,11 +83,8 @@ pub trait Store {
         ensures missing { is_honest self.new → result ≡ Err StoreFault.NoDatabase → map.get (contents self.old) name.now ≡ None }
         ensures err { is_honest self.new → OnErr result (contents self.new ≡ contents self.old) }
         ensures others { result ≢ Err StoreFault.Exists }
-        ensures full { result ≡ Err StoreFault.Full → lacks_room self.old (length writes.now) }
-        ensures failed { result ≡ Err StoreFault.Failed → HasFailed (fault_count self.old) (fault_count self.new) }
-        ensures damaged { result ≡ Err StoreFault.Damaged → is_damaged self.old }
-        ensures counted { fault_count self.old ≤ fault_count self.new }
-        ensures honest { is_honest self.new → is_honest self.old };
+        ensures caused { IfErr result (λ fault. IsCaused (fault_count self.old) (fault_count self.new) (is_damaged self.old) (lacks_room self.old (length writes.now)) fault) }
+        ensures onward { (fault_count self.old ≤ fault_count self.new) × (is_honest self.new → is_honest self.old) };
 
     /// How many faults of what it stands on the store has met; it stays at 2^64 - 1.
     fn faults(&self) -> u64

@@ -2,11 +2,11 @@ ghost use Rattle.std.specs.Prelude.{◌≡◌, ◌≢◌, ◌≤◌, ◌<◌, �
 ghost use Rattle.std.specs.FinMap as map;
 ghost use Rattle.couch_json.specs.View.{view};
 ghost use Rattle.tree.specs.DocumentId.{is_design_id, is_local_id};
-ghost use Rattle.store.specs.Causes.{HasFailed};
+ghost use Rattle.write.specs.Causes.{IsCaused};
 ghost use Rattle.store.specs.Contents.{AreAcceptable, IfThere};
 ghost use Rattle.store.specs.Database.{with_all};
 ghost use Rattle.store.specs.Writing.{writing_of, writings};
-ghost use Rattle.store.specs.declared.fault.StoreFault.TheVariants.{NoDatabase, Exists, Full, Failed, Damaged};
+ghost use Rattle.store.specs.declared.fault.StoreFault.TheVariants.{NoDatabase, Exists};
 ghost use Rattle.write.specs.Admission.{edit_in, new_revision};
 
 use crate::admission::admitted;
@@ -50,12 +50,9 @@ pub fn edit<S: Store>(
     ensures same { S.is_honest store.new → S.contents store.new ≡ S.contents store.old }
     ensures undenied { IfErr result (λ fault. (fault ≢ WriteFault.BadHistory) × ((rule : _) → fault ≢ WriteFault.Denied rule)) }
     ensures others { result ≢ Err (WriteFault.Store Exists) }
-    ensures spacious { result ≢ Err (WriteFault.Store Full) }
     ensures own_memory { result ≢ Err (WriteFault.Store StoreFault.Memory) }
-    ensures failed { result ≡ Err (WriteFault.Store Failed) → HasFailed (S.fault_count store.old) (S.fault_count store.new) }
-    ensures damaged { result ≡ Err (WriteFault.Store Damaged) → S.is_damaged store.old }
-    ensures counted { S.fault_count store.old ≤ S.fault_count store.new }
-    ensures honest { S.is_honest store.new → S.is_honest store.old }
+    ensures caused { IfErr result (λ fault. IsCaused (S.fault_count store.old) (S.fault_count store.new) (S.is_damaged store.old) ⊥ fault) }
+    ensures onward { (S.fault_count store.old ≤ S.fault_count store.new) × (S.is_honest store.new → S.is_honest store.old) }
 {
     let history = match store.history(db, id) {
         Ok(history) => history,
@@ -101,11 +98,8 @@ pub fn apply<S: Store>(store: &mut S, planned: Planned) -> Result<(), WriteFault
     ensures only { IfErr result (λ fault. fault ≢ WriteFault.Memory → ((cause : _) → fault ≢ WriteFault.Store cause) → ⊥) }
     ensures others { result ≢ Err (WriteFault.Store Exists) }
     ensures own_memory { result ≢ Err (WriteFault.Store StoreFault.Memory) }
-    ensures full { result ≡ Err (WriteFault.Store Full) → S.lacks_room store.old (length planned.writes.items) }
-    ensures failed { result ≡ Err (WriteFault.Store Failed) → HasFailed (S.fault_count store.old) (S.fault_count store.new) }
-    ensures damaged { result ≡ Err (WriteFault.Store Damaged) → S.is_damaged store.old }
-    ensures counted { S.fault_count store.old ≤ S.fault_count store.new }
-    ensures honest { S.is_honest store.new → S.is_honest store.old }
+    ensures caused { IfErr result (λ fault. IsCaused (S.fault_count store.old) (S.fault_count store.new) (S.is_damaged store.old) (S.lacks_room store.old (length planned.writes.items)) fault) }
+    ensures onward { (S.fault_count store.old ≤ S.fault_count store.new) × (S.is_honest store.new → S.is_honest store.old) }
 {
     match store.commit(&planned.database, &planned.writes) {
         Ok(()) => Ok(()),
