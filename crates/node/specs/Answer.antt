@@ -100,16 +100,17 @@ edited id (Some rev ∷ revs) =
 edited id (None ∷ revs) = null
 edited id [] = null
 
-abbrev pub refusal_of_fault : WriteFault → Refusal
-refusal_of_fault write.BadDocument = BadDocument
-refusal_of_fault write.Generation = Generation
-refusal_of_fault fault = Conflict
+-- an edit is refused as a bad document, as a conflict, or for want of a further generation, and for no other cause
+abbrev pub refusal_of_edit : WriteFault → Refusal
+refusal_of_edit write.BadDocument = BadDocument
+refusal_of_edit write.Generation = Generation
+refusal_of_edit fault = Conflict
 
 abbrev pub written : Contents → List ℕ → List ℕ → Option (Result (List DocumentWrite) WriteFault) → Result Outcome Refusal
 written databases name id None = Err NoDatabase
 written databases name id (Some (Ok ws)) =
     Ok (record { status = 201; value = edited id (map new_revision ws); after = with_writes databases name ws })
-written databases name id (Some (Err fault)) = Err (refusal_of_fault fault)
+written databases name id (Some (Err fault)) = Err (refusal_of_edit fault)
 
 abbrev pub document_written : Identity → Contents → Message → Result Outcome Refusal
 document_written caller databases m =

@@ -3,3 +3,5 @@ pub mod Routing
 pub mod Refusals
 pub mod Asking
 pub mod Answer
+pub mod Answered
+pub mod Causes

@@ -1,7 +1,9 @@
 //! One node: the answer to a request over a store, as bytes.
 #![tactic(auto)]
 
+mod answered;
 mod asking;
+mod entering;
 mod members;
 mod method;
 mod page;

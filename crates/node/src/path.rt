@@ -1,6 +1,7 @@
 //! The parts of a request's path, and what a part says once its escapes are read (RFC 3986, sections 2.1 and 3.3).
 
-ghost use Rattle.std.specs.Prelude.{◌≡◌, ◌≢◌, IfOk, IfErr, Ok, Err, Some, None, option_map, option_copied, string_bytes};
+ghost use Rattle.std.specs.Prelude.{◌≡◌, ◌≢◌, IfOk, IfErr, Ok, Err, Some, None, false, option_map, option_copied, string_bytes};
+ghost use Rattle.tree.specs.DocumentId.{is_design_id, is_local_id};
 ghost use Rattle.node.specs.Paths.{database_name_in, decoded, decoded_at, document_id_in, part_at, text_if};
 ghost use Rattle.std.specs.Str.{is_utf8};
 
@@ -33,6 +34,7 @@ pub(crate) fn database_name(alloc: Global, path: &str) -> Result<DbName, Stop>
 /// The id of the document that a path leads to. Design documents and local ones are not served yet.
 pub(crate) fn document_id(alloc: Global, path: &str) -> Result<DocId, Stop>
     ensures ok { IfOk result (λ id. document_id_in path.now ≡ Some id) }
+    ensures plain { IfOk result (λ id. (is_design_id id ≡ false) × (is_local_id id ≡ false)) }
     ensures refused { (refusal : _) → result ≡ Err (Stop.Refused refusal)
         → (document_id_in path.now ≡ None) × (refusal ≡ Refusal.Id) }
     ensures working { result ≢ Err Stop.Failed }

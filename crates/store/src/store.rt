@@ -50,6 +50,7 @@ pub trait Store {
         ensures same { is_honest self.new → contents self.new ≡ contents self.old }
         ensures others { result ≢ Err StoreFault.Exists }
         ensures caused { IfErr result (λ fault. IsCaused (fault_count self.old) (fault_count self.new) (is_damaged self.old) ⊥ fault) }
+        ensures kept { is_honest self.new → (is_damaged self.new → is_damaged self.old) × ((n : ℕ) → lacks_room self.new n → lacks_room self.old n) }
         ensures onward { (fault_count self.old ≤ fault_count self.new) × (is_honest self.new → is_honest self.old) };
 
     /// Gives a database another security object. `NoDatabase` comes exactly where there is none.
@@ -69,6 +70,7 @@ pub trait Store {
         ensures same { is_honest self.new → contents self.new ≡ contents self.old }
         ensures others { result ≢ Err StoreFault.Exists }
         ensures caused { IfErr result (λ fault. IsCaused (fault_count self.old) (fault_count self.new) (is_damaged self.old) ⊥ fault) }
+        ensures kept { is_honest self.new → (is_damaged self.new → is_damaged self.old) × ((n : ℕ) → lacks_room self.new n → lacks_room self.old n) }
         ensures onward { (fault_count self.old ≤ fault_count self.new) × (is_honest self.new → is_honest self.old) };
 
     /// Appends all the writes to a database, or none of them. `NoDatabase` comes exactly where there

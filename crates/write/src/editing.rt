@@ -52,6 +52,7 @@ pub fn edit<S: Store>(
     ensures others { result ≢ Err (WriteFault.Store Exists) }
     ensures own_memory { result ≢ Err (WriteFault.Store StoreFault.Memory) }
     ensures caused { IfErr result (λ fault. IsCaused (S.fault_count store.old) (S.fault_count store.new) (S.is_damaged store.old) ⊥ fault) }
+    ensures kept { S.is_honest store.new → (S.is_damaged store.new → S.is_damaged store.old) × ((n : _) → S.lacks_room store.new n → S.lacks_room store.old n) }
     ensures onward { (S.fault_count store.old ≤ S.fault_count store.new) × (S.is_honest store.new → S.is_honest store.old) }
 {
     let history = match store.history(db, id) {
