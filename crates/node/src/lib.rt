@@ -3,6 +3,7 @@
 
 mod answered;
 mod asking;
+mod document;
 mod entering;
 mod members;
 mod method;

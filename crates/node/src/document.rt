@@ -1,0 +1,172 @@
+//! A document's page: `GET` and `PUT /{db}/{id}` (CouchDB manual, api/document/common).
+
+ghost use Rattle.std.specs.Prelude.{◌≡◌, ◌≢◌, ◌≤◌, ◌∷◌, [], IfOk, IfErr, Ok, Err, Some, None, false};
+ghost use Rattle.couch_http.specs.Message.{message_of};
+ghost use Rattle.couch_json.specs.View.{view};
+ghost use Rattle.read.specs.Shown.{document_in};
+ghost use Rattle.tree.specs.DocumentId.{is_design_id, is_local_id};
+ghost use Rattle.write.specs.Admission.{edit_in};
+ghost use Rattle.node.specs.Answer.{document_asked, document_read, document_written, edited, shown, written};
+ghost use Rattle.node.specs.Answered.{MayChange, outcome_of};
+ghost use Rattle.node.specs.Causes.{IsCaused};
+
+use crate::answered::Answered;
+use crate::asking::{body, lacks_parameters};
+use crate::entering::entered;
+use crate::members::put_text;
+use crate::path::document_id;
+use crate::refusal::Refusal;
+use crate::stop::Stop;
+use auth::Caller;
+use couch_http::Request;
+use couch_json::{Got, Json, put_member};
+use policy::Action;
+use read::{ReadFault, get};
+use std::alloc::Global;
+use std::collections::BTreeMap;
+use store::{DbName, Store, StoreFault};
+use tree::{DocId, Rev};
+use write::{WriteFault, edit};
+
+/// Reads a document.
+pub(crate) fn read_document<S: Store>(
+    alloc: Global,
+    store: &mut S,
+    caller: &Caller,
+    request: &Request,
+) -> Result<Answered, Stop>
+    ensures ok { S.is_honest store.new → IfOk result (λ answered.
+        document_read caller.now (S.contents store.old) (message_of request.now) ≡ Ok (outcome_of (S.contents store.old) answered)) }
+    ensures refused { S.is_honest store.new → (refusal : _) → result ≡ Err (Stop.Refused refusal)
+        → document_read caller.now (S.contents store.old) (message_of request.now) ≡ Err refusal }
+    ensures may { S.is_honest store.new → IfOk result (λ answered. MayChange (S.contents store.old) answered.change) }
+    ensures same { S.is_honest store.new → S.contents store.new ≡ S.contents store.old }
+    ensures caused { S.is_honest store.new → IfErr result (λ stop. IsCaused (S.fault_count store.old) (S.fault_count store.new) (S.is_damaged store.old) ⊥ stop) }
+    ensures kept { S.is_honest store.new → (S.is_damaged store.new → S.is_damaged store.old) × ((n : _) → S.lacks_room store.new n → S.lacks_room store.old n) }
+    ensures onward { (S.fault_count store.old ≤ S.fault_count store.new) × (S.is_honest store.new → S.is_honest store.old) }
+{
+    let name = entered(alloc, store, Action::Read, caller, &request.path)?;
+    let id = document_asked(alloc, request)?;
+    shown(alloc, store, &name, &id)
+}
+
+/// The id of the document that a request without parameters asks for.
+fn document_asked(alloc: Global, request: &Request) -> Result<DocId, Stop>
+    ensures ok { IfOk result (λ id. document_asked (message_of request.now) ≡ Ok id) }
+    ensures plain { IfOk result (λ id. (is_design_id id ≡ false) × (is_local_id id ≡ false)) }
+    ensures refused { (refusal : _) → result ≡ Err (Stop.Refused refusal) → document_asked (message_of request.now) ≡ Err refusal }
+    ensures working { result ≢ Err Stop.Failed }
+{
+    let id = document_id(alloc, &request.path)?;
+    if !lacks_parameters(&request.query) {
+        return Err(Stop::Refused(Refusal::Query));
+    }
+    Ok(id)
+}
+
+/// The document as it is shown.
+#[tactic(auto, using(crate::proofs::Faults::cause_of))]
+fn shown<S: Store>(
+    alloc: Global,
+    store: &mut S,
+    name: &DbName,
+    id: &DocId,
+) -> Result<Answered, Stop>
+    ensures ok { S.is_honest store.new → IfOk result (λ answered.
+        shown (S.contents store.old) (document_in (S.contents store.old) name.now id.now) ≡ Ok (outcome_of (S.contents store.old) answered)) }
+    ensures refused { S.is_honest store.new → (refusal : _) → result ≡ Err (Stop.Refused refusal)
+        → shown (S.contents store.old) (document_in (S.contents store.old) name.now id.now) ≡ Err refusal }
+    ensures may { S.is_honest store.new → IfOk result (λ answered. MayChange (S.contents store.old) answered.change) }
+    ensures same { S.is_honest store.new → S.contents store.new ≡ S.contents store.old }
+    ensures caused { S.is_honest store.new → IfErr result (λ stop. IsCaused (S.fault_count store.old) (S.fault_count store.new) (S.is_damaged store.old) ⊥ stop) }
+    ensures kept { S.is_honest store.new → (S.is_damaged store.new → S.is_damaged store.old) × ((n : _) → S.lacks_room store.new n → S.lacks_room store.old n) }
+    ensures onward { (S.fault_count store.old ≤ S.fault_count store.new) × (S.is_honest store.new → S.is_honest store.old) }
+{
+    match get(alloc, store, name, id) {
+        Ok(document) => Ok(Answered {
+            status: 200,
+            value: document,
+            change: None,
+        }),
+        Err(ReadFault::Missing) => Err(Stop::Refused(Refusal::Missing)),
+        Err(ReadFault::Deleted) => Err(Stop::Refused(Refusal::Deleted)),
+        Err(ReadFault::BadQuery) => Err(Stop::Refused(Refusal::Query)),
+        Err(ReadFault::Memory) => Err(Stop::NoRoom),
+        Err(ReadFault::Store(StoreFault::NoDatabase)) => Err(Stop::Refused(Refusal::NoDatabase)),
+        Err(ReadFault::Store(_)) => Err(Stop::Failed),
+    }
+}
+
+/// Writes a document, but for the change of the store itself.
+pub(crate) fn write_document<S: Store>(
+    alloc: Global,
+    store: &mut S,
+    caller: &Caller,
+    request: &Request,
+) -> Result<Answered, Stop>
+    ensures ok { S.is_honest store.new → IfOk result (λ answered.
+        document_written caller.now (S.contents store.old) (message_of request.now) ≡ Ok (outcome_of (S.contents store.old) answered)) }
+    ensures refused { S.is_honest store.new → (refusal : _) → result ≡ Err (Stop.Refused refusal)
+        → document_written caller.now (S.contents store.old) (message_of request.now) ≡ Err refusal }
+    ensures may { S.is_honest store.new → IfOk result (λ answered. MayChange (S.contents store.old) answered.change) }
+    ensures same { S.is_honest store.new → S.contents store.new ≡ S.contents store.old }
+    ensures caused { S.is_honest store.new → IfErr result (λ stop. IsCaused (S.fault_count store.old) (S.fault_count store.new) (S.is_damaged store.old) ⊥ stop) }
+    ensures kept { S.is_honest store.new → (S.is_damaged store.new → S.is_damaged store.old) × ((n : _) → S.lacks_room store.new n → S.lacks_room store.old n) }
+    ensures onward { (S.fault_count store.old ≤ S.fault_count store.new) × (S.is_honest store.new → S.is_honest store.old) }
+{
+    let name = entered(alloc, store, Action::WriteDocument, caller, &request.path)?;
+    let id = document_asked(alloc, request)?;
+    let document = body(alloc, request)?;
+    written(alloc, store, &name, &id, document)
+}
+
+/// What the edit of a document comes to.
+#[tactic(auto, using(crate::proofs::Faults::cause_of))]
+fn written<S: Store>(
+    alloc: Global,
+    store: &mut S,
+    name: &DbName,
+    id: &DocId,
+    document: Json,
+) -> Result<Answered, Stop>
+    requires design { is_design_id id.now ≡ false }
+    requires local { is_local_id id.now ≡ false }
+    ensures ok { S.is_honest store.new → IfOk result (λ answered.
+        written (S.contents store.old) name.now id.now (edit_in (S.contents store.old) name.now id.now (view document)) ≡ Ok (outcome_of (S.contents store.old) answered)) }
+    ensures refused { S.is_honest store.new → (refusal : _) → result ≡ Err (Stop.Refused refusal)
+        → written (S.contents store.old) name.now id.now (edit_in (S.contents store.old) name.now id.now (view document)) ≡ Err refusal }
+    ensures may { S.is_honest store.new → IfOk result (λ answered. MayChange (S.contents store.old) answered.change) }
+    ensures same { S.is_honest store.new → S.contents store.new ≡ S.contents store.old }
+    ensures caused { S.is_honest store.new → IfErr result (λ stop. IsCaused (S.fault_count store.old) (S.fault_count store.new) (S.is_damaged store.old) ⊥ stop) }
+    ensures kept { S.is_honest store.new → (S.is_damaged store.new → S.is_damaged store.old) × ((n : _) → S.lacks_room store.new n → S.lacks_room store.old n) }
+    ensures onward { (S.fault_count store.old ≤ S.fault_count store.new) × (S.is_honest store.new → S.is_honest store.old) }
+{
+    let planned = match edit(alloc, store, name, id, document) {
+        Ok(planned) => planned,
+        Err(WriteFault::Memory) => return Err(Stop::NoRoom),
+        Err(WriteFault::Store(StoreFault::NoDatabase)) => {
+            return Err(Stop::Refused(Refusal::NoDatabase));
+        }
+        Err(WriteFault::Store(_)) => return Err(Stop::Failed),
+        Err(WriteFault::BadDocument) => return Err(Stop::Refused(Refusal::BadDocument)),
+        Err(WriteFault::Generation) => return Err(Stop::Refused(Refusal::Generation)),
+        Err(_) => return Err(Stop::Refused(Refusal::Conflict)),
+    };
+    let value = edited(alloc, &planned.id, &planned.rev)?;
+    Ok(Answered {
+        status: 201,
+        value,
+        change: Some(planned),
+    })
+}
+
+/// The reply to an edit: the id and the new revision.
+fn edited(alloc: Global, id: &DocId, rev: &Rev) -> Got<Json>
+    ensures { IfOk result (λ value. view value ≡ edited id.now (Some rev.now ∷ [])) }
+{
+    let mut members = BTreeMap::new(alloc);
+    put_text(alloc, &mut members, "id", id.as_str())?;
+    put_member(alloc, &mut members, "ok", Json::Truth(true))?;
+    put_member(alloc, &mut members, "rev", Json::Text(rev.text(alloc)?))?;
+    Ok(Json::Object(members))
+}
