@@ -5,3 +5,4 @@ pub mod Asking
 pub mod Answer
 pub mod Answered
 pub mod Causes
+pub mod Step

@@ -5,12 +5,15 @@ mod answered;
 mod asking;
 mod document;
 mod entering;
+mod handling;
 mod members;
 mod method;
+mod node;
 mod page;
 mod path;
 mod refusal;
 mod routes;
 mod stop;
 
+pub use node::Node;
 pub use routes::Routes;

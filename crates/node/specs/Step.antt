@@ -1,0 +1,31 @@
+-- One step of a node: the reply to a request, and the databases afterwards.
+-- RFC 9112, section 4, for the bytes; that a reply of 500 or 503 changes nothing is this server's own.
+use Rattle.std.specs.Prelude.{◌≡◌, ◌⊎◌, ℕ, Bool}
+use Rattle.auth.specs.Callers.{Configuration}
+use Rattle.couch_http.specs.Message.{Message}
+use Rattle.couch_http.specs.Reply.{Reply, reply_of, fixed_reply}
+use Rattle.couch_http.specs.declared.fixed.Fixed.TheVariants.{Store, NoRoom}
+use Rattle.couch_json.specs.Canonical.{canonical}
+use Rattle.store.specs.Contents.{Contents}
+use Rattle.node.specs.Answer.{Outcome, answer}
+
+-- what a node is: a store, and what the server knows of its users
+pub record Serving (S : Type 0) : Type 0 where
+  pub store : S
+  pub configuration : Configuration
+
+-- an outcome as a reply
+abbrev pub reply_to : Outcome → Bool → Reply
+reply_to outcome last = reply_of outcome.status (canonical outcome.value) last
+
+-- the reply is that to the outcome, and the databases are those of the outcome
+abbrev pub IsDone : Outcome → Bool → Reply → Contents → Type 0
+IsDone outcome last reply after = (reply ≡ reply_to outcome last) × (after ≡ outcome.after)
+
+-- The step of a request: the definition's answer; or, with the databases as they were, the reply for want of memory, or the one
+-- for a fault of the store, which then has a cause.
+abbrev pub IsStep : Configuration → Contents → Message → Type 0 → Reply → Contents → Type 0
+IsStep c before m cause reply after =
+    IsDone (answer c before m) m.last reply after
+    ⊎ (((reply ≡ fixed_reply (NoRoom m.last)) × (after ≡ before))
+    ⊎ ((reply ≡ fixed_reply (Store m.last)) × (after ≡ before) × cause))

@@ -1,0 +1,197 @@
+//! The way of a request through a node, from its headers to its reply.
+
+ghost use Rattle.std.specs.Prelude.{◌≡◌, ◌≢◌, ◌≤◌, ◌⊎◌, ℕ, IfOk, IfErr, OnOk, OnErr, Ok, Err, Some, None};
+ghost use Rattle.couch_http.specs.Message.{message_of};
+ghost use Rattle.couch_http.specs.Reply.{fixed_reply, reply_of};
+ghost use Rattle.couch_http.specs.declared.fixed.Fixed.TheVariants.{NoRoom};
+ghost use Rattle.couch_json.specs.Canonical.{canonical};
+ghost use Rattle.couch_json.specs.View.{view};
+ghost use Rattle.node.specs.Answer.{answer, judged, on_page};
+ghost use Rattle.node.specs.Answered.{MayChange, changed, outcome_of};
+ghost use Rattle.node.specs.Refusals.{refusal_value, status_of};
+ghost use Rattle.node.specs.Causes.{HasCause, IsCaused, stop_of_change};
+ghost use Rattle.node.specs.Step.{IsDone, IsStep};
+
+use crate::answered::Answered;
+use crate::asking::caller;
+use crate::document::{read_document, write_document};
+use crate::method::{DocumentMethod, document_method};
+use crate::page::Page;
+use crate::refusal::Refusal;
+use crate::routes::Routes;
+use crate::stop::Stop;
+use auth::{Auth, Caller};
+use couch_http::{Fixed, Request, Response};
+use couch_json::{Got, Json, NoMemory};
+use std::alloc::Global;
+use store::Store;
+use write::{Planned, WriteFault, apply};
+
+/// What a request comes to, but for the change of the store itself.
+fn judged<S: Store>(
+    alloc: Global,
+    store: &mut S,
+    auth: &Auth,
+    routes: &Routes,
+    request: &Request,
+) -> Result<Answered, Stop>
+    ensures ok { S.is_honest store.new → IfOk result (λ answered.
+        judged auth.now (S.contents store.old) (message_of request.now) ≡ Ok (outcome_of (S.contents store.old) answered)) }
+    ensures refused { S.is_honest store.new → (refusal : _) → result ≡ Err (Stop.Refused refusal)
+        → judged auth.now (S.contents store.old) (message_of request.now) ≡ Err refusal }
+    ensures may { S.is_honest store.new → IfOk result (λ answered. MayChange (S.contents store.old) answered.change) }
+    ensures same { S.is_honest store.new → S.contents store.new ≡ S.contents store.old }
+    ensures caused { S.is_honest store.new → IfErr result (λ stop. IsCaused (S.fault_count store.old) (S.fault_count store.new) (S.is_damaged store.old) ⊥ stop) }
+    ensures kept { S.is_honest store.new → (S.is_damaged store.new → S.is_damaged store.old) × ((n : _) → S.lacks_room store.new n → S.lacks_room store.old n) }
+    ensures onward { (S.fault_count store.old ≤ S.fault_count store.new) × (S.is_honest store.new → S.is_honest store.old) }
+{
+    let caller = caller(alloc, auth, request)?;
+    match routes.page(&request.path) {
+        None => Err(Stop::Refused(Refusal::Path)),
+        Some(Page::Document) => document(alloc, store, &caller, request),
+    }
+}
+
+/// What a request on a document's path comes to.
+fn document<S: Store>(
+    alloc: Global,
+    store: &mut S,
+    caller: &Caller,
+    request: &Request,
+) -> Result<Answered, Stop>
+    ensures ok { S.is_honest store.new → IfOk result (λ answered.
+        on_page (Some Page.Document) caller.now (S.contents store.old) (message_of request.now) ≡ Ok (outcome_of (S.contents store.old) answered)) }
+    ensures refused { S.is_honest store.new → (refusal : _) → result ≡ Err (Stop.Refused refusal)
+        → on_page (Some Page.Document) caller.now (S.contents store.old) (message_of request.now) ≡ Err refusal }
+    ensures may { S.is_honest store.new → IfOk result (λ answered. MayChange (S.contents store.old) answered.change) }
+    ensures same { S.is_honest store.new → S.contents store.new ≡ S.contents store.old }
+    ensures caused { S.is_honest store.new → IfErr result (λ stop. IsCaused (S.fault_count store.old) (S.fault_count store.new) (S.is_damaged store.old) ⊥ stop) }
+    ensures kept { S.is_honest store.new → (S.is_damaged store.new → S.is_damaged store.old) × ((n : _) → S.lacks_room store.new n → S.lacks_room store.old n) }
+    ensures onward { (S.fault_count store.old ≤ S.fault_count store.new) × (S.is_honest store.new → S.is_honest store.old) }
+{
+    match document_method(&request.method) {
+        None => Err(Stop::Refused(Refusal::Method)),
+        Some(DocumentMethod::Get) => read_document(alloc, store, caller, request),
+        Some(DocumentMethod::Put) => write_document(alloc, store, caller, request),
+    }
+}
+
+/// The reply to what a request comes to, and the change made: the reply is made whole before the
+/// store changes.
+fn finished<S: Store>(
+    alloc: Global,
+    store: &mut S,
+    answered: Answered,
+    last: bool,
+) -> Result<Response, Stop>
+    requires { S.is_honest store.old → MayChange (S.contents store.old) answered.change }
+    ensures ok { S.is_honest store.new → IfOk result (λ reply. IsDone (outcome_of (S.contents store.old) answered) last reply (S.contents store.new)) }
+    ensures unrefused { (refusal : _) → result ≢ Err (Stop.Refused refusal) }
+    ensures err { S.is_honest store.new → OnErr result (S.contents store.new ≡ S.contents store.old) }
+    ensures caused { S.is_honest store.new → IfErr result (λ stop. IsCaused (S.fault_count store.old) (S.fault_count store.new)
+        (S.is_damaged store.old) ((n : ℕ) × S.lacks_room store.old n) stop) }
+    ensures onward { (S.fault_count store.old ≤ S.fault_count store.new) × (S.is_honest store.new → S.is_honest store.old) }
+{
+    let reply = made(alloc, answered.status, &answered.value, last)?;
+    change(store, answered.change)?;
+    Ok(reply)
+}
+
+/// The reply of a status and a value.
+fn made(alloc: Global, status: u16, value: &Json, last: bool) -> Got<Response>
+    ensures { IfOk result (λ reply. reply ≡ reply_of status (canonical (view value.now)) last) }
+{
+    match Response::made(alloc, status, value, last) {
+        Ok(reply) => Ok(reply),
+        Err(_) => Err(NoMemory),
+    }
+}
+
+/// Makes a planned change, if there is one: the only step of a request that changes the store.
+#[tactic(auto, using(crate::proofs::Faults::caused_by_change, crate::proofs::Faults::unrefused_change))]
+fn change<S: Store>(store: &mut S, change: Option<Planned>) -> Result<(), Stop>
+    requires { S.is_honest store.old → MayChange (S.contents store.old) change }
+    ensures ok { S.is_honest store.new → OnOk result (S.contents store.new ≡ changed (S.contents store.old) change) }
+    ensures unrefused { (refusal : _) → result ≢ Err (Stop.Refused refusal) }
+    ensures err { S.is_honest store.new → OnErr result (S.contents store.new ≡ S.contents store.old) }
+    ensures caused { S.is_honest store.new → IfErr result (λ stop. IsCaused (S.fault_count store.old) (S.fault_count store.new)
+        (S.is_damaged store.old) ((n : ℕ) × S.lacks_room store.old n) stop) }
+    ensures onward { (S.fault_count store.old ≤ S.fault_count store.new) × (S.is_honest store.new → S.is_honest store.old) }
+{
+    let Some(planned) = change else {
+        return Ok(());
+    };
+    match apply(store, planned) {
+        Ok(()) => Ok(()),
+        Err(fault) => Err(unmade(&fault)),
+    }
+}
+
+/// How a request ends whose change was not made.
+fn unmade(fault: &WriteFault) -> Stop
+    ensures { result ≡ stop_of_change fault.now }
+{
+    match fault {
+        WriteFault::Memory => Stop::NoRoom,
+        _ => Stop::Failed,
+    }
+}
+
+/// The reply to a request, where nothing refuses it and nothing fails.
+fn replied<S: Store>(
+    alloc: Global,
+    store: &mut S,
+    auth: &Auth,
+    routes: &Routes,
+    request: &Request,
+) -> Result<Response, Stop>
+    ensures ok { S.is_honest store.new → IfOk result (λ reply. IsDone (answer auth.now (S.contents store.old) (message_of request.now))
+        request.now.last reply (S.contents store.new)) }
+    ensures refused { S.is_honest store.new → (refusal : _) → result ≡ Err (Stop.Refused refusal)
+        → judged auth.now (S.contents store.old) (message_of request.now) ≡ Err refusal }
+    ensures err { S.is_honest store.new → OnErr result (S.contents store.new ≡ S.contents store.old) }
+    ensures caused { S.is_honest store.new → IfErr result (λ stop. IsCaused (S.fault_count store.old) (S.fault_count store.new)
+        (S.is_damaged store.old) ((n : ℕ) × S.lacks_room store.old n) stop) }
+    ensures onward { (S.fault_count store.old ≤ S.fault_count store.new) × (S.is_honest store.new → S.is_honest store.old) }
+{
+    let answered = judged(alloc, store, auth, routes, request)?;
+    finished(alloc, store, answered, request.last)
+}
+
+/// The reply to a refused request, or where memory runs out the fixed one.
+fn refusal_reply(alloc: Global, refusal: &Refusal, last: bool) -> Response
+    ensures { (result ≡ reply_of (status_of refusal.now) (canonical (refusal_value refusal.now)) last) ⊎ (result ≡ fixed_reply (NoRoom last)) }
+{
+    match refusal_made(alloc, refusal, last) {
+        Ok(reply) => reply,
+        Err(NoMemory) => Response::fixed(Fixed::NoRoom { last }),
+    }
+}
+
+fn refusal_made(alloc: Global, refusal: &Refusal, last: bool) -> Got<Response>
+    ensures { IfOk result (λ reply. reply ≡ reply_of (status_of refusal.now) (canonical (refusal_value refusal.now)) last) }
+{
+    let value = refusal.value(alloc)?;
+    made(alloc, refusal.status(), &value, last)
+}
+
+/// The reply to a request, whatever becomes of it.
+pub(crate) fn handled<S: Store>(
+    alloc: Global,
+    store: &mut S,
+    auth: &Auth,
+    routes: &Routes,
+    request: &Request,
+) -> Response
+    ensures step { S.is_honest store.new → IsStep auth.now (S.contents store.old) (message_of request.now)
+        (HasCause (S.fault_count store.old) (S.fault_count store.new) (S.is_damaged store.old) ((n : ℕ) × S.lacks_room store.old n))
+        result (S.contents store.new) }
+    ensures onward { (S.fault_count store.old ≤ S.fault_count store.new) × (S.is_honest store.new → S.is_honest store.old) }
+{
+    match replied(alloc, store, auth, routes, request) {
+        Ok(reply) => reply,
+        Err(Stop::Refused(refusal)) => refusal_reply(alloc, &refusal, request.last),
+        Err(Stop::Failed) => Response::fixed(Fixed::Store { last: request.last }),
+        Err(Stop::NoRoom) => Response::fixed(Fixed::NoRoom { last: request.last }),
+    }
+}

@@ -1,0 +1,67 @@
+use crate::handling::handled;
+use crate::routes::Routes;
+use auth::Auth;
+use couch_http::{Request, Response};
+use std::alloc::Global;
+use std::marker::Model;
+use store::Store;
+
+/// One node: a store, and whoever may use it.
+///
+/// In clauses a node is its store, and what the server knows of its users.
+#[derive(Drop)]
+pub struct Node<S: Store + Drop> {
+    alloc: Global,
+    store: S,
+    auth: Auth,
+    routes: Routes,
+}
+
+impl<S: Store + Drop> Model for Node<S> {
+    ghost use Rattle.node.specs.Step.{Serving};
+
+    ghost Value = { Serving S };
+
+    ghost view = { λ n. record { store = n.store; configuration = n.auth } };
+}
+
+impl<S: Store + Drop> Node<S> {
+    ghost use Rattle.std.specs.Prelude.{◌≡◌, ◌≤◌, ◌⊎◌, ℕ};
+    ghost use Rattle.couch_http.specs.Message.{message_of};
+    ghost use Rattle.node.specs.Causes.{HasCause};
+    ghost use Rattle.node.specs.Step.{IsStep};
+
+    /// A node over a store. Takes no memory.
+    pub fn new(alloc: Global, store: S, auth: Auth, routes: Routes) -> Node<S>
+        ensures store { result.store ≡ store }
+        ensures configuration { result.configuration ≡ auth }
+    {
+        Node {
+            alloc,
+            store,
+            auth,
+            routes,
+        }
+    }
+
+    /// The reply to a request; the store is then as the definition of the answer says.
+    ///
+    /// Where memory runs out the reply is the fixed 503, where the store fails the fixed 500, and the
+    /// databases are as they were.
+    pub fn handle(&mut self, request: &Request) -> Response
+        ensures step { S.is_honest self.new.store → IsStep self.old.configuration (S.contents self.old.store) (message_of request.now)
+            (HasCause (S.fault_count self.old.store) (S.fault_count self.new.store) (S.is_damaged self.old.store) ((n : ℕ) × S.lacks_room self.old.store n))
+            result (S.contents self.new.store) }
+        ensures configuration { self.new.configuration ≡ self.old.configuration }
+        ensures onward { (S.fault_count self.old.store ≤ S.fault_count self.new.store) × (S.is_honest self.new.store → S.is_honest self.old.store) }
+    {
+        handled(self.alloc, &mut self.store, &self.auth, &self.routes, request)
+    }
+
+    /// The store.
+    pub fn into_store(self) -> S
+        ensures { result ≡ self.store }
+    {
+        self.store
+    }
+}
