@@ -57,7 +57,9 @@ pub(crate) fn lacks_parameters(query: &Option<String>) -> bool
 {
     match query {
         None => true,
-        Some(query) => form_urlencoded::raw_pairs(query.as_bytes()).next().is_none(),
+        Some(query) => form_urlencoded::raw_pairs(query.as_bytes())
+            .next()
+            .is_none(),
     }
 }
 

@@ -55,7 +55,13 @@ impl<S: Store + Drop> Node<S> {
         ensures configuration { self.new.configuration ≡ self.old.configuration }
         ensures onward { (S.fault_count self.old.store ≤ S.fault_count self.new.store) × (S.is_honest self.new.store → S.is_honest self.old.store) }
     {
-        handled(self.alloc, &mut self.store, &self.auth, &self.routes, request)
+        handled(
+            self.alloc,
+            &mut self.store,
+            &self.auth,
+            &self.routes,
+            request,
+        )
     }
 
     /// The store.

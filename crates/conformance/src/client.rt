@@ -1,0 +1,68 @@
+//! A client of one node in memory.
+
+use auth::Auth;
+use couch_http::{Cutter, Response};
+use couch_json::read;
+use node::{Node, Routes};
+use policy::Security;
+use std::alloc::Global;
+use std::test::Fail;
+use store::{DbName, PlainStore, Store};
+
+/// Nobody's headers.
+pub const ANYBODY: &str = "";
+
+/// The headers of bob; the token is python's hmac under the secret `Jefe`.
+pub const BOB: &str =
+    "X-Auth-CouchDB-UserName: bob\r\nX-Auth-CouchDB-Token: a533821c1f94927364966e03c15c31c4814908a8e60237b2c1a574dbfa77b52c\r\n";
+
+/// The headers of root, an admin of the server.
+pub const ROOT: &str =
+    "X-Auth-CouchDB-UserName: root\r\nX-Auth-CouchDB-Token: 160a499b3e61e4772a8874ed075f1ae84e9c342ac24d75151e0bd3cd76e1b6fb\r\n";
+
+/// The headers of root, with a token whose last digit is another.
+pub const FALSE_ROOT: &str =
+    "X-Auth-CouchDB-UserName: root\r\nX-Auth-CouchDB-Token: 160a499b3e61e4772a8874ed075f1ae84e9c342ac24d75151e0bd3cd76e1b6f2\r\n";
+
+/// A node with the secret `Jefe`, the admin `root`, and two databases: `db`, whose security object
+/// is `{}`, and `closed`, whose security object is that of a new database.
+pub fn node(alloc: Global) -> Result<Node<PlainStore>, Fail> {
+    let mut store = PlainStore::new(alloc);
+    let name = DbName::new(alloc, "db")?;
+    store.create(&name)?;
+    let public = Security::read(alloc, &read(alloc, b"{}")?)?;
+    store.set_security(&name, &public)?;
+    let closed = DbName::new(alloc, "closed")?;
+    store.create(&closed)?;
+    let mut admins = Vec::new(alloc);
+    admins.push(String::from_str(alloc, "root")?)?;
+    let auth = Auth::new(alloc, b"Jefe", &admins)?;
+    Ok(Node::new(alloc, store, auth, Routes::new(alloc)?))
+}
+
+/// The reply to one request: its status, a space, and its body.
+pub fn reply(
+    alloc: Global,
+    node: &mut Node<PlainStore>,
+    line: &str,
+    user: &str,
+    body: &str,
+) -> Result<String, Fail> {
+    let length = body.len();
+    let bytes = format!(in alloc;
+        "{line} HTTP/1.1\r\n{user}Content-Length: {length}\r\n\r\n{body}"
+    )?;
+    let mut cutter = Cutter::new(alloc);
+    let cut = cutter.feed(bytes.as_bytes())?;
+    let request = cut.requests.first().ok_or("no request")?;
+    shown(alloc, &node.handle(request))
+}
+
+/// A reply as its status, a space, and its body.
+fn shown(alloc: Global, reply: &Response) -> Result<String, Fail> {
+    let status = reply.status();
+    let mut text = format!(in alloc; "{status} ")?;
+    let body = String::from_utf8(Vec::from_slice(alloc, reply.body())?)?;
+    text.push_str(body.as_str())?;
+    Ok(text)
+}

@@ -1,0 +1,9 @@
+//! Tests of the whole server in memory, as a client meets it: bytes in, status and body out.
+#![tactic(auto)]
+
+#[cfg(test)]
+mod client;
+#[cfg(test)]
+mod documents;
+#[cfg(test)]
+mod refusals;
