@@ -18,14 +18,14 @@ use Rattle.tree.specs.Revision.{Revision, text_of}
 use Rattle.write.specs.Admission.{edit_in, new_revision}
 use Rattle.write.specs.declared.fault.WriteFault.{WriteFault}
 use Rattle.write.specs.declared.fault.WriteFault.TheVariants as write
-use Rattle.node.specs.Asking.{asking, body_of, denied, document_method, lacks_parameters}
+use Rattle.node.specs.Asking.{asking, body_of, denied, lacks_parameters, method_of}
 use Rattle.node.specs.Paths.{database_name_in, document_id_in}
 use Rattle.node.specs.Refusals.{refusal_value, status_of}
 use Rattle.node.specs.Routing.{page_of}
-use Rattle.node.specs.declared.method.DocumentMethod.{DocumentMethod}
-use Rattle.node.specs.declared.method.DocumentMethod.TheVariants.{Get, Put}
+use Rattle.node.specs.declared.method.RequestMethod.{RequestMethod}
+use Rattle.node.specs.declared.method.RequestMethod.TheVariants.{Get, Put}
 use Rattle.node.specs.declared.page.Page.{Page}
-use Rattle.node.specs.declared.page.Page.TheVariants.{Document}
+use Rattle.node.specs.declared.page.Page.TheVariants.{Welcome, Security, Document}
 use Rattle.node.specs.declared.refusal.Refusal.{Refusal}
 use Rattle.node.specs.declared.refusal.Refusal.TheVariants.{Path, Method, DatabaseName, NoDatabase, Id, Query, BadDocument, Conflict, Generation, Missing, Deleted}
 
@@ -118,21 +118,43 @@ document_written caller databases m =
     next (document_asked m) (λ id.
     next (body_of m) (λ document. written databases name id (edit_in databases name id document))))
 
+-- ---- the server, and the security object of a database
+
+-- who answers here
+abbrev pub welcome : Value
+welcome = object (put (codes "version") (text (codes "3-profile")) (put (codes "couchdb") (text (codes "Welcome")) no_members))
+
+-- what is asked for, in a request without parameters
+abbrev pub unasked : Message → Result Outcome Refusal → Result Outcome Refusal
+unasked m outcome = next (true_or Query (lacks_parameters m.query)) (λ _. outcome)
+
+abbrev pub welcomed : Contents → Message → Result Outcome Refusal
+welcomed databases m = unasked m (Ok (record { status = 200; value = welcome; after = databases }))
+
+abbrev pub secured : Contents → Option Database → Result Outcome Refusal
+secured databases None = Err NoDatabase
+secured databases (Some db) = Ok (record { status = 200; value = db.security; after = databases })
+
+abbrev pub security_read : Identity → Contents → Message → Result Outcome Refusal
+security_read caller databases m =
+    next (entered Read caller databases m.path) (λ name. unasked m (secured databases (get databases name)))
+
 -- ---- all requests
 
-abbrev pub by_method : Option DocumentMethod → Identity → Contents → Message → Result Outcome Refusal
-by_method None caller databases m = Err Method
-by_method (Some Get) caller databases m = document_read caller databases m
-by_method (Some Put) caller databases m = document_written caller databases m
-
-abbrev pub on_page : Option Page → Identity → Contents → Message → Result Outcome Refusal
-on_page None caller databases m = Err Path
-on_page (Some Document) caller databases m = by_method (document_method m.method) caller databases m
+-- what each page has for a method
+abbrev pub served : Page → Option RequestMethod → Identity → Contents → Message → Result Outcome Refusal
+served Welcome (Some Get) caller databases m = welcomed databases m
+served Security (Some Get) caller databases m = security_read caller databases m
+served Document (Some Get) caller databases m = document_read caller databases m
+served Document (Some Put) caller databases m = document_written caller databases m
+served page method caller databases m = Err Method
 
 -- what a request comes to, or the first refusal, in this order: the caller's token, the path, the method, the database's name,
 -- its absence, its policy, the document's id, the query, the body, and what the edit is refused for
 abbrev pub judged : Configuration → Contents → Message → Result Outcome Refusal
-judged c databases m = next (asking c m) (λ caller. on_page (page_of m.path) caller databases m)
+judged c databases m =
+    next (asking c m) (λ caller.
+    next (there_or Path (page_of m.path)) (λ page. served page (method_of m.method) caller databases m))
 
 -- a refusal leaves the databases as they were
 abbrev pub settled : Contents → Result Outcome Refusal → Outcome

@@ -12,8 +12,8 @@ use Rattle.policy.specs.declared.rule.Rule.{Rule}
 use Rattle.policy.specs.declared.rule.Rule.TheVariants.{ProxyToken}
 use Rattle.node.specs.declared.refusal.Refusal.{Refusal}
 use Rattle.node.specs.declared.refusal.Refusal.TheVariants.{Unauthorized, Forbidden, Query, Syntax}
-use Rattle.node.specs.declared.method.DocumentMethod.{DocumentMethod}
-use Rattle.node.specs.declared.method.DocumentMethod.TheVariants.{Get, Put}
+use Rattle.node.specs.declared.method.RequestMethod.{RequestMethod}
+use Rattle.node.specs.declared.method.RequestMethod.TheVariants.{Get, Put}
 
 -- a header as a name and a value
 abbrev pub pair_of : HeaderField → List ℕ × List ℕ
@@ -37,9 +37,9 @@ denied_to (Some name) rule = Forbidden rule
 abbrev pub denied : Identity → Rule → Refusal
 denied caller rule = denied_to caller.name rule
 
--- the methods of a document
-abbrev pub document_method : List ℕ → Option DocumentMethod
-document_method method =
+-- the method of this name, where some page has it
+abbrev pub method_of : List ℕ → Option RequestMethod
+method_of method =
     if bytes_eq method (codes "GET") then Some Get else (if bytes_eq method (codes "PUT") then Some Put else None)
 
 abbrev pub is_nothing : List (List ℕ × List ℕ) → Bool

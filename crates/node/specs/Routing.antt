@@ -1,5 +1,5 @@
 -- Which page of the server a path leads to.
--- CouchDB manual, api/document/common (`/{db}/{docid}`); which of two routes a path takes is what matchit's own definition says.
+-- CouchDB manual, api/server/common, api/database and api/document/common, for the paths; which of two routes a path takes is what matchit's own definition says.
 use Rattle.std.specs.Prelude.{ℕ, List, [], ◌∷◌, Option, option_map, Result, Ok, Err, codes}
 use Rattle.matchit.specs.Order.{placed}
 use Rattle.matchit.specs.Rows.{RowsOf}
@@ -8,11 +8,15 @@ use Rattle.matchit.specs.Router.{RouteOf, route_from}
 use Rattle.matchit.specs.Seek.{first}
 use Rattle.matchit.specs.declared.error.InsertError.{InsertError}
 use Rattle.node.specs.declared.page.Page.{Page}
-use Rattle.node.specs.declared.page.Page.TheVariants.{Document}
+use Rattle.node.specs.declared.page.Page.TheVariants.{Welcome, Security, Document}
 
 -- the routes of the server, each with its page
 abbrev pub routes : List (List ℕ × Page)
-routes = (codes "/{db}/{id}", Document) ∷ []
+routes =
+    (codes "/", Welcome)
+    ∷ (codes "/{db}/_security", Security)
+    ∷ (codes "/{db}/{id}", Document)
+    ∷ []
 
 abbrev pub Table : Type 0
 Table = RowsOf (RouteOf Page)

@@ -1,6 +1,6 @@
 //! What a request says besides its path: who asks, with which parameters, and with which body.
 
-ghost use Rattle.std.specs.Prelude.{◌≡◌, ◌≢◌, IfOk, IfErr, Ok, Err, Some, None, map, option_map, string_bytes};
+ghost use Rattle.std.specs.Prelude.{◌≡◌, ◌≢◌, true, false, OnOk, IfOk, IfErr, Ok, Err, Some, None, map, option_map, string_bytes};
 ghost use Rattle.auth.specs.Headers.{fields_of};
 ghost use Rattle.couch_json.specs.Reading.{reading};
 ghost use Rattle.couch_json.specs.View.{view};
@@ -52,7 +52,7 @@ pub(crate) fn denied(caller: &Caller, rule: Rule) -> Refusal
 }
 
 /// Whether the query has no parameter (URL Standard, section 5.1).
-pub(crate) fn lacks_parameters(query: &Option<String>) -> bool
+fn lacks_parameters(query: &Option<String>) -> bool
     ensures { result ≡ lacks_parameters (option_map string_bytes query.now) }
 {
     match query {
@@ -61,6 +61,20 @@ pub(crate) fn lacks_parameters(query: &Option<String>) -> bool
             .next()
             .is_none(),
     }
+}
+
+/// Refuses a query that has a parameter.
+pub(crate) fn without_parameters(request: &Request) -> Result<(), Stop>
+    ensures ok { OnOk result (lacks_parameters (message_of request.now).query ≡ true) }
+    ensures refused { (refusal : _) → result ≡ Err (Stop.Refused refusal)
+        → (lacks_parameters (message_of request.now).query ≡ false) × (refusal ≡ Refusal.Query) }
+    ensures ready { result ≢ Err Stop.NoRoom }
+    ensures working { result ≢ Err Stop.Failed }
+{
+    if !lacks_parameters(&request.query) {
+        return Err(Stop::Refused(Refusal::Query));
+    }
+    Ok(())
 }
 
 /// The value of a body.

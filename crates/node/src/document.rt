@@ -11,7 +11,7 @@ ghost use Rattle.node.specs.Answered.{MayChange, outcome_of};
 ghost use Rattle.node.specs.Causes.{IsCaused};
 
 use crate::answered::Answered;
-use crate::asking::{body, lacks_parameters};
+use crate::asking::{body, without_parameters};
 use crate::entering::entered;
 use crate::members::put_text;
 use crate::path::document_id;
@@ -58,9 +58,7 @@ fn document_asked(alloc: Global, request: &Request) -> Result<DocId, Stop>
     ensures working { result ≢ Err Stop.Failed }
 {
     let id = document_id(alloc, &request.path)?;
-    if !lacks_parameters(&request.query) {
-        return Err(Stop::Refused(Refusal::Query));
-    }
+    without_parameters(request)?;
     Ok(id)
 }
 

@@ -1,12 +1,13 @@
 //! The way of a request through a node, from its headers to its reply.
 
-ghost use Rattle.std.specs.Prelude.{◌≡◌, ◌≢◌, ◌≤◌, ◌⊎◌, ℕ, IfOk, IfErr, OnOk, OnErr, Ok, Err, Some, None};
+ghost use Rattle.std.specs.Prelude.{◌≡◌, ◌≢◌, ◌≤◌, ◌⊎◌, ℕ, IfOk, IfErr, OnOk, OnErr, Ok, Err, Some, None, string_bytes};
 ghost use Rattle.couch_http.specs.Message.{message_of};
 ghost use Rattle.couch_http.specs.Reply.{fixed_reply, reply_of};
 ghost use Rattle.couch_http.specs.declared.fixed.Fixed.TheVariants.{NoRoom};
 ghost use Rattle.couch_json.specs.Canonical.{canonical};
 ghost use Rattle.couch_json.specs.View.{view};
-ghost use Rattle.node.specs.Answer.{answer, judged, on_page};
+ghost use Rattle.node.specs.Answer.{answer, judged, served};
+ghost use Rattle.node.specs.Asking.{method_of};
 ghost use Rattle.node.specs.Answered.{MayChange, changed, outcome_of};
 ghost use Rattle.node.specs.Refusals.{refusal_value, status_of};
 ghost use Rattle.node.specs.Causes.{HasCause, IsCaused, stop_of_change};
@@ -15,11 +16,13 @@ ghost use Rattle.node.specs.Step.{IsDone, IsStep};
 use crate::answered::Answered;
 use crate::asking::caller;
 use crate::document::{read_document, write_document};
-use crate::method::{DocumentMethod, document_method};
+use crate::method::{RequestMethod, method_of};
 use crate::page::Page;
 use crate::refusal::Refusal;
 use crate::routes::Routes;
+use crate::security::read_security;
 use crate::stop::Stop;
+use crate::welcome::welcomed;
 use auth::{Auth, Caller};
 use couch_http::{Fixed, Request, Response};
 use couch_json::{Got, Json, NoMemory};
@@ -46,33 +49,36 @@ fn judged<S: Store>(
     ensures onward { (S.fault_count store.old ≤ S.fault_count store.new) × (S.is_honest store.new → S.is_honest store.old) }
 {
     let caller = caller(alloc, auth, request)?;
-    match routes.page(&request.path) {
-        None => Err(Stop::Refused(Refusal::Path)),
-        Some(Page::Document) => document(alloc, store, &caller, request),
-    }
+    let Some(page) = routes.page(&request.path) else {
+        return Err(Stop::Refused(Refusal::Path));
+    };
+    served(alloc, store, page, &caller, request)
 }
 
-/// What a request on a document's path comes to.
-fn document<S: Store>(
+/// What a page has for the method of a request.
+fn served<S: Store>(
     alloc: Global,
     store: &mut S,
+    page: Page,
     caller: &Caller,
     request: &Request,
 ) -> Result<Answered, Stop>
     ensures ok { S.is_honest store.new → IfOk result (λ answered.
-        on_page (Some Page.Document) caller.now (S.contents store.old) (message_of request.now) ≡ Ok (outcome_of (S.contents store.old) answered)) }
+        served page (method_of (string_bytes request.now.method)) caller.now (S.contents store.old) (message_of request.now) ≡ Ok (outcome_of (S.contents store.old) answered)) }
     ensures refused { S.is_honest store.new → (refusal : _) → result ≡ Err (Stop.Refused refusal)
-        → on_page (Some Page.Document) caller.now (S.contents store.old) (message_of request.now) ≡ Err refusal }
+        → served page (method_of (string_bytes request.now.method)) caller.now (S.contents store.old) (message_of request.now) ≡ Err refusal }
     ensures may { S.is_honest store.new → IfOk result (λ answered. MayChange (S.contents store.old) answered.change) }
     ensures same { S.is_honest store.new → S.contents store.new ≡ S.contents store.old }
     ensures caused { S.is_honest store.new → IfErr result (λ stop. IsCaused (S.fault_count store.old) (S.fault_count store.new) (S.is_damaged store.old) ⊥ stop) }
     ensures kept { S.is_honest store.new → (S.is_damaged store.new → S.is_damaged store.old) × ((n : _) → S.lacks_room store.new n → S.lacks_room store.old n) }
     ensures onward { (S.fault_count store.old ≤ S.fault_count store.new) × (S.is_honest store.new → S.is_honest store.old) }
 {
-    match document_method(&request.method) {
-        None => Err(Stop::Refused(Refusal::Method)),
-        Some(DocumentMethod::Get) => read_document(alloc, store, caller, request),
-        Some(DocumentMethod::Put) => write_document(alloc, store, caller, request),
+    match (page, method_of(&request.method)) {
+        (Page::Welcome, Some(RequestMethod::Get)) => Ok(welcomed(alloc, request)?),
+        (Page::Security, Some(RequestMethod::Get)) => read_security(alloc, store, caller, request),
+        (Page::Document, Some(RequestMethod::Get)) => read_document(alloc, store, caller, request),
+        (Page::Document, Some(RequestMethod::Put)) => write_document(alloc, store, caller, request),
+        _ => Err(Stop::Refused(Refusal::Method)),
     }
 }
 

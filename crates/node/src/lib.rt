@@ -13,7 +13,9 @@ mod page;
 mod path;
 mod refusal;
 mod routes;
+mod security;
 mod stop;
+mod welcome;
 
 pub use node::Node;
 pub use routes::Routes;

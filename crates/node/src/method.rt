@@ -1,24 +1,25 @@
 ghost use Rattle.std.specs.Prelude.{◌≡◌};
-ghost use Rattle.node.specs.Asking.{document_method};
+ghost use Rattle.node.specs.Asking.{method_of};
 
-/// What may be done with a document: the methods of `/{db}/{id}`.
+/// The methods that some page has (RFC 9110, section 9.3).
 #[derive(Clone, Copy, Debug, PartialEq, Eq)]
-pub(crate) enum DocumentMethod {
-    /// Read it.
+pub(crate) enum RequestMethod {
+    /// Read.
     Get,
-    /// Write it.
+    /// Write.
     Put,
 }
 
-/// The method of a document that a request names (RFC 9110, section 9.1: methods have case).
-pub(crate) fn document_method(method: &str) -> Option<DocumentMethod>
-    ensures { result ≡ document_method method.now }
+/// The method that a request names, where some page has it. Methods have case (RFC 9110, section
+/// 9.1).
+pub(crate) fn method_of(method: &str) -> Option<RequestMethod>
+    ensures { result ≡ method_of method.now }
 {
     if method == "GET" {
-        return Some(DocumentMethod::Get);
+        return Some(RequestMethod::Get);
     }
     if method == "PUT" {
-        return Some(DocumentMethod::Put);
+        return Some(RequestMethod::Put);
     }
     None
 }

@@ -8,7 +8,11 @@ use std::alloc::Global;
 use std::marker::Model;
 
 /// The paths that the server has, each with its page.
-const ROUTES: [(&str, Page); 1] = [("/{db}/{id}", Page::Document)];
+const ROUTES: [(&str, Page); 3] = [
+    ("/", Page::Welcome),
+    ("/{db}/_security", Page::Security),
+    ("/{db}/{id}", Page::Document),
+];
 
 /// The router of the server: which page a path leads to.
 #[derive(Drop)]
