@@ -3,3 +3,4 @@ pub mod Logs
 pub mod Laters
 pub mod Plains
 pub mod Acceptable
+pub mod Orders

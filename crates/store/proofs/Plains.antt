@@ -1,5 +1,5 @@
 -- A list of named databases beside the map that it stands for.
-use Rattle.std.proofs.Common.{◌≡◌, ℕ, zero, suc, ◌+◌, ◌<◌, List, [], ◌∷◌, ◌++◌, length, get_or, set, Bool, true, false, cond, Option, Some, None, Result, Ok, Err, OnErr, is_some, option_map, nat_cmp, refl, sym, ap, ◌∙◌, subst, arith}
+use Rattle.std.proofs.Common.{◌≡◌, ℕ, zero, suc, ◌+◌, ◌<◌, List, [], ◌∷◌, ◌++◌, length, get_or, set, Bool, true, false, cond, Option, Some, None, Result, Ok, Err, OnErr, is_some, option_map, nat_cmp, not, filter, map as list_map, refl, sym, ap, ◌∙◌, subst, arith}
 use Rattle.std.proofs.lemmas.Bool.{false≢true}
 use Rattle.std.proofs.lemmas.Cmp.{nat_list_cmp_total}
 use Rattle.std.proofs.lemmas.Map.Text.{is_eq-slice_cmp}
@@ -9,9 +9,11 @@ use Rattle.std.specs.Cmp.{eq_by_cmp_equiv}
 use Rattle.std.specs.Ordering.{eq_by_cmp}
 use Rattle.std.specs.FinMap as map
 use Rattle.std.specs.FinMap.{find, slice_cmp-IsAntisymmetric, nat_cmp-IsAntisymmetric}
+use Rattle.std.specs.FinMap.Entries.{where_key, find-where_key}
 use Rattle.store.specs.Database.{Database}
 use Rattle.store.specs.declared.plain.PlainDatabase.{PlainDatabase}
-use Rattle.store.specs.Plain.{Named, content, listed, contents_of, place_from}
+use Rattle.store.specs.Plain.{Named, content, listed, contents_of, place_from, keys_put}
+use Rattle.store.proofs.Orders.{same_keys_put}
 
 abbrev eq : List ℕ → List ℕ → Bool
 eq = eq_by_cmp (slice_cmp nat_cmp)
@@ -139,6 +141,45 @@ listed-push (f ∷ es) e = ap (λ r. (f.0, content f.1) ∷ r) (listed-push es e
 pub contents_of-push : (es : List Named) (name : List ℕ) (d : PlainDatabase) → map.get (contents_of es) name ≡ None → contents_of (es ++ (name, d) ∷ []) ≡ map.insert (contents_of es) name (content d)
 contents_of-push es name d none =
     ap map.from_entries (listed-push es (name, d)) ∙ map.from_entries_push nat_list_cmp_total exact (listed es) name (content d) (sym (get-contents_of es name) ∙ none)
+
+-- ---- a name taken out
+
+kept : (p : List ℕ → Bool) (e : Named) (es : List Named) (b : Bool) → listed (filter (λ f. p f.0) es) ≡ where_key (slice_cmp nat_cmp) p (listed es)
+    → listed (cond b (e ∷ filter (λ f. p f.0) es) (filter (λ f. p f.0) es)) ≡ cond b ((e.0, content e.1) ∷ where_key (slice_cmp nat_cmp) p (listed es)) (where_key (slice_cmp nat_cmp) p (listed es))
+kept p e es true h = ap (λ r. (e.0, content e.1) ∷ r) h
+kept p e es false h = h
+
+listed-filter : (p : List ℕ → Bool) (es : List Named) → listed (filter (λ e. p e.0) es) ≡ where_key (slice_cmp nat_cmp) p (listed es)
+listed-filter p [] = refl
+listed-filter p (e ∷ es) = kept p e es (p e.0) (listed-filter p es)
+
+turned : (b : Bool) (o : Option Database) → cond (not b) o None ≡ cond b None o
+turned true o = refl
+turned false o = refl
+
+pub contents_of-without : (es : List Named) (name : List ℕ) → contents_of (filter (λ e. not (eq name e.0)) es) ≡ map.remove (contents_of es) name
+contents_of-without es name =
+    let p = λ (k : List ℕ). not (eq name k) in
+    map.same_map nat_list_cmp_total exact _ _
+    (λ q. get-contents_of (filter (λ e. not (eq name e.0)) es) q ∙ ap (find (slice_cmp nat_cmp) q) (listed-filter p es)
+    ∙ find-where_key (slice_cmp nat_cmp) p q (λ x t. ap p (sym (exact q x t))) (listed es)
+    ∙ turned (eq name q) (lookup q es)
+    ∙ ap (λ b. cond b None (lookup q es)) ((eq_by_cmp_equiv nat_list_cmp_total).symm name q)
+    ∙ sym (map.get-remove nat_list_cmp_total (contents_of es) name q ∙ ap (cond (eq q name) None) (get-contents_of es q)))
+
+-- ---- the names
+
+no_length : {A : Type 0} (xs : List A) → length xs ≡ 0 → xs ≡ []
+no_length [] e = refl
+no_length (x ∷ xs) e = absurd (omega arith)
+
+pub keys-contents_of : (es : List Named) → list_map (λ e. e.0) (keys_put (slice_cmp nat_cmp) es []) ≡ map.keys (contents_of es)
+keys-contents_of [] =
+    let none : map.entries (contents_of []) ≡ [] = no_length _ (sym (map.len-entries (contents_of [])) ∙ map.len-empty (slice_cmp nat_cmp) Database) in
+    ap (list_map (λ e. e.0)) (sym none)
+keys-contents_of (e ∷ es) =
+    same_keys_put (slice_cmp nat_cmp) e.0 tt (content e.1) (keys_put (slice_cmp nat_cmp) es []) (map.entries (contents_of es)) (keys-contents_of es)
+    ∙ ap (list_map (λ f. f.0)) (sym (map.entries-insert nat_list_cmp_total (contents_of es) e.0 (content e.1)))
 
 -- a fact that holds whatever the answer
 pub whatever : {T E P : Type 0} (r : Result T E) → P → OnErr r P

@@ -1,9 +1,11 @@
 -- What a plain store holds, as contents; for private clauses and proofs.
 -- This crate's own.
-use Rattle.std.specs.Prelude.{ℕ, ◌+◌, List, [], ◌∷◌, map, Option, Some, None, if◌then◌else◌}
+use Rattle.std.specs.Prelude.{ℕ, ◌+◌, List, [], ◌∷◌, map, Option, Some, None, Result, Ok, Err, if◌then◌else◌, ⊤}
+use Rattle.std.specs.declared.cmp.Ordering.{Ordering}
 use Rattle.std.specs.Ordering.{nat_cmp, eq_by_cmp}
 use Rattle.std.specs.Cmp.Lexicographic.{slice_cmp}
-use Rattle.std.specs.FinMap.{from_entries, empty, find}
+use Rattle.std.specs.FinMap.{from_entries, empty, find, put}
+use Rattle.std.specs.FinMap.Entries.{by_order}
 use Rattle.tree.specs.History.{HistoryContent, with_write}
 use Rattle.store.specs.Contents.{Contents}
 use Rattle.store.specs.Database.{Database, DocumentWrite, Log, with_all, empty_database, is_of}
@@ -39,3 +41,13 @@ place_from n name (e ∷ es) = if eq_by_cmp (slice_cmp nat_cmp) name e.0 then So
 abbrev pub history_after : HistoryContent → List ℕ → List DocumentWrite → HistoryContent
 history_after h id [] = h
 history_after h id (w ∷ ws) = history_after (if is_of id w then with_write h w.write else h) id ws
+
+-- where a key stands among entries, counted on from n: Ok at the first that has it, Err before the first that is above it
+abbrev pub spot_from : {K X : Type 0} → (K → K → Ordering) → ℕ → K → List (K × X) → Result ℕ ℕ
+spot_from R n k [] = Err n
+spot_from R n k (e ∷ es) = by_order (R k e.0) (Err n) (Ok n) (spot_from R (n + 1) k es)
+
+-- the keys of the entries, put one after the other, the last first, among entries that hold nothing
+abbrev pub keys_put : {K X : Type 0} → (K → K → Ordering) → List (K × X) → List (K × ⊤) → List (K × ⊤)
+keys_put R [] among = among
+keys_put R (e ∷ es) among = put R e.0 tt (keys_put R es among)

@@ -1,4 +1,4 @@
-ghost use Rattle.std.specs.Prelude.{◌≡◌, ◌<◌, ◌++◌, ◌∷◌, [], IfNone, IfSome, OnErr, OnOk, None, Some, length, option_map, slice_set, slice_get, vec_len};
+ghost use Rattle.std.specs.Prelude.{◌≡◌, ◌<◌, ◌++◌, ◌∷◌, [], IfNone, IfOk, IfSome, OnErr, OnOk, None, Some, length, option_map, slice_set, slice_get, vec_len, map as list_map};
 ghost use Rattle.std.specs.FinMap as map;
 ghost use Rattle.store.specs.Contents.{new_database, with_security};
 ghost use Rattle.store.specs.Database.{with_all};
@@ -8,6 +8,7 @@ ghost use Rattle.std.specs.Ordering.{nat_cmp, eq_by_cmp};
 ghost use Rattle.std.specs.Cmp.Lexicographic.{slice_cmp};
 
 use crate::database_name::DbName;
+use crate::order::put;
 use crate::plain::{Databases, PlainDatabase};
 use crate::replay::copies;
 use crate::write::Write;
@@ -83,4 +84,28 @@ pub(crate) fn append(
     let mut more = copies(alloc, writes)?;
     databases[at].1.writes.append(&mut more)?;
     Ok(())
+}
+
+/// Removes the database of this name.
+pub(crate) fn remove(databases: &mut Databases, name: &DbName)
+    ensures { contents_of databases.new.items ≡ map.remove (contents_of databases.old.items) name.now }
+{
+    databases.retain(|entry| !is_same(&entry.0, name));
+}
+
+/// The names of the databases, in the order of their bytes.
+pub(crate) fn names_of(alloc: Global, databases: &Databases) -> Got<Vec<DbName>>
+    ensures { IfOk result (λ names. names.items ≡ map.keys (contents_of databases.now.items)) }
+{
+    let mut names = Vec::new(alloc);
+    for at in (0..databases.len()).rev() {
+        put(&mut names, databases[at].0.copy(alloc)?, ())?;
+    }
+    Ok(first_parts(alloc, names)?)
+}
+
+fn first_parts(alloc: Global, names: Vec<(DbName, ())>) -> Got<Vec<DbName>>
+    ensures { IfOk result (λ firsts. firsts.items ≡ list_map (λ e. e.0) names.items) }
+{
+    Ok(names.into_iter().map(|entry| entry.0).collect(alloc)?)
 }

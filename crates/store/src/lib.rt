@@ -5,6 +5,7 @@ mod database_name;
 mod databases;
 mod fault;
 pub mod laws;
+mod order;
 mod plain;
 mod plain_store;
 mod replay;

@@ -3,7 +3,7 @@ ghost use Rattle.std.specs.FinMap as map;
 ghost use Rattle.store.specs.Plain.{contents_of};
 
 use crate::database_name::DbName;
-use crate::databases::{add, append, database_of, place_of, secure};
+use crate::databases::{add, append, database_of, names_of, place_of, remove, secure};
 use crate::fault::StoreFault;
 use crate::plain::Databases;
 use crate::replay::history_of;
@@ -51,6 +51,19 @@ impl Store for PlainStore {
         let alloc = *self.databases.allocator();
         add(alloc, &mut self.databases, name)?;
         Ok(())
+    }
+
+    fn remove(&mut self, name: &DbName) -> Result<(), StoreFault> {
+        if place_of(&self.databases, name).is_none() {
+            return Err(StoreFault::NoDatabase);
+        }
+        remove(&mut self.databases, name);
+        Ok(())
+    }
+
+    fn names(&mut self) -> Result<Vec<DbName>, StoreFault> {
+        let alloc = *self.databases.allocator();
+        Ok(names_of(alloc, &self.databases)?)
     }
 
     fn security(&mut self, name: &DbName) -> Result<Security, StoreFault> {

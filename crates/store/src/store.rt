@@ -43,6 +43,25 @@ pub trait Store {
         ensures caused { IfErr result (λ fault. IsCaused (fault_count self.old) (fault_count self.new) (is_damaged self.old) (lacks_room self.old 1) fault) }
         ensures onward { (fault_count self.old ≤ fault_count self.new) × (is_honest self.new → is_honest self.old) };
 
+    /// Removes a database with all that it holds. `NoDatabase` comes exactly where there is none of
+    /// this name.
+    fn remove(&mut self, name: &DbName) -> Result<(), StoreFault>
+        ensures ok { is_honest self.new → OnOk result (contents self.new ≡ map.remove (contents self.old) name.now) }
+        ensures there { is_honest self.new → OnOk result (is_some (map.get (contents self.old) name.now) ≡ true) }
+        ensures missing { is_honest self.new → result ≡ Err StoreFault.NoDatabase → map.get (contents self.old) name.now ≡ None }
+        ensures err { is_honest self.new → OnErr result (contents self.new ≡ contents self.old) }
+        ensures others { result ≢ Err StoreFault.Exists }
+        ensures caused { IfErr result (λ fault. IsCaused (fault_count self.old) (fault_count self.new) (is_damaged self.old) ⊥ fault) }
+        ensures onward { (fault_count self.old ≤ fault_count self.new) × (is_honest self.new → is_honest self.old) };
+
+    /// The names of all databases, in the order of their bytes.
+    fn names(&mut self) -> Result<Vec<DbName>, StoreFault>
+        ensures ok { is_honest self.new → IfOk result (λ names. names.items ≡ map.keys (contents self.old)) }
+        ensures same { is_honest self.new → contents self.new ≡ contents self.old }
+        ensures others { IfErr result (λ fault. (fault ≢ StoreFault.NoDatabase) × (fault ≢ StoreFault.Exists)) }
+        ensures caused { IfErr result (λ fault. IsCaused (fault_count self.old) (fault_count self.new) (is_damaged self.old) ⊥ fault) }
+        ensures onward { (fault_count self.old ≤ fault_count self.new) × (is_honest self.new → is_honest self.old) };
+
     /// The security object of a database. `NoDatabase` comes exactly where there is none.
     fn security(&mut self, name: &DbName) -> Result<Security, StoreFault>
         ensures ok { is_honest self.new → IfOk result (λ security. option_map (λ db. db.security) (map.get (contents self.old) name.now) ≡ Some security) }

@@ -130,6 +130,34 @@ fn databases_are_made_once_and_closed(rt: HostRuntime) -> Result<(), Fail> {
 }
 
 #[test]
+fn databases_are_listed_and_removed(rt: HostRuntime) -> Result<(), Fail> {
+    let alloc = rt.alloc();
+    let mut store = PlainStore::new(alloc);
+    assert_eq!(rt; store.names()?.len(), 0);
+    for text in ["b", "a0", "z", "a", "a-", "ab"] {
+        store.create(&DbName::new(alloc, text)?)?;
+    }
+    let gone = DbName::new(alloc, "a")?;
+    let id = DocId::new(alloc, "d")?;
+    commit_one(&mut store, &gone, write(alloc, "d", &["1-x"], "{}")?)?;
+    store.remove(&gone)?;
+    assert_eq!(rt; store.remove(&gone), Err(StoreFault::NoDatabase));
+    assert_eq!(rt;
+        store.history(&gone, &id).err(),
+        Some(StoreFault::NoDatabase)
+    );
+    let mut listed = String::new(alloc);
+    for name in store.names()? {
+        listed.push_str(name.as_str())?;
+        listed.push_str(" ")?;
+    }
+    assert_eq!(rt; listed.as_str(), "a- a0 ab b z ");
+    store.create(&gone)?;
+    assert_eq!(rt; store.history(&gone, &id)?.winner(), None);
+    Ok(())
+}
+
+#[test]
 fn two_writes_of_one_document_in_one_commit(rt: HostRuntime) -> Result<(), Fail> {
     let alloc = rt.alloc();
     let mut store = PlainStore::new(alloc);
