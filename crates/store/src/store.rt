@@ -60,6 +60,7 @@ pub trait Store {
         ensures same { is_honest self.new → contents self.new ≡ contents self.old }
         ensures others { IfErr result (λ fault. (fault ≢ StoreFault.NoDatabase) × (fault ≢ StoreFault.Exists)) }
         ensures caused { IfErr result (λ fault. IsCaused (fault_count self.old) (fault_count self.new) (is_damaged self.old) ⊥ fault) }
+        ensures kept { is_honest self.new → (is_damaged self.new → is_damaged self.old) × ((n : ℕ) → lacks_room self.new n → lacks_room self.old n) }
         ensures onward { (fault_count self.old ≤ fault_count self.new) × (is_honest self.new → is_honest self.old) };
 
     /// The security object of a database. `NoDatabase` comes exactly where there is none.
