@@ -1,18 +1,20 @@
 -- The answer to a request: its status, its value and the databases afterwards.
--- CouchDB manual, api/document/common (`GET` and `PUT /{db}/{docid}`); the order of refusals is this server's own.
-use Rattle.std.specs.Prelude.{ℕ, List, [], ◌∷◌, map, Bool, true, false, Option, Some, None, Result, Ok, Err, codes}
-use Rattle.std.specs.FinMap.{get, insert}
+-- CouchDB manual, api/server/common, api/database/common, api/database/security and api/document/common; the order of refusals is this server's own.
+use Rattle.std.specs.Prelude.{ℕ, List, [], ◌∷◌, map, Bool, true, false, Option, Some, None, is_none, Result, Ok, Err, codes}
+use Rattle.std.specs.FinMap.{get, insert, keys, remove}
 use Rattle.auth.specs.Callers.{Identity, Configuration}
 use Rattle.couch_http.specs.Message.{Message}
-use Rattle.couch_json.specs.Value.{Value, null, truth, text, object, no_members, put}
+use Rattle.couch_json.specs.Value.{Value, null, truth, text, array, object, no_members, put}
+use Rattle.couch_json.specs.View.{items_of}
 use Rattle.policy.specs.Verdict.{verdict}
 use Rattle.policy.specs.declared.action.Action.{Action}
-use Rattle.policy.specs.declared.action.Action.TheVariants.{Read, WriteDocument}
+use Rattle.policy.specs.declared.action.Action.TheVariants.{Administer, Read, WriteDocument}
 use Rattle.policy.specs.declared.rule.Rule.{Rule}
 use Rattle.read.specs.Shown.{document_in}
 use Rattle.read.specs.declared.fault.ReadFault.{ReadFault}
 use Rattle.read.specs.declared.fault.ReadFault.TheVariants as read
-use Rattle.store.specs.Contents.{Contents}
+use Rattle.policy.specs.Security.{closed}
+use Rattle.store.specs.Contents.{Contents, new_database}
 use Rattle.store.specs.Database.{Database, DocumentWrite, with_all}
 use Rattle.tree.specs.Revision.{Revision, text_of}
 use Rattle.write.specs.Admission.{edit_in, new_revision}
@@ -23,11 +25,11 @@ use Rattle.node.specs.Paths.{database_name_in, document_id_in}
 use Rattle.node.specs.Refusals.{refusal_value, status_of}
 use Rattle.node.specs.Routing.{page_of}
 use Rattle.node.specs.declared.method.RequestMethod.{RequestMethod}
-use Rattle.node.specs.declared.method.RequestMethod.TheVariants.{Get, Put}
+use Rattle.node.specs.declared.method.RequestMethod.TheVariants.{Get, Put, Delete}
 use Rattle.node.specs.declared.page.Page.{Page}
-use Rattle.node.specs.declared.page.Page.TheVariants.{Welcome, Security, Document}
+use Rattle.node.specs.declared.page.Page.TheVariants.{Welcome, AllDatabases, Database as DatabasePage, Security, Document}
 use Rattle.node.specs.declared.refusal.Refusal.{Refusal}
-use Rattle.node.specs.declared.refusal.Refusal.TheVariants.{Path, Method, DatabaseName, NoDatabase, Id, Query, BadDocument, Conflict, Generation, Missing, Deleted}
+use Rattle.node.specs.declared.refusal.Refusal.TheVariants.{Path, Method, DatabaseName, NoDatabase, Exists, Id, Query, BadDocument, Conflict, Generation, Missing, Deleted}
 
 -- what a request comes to
 pub record Outcome : Type 0 where
@@ -139,11 +141,55 @@ abbrev pub security_read : Identity → Contents → Message → Result Outcome 
 security_read caller databases m =
     next (entered Read caller databases m.path) (λ name. unasked m (secured databases (get databases name)))
 
+-- ---- databases
+
+-- what a change replies that has nothing more to say
+abbrev pub done : Value
+done = object (put (codes "ok") (truth true) no_members)
+
+abbrev pub granted : Identity → Option Rule → Result (Unit {0}) Refusal
+granted caller None = Ok tt
+granted caller (Some rule) = Err (denied caller rule)
+
+-- the caller may list, create and remove databases; no security object is asked
+abbrev pub administering : Identity → Result (Unit {0}) Refusal
+administering caller = granted caller (verdict Administer caller closed)
+
+-- the names of all databases, in byte order
+abbrev pub databases_listed : Identity → Contents → Message → Result Outcome Refusal
+databases_listed caller databases m =
+    next (administering caller) (λ _. unasked m (Ok (record { status = 200; value = array (items_of (map text (keys databases))); after = databases })))
+
+-- a new database of this name
+abbrev pub created : Contents → List ℕ → Message → Result Outcome Refusal
+created databases name m =
+    next (true_or Exists (is_none (get databases name))) (λ _.
+    unasked m (Ok (record { status = 201; value = done; after = insert databases name new_database })))
+
+abbrev pub database_created : Identity → Contents → Message → Result Outcome Refusal
+database_created caller databases m =
+    next (there_or DatabaseName (database_name_in m.path)) (λ name.
+    next (administering caller) (λ _. created databases name m))
+
+-- the database of this name with all that it holds, gone
+abbrev pub removed : Contents → List ℕ → Message → Result Outcome Refusal
+removed databases name m =
+    next (there_or NoDatabase (get databases name)) (λ db.
+    unasked m (Ok (record { status = 200; value = done; after = remove databases name })))
+
+abbrev pub database_removed : Identity → Contents → Message → Result Outcome Refusal
+database_removed caller databases m =
+    next (there_or DatabaseName (database_name_in m.path)) (λ name.
+    next (administering caller) (λ _. removed databases name m))
+
 -- ---- all requests
 
 -- what each page has for a method
 abbrev pub served : Page → Option RequestMethod → Identity → Contents → Message → Result Outcome Refusal
 served Welcome (Some Get) caller databases m = welcomed databases m
+served AllDatabases (Some Get) caller databases m = databases_listed caller databases m
+served DatabasePage (Some Put) caller databases m = database_created caller databases m
+served DatabasePage (Some Delete) caller databases m = database_removed caller databases m
 served Security (Some Get) caller databases m = security_read caller databases m
 served Document (Some Get) caller databases m = document_read caller databases m
 served Document (Some Put) caller databases m = document_written caller databases m

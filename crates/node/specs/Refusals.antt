@@ -5,7 +5,7 @@ use Rattle.couch_json.specs.Value.{Value, text, object, Members, no_members, put
 use Rattle.policy.specs.declared.rule.Rule.{Rule}
 use Rattle.policy.specs.declared.rule.Rule.TheVariants.{ProxyToken, ServerAdmin, DbMember, DbAdmin, DesignDocument, Update}
 use Rattle.node.specs.declared.refusal.Refusal.{Refusal}
-use Rattle.node.specs.declared.refusal.Refusal.TheVariants.{Unauthorized, Forbidden, Path, Method, DatabaseName, NoDatabase, Id, Query, Syntax, BadDocument, Conflict, Generation, Missing, Deleted}
+use Rattle.node.specs.declared.refusal.Refusal.TheVariants.{Unauthorized, Forbidden, Path, Method, DatabaseName, NoDatabase, Exists, Id, Query, Syntax, Body, BadDocument, Conflict, Generation, Missing, Deleted}
 
 abbrev pub status_of : Refusal → ℕ
 status_of (Unauthorized rule) = 401
@@ -14,9 +14,11 @@ status_of Path = 404
 status_of Method = 405
 status_of DatabaseName = 400
 status_of NoDatabase = 404
+status_of Exists = 412
 status_of Id = 400
 status_of Query = 400
 status_of Syntax = 400
+status_of Body = 400
 status_of BadDocument = 400
 status_of Conflict = 409
 status_of Generation = 400
@@ -30,9 +32,11 @@ error_of Path = codes "not_found"
 error_of Method = codes "method_not_allowed"
 error_of DatabaseName = codes "illegal_database_name"
 error_of NoDatabase = codes "not_found"
+error_of Exists = codes "file_exists"
 error_of Id = codes "bad_request"
 error_of Query = codes "bad_request"
 error_of Syntax = codes "bad_request"
+error_of Body = codes "bad_request"
 error_of BadDocument = codes "doc_validation"
 error_of Conflict = codes "conflict"
 error_of Generation = codes "generation"
@@ -55,9 +59,11 @@ reason_of Path = codes "path"
 reason_of Method = codes "method"
 reason_of DatabaseName = codes "name"
 reason_of NoDatabase = codes "Database does not exist."
+reason_of Exists = codes "The database could not be created, the file already exists."
 reason_of Id = codes "id"
 reason_of Query = codes "query"
 reason_of Syntax = codes "JSON"
+reason_of Body = codes "body"
 reason_of BadDocument = codes "Bad document."
 reason_of Conflict = codes "Document update conflict."
 reason_of Generation = codes "No further generation."
@@ -81,9 +87,11 @@ rule_of Path = None
 rule_of Method = None
 rule_of DatabaseName = None
 rule_of NoDatabase = None
+rule_of Exists = None
 rule_of Id = None
 rule_of Query = None
 rule_of Syntax = None
+rule_of Body = None
 rule_of BadDocument = None
 rule_of Conflict = None
 rule_of Generation = None

@@ -8,12 +8,15 @@ use Rattle.matchit.specs.Router.{RouteOf, route_from}
 use Rattle.matchit.specs.Seek.{first}
 use Rattle.matchit.specs.declared.error.InsertError.{InsertError}
 use Rattle.node.specs.declared.page.Page.{Page}
-use Rattle.node.specs.declared.page.Page.TheVariants.{Welcome, Security, Document}
+use Rattle.node.specs.declared.page.Page.TheVariants.{Welcome, AllDatabases, Database, Security, Document}
 
 -- the routes of the server, each with its page
 abbrev pub routes : List (List ℕ × Page)
 routes =
     (codes "/", Welcome)
+    ∷ (codes "/_all_dbs", AllDatabases)
+    ∷ (codes "/{db}", Database)
+    ∷ (codes "/{db}/", Database)
     ∷ (codes "/{db}/_security", Security)
     ∷ (codes "/{db}/{id}", Document)
     ∷ []

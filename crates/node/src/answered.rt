@@ -1,4 +1,5 @@
 use couch_json::Json;
+use store::DbName;
 use write::Planned;
 
 /// What a request comes to, with a change that is not made yet.
@@ -9,5 +10,16 @@ pub(crate) struct Answered {
     /// The value of its body.
     pub(crate) value: Json,
     /// The change that the reply stands for.
-    pub(crate) change: Option<Planned>,
+    pub(crate) change: Option<Change>,
+}
+
+/// A change of the store that was found in order.
+#[derive(Drop)]
+pub(crate) enum Change {
+    /// A new database.
+    Create(DbName),
+    /// A database with all that it holds, gone.
+    Remove(DbName),
+    /// Something written to a database.
+    Write(Planned),
 }

@@ -10,7 +10,7 @@ ghost use Rattle.node.specs.Answer.{document_asked, document_read, document_writ
 ghost use Rattle.node.specs.Answered.{MayChange, outcome_of};
 ghost use Rattle.node.specs.Causes.{IsCaused};
 
-use crate::answered::Answered;
+use crate::answered::{Answered, Change};
 use crate::asking::{body, without_parameters};
 use crate::entering::entered;
 use crate::members::put_text;
@@ -154,7 +154,7 @@ fn written<S: Store>(
     Ok(Answered {
         status: 201,
         value,
-        change: Some(planned),
+        change: Some(Change::Write(planned)),
     })
 }
 

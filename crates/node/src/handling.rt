@@ -8,13 +8,14 @@ ghost use Rattle.couch_json.specs.Canonical.{canonical};
 ghost use Rattle.couch_json.specs.View.{view};
 ghost use Rattle.node.specs.Answer.{answer, judged, served};
 ghost use Rattle.node.specs.Asking.{method_of};
-ghost use Rattle.node.specs.Answered.{MayChange, changed, outcome_of};
+ghost use Rattle.node.specs.Answered.{MayChange, MayChangeBy, changed, changed_by, outcome_of};
 ghost use Rattle.node.specs.Refusals.{refusal_value, status_of};
 ghost use Rattle.node.specs.Causes.{HasCause, IsCaused, stop_of_change};
 ghost use Rattle.node.specs.Step.{IsDone, IsStep};
 
-use crate::answered::Answered;
+use crate::answered::{Answered, Change};
 use crate::asking::caller;
+use crate::databases::{create_database, list_databases, remove_database};
 use crate::document::{read_document, write_document};
 use crate::method::{RequestMethod, method_of};
 use crate::page::Page;
@@ -27,7 +28,7 @@ use auth::{Auth, Caller};
 use couch_http::{Fixed, Request, Response};
 use couch_json::{Got, Json, NoMemory};
 use std::alloc::Global;
-use store::Store;
+use store::{DbName, Store, StoreFault};
 use write::{Planned, WriteFault, apply};
 
 /// What a request comes to, but for the change of the store itself.
@@ -75,6 +76,9 @@ fn served<S: Store>(
 {
     match (page, method_of(&request.method)) {
         (Page::Welcome, Some(RequestMethod::Get)) => Ok(welcomed(alloc, request)?),
+        (Page::AllDatabases, Some(RequestMethod::Get)) => list_databases(alloc, store, caller, request),
+        (Page::Database, Some(RequestMethod::Put)) => create_database(alloc, store, caller, request),
+        (Page::Database, Some(RequestMethod::Delete)) => remove_database(alloc, store, caller, request),
         (Page::Security, Some(RequestMethod::Get)) => read_security(alloc, store, caller, request),
         (Page::Document, Some(RequestMethod::Get)) => read_document(alloc, store, caller, request),
         (Page::Document, Some(RequestMethod::Put)) => write_document(alloc, store, caller, request),
@@ -113,9 +117,8 @@ fn made(alloc: Global, status: u16, value: &Json, last: bool) -> Got<Response>
     }
 }
 
-/// Makes a planned change, if there is one: the only step of a request that changes the store.
-#[tactic(auto, using(crate::proofs::Faults::caused_by_change, crate::proofs::Faults::unrefused_change))]
-fn change<S: Store>(store: &mut S, change: Option<Planned>) -> Result<(), Stop>
+/// Makes the change, if there is one: the only step of a request that changes the store.
+fn change<S: Store>(store: &mut S, change: Option<Change>) -> Result<(), Stop>
     requires { S.is_honest store.old → MayChange (S.contents store.old) change }
     ensures ok { S.is_honest store.new → OnOk result (S.contents store.new ≡ changed (S.contents store.old) change) }
     ensures unrefused { (refusal : _) → result ≢ Err (Stop.Refused refusal) }
@@ -124,9 +127,61 @@ fn change<S: Store>(store: &mut S, change: Option<Planned>) -> Result<(), Stop>
         (S.is_damaged store.old) ((n : ℕ) × S.lacks_room store.old n) stop) }
     ensures onward { (S.fault_count store.old ≤ S.fault_count store.new) × (S.is_honest store.new → S.is_honest store.old) }
 {
-    let Some(planned) = change else {
-        return Ok(());
-    };
+    match change {
+        None => Ok(()),
+        Some(Change::Create(name)) => create(store, &name),
+        Some(Change::Remove(name)) => remove(store, &name),
+        Some(Change::Write(planned)) => write(store, planned),
+    }
+}
+
+/// Makes a new database.
+#[tactic(auto, using(crate::proofs::Faults::cause_of))]
+fn create<S: Store>(store: &mut S, name: &DbName) -> Result<(), Stop>
+    requires { S.is_honest store.old → MayChangeBy (S.contents store.old) (Change.Create name.now) }
+    ensures ok { S.is_honest store.new → OnOk result (S.contents store.new ≡ changed_by (S.contents store.old) (Change.Create name.now)) }
+    ensures unrefused { (refusal : _) → result ≢ Err (Stop.Refused refusal) }
+    ensures err { S.is_honest store.new → OnErr result (S.contents store.new ≡ S.contents store.old) }
+    ensures caused { S.is_honest store.new → IfErr result (λ stop. IsCaused (S.fault_count store.old) (S.fault_count store.new)
+        (S.is_damaged store.old) ((n : ℕ) × S.lacks_room store.old n) stop) }
+    ensures onward { (S.fault_count store.old ≤ S.fault_count store.new) × (S.is_honest store.new → S.is_honest store.old) }
+{
+    match store.create(name) {
+        Ok(()) => Ok(()),
+        Err(StoreFault::Memory) => Err(Stop::NoRoom),
+        Err(_) => Err(Stop::Failed),
+    }
+}
+
+/// Removes a database with all that it holds.
+#[tactic(auto, using(crate::proofs::Faults::cause_of))]
+fn remove<S: Store>(store: &mut S, name: &DbName) -> Result<(), Stop>
+    requires { S.is_honest store.old → MayChangeBy (S.contents store.old) (Change.Remove name.now) }
+    ensures ok { S.is_honest store.new → OnOk result (S.contents store.new ≡ changed_by (S.contents store.old) (Change.Remove name.now)) }
+    ensures unrefused { (refusal : _) → result ≢ Err (Stop.Refused refusal) }
+    ensures err { S.is_honest store.new → OnErr result (S.contents store.new ≡ S.contents store.old) }
+    ensures caused { S.is_honest store.new → IfErr result (λ stop. IsCaused (S.fault_count store.old) (S.fault_count store.new)
+        (S.is_damaged store.old) ((n : ℕ) × S.lacks_room store.old n) stop) }
+    ensures onward { (S.fault_count store.old ≤ S.fault_count store.new) × (S.is_honest store.new → S.is_honest store.old) }
+{
+    match store.remove(name) {
+        Ok(()) => Ok(()),
+        Err(StoreFault::Memory) => Err(Stop::NoRoom),
+        Err(_) => Err(Stop::Failed),
+    }
+}
+
+/// Writes what was planned.
+#[tactic(auto, using(crate::proofs::Faults::caused_by_change, crate::proofs::Faults::unrefused_change))]
+fn write<S: Store>(store: &mut S, planned: Planned) -> Result<(), Stop>
+    requires { S.is_honest store.old → MayChangeBy (S.contents store.old) (Change.Write planned) }
+    ensures ok { S.is_honest store.new → OnOk result (S.contents store.new ≡ changed_by (S.contents store.old) (Change.Write planned)) }
+    ensures unrefused { (refusal : _) → result ≢ Err (Stop.Refused refusal) }
+    ensures err { S.is_honest store.new → OnErr result (S.contents store.new ≡ S.contents store.old) }
+    ensures caused { S.is_honest store.new → IfErr result (λ stop. IsCaused (S.fault_count store.old) (S.fault_count store.new)
+        (S.is_damaged store.old) ((n : ℕ) × S.lacks_room store.old n) stop) }
+    ensures onward { (S.fault_count store.old ≤ S.fault_count store.new) × (S.is_honest store.new → S.is_honest store.old) }
+{
     match apply(store, planned) {
         Ok(()) => Ok(()),
         Err(fault) => Err(unmade(&fault)),

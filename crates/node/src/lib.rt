@@ -3,6 +3,7 @@
 
 mod answered;
 mod asking;
+mod databases;
 mod document;
 mod entering;
 mod handling;

@@ -8,6 +8,8 @@ pub(crate) enum RequestMethod {
     Get,
     /// Write.
     Put,
+    /// Remove.
+    Delete,
 }
 
 /// The method that a request names, where some page has it. Methods have case (RFC 9110, section
@@ -20,6 +22,9 @@ pub(crate) fn method_of(method: &str) -> Option<RequestMethod>
     }
     if method == "PUT" {
         return Some(RequestMethod::Put);
+    }
+    if method == "DELETE" {
+        return Some(RequestMethod::Delete);
     }
     None
 }

@@ -3,6 +3,10 @@
 pub(crate) enum Page {
     /// `/`: the server itself.
     Welcome,
+    /// `/_all_dbs`: the names of all databases.
+    AllDatabases,
+    /// `/{db}` and `/{db}/`: a database.
+    Database,
     /// `/{db}/_security`: a database's security object.
     Security,
     /// `/{db}/{id}`: a document.

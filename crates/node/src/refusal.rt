@@ -23,12 +23,16 @@ pub(crate) enum Refusal {
     DatabaseName,
     /// There is no database of this name: 404.
     NoDatabase,
+    /// There is a database of this name already: 412.
+    Exists,
     /// What should be a document's id is none: 400.
     Id,
     /// A parameter of the query is not known here: 400.
     Query,
     /// The body is no JSON text, has a number that is not whole or out of range, or nests too deep: 400.
     Syntax,
+    /// The body is not of the shape that the page wants: 400.
+    Body,
     /// What was sent is no document: 400.
     BadDocument,
     /// The edit does not follow what is stored: 409.
@@ -53,9 +57,11 @@ impl Refusal {
             Refusal::Method => 405,
             Refusal::DatabaseName => 400,
             Refusal::NoDatabase => 404,
+            Refusal::Exists => 412,
             Refusal::Id => 400,
             Refusal::Query => 400,
             Refusal::Syntax => 400,
+            Refusal::Body => 400,
             Refusal::BadDocument => 400,
             Refusal::Conflict => 409,
             Refusal::Generation => 400,
@@ -75,9 +81,11 @@ impl Refusal {
             Refusal::Method => "method_not_allowed",
             Refusal::DatabaseName => "illegal_database_name",
             Refusal::NoDatabase => "not_found",
+            Refusal::Exists => "file_exists",
             Refusal::Id => "bad_request",
             Refusal::Query => "bad_request",
             Refusal::Syntax => "bad_request",
+            Refusal::Body => "bad_request",
             Refusal::BadDocument => "doc_validation",
             Refusal::Conflict => "conflict",
             Refusal::Generation => "generation",
@@ -97,9 +105,13 @@ impl Refusal {
             Refusal::Method => "method",
             Refusal::DatabaseName => "name",
             Refusal::NoDatabase => "Database does not exist.",
+            Refusal::Exists => {
+                "The database could not be created, the file already exists."
+            }
             Refusal::Id => "id",
             Refusal::Query => "query",
             Refusal::Syntax => "JSON",
+            Refusal::Body => "body",
             Refusal::BadDocument => "Bad document.",
             Refusal::Conflict => "Document update conflict.",
             Refusal::Generation => "No further generation.",

@@ -8,8 +8,11 @@ use std::alloc::Global;
 use std::marker::Model;
 
 /// The paths that the server has, each with its page.
-const ROUTES: [(&str, Page); 3] = [
+const ROUTES: [(&str, Page); 6] = [
     ("/", Page::Welcome),
+    ("/_all_dbs", Page::AllDatabases),
+    ("/{db}", Page::Database),
+    ("/{db}/", Page::Database),
     ("/{db}/_security", Page::Security),
     ("/{db}/{id}", Page::Document),
 ];

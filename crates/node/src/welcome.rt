@@ -1,15 +1,15 @@
 //! The server's own page: `GET /` (CouchDB manual, api/server/common).
 
-ghost use Rattle.std.specs.Prelude.{◌≡◌, ◌≢◌, IfOk, Ok, Err, None};
+ghost use Rattle.std.specs.Prelude.{◌≡◌, ◌≢◌, OnOk, IfOk, Err, None, true, false};
 ghost use Rattle.couch_http.specs.Message.{message_of};
 ghost use Rattle.couch_json.specs.View.{view};
-ghost use Rattle.store.specs.Contents.{Contents};
-ghost use Rattle.node.specs.Answer.{welcome, welcomed};
-ghost use Rattle.node.specs.Answered.{outcome_of};
+ghost use Rattle.node.specs.Answer.{welcome};
+ghost use Rattle.node.specs.Asking.{lacks_parameters};
 
 use crate::answered::Answered;
 use crate::asking::without_parameters;
 use crate::members::put_text;
+use crate::refusal::Refusal;
 use crate::stop::Stop;
 use couch_http::Request;
 use couch_json::{Got, Json};
@@ -18,9 +18,10 @@ use std::collections::BTreeMap;
 
 /// Says who answers here.
 pub(crate) fn welcomed(alloc: Global, request: &Request) -> Result<Answered, Stop>
-    ensures ok { (databases : Contents) → IfOk result (λ answered. welcomed databases (message_of request.now) ≡ Ok (outcome_of databases answered)) }
-    ensures refused { (databases : Contents) (refusal : _) → result ≡ Err (Stop.Refused refusal) → welcomed databases (message_of request.now) ≡ Err refusal }
-    ensures unchanging { IfOk result (λ answered. answered.change ≡ None) }
+    ensures ok { IfOk result (λ answered. (answered.status ≡ 200) × (view answered.value ≡ welcome) × (answered.change ≡ None)) }
+    ensures plain { OnOk result (lacks_parameters (message_of request.now).query ≡ true) }
+    ensures refused { (refusal : _) → result ≡ Err (Stop.Refused refusal)
+        → (lacks_parameters (message_of request.now).query ≡ false) × (refusal ≡ Refusal.Query) }
     ensures working { result ≢ Err Stop.Failed }
 {
     without_parameters(request)?;
