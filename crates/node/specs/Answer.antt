@@ -8,13 +8,13 @@ use Rattle.couch_json.specs.Value.{Value, null, truth, text, array, object, no_m
 use Rattle.couch_json.specs.View.{items_of}
 use Rattle.policy.specs.Verdict.{verdict}
 use Rattle.policy.specs.declared.action.Action.{Action}
-use Rattle.policy.specs.declared.action.Action.TheVariants.{Administer, Read, WriteDocument}
+use Rattle.policy.specs.declared.action.Action.TheVariants.{Administer, Read, WriteSecurity, WriteDocument}
 use Rattle.policy.specs.declared.rule.Rule.{Rule}
 use Rattle.read.specs.Shown.{document_in}
 use Rattle.read.specs.declared.fault.ReadFault.{ReadFault}
 use Rattle.read.specs.declared.fault.ReadFault.TheVariants as read
-use Rattle.policy.specs.Security.{closed}
-use Rattle.store.specs.Contents.{Contents, new_database}
+use Rattle.policy.specs.Security.{closed, is_security}
+use Rattle.store.specs.Contents.{Contents, new_database, with_security}
 use Rattle.store.specs.Database.{Database, DocumentWrite, with_all}
 use Rattle.tree.specs.Revision.{Revision, text_of}
 use Rattle.write.specs.Admission.{edit_in, new_revision}
@@ -29,7 +29,7 @@ use Rattle.node.specs.declared.method.RequestMethod.TheVariants.{Get, Put, Delet
 use Rattle.node.specs.declared.page.Page.{Page}
 use Rattle.node.specs.declared.page.Page.TheVariants.{Welcome, AllDatabases, Database as DatabasePage, Security, Document}
 use Rattle.node.specs.declared.refusal.Refusal.{Refusal}
-use Rattle.node.specs.declared.refusal.Refusal.TheVariants.{Path, Method, DatabaseName, NoDatabase, Exists, Id, Query, BadDocument, Conflict, Generation, Missing, Deleted}
+use Rattle.node.specs.declared.refusal.Refusal.TheVariants.{Path, Method, DatabaseName, NoDatabase, Exists, Id, Query, Body, BadDocument, Conflict, Generation, Missing, Deleted}
 
 -- what a request comes to
 pub record Outcome : Type 0 where
@@ -141,11 +141,29 @@ abbrev pub security_read : Identity → Contents → Message → Result Outcome 
 security_read caller databases m =
     next (entered Read caller databases m.path) (λ name. unasked m (secured databases (get databases name)))
 
--- ---- databases
-
 -- what a change replies that has nothing more to say
 abbrev pub done : Value
 done = object (put (codes "ok") (truth true) no_members)
+
+abbrev pub with_security_in : Contents → List ℕ → Value → Option Database → Contents
+with_security_in databases name security None = databases
+with_security_in databases name security (Some db) = insert databases name (with_security db security)
+
+-- the databases once the one of this name has this security object
+abbrev pub with_security_at : Contents → List ℕ → Value → Contents
+with_security_at databases name security = with_security_in databases name security (get databases name)
+
+-- a value that is a security object
+abbrev pub security_of : Value → Result Value Refusal
+security_of v = next (true_or Body (is_security v)) (λ _. Ok v)
+
+abbrev pub security_written : Identity → Contents → Message → Result Outcome Refusal
+security_written caller databases m =
+    next (entered WriteSecurity caller databases m.path) (λ name.
+    unasked m (next (body_of m) (λ v. next (security_of v) (λ security.
+    Ok (record { status = 200; value = done; after = with_security_at databases name security })))))
+
+-- ---- databases
 
 abbrev pub granted : Identity → Option Rule → Result (Unit {0}) Refusal
 granted caller None = Ok tt
@@ -191,6 +209,7 @@ served AllDatabases (Some Get) caller databases m = databases_listed caller data
 served DatabasePage (Some Put) caller databases m = database_created caller databases m
 served DatabasePage (Some Delete) caller databases m = database_removed caller databases m
 served Security (Some Get) caller databases m = security_read caller databases m
+served Security (Some Put) caller databases m = security_written caller databases m
 served Document (Some Get) caller databases m = document_read caller databases m
 served Document (Some Put) caller databases m = document_written caller databases m
 served page method caller databases m = Err Method

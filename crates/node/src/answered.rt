@@ -1,4 +1,5 @@
 use couch_json::Json;
+use policy::Security;
 use store::DbName;
 use write::Planned;
 
@@ -20,6 +21,8 @@ pub(crate) enum Change {
     Create(DbName),
     /// A database with all that it holds, gone.
     Remove(DbName),
+    /// Another security object of a database.
+    Secure(DbName, Security),
     /// Something written to a database.
     Write(Planned),
 }

@@ -1,4 +1,4 @@
-ghost use Rattle.std.specs.Prelude.{◌≡◌, ◌≢◌, ◌≤◌, ◌⊎◌, IfOk, IfErr, Ok, Err, Some, None};
+ghost use Rattle.std.specs.Prelude.{◌≡◌, ◌≢◌, ◌≤◌, ◌⊎◌, IfOk, IfErr, Ok, Err, Some, None, is_some, true};
 ghost use Rattle.node.specs.Answer.{entered, allowed_in};
 ghost use Rattle.node.specs.Causes.{IsCaused};
 ghost use Rattle.std.specs.FinMap as map;
@@ -24,6 +24,7 @@ pub(crate) fn entered<S: Store>(
     ensures ok { S.is_honest store.new → IfOk result (λ name. entered action caller.now (S.contents store.old) path.now ≡ Ok name) }
     ensures refused { S.is_honest store.new → (refusal : _) → result ≡ Err (Stop.Refused refusal)
         → entered action caller.now (S.contents store.old) path.now ≡ Err refusal }
+    ensures there { S.is_honest store.new → IfOk result (λ name. is_some (map.get (S.contents store.old) name) ≡ true) }
     ensures same { S.is_honest store.new → S.contents store.new ≡ S.contents store.old }
     ensures caused { S.is_honest store.new → IfErr result (λ stop. IsCaused (S.fault_count store.old) (S.fault_count store.new) (S.is_damaged store.old) ⊥ stop) }
     ensures kept { S.is_honest store.new → (S.is_damaged store.new → S.is_damaged store.old) × ((n : _) → S.lacks_room store.new n → S.lacks_room store.old n) }
@@ -44,6 +45,7 @@ fn allowed<S: Store>(
     ensures ok { S.is_honest store.new → IfOk result (λ found. allowed_in action caller.now name (map.get (S.contents store.old) name) ≡ Ok found) }
     ensures refused { S.is_honest store.new → (refusal : _) → result ≡ Err (Stop.Refused refusal)
         → allowed_in action caller.now name (map.get (S.contents store.old) name) ≡ Err refusal }
+    ensures there { S.is_honest store.new → IfOk result (λ found. is_some (map.get (S.contents store.old) found) ≡ true) }
     ensures same { S.is_honest store.new → S.contents store.new ≡ S.contents store.old }
     ensures caused { S.is_honest store.new → IfErr result (λ stop. IsCaused (S.fault_count store.old) (S.fault_count store.new) (S.is_damaged store.old) ⊥ stop) }
     ensures kept { S.is_honest store.new → (S.is_damaged store.new → S.is_damaged store.old) × ((n : _) → S.lacks_room store.new n → S.lacks_room store.old n) }

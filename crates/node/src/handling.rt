@@ -21,12 +21,13 @@ use crate::method::{RequestMethod, method_of};
 use crate::page::Page;
 use crate::refusal::Refusal;
 use crate::routes::Routes;
-use crate::security::read_security;
+use crate::security::{read_security, write_security};
 use crate::stop::Stop;
 use crate::welcome::welcomed;
 use auth::{Auth, Caller};
 use couch_http::{Fixed, Request, Response};
 use couch_json::{Got, Json, NoMemory};
+use policy::Security;
 use std::alloc::Global;
 use store::{DbName, Store, StoreFault};
 use write::{Planned, WriteFault, apply};
@@ -80,6 +81,7 @@ fn served<S: Store>(
         (Page::Database, Some(RequestMethod::Put)) => create_database(alloc, store, caller, request),
         (Page::Database, Some(RequestMethod::Delete)) => remove_database(alloc, store, caller, request),
         (Page::Security, Some(RequestMethod::Get)) => read_security(alloc, store, caller, request),
+        (Page::Security, Some(RequestMethod::Put)) => write_security(alloc, store, caller, request),
         (Page::Document, Some(RequestMethod::Get)) => read_document(alloc, store, caller, request),
         (Page::Document, Some(RequestMethod::Put)) => write_document(alloc, store, caller, request),
         _ => Err(Stop::Refused(Refusal::Method)),
@@ -131,6 +133,7 @@ fn change<S: Store>(store: &mut S, change: Option<Change>) -> Result<(), Stop>
         None => Ok(()),
         Some(Change::Create(name)) => create(store, &name),
         Some(Change::Remove(name)) => remove(store, &name),
+        Some(Change::Secure(name, security)) => secure(store, &name, &security),
         Some(Change::Write(planned)) => write(store, planned),
     }
 }
@@ -165,6 +168,24 @@ fn remove<S: Store>(store: &mut S, name: &DbName) -> Result<(), Stop>
     ensures onward { (S.fault_count store.old ≤ S.fault_count store.new) × (S.is_honest store.new → S.is_honest store.old) }
 {
     match store.remove(name) {
+        Ok(()) => Ok(()),
+        Err(StoreFault::Memory) => Err(Stop::NoRoom),
+        Err(_) => Err(Stop::Failed),
+    }
+}
+
+/// Gives a database another security object.
+#[tactic(auto, using(crate::proofs::Faults::cause_of))]
+fn secure<S: Store>(store: &mut S, name: &DbName, security: &Security) -> Result<(), Stop>
+    requires { S.is_honest store.old → MayChangeBy (S.contents store.old) (Change.Secure name.now security.now) }
+    ensures ok { S.is_honest store.new → OnOk result (S.contents store.new ≡ changed_by (S.contents store.old) (Change.Secure name.now security.now)) }
+    ensures unrefused { (refusal : _) → result ≢ Err (Stop.Refused refusal) }
+    ensures err { S.is_honest store.new → OnErr result (S.contents store.new ≡ S.contents store.old) }
+    ensures caused { S.is_honest store.new → IfErr result (λ stop. IsCaused (S.fault_count store.old) (S.fault_count store.new)
+        (S.is_damaged store.old) ((n : ℕ) × S.lacks_room store.old n) stop) }
+    ensures onward { (S.fault_count store.old ≤ S.fault_count store.new) × (S.is_honest store.new → S.is_honest store.old) }
+{
+    match store.set_security(name, security) {
         Ok(()) => Ok(()),
         Err(StoreFault::Memory) => Err(Stop::NoRoom),
         Err(_) => Err(Stop::Failed),
