@@ -4,6 +4,8 @@
 #[cfg(test)]
 mod client;
 #[cfg(test)]
+mod databases;
+#[cfg(test)]
 mod documents;
 #[cfg(test)]
 mod refusals;
