@@ -3,9 +3,11 @@
 
 mod document;
 mod fault;
+mod information;
 mod shown;
 #[cfg(test)]
 mod tests;
 
 pub use document::get;
 pub use fault::ReadFault;
+pub use information::info;

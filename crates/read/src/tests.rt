@@ -1,5 +1,5 @@
 use crate::document::winning_document;
-use crate::{ReadFault, get};
+use crate::{ReadFault, get, info};
 use couch_json::{Json, canon, read};
 use std::alloc::Global;
 use std::process::Abort;
@@ -87,10 +87,18 @@ fn a_deleted_winner_and_what_is_not_there(rt: HostRuntime) -> Result<(), Fail> {
         get(alloc, &mut store, &db, &id).err(),
         Some(ReadFault::Store(StoreFault::NoDatabase))
     );
+    assert_eq!(rt;
+        info(alloc, &mut store, &db).err(),
+        Some(ReadFault::Store(StoreFault::NoDatabase))
+    );
     store.create(&db)?;
     assert_eq!(rt;
         get(alloc, &mut store, &db, &id).err(),
         Some(ReadFault::Missing)
+    );
+    assert_eq!(rt;
+        text(alloc, info(alloc, &mut store, &db))?.as_str(),
+        r#"{"db_name":"db","doc_count":0,"doc_del_count":0,"update_seq":0}"#
     );
     Ok(())
 }

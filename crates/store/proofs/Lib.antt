@@ -4,3 +4,4 @@ pub mod Laters
 pub mod Plains
 pub mod Acceptable
 pub mod Orders
+pub mod Pagings

@@ -8,9 +8,10 @@ use Rattle.std.specs.FinMap.{from_entries, empty, find, put}
 use Rattle.std.specs.FinMap.Entries.{by_order}
 use Rattle.tree.specs.History.{HistoryContent, with_write}
 use Rattle.store.specs.Contents.{Contents}
-use Rattle.store.specs.Database.{Database, DocumentWrite, Log, with_all, empty_database, is_of}
+use Rattle.store.specs.Database.{Database, Document, DocumentWrite, Log, history_in, with_all, empty_database, is_of}
 use Rattle.store.specs.Writing.{writings}
 use Rattle.store.specs.declared.plain.PlainDatabase.{PlainDatabase}
+use Rattle.store.specs.declared.plain.PlainDocument.{PlainDocument}
 
 abbrev pub Named : Type 0
 Named = List ℕ × PlainDatabase
@@ -51,3 +52,19 @@ spot_from R n k (e ∷ es) = by_order (R k e.0) (Err n) (Ok n) (spot_from R (n +
 abbrev pub keys_put : {K X : Type 0} → (K → K → Ordering) → List (K × X) → List (K × ⊤) → List (K × ⊤)
 keys_put R [] among = among
 keys_put R (e ∷ es) among = put R e.0 tt (keys_put R es among)
+
+-- the documents gathered so far, by id
+abbrev pub stored : List ℕ × PlainDocument → List ℕ × Document
+stored e = (e.0, record { sequence = e.1.sequence; history = e.1.history })
+
+abbrev pub gathered : List (List ℕ × PlainDocument) → List (List ℕ × Document)
+gathered es = map stored es
+
+-- one more write gathered, and each of them, after n that were
+abbrev pub with_write_at : ℕ → List (List ℕ × Document) → DocumentWrite → List (List ℕ × Document)
+with_write_at sequence es w =
+    put (slice_cmp nat_cmp) w.id (record { sequence = sequence; history = with_write (history_in (find (slice_cmp nat_cmp) w.id es)) w.write }) es
+
+abbrev pub gathered_after : ℕ → List (List ℕ × Document) → List DocumentWrite → List (List ℕ × Document)
+gathered_after n es [] = es
+gathered_after n es (w ∷ ws) = gathered_after (n + 1) (with_write_at (n + 1) es w) ws

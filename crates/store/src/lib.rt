@@ -4,8 +4,11 @@
 mod database_name;
 mod databases;
 mod fault;
+mod id_pages;
 pub mod laws;
 mod order;
+mod page;
+mod pages;
 mod plain;
 mod plain_store;
 mod replay;
@@ -16,6 +19,7 @@ mod write;
 
 pub use database_name::{DbName, NameFault};
 pub use fault::StoreFault;
+pub use page::{IdRange, IdRow, PageById, PageBySeq, SeqRange, SeqRow};
 pub use plain_store::PlainStore;
 pub use store::Store;
 pub use write::Write;

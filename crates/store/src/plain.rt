@@ -19,3 +19,13 @@ pub(crate) struct PlainDatabase {
 
 /// The databases of a plain store, each with its name.
 pub(crate) type Databases = Vec<(DbName, PlainDatabase)>;
+
+/// A document as the writes made it.
+#[derive(Drop)]
+pub(crate) struct PlainDocument {
+    pub(crate) sequence: u64,
+    pub(crate) history: History,
+}
+
+/// The documents of a database, in the order of their ids.
+pub(crate) type Documents = Vec<(DocId, PlainDocument)>;

@@ -5,6 +5,9 @@ ghost use Rattle.store.specs.Plain.{contents_of};
 use crate::database_name::DbName;
 use crate::databases::{add, append, database_of, names_of, place_of, remove, secure};
 use crate::fault::StoreFault;
+use crate::id_pages::page_by_id;
+use crate::page::{IdRange, PageById, PageBySeq, SeqRange};
+use crate::pages::page_by_seq;
 use crate::plain::Databases;
 use crate::replay::history_of;
 use crate::store::Store;
@@ -87,6 +90,22 @@ impl Store for PlainStore {
         let alloc = *self.databases.allocator();
         match database_of(&self.databases, name) {
             Some(database) => Ok(history_of(alloc, &database.writes, id)?),
+            None => Err(StoreFault::NoDatabase),
+        }
+    }
+
+    fn page_by_id(&mut self, name: &DbName, range: &IdRange) -> Result<PageById, StoreFault> {
+        let alloc = *self.databases.allocator();
+        match database_of(&self.databases, name) {
+            Some(database) => Ok(page_by_id(alloc, &database.writes, range)?),
+            None => Err(StoreFault::NoDatabase),
+        }
+    }
+
+    fn page_by_seq(&mut self, name: &DbName, range: &SeqRange) -> Result<PageBySeq, StoreFault> {
+        let alloc = *self.databases.allocator();
+        match database_of(&self.databases, name) {
+            Some(database) => Ok(page_by_seq(alloc, &database.writes, range)?),
             None => Err(StoreFault::NoDatabase),
         }
     }

@@ -3,10 +3,13 @@ ghost use Rattle.std.specs.FinMap as map;
 ghost use Rattle.store.specs.Causes.{IsCaused};
 ghost use Rattle.store.specs.Contents.{Contents, AreAcceptable, IfThere, new_database, with_security};
 ghost use Rattle.store.specs.Database.{history_at, with_all};
+ghost use Rattle.store.specs.Pages.{page_by_id as page_by_id_lem, page_by_sequence};
+ghost use Rattle.store.specs.Paging.{IsBounded, id_page_of, sequence_page_of};
 ghost use Rattle.store.specs.Writing.{writings};
 
 use crate::database_name::DbName;
 use crate::fault::StoreFault;
+use crate::page::{IdRange, PageById, PageBySeq, SeqRange};
 use crate::write::Write;
 use policy::Security;
 use tree::{DocId, History};
@@ -86,6 +89,30 @@ pub trait Store {
     /// there is no database of this name.
     fn history(&mut self, name: &DbName, id: &DocId) -> Result<History, StoreFault>
         ensures ok { is_honest self.new → IfOk result (λ history. option_map (λ db. history_at db id.now) (map.get (contents self.old) name.now) ≡ Some history) }
+        ensures missing { is_honest self.new → result ≡ Err StoreFault.NoDatabase → map.get (contents self.old) name.now ≡ None }
+        ensures same { is_honest self.new → contents self.new ≡ contents self.old }
+        ensures others { result ≢ Err StoreFault.Exists }
+        ensures caused { IfErr result (λ fault. IsCaused (fault_count self.old) (fault_count self.new) (is_damaged self.old) ⊥ fault) }
+        ensures kept { is_honest self.new → (is_damaged self.new → is_damaged self.old) × ((n : ℕ) → lacks_room self.new n → lacks_room self.old n) }
+        ensures onward { (fault_count self.old ≤ fault_count self.new) × (is_honest self.new → is_honest self.old) };
+
+    /// The documents of a database whose winner is not deleted, by id and cut by a range, with their
+    /// counts. `NoDatabase` comes exactly where there is none of this name.
+    fn page_by_id(&mut self, name: &DbName, range: &IdRange) -> Result<PageById, StoreFault>
+        ensures ok { is_honest self.new → IfOk result (λ page. option_map (λ db. page_by_id_lem range.now db) (map.get (contents self.old) name.now) ≡ Some (id_page_of page)) }
+        ensures missing { is_honest self.new → result ≡ Err StoreFault.NoDatabase → map.get (contents self.old) name.now ≡ None }
+        ensures same { is_honest self.new → contents self.new ≡ contents self.old }
+        ensures others { result ≢ Err StoreFault.Exists }
+        ensures caused { IfErr result (λ fault. IsCaused (fault_count self.old) (fault_count self.new) (is_damaged self.old) ⊥ fault) }
+        ensures kept { is_honest self.new → (is_damaged self.new → is_damaged self.old) × ((n : ℕ) → lacks_room self.new n → lacks_room self.old n) }
+        ensures onward { (fault_count self.old ≤ fault_count self.new) × (is_honest self.new → is_honest self.old) };
+
+    /// The documents of a database, each once at the sequence of its latest write, ascending and cut
+    /// by a range, with the database's counts. `NoDatabase` comes exactly where there is none of this
+    /// name.
+    fn page_by_seq(&mut self, name: &DbName, range: &SeqRange) -> Result<PageBySeq, StoreFault>
+        ensures ok { is_honest self.new → IfOk result (λ page. option_map (λ db. page_by_sequence range.now db) (map.get (contents self.old) name.now) ≡ Some (sequence_page_of page)) }
+        ensures bounded { IfOk result IsBounded }
         ensures missing { is_honest self.new → result ≡ Err StoreFault.NoDatabase → map.get (contents self.old) name.now ≡ None }
         ensures same { is_honest self.new → contents self.new ≡ contents self.old }
         ensures others { result ≢ Err StoreFault.Exists }

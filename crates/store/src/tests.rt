@@ -5,7 +5,7 @@ ghost use Rattle.policy.specs.Security.{is_object};
 ghost use Rattle.tree.specs.History.{placement, with_write};
 ghost use Rattle.store.specs.Writing.{writing_of};
 
-use crate::{DbName, NameFault, PlainStore, Store, StoreFault, Write};
+use crate::{DbName, IdRange, NameFault, PlainStore, SeqRange, Store, StoreFault, Write};
 use couch_json::{Json, canon, read};
 use policy::Security;
 use std::alloc::Global;
@@ -192,5 +192,158 @@ fn two_writes_of_one_document_in_one_commit(rt: HostRuntime) -> Result<(), Fail>
         store.history(&db, &DocId::new(alloc, "c")?)?.winner(),
         None
     );
+    Ok(())
+}
+
+/// A deletion, as the end of a path.
+fn deletion(alloc: Global, id: &str, path: &[&str]) -> Result<Write, Fail> {
+    let mut write = write(alloc, id, path, "{}")?;
+    write.deleted = true;
+    Ok(write)
+}
+
+/// Seven writes of four documents, one of them deleted, one with two leaves.
+fn four_documents(alloc: Global, db: &DbName) -> Result<PlainStore, Fail> {
+    let mut store = PlainStore::new(alloc);
+    store.create(db)?;
+    commit_one(&mut store, db, write(alloc, "b", &["1-x"], "{}")?)?;
+    commit_one(&mut store, db, write(alloc, "a", &["1-r"], "{}")?)?;
+    commit_one(&mut store, db, write(alloc, "_design/d", &["1-q"], "{}")?)?;
+    commit_one(&mut store, db, write(alloc, "c", &["1-x"], "{}")?)?;
+    commit_one(&mut store, db, write(alloc, "a", &["2-b", "1-r"], "{}")?)?;
+    commit_one(&mut store, db, write(alloc, "a", &["2-a", "1-r"], "{}")?)?;
+    commit_one(&mut store, db, deletion(alloc, "c", &["2-y", "1-x"])?)?;
+    Ok(store)
+}
+
+#[test]
+fn pages_by_sequence(rt: HostRuntime) -> Result<(), Fail> {
+    let alloc = rt.alloc();
+    let db = DbName::new(alloc, "db")?;
+    let mut store = four_documents(alloc, &db)?;
+    for (since, limit, all_leaves, expected, last_seq) in [
+        (
+            0,
+            None,
+            false,
+            "1 b 1-x, 3 _design/d 1-q, 6 a 2-b, 7 c 2-y deleted, ",
+            7,
+        ),
+        (3, None, true, "6 a 2-b 2-a, 7 c 2-y deleted, ", 7),
+        (3, Some(1), false, "6 a 2-b, ", 6),
+        (0, Some(0), false, "", 0),
+        (7, None, false, "", 7),
+        (9, None, false, "", 7),
+    ] {
+        let range = SeqRange {
+            since,
+            limit,
+            all_leaves,
+        };
+        let page = store.page_by_seq(&db, &range)?;
+        let mut rows = String::new(alloc);
+        for row in &page.rows {
+            rows.push_str(format!(in alloc; "{} {}", row.sequence, row.id.as_str())?.as_str())?;
+            for rev in &row.revs {
+                rows.push_str(format!(in alloc; " {rev}")?.as_str())?;
+            }
+            rows.push_str(if row.deleted { " deleted, " } else { ", " })?;
+        }
+        assert_eq!(rt; rows.as_str(), expected);
+        assert_eq!(rt; page.last_seq, last_seq);
+        assert_eq!(rt; (page.sequence, page.documents, page.deleted), (7, 3, 1));
+    }
+    let absent = DbName::new(alloc, "absent")?;
+    let range = SeqRange {
+        since: 0,
+        limit: None,
+        all_leaves: false,
+    };
+    assert_eq!(rt;
+        store.page_by_seq(&absent, &range).err(),
+        Some(StoreFault::NoDatabase)
+    );
+    Ok(())
+}
+
+fn text(alloc: Global, text: Option<&str>) -> Result<Option<String>, Fail> {
+    match text {
+        Some(text) => Ok(Some(String::from_str(alloc, text)?)),
+        None => Ok(None),
+    }
+}
+
+#[test]
+fn pages_by_id(rt: HostRuntime) -> Result<(), Fail> {
+    let alloc = rt.alloc();
+    let db = DbName::new(alloc, "db")?;
+    let mut store = four_documents(alloc, &db)?;
+    for (start, end, inclusive_end, descending, skip, limit, expected, offset) in [
+        (
+            None,
+            None,
+            true,
+            false,
+            0,
+            None,
+            "_design/d 1-q, a 2-b, b 1-x, ",
+            0,
+        ),
+        (
+            None,
+            None,
+            true,
+            true,
+            0,
+            None,
+            "b 1-x, a 2-b, _design/d 1-q, ",
+            0,
+        ),
+        (Some("a"), None, true, false, 0, None, "a 2-b, b 1-x, ", 1),
+        (
+            Some("a"),
+            None,
+            true,
+            true,
+            0,
+            None,
+            "a 2-b, _design/d 1-q, ",
+            1,
+        ),
+        (
+            None,
+            Some("a"),
+            true,
+            false,
+            0,
+            None,
+            "_design/d 1-q, a 2-b, ",
+            0,
+        ),
+        (None, Some("a"), false, false, 0, None, "_design/d 1-q, ", 0),
+        (None, Some("a"), false, true, 0, None, "b 1-x, ", 0),
+        (Some("aa"), Some("c"), true, false, 0, None, "b 1-x, ", 2),
+        (Some("b"), Some("a"), true, false, 0, None, "", 2),
+        (None, None, true, false, 1, Some(1), "a 2-b, ", 1),
+        (Some("a"), None, true, false, 9, None, "", 3),
+        (None, None, true, false, 0, Some(0), "", 0),
+    ] {
+        let range = IdRange {
+            start: text(alloc, start)?,
+            end: text(alloc, end)?,
+            inclusive_end,
+            descending,
+            skip,
+            limit,
+        };
+        let page = store.page_by_id(&db, &range)?;
+        let mut rows = String::new(alloc);
+        for row in &page.rows {
+            let shown = format!(in alloc; "{} {}, ", row.id.as_str(), row.rev)?;
+            rows.push_str(shown.as_str())?;
+        }
+        assert_eq!(rt; rows.as_str(), expected);
+        assert_eq!(rt; (page.offset, page.total), (offset, 3));
+    }
     Ok(())
 }

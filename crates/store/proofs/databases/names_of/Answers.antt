@@ -1,4 +1,5 @@
-use Rattle.std.proofs.Common.{◌≡◌, ◌<◌, ◌+◌, ◌-◌, [], ◌∷◌, ◌++◌, length, map as list_map, take, nat_cmp, sym, ap, ◌∙◌, arith, rules}
+use Rattle.std.specs.Prelude.{⊤}
+use Rattle.std.proofs.Common.{◌≡◌, ℕ, List, ◌<◌, ◌+◌, ◌-◌, [], ◌∷◌, ◌++◌, length, map as list_map, take, nat_cmp, sym, ap, ◌∙◌, arith, rules}
 use Rattle.std.proofs.lemmas.List.{take_more}
 use Rattle.std.specs.Cmp.Lexicographic.{slice_cmp}
 use Rattle.std.specs.FinMap.{put}
@@ -17,7 +18,7 @@ loop-at-preserved c =
     let back : c.loop-at.at - 1 + 1 ≡ c.loop-at.at = omega arith in
     let R = slice_cmp nat_cmp in
     let pushed = take_more es before e within ∙ ap (λ f. take before es ++ f ∷ []) (sym c.index.ensures) in
-    let here : put (slice_cmp nat_cmp) e.0 tt among ≡ c.put.new.entries.items = ap (λ n. put (slice_cmp nat_cmp) n tt among) (sym c.in_ok-copy.ensures) ∙ sym c.in_ok-put.ensures.ok in
+    let here : put (slice_cmp nat_cmp) e.0 tt among ≡ c.put.new.entries.items = ap (λ n. put (slice_cmp nat_cmp) n tt among) (sym c.in_ok-copy.ensures) ∙ sym {A = List (List ℕ × ⊤)} c.in_ok-put.ensures.ok in
     ap (λ ns. keys_put R (take before es) ns) (sym here) ∙ sym (keys_put-push R (take before es) e among)
     ∙ ap (λ f. keys_put R f among) (sym pushed ∙ ap (λ n. take n es) back) ∙ c.loop-at.invariant
 

@@ -1,0 +1,155 @@
+-- The rows of a plain store beside those of its contents.
+use Rattle.std.proofs.Common.{◌≡◌, ℕ, suc, ◌+◌, List, [], ◌∷◌, ◌++◌, length, map, filter, min, drop, nat_lt, Bool, true, false, cond, Ordering, Option, Some, None, option_map, nat_cmp, refl, sym, ap, ap₂, ◌∙◌, arith}
+use Rattle.std.proofs.lemmas.Bool.Decides.{nat_tests}
+use Rattle.std.proofs.lemmas.Cmp.{nat_list_cmp_total}
+use Rattle.std.proofs.lemmas.List.{drop_min, map-append, take-map}
+use Rattle.std.specs.declared.cmp.Ordering.TheVariants.{Less, Equal, Greater}
+use Rattle.std.specs.Ordering.{eq_by_cmp, ord_min}
+use Rattle.std.specs.Cmp.Lexicographic.{slice_cmp}
+use Rattle.std.specs.FinMap as finite
+use Rattle.std.specs.FinMap.{find, put}
+use Rattle.std.specs.FinMap.Entries.{by_order}
+use Rattle.tree.specs.History.{with_write}
+use Rattle.store.specs.Database.{Database, Document, DocumentWrite, history_at, history_in, with_one, with_all, empty_database}
+use Rattle.std.specs.List.{count_by}
+use Rattle.store.specs.Pages.{gone_count, live_count, id_page, is_before_start, live_rows, rows_within, page_by_id, SequenceRow, in_sequence, last_sequence, limited, page_by_sequence, page_with, put_in_sequence, rows_after, rows_of}
+use Rattle.store.specs.Paging.{sequence_row_of, sequence_rows}
+use Rattle.store.specs.Plain.{content, gathered, gathered_after, with_write_at}
+use Rattle.store.specs.Writing.{writings}
+use Rattle.store.specs.declared.page.IdRange.{IdRange}
+use Rattle.store.specs.declared.page.IdRow.{IdRow}
+use Rattle.store.specs.declared.page.SeqRange.{SeqRange}
+use Rattle.store.specs.declared.page.SeqRow.{SeqRow}
+use Rattle.store.specs.declared.plain.PlainDatabase.{PlainDatabase}
+use Rattle.store.specs.declared.plain.PlainDocument.{PlainDocument}
+use Rattle.store.specs.declared.write.Write.{Write}
+
+-- ---- entries whose values are seen as others
+
+abbrev pub seen : {K X Y : Type 0} → (X → Y) → List (K × X) → List (K × Y)
+seen f es = map (λ e. (e.0, f e.1)) es
+
+put_by-seen : {K X Y : Type 0} (f : X → Y) (r : Ordering) (k : K) (v : X) (e : K × X) (es put_later : List (K × X)) (put_seen : List (K × Y)) → seen f put_later ≡ put_seen
+    → seen f (by_order r ((k, v) ∷ e ∷ es) ((e.0, v) ∷ es) (e ∷ put_later)) ≡ by_order r ((k, f v) ∷ (e.0, f e.1) ∷ seen f es) ((e.0, f v) ∷ seen f es) ((e.0, f e.1) ∷ put_seen)
+put_by-seen f Less k v e es put_later put_seen h = refl
+put_by-seen f Equal k v e es put_later put_seen h = refl
+put_by-seen f Greater k v e es put_later put_seen h = ap (λ r. (e.0, f e.1) ∷ r) h
+
+pub put-seen : {K X Y : Type 0} (R : K → K → Ordering) (f : X → Y) (k : K) (v : X) (es : List (K × X)) → seen f (put R k v es) ≡ put R k (f v) (seen f es)
+put-seen R f k v [] = refl
+put-seen R f k v (e ∷ es) = put_by-seen f (R k e.0) k v e es (put R k v es) (put R k (f v) (seen f es)) (put-seen R f k v es)
+
+found-seen : {X Y : Type 0} (f : X → Y) (b : Bool) (v : X) (o : Option X) (p : Option Y) → p ≡ option_map f o → cond b (Some (f v)) p ≡ option_map f (cond b (Some v) o)
+found-seen f true v o p h = refl
+found-seen f false v o p h = h
+
+pub find-seen : {K X Y : Type 0} (R : K → K → Ordering) (f : X → Y) (q : K) (es : List (K × X)) → find R q (seen f es) ≡ option_map f (find R q es)
+find-seen R f q [] = refl
+find-seen R f q (e ∷ es) = found-seen f (eq_by_cmp R q e.0) e.1 (find R q es) (find R q (seen f es)) (find-seen R f q es)
+
+-- ---- the documents gathered from the writes are those of the content
+
+abbrev pub document : PlainDocument → Document
+document d = record { sequence = d.sequence; history = d.history }
+
+gathered_entry : (db : Database) (w : DocumentWrite) → finite.entries (with_one db w).documents ≡ with_write_at (db.length + 1) (finite.entries db.documents) w
+gathered_entry db w =
+    finite.entries-insert nat_list_cmp_total db.documents w.id (record { sequence = db.length + 1; history = with_write (history_at db w.id) w.write })
+    ∙ ap (λ o. put (slice_cmp nat_cmp) w.id (record { sequence = db.length + 1; history = with_write (history_in o) w.write }) (finite.entries db.documents)) (finite.get-entries db.documents w.id)
+
+entries-with_all : (ws : List DocumentWrite) (db : Database) → finite.entries (with_all db ws).documents ≡ gathered_after db.length (finite.entries db.documents) ws
+entries-with_all [] db = refl
+entries-with_all (w ∷ ws) db = entries-with_all ws (with_one db w) ∙ ap (λ es. gathered_after (db.length + 1) es ws) (gathered_entry db w)
+
+length-with_all : (ws : List DocumentWrite) (db : Database) → (with_all db ws).length ≡ db.length + length ws
+length-with_all [] db = omega arith
+length-with_all (w ∷ ws) db = let more = length-with_all ws (with_one db w) in omega arith
+
+length-writings : (ws : List Write) → length (writings ws) ≡ length ws
+length-writings [] = refl
+length-writings (w ∷ ws) = ap suc (length-writings ws)
+
+pub no_length : {A : Type 0} (xs : List A) → length xs ≡ 0 → xs ≡ []
+no_length [] e = refl
+no_length (x ∷ xs) e = absurd (omega arith)
+
+pub entries-content : (d : PlainDatabase) → finite.entries (content d).documents ≡ gathered_after 0 [] (writings d.writes.items)
+entries-content d =
+    let ws = writings d.writes.items in
+    let none : finite.entries (empty_database d.security).documents ≡ [] = no_length _ (sym (finite.len-entries (empty_database d.security).documents) ∙ finite.len-empty (slice_cmp nat_cmp) Document) in
+    entries-with_all ws (empty_database d.security) ∙ ap (λ es. gathered_after 0 es ws) none
+
+pub page_by_sequence-content : (range : SeqRange) (d : PlainDatabase) → page_by_sequence range (content d) ≡ page_with range (length d.writes.items) (gathered_after 0 [] (writings d.writes.items))
+page_by_sequence-content range d =
+    let ws = writings d.writes.items in
+    let count : (content d).length ≡ length d.writes.items = length-with_all ws (empty_database d.security) ∙ omega (arith, length-writings d.writes.items) in
+    ap₂ (page_with range) count (entries-content d)
+
+pub page_by_id-content : (range : IdRange) (d : PlainDatabase) → page_by_id range (content d) ≡ id_page range (live_rows (gathered_after 0 [] (writings d.writes.items)))
+page_by_id-content range d = ap (λ es. id_page range (live_rows es)) (entries-content d)
+
+-- ---- rows in the order of their sequences
+
+abbrev pub keyed : List (ℕ × SeqRow) → List (ℕ × SequenceRow)
+keyed es = seen sequence_row_of es
+
+pub put_in_sequence-push : (rs : List SequenceRow) (r : SequenceRow) (among : List (ℕ × SequenceRow)) → put_in_sequence (rs ++ r ∷ []) among ≡ put_in_sequence rs (put nat_cmp r.sequence r among)
+put_in_sequence-push [] r among = refl
+put_in_sequence-push (q ∷ rs) r among = ap (put nat_cmp q.sequence q) (put_in_sequence-push rs r among)
+
+-- the last of the rows that are left is put among the others
+pub one_put : (rs left : List SeqRow) (r : SeqRow) (among after : List (ℕ × SeqRow)) → rs ≡ left ++ r ∷ [] → after ≡ put nat_cmp r.sequence r among
+    → put_in_sequence (sequence_rows left) (keyed after) ≡ put_in_sequence (sequence_rows rs) (keyed among)
+one_put rs left r among after is made =
+    ap (λ es. put_in_sequence (sequence_rows left) (keyed es)) made
+    ∙ ap (put_in_sequence (sequence_rows left)) (put-seen nat_cmp sequence_row_of r.sequence r among)
+    ∙ sym (put_in_sequence-push (sequence_rows left) (sequence_row_of r) (keyed among))
+    ∙ ap (λ qs. put_in_sequence qs (keyed among)) (sym (map-append sequence_row_of left (r ∷ [])))
+    ∙ ap (λ qs. put_in_sequence (sequence_rows qs) (keyed among)) (sym is)
+
+pub seconds-keyed : (es : List (ℕ × SeqRow)) → map (λ e. e.1) (keyed es) ≡ sequence_rows (map (λ e. e.1) es)
+seconds-keyed [] = refl
+seconds-keyed (e ∷ es) = ap (λ r. sequence_row_of e.1 ∷ r) (seconds-keyed es)
+
+-- ---- rows after a sequence
+
+kept : (b : Bool) (r : SeqRow) (rs : List SeqRow) (qs : List SequenceRow) → sequence_rows rs ≡ qs → sequence_rows (cond b (r ∷ rs) rs) ≡ cond b (sequence_row_of r ∷ qs) qs
+kept true r rs qs h = ap (λ ps. sequence_row_of r ∷ ps) h
+kept false r rs qs h = h
+
+pub sequence_rows-filter : (since : ℕ) (rs : List SeqRow) → sequence_rows (filter (λ r. nat_lt since r.sequence) rs) ≡ filter (λ r. nat_lt since r.sequence) (sequence_rows rs)
+sequence_rows-filter since [] = refl
+sequence_rows-filter since (r ∷ rs) = kept (nat_lt since r.sequence) r (filter (λ q. nat_lt since q.sequence) rs) _ (sequence_rows-filter since rs)
+
+-- ---- the page
+
+pub length-gathered : (es : List (List ℕ × PlainDocument)) → length es ≡ length (gathered es)
+length-gathered [] = refl
+length-gathered (e ∷ es) = ap suc (length-gathered es)
+
+pub page_made : (range : SeqRange) (n last documents deleted : ℕ) (all : List SeqRow) (cut : List SequenceRow) (es : List (List ℕ × Document))
+    → sequence_rows all ≡ rows_of range.all_leaves es → cut ≡ limited range.limit (filter (λ r. nat_lt range.since r.sequence) (in_sequence (sequence_rows all)))
+    → last ≡ last_sequence (min range.since n) cut → documents ≡ live_count es → deleted ≡ gone_count es
+    → record { rows = cut; last = last; sequence = n; documents = documents; deleted = deleted } ≡ page_with range n es
+page_made range n last documents deleted all cut es is made at live gone =
+    let rows = made ∙ ap (rows_after range) is in
+    let end = at ∙ ap (last_sequence (min range.since n)) rows in
+    λ i. record { rows = rows i; last = end i; sequence = n; documents = live i; deleted = gone i }
+
+pub smaller : (a b : ℕ) → ord_min nat_cmp a b ≡ min a b
+smaller a b = grind (arith, nat_tests)
+
+pub id_page_made : (range : IdRange) (before skipped total : ℕ) (all within cut rs : List IdRow) → all ≡ rs → before ≡ count_by (λ r. is_before_start range r.id) all
+    → within ≡ rows_within range all → skipped ≡ min range.skip (length within) → cut ≡ limited range.limit (drop skipped within) → total ≡ length all
+    → record { offset = before + skipped; rows = cut; total = total } ≡ id_page range rs
+id_page_made range before skipped total all within cut rs is count made least at sum =
+    let counted = count ∙ ap (count_by (λ r. is_before_start range r.id)) is in
+    let rows = made ∙ ap (rows_within range) is in
+    let left = least ∙ ap (λ ws. min range.skip (length ws)) rows in
+    let page = at ∙ ap (λ n. limited range.limit (drop n within)) least ∙ ap (limited range.limit) (drop_min range.skip within) ∙ ap (λ ws. limited range.limit (drop range.skip ws)) rows in
+    let summed = sum ∙ ap length is in
+    λ i. record { offset = counted i + left i; rows = page i; total = summed i }
+
+pub sequence_rows-limited : (limit : Option ℕ) (rs : List SeqRow) → sequence_rows (limited limit rs) ≡ limited limit (sequence_rows rs)
+sequence_rows-limited None rs = refl
+sequence_rows-limited (Some n) rs = sym (take-map sequence_row_of n rs)

@@ -1,0 +1,82 @@
+use tree::{DocId, Rev};
+
+/// Which rows of a listing by sequence are wanted.
+#[derive(Clone, Copy, Debug)]
+pub struct SeqRange {
+    /// Rows after this sequence; 0 for all.
+    pub since: u64,
+    /// At most so many rows; `None` for all.
+    pub limit: Option<u64>,
+    /// All leaves of each document, best first; else its winner alone.
+    pub all_leaves: bool,
+}
+
+/// A row of a listing by sequence: a document at the sequence of its latest write.
+#[derive(Drop)]
+pub struct SeqRow {
+    /// The sequence, counted from 1.
+    pub sequence: u64,
+    /// The document.
+    pub id: DocId,
+    /// All its leaves, best first, or its winner alone.
+    pub revs: Vec<Rev>,
+    /// Whether its winner is deleted.
+    pub deleted: bool,
+}
+
+/// A part of the listing of a database by sequence, and the database's counts.
+///
+/// See the CouchDB manual, api/database/changes and api/database/common.
+#[derive(Drop)]
+pub struct PageBySeq {
+    /// The rows, ascending.
+    pub rows: Vec<SeqRow>,
+    /// The sequence of the last of these rows; without rows the smaller of `since` and the
+    /// database's sequence.
+    pub last_seq: u64,
+    /// The database's sequence: how many writes it accepted.
+    pub sequence: u64,
+    /// How many documents have a winner that is not deleted, design documents among them.
+    pub documents: u64,
+    /// How many documents have a winner that is deleted.
+    pub deleted: u64,
+}
+
+/// Which rows of a listing by id are wanted.
+#[derive(Debug, Drop)]
+pub struct IdRange {
+    /// Where the range starts in the direction of the listing; `None` for the first row.
+    pub start: Option<String>,
+    /// Where it ends; `None` for the last row.
+    pub end: Option<String>,
+    /// Whether a row whose id is `end` belongs to it.
+    pub inclusive_end: bool,
+    /// Whether the listing goes down.
+    pub descending: bool,
+    /// How many rows of the range are left out, from its start.
+    pub skip: u64,
+    /// At most so many rows; `None` for all.
+    pub limit: Option<u64>,
+}
+
+/// A row of a listing by id: a document whose winner is not deleted.
+#[derive(Drop)]
+pub struct IdRow {
+    /// The document.
+    pub id: DocId,
+    /// Its winner.
+    pub rev: Rev,
+}
+
+/// A part of the listing of a database by id, in the order of bytes, with its counts.
+///
+/// See the CouchDB manual, api/database/bulk-api.
+#[derive(Drop)]
+pub struct PageById {
+    /// How many rows come before the start of the range, and how many of the range are left out.
+    pub offset: u64,
+    /// The rows, in the direction asked for.
+    pub rows: Vec<IdRow>,
+    /// How many rows the whole listing has: documents whose winner is not deleted.
+    pub total: u64,
+}

@@ -1,0 +1,175 @@
+//! The pages of a plain store, made from its writes.
+
+ghost use Rattle.std.specs.Prelude.{◌≡◌, ◌≤◌, [], IfOk, OnOk, filter, length, map as list_map, nat_lt};
+ghost use Rattle.std.specs.FinMap.{find};
+ghost use Rattle.std.specs.Ordering.{nat_cmp};
+ghost use Rattle.std.specs.Cmp.Lexicographic.{slice_cmp};
+ghost use Rattle.store.specs.Database.{history_in as history_in_lem};
+ghost use Rattle.store.specs.Pages.{gone_count, in_sequence as in_sequence_lem, is_gone as is_gone_lem, last_sequence as last_sequence_lem, limited as limited_lem, page_with, row_of as row_of_lem, rows_of as rows_of_lem, shown_revs as shown_revs_lem};
+ghost use Rattle.store.specs.Paging.{IsBounded, sequence_page_of, sequence_row_of, sequence_rows};
+ghost use Rattle.store.specs.Plain.{gathered, gathered_after, stored, with_write_at};
+ghost use Rattle.store.specs.Writing.{writing_of, writings};
+
+use crate::order::{limited, put, value_at};
+use crate::page::{PageBySeq, SeqRange, SeqRow};
+use crate::plain::{Documents, PlainDocument};
+use crate::write::Write;
+use couch_json::Got;
+use std::alloc::Global;
+use std::cmp::min;
+use tree::{DocId, History, Rev};
+
+/// The rows that the writes made, in the order of their sequences, cut by the range.
+pub(crate) fn page_by_seq(alloc: Global, writes: &Vec<Write>, range: &SeqRange) -> Got<PageBySeq>
+    ensures page { IfOk result (λ page. sequence_page_of page ≡ page_with range.now (length writes.now.items) (gathered_after 0 [] (writings writes.now.items))) }
+    ensures bounded { IfOk result IsBounded }
+{
+    let documents = documents_of(alloc, writes)?;
+    let rows = rows_of(alloc, &documents, range.all_leaves)?;
+    let deleted = count_deleted(&documents);
+    let documents = documents.len() as u64 - deleted;
+    let sequence = writes.len() as u64;
+    let rows = rows_after(in_sequence(alloc, rows)?, range);
+    let last_seq = last_sequence(min(range.since, sequence), &rows);
+    Ok(PageBySeq {
+        rows,
+        last_seq,
+        sequence,
+        documents,
+        deleted,
+    })
+}
+
+/// The documents that the writes made, in the order of their ids.
+pub(crate) fn documents_of(alloc: Global, writes: &Vec<Write>) -> Got<Documents>
+    ensures { IfOk result (λ documents. gathered documents.items ≡ gathered_after 0 [] (writings writes.now.items)) }
+{
+    let mut documents = Vec::new(alloc);
+    for (at, write) in writes.iter().enumerate() {
+        take_in(alloc, &mut documents, at as u64 + 1, write)?;
+    }
+    Ok(documents)
+}
+
+/// Takes in the write that has this sequence.
+fn take_in(alloc: Global, documents: &mut Documents, sequence: u64, write: &Write) -> Got<()>
+    ensures ok { OnOk result (gathered documents.new.items ≡ with_write_at sequence (gathered documents.old.items) (writing_of write.now)) }
+{
+    let mut history = history_in(alloc, documents, &write.id)?;
+    history.put(&write.path, write.deleted, &write.body)?;
+    let id = write.id.copy(alloc)?;
+    put(documents, id, PlainDocument { sequence, history })?;
+    Ok(())
+}
+
+fn history_in(alloc: Global, documents: &Documents, id: &DocId) -> Got<History>
+    ensures { IfOk result (λ history. history ≡ history_in_lem (find (slice_cmp nat_cmp) id.now (gathered documents.now.items))) }
+{
+    match value_at(documents, id) {
+        Some(document) => Ok(document.history.copy()?),
+        None => Ok(History::new(alloc)),
+    }
+}
+
+/// A row for each document.
+fn rows_of(alloc: Global, documents: &Documents, all_leaves: bool) -> Got<Vec<SeqRow>>
+    ensures { IfOk result (λ rows. sequence_rows rows.items ≡ rows_of_lem all_leaves (gathered documents.now.items)) }
+{
+    let mut rows = Vec::with_capacity(alloc, documents.len())?;
+    for document in documents {
+        rows.push(row_of(alloc, document, all_leaves)?)?;
+    }
+    Ok(rows)
+}
+
+fn row_of(alloc: Global, document: &(DocId, PlainDocument), all_leaves: bool) -> Got<SeqRow>
+    ensures { IfOk result (λ row. sequence_row_of row ≡ row_of_lem all_leaves (stored document.now)) }
+{
+    let (id, document) = document;
+    let id = id.copy(alloc)?;
+    let revs = shown_revs(alloc, &document.history, all_leaves)?;
+    Ok(SeqRow {
+        sequence: document.sequence,
+        id,
+        revs,
+        deleted: is_gone(&document.history),
+    })
+}
+
+/// All leaves, best first, or the winner alone.
+fn shown_revs(alloc: Global, history: &History, all_leaves: bool) -> Got<Vec<Rev>>
+    ensures { IfOk result (λ revs. revs.items ≡ shown_revs_lem all_leaves history.now) }
+{
+    if all_leaves {
+        return history.leaves();
+    }
+    let mut revs = Vec::new(alloc);
+    if let Some(winner) = history.winner() {
+        revs.push(*winner)?;
+    }
+    Ok(revs)
+}
+
+/// Whether the winner is deleted.
+fn is_gone(history: &History) -> bool
+    ensures { result ≡ is_gone_lem history.now }
+{
+    let Some(winner) = history.winner() else {
+        return false;
+    };
+    match history.body(winner) {
+        Some((deleted, _body)) => deleted,
+        None => false,
+    }
+}
+
+/// How many documents have a winner that is deleted.
+fn count_deleted(documents: &Documents) -> u64
+    ensures count { result ≡ gone_count (gathered documents.now.items) }
+    ensures within { result ≤ length documents.now.items }
+{
+    let mut count = 0;
+    for document in documents {
+        if is_gone(&document.1.history) {
+            count += 1;
+        }
+    }
+    count
+}
+
+/// The same rows, ascending by sequence.
+fn in_sequence(alloc: Global, rows: Vec<SeqRow>) -> Got<Vec<SeqRow>>
+    ensures { IfOk result (λ ordered. sequence_rows ordered.items ≡ in_sequence_lem (sequence_rows rows.items)) }
+{
+    let mut rows = rows;
+    let mut ordered = Vec::new(alloc);
+    while let Some(row) = rows.pop() {
+        put(&mut ordered, row.sequence, row)?;
+    }
+    Ok(second_parts(alloc, ordered)?)
+}
+
+fn second_parts(alloc: Global, ordered: Vec<(u64, SeqRow)>) -> Got<Vec<SeqRow>>
+    ensures { IfOk result (λ rows. rows.items ≡ list_map (λ e. e.1) ordered.items) }
+{
+    Ok(ordered.into_iter().map(|entry| entry.1).collect(alloc)?)
+}
+
+/// The rows after a sequence, up to the limit.
+fn rows_after(rows: Vec<SeqRow>, range: &SeqRange) -> Vec<SeqRow>
+    ensures { sequence_rows result.items ≡ limited_lem range.now.limit (filter (λ r. nat_lt range.now.since r.sequence) (sequence_rows rows.items)) }
+{
+    let mut rows = rows;
+    rows.retain(|row| range.since < row.sequence);
+    limited(rows, range.limit)
+}
+
+fn last_sequence(otherwise: u64, rows: &Vec<SeqRow>) -> u64
+    ensures { result ≡ last_sequence_lem otherwise (sequence_rows rows.now.items) }
+{
+    let mut last = otherwise;
+    for row in rows {
+        last = row.sequence;
+    }
+    last
+}
