@@ -10,6 +10,7 @@ use Rattle.policy.specs.Verdict.{verdict}
 use Rattle.policy.specs.declared.action.Action.{Action}
 use Rattle.policy.specs.declared.action.Action.TheVariants.{Administer, Read, WriteSecurity, WriteDocument}
 use Rattle.policy.specs.declared.rule.Rule.{Rule}
+use Rattle.read.specs.Information.{information}
 use Rattle.read.specs.Shown.{document_in}
 use Rattle.read.specs.declared.fault.ReadFault.{ReadFault}
 use Rattle.read.specs.declared.fault.ReadFault.TheVariants as read
@@ -189,6 +190,15 @@ database_created caller databases m =
     next (there_or DatabaseName (database_name_in m.path)) (λ name.
     next (administering caller) (λ _. created databases name m))
 
+abbrev pub described : Contents → List ℕ → Option Database → Result Outcome Refusal
+described databases name None = Err NoDatabase
+described databases name (Some db) = Ok (record { status = 200; value = information name db; after = databases })
+
+-- what a database says of itself
+abbrev pub database_read : Identity → Contents → Message → Result Outcome Refusal
+database_read caller databases m =
+    next (entered Read caller databases m.path) (λ name. unasked m (described databases name (get databases name)))
+
 -- the database of this name with all that it holds, gone
 abbrev pub removed : Contents → List ℕ → Message → Result Outcome Refusal
 removed databases name m =
@@ -206,6 +216,7 @@ database_removed caller databases m =
 abbrev pub served : Page → Option RequestMethod → Identity → Contents → Message → Result Outcome Refusal
 served Welcome (Some Get) caller databases m = welcomed databases m
 served AllDatabases (Some Get) caller databases m = databases_listed caller databases m
+served DatabasePage (Some Get) caller databases m = database_read caller databases m
 served DatabasePage (Some Put) caller databases m = database_created caller databases m
 served DatabasePage (Some Delete) caller databases m = database_removed caller databases m
 served Security (Some Get) caller databases m = security_read caller databases m

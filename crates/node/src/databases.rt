@@ -5,12 +5,13 @@ ghost use Rattle.std.specs.FinMap as map;
 ghost use Rattle.couch_http.specs.Message.{message_of};
 ghost use Rattle.couch_json.specs.Value.{array, text};
 ghost use Rattle.couch_json.specs.View.{items_of, view};
-ghost use Rattle.node.specs.Answer.{administering, created, database_created, database_removed, databases_listed, done, removed};
+ghost use Rattle.node.specs.Answer.{administering, created, database_created, database_read, database_removed, databases_listed, described, done, removed};
 ghost use Rattle.node.specs.Answered.{MayChange, outcome_of};
 ghost use Rattle.node.specs.Causes.{IsCaused};
 
 use crate::answered::{Answered, Change};
 use crate::asking::{denied, without_parameters};
+use crate::entering::entered;
 use crate::path::database_name;
 use crate::refusal::Refusal;
 use crate::stop::Stop;
@@ -18,6 +19,7 @@ use auth::Caller;
 use couch_http::Request;
 use couch_json::{Got, Json, put_member};
 use policy::{Action, Security, refusal};
+use read::{ReadFault, info};
 use std::alloc::Global;
 use std::collections::BTreeMap;
 use store::{DbName, Store, StoreFault};
@@ -48,6 +50,54 @@ pub(crate) fn list_databases<S: Store>(
         value,
         change: None,
     })
+}
+
+/// Reads what a database says of itself.
+pub(crate) fn read_database<S: Store>(
+    alloc: Global,
+    store: &mut S,
+    caller: &Caller,
+    request: &Request,
+) -> Result<Answered, Stop>
+    ensures ok { S.is_honest store.new → IfOk result (λ answered.
+        database_read caller.now (S.contents store.old) (message_of request.now) ≡ Ok (outcome_of (S.contents store.old) answered)) }
+    ensures refused { S.is_honest store.new → (refusal : _) → result ≡ Err (Stop.Refused refusal)
+        → database_read caller.now (S.contents store.old) (message_of request.now) ≡ Err refusal }
+    ensures may { S.is_honest store.new → IfOk result (λ answered. MayChange (S.contents store.old) answered.change) }
+    ensures same { S.is_honest store.new → S.contents store.new ≡ S.contents store.old }
+    ensures caused { S.is_honest store.new → IfErr result (λ stop. IsCaused (S.fault_count store.old) (S.fault_count store.new) (S.is_damaged store.old) ⊥ stop) }
+    ensures kept { S.is_honest store.new → (S.is_damaged store.new → S.is_damaged store.old) × ((n : _) → S.lacks_room store.new n → S.lacks_room store.old n) }
+    ensures onward { (S.fault_count store.old ≤ S.fault_count store.new) × (S.is_honest store.new → S.is_honest store.old) }
+{
+    let name = entered(alloc, store, Action::Read, caller, &request.path)?;
+    without_parameters(request)?;
+    described(alloc, store, &name)
+}
+
+/// What the database of this name says of itself.
+#[tactic(auto, using(crate::proofs::Faults::cause_of))]
+fn described<S: Store>(alloc: Global, store: &mut S, name: &DbName) -> Result<Answered, Stop>
+    ensures ok { S.is_honest store.new → IfOk result (λ answered.
+        described (S.contents store.old) name.now (map.get (S.contents store.old) name.now) ≡ Ok (outcome_of (S.contents store.old) answered)) }
+    ensures refused { S.is_honest store.new → (refusal : _) → result ≡ Err (Stop.Refused refusal)
+        → described (S.contents store.old) name.now (map.get (S.contents store.old) name.now) ≡ Err refusal }
+    ensures may { S.is_honest store.new → IfOk result (λ answered. MayChange (S.contents store.old) answered.change) }
+    ensures same { S.is_honest store.new → S.contents store.new ≡ S.contents store.old }
+    ensures caused { S.is_honest store.new → IfErr result (λ stop. IsCaused (S.fault_count store.old) (S.fault_count store.new) (S.is_damaged store.old) ⊥ stop) }
+    ensures kept { S.is_honest store.new → (S.is_damaged store.new → S.is_damaged store.old) × ((n : _) → S.lacks_room store.new n → S.lacks_room store.old n) }
+    ensures onward { (S.fault_count store.old ≤ S.fault_count store.new) × (S.is_honest store.new → S.is_honest store.old) }
+{
+    match info(alloc, store, name) {
+        Ok(value) => Ok(Answered {
+            status: 200,
+            value,
+            change: None,
+        }),
+        Err(ReadFault::Memory) => Err(Stop::NoRoom),
+        Err(ReadFault::Store(StoreFault::NoDatabase)) => Err(Stop::Refused(Refusal::NoDatabase)),
+        Err(ReadFault::Store(_)) => Err(Stop::Failed),
+        Err(_) => Err(Stop::NoRoom),
+    }
 }
 
 /// Creates a database, but for the change of the store itself.

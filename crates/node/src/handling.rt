@@ -15,7 +15,7 @@ ghost use Rattle.node.specs.Step.{IsDone, IsStep};
 
 use crate::answered::{Answered, Change};
 use crate::asking::caller;
-use crate::databases::{create_database, list_databases, remove_database};
+use crate::databases::{create_database, list_databases, read_database, remove_database};
 use crate::document::{read_document, write_document};
 use crate::method::{RequestMethod, method_of};
 use crate::page::Page;
@@ -78,6 +78,7 @@ fn served<S: Store>(
     match (page, method_of(&request.method)) {
         (Page::Welcome, Some(RequestMethod::Get)) => Ok(welcomed(alloc, request)?),
         (Page::AllDatabases, Some(RequestMethod::Get)) => list_databases(alloc, store, caller, request),
+        (Page::Database, Some(RequestMethod::Get)) => read_database(alloc, store, caller, request),
         (Page::Database, Some(RequestMethod::Put)) => create_database(alloc, store, caller, request),
         (Page::Database, Some(RequestMethod::Delete)) => remove_database(alloc, store, caller, request),
         (Page::Security, Some(RequestMethod::Get)) => read_security(alloc, store, caller, request),
