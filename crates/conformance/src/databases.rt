@@ -12,16 +12,23 @@ bob | PUT /New?x=1 |  | 400 {"error":"illegal_database_name","reason":"name"}
 root | GET /_all_dbs |  | 200 ["closed","db","new"]
 bob | GET /_all_dbs?x=1 |  | 403 {"error":"forbidden","reason":"You are not a server admin.","rule":"server_admin"}
 bob | GET /new/_security |  | 403 {"error":"forbidden","reason":"You are not allowed to access this db.","rule":"db_member"}
+bob | GET /new?x=1 |  | 403 {"error":"forbidden","reason":"You are not allowed to access this db.","rule":"db_member"}
+anybody | GET /new |  | 401 {"error":"unauthorized","reason":"You are not allowed to access this db.","rule":"db_member"}
 root | GET /new/_security |  | 200 {"admins":{"roles":["_admin"]},"members":{"roles":["_admin"]}}
 bob | PUT /new/_security | {} | 403 {"error":"forbidden","reason":"You are not allowed to access this db.","rule":"db_member"}
 root | PUT /new/_security | {"x":1} | 200 {"ok":true}
 bob | GET /new/_security |  | 200 {"x":1}
+bob | GET /new |  | 200 {"db_name":"new","doc_count":0,"doc_del_count":0,"update_seq":0}
 bob | PUT /new/a | {} | 201 {"id":"a","ok":true,"rev":"1-d2422118a02a398f9502ebcbaa7b90bd"}
+bob | GET /new/ |  | 200 {"db_name":"new","doc_count":1,"doc_del_count":0,"update_seq":1}
+bob | GET /new?x=1 |  | 400 {"error":"bad_request","reason":"query"}
 bob | DELETE /new |  | 403 {"error":"forbidden","reason":"You are not a server admin.","rule":"server_admin"}
 bob | DELETE /none |  | 403 {"error":"forbidden","reason":"You are not a server admin.","rule":"server_admin"}
 root | DELETE /none?x=1 |  | 404 {"error":"not_found","reason":"Database does not exist."}
 root | DELETE /new |  | 200 {"ok":true}
 root | GET /new/a |  | 404 {"error":"not_found","reason":"Database does not exist."}
+root | GET /new |  | 404 {"error":"not_found","reason":"Database does not exist."}
+anybody | GET /New |  | 400 {"error":"illegal_database_name","reason":"name"}
 root | PUT /new |  | 201 {"ok":true}
 root | GET /new/a |  | 404 {"error":"not_found","reason":"missing"}
 root | POST /new |  | 405 {"error":"method_not_allowed","reason":"method"}
