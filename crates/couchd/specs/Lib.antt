@@ -1,0 +1,6 @@
+pub mod Words
+pub mod Escapes
+pub mod Script
+pub mod Lines
+pub mod Plan
+pub mod Printed
