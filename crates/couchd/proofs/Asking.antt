@@ -1,7 +1,7 @@
 -- What the words after `lab` ask for, by what clap found.
-use Rattle.std.proofs.Common.{ℕ, ◌≡◌, List, [], ◌∷◌, Option, Some, None, option_map, unwrap_or, codes, ap, refl}
+use Rattle.std.proofs.Common.{◌≡◌, List, [], Some, None, unwrap_or, codes, refl}
 use Rattle.clap.specs.Words.{Row, Text, all_of, first_of}
-use Rattle.couchd.specs.Plan.{Asked, lab_asked, lab_asked_by}
+use Rattle.couchd.specs.Plan.{lab_asked, lab_asked_by}
 
 pub lab_asked_by-none : (rows : List Row) → first_of (codes "secret") rows ≡ None → lab_asked_by rows ≡ None
 lab_asked_by-none rows first = rw first refl

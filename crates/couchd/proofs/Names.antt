@@ -1,7 +1,7 @@
 -- The names of databases are of ASCII bytes, and so are text.
-use Rattle.std.proofs.Common.{ℕ, ◌≡◌, ◌<◌, ◌&&◌, true, false, zero, suc, List, [], ◌∷◌, get_or, arith, length, nat_le}
+use Rattle.std.proofs.Common.{ℕ, ◌≡◌, ◌<◌, true, zero, suc, List, [], ◌∷◌, get_or, arith}
 use Rattle.std.specs.List.{list_all}
-use Rattle.std.specs.Str.{IsAscii, IsUtf8}
+use Rattle.std.specs.Str.{IsUtf8}
 use Rattle.std.proofs.lemmas.Bool.Decides.{nat_tests}
 use Rattle.std.proofs.lemmas.Grind.{common_steps}
 use Rattle.std.proofs.lemmas.Str.{IsUtf8-from_ascii}

@@ -4,3 +4,5 @@ pub mod Script
 pub mod Lines
 pub mod Plan
 pub mod Printed
+pub mod Replies
+pub mod Playing

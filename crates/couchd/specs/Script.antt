@@ -1,6 +1,6 @@
 -- The lines of a script for the laboratory.
 -- This project's own.
-use Rattle.std.specs.Prelude.{ℕ, Bool, ◌&&◌, List, codes, Option, Some, None, option_map, option_and_then, bytes_eq, if◌then◌else◌}
+use Rattle.std.specs.Prelude.{ℕ, ◌&&◌, List, codes, Option, Some, None, option_map, option_and_then, bytes_eq, if◌then◌else◌}
 use Rattle.store.specs.DatabaseName.{is_database_name}
 use Rattle.couchd.specs.Words.{parted, is_word, is_node_name}
 use Rattle.couchd.specs.Escapes.{spelled}

@@ -34,6 +34,10 @@ impl From<NoMemory> for ProgramFault {
 }
 
 impl From<io::Error> for ProgramFault {
+    ghost use Rattle.couchd.specs.Playing.{IsOfNoLine};
+
+    ghost from_gives = { λ _ fault. IsOfNoLine fault };
+
     fn from(error: io::Error) -> ProgramFault {
         if error.kind() == io::ErrorKind::OutOfMemory {
             ProgramFault::Memory
@@ -59,8 +63,13 @@ pub enum LineFault {
 }
 
 impl LineFault {
+    ghost use Rattle.std.specs.Prelude.{◌≡◌};
+    ghost use Rattle.couchd.specs.Playing.{fault_at};
+
     /// The program's fault, where this is that of the line of this number.
-    pub fn at(self, number: u64) -> ProgramFault {
+    pub fn at(self, number: u64) -> ProgramFault
+        ensures { result ≡ fault_at self number }
+    {
         match self {
             LineFault::Line => ProgramFault::Line(number),
             LineFault::File => ProgramFault::File,
@@ -70,24 +79,44 @@ impl LineFault {
 }
 
 impl From<NoMemory> for LineFault {
+    ghost use Rattle.std.specs.Prelude.{◌≡◌};
+    ghost use Rattle.couchd.specs.declared.fault.LineFault.TheVariants.{Memory};
+
+    ghost from_gives = { λ _ fault. fault ≡ Memory };
+
     fn from(_no_memory: NoMemory) -> LineFault {
         LineFault::Memory
     }
 }
 
 impl From<AllocError> for LineFault {
+    ghost use Rattle.std.specs.Prelude.{◌≡◌};
+    ghost use Rattle.couchd.specs.declared.fault.LineFault.TheVariants.{Memory};
+
+    ghost from_gives = { λ _ fault. fault ≡ Memory };
+
     fn from(_error: AllocError) -> LineFault {
         LineFault::Memory
     }
 }
 
 impl<T: Drop> From<AllocFailed<T>> for LineFault {
+    ghost use Rattle.std.specs.Prelude.{◌≡◌};
+    ghost use Rattle.couchd.specs.declared.fault.LineFault.TheVariants.{Memory};
+
+    ghost from_gives = { λ _ fault. fault ≡ Memory };
+
     fn from(_failed: AllocFailed<T>) -> LineFault {
         LineFault::Memory
     }
 }
 
 impl From<io::Error> for LineFault {
+    ghost use Rattle.std.specs.Prelude.{◌≢◌};
+    ghost use Rattle.couchd.specs.declared.fault.LineFault.TheVariants.{Line};
+
+    ghost from_gives = { λ _ fault. fault ≢ Line };
+
     fn from(error: io::Error) -> LineFault {
         if error.kind() == io::ErrorKind::OutOfMemory {
             LineFault::Memory

@@ -1,5 +1,11 @@
 //! Scripts, from the first line to the last.
 
+ghost use Rattle.std.specs.Prelude.{◌≡◌, ℕ, Err, Some, true, false, [], is_some, IfErr, IfOk, IfSome, OnOk};
+ghost use Rattle.std.specs.Io.BufRead.{drop_through, strip_last, take_through};
+ghost use Rattle.std.specs.Io.KnownBytes.{IsAtEnd, Keeps};
+ghost use Rattle.couchd.specs.Playing.{AreLines, IsOfNoLine, Prints, ReadsLines};
+ghost use Rattle.couchd.specs.Script.{line_of};
+
 use crate::fault::{LineFault, ProgramFault};
 use crate::layout::Layout;
 use crate::line::{Line, read_line};
@@ -18,14 +24,28 @@ enum Stage {
     Running(Running),
 }
 
-/// Plays a script, and prints the replies. The answer is the program's status, 0.
+/// Plays a script, and prints the replies: a line for each, `c STATUS BODY`. The answer is the
+/// program's status, 0.
+///
+/// `Line` is the number of the line that could not be played, counted from 1; what the lines before
+/// it printed stands. `File`: a read or a write failed, or the script had no end after 1,048,576
+/// reads, one for each line. `Memory`: memory ran out.
 pub fn lab<R: BufRead, W: Write>(
     alloc: Global,
     secret: &str,
     admins: &[String],
     reader: &mut R,
     writer: &mut W,
-) -> Result<u8, ProgramFault> {
+) -> Result<u8, ProgramFault>
+    ensures status { IfOk result (λ status. status ≡ 0) }
+    ensures whole { OnOk result (IfSome (R.remaining reader.old) (λ _. R.remaining reader.new ≡ Some [])) }
+    ensures lines { OnOk result (IfSome (R.remaining reader.old) AreLines) }
+    ensures printed { OnOk result (Prints (W.contents writer.old) (W.contents writer.new)) }
+
+    // At the fault of a line just the lines up to it were read, and what was printed stands.
+    ensures line { (n : ℕ) → result ≡ Err (ProgramFault.Line n) → ReadsLines n (R.remaining reader.old) (R.remaining reader.new) }
+    ensures stands { (n : ℕ) → result ≡ Err (ProgramFault.Line n) → Prints (W.contents writer.old) (W.contents writer.new) }
+{
     let server = Server {
         alloc,
         secret,
@@ -33,20 +53,39 @@ pub fn lab<R: BufRead, W: Write>(
     };
     let mut stage = Stage::Laying(Layout::new(alloc));
     let mut bytes = Vec::new(alloc);
-    for number in 1..=READS {
-        bytes.clear();
-        if reader.read_until(b'\n', &mut bytes)? == 0 {
+    for number in 0..READS {
+        if !read_next(reader, &mut bytes)? {
             return Ok(0);
         }
-        let line = bytes.as_slice();
-        let line = line.strip_suffix(b"\n".as_slice()).unwrap_or(line);
-        match play(server, stage, line, writer) {
+        match play(server, stage, without_line_feed(&bytes), writer) {
             Ok(next) => stage = next,
-            Err(fault) => return Err(fault.at(number)),
+            Err(fault) => return Err(fault.at(number + 1)),
         }
         writer.flush()?;
     }
     Err(ProgramFault::File)
+}
+
+/// Reads the next line, with its line feed; false where there is none.
+fn read_next<R: BufRead>(reader: &mut R, bytes: &mut Vec<u8>) -> Result<bool, ProgramFault>
+    ensures line { OnOk result (IfSome (R.remaining reader.old) (λ script. bytes.new.items ≡ take_through 10 script)) }
+    ensures rest { OnOk result (IfSome (R.remaining reader.old) (λ script. R.remaining reader.new ≡ Some (drop_through 10 script))) }
+    ensures end { IfOk result (λ more. more ≡ false → IsAtEnd (R.remaining reader.old)) }
+    ensures faults { IfErr result IsOfNoLine }
+{
+    bytes.clear();
+    let count = reader.read_until(b'\n', bytes)?;
+    Ok(count > 0)
+}
+
+/// A line without its line feed, which the last of a script may lack.
+fn without_line_feed(line: &[u8]) -> &[u8]
+    ensures { result.now ≡ strip_last 10 line.now }
+{
+    match line {
+        [rest @ .., b'\n'] => rest,
+        _ => line,
+    }
 }
 
 /// Plays a line.
@@ -55,7 +94,11 @@ fn play<W: Write>(
     stage: Stage,
     bytes: &[u8],
     out: &mut W,
-) -> Result<Stage, LineFault> {
+) -> Result<Stage, LineFault>
+    ensures line { OnOk result (is_some (line_of bytes.now) ≡ true) }
+    ensures printed { OnOk result (Prints (W.contents out.old) (W.contents out.new)) }
+    ensures stands { result ≡ Err LineFault.Line → Keeps (W.contents out.old) (W.contents out.new) }
+{
     let Some(line) = read_line(server.alloc, bytes)? else {
         return Err(LineFault::Line);
     };
@@ -87,7 +130,10 @@ fn lay(server: Server<'_>, layout: Layout, line: Line<'_>) -> Result<Stage, Line
 }
 
 /// Plays a line after the first connection.
-fn run<W: Write>(running: Running, line: Line<'_>, out: &mut W) -> Result<Stage, LineFault> {
+fn run<W: Write>(running: Running, line: Line<'_>, out: &mut W) -> Result<Stage, LineFault>
+    ensures printed { OnOk result (Prints (W.contents out.old) (W.contents out.new)) }
+    ensures stands { result ≡ Err LineFault.Line → Keeps (W.contents out.old) (W.contents out.new) }
+{
     let mut running = running;
     match line {
         Line::Conn(node, name) => running.open(node, name)?,

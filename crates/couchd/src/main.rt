@@ -13,6 +13,8 @@ mod printed;
 mod refusal;
 mod running;
 mod server;
+#[cfg(test)]
+mod tests;
 mod words;
 
 use command_line::plan;

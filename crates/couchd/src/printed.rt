@@ -1,6 +1,6 @@
 //! What a script prints.
 
-ghost use Rattle.std.specs.Prelude.{OnOk};
+ghost use Rattle.std.specs.Prelude.{◌≢◌, Err, OnOk};
 ghost use Rattle.std.specs.Io.KnownBytes.{Appends};
 ghost use Rattle.couchd.specs.Printed.{closed_line, reply_line};
 
@@ -10,7 +10,8 @@ use std::io::Write;
 
 /// Prints a reply: `c STATUS BODY` and a line feed.
 pub fn print_reply<W: Write>(out: &mut W, name: &[u8], reply: &Response) -> Result<(), LineFault>
-    ensures { OnOk result (Appends (W.contents out.old) (W.contents out.new) (reply_line name.now reply.now)) }
+    ensures printed { OnOk result (Appends (W.contents out.old) (W.contents out.new) (reply_line name.now reply.now)) }
+    ensures faults { result ≢ Err LineFault.Line }
 {
     let status = reply.status();
     out.write_all(name)?;
@@ -22,7 +23,8 @@ pub fn print_reply<W: Write>(out: &mut W, name: &[u8], reply: &Response) -> Resu
 
 /// Prints that a connection has ended: `c closed` and a line feed.
 pub fn print_closed<W: Write>(out: &mut W, name: &[u8]) -> Result<(), LineFault>
-    ensures { OnOk result (Appends (W.contents out.old) (W.contents out.new) (closed_line name.now)) }
+    ensures printed { OnOk result (Appends (W.contents out.old) (W.contents out.new) (closed_line name.now)) }
+    ensures faults { result ≢ Err LineFault.Line }
 {
     out.write_all(name)?;
     out.write_all(b" closed\n")?;

@@ -1,5 +1,14 @@
 //! The nodes and connections of a script.
 
+ghost use Rattle.std.specs.Prelude.{◌≡◌, ◌≢◌, [], Err, OnOk, map};
+ghost use Rattle.std.specs.Io.KnownBytes.{Appends, Keeps};
+ghost use Rattle.couch_http.specs.Cutting.{messages_of};
+ghost use Rattle.couch_http.specs.Message.{message_of};
+ghost use Rattle.node.specs.Step.{IsStep};
+ghost use Rattle.couchd.specs.Playing.{Prints};
+ghost use Rattle.couchd.specs.Printed.{reply_lines};
+ghost use Rattle.couchd.specs.Replies.{IsAnswered, IsSent, databases_of, last_words, refusal_of};
+
 use crate::fault::LineFault;
 use crate::layout::Layout;
 use crate::named::{Named, place_of};
@@ -63,7 +72,10 @@ impl Running {
         name: &[u8],
         piece: &[u8],
         out: &mut W,
-    ) -> Result<(), LineFault> {
+    ) -> Result<(), LineFault>
+        ensures printed { OnOk result (Prints (W.contents out.old) (W.contents out.new)) }
+        ensures line { result ≡ Err LineFault.Line → Keeps (W.contents out.old) (W.contents out.new) }
+    {
         let Some(place) = place_of(&self.connections, name) else {
             return Err(LineFault::Line);
         };
@@ -71,11 +83,33 @@ impl Running {
         let Some(node) = place_of(&self.nodes, &link.node) else {
             return Err(LineFault::Line);
         };
-        match link.cutter.feed(piece) {
-            Ok(cut) => answer(&mut self.nodes[node].value, &cut, name, out),
-            Err(HttpFault::Closed) => print_closed(out, name),
-            Err(_) => Err(LineFault::Memory),
-        }
+        send(
+            &mut link.cutter,
+            &mut self.nodes[node].value,
+            name,
+            piece,
+            out,
+        )
+    }
+}
+
+/// Sends a piece on a connection to a node, and prints each reply, or that the connection has ended.
+fn send<W: Write>(
+    cutter: &mut Cutter,
+    node: &mut Node<PlainStore>,
+    name: &[u8],
+    piece: &[u8],
+    out: &mut W,
+) -> Result<(), LineFault>
+    ensures sent { OnOk result (IsSent node.old.configuration (databases_of node.old.store) cutter.old piece.now name.now
+        (W.contents out.old) (W.contents out.new) (databases_of node.new.store) cutter.new) }
+    ensures configuration { node.new.configuration ≡ node.old.configuration }
+    ensures faults { result ≢ Err LineFault.Line }
+{
+    match cutter.feed(piece) {
+        Ok(cut) => answer(node, &cut, name, out),
+        Err(HttpFault::Closed) => print_closed(out, name),
+        Err(_) => Err(LineFault::Memory),
     }
 }
 
@@ -85,8 +119,13 @@ fn answer<W: Write>(
     cut: &Cut,
     name: &[u8],
     out: &mut W,
-) -> Result<(), LineFault> {
-    answer_all(node, cut.requests.as_slice(), name, out)?;
+) -> Result<(), LineFault>
+    ensures answered { OnOk result (IsAnswered node.old.configuration (databases_of node.old.store) (messages_of cut.now) (last_words cut.now.ending)
+        name.now (W.contents out.old) (W.contents out.new) (databases_of node.new.store)) }
+    ensures configuration { node.new.configuration ≡ node.old.configuration }
+    ensures faults { result ≢ Err LineFault.Line }
+{
+    answer_all(node, &cut.requests, name, out)?;
     match cut.ending {
         Ending::Open | Ending::Last => Ok(()),
         Ending::Fault(fault) => print_refusal(fault, name, out),
@@ -99,20 +138,37 @@ fn answer_all<W: Write>(
     requests: &[Request],
     name: &[u8],
     out: &mut W,
-) -> Result<(), LineFault> {
+) -> Result<(), LineFault>
+    ensures answered { OnOk result (IsAnswered node.old.configuration (databases_of node.old.store) (map message_of requests.now) []
+        name.now (W.contents out.old) (W.contents out.new) (databases_of node.new.store)) }
+    ensures configuration { node.new.configuration ≡ node.old.configuration }
+    ensures faults { result ≢ Err LineFault.Line }
+{
     for request in requests {
-        let reply = node.handle(request);
+        let reply = handle(node, request);
         print_reply(out, name, &reply)?;
     }
     Ok(())
 }
 
+/// Handles a request. A store in memory never fails, so the reply is no 500.
+fn handle(node: &mut Node<PlainStore>, request: &Request) -> Response
+    ensures step { IsStep node.old.configuration (databases_of node.old.store) (message_of request.now) ⊥ result (databases_of node.new.store) }
+    ensures configuration { node.new.configuration ≡ node.old.configuration }
+{
+    node.handle(request)
+}
+
 /// Prints the fixed reply to a fault of a stream.
-fn print_refusal<W: Write>(fault: HttpFault, name: &[u8], out: &mut W) -> Result<(), LineFault> {
-    match fault {
-        HttpFault::Syntax => print_reply(out, name, &Response::fixed(Fixed::Syntax)),
-        HttpFault::Encoding => print_reply(out, name, &Response::fixed(Fixed::Encoding)),
-        HttpFault::TooLarge => print_reply(out, name, &Response::fixed(Fixed::TooLarge)),
-        HttpFault::Memory | HttpFault::Closed => Ok(()),
-    }
+fn print_refusal<W: Write>(fault: HttpFault, name: &[u8], out: &mut W) -> Result<(), LineFault>
+    ensures printed { OnOk result (Appends (W.contents out.old) (W.contents out.new) (reply_lines name.now (refusal_of fault))) }
+    ensures faults { result ≢ Err LineFault.Line }
+{
+    let fixed = match fault {
+        HttpFault::Syntax => Fixed::Syntax,
+        HttpFault::Encoding => Fixed::Encoding,
+        HttpFault::TooLarge => Fixed::TooLarge,
+        HttpFault::Memory | HttpFault::Closed => return Ok(()),
+    };
+    print_reply(out, name, &Response::fixed(fixed))
 }

@@ -1,7 +1,7 @@
-use Rattle.std.proofs.Common.{rules, ap, ap₂, codes, true, false, ◌≡◌, ◌∙◌, [], refl}
-use Rattle.clap.specs.Words.{App, Rule, Shape, app_of, new_app, rule_of, with_rule, with_subcommand}
+use Rattle.std.proofs.Common.{rules, ap, ap₂, codes, true, ◌≡◌, ◌∙◌, []}
+use Rattle.clap.specs.Words.{App, app_of, new_app, rule_of, with_rule, with_subcommand}
 use Rattle.clap.specs.Simple.{app_of_fields}
-use Rattle.couchd.specs.Plan.{admin_rule, bare_command, couchd_command, secret_rule}
+use Rattle.couchd.specs.Plan.{admin_rule, bare_command, secret_rule}
 use Rattle.couchd.proofs.command_line.couchd_command.Goals as goal
 
 abbrev bare_lab : App

@@ -1,4 +1,4 @@
-use Rattle.std.proofs.Common.{◌≡◌, ◌∙◌, ap, sym, Some, codes}
+use Rattle.std.proofs.Common.{◌∙◌, ap, sym, Some, codes}
 use Rattle.clap.specs.Words.{found_of, rows_of}
 use Rattle.clap.proofs.WalkLemmas.{first_value-rows}
 use Rattle.couchd.proofs.Asking.{lab_asked_by-none, lab_asked_by-some}
