@@ -1,0 +1,22 @@
+-- The words of a line: runs of bytes with one space between.
+-- This project's own.
+use Rattle.std.specs.Prelude.{ℕ, ◌+◌, Bool, not, ◌&&◌, ◌||◌, ◌==◌, List, length, take, drop, nat_lt, nat_le, Option, option_map}
+use Rattle.std.specs.List.{list_all, list_any, position_from}
+
+abbrev pub is_space : ℕ → Bool
+is_space b = b == 32
+
+-- what stands before the first space, and what stands behind it
+abbrev pub parted : List ℕ → Option (List ℕ × List ℕ)
+parted bytes = option_map (λ n. (take n bytes, drop (n + 1) bytes)) (position_from is_space 0 bytes)
+
+-- a word: a nonempty run of bytes without a space
+abbrev pub is_word : List ℕ → Bool
+is_word bytes = nat_lt 0 (length bytes) && not (list_any is_space bytes)
+
+abbrev pub is_letter_or_digit : ℕ → Bool
+is_letter_or_digit b = (nat_le 48 b && nat_le b 57) || (nat_le 65 b && nat_le b 90) || (nat_le 97 b && nat_le b 122)
+
+-- the name of a node: ASCII letters and digits
+abbrev pub is_node_name : List ℕ → Bool
+is_node_name bytes = nat_lt 0 (length bytes) && list_all is_letter_or_digit bytes

@@ -1,0 +1,64 @@
+//! The nodes of a script before its first connection.
+
+use crate::fault::LineFault;
+use crate::named::{Named, place_of};
+use couch_json::{Json, NoMemory};
+use policy::{Security, SecurityFault};
+use std::alloc::Global;
+use std::collections::BTreeMap;
+use store::{DbName, PlainStore, Store, StoreFault};
+
+/// The nodes that a script has named so far, with their databases.
+#[derive(Drop)]
+pub struct Layout {
+    alloc: Global,
+    pub stores: Vec<Named<PlainStore>>,
+}
+
+impl Layout {
+    /// No nodes.
+    pub fn new(alloc: Global) -> Layout {
+        Layout {
+            alloc,
+            stores: Vec::new(alloc),
+        }
+    }
+
+    /// Adds a node without databases. `Line` where there is one of this name.
+    pub fn add_node(&mut self, name: &[u8]) -> Result<(), LineFault> {
+        if place_of(&self.stores, name).is_some() {
+            return Err(LineFault::Line);
+        }
+        let name = Vec::from_slice(self.alloc, name)?;
+        let value = PlainStore::new(self.alloc);
+        self.stores.push(Named { name, value })?;
+        Ok(())
+    }
+
+    /// Adds a database that is open to everyone. `Line` where there is no such node, or it has a
+    /// database of this name.
+    pub fn add_database(&mut self, node: &[u8], name: &DbName) -> Result<(), LineFault> {
+        let Some(place) = place_of(&self.stores, node) else {
+            return Err(LineFault::Line);
+        };
+        open_to_all(self.alloc, &mut self.stores[place].value, name)
+    }
+}
+
+/// Makes a database whose security object is `{}`.
+fn open_to_all(alloc: Global, store: &mut PlainStore, name: &DbName) -> Result<(), LineFault> {
+    let security = open_security(alloc)?;
+    store.create(name)?;
+    store.set_security(name, &security)?;
+    Ok(())
+}
+
+/// The security object `{}`: it names no member, so everyone is one.
+fn open_security(alloc: Global) -> Result<Security, NoMemory> {
+    let value = Json::Object(BTreeMap::new(alloc));
+    match Security::read(alloc, &value) {
+        Ok(security) => Ok(security),
+        Err(SecurityFault::Shape) => Err(NoMemory),
+        Err(SecurityFault::Memory) => Err(NoMemory),
+    }
+}

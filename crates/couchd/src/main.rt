@@ -1,0 +1,72 @@
+//! The program `couchd`: a laboratory that plays a script of nodes and connections.
+#![tactic(auto)]
+
+mod command_line;
+mod escapes;
+mod fault;
+mod lab;
+mod layout;
+mod line;
+mod named;
+mod plan;
+mod printed;
+mod refusal;
+mod running;
+mod server;
+#[cfg(test)]
+mod tests;
+mod words;
+
+use command_line::plan;
+use fault::ProgramFault;
+use lab::lab;
+use plan::{Plan, PlanFault};
+use refusal::Refusal;
+use std::env::Env;
+use std::io::{BufReader, BufWriter, Write};
+use std::process::ExitCode;
+use std::{env, io};
+
+/// Reads the command line and does what it says. The status is 0 at the end; 1 for a fault, with
+/// `couchd: ` and `file`, `line N` or `memory` on standard error; 2 for a command line that is
+/// none, with `couchd: usage` there.
+fn main(rt: HostRuntime) -> ExitCode {
+    match run(&rt) {
+        Ok(status) => ExitCode::from(status),
+        Err(refusal) => {
+            let _ = eprintln!(rt; "couchd: {refusal}");
+            ExitCode::from(refusal.status())
+        }
+    }
+}
+
+/// Does what the command line says. The answer is the program's status.
+fn run<R: Env + Input + Print + AllocGlobal>(rt: &R) -> Result<u8, Refusal> {
+    let words = words_of(rt)?;
+    match plan(rt.alloc(), words.as_slice())? {
+        Plan::Lab { secret, admins } => Ok(play(rt, secret.as_str(), admins.as_slice())?),
+    }
+}
+
+/// The words of the command line. One that is no text makes them none that is understood.
+fn words_of<R: Env + AllocGlobal>(rt: &R) -> Result<Vec<String>, PlanFault> {
+    match env::args(rt) {
+        Ok(words) => Ok(words.collect(rt.alloc())?),
+        Err(error) if error.kind() == io::ErrorKind::OutOfMemory => Err(PlanFault::Memory),
+        Err(_) => Err(PlanFault::Usage),
+    }
+}
+
+/// Plays the script on standard input. What was printed stands, whatever comes after it.
+fn play<R: Input + Print + AllocGlobal>(
+    rt: &R,
+    secret: &str,
+    admins: &[String],
+) -> Result<u8, ProgramFault> {
+    let alloc = rt.alloc();
+    let mut reader = BufReader::new(alloc, rt.reader())?;
+    let mut writer = BufWriter::new(alloc, io::writer(rt))?;
+    let result = lab(alloc, secret, admins, &mut reader, &mut writer);
+    writer.flush()?;
+    result
+}
