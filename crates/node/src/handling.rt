@@ -77,10 +77,16 @@ fn served<S: Store>(
 {
     match (page, method_of(&request.method)) {
         (Page::Welcome, Some(RequestMethod::Get)) => Ok(welcomed(alloc, request)?),
-        (Page::AllDatabases, Some(RequestMethod::Get)) => list_databases(alloc, store, caller, request),
+        (Page::AllDatabases, Some(RequestMethod::Get)) => list_databases(
+            alloc, store, caller, request,
+        ),
         (Page::Database, Some(RequestMethod::Get)) => read_database(alloc, store, caller, request),
-        (Page::Database, Some(RequestMethod::Put)) => create_database(alloc, store, caller, request),
-        (Page::Database, Some(RequestMethod::Delete)) => remove_database(alloc, store, caller, request),
+        (Page::Database, Some(RequestMethod::Put)) => create_database(
+            alloc, store, caller, request,
+        ),
+        (Page::Database, Some(RequestMethod::Delete)) => remove_database(
+            alloc, store, caller, request,
+        ),
         (Page::Security, Some(RequestMethod::Get)) => read_security(alloc, store, caller, request),
         (Page::Security, Some(RequestMethod::Put)) => write_security(alloc, store, caller, request),
         (Page::Document, Some(RequestMethod::Get)) => read_document(alloc, store, caller, request),

@@ -105,9 +105,7 @@ impl Refusal {
             Refusal::Method => "method",
             Refusal::DatabaseName => "name",
             Refusal::NoDatabase => "Database does not exist.",
-            Refusal::Exists => {
-                "The database could not be created, the file already exists."
-            }
+            Refusal::Exists => { "The database could not be created, the file already exists." }
             Refusal::Id => "id",
             Refusal::Query => "query",
             Refusal::Syntax => "JSON",
