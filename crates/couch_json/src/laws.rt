@@ -1,4 +1,4 @@
-//! What holds of the definitions alone: each law is the contract of a function with an empty body.
+//! What holds of the definitions alone: each law is the contract of a function that does nothing.
 ghost use Rattle.std.specs.Prelude.{◌≡◌, ◌≤◌, ℕ, false, Some, Ok};
 ghost use Rattle.serde_json.specs.Data.{Data};
 ghost use Rattle.serde_json.specs.Read.{read};
@@ -7,6 +7,10 @@ ghost use Rattle.couch_json.specs.Lawful.{IsLawful};
 ghost use Rattle.couch_json.specs.Nesting.{max_open, nests_too_deep};
 ghost use Rattle.couch_json.specs.Reading.{reading, data_read_within};
 ghost use Rattle.couch_json.specs.Value.{Value, depth};
+ghost use Rattle.couch_json.specs.View.{view};
+
+use crate::value::Json;
+use crate::walking::walk_value;
 
 /// The canonical text of a lawful value at most 110 deep reads as that value.
 pub fn canonical_text_reads_back()
@@ -24,3 +28,12 @@ pub fn own_limit_of_serde_json_never_shows(bytes: &[u8])
     ensures { nests_too_deep bytes.now ≡ false → (limit : ℕ) (d : Data)
         → data_read_within limit bytes.now ≡ Some d → read bytes.now ≡ Some d }
 {}
+
+/// Every value is lawful: its numbers are in range, its texts are UTF-8, and the names of each
+/// object ascend. It walks the value, since the names of a map are known to ascend where it is
+/// walked, and does nothing else.
+pub fn every_value_is_lawful(value: &Json)
+    ensures { IsLawful (view value.now) }
+{
+    walk_value(value);
+}

@@ -13,6 +13,7 @@ mod reading;
 #[cfg(test)]
 mod tests;
 mod value;
+mod walking;
 mod writing;
 
 pub use fault::JsonFault;
