@@ -2,7 +2,9 @@
 ghost use Rattle.std.specs.Prelude.{◌≡◌, ◌≤◌, ℕ, false, Some, Ok};
 ghost use Rattle.serde_json.specs.Data.{Data};
 ghost use Rattle.serde_json.specs.Read.{read};
+ghost use Rattle.std.specs.Cmp.{IsTotalOrder};
 ghost use Rattle.couch_json.specs.Canonical.{canonical};
+ghost use Rattle.couch_json.specs.Collation.{collation};
 ghost use Rattle.couch_json.specs.Lawful.{IsLawful};
 ghost use Rattle.couch_json.specs.Nesting.{max_open, nests_too_deep};
 ghost use Rattle.couch_json.specs.Reading.{reading, data_read_within};
@@ -11,6 +13,7 @@ ghost use Rattle.couch_json.specs.View.{view};
 
 use crate::value::Json;
 use crate::walking::walk_value;
+use std::cmp::Ordering;
 
 /// The canonical text of a lawful value at most 110 deep reads as that value.
 pub fn canonical_text_reads_back()
@@ -37,3 +40,14 @@ pub fn every_value_is_lawful(value: &Json)
 {
     walk_value(value);
 }
+
+/// The order of values is total: the other way round it answers the reverse, it goes on from one
+/// value over a second to a third, and values that tie are in the same order to every other.
+pub fn collation_is_a_total_order()
+    ensures { IsTotalOrder collation }
+{}
+
+/// Values that tie in the order are equal.
+pub fn ties_are_equal_values()
+    ensures { (v w : Value) → collation v w ≡ Ordering.Equal → v ≡ w }
+{}
