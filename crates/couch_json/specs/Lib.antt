@@ -8,3 +8,4 @@ pub mod Nesting
 pub mod Reading
 pub mod Written
 pub mod FieldPath
+pub mod Code
