@@ -8,6 +8,8 @@ mod operator;
 mod parsing;
 mod selector;
 mod takes;
+#[cfg(test)]
+mod tests;
 
 pub use fault::SelectorFault;
 pub use selector::Selector;
