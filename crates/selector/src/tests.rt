@@ -56,81 +56,85 @@ fn check_faults(rt: &impl Abort, alloc: Global, rows: &[Json]) -> Result<(), Fai
     Ok(())
 }
 
-/// Whether `{"f":CONDITION}` is true of `{}` and of `{"f":VALUE}`, value by value.
+/// Whether a selector is true of `{}` and of `{"f":VALUE}`, value by value.
 #[test]
 fn operators_on_each_kind_of_value(rt: HostRuntime) -> Result<(), Fail> {
     let alloc = rt.alloc();
-    let values = [
-        "{}",
-        r#"{"f":null}"#,
-        r#"{"f":true}"#,
-        r#"{"f":5}"#,
-        r#"{"f":"s"}"#,
-        r#"{"f":[5,"s"]}"#,
-        r#"{"f":{"a":5}}"#,
-    ];
-    let rows = [
-        (r#"{"f":{"$eq":5}}"#, "---T---"),
-        (r#"{"f":{"$eq":null}}"#, "-T-----"),
-        (r#"{"f":{"$eq":[5,"s"]}}"#, "-----T-"),
-        (r#"{"f":{"$eq":{"a":5}}}"#, "------T"),
-        (r#"{"f":{"$ne":5}}"#, "-TT-TTT"),
-        (r#"{"f":{"$ne":{"a":5}}}"#, "-TTTTT-"),
-        (r#"{"f":{"$lt":5}}"#, "-TT----"),
-        (r#"{"f":{"$lt":{}}}"#, "-TTTTT-"),
-        (r#"{"f":{"$lte":5}}"#, "-TTT---"),
-        (r#"{"f":{"$lte":null}}"#, "-T-----"),
-        (r#"{"f":{"$gt":5}}"#, "----TTT"),
-        (r#"{"f":{"$gt":[]}}"#, "-----TT"),
-        (r#"{"f":{"$gte":5}}"#, "---TTTT"),
-        (r#"{"f":{"$gte":true}}"#, "--TTTTT"),
-        (r#"{"f":{"$exists":true}}"#, "-TTTTTT"),
-        (r#"{"f":{"$exists":false}}"#, "T------"),
-        (r#"{"f":{"$type":"null"}}"#, "-T-----"),
-        (r#"{"f":{"$type":"boolean"}}"#, "--T----"),
-        (r#"{"f":{"$type":"number"}}"#, "---T---"),
-        (r#"{"f":{"$type":"string"}}"#, "----T--"),
-        (r#"{"f":{"$type":"array"}}"#, "-----T-"),
-        (r#"{"f":{"$type":"object"}}"#, "------T"),
-        (r#"{"f":{"$in":[5,null]}}"#, "-T-T---"),
-        (r#"{"f":{"$in":[[5,"s"],{"a":5}]}}"#, "-----TT"),
-        (r#"{"f":{"$in":[]}}"#, "-------"),
-        (r#"{"f":{"$nin":[5,null]}}"#, "--T-TTT"),
-        (r#"{"f":{"$nin":[]}}"#, "-TTTTTT"),
-        (r#"{"f":{"$size":2}}"#, "-----T-"),
-        (r#"{"f":{"$size":1}}"#, "-------"),
-        (r#"{"f":{"$size":-1}}"#, "-------"),
-        (r#"{"f":{"$mod":[2,1]}}"#, "---T---"),
-        (r#"{"f":{"$mod":[2,0]}}"#, "-------"),
-        (r#"{"f":{"$all":["s",5]}}"#, "-----T-"),
-        (r#"{"f":{"$all":[5,6]}}"#, "-------"),
-        (r#"{"f":{"$all":[]}}"#, "-------"),
-        (r#"{"f":{"$elemMatch":{"$eq":5}}}"#, "-----T-"),
-        (r#"{"f":{"$elemMatch":{"$eq":6}}}"#, "-------"),
-        (r#"{"f":{"$elemMatch":{}}}"#, "-----T-"),
-        (r#"{"f":{"$allMatch":{"$gte":5}}}"#, "-----T-"),
-        (r#"{"f":{"$allMatch":{"$eq":5}}}"#, "-------"),
-        (r#"{"f":{"$not":{"$eq":5}}}"#, "TTT-TTT"),
-        (r#"{"f":{"$not":{"$ne":5}}}"#, "T--T---"),
-        (r#"{"f":{"$not":{}}}"#, "-------"),
-        (r#"{"f":{"$and":[{"$gt":null},{"$lt":"s"}]}}"#, "--TT---"),
-        (r#"{"f":{"$or":[{"$eq":5},{"$exists":false}]}}"#, "T--T---"),
-        (r#"{"f":{"$nor":[{"$eq":5},{"$exists":false}]}}"#, "-TT-TTT"),
-        (r#"{"f":{}}"#, "TTTTTTT"),
-        (r#"{"f":5}"#, "---T---"),
-        (r#"{"f":null}"#, "-T-----"),
-        (r#"{"f":[5,"s"]}"#, "-----T-"),
-        (r#"{"f":{"a":5}}"#, "------T"),
-        (r#"{"f":{"a":{"$exists":false}}}"#, "TTTTTT-"),
-    ];
-    for (text, answers) in rows {
-        let selector = Selector::parse(alloc, &read(alloc, text.as_bytes())?)?;
+    let values = rows_of(
+        alloc,
+        r#"[{}, {"f":null}, {"f":true}, {"f":5}, {"f":"s"}, {"f":[5,"s"]}, {"f":{"a":5}}]"#,
+    )?;
+    let rows = rows_of(
+        alloc,
+        r#"[
+        [{"f":{"$eq":5}}, "---T---"],
+        [{"f":{"$eq":null}}, "-T-----"],
+        [{"f":{"$eq":[5,"s"]}}, "-----T-"],
+        [{"f":{"$eq":{"a":5}}}, "------T"],
+        [{"f":{"$ne":5}}, "-TT-TTT"],
+        [{"f":{"$ne":{"a":5}}}, "-TTTTT-"],
+        [{"f":{"$lt":5}}, "-TT----"],
+        [{"f":{"$lt":{}}}, "-TTTTT-"],
+        [{"f":{"$lte":5}}, "-TTT---"],
+        [{"f":{"$lte":null}}, "-T-----"],
+        [{"f":{"$gt":5}}, "----TTT"],
+        [{"f":{"$gt":[]}}, "-----TT"],
+        [{"f":{"$gte":5}}, "---TTTT"],
+        [{"f":{"$gte":true}}, "--TTTTT"],
+        [{"f":{"$exists":true}}, "-TTTTTT"],
+        [{"f":{"$exists":false}}, "T------"],
+        [{"f":{"$type":"null"}}, "-T-----"],
+        [{"f":{"$type":"boolean"}}, "--T----"],
+        [{"f":{"$type":"number"}}, "---T---"],
+        [{"f":{"$type":"string"}}, "----T--"],
+        [{"f":{"$type":"array"}}, "-----T-"],
+        [{"f":{"$type":"object"}}, "------T"],
+        [{"f":{"$in":[5,null]}}, "-T-T---"],
+        [{"f":{"$in":[[5,"s"],{"a":5}]}}, "-----TT"],
+        [{"f":{"$in":[]}}, "-------"],
+        [{"f":{"$nin":[5,null]}}, "--T-TTT"],
+        [{"f":{"$nin":[]}}, "-TTTTTT"],
+        [{"f":{"$size":2}}, "-----T-"],
+        [{"f":{"$size":1}}, "-------"],
+        [{"f":{"$size":-1}}, "-------"],
+        [{"f":{"$mod":[2,1]}}, "---T---"],
+        [{"f":{"$mod":[2,0]}}, "-------"],
+        [{"f":{"$all":["s",5]}}, "-----T-"],
+        [{"f":{"$all":[5,6]}}, "-------"],
+        [{"f":{"$all":[]}}, "-------"],
+        [{"f":{"$elemMatch":{"$eq":5}}}, "-----T-"],
+        [{"f":{"$elemMatch":{"$eq":6}}}, "-------"],
+        [{"f":{"$elemMatch":{}}}, "-----T-"],
+        [{"f":{"$allMatch":{"$gte":5}}}, "-----T-"],
+        [{"f":{"$allMatch":{"$eq":5}}}, "-------"],
+        [{"f":{"$not":{"$eq":5}}}, "TTT-TTT"],
+        [{"f":{"$not":{"$ne":5}}}, "T--T---"],
+        [{"f":{"$not":{}}}, "-------"],
+        [{"f":{"$and":[{"$gt":null},{"$lt":"s"}]}}, "--TT---"],
+        [{"f":{"$or":[{"$eq":5},{"$exists":false}]}}, "T--T---"],
+        [{"f":{"$nor":[{"$eq":5},{"$exists":false}]}}, "-TT-TTT"],
+        [{"f":{}}, "TTTTTTT"],
+        [{"f":5}, "---T---"],
+        [{"f":null}, "-T-----"],
+        [{"f":[5,"s"]}, "-----T-"],
+        [{"f":{"a":5}}, "------T"],
+        [{"f":{"a":{"$exists":false}}}, "TTTTTT-"]
+        ]"#,
+    )?;
+    for row in &rows {
+        let text = canon(alloc, row)?;
+        let Json::Array(row) = row else {
+            return Err(Fail::from("no row"));
+        };
+        let [selector, Json::Text(answers)] = row.as_slice() else {
+            return Err(Fail::from("no row"));
+        };
+        let selector = Selector::parse(alloc, selector)?;
         let mut found = String::new(alloc);
-        for value in values {
-            let value = read(alloc, value.as_bytes())?;
-            found.push(if selector.matches(&value) { 'T' } else { '-' })?;
+        for value in &values {
+            found.push(if selector.matches(value) { 'T' } else { '-' })?;
         }
-        assert_eq!(rt; found.as_str(), answers, "{text}");
+        assert_eq!(rt; found.as_str(), answers.as_str(), "{text}");
     }
     Ok(())
 }
@@ -279,9 +283,9 @@ fn the_first_fault_is_named(rt: HostRuntime) -> Result<(), Fail> {
 fn fault_of_nested(
     alloc: Global,
     open: &str,
-    close: &str,
-    count: usize,
+    count: i128,
     inner: &str,
+    close: &str,
 ) -> Result<&'static str, Fail> {
     let mut text = String::new(alloc);
     for _ in 0..count {
@@ -295,31 +299,39 @@ fn fault_of_nested(
     Ok(Selector::parse(alloc, &value).err().map_or("none", name_of))
 }
 
+/// A row is how often the text is opened, what stands inside, and the faults by fields, by `$not`,
+/// by `$and` and by `$elemMatch`.
 #[test]
 fn thirty_two_selectors_may_nest(rt: HostRuntime) -> Result<(), Fail> {
     let alloc = rt.alloc();
-    let rows = [
-        (r#"{"a":"#, "}", 31, "{}", "none"),
-        (r#"{"a":"#, "}", 32, "{}", "Depth"),
-        (r#"{"a":"#, "}", 32, "1", "none"),
-        (r#"{"a":"#, "}", 31, r#"{"$foo":1}"#, "Operator"),
-        (r#"{"a":"#, "}", 32, r#"{"$foo":1}"#, "Depth"),
-        (r#"{"a":"#, "}", 32, r#"{},"b":{"$foo":1}"#, "Depth"),
-        (r#"{"$not":"#, "}", 31, "{}", "none"),
-        (r#"{"$not":"#, "}", 32, "{}", "Depth"),
-        (r#"{"$not":"#, "}", 32, "5", "Argument"),
-        (r#"{"$and":["#, "]}", 31, "{}", "none"),
-        (r#"{"$and":["#, "]}", 32, "{}", "Depth"),
-        (r#"{"$elemMatch":"#, "}", 32, "{}", "Depth"),
-        (r#"{"a":"#, "}", 31, r#"{"$eq":{"a":{"b":{}}}}"#, "none"),
-        (r#"{"a":"#, "}", 31, r#"{"$in":[{"b":{}}]}"#, "none"),
-    ];
-    for (open, close, count, inner, fault) in rows {
-        assert_eq!(rt;
-            fault_of_nested(alloc, open, close, count, inner)?,
-            fault,
-            "{open} {count} {inner}"
-        );
+    let rows = rows_of(
+        alloc,
+        r#"[
+        [31, "{}", "none none none none"],
+        [32, "{}", "Depth Depth Depth Depth"],
+        [32, "1", "none Argument Argument Argument"],
+        [31, "{\"$foo\":1}", "Operator Operator Operator Operator"],
+        [32, "{\"$foo\":1}", "Depth Depth Depth Depth"],
+        [31, "{\"$eq\":{\"a\":{\"b\":{}}}}", "none none none none"],
+        [31, "{\"$in\":[{\"b\":{}}]}", "none none none none"]
+        ]"#,
+    )?;
+    for row in &rows {
+        let Json::Array(row) = row else {
+            return Err(Fail::from("no row"));
+        };
+        let [Json::Whole(count), Json::Text(inner), Json::Text(faults)] = row.as_slice() else {
+            return Err(Fail::from("no row"));
+        };
+        let count = count.value();
+        let found = format!(in alloc;
+            "{} {} {} {}",
+            fault_of_nested(alloc, r#"{"a":"#, count, inner, "}")?,
+            fault_of_nested(alloc, r#"{"$not":"#, count, inner, "}")?,
+            fault_of_nested(alloc, r#"{"$and":["#, count, inner, "]}")?,
+            fault_of_nested(alloc, r#"{"$elemMatch":"#, count, inner, "}")?
+        )?;
+        assert_eq!(rt; found.as_str(), faults.as_str(), "{count} {inner}");
     }
     Ok(())
 }
