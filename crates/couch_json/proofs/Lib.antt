@@ -6,3 +6,5 @@ pub mod ReadingBack
 pub mod Words
 pub mod OpenCounts
 pub mod TreeDepths
+pub mod Orders
+pub mod Signs

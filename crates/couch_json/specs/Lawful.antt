@@ -1,5 +1,5 @@
 -- Which values are lawful: whole numbers in range, texts in UTF-8, the names of each object in strictly ascending byte order.
--- RFC 8259, section 4 (names unique), section 6 (range), section 8.1 (UTF-8). `canon` shows it of each value that it writes.
+-- RFC 8259, section 4 (names unique), section 6 (range), section 8.1 (UTF-8). Every `Json` of the code stands for a lawful value.
 use Rattle.std.specs.Prelude.{◌≡◌, ℕ, List, ⊤, IsUtf8}
 use Rattle.std.specs.declared.cmp.Ordering.TheVariants.{Less}
 use Rattle.std.specs.Ordering.{nat_cmp}

@@ -7,3 +7,5 @@ pub mod View
 pub mod Nesting
 pub mod Reading
 pub mod Written
+pub mod FieldPath
+pub mod Code

@@ -1,12 +1,19 @@
-//! What holds of the definitions alone: each law is the contract of a function with an empty body.
+//! What holds of the definitions alone: each law is the contract of a function that does nothing.
 ghost use Rattle.std.specs.Prelude.{◌≡◌, ◌≤◌, ℕ, false, Some, Ok};
 ghost use Rattle.serde_json.specs.Data.{Data};
 ghost use Rattle.serde_json.specs.Read.{read};
+ghost use Rattle.std.specs.Cmp.{IsTotalOrder};
 ghost use Rattle.couch_json.specs.Canonical.{canonical};
+ghost use Rattle.couch_json.specs.Collation.{collation};
 ghost use Rattle.couch_json.specs.Lawful.{IsLawful};
 ghost use Rattle.couch_json.specs.Nesting.{max_open, nests_too_deep};
 ghost use Rattle.couch_json.specs.Reading.{reading, data_read_within};
 ghost use Rattle.couch_json.specs.Value.{Value, depth};
+ghost use Rattle.couch_json.specs.View.{view};
+
+use crate::value::Json;
+use crate::walking::walk_value;
+use std::cmp::Ordering;
 
 /// The canonical text of a lawful value at most 110 deep reads as that value.
 pub fn canonical_text_reads_back()
@@ -23,4 +30,24 @@ pub fn canonical_text_is_of_one_value()
 pub fn own_limit_of_serde_json_never_shows(bytes: &[u8])
     ensures { nests_too_deep bytes.now ≡ false → (limit : ℕ) (d : Data)
         → data_read_within limit bytes.now ≡ Some d → read bytes.now ≡ Some d }
+{}
+
+/// Every value is lawful: its numbers are in range, its texts are UTF-8, and the names of each
+/// object ascend. It walks the value, since the names of a map are known to ascend where it is
+/// walked, and does nothing else.
+pub fn every_value_is_lawful(value: &Json)
+    ensures { IsLawful (view value.now) }
+{
+    walk_value(value);
+}
+
+/// The order of values is total: the other way round it answers the reverse, it goes on from one
+/// value over a second to a third, and values that tie are in the same order to every other.
+pub fn collation_is_a_total_order()
+    ensures { IsTotalOrder collation }
+{}
+
+/// Values that tie in the order are equal.
+pub fn ties_are_equal_values()
+    ensures { (v w : Value) → collation v w ≡ Ordering.Equal → v ≡ w }
 {}

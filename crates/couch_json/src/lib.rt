@@ -1,8 +1,10 @@
 #![tactic(auto)]
 
+mod collation;
 mod converting;
 mod copying;
 mod fault;
+mod field_path;
 pub mod laws;
 mod members;
 mod nested;
@@ -13,9 +15,12 @@ mod reading;
 #[cfg(test)]
 mod tests;
 mod value;
+mod walking;
 mod writing;
 
+pub use collation::collate;
 pub use fault::JsonFault;
+pub use field_path::{FieldPath, PathFault, at};
 pub use members::put_member;
 pub use no_memory::{Got, NoMemory};
 pub use number::Number;

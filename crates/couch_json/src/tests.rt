@@ -1,5 +1,6 @@
-use crate::{Json, JsonFault, Number, canon, read};
+use crate::{FieldPath, Json, JsonFault, Number, PathFault, at, canon, collate, read};
 use std::alloc::Global;
+use std::cmp::Ordering;
 use std::test::Fail;
 
 fn fault_of(alloc: Global, bytes: &[u8]) -> Option<JsonFault> {
@@ -135,5 +136,85 @@ fn copies_are_equal(rt: HostRuntime) -> Result<(), Fail> {
         r#"[null,true,-7,"x",[],{"k":[{}]}]"#
     );
     assert_ne!(rt; Json::Null, value);
+    Ok(())
+}
+
+#[test]
+fn values_in_ascending_order(rt: HostRuntime) -> Result<(), Fail> {
+    let alloc = rt.alloc();
+    let rows = read(
+        alloc,
+        br#"[null,false,true,-9223372036854775808,-1,0,5,9223372036854775807,
+            "","A","a","a\u0000","a\u0000b","ab","b","\u00e9",
+            [],[null],[1],[1,null],[2],["a"],["b"],["b","c"],["b","c","a"],["b","d"],[[]],[{}],
+            {},{"a":1},{"a":1,"b":2},{"a":1,"c":0},{"a":2},{"aa":0},{"b":1},{"b":1,"c":[]},{"b":2}]"#,
+    )?;
+    let Json::Array(rows) = rows else {
+        return Err(Fail::from("no list"));
+    };
+    for (i, left) in rows.iter().enumerate() {
+        for (j, right) in rows.iter().enumerate() {
+            assert_eq!(rt; collate(left, right), i.cmp(&j), "{i} and {j}");
+        }
+    }
+    assert_eq!(rt; collate(&Json::Null, &Json::Null), Ordering::Equal);
+    Ok(())
+}
+
+#[test]
+fn paths_are_read_from_the_left(rt: HostRuntime) -> Result<(), Fail> {
+    let alloc = rt.alloc();
+    let value = read(
+        alloc,
+        br#"{"a":{"b":1},"a.b":2,"a\\":{"b":3},"a\\.b":4,".":5,"\u00e9":{"x":6},"\\\\":7,"..\\":8,"l":[1],"a.":9}"#,
+    )?;
+    let rows = [
+        ("a.b", 1),
+        (r"a\.b", 2),
+        (r"a\\.b", 4),
+        (r"\.", 5),
+        ("\u{e9}.x", 6),
+        (r"\\", 7),
+        (r"\.\.\", 8),
+        (r"a\.", 9),
+    ];
+    for (path, number) in rows {
+        let path = FieldPath::parse(alloc, path)?;
+        let Some(Json::Whole(found)) = at(&value, &path) else {
+            return Err(Fail::from("nothing reached"));
+        };
+        assert_eq!(rt; found.value(), number, "{path:?}");
+    }
+    let whole = FieldPath::parse(alloc, r"a\")?;
+    assert_eq!(rt; whole.as_str(), r"a\");
+    assert!(rt; at(&value, &whole).is_some());
+    for path in ["c", "a.c", "a.b.c", "l.0", r"a\.c", r"a\.b.c", r"a.\b"] {
+        let path = FieldPath::parse(alloc, path)?;
+        assert!(rt; at(&value, &path).is_none(), "{path:?}");
+    }
+    assert!(rt; at(&Json::Null, &whole).is_none());
+    Ok(())
+}
+
+#[test]
+fn paths_at_the_edges_of_their_shape(rt: HostRuntime) -> Result<(), Fail> {
+    let alloc = rt.alloc();
+    for text in ["", ".", "a.", ".a", "a..b", r"a\..", "..", r".\."] {
+        assert_eq!(rt;
+            FieldPath::parse(alloc, text).err(),
+            Some(PathFault::Shape),
+            "{text}"
+        );
+    }
+    let mut text = String::new(alloc);
+    for _ in 0..256 {
+        text.push('a')?;
+    }
+    assert_eq!(rt; FieldPath::parse(alloc, &text)?.as_str(), text.as_str());
+    text.push('a')?;
+    assert_eq!(rt;
+        FieldPath::parse(alloc, &text).err(),
+        Some(PathFault::Shape)
+    );
     Ok(())
 }

@@ -1,0 +1,46 @@
+-- Field paths: the names in a path's text, and the value inside another that they reach.
+-- CouchDB manual, api/database/find, "Subfields", for the dots and the backslash before one; the limit of 256 bytes is ours.
+use Rattle.std.specs.Prelude.{ℕ, ◌==◌, ◌&&◌, Bool, true, false, if◌then◌else◌, List, [], ◌∷◌, ◌++◌, length, nat_le, nat_lt, Option, Some, option_and_then}
+use Rattle.couch_json.specs.Value.{Value, member_of}
+
+abbrev pub dot : ℕ
+dot = 46
+
+abbrev pub backslash : ℕ
+backslash = 92
+
+-- a name, and the backslash after it where one is held
+abbrev pub with_held : Bool → List ℕ → List ℕ
+with_held true name = name ++ backslash ∷ []
+with_held false name = name
+
+-- The names in what is left of a text, read from the left, where the first of them has begun. A backslash is held until
+-- the byte after it is known: it turns a dot into one of the name, and stands for itself before all else.
+abbrev pub names_from : Bool → List ℕ → List ℕ → List (List ℕ)
+names_from held name [] = with_held held name ∷ []
+names_from held name (byte ∷ bytes) =
+    if byte == dot
+    then (if held then names_from false (name ++ dot ∷ []) bytes else (name ∷ names_from false [] bytes))
+    else (if byte == backslash
+    then names_from true (with_held held name) bytes
+    else names_from false (with_held held name ++ byte ∷ []) bytes)
+
+abbrev pub names_in : List ℕ → List (List ℕ)
+names_in path = names_from false [] path
+
+-- no name is empty
+abbrev pub are_filled : List (List ℕ) → Bool
+are_filled [] = true
+are_filled (name ∷ names) = nat_lt 0 (length name) && are_filled names
+
+-- a text of 1 to 256 bytes in which no name is empty
+abbrev pub is_field_path : List ℕ → Bool
+is_field_path path = nat_le 1 (length path) && nat_le (length path) 256 && are_filled (names_in path)
+
+-- the value that the names lead to, from object to object
+abbrev pub reached : List (List ℕ) → Value → Option Value
+reached [] v = Some v
+reached (name ∷ names) v = option_and_then (reached names) (member_of v name)
+
+abbrev pub value_at : List ℕ → Value → Option Value
+value_at path v = reached (names_in path) v

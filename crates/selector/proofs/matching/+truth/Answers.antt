@@ -1,0 +1,31 @@
+use Rattle.std.proofs.Common.{◌≡◌, ◌+◌, Some, max, sym, ap, ◌∙◌, arith}
+use Rattle.couch_json.specs.Value.{depth}
+use Rattle.selector.specs.Truth.{is_true}
+use Rattle.selector.specs.declared.selector.Selector.TheDeep.{deep-Condition}
+use denote.Param.Weighed.{most}
+use Rattle.selector.proofs.Lists.{each_of_there, most_below}
+use Rattle.selector.proofs.matching.+truth.Goals as goal
+
+pub is_true_of_each-returns-then-not-is_empty : goal.is_true_of_each-returns-then-not-is_empty
+is_true_of_each-returns-then-not-is_empty t c =
+    let items = c.args.items.now in
+    let there = sym c.is_empty.ensures ∙ c.if-not-is_empty.true in
+    c.is_true_of_all.ensures ∙ each_of_there (λ v. is_true c.args.selector.now (Some v)) items there
+
+pub is_condition_true-all_are_true-requires : goal.is_condition_true-all_are_true-requires
+is_condition_true-all_are_true-requires t c =
+    let step = c.in-List-AllTrue-default in
+    let deep : deep-Condition c.args.condition.now ≡ max (most (λ v. depth v + 1) step.selectors.items) 0 = ap deep-Condition step.is in
+    (omega (arith, c.decreases, deep, most_below step.selectors.items), tt)
+
+pub is_condition_true-some_is_true-requires : goal.is_condition_true-some_is_true-requires
+is_condition_true-some_is_true-requires t c =
+    let step = c.in-List-SomeTrue-default in
+    let deep : deep-Condition c.args.condition.now ≡ max (most (λ v. depth v + 1) step.selectors.items) 0 = ap deep-Condition step.is in
+    (omega (arith, c.decreases, deep, most_below step.selectors.items), tt)
+
+pub is_condition_true-some_is_true-requires-in-List-NoneTrue-default : goal.is_condition_true-some_is_true-requires-in-List-NoneTrue-default
+is_condition_true-some_is_true-requires-in-List-NoneTrue-default t c =
+    let step = c.in-List-NoneTrue-default in
+    let deep : deep-Condition c.args.condition.now ≡ max (most (λ v. depth v + 1) step.selectors.items) 0 = ap deep-Condition step.is in
+    (omega (arith, c.decreases, deep, most_below step.selectors.items), tt)

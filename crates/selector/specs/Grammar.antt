@@ -1,0 +1,120 @@
+-- Which values are selectors, and where the first fault of one that is none stands.
+-- CouchDB manual, api/database/find, "Selector Syntax" and the tables of operators; which fault comes first, and the limit
+-- of 32 on nesting, are ours.
+use Rattle.std.specs.Prelude.{ℕ, ℤ, pos, ◌+◌, ◌==◌, not, Bool, true, false, if◌then◌else◌, List, [], ◌∷◌, Option, Some, None, codes, nat_eq, nat_lt}
+use Rattle.std.specs.List.{starts_with, list_any}
+use Rattle.std.specs.Cmp.Lexicographic.{pointwise}
+use Rattle.std.specs.Ordering.{int_eq}
+use Rattle.couch_json.specs.FieldPath.{is_field_path}
+use Rattle.couch_json.specs.Value.{Value, truth, whole, text, array, object, Items, no_items, item, Members, no_members, member}
+use Rattle.selector.specs.Operators.{operator_named}
+use Rattle.selector.specs.declared.fault.SelectorFault.{SelectorFault}
+use Rattle.selector.specs.declared.fault.SelectorFault.TheVariants as fault
+use Rattle.selector.specs.declared.operator.Operator.{Operator}
+use Rattle.selector.specs.declared.operator.Operator.TheVariants as operator
+use Rattle.selector.specs.declared.operator.ValueOperator.{ValueOperator}
+use Rattle.selector.specs.declared.operator.ValueOperator.TheVariants.{HasType, IsIn, IsNotIn, HasSize, HasRemainder, HasAll}
+
+-- ---- what the operators take
+
+abbrev pub is_truth_value : Value → Bool
+is_truth_value (truth b) = true
+is_truth_value v = false
+
+abbrev pub is_number : Value → Bool
+is_number (whole n) = true
+is_number v = false
+
+abbrev pub is_list : Value → Bool
+is_list (array vs) = true
+is_list v = false
+
+abbrev pub is_object : Value → Bool
+is_object (object ms) = true
+is_object v = false
+
+abbrev pub type_names : List (List ℕ)
+type_names = codes "null" ∷ codes "boolean" ∷ codes "number" ∷ codes "string" ∷ codes "array" ∷ codes "object" ∷ []
+
+abbrev pub is_type_name : Value → Bool
+is_type_name (text s) = list_any (pointwise ◌==◌ s) type_names
+is_type_name v = false
+
+-- a divisor and a remainder
+abbrev pub division_in : Value → Option (ℤ × ℤ)
+division_in (array (item (whole d) (item (whole r) no_items))) = Some (d, r)
+division_in v = None
+
+abbrev pub has_divisor : Option (ℤ × ℤ) → Bool
+has_divisor None = false
+has_divisor (Some division) = not (int_eq division.0 (pos 0))
+
+-- the six comparisons take every value
+abbrev pub takes : ValueOperator → Value → Bool
+takes HasType v = is_type_name v
+takes IsIn v = is_list v
+takes IsNotIn v = is_list v
+takes HasSize v = is_number v
+takes HasRemainder v = has_divisor (division_in v)
+takes HasAll v = is_list v
+takes o v = true
+
+-- ---- the first fault
+
+abbrev pub unless : Bool → SelectorFault → Option SelectorFault
+unless true f = None
+unless false f = Some f
+
+-- the first of two, in the order of the text
+abbrev pub first : Option SelectorFault → Option SelectorFault → Option SelectorFault
+first None later = later
+first (Some f) later = Some f
+
+-- `$` begins the name of an operator
+abbrev pub is_reserved : List ℕ → Bool
+is_reserved name = starts_with nat_eq name (codes "$")
+
+-- a field has a selector or a bare value
+abbrev pub field_fault : List ℕ → Value → Option SelectorFault → Option SelectorFault
+field_fault name v as_selector =
+    if is_field_path name then (if is_object v then as_selector else None) else Some fault.Argument
+
+-- a member, whose value has the fault `as_selector` where it is read as a selector, and `as_list` as a list of selectors
+abbrev pub member_fault : Option Operator → List ℕ → Value → Option SelectorFault → Option SelectorFault → Option SelectorFault
+member_fault (Some operator.Exists) name v as_selector as_list = unless (is_truth_value v) fault.Argument
+member_fault (Some (operator.Value o)) name v as_selector as_list = unless (takes o v) fault.Argument
+member_fault (Some (operator.Selector o)) name v as_selector as_list = as_selector
+member_fault (Some (operator.List o)) name v as_selector as_list = as_list
+member_fault None name v as_selector as_list = if is_reserved name then Some fault.Operator else field_fault name v as_selector
+
+-- a list has at least one selector, and the first fault among them
+abbrev pub filled_fault : Items → Option SelectorFault → Option SelectorFault
+filled_fault no_items among = Some fault.Argument
+filled_fault (item v vs) among = among
+
+-- how many selector objects may nest
+abbrev pub max_level : ℕ
+max_level = 32
+
+-- a selector at a level, the outermost at 1; a list of selectors; the members of a selector object at that level
+abbrev mutual
+  pub selector_fault : Value → ℕ → Option SelectorFault
+  selector_fault (object ms) level = if nat_lt max_level level then Some fault.Depth else members_fault ms level
+  selector_fault v level = Some fault.Argument
+
+  pub list_fault : Value → ℕ → Option SelectorFault
+  list_fault (array vs) level = filled_fault vs (items_fault vs level)
+  list_fault v level = Some fault.Argument
+
+  pub members_fault : Members → ℕ → Option SelectorFault
+  members_fault no_members level = None
+  members_fault (member name v ms) level =
+      first (member_fault (operator_named name) name v (selector_fault v (level + 1)) (list_fault v (level + 1))) (members_fault ms level)
+
+  pub items_fault : Items → ℕ → Option SelectorFault
+  items_fault no_items level = None
+  items_fault (item v vs) level = first (selector_fault v level) (items_fault vs level)
+
+-- the fault of a value that is no selector
+abbrev pub first_fault : Value → Option SelectorFault
+first_fault v = selector_fault v 1

@@ -1,0 +1,5 @@
+pub mod Operators
+pub mod Grammar
+pub mod Truth
+pub mod View
+pub mod Falls

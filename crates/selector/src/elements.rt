@@ -1,0 +1,47 @@
+ghost use Rattle.std.specs.Prelude.{◌≡◌};
+ghost use Rattle.std.specs.Ordering.{is_eq};
+ghost use Rattle.couch_json.specs.Collation.{collation};
+ghost use Rattle.couch_json.specs.View.{view, items_view};
+ghost use Rattle.selector.specs.Truth.{elements, is_among, each_item, each_of_some};
+
+use couch_json::{Json, collate};
+
+/// The elements of a list, and none where it is no list.
+pub(crate) fn elements(value: &Json) -> &[Json]
+    ensures { items_view result.now ≡ elements (view value.now) }
+{
+    match value {
+        Json::Array(items) => items.as_slice(),
+        _ => &[],
+    }
+}
+
+/// Whether the value equals one of the elements.
+pub(crate) fn is_among(value: &Json, items: &[Json]) -> bool
+    ensures { result ≡ is_among (view value.now) (items_view items.now) }
+{
+    for item in items {
+        if collate(value, item).is_eq() {
+            return true;
+        }
+    }
+    false
+}
+
+/// Whether there is a value wanted, and each of them is among the elements.
+pub(crate) fn has_all(wanted: &[Json], items: &[Json]) -> bool
+    ensures { result ≡ each_of_some (λ w. is_among w (items_view items.now)) (items_view wanted.now) }
+{
+    !wanted.is_empty() && are_among(wanted, items)
+}
+
+fn are_among(wanted: &[Json], items: &[Json]) -> bool
+    ensures { result ≡ each_item (λ w. is_among w (items_view items.now)) (items_view wanted.now) }
+{
+    for value in wanted {
+        if !is_among(value, items) {
+            return false;
+        }
+    }
+    true
+}

@@ -1,0 +1,15 @@
+#![tactic(auto)]
+
+mod elements;
+mod fault;
+mod matching;
+mod meeting;
+mod operator;
+mod parsing;
+mod selector;
+mod takes;
+#[cfg(test)]
+mod tests;
+
+pub use fault::SelectorFault;
+pub use selector::Selector;

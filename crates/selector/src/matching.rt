@@ -1,0 +1,133 @@
+ghost use Rattle.std.specs.Prelude.{◌≡◌, Some, true, option_map, option_and_then};
+ghost use Rattle.std.specs.List.{list_all, list_any};
+ghost use Rattle.couch_json.specs.FieldPath.{value_at};
+ghost use Rattle.couch_json.specs.View.{view, items_of, items_view};
+ghost use Rattle.selector.specs.Grammar.{is_object};
+ghost use Rattle.selector.specs.Operators.{operator_named};
+ghost use Rattle.selector.specs.Truth.{is_true, truths, item_truths, member_truth, some_item, each_item, each_of_some, is_there_and, meets};
+ghost use Rattle.selector.specs.View.{name_of, value_of};
+
+use crate::elements::elements;
+use crate::meeting::meets;
+use crate::operator::{ListOperator, SelectorOperator, ValueOperator};
+use crate::selector::{Condition, Field, Selector};
+use couch_json::{Json, at};
+
+/// Whether the selector is true of the current value, which may be missing.
+#[cycle(truth)]
+pub(crate) fn is_true(selector: &Selector, current: Option<&Json>) -> bool
+    ensures truth { result ≡ is_true selector.now (option_map (λ v. view v.now) current.entry) }
+    ensures object { is_object selector.now ≡ true }
+{
+    for condition in &selector.conditions {
+        if !is_condition_true(condition, current) {
+            return false;
+        }
+    }
+    true
+}
+
+#[cycle(truth)]
+fn is_condition_true(condition: &Condition, current: Option<&Json>) -> bool
+    ensures { let v = value_of condition.now in result
+        ≡ member_truth (operator_named (name_of condition.now)) (name_of condition.now) v
+        (is_true v) (truths v) (option_map (λ v. view v.now) current.entry) }
+{
+    match condition {
+        Condition::Field(field, selector) => is_true(selector, reached(field, current)),
+        Condition::FieldIs(field, value) => is_met(
+            ValueOperator::IsEqual,
+            &value.json,
+            reached(field, current),
+        ),
+        Condition::Exists(true) => current.is_some(),
+        Condition::Exists(false) => current.is_none(),
+        Condition::Value(operator, argument) => is_met(*operator, argument, current),
+        Condition::Selector(SelectorOperator::IsFalse, selector) => !is_true(selector, current),
+        Condition::Selector(SelectorOperator::SomeElement, selector) => match current {
+            Some(value) => is_true_of_some(selector, elements(value)),
+            None => false,
+        },
+        Condition::Selector(SelectorOperator::EachElement, selector) => match current {
+            Some(value) => is_true_of_each(selector, elements(value)),
+            None => false,
+        },
+        Condition::List(ListOperator::AllTrue, selectors) => all_are_true(selectors, current),
+        Condition::List(ListOperator::SomeTrue, selectors) => some_is_true(selectors, current),
+        Condition::List(ListOperator::NoneTrue, selectors) => !some_is_true(selectors, current),
+    }
+}
+
+/// What the field's path reaches in the current value.
+fn reached<'a>(field: &Field, current: Option<&'a Json>) -> Option<&'a Json>
+    ensures { option_map (λ v. view v.now) result
+        ≡ option_and_then (value_at field.now.path) (option_map (λ v. view v.now) current.entry) }
+{
+    at(current?, &field.path)
+}
+
+/// Whether the value is there and meets the operator.
+fn is_met(operator: ValueOperator, argument: &Json, current: Option<&Json>) -> bool
+    ensures { result ≡ is_there_and (meets operator (view argument.now)) (option_map (λ v. view v.now) current.entry) }
+{
+    match current {
+        Some(value) => meets(operator, argument, value),
+        None => false,
+    }
+}
+
+#[cycle(truth)]
+fn is_true_of_some(selector: &Selector, items: &[Json]) -> bool
+    ensures { result ≡ some_item (λ v. is_true selector.now (Some v)) (items_view items.now) }
+{
+    for item in items {
+        if is_true(selector, Some(item)) {
+            return true;
+        }
+    }
+    false
+}
+
+/// Whether there is an element, and the selector is true of each.
+#[cycle(truth)]
+fn is_true_of_each(selector: &Selector, items: &[Json]) -> bool
+    ensures { result ≡ each_of_some (λ v. is_true selector.now (Some v)) (items_view items.now) }
+{
+    !items.is_empty() && is_true_of_all(selector, items)
+}
+
+#[cycle(truth)]
+fn is_true_of_all(selector: &Selector, items: &[Json]) -> bool
+    ensures { result ≡ each_item (λ v. is_true selector.now (Some v)) (items_view items.now) }
+{
+    for item in items {
+        if !is_true(selector, Some(item)) {
+            return false;
+        }
+    }
+    true
+}
+
+#[cycle(truth)]
+fn all_are_true(selectors: &Vec<Selector>, current: Option<&Json>) -> bool
+    ensures { result ≡ list_all (λ b. b) (item_truths (items_of selectors.now.items) (option_map (λ v. view v.now) current.entry)) }
+{
+    for selector in selectors {
+        if !is_true(selector, current) {
+            return false;
+        }
+    }
+    true
+}
+
+#[cycle(truth)]
+fn some_is_true(selectors: &Vec<Selector>, current: Option<&Json>) -> bool
+    ensures { result ≡ list_any (λ b. b) (item_truths (items_of selectors.now.items) (option_map (λ v. view v.now) current.entry)) }
+{
+    for selector in selectors {
+        if is_true(selector, current) {
+            return true;
+        }
+    }
+    false
+}

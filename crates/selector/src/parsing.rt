@@ -1,0 +1,170 @@
+ghost use Rattle.std.specs.Prelude.{◌≡◌, ◌≢◌, ◌≤◌, ◌+◌, IfOk, IfErr, Some, None};
+ghost use Rattle.couch_json.specs.Value.{array};
+ghost use Rattle.couch_json.specs.View.{view, items_of, items_view, members_view};
+ghost use Rattle.selector.specs.Grammar.{selector_fault, list_fault, filled_fault, items_fault, members_fault, member_fault, field_fault};
+ghost use Rattle.selector.specs.Operators.{operator_named};
+ghost use Rattle.selector.specs.View.{name_of, value_of, members_of};
+
+use crate::fault::SelectorFault;
+use crate::operator::{Operator, operator_named};
+use crate::selector::{BareValue, Condition, Field, Selector};
+use crate::takes::takes;
+use couch_json::{FieldPath, Json, PathFault};
+use std::alloc::Global;
+use std::collections::BTreeMap;
+
+/// How many selector objects may nest.
+const MAX_LEVEL: usize = 32;
+
+/// The selector that a value is, at this level.
+#[cycle(parse)]
+pub(crate) fn parse_selector(
+    alloc: Global,
+    value: &Json,
+    level: usize,
+) -> Result<Selector, SelectorFault>
+    requires { level ≤ MAX_LEVEL + 1 }
+    ensures value { IfOk result (λ s. s ≡ view value.now) }
+    ensures lawful { IfOk result (λ s. selector_fault (view value.now) level ≡ None) }
+    ensures fault { IfErr result (λ e. e ≢ SelectorFault.Memory
+        → selector_fault (view value.now) level ≡ Some e) }
+{
+    match value {
+        Json::Object(_) if level > MAX_LEVEL => Err(SelectorFault::Depth),
+        Json::Object(members) => {
+            let conditions = parse_members(alloc, members, level)?;
+            Ok(Selector { conditions })
+        }
+        _ => Err(SelectorFault::Argument),
+    }
+}
+
+#[cycle(parse)]
+fn parse_members(
+    alloc: Global,
+    members: &BTreeMap<String, Json>,
+    level: usize,
+) -> Result<Vec<Condition>, SelectorFault>
+    requires { level ≤ MAX_LEVEL }
+    ensures members { IfOk result (λ cs. members_of cs.items ≡ members_view members.now.entries) }
+    ensures lawful { IfOk result (λ cs. members_fault (members_view members.now.entries) level ≡ None) }
+    ensures fault { IfErr result (λ e. e ≢ SelectorFault.Memory
+        → members_fault (members_view members.now.entries) level ≡ Some e) }
+{
+    let mut conditions = Vec::new(alloc);
+    for (name, value) in members.iter() {
+        conditions.push(parse_member(alloc, name, value, level)?)?;
+    }
+    Ok(conditions)
+}
+
+#[cycle(parse)]
+fn parse_member(
+    alloc: Global,
+    name: &str,
+    value: &Json,
+    level: usize,
+) -> Result<Condition, SelectorFault>
+    requires { level ≤ MAX_LEVEL }
+    ensures name { IfOk result (λ c. name_of c ≡ name.now) }
+    ensures value { IfOk result (λ c. value_of c ≡ view value.now) }
+    ensures lawful { IfOk result (λ c. member_fault (operator_named name.now) name.now (view value.now)
+        (selector_fault (view value.now) (level + 1)) (list_fault (view value.now) (level + 1)) ≡ None) }
+    ensures fault { IfErr result (λ e. e ≢ SelectorFault.Memory
+        → member_fault (operator_named name.now) name.now (view value.now)
+        (selector_fault (view value.now) (level + 1)) (list_fault (view value.now) (level + 1)) ≡ Some e) }
+{
+    match operator_named(name) {
+        Some(Operator::Exists) => match value {
+            Json::Truth(wanted) => Ok(Condition::Exists(*wanted)),
+            _ => Err(SelectorFault::Argument),
+        },
+        Some(Operator::Value(operator)) if takes(operator, value) => {
+            Ok(Condition::Value(operator, value.copy(alloc)?))
+        }
+        Some(Operator::Value(_)) => Err(SelectorFault::Argument),
+        Some(Operator::Selector(operator)) => Ok(Condition::Selector(
+            operator,
+            parse_selector(alloc, value, level + 1)?,
+        )),
+        Some(Operator::List(operator)) => Ok(Condition::List(
+            operator,
+            parse_list(alloc, value, level + 1)?,
+        )),
+        None if name.starts_with('$') => Err(SelectorFault::Operator),
+        None => parse_field(alloc, name, value, level),
+    }
+}
+
+/// A member whose name is no operator's and does not begin with `$`.
+#[cycle(parse)]
+fn parse_field(
+    alloc: Global,
+    name: &str,
+    value: &Json,
+    level: usize,
+) -> Result<Condition, SelectorFault>
+    requires level { level ≤ MAX_LEVEL }
+    requires name { operator_named name.now ≡ None }
+    ensures name { IfOk result (λ c. name_of c ≡ name.now) }
+    ensures value { IfOk result (λ c. value_of c ≡ view value.now) }
+    ensures lawful { IfOk result (λ c. field_fault name.now (view value.now) (selector_fault (view value.now) (level + 1)) ≡ None) }
+    ensures fault { IfErr result (λ e. e ≢ SelectorFault.Memory
+        → field_fault name.now (view value.now) (selector_fault (view value.now) (level + 1)) ≡ Some e) }
+{
+    let path = match FieldPath::parse(alloc, name) {
+        Ok(path) => path,
+        Err(PathFault::Shape) => return Err(SelectorFault::Argument),
+        Err(PathFault::Memory) => return Err(SelectorFault::Memory),
+    };
+    let field = Field { path };
+    match value {
+        Json::Object(_) => {
+            let conditions = parse_selector(alloc, value, level + 1)?;
+            Ok(Condition::Field(field, conditions))
+        }
+        _ => {
+            let json = value.copy(alloc)?;
+            Ok(Condition::FieldIs(field, BareValue { json }))
+        }
+    }
+}
+
+/// The selectors of a list.
+#[cycle(parse)]
+fn parse_list(alloc: Global, value: &Json, level: usize) -> Result<Vec<Selector>, SelectorFault>
+    requires { level ≤ MAX_LEVEL + 1 }
+    ensures value { IfOk result (λ ss. array (items_of ss.items) ≡ view value.now) }
+    ensures lawful { IfOk result (λ ss. list_fault (view value.now) level ≡ None) }
+    ensures fault { IfErr result (λ e. e ≢ SelectorFault.Memory
+        → list_fault (view value.now) level ≡ Some e) }
+{
+    match value {
+        Json::Array(items) => parse_items(alloc, items, level),
+        _ => Err(SelectorFault::Argument),
+    }
+}
+
+/// The selectors that the elements are, of which there is at least one.
+#[cycle(parse)]
+fn parse_items(
+    alloc: Global,
+    items: &Vec<Json>,
+    level: usize,
+) -> Result<Vec<Selector>, SelectorFault>
+    requires { level ≤ MAX_LEVEL + 1 }
+    ensures items { IfOk result (λ ss. items_of ss.items ≡ items_view items.now.items) }
+    ensures lawful { IfOk result (λ ss. filled_fault (items_view items.now.items)
+        (items_fault (items_view items.now.items) level) ≡ None) }
+    ensures fault { IfErr result (λ e. e ≢ SelectorFault.Memory → filled_fault (items_view items.now.items)
+        (items_fault (items_view items.now.items) level) ≡ Some e) }
+{
+    if items.is_empty() {
+        return Err(SelectorFault::Argument);
+    }
+    let mut selectors = Vec::with_capacity(alloc, items.len())?;
+    for item in items {
+        selectors.push(parse_selector(alloc, item, level)?)?;
+    }
+    Ok(selectors)
+}

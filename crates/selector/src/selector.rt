@@ -1,0 +1,105 @@
+ghost use Rattle.std.specs.Prelude.{◌≡◌, None, false};
+ghost use Rattle.couch_json.specs.View.{view};
+ghost use Rattle.selector.specs.Grammar.{is_object};
+ghost use Rattle.selector.specs.Operators.{operator_named};
+
+use crate::fault::SelectorFault;
+use crate::matching::is_true;
+use crate::operator::{ListOperator, SelectorOperator, ValueOperator};
+use crate::parsing::parse_selector;
+use couch_json::{FieldPath, Json};
+use std::alloc::Global;
+use std::marker::Model;
+
+/// A selector: which values meet a query or a rule (CouchDB manual, api/database/find,
+/// "Selector Syntax").
+///
+/// It is parsed from an object, whose members are all to be true. A member whose name begins
+/// with `$` is an operator on the current value; any other is a field path, with a selector for
+/// the field's value, or a bare value that it has to equal.
+#[cycle(selector)]
+#[derive(Drop)]
+pub struct Selector {
+    pub(crate) conditions: Vec<Condition>,
+}
+
+/// One member of a selector object.
+#[cycle(selector)]
+#[derive(Drop)]
+pub(crate) enum Condition {
+    /// A field and the selector that its value has to meet.
+    Field(Field, Selector),
+    /// A field and the value that it has to equal.
+    FieldIs(Field, BareValue),
+    /// `$exists`
+    Exists(bool),
+    /// An operator and its argument, of the shape that the operator takes.
+    Value(ValueOperator, Json),
+    /// An operator and its selector.
+    Selector(SelectorOperator, Selector),
+    /// An operator and its selectors.
+    List(ListOperator, Vec<Selector>),
+}
+
+impl Model for Selector {
+    ghost use Rattle.couch_json.specs.Value.{Value as JsonValue, object, depth};
+    ghost use Rattle.couch_json.specs.Code.{value_code};
+
+    ghost Value = { JsonValue };
+
+    ghost coded = { value_code };
+
+    ghost use Rattle.selector.specs.View.{members_of};
+
+    ghost view = { λ s. object (members_of s.conditions.items) };
+
+    ghost size = { depth };
+
+    ghost use Rattle.selector.specs.Falls.{parts_fall};
+
+    ghost size_decreases = { λ s _. parts_fall s.conditions.items };
+}
+
+impl Selector {
+    ghost use Rattle.std.specs.Prelude.{◌≢◌, IfOk, IfErr, Some};
+    ghost use Rattle.selector.specs.Grammar.{first_fault};
+    ghost use Rattle.selector.specs.Truth.{is_true};
+
+    /// The selector that a value is, or the fault that stands first in its canonical text:
+    ///
+    /// - `Operator` at a name that begins with `$` and is no operator;
+    /// - `Argument` at the innermost value that is not what its operator takes, or at a name that
+    ///   is no field path;
+    /// - `Depth` at the 33rd selector object one inside the other, the outermost being the first.
+    ///
+    /// `Memory` may come in place of any answer.
+    pub fn parse(alloc: Global, value: &Json) -> Result<Selector, SelectorFault>
+        ensures value { IfOk result (λ s. s ≡ view value.now) }
+        ensures lawful { IfOk result (λ s. first_fault (view value.now) ≡ None) }
+        ensures fault { IfErr result (λ e. e ≢ SelectorFault.Memory
+            → first_fault (view value.now) ≡ Some e) }
+    {
+        parse_selector(alloc, value, 1)
+    }
+
+    /// Whether the selector is true of the value. It takes no memory.
+    pub fn matches(&self, value: &Json) -> bool
+        ensures { result ≡ is_true self.now (Some (view value.now)) }
+    {
+        is_true(self, Some(value))
+    }
+}
+
+/// The path of a field. It is the name of no operator.
+#[derive(Drop)]
+pub(crate) struct Field {
+    pub(crate) path: FieldPath,
+    ghost is_no_operator: { operator_named path ≡ None },
+}
+
+/// A value that is no object, so no selector.
+#[derive(Drop)]
+pub(crate) struct BareValue {
+    pub(crate) json: Json,
+    ghost is_bare: { is_object (view json) ≡ false },
+}

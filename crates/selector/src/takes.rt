@@ -1,0 +1,71 @@
+ghost use Rattle.std.specs.Prelude.{◌≡◌, option_map};
+ghost use Rattle.couch_json.specs.View.{view};
+ghost use Rattle.selector.specs.Grammar.{takes, is_type_name, division_in, has_divisor};
+
+use crate::operator::ValueOperator;
+use couch_json::{Json, Number};
+
+/// Whether the value is of the shape that the operator takes.
+pub(crate) fn takes(operator: ValueOperator, value: &Json) -> bool
+    ensures { result ≡ takes operator (view value.now) }
+{
+    match operator {
+        ValueOperator::HasType => is_type_name(value),
+        ValueOperator::IsIn | ValueOperator::IsNotIn | ValueOperator::HasAll => {
+            matches!(value, Json::Array(_))
+        }
+        ValueOperator::HasSize => matches!(value, Json::Whole(_)),
+        ValueOperator::HasRemainder => has_divisor(division_in(value)),
+        ValueOperator::IsEqual
+        | ValueOperator::IsNotEqual
+        | ValueOperator::IsLess
+        | ValueOperator::IsAtMost
+        | ValueOperator::IsGreater
+        | ValueOperator::IsAtLeast => true,
+    }
+}
+
+fn is_type_name(value: &Json) -> bool
+    ensures { result ≡ is_type_name (view value.now) }
+{
+    let Json::Text(text) = value else {
+        return false;
+    };
+    matches!(
+        text.as_str(),
+        "null" | "boolean" | "number" | "string" | "array" | "object"
+    )
+}
+
+/// The divisor and the remainder of a list that is just these.
+pub(crate) fn division_in(value: &Json) -> Option<(Number, Number)>
+    ensures { option_map (λ p. (p.0.value, p.1.value)) result ≡ division_in (view value.now) }
+{
+    let Json::Array(items) = value else {
+        return None;
+    };
+    let mut items = items.iter();
+    let Some(divisor) = items.next() else {
+        return None;
+    };
+    let Some(remainder) = items.next() else {
+        return None;
+    };
+    if items.next().is_some() {
+        return None;
+    }
+    match (divisor, remainder) {
+        (Json::Whole(divisor), Json::Whole(remainder)) => Some((*divisor, *remainder)),
+        _ => None,
+    }
+}
+
+/// Whether there is a divisor, other than 0.
+fn has_divisor(division: Option<(Number, Number)>) -> bool
+    ensures { result ≡ has_divisor (option_map (λ p. (p.0.value, p.1.value)) division) }
+{
+    match division {
+        Some((divisor, _)) => divisor.value() != 0,
+        None => false,
+    }
+}
