@@ -1,5 +1,5 @@
 -- A fault that a store's caller can't mend has a cause.
-use Rattle.std.proofs.Common.{◌≢◌, ◌≡◌, ◌≤◌, ℕ, ap, arith, refl, inl, inr, IfErr, Result, Ok, Err}
+use Rattle.std.proofs.Common.{◌≢◌, ◌≤◌, ℕ, ap, arith, refl, inl, inr, IfErr, Result, Ok, Err}
 use Rattle.store.specs.Causes as store
 use Rattle.store.specs.declared.fault.StoreFault.{StoreFault}
 use Rattle.store.specs.declared.fault.StoreFault.TheVariants.{Memory, Failed, NoDatabase, Exists, Damaged, Full}

@@ -11,7 +11,7 @@ use Rattle.form_urlencoded.specs.Form.{raw_pairs}
 use Rattle.policy.specs.declared.rule.Rule.{Rule}
 use Rattle.policy.specs.declared.rule.Rule.TheVariants.{ProxyToken}
 use Rattle.node.specs.declared.refusal.Refusal.{Refusal}
-use Rattle.node.specs.declared.refusal.Refusal.TheVariants.{Unauthorized, Forbidden, Query, Syntax}
+use Rattle.node.specs.declared.refusal.Refusal.TheVariants.{Unauthorized, Forbidden, Syntax}
 use Rattle.node.specs.declared.method.RequestMethod.{RequestMethod}
 use Rattle.node.specs.declared.method.RequestMethod.TheVariants.{Get, Put, Delete}
 

@@ -1,6 +1,6 @@
 -- One step of a node: the reply to a request, and the databases afterwards.
 -- RFC 9112, section 4, for the bytes; that a reply of 500 or 503 changes nothing is this server's own.
-use Rattle.std.specs.Prelude.{◌≡◌, ◌⊎◌, ℕ, Bool}
+use Rattle.std.specs.Prelude.{◌≡◌, ◌⊎◌, Bool}
 use Rattle.auth.specs.Callers.{Configuration}
 use Rattle.couch_http.specs.Message.{Message}
 use Rattle.couch_http.specs.Reply.{Reply, reply_of, fixed_reply}

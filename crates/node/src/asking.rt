@@ -1,8 +1,6 @@
 //! What a request says besides its path: who asks, with which parameters, and with which body.
 
-ghost use Rattle.std.specs.Prelude.{◌≡◌, ◌≢◌, true, false, OnOk, IfOk, IfErr, Ok, Err, Some, None, map, option_map, string_bytes};
-ghost use Rattle.auth.specs.Headers.{fields_of};
-ghost use Rattle.couch_json.specs.Reading.{reading};
+ghost use Rattle.std.specs.Prelude.{◌≡◌, ◌≢◌, true, false, OnOk, IfOk, Ok, Err, Some, None, map, option_map, string_bytes};
 ghost use Rattle.couch_json.specs.View.{view};
 ghost use Rattle.couch_http.specs.Message.{header_field, message_of};
 ghost use Rattle.node.specs.Asking.{asking, body_of, denied, lacks_parameters, pair_of};

@@ -1,4 +1,4 @@
-ghost use Rattle.std.specs.Prelude.{◌≡◌, ◌≢◌, ◌≤◌, ◌⊎◌, IfOk, IfErr, Ok, Err, Some, None, is_some, true};
+ghost use Rattle.std.specs.Prelude.{◌≡◌, ◌≤◌, IfOk, IfErr, Ok, Err, Some, None, is_some, true};
 ghost use Rattle.node.specs.Answer.{entered, allowed_in};
 ghost use Rattle.node.specs.Causes.{IsCaused};
 ghost use Rattle.std.specs.FinMap as map;

@@ -26,7 +26,7 @@ impl<S: Store + Drop> Model for Node<S> {
 }
 
 impl<S: Store + Drop> Node<S> {
-    ghost use Rattle.std.specs.Prelude.{◌≡◌, ◌≤◌, ◌⊎◌, ℕ};
+    ghost use Rattle.std.specs.Prelude.{◌≡◌, ◌≤◌, ℕ};
     ghost use Rattle.couch_http.specs.Message.{message_of};
     ghost use Rattle.node.specs.Causes.{HasCause};
     ghost use Rattle.node.specs.Step.{IsStep};

@@ -1,6 +1,6 @@
 //! The parts of a request's path, and what a part says once its escapes are read (RFC 3986, sections 2.1 and 3.3).
 
-ghost use Rattle.std.specs.Prelude.{◌≡◌, ◌≢◌, IfOk, IfErr, Ok, Err, Some, None, false, option_map, option_copied, string_bytes};
+ghost use Rattle.std.specs.Prelude.{◌≡◌, ◌≢◌, IfOk, Ok, Err, Some, None, false, option_map, option_copied, string_bytes};
 ghost use Rattle.tree.specs.DocumentId.{is_design_id, is_local_id};
 ghost use Rattle.node.specs.Paths.{database_name_in, decoded, decoded_at, document_id_in, part_at, text_if};
 ghost use Rattle.std.specs.Str.{is_utf8};

@@ -1,4 +1,4 @@
-ghost use Rattle.std.specs.Prelude.{◌≡◌, IfOk, option_map, option_copied};
+ghost use Rattle.std.specs.Prelude.{◌≡◌, IfOk, option_copied};
 ghost use Rattle.couch_json.specs.View.{view};
 ghost use Rattle.node.specs.Refusals.{error_of, name_of_rule, reason_of, reason_of_rule, refusal_value, rule_of, status_of};
 
