@@ -5,3 +5,4 @@ pub mod Plains
 pub mod Acceptable
 pub mod Orders
 pub mod Pagings
+pub mod Listings

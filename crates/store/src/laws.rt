@@ -1,7 +1,10 @@
 //! What follows from the definitions alone. Each function has an empty body: its contract is the law.
 
-ghost use Rattle.std.specs.Prelude.{◌≡◌, List};
-ghost use Rattle.store.specs.Database.{Database, DocumentWrite, HasSequences, IsContentOf, IsLater, Log, with_all, with_one, with_write_logged};
+ghost use Rattle.std.specs.Prelude.{◌≡◌, ℕ, Bool, List, [], Some, IsTrue};
+ghost use Rattle.std.specs.FinMap.{entries, find, get, is_sorted};
+ghost use Rattle.std.specs.Ordering.{nat_cmp};
+ghost use Rattle.store.specs.Pages.{SequenceRow, put_in_sequence, row_of, rows_of};
+ghost use Rattle.store.specs.Database.{Database, Document, DocumentWrite, HasSequences, IsContentOf, IsLater, Log, with_all, with_one, with_write_logged};
 
 /// Every log has a content, and only one.
 pub fn content_of_a_log()
@@ -30,4 +33,12 @@ pub fn sequences()
     ensures of_content { (log : Log) (db : Database) → IsContentOf log db → HasSequences db }
     ensures by_one { (db : Database) (w : DocumentWrite) → HasSequences db → HasSequences (with_one db w) }
     ensures by_all { (ws : List DocumentWrite) (db : Database) → HasSequences db → HasSequences (with_all db ws) }
+{}
+
+/// In a listing by sequence the sequences strictly ascend; and where they are as in `sequences`, each
+/// document has its row at its sequence.
+pub fn rows_by_sequence()
+    ensures ascending { (rows : List SequenceRow) → IsTrue (is_sorted nat_cmp (put_in_sequence rows [])) }
+    ensures whole { (all : Bool) (db : Database) (id : List ℕ) (d : Document) → HasSequences db → get db.documents id ≡ Some d
+        → find nat_cmp d.sequence (put_in_sequence (rows_of all (entries db.documents)) []) ≡ Some (row_of all (id, d)) }
 {}
