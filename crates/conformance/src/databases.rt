@@ -5,6 +5,7 @@ const LIFE_OF_A_DATABASE: &str = r#"
 anybody | GET / |  | 200 {"couchdb":"Welcome","version":"3-profile"}
 bob | PUT /new |  | 403 {"error":"forbidden","reason":"You are not a server admin.","rule":"server_admin"}
 root | PUT /new |  | 201 {"ok":true}
+bob | PUT /new | | 403 {"error":"forbidden","reason":"You are not a server admin.","rule":"server_admin"}
 root | PUT /new/ |  | 412 {"error":"file_exists","reason":"The database could not be created, the file already exists."}
 root | PUT /new?x=1 |  | 412 {"error":"file_exists","reason":"The database could not be created, the file already exists."}
 root | PUT /newer?x=1 |  | 400 {"error":"bad_request","reason":"query"}
@@ -41,7 +42,8 @@ fn databases_are_made_listed_secured_and_removed(rt: HostRuntime) -> Result<(), 
 }
 
 const DATABASE_ADMINS: &str = r#"
-bob | PUT /db/_security | {} | 403 {"error":"forbidden","reason":"You are not a db or server admin.","rule":"db_admin"}
+bob | PUT /db/_security?x=1 | [ | 403 {"error":"forbidden","reason":"You are not a db or server admin.","rule":"db_admin"}
+root | PUT /db/_security?x=1 | [ | 400 {"error":"bad_request","reason":"query"}
 root | PUT /db/_security | [] | 400 {"error":"bad_request","reason":"body"}
 root | PUT /db/_security | [ | 400 {"error":"bad_request","reason":"JSON"}
 root | PUT /none/_security | [ | 404 {"error":"not_found","reason":"Database does not exist."}

@@ -50,6 +50,37 @@ fn first_run(rt: HostRuntime) -> Result<(), Fail> {
     Ok(())
 }
 
+/// The life of a database; tokens are python's hmac under the secret `Jefe`.
+const DATABASE: &str = r#"node A
+conn A c
+send c PUT /db HTTP/1.1\r\nX-Auth-CouchDB-UserName: root\r\nX-Auth-CouchDB-Token: 160a499b3e61e4772a8874ed075f1ae84e9c342ac24d75151e0bd3cd76e1b6fb\r\n\r\n
+send c GET /db HTTP/1.1\r\n\r\n
+send c GET /db HTTP/1.1\r\nX-Auth-CouchDB-UserName: bob\r\nX-Auth-CouchDB-Token: a533821c1f94927364966e03c15c31c4814908a8e60237b2c1a574dbfa77b52c\r\n\r\n
+send c PUT /db/_security HTTP/1.1\r\nX-Auth-CouchDB-UserName: root\r\nX-Auth-CouchDB-Token: 160a499b3e61e4772a8874ed075f1ae84e9c342ac24d75151e0bd3cd76e1b6fb\r\nContent-Length: 2\r\n\r\n{}
+send c GET /db HTTP/1.1\r\nX-Auth-CouchDB-UserName: bob\r\nX-Auth-CouchDB-Token: a533821c1f94927364966e03c15c31c4814908a8e60237b2c1a574dbfa77b52c\r\n\r\n
+send c DELETE /db HTTP/1.1\r\nX-Auth-CouchDB-UserName: bob\r\nX-Auth-CouchDB-Token: a533821c1f94927364966e03c15c31c4814908a8e60237b2c1a574dbfa77b52c\r\n\r\n
+send c DELETE /db HTTP/1.1\r\nX-Auth-CouchDB-UserName: root\r\nX-Auth-CouchDB-Token: 160a499b3e61e4772a8874ed075f1ae84e9c342ac24d75151e0bd3cd76e1b6fb\r\n\r\n
+send c GET /_all_dbs HTTP/1.1\r\nX-Auth-CouchDB-UserName: root\r\nX-Auth-CouchDB-Token: 160a499b3e61e4772a8874ed075f1ae84e9c342ac24d75151e0bd3cd76e1b6fb\r\n\r\n
+"#;
+
+const DATABASE_PRINTED: &str = r#"c 201 {"ok":true}
+c 401 {"error":"unauthorized","reason":"You are not allowed to access this db.","rule":"db_member"}
+c 403 {"error":"forbidden","reason":"You are not allowed to access this db.","rule":"db_member"}
+c 200 {"ok":true}
+c 200 {"db_name":"db","doc_count":0,"doc_del_count":0,"update_seq":0}
+c 403 {"error":"forbidden","reason":"You are not a server admin.","rule":"server_admin"}
+c 200 {"ok":true}
+c 200 []
+"#;
+
+#[test]
+fn the_life_of_a_database(rt: HostRuntime) -> Result<(), Fail> {
+    let (printed, result) = played(rt.alloc(), DATABASE.as_bytes())?;
+    assert_eq!(rt; printed.as_str(), DATABASE_PRINTED);
+    assert_eq!(rt; result, Ok(0));
+    Ok(())
+}
+
 #[test]
 fn scripts_without_replies(rt: HostRuntime) -> Result<(), Fail> {
     for script in [
