@@ -29,6 +29,11 @@ is_hash hash = nat_le 1 (length hash) && nat_le (length hash) 64 && list_all is_
 abbrev pub is_revision : Revision → Bool
 is_revision r = nat_le 1 r.number && nat_le r.number greatest_number && is_hash r.hash
 
+-- the revision of a number and a hash, where they make one
+abbrev pub revision_of : ℕ → List ℕ → Option Revision
+revision_of number hash =
+    if is_revision (record { number = number; hash = hash }) then Some (record { number = number; hash = hash }) else None
+
 -- the text `N-hash`, with N in decimal
 abbrev pub text_of : Revision → List ℕ
 text_of r = decimal r.number ++ codes "-" ++ r.hash

@@ -7,7 +7,7 @@ ghost use Rattle.std.specs.Ordering.{nat_cmp, on, then_cmp, as_partial_cmp, eq_o
 ghost use Rattle.std.specs.Prelude.{◌==◌};
 ghost use Rattle.std.specs.List.{after_first, before_first, list_all, position};
 ghost use Rattle.std.specs.Char.{is_ascii_alphanumeric};
-ghost use Rattle.tree.specs.Revision.{Revision, is_dash, is_hash, is_number_text, is_revision, number_read, revision_read, text_of};
+ghost use Rattle.tree.specs.Revision.{Revision, is_dash, is_hash, is_number_text, is_revision, number_read, revision_of, revision_read, text_of};
 
 use couch_json::Got;
 use std::alloc::Global;
@@ -53,6 +53,19 @@ impl Rev {
             (λ r. IsTrue (is_revision r) × (text_of r ≡ text.now)) }
     {
         Rev::read(text)
+    }
+
+    /// The revision of a number and a hash, if they make one.
+    pub fn new(number: u32, hash: &str) -> Option<Rev>
+        ensures { result ≡ revision_of number hash.now }
+    {
+        if number < 1 || number > 2_147_483_647 {
+            return None;
+        }
+        if !is_hash(hash.as_bytes()) {
+            return None;
+        }
+        Some(Rev::made(number, hash.as_bytes()))
     }
 
     /// Its number, the count of edits that lead to it.
