@@ -1,20 +1,41 @@
--- What becomes of an edit that names no revision: a bad document, a conflict, no further generation, or the write that is appended.
--- CouchDB manual, api/document/common (`PUT /{db}/{docid}`: 409 where the document exists and no revision is given; a deleted one may be written again) and replication/conflicts.
-use Rattle.std.specs.Prelude.{ℕ, ◌==◌, false, if◌then◌else◌, List, [], ◌∷◌, Option, Some, None, option_map, Result, Ok, Err}
+-- What becomes of a write of a document: a bad document, a bad history, a conflict, no further generation, or the write that is appended.
+-- CouchDB manual, api/document/common (`PUT` and `DELETE /{db}/{docid}`: 409 where the revision is not the one to follow), api/database/bulk-api (`new_edits`) and replication/conflicts.
+use Rattle.std.specs.Prelude.{ℕ, ◌==◌, Bool, if◌then◌else◌, List, [], ◌∷◌, Option, Some, None, option_map, option_and_then, Result, Ok, Err}
 use Rattle.std.specs.FinMap.{get}
+use Rattle.std.specs.Ordering.{eq_by_cmp}
 use Rattle.couch_json.specs.Value.{Value}
-use Rattle.tree.specs.Revision.{Revision, greatest_number}
+use Rattle.tree.specs.Revision.{Revision, greatest_number, revision_cmp}
 use Rattle.tree.specs.NextRevision.{next_revision, number_before}
 use Rattle.tree.specs.Write.{head}
-use Rattle.tree.specs.History.{HistoryContent, chain, held_of, is_deleted, placement, winner}
+use Rattle.tree.specs.History.{HistoryContent, chain, held_of, is_deleted, is_leaf, placement, winner}
 use Rattle.tree.specs.declared.placement.Placed.{Placed}
 use Rattle.tree.specs.declared.placement.Placed.TheVariants.{Added, Known}
 use Rattle.tree.specs.declared.placement.TreeFault.{TreeFault}
 use Rattle.store.specs.Contents.{Contents}
 use Rattle.store.specs.Database.{Database, DocumentWrite, history_at}
-use Rattle.write.specs.DocumentBody.{body_in}
+use Rattle.write.specs.Document.{path_in, sent_in}
+use Rattle.write.specs.declared.document.Sent.{Sent}
 use Rattle.write.specs.declared.fault.WriteFault.{WriteFault}
-use Rattle.write.specs.declared.fault.WriteFault.TheVariants.{BadDocument, Conflict, Generation}
+use Rattle.write.specs.declared.fault.WriteFault.TheVariants.{BadDocument, BadHistory, Conflict, Generation}
+
+-- the write of what a document says, at the end of a path
+abbrev pub write_at : List ℕ → List Revision → Sent → DocumentWrite
+write_at id path sent = record { id = id; write = record { path = path; deleted = sent.deleted; body = sent.body } }
+
+-- ---- edits
+
+-- the revision that an edit names: in its query, in its document, or in both alike
+abbrev pub named : Option Revision → Option Revision → Option (Option Revision)
+named None own = Some own
+named (Some r) None = Some (Some r)
+named (Some r) (Some s) = if eq_by_cmp revision_cmp r s then Some (Some r) else None
+
+abbrev pub naming : Option Revision → Sent → Option Sent
+naming query sent = option_map (λ rev. record sent { rev = rev }) (named query sent.rev)
+
+-- what an edit says, with the revision that its query names; none where the document is a bad one
+abbrev pub edit_of : List ℕ → Option Revision → Value → Option Sent
+edit_of id query document = option_and_then (λ sent. naming query sent) (sent_in id document)
 
 -- The path that an edit without a revision goes on from: none behind it where nothing was ever written, that of the winner where
 -- the winner is deleted. Where the winner is not deleted there is no such path.
@@ -22,12 +43,16 @@ abbrev pub extended : HistoryContent → Option Revision → Option (List Revisi
 extended h None = Some []
 extended h (Some r) = if is_deleted (held_of h r) then chain h r else None
 
--- the write of a body as the next revision of a path
-abbrev pub next_write : List ℕ → List Revision → Value → DocumentWrite
-next_write id base body =
-    record { id = id; write = record { path = next_revision (head base) false body ∷ base; deleted = false; body = body } }
+-- the path that an edit goes on from: that of the leaf that it names, deleted or not
+abbrev pub base : HistoryContent → Option Revision → Option (List Revision)
+base h None = extended h (winner h)
+base h (Some r) = if is_leaf h r then chain h r else None
 
--- a write is appended where its revision is new to the tree and its path fits in; else it is a conflict
+-- the write of an edit as the next revision of a path
+abbrev pub next_write : List ℕ → List Revision → Sent → DocumentWrite
+next_write id path sent = write_at id (next_revision (head path) sent.deleted sent.body ∷ path) sent
+
+-- an edit is appended where its revision is new to the tree and its path fits in; else it is a conflict
 abbrev pub appended : Result Placed TreeFault → DocumentWrite → Result DocumentWrite WriteFault
 appended (Ok Added) w = Ok w
 appended (Ok Known) w = Err Conflict
@@ -37,25 +62,25 @@ abbrev pub fitted : HistoryContent → DocumentWrite → Result DocumentWrite Wr
 fitted h w = appended (placement h w.write.path) w
 
 -- after the greatest number there is no further generation
-abbrev pub continued : List ℕ → HistoryContent → Value → List Revision → Result DocumentWrite WriteFault
-continued id h body base =
-    if number_before (head base) == greatest_number then Err Generation else fitted h (next_write id base body)
+abbrev pub continued : List ℕ → HistoryContent → Sent → List Revision → Result DocumentWrite WriteFault
+continued id h sent path =
+    if number_before (head path) == greatest_number then Err Generation else fitted h (next_write id path sent)
 
-abbrev pub admitted_after : List ℕ → HistoryContent → Value → Option (List Revision) → Result DocumentWrite WriteFault
-admitted_after id h body None = Err Conflict
-admitted_after id h body (Some base) = continued id h body base
+abbrev pub admitted_after : List ℕ → HistoryContent → Sent → Option (List Revision) → Result DocumentWrite WriteFault
+admitted_after id h sent None = Err Conflict
+admitted_after id h sent (Some path) = continued id h sent path
 
-abbrev pub admitted_body : List ℕ → HistoryContent → Option Value → Result DocumentWrite WriteFault
-admitted_body id h None = Err BadDocument
-admitted_body id h (Some body) = admitted_after id h body (extended h (winner h))
+abbrev pub admitted_edit : List ℕ → HistoryContent → Option Sent → Result DocumentWrite WriteFault
+admitted_edit id h None = Err BadDocument
+admitted_edit id h (Some sent) = admitted_after id h sent (base h sent.rev)
 
--- what becomes of the edit of a document with this history
-abbrev pub admitted : List ℕ → HistoryContent → Value → Result DocumentWrite WriteFault
-admitted id h document = admitted_body id h (body_in id document)
+-- what becomes of the edit of a document with this history, whose query names this revision or none
+abbrev pub admitted : List ℕ → HistoryContent → Option Revision → Value → Result DocumentWrite WriteFault
+admitted id h query document = admitted_edit id h (edit_of id query document)
 
 -- what becomes of the edit in this database
-abbrev pub admission : Database → List ℕ → Value → Result DocumentWrite WriteFault
-admission db id document = admitted id (history_at db id) document
+abbrev pub admission : Database → List ℕ → Option Revision → Value → Result DocumentWrite WriteFault
+admission db id query document = admitted id (history_at db id) query document
 
 -- the writes that it makes: one
 abbrev pub alone : Result DocumentWrite WriteFault → Result (List DocumentWrite) WriteFault
@@ -63,9 +88,29 @@ alone (Ok w) = Ok (w ∷ [])
 alone (Err fault) = Err fault
 
 -- what becomes of the edit in the database of this name, where there is one
-abbrev pub edit_in : Contents → List ℕ → List ℕ → Value → Option (Result (List DocumentWrite) WriteFault)
-edit_in contents name id document = option_map (λ db. alone (admission db id document)) (get contents name)
+abbrev pub edit_in : Contents → List ℕ → List ℕ → Option Revision → Value → Option (Result (List DocumentWrite) WriteFault)
+edit_in contents name id query document = option_map (λ db. alone (admission db id query document)) (get contents name)
 
 -- the revision that a write makes
 abbrev pub new_revision : DocumentWrite → Option Revision
 new_revision w = head w.write.path
+
+-- ---- replicated writes
+
+-- a replicated write is appended where its revision is new; where it is known, nothing changes
+abbrev pub taken : Result Placed TreeFault → DocumentWrite → Result (Option DocumentWrite) WriteFault
+taken (Ok Added) w = Ok (Some w)
+taken (Ok Known) w = Ok None
+taken (Err fault) w = Err BadHistory
+
+abbrev pub taken_on : List ℕ → HistoryContent → Sent → Result (List Revision) WriteFault → Result (Option DocumentWrite) WriteFault
+taken_on id h sent (Ok path) = taken (placement h path) (write_at id path sent)
+taken_on id h sent (Err fault) = Err fault
+
+abbrev pub taken_in : List ℕ → HistoryContent → Value → Option Sent → Result (Option DocumentWrite) WriteFault
+taken_in id h document None = Err BadDocument
+taken_in id h document (Some sent) = taken_on id h sent (path_in document sent.rev)
+
+-- what becomes of a replicated document: the write that is appended, nothing where its revision is known, or the fault
+abbrev pub replicated : List ℕ → HistoryContent → Value → Result (Option DocumentWrite) WriteFault
+replicated id h document = taken_in id h document (sent_in id document)

@@ -1,4 +1,5 @@
 pub mod Causes
-pub mod DocumentBody
+pub mod Document
 pub mod Admission
+pub mod Bulk
 pub mod Planning

@@ -1,36 +1,74 @@
-ghost use Rattle.std.specs.Prelude.{◌≡◌, ◌≢◌, ◌<◌, IfOk, IfErr, Ok, Err, length, option_map};
+ghost use Rattle.std.specs.Prelude.{◌≡◌, ◌≢◌, ◌<◌, IfOk, IfErr, OnErr, Ok, Err, Some, length, option_map};
 ghost use Rattle.couch_json.specs.View.{view};
-ghost use Rattle.tree.specs.History.{winner};
+ghost use Rattle.tree.specs.History.{winner, with_write};
 ghost use Rattle.store.specs.Writing.{writing_of};
-ghost use Rattle.write.specs.Admission.{admitted as admitted_lem, continued as continued_lem, extended as extended_lem, fitted as fitted_lem};
+ghost use Rattle.write.specs.Admission.{admitted as admitted_lem, base as base_lem, continued as continued_lem, edit_of as edit_of_lem, extended as extended_lem, fitted as fitted_lem, named as named_lem};
 
-use crate::body::body_in;
+use crate::document::{Sent, sent_in};
 use crate::fault::WriteFault;
 use couch_json::{Got, Json};
 use std::alloc::Global;
 use store::Write;
 use tree::{DocId, History, Placed, Rev, RevFault, TreeFault, next_rev};
 
-/// What becomes of an edit without a revision, of a document with this history.
+/// What becomes of an edit of a document with this history. Where it is appended the history takes
+/// it in.
 pub(crate) fn admitted(
     alloc: Global,
-    history: History,
+    history: &mut History,
     id: &DocId,
+    query: Option<Rev>,
     document: Json,
 ) -> Result<Write, WriteFault>
-    ensures ok { IfOk result (λ write. admitted_lem id.now history (view document) ≡ Ok (writing_of write)) }
+    ensures ok { IfOk result (λ write. admitted_lem id.now history.old query (view document) ≡ Ok (writing_of write)) }
     ensures headed { IfOk result (λ write. 0 < length write.path.items) }
-    ensures fault { IfErr result (λ fault. fault ≢ WriteFault.Memory → admitted_lem id.now history (view document) ≡ Err fault) }
+    ensures taken_in { IfOk result (λ write. history.new ≡ with_write history.old (writing_of write).write) }
+    ensures fault { IfErr result (λ fault. fault ≢ WriteFault.Memory → admitted_lem id.now history.old query (view document) ≡ Err fault) }
+    ensures err { OnErr result (history.new ≡ history.old) }
     ensures others { IfErr result (λ fault. (fault ≢ WriteFault.BadHistory) × ((rule : _) → fault ≢ WriteFault.Denied rule)
         × ((cause : _) → fault ≢ WriteFault.Store cause)) }
 {
-    let Some(body) = body_in(id, document) else {
+    let Some(sent) = edit_of(id, query, document) else {
         return Err(WriteFault::BadDocument);
     };
-    let Some(base) = extended(alloc, &history)? else {
+    let Some(path) = base(alloc, history, sent.rev)? else {
         return Err(WriteFault::Conflict);
     };
-    continued(alloc, history, id, body, base)
+    continued(alloc, history, id, sent, path)
+}
+
+/// What an edit says, with the revision that its query names; `None` where the document is a bad one.
+fn edit_of(id: &DocId, query: Option<Rev>, document: Json) -> Option<Sent>
+    ensures { result ≡ edit_of_lem id.now query (view document) }
+{
+    let sent = sent_in(id, document)?;
+    let rev = named(query, sent.rev)?;
+    Some(Sent { rev, ..sent })
+}
+
+/// The revision that an edit names: in its query, in its document, or in both alike.
+fn named(query: Option<Rev>, own: Option<Rev>) -> Option<Option<Rev>>
+    ensures { result ≡ named_lem query own }
+{
+    match (query, own) {
+        (None, own) => Some(own),
+        (query, None) => Some(query),
+        (Some(rev), Some(own)) if rev.cmp(&own).is_eq() => Some(query),
+        _ => None,
+    }
+}
+
+/// The path that an edit goes on from, newest first, or `None` where it is a conflict.
+fn base(alloc: Global, history: &History, rev: Option<Rev>) -> Got<Option<Vec<Rev>>>
+    ensures { IfOk result (λ base. option_map (λ revs. revs.items) base ≡ base_lem history.now rev) }
+{
+    let Some(rev) = rev else {
+        return extended(alloc, history);
+    };
+    if !history.is_leaf(&rev) {
+        return Ok(None);
+    }
+    history.chain(&rev)
 }
 
 /// The path that an edit without a revision goes on from, newest first.
@@ -46,48 +84,48 @@ fn extended(alloc: Global, history: &History) -> Got<Option<Vec<Rev>>>
     }
 }
 
-/// The write of a body as the next revision of a path.
+/// The write of an edit as the next revision of a path.
 fn continued(
     alloc: Global,
-    history: History,
+    history: &mut History,
     id: &DocId,
-    body: Json,
-    base: Vec<Rev>,
+    sent: Sent,
+    path: Vec<Rev>,
 ) -> Result<Write, WriteFault>
-    ensures ok { IfOk result (λ write. continued_lem id.now history (view body) base.items ≡ Ok (writing_of write)) }
+    ensures ok { IfOk result (λ write. continued_lem id.now history.old sent path.items ≡ Ok (writing_of write)) }
     ensures headed { IfOk result (λ write. 0 < length write.path.items) }
-    ensures fault { IfErr result (λ fault. fault ≢ WriteFault.Memory → continued_lem id.now history (view body) base.items ≡ Err fault) }
+    ensures taken_in { IfOk result (λ write. history.new ≡ with_write history.old (writing_of write).write) }
+    ensures fault { IfErr result (λ fault. fault ≢ WriteFault.Memory → continued_lem id.now history.old sent path.items ≡ Err fault) }
+    ensures err { OnErr result (history.new ≡ history.old) }
     ensures others { IfErr result (λ fault. (fault ≢ WriteFault.BadHistory) × ((rule : _) → fault ≢ WriteFault.Denied rule)
         × ((cause : _) → fault ≢ WriteFault.Store cause)) }
 {
-    let rev = match next_rev(alloc, base.first(), false, &body) {
+    let rev = match next_rev(alloc, path.first(), sent.deleted, sent.body.json()) {
         Ok(rev) => rev,
         Err(RevFault::Generation) => return Err(WriteFault::Generation),
         Err(RevFault::Memory) => return Err(WriteFault::Memory),
     };
-    let mut path = base;
+    let mut path = path;
     path.insert(0, rev)?;
-    let id = id.copy(alloc)?;
-    fitted(
-        history,
-        Write {
-            id,
-            path,
-            deleted: false,
-            body,
-        },
-    )
+    let write = Write {
+        id: id.copy(alloc)?,
+        path,
+        deleted: sent.deleted,
+        body: sent.body.into_json(),
+    };
+    fitted(history, write)
 }
 
 /// The write, where the history takes it in as a new revision.
-fn fitted(history: History, write: Write) -> Result<Write, WriteFault>
-    ensures ok { IfOk result (λ accepted. fitted_lem history (writing_of write) ≡ Ok (writing_of accepted)) }
+fn fitted(history: &mut History, write: Write) -> Result<Write, WriteFault>
+    ensures ok { IfOk result (λ accepted. fitted_lem history.old (writing_of write) ≡ Ok (writing_of accepted)) }
     ensures same { IfOk result (λ accepted. accepted ≡ write) }
-    ensures fault { IfErr result (λ fault. fault ≢ WriteFault.Memory → fitted_lem history (writing_of write) ≡ Err fault) }
+    ensures taken_in { IfOk result (λ accepted. history.new ≡ with_write history.old (writing_of accepted).write) }
+    ensures fault { IfErr result (λ fault. fault ≢ WriteFault.Memory → fitted_lem history.old (writing_of write) ≡ Err fault) }
+    ensures err { OnErr result (history.new ≡ history.old) }
     ensures others { IfErr result (λ fault. (fault ≢ WriteFault.BadHistory) × ((rule : _) → fault ≢ WriteFault.Denied rule)
         × ((cause : _) → fault ≢ WriteFault.Store cause)) }
 {
-    let mut history = history;
     match history.insert(&write.path, write.deleted, &write.body) {
         Ok(Placed::Added) => Ok(write),
         Ok(Placed::Known) => Err(WriteFault::Conflict),

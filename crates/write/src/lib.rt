@@ -3,7 +3,7 @@
 
 mod admission;
 mod applying;
-mod body;
+mod document;
 mod editing;
 mod fault;
 mod planned;

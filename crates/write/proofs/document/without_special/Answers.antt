@@ -2,7 +2,7 @@ use Rattle.std.proofs.Common.{rules, ◌∙◌, ap}
 use Rattle.std.proofs.lemmas.Map.Made.{filter_same_pairs}
 use Rattle.couch_json.specs.View.{members_view}
 use Rattle.write.proofs.Bodies.{is_plain, members_view-filter}
-use Rattle.write.proofs.body.without_special.Goals as goal
+use Rattle.write.proofs.document.without_special.Goals as goal
 
 pub returns : goal.returns
 returns c =

@@ -1,0 +1,76 @@
+-- What becomes of several documents that are written together.
+-- CouchDB manual, api/database/bulk-api (`POST /{db}/_bulk_docs`, `new_edits`): each has its own outcome; that they are judged one after another, each by the database that those before it left, is this server's own.
+use Rattle.std.specs.Prelude.{ℕ, Bool, true, false, List, [], ◌∷◌, map, Option, Some, None, option_and_then, option_map, Result, Ok, Err, result_map, codes}
+use Rattle.couch_json.specs.Value.{Value}
+use Rattle.tree.specs.Revision.{Revision}
+use Rattle.tree.specs.History.{HistoryContent}
+use Rattle.store.specs.Database.{Database, DocumentWrite, history_at, with_one}
+use Rattle.write.specs.Admission.{admitted, new_revision, replicated}
+use Rattle.write.specs.Document.{id_in, member_text}
+use Rattle.write.specs.declared.fault.WriteFault.{WriteFault}
+use Rattle.write.specs.declared.fault.WriteFault.TheVariants.{BadDocument}
+
+-- a write that is appended, nothing where there is nothing to do, or a fault
+abbrev pub Outcome : Type 0
+Outcome = Result (Option DocumentWrite) WriteFault
+
+abbrev pub as_outcome : Result DocumentWrite WriteFault → Outcome
+as_outcome (Ok w) = Ok (Some w)
+as_outcome (Err fault) = Err fault
+
+-- what becomes of a document with this history: as a new edit, or as a replicated write
+abbrev pub judged : Bool → List ℕ → HistoryContent → Value → Outcome
+judged true id h document = as_outcome (admitted id h None document)
+judged false id h document = replicated id h document
+
+abbrev pub judged_by : Bool → Database → Value → Option (List ℕ) → Outcome
+judged_by new_edits db document None = Err BadDocument
+judged_by new_edits db document (Some id) = judged new_edits id (history_at db id) document
+
+-- what becomes of a document in this database
+abbrev pub outcome_in : Bool → Database → Value → Outcome
+outcome_in new_edits db document = judged_by new_edits db document (id_in document)
+
+-- the database after an outcome
+abbrev pub after : Database → Outcome → Database
+after db (Ok (Some w)) = with_one db w
+after db (Ok None) = db
+after db (Err fault) = db
+
+-- what becomes of each document, in order, in the database that those before it left
+abbrev pub outcomes : Bool → Database → List Value → List Outcome
+outcomes new_edits db [] = []
+outcomes new_edits db (v ∷ vs) = outcome_in new_edits db v ∷ outcomes new_edits (after db (outcome_in new_edits db v)) vs
+
+abbrev pub put_before : Outcome → List DocumentWrite → List DocumentWrite
+put_before (Ok (Some w)) ws = w ∷ ws
+put_before (Ok None) ws = ws
+put_before (Err fault) ws = ws
+
+-- the writes that are appended, in order
+abbrev pub writes_in : List Outcome → List DocumentWrite
+writes_in [] = []
+writes_in (o ∷ os) = put_before o (writes_in os)
+
+-- ---- what is told of them
+
+-- what is told of a document: its `_id` and its `_rev`, where these are texts, and the new revision, none where nothing was done,
+-- or the fault
+pub record Told : Type 0 where
+  pub id : Option (List ℕ)
+  pub rev : Option (List ℕ)
+  pub outcome : Result (Option Revision) WriteFault
+
+abbrev pub revision_made : Outcome → Result (Option Revision) WriteFault
+revision_made (Ok None) = Ok None
+revision_made (Ok (Some w)) = Ok (new_revision w)
+revision_made (Err fault) = Err fault
+
+abbrev pub told : Value → Outcome → Told
+told document outcome =
+    record { id = member_text (codes "_id") document; rev = member_text (codes "_rev") document; outcome = revision_made outcome }
+
+abbrev pub all_told : List Value → List Outcome → List Told
+all_told [] os = []
+all_told (v ∷ vs) [] = []
+all_told (v ∷ vs) (o ∷ os) = told v o ∷ all_told vs os

@@ -1,0 +1,209 @@
+-- What a document that a client sends says: its body, the revision that it names, its mark of deletion, and the history that it comes with; and which documents are bad ones.
+-- CouchDB manual, api/document/common ("Special Fields": names that begin with `_` are reserved) and api/database/bulk-api (`_revisions`); that other special members are refused and the limit on depth are this server's own.
+use Rattle.std.specs.Prelude.{ℕ, suc, ◌==◌, Bool, true, false, not, ◌&&◌, ◌||◌, if◌then◌else◌, List, [], ◌∷◌, length, ℤ, pos, negsuc, Option, Some, None, option_map, option_and_then, Result, Ok, Err, codes, nat_eq, nat_le, bytes_eq}
+use Rattle.std.specs.List.{starts_with}
+use Rattle.couch_json.specs.Value.{Value, null, truth, whole, text, array, object, Items, no_items, item, Members, no_members, member, member_of, depth}
+use Rattle.store.specs.Contents.{max_body_depth}
+use Rattle.tree.specs.DocumentId.{is_design_id, is_document_id, is_local_id}
+use Rattle.tree.specs.Revision.{Revision, greatest_number, revision_of, revision_read}
+use Rattle.write.specs.declared.fault.WriteFault.{WriteFault}
+use Rattle.write.specs.declared.fault.WriteFault.TheVariants.{BadDocument, BadHistory}
+use Rattle.write.specs.declared.document.Sent.{Sent}
+
+-- ---- parts of a value
+
+-- the text that a value is
+abbrev pub text_in : Value → Option (List ℕ)
+text_in (text t) = Some t
+text_in null = None
+text_in (truth b) = None
+text_in (whole n) = None
+text_in (array vs) = None
+text_in (object ms) = None
+
+abbrev pub truth_in : Value → Option Bool
+truth_in (truth b) = Some b
+truth_in null = None
+truth_in (whole n) = None
+truth_in (text s) = None
+truth_in (array vs) = None
+truth_in (object ms) = None
+
+abbrev pub natural : ℤ → Option ℕ
+natural (pos n) = Some n
+natural (negsuc n) = None
+
+-- the number that a value is, from 0
+abbrev pub natural_in : Value → Option ℕ
+natural_in (whole n) = natural n
+natural_in null = None
+natural_in (truth b) = None
+natural_in (text s) = None
+natural_in (array vs) = None
+natural_in (object ms) = None
+
+-- the text of a member, where there is one and it is a text
+abbrev pub member_text : List ℕ → Value → Option (List ℕ)
+member_text name v = option_and_then (λ m. text_in m) (member_of v name)
+
+-- ---- special members
+
+-- special members have names that begin with an underscore
+abbrev pub is_special : List ℕ → Bool
+is_special name = starts_with nat_eq name (codes "_")
+
+-- those that a document may have
+abbrev pub is_document_member : List ℕ → Bool
+is_document_member name =
+    bytes_eq name (codes "_id") || bytes_eq name (codes "_rev") || bytes_eq name (codes "_deleted") || bytes_eq name (codes "_revisions")
+
+abbrev pub is_allowed : List ℕ → Bool
+is_allowed name = not (is_special name) || is_document_member name
+
+abbrev pub are_allowed : Members → Bool
+are_allowed no_members = true
+are_allowed (member name v ms) = is_allowed name && are_allowed ms
+
+abbrev pub without_special : Members → Members
+without_special no_members = no_members
+without_special (member name v ms) = if is_special name then without_special ms else member name v (without_special ms)
+
+-- `_id`, where it is given, has to be the document's id
+abbrev pub is_same_text : List ℕ → Option (List ℕ) → Bool
+is_same_text id None = false
+is_same_text id (Some t) = bytes_eq t id
+
+abbrev pub fits_id : List ℕ → Option Value → Bool
+fits_id id None = true
+fits_id id (Some v) = is_same_text id (text_in v)
+
+-- `_rev`, where it is given, has to be a revision
+abbrev pub revision_in : Option Value → Option (Option Revision)
+revision_in None = Some None
+revision_in (Some v) = option_and_then (λ t. option_map (λ r. Some r) (revision_read t)) (text_in v)
+
+-- `_deleted`, where it is given, has to be true or false
+abbrev pub mark_in : Option Value → Option Bool
+mark_in None = Some false
+mark_in (Some v) = truth_in v
+
+-- ---- a document
+
+abbrev pub sent_with : Value → Option Revision → Bool → Sent
+sent_with body rev deleted = record { rev = rev; deleted = deleted; body = body }
+
+-- what the special members say, beside this body
+abbrev pub said : Value → Value → Option Sent
+said document body =
+    option_and_then (λ rev. option_map (λ deleted. sent_with body rev deleted) (mark_in (member_of document (codes "_deleted"))))
+    (revision_in (member_of document (codes "_rev")))
+
+abbrev pub said_if : Bool → Value → Value → Option Sent
+said_if good document body = if good then said document body else None
+
+abbrev pub is_good : List ℕ → Members → Bool
+is_good id ms =
+    are_allowed ms && fits_id id (member_of (object ms) (codes "_id")) && nat_le (depth (object (without_special ms))) max_body_depth
+
+-- what a document with this id says, or none where it is a bad one: where it is no object, has a special member that no document
+-- has or one of another form, or its body, which is what is left without them, nests too deep
+abbrev pub sent_in : List ℕ → Value → Option Sent
+sent_in id (object ms) = said_if (is_good id ms) (object ms) (object (without_special ms))
+sent_in id null = None
+sent_in id (truth b) = None
+sent_in id (whole n) = None
+sent_in id (text s) = None
+sent_in id (array vs) = None
+
+-- the id that a document of several gives itself: a text that is the id of a document, of no local one, and, as long as they are
+-- not served, of no design document
+abbrev pub is_bulk_id : List ℕ → Bool
+is_bulk_id id = is_document_id id && not (is_design_id id) && not (is_local_id id)
+
+abbrev pub id_if : List ℕ → Option (List ℕ)
+id_if id = if is_bulk_id id then Some id else None
+
+abbrev pub id_in : Value → Option (List ℕ)
+id_in document = option_and_then (λ t. id_if t) (member_text (codes "_id") document)
+
+-- ---- the history that a replicated document comes with
+
+abbrev pub count : Items → ℕ
+count no_items = 0
+count (item v vs) = suc (count vs)
+
+abbrev pub onto : Option Revision → Option (List Revision) → Option (List Revision)
+onto None path = None
+onto (Some r) path = option_map (λ rs. r ∷ rs) path
+
+-- the revisions of these hashes, whose numbers go down by one and end at 1; none where one of them is no hash
+abbrev pub path_of : Items → Option (List Revision)
+path_of no_items = Some []
+path_of (item v vs) = onto (option_and_then (λ hash. revision_of (suc (count vs)) hash) (text_in v)) (path_of vs)
+
+abbrev pub path_in_list : Value → Option (List Revision)
+path_in_list (array vs) = path_of vs
+path_in_list null = None
+path_in_list (truth b) = None
+path_in_list (whole n) = None
+path_in_list (text s) = None
+path_in_list (object ms) = None
+
+-- the number of a revision
+abbrev pub number_if : ℕ → Option ℕ
+number_if n = if nat_le 1 n && nat_le n greatest_number then Some n else None
+
+-- the object has no member but `start` and `ids`
+abbrev pub are_start_and_ids : Members → Bool
+are_start_and_ids no_members = true
+are_start_and_ids (member name v ms) = (bytes_eq name (codes "start") || bytes_eq name (codes "ids")) && are_start_and_ids ms
+
+abbrev pub has_start_and_ids : Value → Bool
+has_start_and_ids (object ms) = are_start_and_ids ms
+has_start_and_ids null = false
+has_start_and_ids (truth b) = false
+has_start_and_ids (whole n) = false
+has_start_and_ids (text s) = false
+has_start_and_ids (array vs) = false
+
+-- the number that `start` gives the newest revision
+abbrev pub start_in : Value → Option ℕ
+start_in v = option_and_then (λ n. number_if n) (option_and_then (λ m. natural_in m) (member_of v (codes "start")))
+
+-- the revisions of `ids`, numbered from the oldest, which is the first of all
+abbrev pub ids_in : Value → Option (List Revision)
+ids_in v = option_and_then (λ m. path_in_list m) (member_of v (codes "ids"))
+
+abbrev pub ancestry_if : Bool → Value → Option (ℕ × List Revision)
+ancestry_if good v = if good then option_and_then (λ start. option_map (λ path. (start, path)) (ids_in v)) (start_in v) else None
+
+-- what `_revisions` says: `start` and `ids`, newest first, and nothing else
+abbrev pub ancestry_in : Value → Option (ℕ × List Revision)
+ancestry_in v = ancestry_if (has_start_and_ids v) v
+
+-- the newest revision is `start` with the first of `ids`; a document that names its revision too names this one
+abbrev pub is_newest : ℕ → List Revision → Option Revision → Bool
+is_newest start [] rev = false
+is_newest start (r ∷ path) None = true
+is_newest start (r ∷ path) (Some s) = (s.number == start) && bytes_eq s.hash r.hash
+
+-- with fewer hashes than `start` says, or more, they are not the whole history
+abbrev pub whole_path : ℕ → List Revision → Result (List Revision) WriteFault
+whole_path start path = if start == length path then Ok path else Err BadHistory
+
+abbrev pub path_from : Option (ℕ × List Revision) → Option Revision → Result (List Revision) WriteFault
+path_from None rev = Err BadDocument
+path_from (Some (start, path)) rev = if is_newest start path rev then whole_path start path else Err BadDocument
+
+abbrev pub path_alone : Option Revision → Result (List Revision) WriteFault
+path_alone None = Err BadDocument
+path_alone (Some r) = Ok (r ∷ [])
+
+abbrev pub path_by : Option Value → Option Revision → Result (List Revision) WriteFault
+path_by None rev = path_alone rev
+path_by (Some v) rev = path_from (ancestry_in v) rev
+
+-- the path of a replicated document that names this revision: that of `_revisions`, or the one revision; without both, or where
+-- they say different things, it is a bad document
+abbrev pub path_in : Value → Option Revision → Result (List Revision) WriteFault
+path_in document rev = path_by (member_of document (codes "_revisions")) rev

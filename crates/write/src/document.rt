@@ -1,0 +1,119 @@
+//! What a document that a client sends says, besides its history.
+
+ghost use Rattle.std.specs.Prelude.{◌≡◌, IfOk, Some, option_map, string_bytes};
+ghost use Rattle.couch_json.specs.Value.{member_of};
+ghost use Rattle.couch_json.specs.View.{view, members_view};
+ghost use Rattle.write.specs.Document.{are_allowed, fits_id, id_if, id_in, is_allowed, is_bulk_id, is_document_member, is_special, mark_in, member_text, revision_in, sent_in, text_in, without_special};
+
+use couch_json::{Got, Json};
+use std::alloc::Global;
+use std::collections::BTreeMap;
+use tree::{Body, DocId, IdFault, Rev};
+
+/// The most that a body may nest.
+const MAX_BODY_DEPTH: usize = 100;
+
+/// What a document says besides its id and its history.
+#[derive(Drop)]
+pub(crate) struct Sent {
+    /// The revision that it names.
+    pub(crate) rev: Option<Rev>,
+    /// Whether it is deleted.
+    pub(crate) deleted: bool,
+    /// What is left of it without its special members.
+    pub(crate) body: Body,
+}
+
+/// What a document with this id says, or `None` where it is a bad one.
+pub(crate) fn sent_in(id: &DocId, document: Json) -> Option<Sent>
+    ensures { result ≡ sent_in id.now (view document) }
+{
+    let is_own = fits_id(id, document.member("_id"));
+    let rev = revision_in(document.member("_rev"));
+    let deleted = mark_in(document.member("_deleted"));
+    let Json::Object(members) = document else {
+        return None;
+    };
+    if !are_allowed(&members) || !is_own {
+        return None;
+    }
+    let body = Json::Object(without_special(members));
+    if !body.nests_within(MAX_BODY_DEPTH) {
+        return None;
+    }
+    Some(Sent {
+        rev: rev?,
+        deleted: deleted?,
+        body: Body::new(body),
+    })
+}
+
+fn are_allowed(members: &BTreeMap<String, Json>) -> bool
+    ensures { result ≡ are_allowed (members_view members.now.entries) }
+{
+    for name in members.keys() {
+        if !is_allowed(name) {
+            return false;
+        }
+    }
+    true
+}
+
+fn is_allowed(name: &str) -> bool
+    ensures { result ≡ is_allowed name.now }
+{
+    !is_special(name) || is_document_member(name)
+}
+
+fn is_special(name: &str) -> bool
+    ensures { result ≡ is_special name.now }
+{
+    name.as_bytes().starts_with(b"_")
+}
+
+fn is_document_member(name: &str) -> bool
+    ensures { result ≡ is_document_member name.now }
+{
+    name == "_id" || name == "_rev" || name == "_deleted" || name == "_revisions"
+}
+
+fn without_special(members: BTreeMap<String, Json>) -> BTreeMap<String, Json>
+    ensures { members_view result.entries ≡ without_special (members_view members.entries) }
+{
+    let mut members = members;
+    members.retain(|name, _value| !is_special(name));
+    members
+}
+
+/// Whether `_id`, where it is given, is the text of the id.
+fn fits_id(id: &DocId, value: Option<&Json>) -> bool
+    ensures { result ≡ fits_id id.now (option_map (λ v. view v.now) value.entry) }
+{
+    match value {
+        Some(Json::Text(text)) => text.as_str() == id.as_str(),
+        Some(_) => false,
+        None => true,
+    }
+}
+
+/// The revision that `_rev` gives, if it is given; `None` where it gives none.
+fn revision_in(value: Option<&Json>) -> Option<Option<Rev>>
+    ensures { result ≡ revision_in (option_map (λ v. view v.now) value.entry) }
+{
+    match value {
+        Some(Json::Text(text)) => Some(Some(Rev::parse(text.as_bytes())?)),
+        Some(_) => None,
+        None => Some(None),
+    }
+}
+
+/// Whether `_deleted` marks the document as deleted; `None` where it is neither true nor false.
+fn mark_in(value: Option<&Json>) -> Option<bool>
+    ensures { result ≡ mark_in (option_map (λ v. view v.now) value.entry) }
+{
+    match value {
+        Some(Json::Truth(deleted)) => Some(*deleted),
+        Some(_) => None,
+        None => Some(false),
+    }
+}
