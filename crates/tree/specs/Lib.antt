@@ -1,4 +1,3 @@
-pub mod BodyCode
 pub mod DocumentId
 pub mod History
 pub mod HistoryCode
