@@ -1,3 +1,4 @@
+pub mod Convergence
 pub mod DocumentId
 pub mod History
 pub mod HistoryCode

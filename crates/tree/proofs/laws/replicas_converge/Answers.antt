@@ -1,0 +1,8 @@
+use Rattle.tree.proofs.Convergence.{leaves_converge, winner_converges}
+use Rattle.tree.proofs.laws.replicas_converge.Goals as goal
+
+pub returns-clause-leaves : goal.returns-clause-leaves
+returns-clause-leaves c = leaves_converge
+
+pub returns-clause-winner : goal.returns-clause-winner
+returns-clause-winner c = winner_converges
