@@ -1,5 +1,5 @@
 -- One more write after a lawful list: which writes go on lawfully, and what the content then shows.
-use Rattle.std.proofs.Common.{◌≡◌, ◌⊎◌, suc, ◌≤◌, Bool, true, false, cond, not, eqb, eqb-true, List, [], ◌∷◌, ◌++◌, length, Option, Some, None, Ok, Err, refl, sym, ap, subst, ◌∙◌, arith, inl, inr, length-append}
+use Rattle.std.proofs.Common.{◌≡◌, ◌⊎◌, suc, ◌≤◌, Bool, true, false, cond, not, eqb, eqb-true, List, [], ◌∷◌, ◌++◌, length, Option, Some, None, Ok, Err, refl, sym, ap, subst, ◌∙◌, arith, inl, inr, length-append, append_assoc}
 use Rattle.std.proofs.lemmas.Bool.{false≢true}
 use Rattle.std.specs.FinMap.{get}
 use Rattle.tree.specs.Revision.{Revision}
@@ -20,9 +20,13 @@ pub whole_more : (ws : List Write) (w : Write) → AreWhole ws → is_whole w.pa
 whole_more [] w h k = (k, tt)
 whole_more (v ∷ ws) w h k = (h.0, whole_more ws w h.1 k)
 
-whole_less : (ws : List Write) (w : Write) → AreWhole (ws ++ w ∷ []) → AreWhole ws × (is_whole w.path ≡ true)
-whole_less [] w h = (tt, h.0)
-whole_less (v ∷ ws) w h = let k = whole_less ws w h.1 in ((h.0, k.0), k.1)
+whole_front : (ws vs : List Write) → AreWhole (ws ++ vs) → AreWhole ws
+whole_front [] vs h = tt
+whole_front (w ∷ ws) vs h = (h.0, whole_front ws vs h.1)
+
+whole_last : (ws : List Write) (w : Write) → AreWhole (ws ++ w ∷ []) → is_whole w.path ≡ true
+whole_last [] w h = h.0
+whole_last (v ∷ ws) w h = whole_last ws w h.1
 
 parent_more : (ws : List Write) (w : Write) (r p : Revision) → IsParent (ws ++ w ∷ []) r p → IsParent ws r p ⊎ IsBehind w.path r p
 parent_more [] w r p (inl b) = inr b
@@ -30,10 +34,10 @@ parent_more [] w r p (inr b) = elim b [ ]
 parent_more (v ∷ ws) w r p (inl b) = inl (inl b)
 parent_more (v ∷ ws) w r p (inr b) = elim (parent_more ws w r p b) as (λ _. IsParent (v ∷ ws) r p ⊎ IsBehind w.path r p) [ inl k ↦ inl (inr k) | inr k ↦ inr k ]
 
-parent_kept : (ws : List Write) (w : Write) (r p : Revision) → IsParent ws r p → IsParent (ws ++ w ∷ []) r p
-parent_kept [] w r p b = elim b [ ]
-parent_kept (v ∷ ws) w r p (inl b) = inl b
-parent_kept (v ∷ ws) w r p (inr b) = inr (parent_kept ws w r p b)
+parent_kept : (ws vs : List Write) (r p : Revision) → IsParent ws r p → IsParent (ws ++ vs) r p
+parent_kept [] vs r p b = elim b [ ]
+parent_kept (w ∷ ws) vs r p (inl b) = inl b
+parent_kept (w ∷ ws) vs r p (inr b) = inr (parent_kept ws vs r p b)
 
 parent_last : (ws : List Write) (w : Write) (r p : Revision) → IsBehind w.path r p → IsParent (ws ++ w ∷ []) r p
 parent_last [] w r p b = inl b
@@ -206,24 +210,20 @@ module _ (ws : List Write) (whole : AreWhole ws) where
       let b = keeps_where_one_parent path (parts _ _ c).1 (λ s p q k i. one s p q k (inr i)) in
       rw (a, b) refl
 
-pub lawful_front : (ws : List Write) (w : Write) → IsLawful (ws ++ w ∷ []) → IsLawful ws
-lawful_front ws w lawful = record { whole = (whole_less ws w lawful.whole).0; heads_new = heads; one_parent = λ r p q b c. lawful.one_parent r p q (parent_kept ws w r p b) (parent_kept ws w r q c) }
+pub lawful_front : (ws vs : List Write) → IsLawful (ws ++ vs) → IsLawful ws
+lawful_front ws vs lawful = record { whole = whole_front ws vs lawful.whole; heads_new = heads; one_parent = λ r p q b c. lawful.one_parent r p q (parent_kept ws vs r p b) (parent_kept ws vs r q c) }
   where
-    joined : (before after : List Write) (v : Write) → (before ++ v ∷ after) ++ w ∷ [] ≡ before ++ v ∷ (after ++ w ∷ [])
-    joined [] after v = refl
-    joined (b ∷ before) after v = ap (λ xs. b ∷ xs) (joined before after v)
-
     heads : (before after : List Write) (v : Write) (r : Revision) → before ++ v ∷ after ≡ ws → head v.path ≡ Some r → ¬ (IsKnown before r)
-    heads before after v r s h = lawful.heads_new before (after ++ w ∷ []) v r (sym (joined before after v) ∙ ap (λ xs. xs ++ w ∷ []) s) h
+    heads before after v r s h = lawful.heads_new before (after ++ vs) v r (sym (append_assoc before (v ∷ after) vs) ∙ ap (λ xs. xs ++ vs) s) h
 
 pub goes_on_added : (ws : List Write) (w : Write) → IsLawful (ws ++ w ∷ []) → placement (content_of ws) w.path ≡ Ok Added
-goes_on_added ws w lawful = is_added (content_of ws) w.path (record { whole = whole; keeps = keeps_where_one_parent ws front.whole w.path (whole_counts w.path whole) (λ r p q b c. lawful.one_parent r p q (parent_kept ws w r p b) (parent_last ws w r q c)); new = new })
+goes_on_added ws w lawful = is_added (content_of ws) w.path (record { whole = whole; keeps = keeps_where_one_parent ws front.whole w.path (whole_counts w.path whole) (λ r p q b c. lawful.one_parent r p q (parent_kept ws (w ∷ []) r p b) (parent_last ws w r q c)); new = new })
   where
     front : IsLawful ws
-    front = lawful_front ws w lawful
+    front = lawful_front ws (w ∷ []) lawful
 
     whole : is_whole w.path ≡ true
-    whole = (whole_less ws w lawful.whole).1
+    whole = whole_last ws w lawful.whole
 
     new_at : (path : List Revision) (o : Option Revision) → head path ≡ o → head w.path ≡ o → is_head_known (content_of ws) path ≡ false
     new_at [] o h k = refl

@@ -1,21 +1,18 @@
 -- Writes that fit together: whatever their order, a replica takes in all revisions with their parents, and has the same leaves.
-use Rattle.std.proofs.Common.{◌≡◌, ◌⊎◌, ℕ, zero, suc, ◌<◌, Bool, true, false, cond, not, List, [], ◌∷◌, ◌++◌, length, Option, Some, None, Result, Ok, Err, refl, sym, ap, subst, ◌∙◌, arith, inl, inr, length-append}
+use Rattle.std.proofs.Common.{◌≡◌, ◌⊎◌, ℕ, zero, suc, ◌<◌, Bool, true, false, cond, List, [], ◌∷◌, ◌++◌, length, Option, Some, None, Ok, Err, refl, sym, ap, subst, ◌∙◌, arith, inl, inr, length-append, append-nil, append_assoc}
 use Rattle.std.specs.Prelude.{IsTrue, is_some, ◌↔◌, slice_index_or}
 use Rattle.std.specs.List.{Contains}
 use Rattle.std.proofs.lemmas.List.Elements.{Contains-append_left, Contains-append_right, Contains-push, Contains-push_cases}
-use Rattle.std.specs.FinMap.{get, empty}
 use Rattle.tree.specs.Revision.{Revision}
 use Rattle.tree.specs.Write.{Write, is_whole, head, held_by, StandsIn, IsBehind, IsKnown, IsParent, IsBrought, AreWhole, IsLawful}
-use Rattle.tree.specs.History.{HistoryContent, LooksAlike, Shows, is_known, parent_of, held_of, is_deleted, is_leaf, is_head_known, keeps_parents, leaves, winner, placement, content_of, with_write}
-use Rattle.tree.specs.Convergence.{AreConsistent, HaveSame, as_judged, merged, with_offered}
+use Rattle.tree.specs.History.{HistoryContent, LooksAlike, is_known, parent_of, held_of, is_deleted, is_leaf, is_head_known, keeps_parents, leaves, winner, placement, content_of}
+use Rattle.tree.specs.Convergence.{AreConsistent, BringOne, HaveSame, as_judged, merged, with_offered}
 use Rattle.tree.specs.declared.entry.Held.{Held}
-use Rattle.tree.specs.declared.placement.Placed.{Placed}
 use Rattle.tree.specs.declared.placement.Placed.TheVariants.{Added, Known}
 use Rattle.tree.specs.declared.placement.TreeFault.{TreeFault}
-use Rattle.tree.specs.declared.placement.TreeFault.TheVariants.{BadPath, OtherParent}
 use Rattle.tree.proofs.Contents.{one_more_write}
-use Rattle.tree.proofs.Shown.{shown, is_known_writes, entry_of_known, stands_behind, whole_counts, parent_is}
-use Rattle.tree.proofs.Continued.{added_goes_on, keeps_where_one_parent, kept_parent}
+use Rattle.tree.proofs.Shown.{shown, inside, is_known_writes, entry_of_known, stands_behind, whole_counts, parent_is}
+use Rattle.tree.proofs.Continued.{added_goes_on, goes_on_added, lawful_front, keeps_where_one_parent, kept_parent}
 use Rattle.tree.proofs.LawfulContents.{all_known, option_same, rooted}
 use Rattle.tree.proofs.Leaves.{leaf_alike, leaf_is_held, leaves_same, winner_same}
 
@@ -257,6 +254,15 @@ leaves_converge ws vs fit same = leaves_same (merged ws) (merged vs) (merged_ali
 pub winner_converges : (ws vs : List Write) → AreConsistent ws → HaveSame ws vs → winner (merged ws) ≡ winner (merged vs)
 winner_converges ws vs fit same = winner_same (merged ws) (merged vs) (merged_alike ws vs fit same)
 
+pub leaves_held_same : (ws vs : List Write) (r : Revision) → AreConsistent ws → HaveSame ws vs → BringOne ws r → IsTrue (is_leaf (merged ws) r) → held_of (merged ws) r ≡ held_of (merged vs) r
+leaves_held_same ws vs r fit same one l =
+    let a = merged_has ws ws fit (itself ws) in
+    let b = merged_has ws vs fit same in
+    let looks = merged_alike ws vs fit same in
+    let d = held_by_leaf ws (merged ws) a r l in
+    let e = held_by_leaf ws (merged vs) b r (leaf_alike (merged ws) (merged vs) looks.known looks.parents r l) in
+    d.1 ∙ ap Some (one d.0 e.0 d.2 e.2) ∙ sym e.1
+
 pub merged_known : (ws : List Write) (r : Revision) → AreConsistent ws → IsTrue (is_known (merged ws) r) ↔ IsKnown ws r
 merged_known ws r fit = known_of ws (merged ws) (merged_has ws ws fit (itself ws)) r
 
@@ -275,3 +281,26 @@ none_refused ws w fault fit e = by (is_head_known (content_of came.list) w.path)
     by : (b : Bool) → is_head_known (content_of came.list) w.path ≡ b → placement (content_of came.list) w.path ≡ Err fault → ⊥
     by true is f = let z = sym (placed (content_of came.list) w.path true judged.0 judged.1 is) ∙ f in cc
     by false is f = let z = sym (placed (content_of came.list) w.path false judged.0 judged.1 is) ∙ f in cc
+
+-- ---- lists of which each write was added
+
+pub lawful_fits : (ws : List Write) → IsLawful ws → AreConsistent ws
+lawful_fits ws lawful = record { whole = lawful.whole; one_parent = lawful.one_parent; one_mark = marks }
+  where
+    held : (r : Revision) (d : Held) → IsBrought ws r d → held_of (content_of ws) r ≡ Some d
+    held r d b = ((shown ws lawful).held r d).1 b
+
+    marks : (r : Revision) (d e : Held) → IsBrought ws r d → IsBrought ws r e → d.deleted ≡ e.deleted
+    marks r d e b c = ap (λ (x : Held). x.deleted) (inside d e (sym (held r d b) ∙ held r e c))
+
+lawful_offered : (before ws : List Write) → IsLawful (before ++ ws) → with_offered (content_of before) ws ≡ content_of (before ++ ws)
+lawful_offered before [] lawful = ap content_of (sym (append-nil before))
+lawful_offered before (w ∷ ws) lawful =
+    let split = append_assoc before (w ∷ []) ws in
+    let longer : IsLawful ((before ++ w ∷ []) ++ ws) = subst IsLawful (sym split) lawful in
+    let added = goes_on_added before w (lawful_front (before ++ w ∷ []) ws longer) in
+    ap (λ h. with_offered h ws) (ap (λ p. as_judged p (content_of before) w) added ∙ sym (one_more_write before w))
+    ∙ lawful_offered (before ++ w ∷ []) ws longer ∙ ap content_of split
+
+pub merged_lawful : (ws : List Write) → IsLawful ws → merged ws ≡ content_of ws
+merged_lawful ws lawful = lawful_offered [] ws lawful

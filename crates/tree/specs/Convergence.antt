@@ -34,6 +34,10 @@ pub record AreConsistent (ws : List Write) : Type 0 where
   pub one_parent : (r p q : Revision) → IsParent ws r p → IsParent ws r q → p ≡ q
   pub one_mark : (r : Revision) (d e : Held) → IsBrought ws r d → IsBrought ws r e → d.deleted ≡ e.deleted
 
+-- the writes of r all bring the same
+abbrev pub BringOne : List Write → Revision → Type 0
+BringOne ws r = (d e : Held) → IsBrought ws r d → IsBrought ws r e → d ≡ e
+
 -- the same writes, in whatever order and however often
 abbrev pub HaveSame : List Write → List Write → Type 0
 HaveSame ws vs = (w : Write) → Contains ws w ↔ Contains vs w
