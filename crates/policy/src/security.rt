@@ -45,7 +45,7 @@ impl Model for Security {
     ghost use Rattle.std.specs.Prelude.{IsTrue};
     ghost use Rattle.couch_json.specs.Value.{Value as JsonValue};
     ghost use Rattle.couch_json.specs.View.{view as value_of};
-    ghost use Rattle.tree.specs.BodyCode.{value_code};
+    ghost use Rattle.couch_json.specs.Code.{value_code};
     ghost use Rattle.policy.specs.Security.{is_security};
 
     ghost Value = { JsonValue };

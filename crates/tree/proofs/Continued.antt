@@ -1,5 +1,5 @@
 -- One more write after a lawful list: which writes go on lawfully, and what the content then shows.
-use Rattle.std.proofs.Common.{◌≡◌, ◌⊎◌, suc, ◌≤◌, Bool, true, false, cond, not, eqb, eqb-true, List, [], ◌∷◌, ◌++◌, length, Option, Some, None, Ok, Err, refl, sym, ap, subst, ◌∙◌, arith, inl, inr, length-append}
+use Rattle.std.proofs.Common.{◌≡◌, ◌⊎◌, suc, ◌≤◌, Bool, true, false, cond, not, eqb, eqb-true, List, [], ◌∷◌, ◌++◌, length, Option, Some, None, Ok, Err, refl, sym, ap, subst, ◌∙◌, arith, inl, inr, length-append, append_assoc}
 use Rattle.std.proofs.lemmas.Bool.{false≢true}
 use Rattle.std.specs.FinMap.{get}
 use Rattle.tree.specs.Revision.{Revision}
@@ -20,9 +20,13 @@ pub whole_more : (ws : List Write) (w : Write) → AreWhole ws → is_whole w.pa
 whole_more [] w h k = (k, tt)
 whole_more (v ∷ ws) w h k = (h.0, whole_more ws w h.1 k)
 
-whole_less : (ws : List Write) (w : Write) → AreWhole (ws ++ w ∷ []) → AreWhole ws × (is_whole w.path ≡ true)
-whole_less [] w h = (tt, h.0)
-whole_less (v ∷ ws) w h = let k = whole_less ws w h.1 in ((h.0, k.0), k.1)
+whole_front : (ws vs : List Write) → AreWhole (ws ++ vs) → AreWhole ws
+whole_front [] vs h = tt
+whole_front (w ∷ ws) vs h = (h.0, whole_front ws vs h.1)
+
+whole_last : (ws : List Write) (w : Write) → AreWhole (ws ++ w ∷ []) → is_whole w.path ≡ true
+whole_last [] w h = h.0
+whole_last (v ∷ ws) w h = whole_last ws w h.1
 
 parent_more : (ws : List Write) (w : Write) (r p : Revision) → IsParent (ws ++ w ∷ []) r p → IsParent ws r p ⊎ IsBehind w.path r p
 parent_more [] w r p (inl b) = inr b
@@ -30,10 +34,10 @@ parent_more [] w r p (inr b) = elim b [ ]
 parent_more (v ∷ ws) w r p (inl b) = inl (inl b)
 parent_more (v ∷ ws) w r p (inr b) = elim (parent_more ws w r p b) as (λ _. IsParent (v ∷ ws) r p ⊎ IsBehind w.path r p) [ inl k ↦ inl (inr k) | inr k ↦ inr k ]
 
-parent_kept : (ws : List Write) (w : Write) (r p : Revision) → IsParent ws r p → IsParent (ws ++ w ∷ []) r p
-parent_kept [] w r p b = elim b [ ]
-parent_kept (v ∷ ws) w r p (inl b) = inl b
-parent_kept (v ∷ ws) w r p (inr b) = inr (parent_kept ws w r p b)
+parent_kept : (ws vs : List Write) (r p : Revision) → IsParent ws r p → IsParent (ws ++ vs) r p
+parent_kept [] vs r p b = elim b [ ]
+parent_kept (w ∷ ws) vs r p (inl b) = inl b
+parent_kept (w ∷ ws) vs r p (inr b) = inr (parent_kept ws vs r p b)
 
 parent_last : (ws : List Write) (w : Write) (r p : Revision) → IsBehind w.path r p → IsParent (ws ++ w ∷ []) r p
 parent_last [] w r p b = inl b
@@ -97,7 +101,7 @@ is_same_parent (Some p) None e = cc
 is_same_parent (Some p) (Some q) e = let i : p ≡ q = cc in tied p q i
 
 -- what a path that keeps parents says of a known revision
-kept_parent : (h : HistoryContent) (path : List Revision) (r p : Revision) (e : Entry) → keeps_parents h path ≡ true → IsBehind path r p → get h r ≡ Some e → e.parent ≡ Some p
+pub kept_parent : (h : HistoryContent) (path : List Revision) (r p : Revision) (e : Entry) → keeps_parents h path ≡ true → IsBehind path r p → get h r ≡ Some e → e.parent ≡ Some p
 kept_parent h [] r p e k b g = elim b [ ]
 kept_parent h (s ∷ path) r p e k (inl b) g =
     let a = (parts _ _ k).0 in
@@ -171,58 +175,55 @@ added_goes_on ws w lawful e = record { whole = whole_more ws w lawful.whole a.wh
 
 -- ---- and what goes on lawfully is added
 
-pub lawful_front : (ws : List Write) (w : Write) → IsLawful (ws ++ w ∷ []) → IsLawful ws
-lawful_front ws w lawful = record { whole = (whole_less ws w lawful.whole).0; heads_new = heads; one_parent = λ r p q b c. lawful.one_parent r p q (parent_kept ws w r p b) (parent_kept ws w r q c) }
-  where
-    joined : (before after : List Write) (v : Write) → (before ++ v ∷ after) ++ w ∷ [] ≡ before ++ v ∷ (after ++ w ∷ [])
-    joined [] after v = refl
-    joined (b ∷ before) after v = ap (λ xs. b ∷ xs) (joined before after v)
+-- a path keeps parents where no revision of it has another one among the writes
+module _ (ws : List Write) (whole : AreWhole ws) where
+  agreed : (r : Revision) (next : Option Revision) → ((p q : Revision) → IsParent ws r p → next ≡ Some q → p ≡ q) → ((p : Revision) → next ≡ Some p → (2 ≤ r.number)) → (next ≡ None → r.number ≡ 1) → (e : Entry) → get (content_of ws) r ≡ Some e → (o : Option Revision) → e.parent ≡ o → o ≡ next
+  agreed r None one high low e g None is = refl
+  agreed r None one high low e g (Some q) is =
+      let b = parent_below ws r q whole (parent_is ws r q e g is) in
+      let n = low refl in
+      absurd (omega (arith, n, b.number, b.positive))
+  agreed r (Some p) one high low e g None is =
+      let n = root_number ws r e whole g is in
+      let m = high p refl in
+      absurd (omega (arith, n, m))
+  agreed r (Some p) one high low e g (Some q) is = ap Some (one q p (parent_is ws r q e g is) refl)
 
+  step : (r : Revision) (rest : List Revision) (o : Option Entry) → get (content_of ws) r ≡ o → counts_down (r ∷ rest) ≡ true → ((p q : Revision) → IsParent ws r p → head rest ≡ Some q → p ≡ q) → agrees o (head rest) ≡ true
+  step r rest None g c one = refl
+  step r rest (Some e) g c one =
+      let n = eqb-true r.number (suc (length rest)) (parts _ _ c).0 in
+      is_same_parent e.parent (head rest) (agreed r (head rest) one (λ p h. high rest p h n) (λ h. low rest h n) e g e.parent refl)
+    where
+      high : (rest : List Revision) (p : Revision) → head rest ≡ Some p → r.number ≡ suc (length rest) → 2 ≤ r.number
+      high [] p h n = cc
+      high (s ∷ rest) p h n = omega (arith, n)
+
+      low : (rest : List Revision) → head rest ≡ None → r.number ≡ suc (length rest) → r.number ≡ 1
+      low [] h n = n
+      low (s ∷ rest) h n = cc
+
+  pub keeps_where_one_parent : (path : List Revision) → counts_down path ≡ true → ((r p q : Revision) → IsParent ws r p → IsBehind path r q → p ≡ q) → keeps_parents (content_of ws) path ≡ true
+  keeps_where_one_parent [] c one = refl
+  keeps_where_one_parent (r ∷ path) c one =
+      let a = step r path (get (content_of ws) r) refl c (λ p q b h. one r p q b (inl (refl, h))) in
+      let b = keeps_where_one_parent path (parts _ _ c).1 (λ s p q k i. one s p q k (inr i)) in
+      rw (a, b) refl
+
+pub lawful_front : (ws vs : List Write) → IsLawful (ws ++ vs) → IsLawful ws
+lawful_front ws vs lawful = record { whole = whole_front ws vs lawful.whole; heads_new = heads; one_parent = λ r p q b c. lawful.one_parent r p q (parent_kept ws vs r p b) (parent_kept ws vs r q c) }
+  where
     heads : (before after : List Write) (v : Write) (r : Revision) → before ++ v ∷ after ≡ ws → head v.path ≡ Some r → ¬ (IsKnown before r)
-    heads before after v r s h = lawful.heads_new before (after ++ w ∷ []) v r (sym (joined before after v) ∙ ap (λ xs. xs ++ w ∷ []) s) h
+    heads before after v r s h = lawful.heads_new before (after ++ vs) v r (sym (append_assoc before (v ∷ after) vs) ∙ ap (λ xs. xs ++ vs) s) h
 
 pub goes_on_added : (ws : List Write) (w : Write) → IsLawful (ws ++ w ∷ []) → placement (content_of ws) w.path ≡ Ok Added
-goes_on_added ws w lawful = is_added (content_of ws) w.path (record { whole = whole; keeps = keeps w.path (whole_counts w.path whole) (λ r p b. parent_last ws w r p b); new = new })
+goes_on_added ws w lawful = is_added (content_of ws) w.path (record { whole = whole; keeps = keeps_where_one_parent ws front.whole w.path (whole_counts w.path whole) (λ r p q b c. lawful.one_parent r p q (parent_kept ws (w ∷ []) r p b) (parent_last ws w r q c)); new = new })
   where
     front : IsLawful ws
-    front = lawful_front ws w lawful
+    front = lawful_front ws (w ∷ []) lawful
 
     whole : is_whole w.path ≡ true
-    whole = (whole_less ws w lawful.whole).1
-
-    agreed : (r : Revision) (next : Option Revision) → ((p : Revision) → next ≡ Some p → IsParent (ws ++ w ∷ []) r p) → ((p : Revision) → next ≡ Some p → (2 ≤ r.number)) → (next ≡ None → r.number ≡ 1) → (e : Entry) → get (content_of ws) r ≡ Some e → (o : Option Revision) → e.parent ≡ o → o ≡ next
-    agreed r None up high low e g None is = refl
-    agreed r None up high low e g (Some q) is =
-        let b = parent_below ws r q front.whole (parent_is ws r q e g is) in
-        let n = low refl in
-        absurd (omega (arith, n, b.number, b.positive))
-    agreed r (Some p) up high low e g None is =
-        let n = root_number ws r e front.whole g is in
-        let m = high p refl in
-        absurd (omega (arith, n, m))
-    agreed r (Some p) up high low e g (Some q) is = ap Some (lawful.one_parent r q p (parent_kept ws w r q (parent_is ws r q e g is)) (up p refl))
-
-    step : (r : Revision) (rest : List Revision) (o : Option Entry) → get (content_of ws) r ≡ o → counts_down (r ∷ rest) ≡ true → ((s p : Revision) → IsBehind (r ∷ rest) s p → IsParent (ws ++ w ∷ []) s p) → agrees o (head rest) ≡ true
-    step r rest None g c up = refl
-    step r rest (Some e) g c up =
-        let n = eqb-true r.number (suc (length rest)) (parts _ _ c).0 in
-        is_same_parent e.parent (head rest)
-        (agreed r (head rest) (λ p h. up r p (inl (refl, h))) (λ p h. high rest p h n) (λ h. low rest h n) e g e.parent refl)
-      where
-        high : (rest : List Revision) (p : Revision) → head rest ≡ Some p → r.number ≡ suc (length rest) → 2 ≤ r.number
-        high [] p h n = cc
-        high (s ∷ rest) p h n = omega (arith, n)
-
-        low : (rest : List Revision) → head rest ≡ None → r.number ≡ suc (length rest) → r.number ≡ 1
-        low [] h n = n
-        low (s ∷ rest) h n = cc
-
-    keeps : (path : List Revision) → counts_down path ≡ true → ((r p : Revision) → IsBehind path r p → IsParent (ws ++ w ∷ []) r p) → keeps_parents (content_of ws) path ≡ true
-    keeps [] c up = refl
-    keeps (r ∷ path) c up =
-        let a = step r path (get (content_of ws) r) refl c up in
-        let b = keeps path (parts _ _ c).1 (λ s p b. up s p (inr b)) in
-        rw (a, b) refl
+    whole = whole_last ws w lawful.whole
 
     new_at : (path : List Revision) (o : Option Revision) → head path ≡ o → head w.path ≡ o → is_head_known (content_of ws) path ≡ false
     new_at [] o h k = refl

@@ -41,7 +41,7 @@ head_or_parent (w ∷ ws) r (inr h) = elim (head_or_parent ws r h) as (λ _. ((d
 -- ---- a path that was taken in
 
 -- a path that keeps parents and whose head is known is known
-all_known : (h : HistoryContent) (path : List Revision) (r : Revision) → IsRooted h → keeps_parents h path ≡ true → is_head_known h path ≡ true → StandsIn path r → is_known h r ≡ true
+pub all_known : (h : HistoryContent) (path : List Revision) (r : Revision) → IsRooted h → keeps_parents h path ≡ true → is_head_known h path ≡ true → StandsIn path r → is_known h r ≡ true
 all_known h [] r root k known i = elim i [ ]
 all_known h (s ∷ path) r root k known (inl e) = ap (is_known h) (sym e) ∙ known
 all_known h (s ∷ path) r root k known (inr i) = all_known h path r root (parts _ _ k).1 (behind path r i (parts _ _ k).0) i
@@ -118,14 +118,14 @@ chain_is_path ws lawful r rest e =
 
 -- ---- the content is the only one that shows so
 
+pub option_same : {X : Type 0} (o p : Option X) → ((x : X) → o ≡ Some x → p ≡ Some x) → ((x : X) → p ≡ Some x → o ≡ Some x) → o ≡ p
+option_same None None f g = refl
+option_same None (Some y) f g = g y refl
+option_same (Some x) p f g = sym (f x refl)
+
 pub only_content : (ws : List Write) (h k : HistoryContent) → Shows ws h → Shows ws k → h ≡ k
 only_content ws h k a b = same_map revision_cmp_total revision_cmp_exact h k (λ r. at r (get h r) (get k r) refl refl)
   where
-    option_same : {X : Type 0} (o p : Option X) → ((x : X) → o ≡ Some x → p ≡ Some x) → ((x : X) → p ≡ Some x → o ≡ Some x) → o ≡ p
-    option_same None None f g = refl
-    option_same None (Some y) f g = g y refl
-    option_same (Some x) p f g = sym (f x refl)
-
     at : (r : Revision) (o p : Option Entry) → get h r ≡ o → get k r ≡ p → o ≡ p
     at r None None x y = refl
     at r None (Some e) x y =

@@ -354,7 +354,7 @@ best_alike : (h k : HistoryContent) (rs : List Revision) → ((s : Revision) →
 best_alike h k [] m b = tt
 best_alike h k (r ∷ rs) m b = (beats_alike h k r rs m b.0, best_alike h k rs (λ s i. m s (inr i)) b.1)
 
-leaf_alike : (h k : HistoryContent) → ((r : Revision) → is_known h r ≡ is_known k r) → ((r : Revision) → parent_of h r ≡ parent_of k r) → (r : Revision) → is_leaf h r ≡ true → is_leaf k r ≡ true
+pub leaf_alike : (h k : HistoryContent) → ((r : Revision) → is_known h r ≡ is_known k r) → ((r : Revision) → parent_of h r ≡ parent_of k r) → (r : Revision) → is_leaf h r ≡ true → is_leaf k r ≡ true
 leaf_alike h k known parents r l =
     let c = (leaf_is_childless h r).0 l in
     (leaf_is_childless k r).1 (sym (known r) ∙ c.0, λ s up. c.1 s (parents s ∙ up))

@@ -1,5 +1,6 @@
 pub mod Contents
 pub mod Continued
+pub mod Convergence
 pub mod EditText
 pub mod Kept
 pub mod LawfulContents

@@ -4,7 +4,7 @@ use Rattle.std.specs.Prelude.{Bool, Option, refl}
 use Rattle.std.specs.Coded.{Coded, code_by, coded×, coded_bool, coded_option}
 use Rattle.std.specs.FinMap as map
 use Rattle.couch_json.specs.Value.{Value}
-use Rattle.tree.specs.BodyCode.{value_code}
+use Rattle.couch_json.specs.Code.{value_code}
 use Rattle.tree.specs.Revision.{Revision, revision_code}
 use Rattle.tree.specs.History.{HistoryContent}
 use Rattle.tree.specs.declared.entry.Held.{Held}

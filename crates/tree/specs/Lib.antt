@@ -1,4 +1,4 @@
-pub mod BodyCode
+pub mod Convergence
 pub mod DocumentId
 pub mod History
 pub mod HistoryCode

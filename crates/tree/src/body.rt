@@ -10,7 +10,7 @@ pub struct Body {
 
 impl Model for Body {
     ghost use Rattle.couch_json.specs.Value.{Value as JsonValue};
-    ghost use Rattle.tree.specs.BodyCode.{value_code};
+    ghost use Rattle.couch_json.specs.Code.{value_code};
 
     ghost Value = { JsonValue };
 

@@ -1,11 +1,13 @@
 //! What follows from the definitions alone. Each function has an empty body: its contract is the law.
 
-ghost use Rattle.std.specs.Prelude.{◌≡◌, ◌≢◌, ◌⊎◌, ◌↔◌, ℕ, List, [], ◌∷◌, ◌++◌, Some, Ok, IsTrue, MatchOption, is_some};
+ghost use Rattle.std.specs.Prelude.{◌≡◌, ◌≢◌, ◌⊎◌, ◌↔◌, ℕ, List, [], ◌∷◌, ◌++◌, Some, Ok, Err, IsTrue, MatchOption, is_some};
 ghost use Rattle.std.specs.FinMap.{get};
 ghost use Rattle.tree.specs.Revision.{Revision, is_revision, revision_read, text_of};
-ghost use Rattle.tree.specs.Write.{Write, IsLawful, IsPathEnd, StandsIn};
+ghost use Rattle.tree.specs.Write.{Write, IsKnown, IsLawful, IsParent, IsPathEnd, StandsIn};
 ghost use Rattle.tree.specs.History.{HistoryContent, AreBestFirst, IsBetter, IsRooted, LooksAlike, Shows, chain, content_of, entry_after, held_of, inserted, is_known, is_leaf, leaves, parent_of, placement, winner, with_write};
+ghost use Rattle.tree.specs.Convergence.{AreConsistent, BringOne, HaveSame, merged};
 ghost use Rattle.tree.specs.declared.placement.Placed.{Placed};
+ghost use Rattle.tree.specs.declared.placement.TreeFault.{TreeFault};
 
 /// A lawful revision is read from its text, and what is read is written as that text.
 pub fn text_and_revision()
@@ -91,4 +93,31 @@ pub fn winner_is_best()
 pub fn leaves_same()
     ensures leaves { (h k : HistoryContent) → LooksAlike h k → leaves h ≡ leaves k }
     ensures winner { (h k : HistoryContent) → LooksAlike h k → winner h ≡ winner k }
+{}
+
+/// Replicas that were offered the same writes have the same leaves and the same winner, in whatever
+/// order the writes came, and however often each of them.
+///
+/// The writes have to fit together. Where all writes of a leaf bring the same, the replicas hold the
+/// same of it. Of a revision that is no leaf they may hold different things: one that was first known
+/// from the path of a later revision stays without its body.
+pub fn replicas_converge()
+    ensures leaves { (ws vs : List Write) → AreConsistent ws → HaveSame ws vs → leaves (merged ws) ≡ leaves (merged vs) }
+    ensures winner { (ws vs : List Write) → AreConsistent ws → HaveSame ws vs → winner (merged ws) ≡ winner (merged vs) }
+    ensures held { (ws vs : List Write) (r : Revision) → AreConsistent ws → HaveSame ws vs → BringOne ws r
+        → IsTrue (is_leaf (merged ws) r) → held_of (merged ws) r ≡ held_of (merged vs) r }
+{}
+
+/// Of writes that fit together none is refused, and all revisions of their paths are known, with the
+/// parents that the paths give them, and nothing else.
+pub fn merged_has_all_writes()
+    ensures fit { (ws : List Write) (w : Write) (fault : TreeFault) → AreConsistent (ws ++ w ∷ []) → placement (merged ws) w.path ≢ Err fault }
+    ensures known { (ws : List Write) (r : Revision) → AreConsistent ws → IsTrue (is_known (merged ws) r) ↔ IsKnown ws r }
+    ensures parents { (ws : List Write) (r p : Revision) → AreConsistent ws → (parent_of (merged ws) r ≡ Some p) ↔ IsParent ws r p }
+{}
+
+/// A lawful list fits together, and what is offered its writes has their content.
+pub fn lawful_writes_merge()
+    ensures fit { (ws : List Write) → IsLawful ws → AreConsistent ws }
+    ensures content { (ws : List Write) → IsLawful ws → merged ws ≡ content_of ws }
 {}
