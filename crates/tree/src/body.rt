@@ -39,6 +39,14 @@ impl Body {
         &self.json
     }
 
+    /// The JSON value, taken out.
+    pub fn into_json(self) -> Json
+        ensures { view result ≡ self }
+    {
+        let Body { json } = self;
+        json
+    }
+
     /// An equal body of its own.
     pub fn copy(&self, alloc: Global) -> Got<Body>
         ensures { IfOk result (λ b. b ≡ self.now) }

@@ -1,12 +1,14 @@
 -- What is left of an object's members without the special ones, and what a body that was accepted is.
-use Rattle.std.proofs.Common.{◌≡◌, ◌≤◌, ℕ, Bool, true, false, not, cond, ◌&&◌, List, [], ◌∷◌, filter, String, Global, Some, None, string_bytes, nat_le, refl, ap, arith}
+use Rattle.std.proofs.Common.{◌≡◌, ◌≤◌, ℕ, Bool, true, false, not, cond, ◌&&◌, List, [], ◌∷◌, filter, String, Global, Option, Some, None, option_map, option_and_then, string_bytes, nat_le, refl, ap, arith}
 use Rattle.std.proofs.lemmas.Bool.Decides.{nat_tests}
 use Rattle.couch_json.specs.Value.{Value, null, truth, whole, text, array, object, Members, member, depth}
 use Rattle.couch_json.specs.View.{view, members_view}
 use Rattle.couch_json.specs.declared.value.Json.{Json}
 use Rattle.policy.specs.Security.{is_object}
 use Rattle.store.specs.Contents.{max_body_depth}
-use Rattle.write.specs.DocumentBody.{are_allowed, body_if, body_in, is_special, without_special}
+use Rattle.tree.specs.Revision.{Revision}
+use Rattle.write.specs.Document.{are_allowed, body_if, body_in, is_special, said, sent_in, sent_with, without_special}
+use Rattle.write.specs.declared.document.Sent.{Sent}
 
 abbrev pub Entry : Type 0
 Entry = String Global × Json
@@ -37,15 +39,31 @@ taken : (test : Bool) (v body : Value) → cond test (Some v) None ≡ Some body
 taken true v body h = (cc, refl)
 taken false v body h = absurd cc
 
-body_if-Some : (allowed : Bool) (v body : Value) → is_object v ≡ true → body_if allowed v ≡ Some body → IsBody body
+body_if-Some : (allowed : Bool) (v body : Value) → is_object v ≡ true → body_if (allowed && nat_le (depth v) max_body_depth) v ≡ Some body → IsBody body
 body_if-Some allowed v body is_obj h =
     let (same, test) = taken (allowed && nat_le (depth v) max_body_depth) v body h in
     rw same (record { object = is_obj; shallow = within allowed (depth v) test })
 
-pub body_in-Some : (id : List ℕ) (document body : Value) → body_in id document ≡ Some body → IsBody body
-body_in-Some id (object ms) body h = body_if-Some (are_allowed id ms) (object (without_special ms)) body refl h
-body_in-Some id null body h = absurd cc
-body_in-Some id (truth b) body h = absurd cc
-body_in-Some id (whole n) body h = absurd cc
-body_in-Some id (text s) body h = absurd cc
-body_in-Some id (array vs) body h = absurd cc
+body_in-Some : (document body : Value) → body_in document ≡ Some body → IsBody body
+body_in-Some (object ms) body h = body_if-Some (are_allowed ms) (object (without_special ms)) body refl h
+body_in-Some null body h = absurd cc
+body_in-Some (truth b) body h = absurd cc
+body_in-Some (whole n) body h = absurd cc
+body_in-Some (text s) body h = absurd cc
+body_in-Some (array vs) body h = absurd cc
+
+is_same : (s t : Sent) → Some s ≡ Some t → t ≡ s
+is_same s t e = cc
+
+with_body : (words : Option Revision × Bool) (body : Option Value) (s : Sent) → ((b : Value) → body ≡ Some b → IsBody b)
+    → option_map (λ b. sent_with words b) body ≡ Some s → IsBody s.body
+with_body words None s are_bodies h = absurd cc
+with_body words (Some b) s are_bodies h = rw (ap (λ (t : Sent). t.body) (is_same (sent_with words b) s h)) (are_bodies b refl)
+
+with_words : (words : Option (Option Revision × Bool)) (body : Option Value) (s : Sent) → ((b : Value) → body ≡ Some b → IsBody b)
+    → option_and_then (λ w. option_map (λ b. sent_with w b) body) words ≡ Some s → IsBody s.body
+with_words None body s are_bodies h = absurd cc
+with_words (Some w) body s are_bodies h = with_body w body s are_bodies h
+
+pub sent_in-Some : (id : List ℕ) (document : Value) (s : Sent) → sent_in id document ≡ Some s → IsBody s.body
+sent_in-Some id document s h = with_words (said id document) (body_in document) s (body_in-Some document) h

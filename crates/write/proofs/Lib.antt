@@ -1,2 +1,3 @@
-pub mod Bodies
 pub mod Acceptances
+pub mod Bodies
+pub mod Paths

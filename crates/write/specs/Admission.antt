@@ -48,9 +48,10 @@ abbrev pub base : HistoryContent → Option Revision → Option (List Revision)
 base h None = extended h (winner h)
 base h (Some r) = if is_leaf h r then chain h r else None
 
--- the write of an edit as the next revision of a path
-abbrev pub next_write : List ℕ → List Revision → Sent → DocumentWrite
-next_write id path sent = write_at id (next_revision (head path) sent.deleted sent.body ∷ path) sent
+-- the write of a body, with its mark of deletion, as the next revision of a path
+abbrev pub next_write : List ℕ → List Revision → Bool → Value → DocumentWrite
+next_write id path deleted body =
+    record { id = id; write = record { path = next_revision (head path) deleted body ∷ path; deleted = deleted; body = body } }
 
 -- an edit is appended where its revision is new to the tree and its path fits in; else it is a conflict
 abbrev pub appended : Result Placed TreeFault → DocumentWrite → Result DocumentWrite WriteFault
@@ -62,13 +63,13 @@ abbrev pub fitted : HistoryContent → DocumentWrite → Result DocumentWrite Wr
 fitted h w = appended (placement h w.write.path) w
 
 -- after the greatest number there is no further generation
-abbrev pub continued : List ℕ → HistoryContent → Sent → List Revision → Result DocumentWrite WriteFault
-continued id h sent path =
-    if number_before (head path) == greatest_number then Err Generation else fitted h (next_write id path sent)
+abbrev pub continued : List ℕ → HistoryContent → Bool → Value → List Revision → Result DocumentWrite WriteFault
+continued id h deleted body path =
+    if number_before (head path) == greatest_number then Err Generation else fitted h (next_write id path deleted body)
 
 abbrev pub admitted_after : List ℕ → HistoryContent → Sent → Option (List Revision) → Result DocumentWrite WriteFault
 admitted_after id h sent None = Err Conflict
-admitted_after id h sent (Some path) = continued id h sent path
+admitted_after id h sent (Some path) = continued id h sent.deleted sent.body path
 
 abbrev pub admitted_edit : List ℕ → HistoryContent → Option Sent → Result DocumentWrite WriteFault
 admitted_edit id h None = Err BadDocument

@@ -1,6 +1,6 @@
 -- What becomes of several documents that are written together.
 -- CouchDB manual, api/database/bulk-api (`POST /{db}/_bulk_docs`, `new_edits`): each has its own outcome; that they are judged one after another, each by the database that those before it left, is this server's own.
-use Rattle.std.specs.Prelude.{ℕ, Bool, true, false, List, [], ◌∷◌, map, Option, Some, None, option_and_then, option_map, Result, Ok, Err, result_map, codes}
+use Rattle.std.specs.Prelude.{ℕ, Bool, true, false, List, [], ◌∷◌, map, Option, Some, None, option_and_then, option_map, Result, Ok, Err, codes}
 use Rattle.couch_json.specs.Value.{Value}
 use Rattle.tree.specs.Revision.{Revision}
 use Rattle.tree.specs.History.{HistoryContent}

@@ -89,31 +89,35 @@ mark_in (Some v) = truth_in v
 
 -- ---- a document
 
-abbrev pub sent_with : Value → Option Revision → Bool → Sent
-sent_with body rev deleted = record { rev = rev; deleted = deleted; body = body }
-
--- what the special members say, beside this body
-abbrev pub said : Value → Value → Option Sent
-said document body =
-    option_and_then (λ rev. option_map (λ deleted. sent_with body rev deleted) (mark_in (member_of document (codes "_deleted"))))
+abbrev pub said_of : Value → Option (Option Revision × Bool)
+said_of document =
+    option_and_then (λ rev. option_map (λ deleted. (rev, deleted)) (mark_in (member_of document (codes "_deleted"))))
     (revision_in (member_of document (codes "_rev")))
 
-abbrev pub said_if : Bool → Value → Value → Option Sent
-said_if good document body = if good then said document body else None
+-- the revision and the mark of deletion that a document with this id says
+abbrev pub said : List ℕ → Value → Option (Option Revision × Bool)
+said id document = if fits_id id (member_of document (codes "_id")) then said_of document else None
 
-abbrev pub is_good : List ℕ → Members → Bool
-is_good id ms =
-    are_allowed ms && fits_id id (member_of (object ms) (codes "_id")) && nat_le (depth (object (without_special ms))) max_body_depth
+abbrev pub body_if : Bool → Value → Option Value
+body_if good body = if good then Some body else None
+
+-- what is left of a document without its special members, where it has no others than these and is not nested too deep
+abbrev pub body_in : Value → Option Value
+body_in (object ms) =
+    body_if (are_allowed ms && nat_le (depth (object (without_special ms))) max_body_depth) (object (without_special ms))
+body_in null = None
+body_in (truth b) = None
+body_in (whole n) = None
+body_in (text s) = None
+body_in (array vs) = None
+
+abbrev pub sent_with : Option Revision × Bool → Value → Sent
+sent_with words body = record { rev = words.0; deleted = words.1; body = body }
 
 -- what a document with this id says, or none where it is a bad one: where it is no object, has a special member that no document
 -- has or one of another form, or its body, which is what is left without them, nests too deep
 abbrev pub sent_in : List ℕ → Value → Option Sent
-sent_in id (object ms) = said_if (is_good id ms) (object ms) (object (without_special ms))
-sent_in id null = None
-sent_in id (truth b) = None
-sent_in id (whole n) = None
-sent_in id (text s) = None
-sent_in id (array vs) = None
+sent_in id document = option_and_then (λ words. option_map (λ body. sent_with words body) (body_in document)) (said id document)
 
 -- the id that a document of several gives itself: a text that is the id of a document, of no local one, and, as long as they are
 -- not served, of no design document
@@ -153,10 +157,13 @@ path_in_list (object ms) = None
 abbrev pub number_if : ℕ → Option ℕ
 number_if n = if nat_le 1 n && nat_le n greatest_number then Some n else None
 
+abbrev pub is_start_or_ids : List ℕ → Bool
+is_start_or_ids name = bytes_eq name (codes "start") || bytes_eq name (codes "ids")
+
 -- the object has no member but `start` and `ids`
 abbrev pub are_start_and_ids : Members → Bool
 are_start_and_ids no_members = true
-are_start_and_ids (member name v ms) = (bytes_eq name (codes "start") || bytes_eq name (codes "ids")) && are_start_and_ids ms
+are_start_and_ids (member name v ms) = is_start_or_ids name && are_start_and_ids ms
 
 abbrev pub has_start_and_ids : Value → Bool
 has_start_and_ids (object ms) = are_start_and_ids ms

@@ -1,8 +1,12 @@
-ghost use Rattle.std.specs.Prelude.{◌≡◌, ◌≢◌, ◌<◌, IfOk, IfErr, OnErr, Ok, Err, Some, length, option_map};
+ghost use Rattle.std.specs.Prelude.{◌≡◌, ◌≢◌, ◌==◌, ◌<◌, true, false, IfOk, IfErr, OnErr, Ok, Err, Some, length, option_map};
 ghost use Rattle.couch_json.specs.View.{view};
 ghost use Rattle.tree.specs.History.{winner, with_write};
+ghost use Rattle.tree.specs.NextRevision.{next_revision, number_before};
+ghost use Rattle.tree.specs.Revision.{greatest_number};
+ghost use Rattle.tree.specs.Write.{head};
 ghost use Rattle.store.specs.Writing.{writing_of};
 ghost use Rattle.write.specs.Admission.{admitted as admitted_lem, base as base_lem, continued as continued_lem, edit_of as edit_of_lem, extended as extended_lem, fitted as fitted_lem, named as named_lem};
+ghost use Rattle.write.specs.declared.fault.WriteFault.TheVariants.{Generation};
 
 use crate::document::{Sent, sent_in};
 use crate::fault::WriteFault;
@@ -34,7 +38,7 @@ pub(crate) fn admitted(
     let Some(path) = base(alloc, history, sent.rev)? else {
         return Err(WriteFault::Conflict);
     };
-    continued(alloc, history, id, sent, path)
+    continued(alloc, history, id, sent.deleted, sent.body.into_json(), path)
 }
 
 /// What an edit says, with the revision that its query names; `None` where the document is a bad one.
@@ -50,11 +54,18 @@ fn edit_of(id: &DocId, query: Option<Rev>, document: Json) -> Option<Sent>
 fn named(query: Option<Rev>, own: Option<Rev>) -> Option<Option<Rev>>
     ensures { result ≡ named_lem query own }
 {
-    match (query, own) {
-        (None, own) => Some(own),
-        (query, None) => Some(query),
-        (Some(rev), Some(own)) if rev.cmp(&own).is_eq() => Some(query),
-        _ => None,
+    let Some(rev) = query else {
+        return Some(own);
+    };
+    match own {
+        None => Some(Some(rev)),
+        Some(own) => {
+            if rev.cmp(&own).is_eq() {
+                Some(Some(rev))
+            } else {
+                None
+            }
+        }
     }
 }
 
@@ -84,36 +95,47 @@ fn extended(alloc: Global, history: &History) -> Got<Option<Vec<Rev>>>
     }
 }
 
-/// The write of an edit as the next revision of a path.
+/// The write of a body, with its mark of deletion, as the next revision of a path.
 fn continued(
     alloc: Global,
     history: &mut History,
     id: &DocId,
-    sent: Sent,
+    deleted: bool,
+    body: Json,
     path: Vec<Rev>,
 ) -> Result<Write, WriteFault>
-    ensures ok { IfOk result (λ write. continued_lem id.now history.old sent path.items ≡ Ok (writing_of write)) }
+    ensures ok { IfOk result (λ write. continued_lem id.now history.old deleted (view body) path.items ≡ Ok (writing_of write)) }
     ensures headed { IfOk result (λ write. 0 < length write.path.items) }
     ensures taken_in { IfOk result (λ write. history.new ≡ with_write history.old (writing_of write).write) }
-    ensures fault { IfErr result (λ fault. fault ≢ WriteFault.Memory → continued_lem id.now history.old sent path.items ≡ Err fault) }
+    ensures fault { IfErr result (λ fault. fault ≢ WriteFault.Memory → continued_lem id.now history.old deleted (view body) path.items ≡ Err fault) }
     ensures err { OnErr result (history.new ≡ history.old) }
     ensures others { IfErr result (λ fault. (fault ≢ WriteFault.BadHistory) × ((rule : _) → fault ≢ WriteFault.Denied rule)
         × ((cause : _) → fault ≢ WriteFault.Store cause)) }
 {
-    let rev = match next_rev(alloc, path.first(), sent.deleted, sent.body.json()) {
-        Ok(rev) => rev,
-        Err(RevFault::Generation) => return Err(WriteFault::Generation),
-        Err(RevFault::Memory) => return Err(WriteFault::Memory),
-    };
+    let rev = next_of(alloc, &path, deleted, &body)?;
     let mut path = path;
     path.insert(0, rev)?;
     let write = Write {
         id: id.copy(alloc)?,
         path,
-        deleted: sent.deleted,
-        body: sent.body.into_json(),
+        deleted,
+        body,
     };
     fitted(history, write)
+}
+
+/// The next revision of a path.
+fn next_of(alloc: Global, path: &[Rev], deleted: bool, body: &Json) -> Result<Rev, WriteFault>
+    ensures ok { IfOk result (λ rev. rev ≡ next_revision (head path.now) deleted (view body.now)) }
+    ensures further { IfOk result (λ rev. (number_before (head path.now) == greatest_number) ≡ false) }
+    ensures last { result ≡ Err Generation → (number_before (head path.now) == greatest_number) ≡ true }
+    ensures only { IfErr result (λ fault. fault ≢ WriteFault.Generation → fault ≡ WriteFault.Memory) }
+{
+    match next_rev(alloc, path.first(), deleted, body) {
+        Ok(rev) => Ok(rev),
+        Err(RevFault::Generation) => Err(WriteFault::Generation),
+        Err(RevFault::Memory) => Err(WriteFault::Memory),
+    }
 }
 
 /// The write, where the history takes it in as a new revision.

@@ -1,9 +1,8 @@
 //! What a document that a client sends says, besides its history.
 
-ghost use Rattle.std.specs.Prelude.{◌≡◌, IfOk, Some, option_map, string_bytes};
-ghost use Rattle.couch_json.specs.Value.{member_of};
+ghost use Rattle.std.specs.Prelude.{◌≡◌, option_map};
 ghost use Rattle.couch_json.specs.View.{view, members_view};
-ghost use Rattle.write.specs.Document.{are_allowed, fits_id, id_if, id_in, is_allowed, is_bulk_id, is_document_member, is_special, mark_in, member_text, revision_in, sent_in, text_in, without_special};
+ghost use Rattle.write.specs.Document.{are_allowed, body_in, fits_id, is_allowed, is_document_member, is_special, mark_in, revision_in, said, sent_in, without_special};
 
 use couch_json::{Got, Json};
 use std::alloc::Global;
@@ -28,30 +27,46 @@ pub(crate) struct Sent {
 pub(crate) fn sent_in(id: &DocId, document: Json) -> Option<Sent>
     ensures { result ≡ sent_in id.now (view document) }
 {
-    let is_own = fits_id(id, document.member("_id"));
-    let rev = revision_in(document.member("_rev"));
-    let deleted = mark_in(document.member("_deleted"));
+    let (rev, deleted) = said(id, &document)?;
+    let body = Body::new(body_in(document)?);
+    Some(Sent { rev, deleted, body })
+}
+
+/// The revision and the mark of deletion that a document says; `None` where its id is another one or
+/// one of them is not of its form.
+fn said(id: &DocId, document: &Json) -> Option<(Option<Rev>, bool)>
+    ensures { result ≡ said id.now (view document.now) }
+{
+    if !fits_id(id, document.member("_id")) {
+        return None;
+    }
+    let rev = revision_in(document.member("_rev"))?;
+    let deleted = mark_in(document.member("_deleted"))?;
+    Some((rev, deleted))
+}
+
+/// What is left of a document without its special members; `None` where it is no object, has special
+/// members that no document has, or nests too deep.
+fn body_in(document: Json) -> Option<Json>
+    ensures { option_map view result ≡ body_in (view document) }
+{
     let Json::Object(members) = document else {
         return None;
     };
-    if !are_allowed(&members) || !is_own {
+    if !are_allowed(&members) {
         return None;
     }
     let body = Json::Object(without_special(members));
     if !body.nests_within(MAX_BODY_DEPTH) {
         return None;
     }
-    Some(Sent {
-        rev: rev?,
-        deleted: deleted?,
-        body: Body::new(body),
-    })
+    Some(body)
 }
 
 fn are_allowed(members: &BTreeMap<String, Json>) -> bool
     ensures { result ≡ are_allowed (members_view members.now.entries) }
 {
-    for name in members.keys() {
+    for (name, _value) in members.iter() {
         if !is_allowed(name) {
             return false;
         }

@@ -16,28 +16,32 @@ use crate::planned::{Changes, Edited, Planned};
 use couch_json::{Got, Json};
 use std::alloc::Global;
 use store::{DbName, Store, StoreFault, Write};
-use tree::DocId;
+use tree::{DocId, Rev};
 
-/// What becomes of an edit that names no revision, of a document that is no design document and no
-/// local one. It reads the store and changes nothing.
+/// What becomes of an edit of a document that is no design document and no local one. It reads the
+/// store and changes nothing.
 ///
-/// An unknown document is created, and where the winner is deleted the edit follows it.
-/// `BadDocument` comes exactly where the document is no object, has a special member other than
-/// its own `_id`, or has a body that nests more than 100 deep; else `Conflict` where the winner is
-/// not deleted, or the new revision is known already; `Generation` where the winner has the greatest
-/// number; `Store(NoDatabase)` exactly where there is no database of this name, and before these.
-/// See the CouchDB manual, api/document/common.
+/// The edit names a revision by `query`, by the document's `_rev`, or by both alike, and then goes on
+/// from this revision, a leaf, deleted or not. Without one an unknown document is created, and where
+/// the winner is deleted the edit follows it. With `_deleted: true` the new revision is deleted.
+/// `BadDocument` comes exactly where the document is no object, has a special member that no
+/// document has or one of another form, names another revision than `query`, or has a body that
+/// nests more than 100 deep; else `Conflict` where there is no such leaf to go on from, or the new
+/// revision is known already; `Generation` where the leaf has the greatest number;
+/// `Store(NoDatabase)` exactly where there is no database of this name, and before these. See the
+/// CouchDB manual, api/document/common.
 pub fn edit<S: Store>(
     alloc: Global,
     store: &mut S,
     db: &DbName,
     id: &DocId,
+    query: Option<Rev>,
     document: Json,
 ) -> Result<Edited, WriteFault>
     requires design { is_design_id id.now ≡ false }
     requires local { is_local_id id.now ≡ false }
     ensures ok { S.is_honest store.new → IfOk result (λ edited.
-        edit_in (S.contents store.old) db.now id.now (view document) ≡ Some (Ok (planned_writes edited.planned.changes))) }
+        edit_in (S.contents store.old) db.now id.now query (view document) ≡ Some (Ok (planned_writes edited.planned.changes))) }
     ensures acceptable { S.is_honest store.new → IfOk result (λ edited.
         IfThere (map.get (S.contents store.old) db.now) (λ d. MayBeMade edited.planned.changes d)) }
     ensures changed { IfOk result (λ edited. (d : _) → changed edited.planned.changes d ≡ with_all d (planned_writes edited.planned.changes)) }
@@ -46,7 +50,7 @@ pub fn edit<S: Store>(
     ensures revision { IfOk result (λ edited. list_map new_revision (planned_writes edited.planned.changes) ≡ Some edited.rev ∷ []) }
     ensures refused { S.is_honest store.new → IfErr result (λ fault.
         fault ≢ WriteFault.Memory → ((cause : _) → fault ≢ WriteFault.Store cause)
-        → edit_in (S.contents store.old) db.now id.now (view document) ≡ Some (Err fault)) }
+        → edit_in (S.contents store.old) db.now id.now query (view document) ≡ Some (Err fault)) }
     ensures no_database { S.is_honest store.new → result ≡ Err (WriteFault.Store NoDatabase)
         → map.get (S.contents store.old) db.now ≡ None }
     ensures same { S.is_honest store.new → S.contents store.new ≡ S.contents store.old }
@@ -57,12 +61,12 @@ pub fn edit<S: Store>(
     ensures kept { S.is_honest store.new → (S.is_damaged store.new → S.is_damaged store.old) × ((n : _) → S.lacks_room store.new n → S.lacks_room store.old n) }
     ensures onward { (S.fault_count store.old ≤ S.fault_count store.new) × (S.is_honest store.new → S.is_honest store.old) }
 {
-    let history = match store.history(db, id) {
+    let mut history = match store.history(db, id) {
         Ok(history) => history,
         Err(StoreFault::Memory) => return Err(WriteFault::Memory),
         Err(fault) => return Err(WriteFault::Store(fault)),
     };
-    let write = admitted(alloc, history, id, document)?;
+    let write = admitted(alloc, &mut history, id, query, document)?;
     Ok(edited(alloc, db, id, write)?)
 }
 

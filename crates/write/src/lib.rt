@@ -2,6 +2,7 @@
 #![tactic(auto)]
 
 mod admission;
+mod ancestry;
 mod applying;
 mod document;
 mod editing;

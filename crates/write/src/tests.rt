@@ -15,7 +15,7 @@ fn rev(rt: &impl Abort, text: &str) -> Rev {
 fn outcome(alloc: Global, history: &History, document: &str) -> Result<String, Fail> {
     let id = DocId::new(alloc, "a")?;
     let document = read(alloc, document.as_bytes())?;
-    let name = match admitted(alloc, history.copy()?, &id, document) {
+    let name = match admitted(alloc, &mut history.copy()?, &id, None, document) {
         Ok(write) => return Ok(write.path.first().ok_or("a path")?.text(alloc)?),
         Err(WriteFault::BadDocument) => "bad document",
         Err(WriteFault::Conflict) => "conflict",
@@ -90,14 +90,14 @@ fn a_document_is_created_once(rt: HostRuntime) -> Result<(), Fail> {
     assert!(rt; !id.is_design() && !id.is_local());
     let db = DbName::new(alloc, "db")?;
     let mut store = PlainStore::new(alloc);
-    let absent = edit(alloc, &mut store, &db, &id, Json::Null).err();
+    let absent = edit(alloc, &mut store, &db, &id, None, Json::Null).err();
     assert!(rt; matches!(absent, Some(WriteFault::Store(StoreFault::NoDatabase))));
     store.create(&db)?;
-    let edited = edit(alloc, &mut store, &db, &id, read(alloc, br#"{"v":1}"#)?)?;
+    let edited = edit(alloc, &mut store, &db, &id, None, read(alloc, br#"{"v":1}"#)?)?;
     assert_eq!(rt; edited.id.as_str(), "a");
     assert_eq!(rt; edited.rev, rev(&rt, "1-16dd5aa7b10d32bc038d45f5c7f9f929"));
     apply(&mut store, edited.planned)?;
-    let again = edit(alloc, &mut store, &db, &id, read(alloc, b"{}")?).err();
+    let again = edit(alloc, &mut store, &db, &id, None, read(alloc, b"{}")?).err();
     assert!(rt; matches!(again, Some(WriteFault::Conflict)));
     Ok(())
 }
