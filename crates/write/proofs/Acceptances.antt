@@ -1,5 +1,5 @@
 -- A write that is admitted may be appended.
-use Rattle.std.proofs.Common.{◌≡◌, ◌==◌, ℕ, Bool, true, false, cond, List, [], ◌∷◌, Option, Some, None, option_map, option_and_then, Result, Ok, Err, refl, ap, ◌∙◌, sym}
+use Rattle.std.proofs.Common.{◌≡◌, ◌==◌, ℕ, Bool, true, false, cond, List, [], ◌∷◌, Option, Some, None, option_map, option_and_then, Result, Ok, Err, refl, ap, ◌∙◌, subst, sym}
 use Rattle.couch_json.specs.Value.{Value}
 use Rattle.tree.specs.Revision.{Revision, greatest_number}
 use Rattle.tree.specs.NextRevision.{number_before}
@@ -10,8 +10,9 @@ use Rattle.tree.specs.declared.placement.Placed.TheVariants.{Added, Known}
 use Rattle.tree.specs.declared.placement.TreeFault.{TreeFault}
 use Rattle.store.specs.Contents.{AreAcceptable, IfThere, IsAcceptable}
 use Rattle.store.specs.Database.{Database, DocumentWrite, history_at, with_one}
+use Rattle.store.proofs.Contents.{history_at-with_one}
 use Rattle.write.specs.Admission.{admitted, admitted_after, admitted_edit, appended, base, continued, edit_of, fitted, named, naming, next_write, replicated, taken, taken_in, taken_on, write_at}
-use Rattle.write.specs.Bulk.{Outcome, after, as_outcome, judged, judged_by, outcome_in, outcomes, put_before, writes_in}
+use Rattle.write.specs.Bulk.{Histories, Outcome, after, as_outcome, judged, judged_by, outcome_in, outcomes, put_before, writes_in}
 use Rattle.write.specs.Document.{id_in, path_in, sent_in}
 use Rattle.write.specs.declared.document.Sent.{Sent}
 use Rattle.write.specs.declared.fault.WriteFault.{WriteFault}
@@ -96,7 +97,7 @@ as_outcome-Some : (r : Result DocumentWrite WriteFault) (v : DocumentWrite) → 
 as_outcome-Some (Ok w) v e = cc
 as_outcome-Some (Err fault) v e = absurd cc
 
-judged-Some : (new_edits : Bool) (id : List ℕ) (h : HistoryContent) (document : Value) (v : DocumentWrite)
+pub judged-Some : (new_edits : Bool) (id : List ℕ) (h : HistoryContent) (document : Value) (v : DocumentWrite)
     → judged new_edits id h document ≡ Ok (Some v) → Fits id h v
 judged-Some true id h document v e = admitted-Ok id h None document v (as_outcome-Some (admitted id h None document) v e)
 judged-Some false id h document v e = taken_in-Some id h document (sent_in id document) v (sent_in-Some id document) e
@@ -107,23 +108,36 @@ acceptable db id h w read f =
     record { placed = ap (λ (k : HistoryContent). placement k w.write.path) found ∙ f.placed; body = f.body.object; shallow = f.body.shallow }
 
 judged_by-acceptable : (new_edits : Bool) (db : Database) (document : Value) (id : Option (List ℕ)) (w : DocumentWrite)
-    → judged_by new_edits db document id ≡ Ok (Some w) → IsAcceptable db w
+    → judged_by new_edits (history_at db) document id ≡ Ok (Some w) → IsAcceptable db w
 judged_by-acceptable new_edits db document None w e = absurd cc
 judged_by-acceptable new_edits db document (Some id) w e =
     acceptable db id (history_at db id) w refl (judged-Some new_edits id (history_at db id) document w e)
 
+-- the database after an outcome
+abbrev db_after : Database → Outcome → Database
+db_after db (Ok (Some w)) = with_one db w
+db_after db (Ok None) = db
+db_after db (Err fault) = db
+
+after_is : (db : Database) (o : Outcome) → after (history_at db) o ≡ history_at (db_after db o)
+after_is db (Ok (Some w)) = λ i id. sym (history_at-with_one db w id) i
+after_is db (Ok None) = refl
+after_is db (Err fault) = refl
+
 before_acceptable : (db : Database) (o : Outcome) (ws : List DocumentWrite) → ((w : DocumentWrite) → o ≡ Ok (Some w) → IsAcceptable db w)
-    → AreAcceptable (after db o) ws → AreAcceptable db (put_before o ws)
+    → AreAcceptable (db_after db o) ws → AreAcceptable db (put_before o ws)
 before_acceptable db (Ok (Some w)) ws one rest = (one w refl, rest)
 before_acceptable db (Ok None) ws one rest = rest
 before_acceptable db (Err fault) ws one rest = rest
 
 -- the writes of a bulk may be appended, one after another
-pub bulk_acceptable : (new_edits : Bool) (db : Database) (documents : List Value) → AreAcceptable db (writes_in (outcomes new_edits db documents))
+pub bulk_acceptable : (new_edits : Bool) (db : Database) (documents : List Value) → AreAcceptable db (writes_in (outcomes new_edits (history_at db) documents))
 bulk_acceptable new_edits db [] = tt
 bulk_acceptable new_edits db (v ∷ vs) =
-    before_acceptable db (outcome_in new_edits db v) (writes_in (outcomes new_edits (after db (outcome_in new_edits db v)) vs))
-    (λ w e. judged_by-acceptable new_edits db v (id_in v) w e) (bulk_acceptable new_edits (after db (outcome_in new_edits db v)) vs)
+    let o : Outcome = outcome_in new_edits (history_at db) v in
+    before_acceptable db o (writes_in (outcomes new_edits (after (history_at db) o) vs))
+    (λ w e. judged_by-acceptable new_edits db v (id_in v) w e)
+    (subst (λ hs. AreAcceptable (db_after db o) (writes_in (outcomes new_edits hs vs))) (sym (after_is db o)) (bulk_acceptable new_edits (db_after db o) vs))
 
 -- ---- the plan of an edit
 

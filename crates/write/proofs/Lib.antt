@@ -1,3 +1,4 @@
 pub mod Acceptances
 pub mod Bodies
 pub mod Paths
+pub mod BulkLemmas

@@ -7,7 +7,7 @@ use Rattle.couch_json.specs.Value.{Value}
 use Rattle.tree.specs.Revision.{Revision, greatest_number, revision_cmp}
 use Rattle.tree.specs.NextRevision.{next_revision, number_before}
 use Rattle.tree.specs.Write.{head}
-use Rattle.tree.specs.History.{HistoryContent, chain, held_of, is_deleted, is_leaf, placement, winner}
+use Rattle.tree.specs.History.{HistoryContent, chain, held_of, is_deleted, is_leaf, placement, winner, with_write}
 use Rattle.tree.specs.declared.placement.Placed.{Placed}
 use Rattle.tree.specs.declared.placement.Placed.TheVariants.{Added, Known}
 use Rattle.tree.specs.declared.placement.TreeFault.{TreeFault}
@@ -115,3 +115,8 @@ taken_in id h document (Some sent) = taken_on id h sent (path_in document sent.r
 -- what becomes of a replicated document: the write that is appended, nothing where its revision is known, or the fault
 abbrev pub replicated : List ℕ → HistoryContent → Value → Result (Option DocumentWrite) WriteFault
 replicated id h document = taken_in id h document (sent_in id document)
+
+-- a history once a replicated write is in, where there is one
+abbrev pub with_taken : HistoryContent → Option DocumentWrite → HistoryContent
+with_taken h None = h
+with_taken h (Some w) = with_write h w.write

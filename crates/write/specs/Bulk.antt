@@ -1,10 +1,10 @@
 -- What becomes of several documents that are written together.
--- CouchDB manual, api/database/bulk-api (`POST /{db}/_bulk_docs`, `new_edits`): each has its own outcome; that they are judged one after another, each by the database that those before it left, is this server's own.
-use Rattle.std.specs.Prelude.{ℕ, Bool, true, false, List, [], ◌∷◌, map, Option, Some, None, option_and_then, option_map, Result, Ok, Err, codes}
+-- CouchDB manual, api/database/bulk-api (`POST /{db}/_bulk_docs`, `new_edits`): each has its own outcome; that they are judged one after another, each by the histories that those before it left, is this server's own.
+use Rattle.std.specs.Prelude.{ℕ, Bool, true, false, if◌then◌else◌, List, [], ◌∷◌, Option, Some, None, Result, Ok, Err, codes}
 use Rattle.couch_json.specs.Value.{Value}
 use Rattle.tree.specs.Revision.{Revision}
-use Rattle.tree.specs.History.{HistoryContent}
-use Rattle.store.specs.Database.{Database, DocumentWrite, history_at, with_one}
+use Rattle.tree.specs.History.{HistoryContent, with_write}
+use Rattle.store.specs.Database.{DocumentWrite, is_of}
 use Rattle.write.specs.Admission.{admitted, new_revision, replicated}
 use Rattle.write.specs.Document.{id_in, member_text}
 use Rattle.write.specs.declared.fault.WriteFault.{WriteFault}
@@ -23,24 +23,33 @@ abbrev pub judged : Bool → List ℕ → HistoryContent → Value → Outcome
 judged true id h document = as_outcome (admitted id h None document)
 judged false id h document = replicated id h document
 
-abbrev pub judged_by : Bool → Database → Value → Option (List ℕ) → Outcome
-judged_by new_edits db document None = Err BadDocument
-judged_by new_edits db document (Some id) = judged new_edits id (history_at db id) document
+-- the histories of documents, by id
+abbrev pub Histories : Type 0
+Histories = List ℕ → HistoryContent
 
--- what becomes of a document in this database
-abbrev pub outcome_in : Bool → Database → Value → Outcome
-outcome_in new_edits db document = judged_by new_edits db document (id_in document)
+-- the histories once a write is in
+abbrev pub with_write_in : Histories → DocumentWrite → Histories
+with_write_in histories w = λ id. if is_of id w then with_write (histories id) w.write else histories id
 
--- the database after an outcome
-abbrev pub after : Database → Outcome → Database
-after db (Ok (Some w)) = with_one db w
-after db (Ok None) = db
-after db (Err fault) = db
+abbrev pub judged_by : Bool → Histories → Value → Option (List ℕ) → Outcome
+judged_by new_edits histories document None = Err BadDocument
+judged_by new_edits histories document (Some id) = judged new_edits id (histories id) document
 
--- what becomes of each document, in order, in the database that those before it left
-abbrev pub outcomes : Bool → Database → List Value → List Outcome
-outcomes new_edits db [] = []
-outcomes new_edits db (v ∷ vs) = outcome_in new_edits db v ∷ outcomes new_edits (after db (outcome_in new_edits db v)) vs
+-- what becomes of a document
+abbrev pub outcome_in : Bool → Histories → Value → Outcome
+outcome_in new_edits histories document = judged_by new_edits histories document (id_in document)
+
+-- the histories after an outcome
+abbrev pub after : Histories → Outcome → Histories
+after histories (Ok (Some w)) = with_write_in histories w
+after histories (Ok None) = histories
+after histories (Err fault) = histories
+
+-- what becomes of each document, in order, by the histories that those before it left
+abbrev pub outcomes : Bool → Histories → List Value → List Outcome
+outcomes new_edits histories [] = []
+outcomes new_edits histories (v ∷ vs) =
+    outcome_in new_edits histories v ∷ outcomes new_edits (after histories (outcome_in new_edits histories v)) vs
 
 abbrev pub put_before : Outcome → List DocumentWrite → List DocumentWrite
 put_before (Ok (Some w)) ws = w ∷ ws

@@ -2,4 +2,5 @@ pub mod Causes
 pub mod Document
 pub mod Admission
 pub mod Bulk
+pub mod BulkResults
 pub mod Planning

@@ -1,10 +1,10 @@
 //! What a document that a client sends says, besides its history.
 
-ghost use Rattle.std.specs.Prelude.{◌≡◌, option_map};
+ghost use Rattle.std.specs.Prelude.{◌≡◌, IfOk, option_map, string_bytes};
 ghost use Rattle.couch_json.specs.View.{view, members_view};
-ghost use Rattle.write.specs.Document.{are_allowed, body_in, fits_id, is_allowed, is_document_member, is_special, mark_in, revision_in, said, sent_in, without_special};
+ghost use Rattle.write.specs.Document.{are_allowed, body_in, fits_id, id_if, id_in, is_allowed, is_document_member, is_special, mark_in, member_text, revision_in, said, sent_in, without_special};
 
-use couch_json::{Got, Json};
+use couch_json::{Got, Json, NoMemory};
 use std::alloc::Global;
 use std::collections::BTreeMap;
 use tree::{Body, DocId, IdFault, Rev};
@@ -34,7 +34,7 @@ pub(crate) fn sent_in(id: &DocId, document: Json) -> Option<Sent>
 
 /// The revision and the mark of deletion that a document says; `None` where its id is another one or
 /// one of them is not of its form.
-fn said(id: &DocId, document: &Json) -> Option<(Option<Rev>, bool)>
+pub(crate) fn said(id: &DocId, document: &Json) -> Option<(Option<Rev>, bool)>
     ensures { result ≡ said id.now (view document.now) }
 {
     if !fits_id(id, document.member("_id")) {
@@ -47,7 +47,7 @@ fn said(id: &DocId, document: &Json) -> Option<(Option<Rev>, bool)>
 
 /// What is left of a document without its special members; `None` where it is no object, has special
 /// members that no document has, or nests too deep.
-fn body_in(document: Json) -> Option<Json>
+pub(crate) fn body_in(document: Json) -> Option<Json>
     ensures { option_map view result ≡ body_in (view document) }
 {
     let Json::Object(members) = document else {
@@ -130,5 +130,44 @@ fn mark_in(value: Option<&Json>) -> Option<bool>
         Some(Json::Truth(deleted)) => Some(*deleted),
         Some(_) => None,
         None => Some(false),
+    }
+}
+
+/// The id that a document of several gives itself; `None` where it gives none, or one that can't be
+/// written so.
+pub(crate) fn id_in(alloc: Global, document: &Json) -> Got<Option<DocId>>
+    ensures { IfOk result (λ id. id ≡ id_in (view document.now)) }
+{
+    match document.member("_id") {
+        Some(Json::Text(text)) => id_of(alloc, text),
+        _ => Ok(None),
+    }
+}
+
+/// The id that a text is, where it is one of a document that is neither a design document nor local.
+fn id_of(alloc: Global, text: &str) -> Got<Option<DocId>>
+    ensures { IfOk result (λ id. id ≡ id_if text.now) }
+{
+    let id = match DocId::new(alloc, text) {
+        Ok(id) => id,
+        Err(IdFault::Shape) => return Ok(None),
+        Err(IdFault::Memory) => return Err(NoMemory),
+    };
+    if id.is_design() {
+        return Ok(None);
+    }
+    if id.is_local() {
+        return Ok(None);
+    }
+    Ok(Some(id))
+}
+
+/// The text of a member, where there is one and it is a text.
+pub(crate) fn member_text(alloc: Global, document: &Json, name: &str) -> Got<Option<String>>
+    ensures { IfOk result (λ text. option_map string_bytes text ≡ member_text name.now (view document.now)) }
+{
+    match document.member(name) {
+        Some(Json::Text(text)) => Ok(Some(String::from_str(alloc, text.as_str())?)),
+        _ => Ok(None),
     }
 }

@@ -4,15 +4,19 @@
 mod admission;
 mod ancestry;
 mod applying;
+mod bulk;
 mod document;
 mod editing;
 mod fault;
+mod histories;
 mod planned;
+mod replicating;
 mod securing;
 #[cfg(test)]
 mod tests;
 
 pub use applying::apply;
+pub use bulk::BulkResult;
 pub use editing::edit;
 pub use fault::WriteFault;
 pub use planned::{Changes, Edited, Planned};

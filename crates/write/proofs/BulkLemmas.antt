@@ -1,0 +1,104 @@
+-- Histories as functions of ids, and what a map of them holds.
+use Rattle.std.proofs.Common.{◌≡◌, ℕ, Bool, true, false, cond, List, [], ◌∷◌, ◌++◌, Result, Ok, Err, IfOk, IfErr, option_map, Option, Some, None, refl, ap, sym, ◌∙◌}
+use Rattle.std.specs.BTreeMap.{BTreeMap, get}
+use Rattle.std.specs.Ordering.{is_eq, nat_cmp}
+use Rattle.std.specs.Cmp.Lexicographic.{slice_cmp}
+use Rattle.std.proofs.lemmas.Map.Text.{is_eq-slice_cmp}
+use Rattle.std.proofs.lemmas.List.{append_assoc}
+use Rattle.std.proofs.lemmas.Slice.Eq.{bytes_eq-Decides}
+use Rattle.std.specs.Prelude.{bytes_eq}
+use Rattle.tree.specs.History.{HistoryContent}
+use Rattle.tree.specs.History.{with_write}
+use Rattle.couch_json.specs.Value.{Value}
+use Rattle.store.specs.Database.{DocumentWrite, is_of}
+use Rattle.store.specs.Writing.{writing_of}
+use Rattle.store.specs.declared.write.Write.{Write}
+use Rattle.write.specs.Admission.{with_taken}
+use Rattle.write.specs.Bulk.{Histories, Outcome, Told, after, all_told, judged, put_before, told, with_write_in}
+use Rattle.write.specs.BulkResults.{held_in, or_empty, with_history}
+use Rattle.write.specs.declared.fault.WriteFault.{WriteFault}
+use Rattle.write.proofs.Acceptances.{judged-Some}
+
+or_cond : (b : Bool) (h : HistoryContent) (o : Option HistoryContent) → or_empty (cond b (Some h) o) ≡ cond b h (or_empty o)
+or_cond true h o = refl
+or_cond false h o = refl
+
+cond_twice : (b : Bool) (h : HistoryContent) (o : Option HistoryContent) → cond b h (or_empty (cond b None o)) ≡ cond b h (or_empty o)
+cond_twice true h o = refl
+cond_twice false h o = refl
+
+-- after an insertion the map holds the history for the id
+pub put_held : (m n : BTreeMap (List ℕ) HistoryContent) (id : List ℕ) (h : HistoryContent)
+    → ((q : List ℕ) → get (slice_cmp nat_cmp) n q ≡ cond (is_eq (slice_cmp nat_cmp id q)) (Some h) (get (slice_cmp nat_cmp) m q))
+    → held_in n ≡ with_history (held_in m) id h
+put_held m n id h updates =
+    λ i q. (ap or_empty (updates q) ∙ or_cond (is_eq (slice_cmp nat_cmp id q)) h (get (slice_cmp nat_cmp) m q)
+    ∙ ap (λ b. cond b h (or_empty (get (slice_cmp nat_cmp) m q))) (is_eq-slice_cmp id q)) i
+
+-- after a removal only the id's history can be another
+pub removed_held : (m n : BTreeMap (List ℕ) HistoryContent) (id : List ℕ)
+    → ((q : List ℕ) → get (slice_cmp nat_cmp) n q ≡ cond (is_eq (slice_cmp nat_cmp id q)) None (get (slice_cmp nat_cmp) m q))
+    → (h : HistoryContent) → with_history (held_in n) id h ≡ with_history (held_in m) id h
+removed_held m n id updates h =
+    λ i q. (ap (λ b. cond b h (or_empty (get (slice_cmp nat_cmp) n q))) (sym (is_eq-slice_cmp id q))
+    ∙ ap (λ o. cond (is_eq (slice_cmp nat_cmp id q)) h (or_empty o)) (updates q)
+    ∙ cond_twice (is_eq (slice_cmp nat_cmp id q)) h (get (slice_cmp nat_cmp) m q)
+    ∙ ap (λ b. cond b h (or_empty (get (slice_cmp nat_cmp) m q))) (is_eq-slice_cmp id q)) i
+
+-- ---- a document and the histories
+
+same_at : (old : Histories) (id k : List ℕ) (b : Bool) → bytes_eq id k ≡ b → cond b (old id) (old k) ≡ old k
+same_at old id k true e = ap old ((bytes_eq-Decides id k).0 e)
+same_at old id k false e = refl
+
+-- the same history put back changes nothing
+put_same : (old : Histories) (id : List ℕ) → with_history old id (old id) ≡ old
+put_same old id = λ i k. same_at old id k (bytes_eq id k) refl i
+
+write_at : (old : Histories) (w : DocumentWrite) (k : List ℕ) (b : Bool) → bytes_eq w.id k ≡ b
+    → cond b (with_write (old w.id) w.write) (old k) ≡ cond b (with_write (old k) w.write) (old k)
+write_at old w k true e = ap (λ j. with_write (old j) w.write) ((bytes_eq-Decides w.id k).0 e)
+write_at old w k false e = refl
+
+put_written : (old : Histories) (w : DocumentWrite) → with_history old w.id (with_write (old w.id) w.write) ≡ with_write_in old w
+put_written old w = λ i k. write_at old w k (bytes_eq w.id k) refl i
+
+put_taken : (old : Histories) (id : List ℕ) (w : Option DocumentWrite) → ((v : DocumentWrite) → w ≡ Some v → v.id ≡ id)
+    → with_history old id (with_taken (old id) w) ≡ after old (Ok w)
+put_taken old id None own = put_same old id
+put_taken old id (Some w) own =
+    ap (λ (k : List ℕ). with_history old k (with_write (old k) w.write)) (sym (own w refl)) ∙ put_written old w
+
+-- a history that was taken out and put back changed leaves the others as they were
+changed_at : (old mid new : Histories) (id : List ℕ) (h k : HistoryContent) → h ≡ old id
+    → ((g : HistoryContent) → with_history mid id g ≡ with_history old id g) → new ≡ with_history mid id k → new ≡ with_history old id k
+changed_at old mid new id h k is others put = put ∙ others k
+
+pub held_after : (new_edits : Bool) (old mid new : Histories) (id : List ℕ) (h k : HistoryContent) (document : Value) (r : Result (Option Write) WriteFault)
+    → h ≡ old id → ((g : HistoryContent) → with_history mid id g ≡ with_history old id g) → new ≡ with_history mid id k
+    → IfOk r (λ w. judged new_edits id h document ≡ Ok (option_map writing_of w))
+    → IfOk r (λ w. k ≡ with_taken h (option_map writing_of w))
+    → IfOk r (λ w. new ≡ after old (Ok (option_map writing_of w)))
+held_after new_edits old mid new id h k document (Ok w) is others put became taken_in =
+    put ∙ others k ∙ ap (with_history old id) (taken_in ∙ ap (λ g. with_taken g (option_map writing_of w)) is)
+    ∙ put_taken old id (option_map writing_of w) (λ v e. (judged-Some new_edits id h document v (became ∙ ap Ok e)).named)
+held_after new_edits old mid new id h k document (Err fault) is others put became taken_in = tt
+
+pub held_still : (old mid new : Histories) (id : List ℕ) (h k : HistoryContent)
+    → h ≡ old id → ((g : HistoryContent) → with_history mid id g ≡ with_history old id g) → new ≡ with_history mid id k
+    → k ≡ h → new ≡ old
+held_still old mid new id h k is others put same = put ∙ others k ∙ ap (with_history old id) (same ∙ is) ∙ put_same old id
+
+-- ---- one document more
+
+pub one_told : (front : List Told) (t : Told) (v : Value) (o : Outcome) (vs : List Value) (os : List Outcome) → told v o ≡ t
+    → (front ++ t ∷ []) ++ all_told vs os ≡ front ++ all_told (v ∷ vs) (o ∷ os)
+one_told front t v o vs os e = append_assoc front (t ∷ []) (all_told vs os) ∙ ap (λ x. front ++ x ∷ all_told vs os) (sym e)
+
+put_before_front : (o : Outcome) (ws : List DocumentWrite) → put_before o [] ++ ws ≡ put_before o ws
+put_before_front (Ok (Some w)) ws = refl
+put_before_front (Ok None) ws = refl
+put_before_front (Err fault) ws = refl
+
+pub one_written : (front : List DocumentWrite) (o : Outcome) (ws : List DocumentWrite) → (front ++ put_before o []) ++ ws ≡ front ++ put_before o ws
+one_written front o ws = append_assoc front (put_before o []) ws ∙ ap (λ x. front ++ x) (put_before_front o ws)
