@@ -11,8 +11,8 @@ use Rattle.tree.specs.declared.placement.TreeFault.{TreeFault}
 use Rattle.store.specs.Contents.{AreAcceptable, IfThere, IsAcceptable}
 use Rattle.store.specs.Database.{Database, DocumentWrite, history_at, with_one}
 use Rattle.store.proofs.Contents.{history_at-with_one}
-use Rattle.write.specs.Admission.{admitted, admitted_after, admitted_edit, appended, base, continued, edit_of, fitted, named, naming, next_write, replicated, taken, taken_in, taken_on, write_at}
-use Rattle.write.specs.Bulk.{Histories, Outcome, after, as_outcome, judged, judged_by, outcome_in, outcomes, put_before, writes_in}
+use Rattle.write.specs.Admission.{admitted, admitted_after, admitted_edit, appended, base, continued, edit_of, fitted, named, naming, next_write, taken, taken_in, taken_on, write_at}
+use Rattle.write.specs.Bulk.{Outcome, after, as_outcome, judged, judged_by, outcome_in, outcomes, put_before, writes_in}
 use Rattle.write.specs.Document.{id_in, path_in, sent_in}
 use Rattle.write.specs.declared.document.Sent.{Sent}
 use Rattle.write.specs.declared.fault.WriteFault.{WriteFault}

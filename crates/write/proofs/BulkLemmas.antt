@@ -1,22 +1,26 @@
 -- Histories as functions of ids, and what a map of them holds.
-use Rattle.std.proofs.Common.{◌≡◌, ℕ, Bool, true, false, cond, List, [], ◌∷◌, ◌++◌, Result, Ok, Err, IfOk, IfErr, option_map, Option, Some, None, refl, ap, sym, ◌∙◌}
+use Rattle.std.proofs.Common.{◌≡◌, ℕ, Bool, true, false, cond, List, [], ◌∷◌, ◌++◌, map, Result, Ok, Err, IfOk, IfErr, OnErr, ◌≢◌, option_map, Option, Some, None, refl, ap, sym, ◌∙◌}
 use Rattle.std.specs.BTreeMap.{BTreeMap, get}
 use Rattle.std.specs.Ordering.{is_eq, nat_cmp}
 use Rattle.std.specs.Cmp.Lexicographic.{slice_cmp}
 use Rattle.std.proofs.lemmas.Map.Text.{is_eq-slice_cmp}
-use Rattle.std.proofs.lemmas.List.{append_assoc}
+use Rattle.std.proofs.lemmas.List.{append_assoc, map-append}
 use Rattle.std.proofs.lemmas.Slice.Eq.{bytes_eq-Decides}
 use Rattle.std.specs.Prelude.{bytes_eq}
 use Rattle.tree.specs.History.{HistoryContent}
 use Rattle.tree.specs.History.{with_write}
 use Rattle.couch_json.specs.Value.{Value}
-use Rattle.store.specs.Database.{DocumentWrite, is_of}
+use Rattle.couch_json.specs.View.{view}
+use Rattle.couch_json.specs.declared.value.Json.{Json}
+use Rattle.store.specs.Database.{DocumentWrite}
 use Rattle.store.specs.Writing.{writing_of}
 use Rattle.store.specs.declared.write.Write.{Write}
 use Rattle.write.specs.Admission.{with_taken}
-use Rattle.write.specs.Bulk.{Histories, Outcome, Told, after, all_told, judged, put_before, told, with_write_in}
-use Rattle.write.specs.BulkResults.{held_in, or_empty, with_history}
+use Rattle.write.specs.Bulk.{Histories, Outcome, Told, after, all_told, judged, outcome_in, outcomes, put_before, told, with_write_in, writes_in}
+use Rattle.write.specs.BulkResults.{held_in, or_empty, told_of, with_history}
+use Rattle.write.specs.declared.bulk_writes.BulkResult.{BulkResult}
 use Rattle.write.specs.declared.fault.WriteFault.{WriteFault}
+use Rattle.write.specs.declared.fault.WriteFault.TheVariants.{Memory}
 use Rattle.write.proofs.Acceptances.{judged-Some}
 
 or_cond : (b : Bool) (h : HistoryContent) (o : Option HistoryContent) → or_empty (cond b (Some h) o) ≡ cond b h (or_empty o)
@@ -69,11 +73,6 @@ put_taken old id None own = put_same old id
 put_taken old id (Some w) own =
     ap (λ (k : List ℕ). with_history old k (with_write (old k) w.write)) (sym (own w refl)) ∙ put_written old w
 
--- a history that was taken out and put back changed leaves the others as they were
-changed_at : (old mid new : Histories) (id : List ℕ) (h k : HistoryContent) → h ≡ old id
-    → ((g : HistoryContent) → with_history mid id g ≡ with_history old id g) → new ≡ with_history mid id k → new ≡ with_history old id k
-changed_at old mid new id h k is others put = put ∙ others k
-
 pub held_after : (new_edits : Bool) (old mid new : Histories) (id : List ℕ) (h k : HistoryContent) (document : Value) (r : Result (Option Write) WriteFault)
     → h ≡ old id → ((g : HistoryContent) → with_history mid id g ≡ with_history old id g) → new ≡ with_history mid id k
     → IfOk r (λ w. judged new_edits id h document ≡ Ok (option_map writing_of w))
@@ -84,10 +83,11 @@ held_after new_edits old mid new id h k document (Ok w) is others put became tak
     ∙ put_taken old id (option_map writing_of w) (λ v e. (judged-Some new_edits id h document v (became ∙ ap Ok e)).named)
 held_after new_edits old mid new id h k document (Err fault) is others put became taken_in = tt
 
-pub held_still : (old mid new : Histories) (id : List ℕ) (h k : HistoryContent)
+pub held_still : (old mid new : Histories) (id : List ℕ) (h k : HistoryContent) (r : Result (Option Write) WriteFault)
     → h ≡ old id → ((g : HistoryContent) → with_history mid id g ≡ with_history old id g) → new ≡ with_history mid id k
-    → k ≡ h → new ≡ old
-held_still old mid new id h k is others put same = put ∙ others k ∙ ap (with_history old id) (same ∙ is) ∙ put_same old id
+    → OnErr r (k ≡ h) → IfErr r (λ fault. fault ≢ Memory → new ≡ old)
+held_still old mid new id h k (Ok w) is others put same = tt
+held_still old mid new id h k (Err fault) is others put same = λ other. put ∙ others k ∙ ap (with_history old id) (same ∙ is) ∙ put_same old id
 
 -- ---- one document more
 
@@ -102,3 +102,35 @@ put_before_front (Err fault) ws = refl
 
 pub one_written : (front : List DocumentWrite) (o : Outcome) (ws : List DocumentWrite) → (front ++ put_before o []) ++ ws ≡ front ++ put_before o ws
 one_written front o ws = append_assoc front (put_before o []) ws ∙ ap (λ x. front ++ x) (put_before_front o ws)
+
+pub next_told : (new_edits : Bool) (hs now : Histories) (front results : List BulkResult) (r : BulkResult) (documents left : List Json) (document : Json) (all : List Told)
+    → documents ≡ document ∷ left → results ≡ front ++ r ∷ []
+    → told (view document) (outcome_in new_edits hs (view document)) ≡ told_of r → now ≡ after hs (outcome_in new_edits hs (view document))
+    → map told_of front ++ all_told (map view documents) (outcomes new_edits hs (map view documents)) ≡ all
+    → map told_of results ++ all_told (map view left) (outcomes new_edits now (map view left)) ≡ all
+next_told new_edits hs now front results r documents left document all is_first is_last is_told is_now so_far =
+    let v : Value = view document in
+    let vs : List Value = map view left in
+    let o : Outcome = outcome_in new_edits hs v in
+    let os : List Outcome = outcomes new_edits (after hs o) vs in
+    ap (λ h. map told_of results ++ all_told vs (outcomes new_edits h vs)) is_now
+    ∙ ap (λ rs. map told_of rs ++ all_told vs os) is_last
+    ∙ ap (λ ts. ts ++ all_told vs os) (map-append told_of front (r ∷ []))
+    ∙ one_told (map told_of front) (told_of r) v o vs os is_told
+    ∙ ap (λ ds. map told_of front ++ all_told (map view ds) (outcomes new_edits hs (map view ds))) (sym is_first)
+    ∙ so_far
+
+pub next_written : (new_edits : Bool) (hs now : Histories) (front writes : List DocumentWrite) (documents left : List Json) (document : Json) (all : List DocumentWrite)
+    → documents ≡ document ∷ left → writes ≡ front ++ put_before (outcome_in new_edits hs (view document)) []
+    → now ≡ after hs (outcome_in new_edits hs (view document))
+    → front ++ writes_in (outcomes new_edits hs (map view documents)) ≡ all
+    → writes ++ writes_in (outcomes new_edits now (map view left)) ≡ all
+next_written new_edits hs now front writes documents left document all is_first is_last is_now so_far =
+    let v : Value = view document in
+    let vs : List Value = map view left in
+    let o : Outcome = outcome_in new_edits hs v in
+    ap (λ h. writes ++ writes_in (outcomes new_edits h vs)) is_now
+    ∙ ap (λ ws. ws ++ writes_in (outcomes new_edits (after hs o) vs)) is_last
+    ∙ one_written front o (writes_in (outcomes new_edits (after hs o) vs))
+    ∙ ap (λ ds. front ++ writes_in (outcomes new_edits hs (map view ds))) (sym is_first)
+    ∙ so_far

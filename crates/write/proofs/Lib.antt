@@ -2,3 +2,4 @@ pub mod Acceptances
 pub mod Bodies
 pub mod Paths
 pub mod BulkLemmas
+pub mod Loaded

@@ -1,6 +1,6 @@
 -- What the code keeps while it judges several documents, in the words of `Bulk`.
 -- This crate's own: it ties structs of the code to the definition.
-use Rattle.std.specs.Prelude.{ℕ, List, [], ◌∷◌, Bool, if◌then◌else◌, Option, Some, None, option_map, string_bytes, bytes_eq}
+use Rattle.std.specs.Prelude.{ℕ, List, [], ◌∷◌, if◌then◌else◌, Option, Some, None, option_map, string_bytes, bytes_eq}
 use Rattle.std.specs.FinMap.{empty}
 use Rattle.std.specs.BTreeMap.{BTreeMap, get}
 use Rattle.std.specs.Ordering.{nat_cmp}
@@ -9,7 +9,7 @@ use Rattle.couch_json.specs.Value.{Value}
 use Rattle.tree.specs.History.{HistoryContent}
 use Rattle.write.specs.Bulk.{Histories, Told}
 use Rattle.write.specs.Document.{id_in}
-use Rattle.write.specs.declared.bulk.BulkResult.{BulkResult}
+use Rattle.write.specs.declared.bulk_writes.BulkResult.{BulkResult}
 
 -- what a result tells
 abbrev pub told_of : BulkResult → Told

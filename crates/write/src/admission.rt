@@ -38,7 +38,14 @@ pub(crate) fn admitted(
     let Some(path) = base(alloc, history, sent.rev)? else {
         return Err(WriteFault::Conflict);
     };
-    continued(alloc, history, id, sent.deleted, sent.body.into_json(), path)
+    continued(
+        alloc,
+        history,
+        id,
+        sent.deleted,
+        sent.body.into_json(),
+        path,
+    )
 }
 
 /// What an edit says, with the revision that its query names; `None` where the document is a bad one.

@@ -42,10 +42,7 @@ fn path_alone(alloc: Global, rev: Option<Rev>) -> Result<Vec<Rev>, WriteFault>
 }
 
 /// The path that `_revisions` gives, where it is the one that the document's revision has.
-fn path_from(
-    ancestry: Option<(u32, Vec<Rev>)>,
-    rev: Option<Rev>,
-) -> Result<Vec<Rev>, WriteFault>
+fn path_from(ancestry: Option<(u32, Vec<Rev>)>, rev: Option<Rev>) -> Result<Vec<Rev>, WriteFault>
     ensures ok { IfOk result (λ path. path_from (option_map (λ a. (a.0, a.1.items)) ancestry) rev ≡ Ok path.items) }
     ensures fault { IfErr result (λ fault. path_from (option_map (λ a. (a.0, a.1.items)) ancestry) rev ≡ Err fault) }
     ensures others { IfErr result (λ fault. ((rule : _) → fault ≢ WriteFault.Denied rule) × ((cause : _) → fault ≢ WriteFault.Store cause)) }

@@ -4,7 +4,7 @@
 mod admission;
 mod ancestry;
 mod applying;
-mod bulk;
+mod bulk_writes;
 mod document;
 mod editing;
 mod fault;
@@ -16,7 +16,7 @@ mod securing;
 mod tests;
 
 pub use applying::apply;
-pub use bulk::BulkResult;
+pub use bulk_writes::{BulkPlan, BulkResult, bulk};
 pub use editing::edit;
 pub use fault::WriteFault;
 pub use planned::{Changes, Edited, Planned};

@@ -93,7 +93,14 @@ fn a_document_is_created_once(rt: HostRuntime) -> Result<(), Fail> {
     let absent = edit(alloc, &mut store, &db, &id, None, Json::Null).err();
     assert!(rt; matches!(absent, Some(WriteFault::Store(StoreFault::NoDatabase))));
     store.create(&db)?;
-    let edited = edit(alloc, &mut store, &db, &id, None, read(alloc, br#"{"v":1}"#)?)?;
+    let edited = edit(
+        alloc,
+        &mut store,
+        &db,
+        &id,
+        None,
+        read(alloc, br#"{"v":1}"#)?,
+    )?;
     assert_eq!(rt; edited.id.as_str(), "a");
     assert_eq!(rt; edited.rev, rev(&rt, "1-16dd5aa7b10d32bc038d45f5c7f9f929"));
     apply(&mut store, edited.planned)?;

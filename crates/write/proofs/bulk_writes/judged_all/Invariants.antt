@@ -4,7 +4,7 @@ use Rattle.couch_json.specs.View.{view}
 use Rattle.store.specs.Writing.{writings}
 use Rattle.write.specs.Bulk.{all_told, outcomes, writes_in}
 use Rattle.write.specs.BulkResults.{held_in, told_of}
-use Rattle.write.proofs.bulk.judged_all.Given as goal
+use Rattle.write.proofs.bulk_writes.judged_all.Given as goal
 
 abbrev pub invariant-loop-document : goal.invariant-loop-document
 invariant-loop-document l = record {
