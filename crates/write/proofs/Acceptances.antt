@@ -64,3 +64,8 @@ pub acceptable_plan : (there : Option Database) (id : List ℕ) (h : HistoryCont
 acceptable_plan None id h document w ws read e same = tt
 acceptable_plan (Some db) id h document w ws read e same =
     rw same (acceptable db id h w (cc) (admitted-Ok id h document w e), tt)
+
+-- what follows of the database, where there is one
+pub if_there : (there : Option Database) (P Q : Database → Type 0) → ((d : Database) → P d → Q d) → IfThere there P → IfThere there Q
+if_there None P Q follows h = tt
+if_there (Some db) P Q follows h = follows db h

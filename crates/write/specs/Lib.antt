@@ -1,3 +1,4 @@
 pub mod Causes
 pub mod DocumentBody
 pub mod Admission
+pub mod Planning

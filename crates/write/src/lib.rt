@@ -2,13 +2,17 @@
 #![tactic(auto)]
 
 mod admission;
+mod applying;
 mod body;
 mod editing;
 mod fault;
 mod planned;
+mod securing;
 #[cfg(test)]
 mod tests;
 
-pub use editing::{apply, edit};
+pub use applying::apply;
+pub use editing::edit;
 pub use fault::WriteFault;
-pub use planned::Planned;
+pub use planned::{Changes, Edited, Planned};
+pub use securing::put_security;

@@ -1,6 +1,6 @@
 use crate::admission::admitted;
-use crate::{WriteFault, apply, edit};
-use couch_json::{Json, read};
+use crate::{WriteFault, apply, edit, put_security};
+use couch_json::{Json, canon, read};
 use std::alloc::Global;
 use std::process::Abort;
 use std::test::Fail;
@@ -93,11 +93,37 @@ fn a_document_is_created_once(rt: HostRuntime) -> Result<(), Fail> {
     let absent = edit(alloc, &mut store, &db, &id, Json::Null).err();
     assert!(rt; matches!(absent, Some(WriteFault::Store(StoreFault::NoDatabase))));
     store.create(&db)?;
-    let planned = edit(alloc, &mut store, &db, &id, read(alloc, br#"{"v":1}"#)?)?;
-    assert_eq!(rt; planned.id.as_str(), "a");
-    assert_eq!(rt; planned.rev, rev(&rt, "1-16dd5aa7b10d32bc038d45f5c7f9f929"));
-    apply(&mut store, planned)?;
+    let edited = edit(alloc, &mut store, &db, &id, read(alloc, br#"{"v":1}"#)?)?;
+    assert_eq!(rt; edited.id.as_str(), "a");
+    assert_eq!(rt; edited.rev, rev(&rt, "1-16dd5aa7b10d32bc038d45f5c7f9f929"));
+    apply(&mut store, edited.planned)?;
     let again = edit(alloc, &mut store, &db, &id, read(alloc, b"{}")?).err();
     assert!(rt; matches!(again, Some(WriteFault::Conflict)));
+    Ok(())
+}
+
+#[test]
+fn a_security_object_is_planned_and_made(rt: HostRuntime) -> Result<(), Fail> {
+    let alloc = rt.alloc();
+    let db = DbName::new(alloc, "db")?;
+    let mut store = PlainStore::new(alloc);
+    let text = r#"{"admins":{"names":["bob"]}}"#;
+    let value = read(alloc, text.as_bytes())?;
+    let absent = put_security(alloc, &mut store, &db, &Json::Null).err();
+    assert!(rt; matches!(absent, Some(WriteFault::Store(StoreFault::NoDatabase))));
+    store.create(&db)?;
+    for bad in [
+        "[]",
+        "null",
+        r#"{"members":[]}"#,
+        r#"{"admins":{"names":"bob"}}"#,
+    ] {
+        let value = read(alloc, bad.as_bytes())?;
+        let refused = put_security(alloc, &mut store, &db, &value).err();
+        assert!(rt; matches!(refused, Some(WriteFault::BadDocument)), "{bad}");
+    }
+    let planned = put_security(alloc, &mut store, &db, &value)?;
+    apply(&mut store, planned)?;
+    assert_eq!(rt; canon(alloc, store.security(&db)?.value())?.as_str(), text);
     Ok(())
 }

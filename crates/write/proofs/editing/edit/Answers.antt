@@ -1,7 +1,8 @@
 use Rattle.couch_json.specs.View.{view}
-use Rattle.write.proofs.Acceptances.{acceptable_plan}
+use Rattle.write.proofs.Acceptances.{acceptable_plan, if_there}
 use Rattle.write.proofs.editing.edit.Goals as goal
 
 pub returns-clause-acceptable : goal.returns-clause-acceptable
 returns-clause-acceptable g c = λ honest.
-    acceptable_plan _ c.args.id.now _ (view c.args.document) _ _ (c.in-Ok.ensures.ok honest) c.in_ok-write.ensures.ok c.in_ok-planned.ensures.writes
+    if_there _ _ _ c.in_ok-edited.ensures.acceptable
+    (acceptable_plan _ c.args.id.now _ (view c.args.document) _ _ (c.in-Ok.ensures.ok honest) c.in_ok-write.ensures.ok c.in_ok-edited.ensures.writes)
