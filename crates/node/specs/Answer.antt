@@ -14,11 +14,12 @@ use Rattle.read.specs.Information.{information}
 use Rattle.read.specs.Shown.{document_in}
 use Rattle.read.specs.declared.fault.ReadFault.{ReadFault}
 use Rattle.read.specs.declared.fault.ReadFault.TheVariants as read
-use Rattle.policy.specs.Security.{closed, is_security}
+use Rattle.policy.specs.Security.{closed}
 use Rattle.store.specs.Contents.{Contents, new_database, with_security}
 use Rattle.store.specs.Database.{Database, DocumentWrite, with_all}
 use Rattle.tree.specs.Revision.{Revision, text_of}
 use Rattle.write.specs.Admission.{edit_in, new_revision}
+use Rattle.write.specs.Planning.{security_in}
 use Rattle.write.specs.declared.fault.WriteFault.{WriteFault}
 use Rattle.write.specs.declared.fault.WriteFault.TheVariants as write
 use Rattle.node.specs.Asking.{asking, body_of, denied, lacks_parameters, method_of}
@@ -154,15 +155,17 @@ with_security_in databases name security (Some db) = insert databases name (with
 abbrev pub with_security_at : Contents → List ℕ → Value → Contents
 with_security_at databases name security = with_security_in databases name security (get databases name)
 
--- a value that is a security object
-abbrev pub security_of : Value → Result Value Refusal
-security_of v = next (true_or Body (is_security v)) (λ _. Ok v)
+-- a value is refused as a security object because it is none, and for no other cause
+abbrev pub security_set : Contents → List ℕ → Option (Result Value WriteFault) → Result Outcome Refusal
+security_set databases name None = Err NoDatabase
+security_set databases name (Some (Ok security)) =
+    Ok (record { status = 200; value = done; after = with_security_at databases name security })
+security_set databases name (Some (Err fault)) = Err Body
 
 abbrev pub security_written : Identity → Contents → Message → Result Outcome Refusal
 security_written caller databases m =
     next (entered WriteSecurity caller databases m.path) (λ name.
-    unasked m (next (body_of m) (λ v. next (security_of v) (λ security.
-    Ok (record { status = 200; value = done; after = with_security_at databases name security })))))
+    unasked m (next (body_of m) (λ v. security_set databases name (security_in databases name v))))
 
 -- ---- databases
 

@@ -119,7 +119,7 @@ pub(crate) fn write_document<S: Store>(
 }
 
 /// What the edit of a document comes to.
-#[tactic(auto, using(crate::proofs::Faults::cause_of))]
+#[tactic(auto, using(crate::proofs::Faults::cause_of, crate::proofs::Changed::writes_made))]
 fn written<S: Store>(
     alloc: Global,
     store: &mut S,
@@ -139,8 +139,8 @@ fn written<S: Store>(
     ensures kept { S.is_honest store.new → (S.is_damaged store.new → S.is_damaged store.old) × ((n : _) → S.lacks_room store.new n → S.lacks_room store.old n) }
     ensures onward { (S.fault_count store.old ≤ S.fault_count store.new) × (S.is_honest store.new → S.is_honest store.old) }
 {
-    let planned = match edit(alloc, store, name, id, document) {
-        Ok(planned) => planned,
+    let edited = match edit(alloc, store, name, id, document) {
+        Ok(edited) => edited,
         Err(WriteFault::Memory) => return Err(Stop::NoRoom),
         Err(WriteFault::Store(StoreFault::NoDatabase)) => {
             return Err(Stop::Refused(Refusal::NoDatabase));
@@ -150,16 +150,16 @@ fn written<S: Store>(
         Err(WriteFault::Generation) => return Err(Stop::Refused(Refusal::Generation)),
         Err(_) => return Err(Stop::Refused(Refusal::Conflict)),
     };
-    let value = edited(alloc, &planned.id, &planned.rev)?;
+    let value = edit_reply(alloc, &edited.id, &edited.rev)?;
     Ok(Answered {
         status: 201,
         value,
-        change: Some(Change::Write(planned)),
+        change: Some(Change::Write(edited.planned)),
     })
 }
 
 /// The reply to an edit: the id and the new revision.
-fn edited(alloc: Global, id: &DocId, rev: &Rev) -> Got<Json>
+fn edit_reply(alloc: Global, id: &DocId, rev: &Rev) -> Got<Json>
     ensures { IfOk result (λ value. view value ≡ edited id.now (Some rev.now ∷ [])) }
 {
     let mut members = BTreeMap::new(alloc);
