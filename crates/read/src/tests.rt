@@ -8,10 +8,14 @@ use std::test::Fail;
 use store::{DbName, PlainStore, Store, StoreFault};
 use tree::{DocId, History, Placed, Rev};
 
+fn rev(rt: &impl Abort, text: &str) -> Rev {
+    Rev::parse(text.as_bytes()).expect(rt, text)
+}
+
 fn path(rt: &impl Abort, alloc: Global, texts: &[&str]) -> Result<Vec<Rev>, Fail> {
     let mut revs = Vec::new(alloc);
     for text in texts {
-        revs.push(Rev::parse(text.as_bytes()).expect(rt, text))?;
+        revs.push(rev(rt, text))?;
     }
     Ok(revs)
 }
@@ -143,11 +147,15 @@ fn leaves_and_revisions_by_name(rt: HostRuntime) -> Result<(), Fail> {
         r#"[{"missing":"2-q"},{"ok":{"_id":"a","_rev":"2-a"}},{"missing":"9-x"},{"ok":{"_id":"a","_rev":"2-a"}}]"#
     );
     assert_eq!(rt;
-        document(alloc, &history, &id, &asked[0], false).err(),
+        document(alloc, &history, &id, &rev(&rt, "2-q"), false).err(),
         Some(ReadFault::Missing)
     );
     assert_eq!(rt;
-        text(alloc, document(alloc, &history, &id, &asked[1], true))?.as_str(),
+        text(
+            alloc,
+            document(alloc, &history, &id, &rev(&rt, "2-a"), true)
+        )?
+        .as_str(),
         r#"{"_id":"a","_rev":"2-a","_revisions":{"ids":["a","r"],"start":2}}"#
     );
     Ok(())
@@ -178,7 +186,7 @@ fn open_revisions_of_what_is_not_there(rt: HostRuntime) -> Result<(), Fail> {
         r#"[{"missing":"1-a"}]"#
     );
     assert_eq!(rt;
-        get(alloc, &mut store, &db, &id, Some(&asked[0]), false).err(),
+        get(alloc, &mut store, &db, &id, Some(&rev(&rt, "1-a")), false).err(),
         Some(ReadFault::Missing)
     );
     Ok(())
