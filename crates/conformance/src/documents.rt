@@ -17,3 +17,32 @@ fn put_get_and_absent(rt: HostRuntime) -> Result<(), Fail> {
     let alloc = rt.alloc();
     play(&rt, alloc, &mut node(alloc)?, ONE_DOCUMENT)
 }
+
+/// What the query of a document's page asks for; the digits are those for `[false,0,"",{}]`.
+const QUERIES: &str = r#"
+anybody | PUT /db/a | {} | 201 {"id":"a","ok":true,"rev":"1-d2422118a02a398f9502ebcbaa7b90bd"}
+anybody | GET /db/a?rev=1-d2422118a02a398f9502ebcbaa7b90bd |  | 200 {"_id":"a","_rev":"1-d2422118a02a398f9502ebcbaa7b90bd"}
+anybody | GET /db/a?&%72ev=1%2Dd2422118a02a398f9502ebcbaa7b90bd& |  | 200 {"_id":"a","_rev":"1-d2422118a02a398f9502ebcbaa7b90bd"}
+anybody | GET /db/a?rev=1-0 |  | 404 {"error":"not_found","reason":"missing"}
+anybody | GET /db/a?revs=false |  | 200 {"_id":"a","_rev":"1-d2422118a02a398f9502ebcbaa7b90bd"}
+anybody | GET /db/a?revs=true |  | 200 {"_id":"a","_rev":"1-d2422118a02a398f9502ebcbaa7b90bd","_revisions":{"ids":["d2422118a02a398f9502ebcbaa7b90bd"],"start":1}}
+anybody | GET /db/a?open_revs=all |  | 200 [{"ok":{"_id":"a","_rev":"1-d2422118a02a398f9502ebcbaa7b90bd"}}]
+anybody | GET /db/none?open_revs=all&revs=true |  | 200 []
+anybody | GET /db/a?open_revs=%5B%5D |  | 200 []
+anybody | GET /db/a?open_revs=%5B%221-0%22,+%221-0%22%5D |  | 200 [{"missing":"1-0"},{"missing":"1-0"}]
+anybody | GET /db/a?rev |  | 400 {"error":"bad_request","reason":"query"}
+anybody | GET /db/a?rev=0-a |  | 400 {"error":"bad_request","reason":"query"}
+anybody | GET /db/a?rev=1-0&rev=1-0 |  | 400 {"error":"bad_request","reason":"query"}
+anybody | GET /db/a?revs=1 |  | 400 {"error":"bad_request","reason":"query"}
+anybody | GET /db/a?rev=1-0&open_revs=all |  | 400 {"error":"bad_request","reason":"query"}
+anybody | GET /db/a?open_revs=any |  | 400 {"error":"bad_request","reason":"query"}
+anybody | GET /db/a?open_revs=%22all%22 |  | 400 {"error":"bad_request","reason":"query"}
+anybody | GET /db/a?open_revs=%5B1%5D |  | 400 {"error":"bad_request","reason":"query"}
+anybody | GET /db/a?open_revs=%5B%221-%FF%22%5D |  | 400 {"error":"bad_request","reason":"query"}
+"#;
+
+#[test]
+fn a_query_asks_for_revisions(rt: HostRuntime) -> Result<(), Fail> {
+    let alloc = rt.alloc();
+    play(&rt, alloc, &mut node(alloc)?, QUERIES)
+}

@@ -1,9 +1,12 @@
 -- A fault that a store's caller can't mend has a cause.
-use Rattle.std.proofs.Common.{◌≢◌, ◌≤◌, ℕ, ap, arith, refl, inl, inr, IfErr, Result, Ok, Err}
+use Rattle.std.proofs.Common.{◌≢◌, ◌≤◌, ℕ, ap, arith, refl, inl, inr, IfErr, Result, Ok, Err, length}
 use Rattle.store.specs.Causes as store
 use Rattle.store.specs.declared.fault.StoreFault.{StoreFault}
 use Rattle.store.specs.declared.fault.StoreFault.TheVariants.{Memory, Failed, NoDatabase, Exists, Damaged, Full}
 use Rattle.write.specs.Causes as changing
+use Rattle.write.specs.Planning.{LacksRoomFor}
+use Rattle.write.specs.declared.planned.Changes.{Changes}
+use Rattle.write.specs.declared.planned.Changes.TheVariants.{Writes, Security}
 use Rattle.write.specs.declared.fault.WriteFault.{WriteFault}
 use Rattle.write.specs.declared.fault.WriteFault.TheVariants as write
 use Rattle.node.specs.Causes.{HasCause, IsCaused, stop_of_change}
@@ -51,6 +54,11 @@ caused_by_change old new damaged full write.BadHistory only m n e c = absurd (on
 caused_by_change old new damaged full write.Conflict only m n e c = absurd (only (λ e. cc) (λ cause e. cc))
 caused_by_change old new damaged full write.Generation only m n e c = absurd (only (λ e. cc) (λ cause e. cc))
 caused_by_change old new damaged full write.Memory only m n e c = tt
+
+-- where there is no room for changes, there is some count that there is no room for
+pub room_lacking : (lacks : ℕ → Type 0) (changes : Changes) → LacksRoomFor lacks changes → (n : ℕ) × lacks n
+room_lacking lacks (Writes ws) h = (length ws.items, h)
+room_lacking lacks (Security s) h = absurd h
 
 pub unrefused_change : (fault : WriteFault) (refusal : Refusal) → stop_of_change fault ≢ Refused refusal
 unrefused_change (write.Store cause) refusal e = cc

@@ -1,6 +1,6 @@
 -- The answer to a request: its status, its value and the databases afterwards.
 -- CouchDB manual, api/server/common, api/database/common, api/database/security and api/document/common; the order of refusals is this server's own.
-use Rattle.std.specs.Prelude.{ℕ, List, [], ◌∷◌, map, Bool, true, false, Option, Some, None, is_none, Result, Ok, Err, codes}
+use Rattle.std.specs.Prelude.{ℕ, List, [], ◌∷◌, map, Bool, true, false, Option, Some, None, is_none, option_map, Result, Ok, Err, codes}
 use Rattle.std.specs.FinMap.{get, insert, keys, remove}
 use Rattle.auth.specs.Callers.{Identity, Configuration}
 use Rattle.couch_http.specs.Message.{Message}
@@ -11,18 +11,21 @@ use Rattle.policy.specs.declared.action.Action.{Action}
 use Rattle.policy.specs.declared.action.Action.TheVariants.{Administer, Read, WriteSecurity, WriteDocument}
 use Rattle.policy.specs.declared.rule.Rule.{Rule}
 use Rattle.read.specs.Information.{information}
+use Rattle.read.specs.OpenRevisions.{open_revisions_in}
 use Rattle.read.specs.Shown.{document_in}
 use Rattle.read.specs.declared.fault.ReadFault.{ReadFault}
 use Rattle.read.specs.declared.fault.ReadFault.TheVariants as read
-use Rattle.policy.specs.Security.{closed, is_security}
+use Rattle.policy.specs.Security.{closed}
 use Rattle.store.specs.Contents.{Contents, new_database, with_security}
 use Rattle.store.specs.Database.{Database, DocumentWrite, with_all}
 use Rattle.tree.specs.Revision.{Revision, text_of}
 use Rattle.write.specs.Admission.{edit_in, new_revision}
+use Rattle.write.specs.Planning.{security_in}
 use Rattle.write.specs.declared.fault.WriteFault.{WriteFault}
 use Rattle.write.specs.declared.fault.WriteFault.TheVariants as write
 use Rattle.node.specs.Asking.{asking, body_of, denied, lacks_parameters, method_of}
 use Rattle.node.specs.Paths.{database_name_in, document_id_in}
+use Rattle.node.specs.Queries.{Asked, winner, revision, leaves, revisions, DocumentQuery, document_query}
 use Rattle.node.specs.Refusals.{refusal_value, status_of}
 use Rattle.node.specs.Routing.{page_of}
 use Rattle.node.specs.declared.method.RequestMethod.{RequestMethod}
@@ -76,6 +79,16 @@ document_asked m =
 
 -- ---- reading a document
 
+-- what reading a document gives, by which revisions are asked for, and whether with the revisions before each
+abbrev pub read_by : Contents → List ℕ → List ℕ → Bool → Asked → Option (Result Value ReadFault)
+read_by databases name id revs winner = document_in databases name id None revs
+read_by databases name id revs (revision r) = document_in databases name id (Some r) revs
+read_by databases name id revs leaves = option_map Ok (open_revisions_in databases name id None revs)
+read_by databases name id revs (revisions rs) = option_map Ok (open_revisions_in databases name id (Some rs) revs)
+
+abbrev pub read_in : Contents → List ℕ → List ℕ → DocumentQuery → Option (Result Value ReadFault)
+read_in databases name id query = read_by databases name id query.revs query.asked
+
 abbrev pub shown : Contents → Option (Result Value ReadFault) → Result Outcome Refusal
 shown databases None = Err NoDatabase
 shown databases (Some (Ok document)) = Ok (record { status = 200; value = document; after = databases })
@@ -84,7 +97,9 @@ shown databases (Some (Err fault)) = Err Missing
 
 abbrev pub document_read : Identity → Contents → Message → Result Outcome Refusal
 document_read caller databases m =
-    next (entered Read caller databases m.path) (λ name. next (document_asked m) (λ id. shown databases (document_in databases name id)))
+    next (entered Read caller databases m.path) (λ name.
+    next (there_or Id (document_id_in m.path)) (λ id.
+    next (there_or Query (document_query m.query)) (λ query. shown databases (read_in databases name id query))))
 
 -- ---- writing a document
 
@@ -154,15 +169,17 @@ with_security_in databases name security (Some db) = insert databases name (with
 abbrev pub with_security_at : Contents → List ℕ → Value → Contents
 with_security_at databases name security = with_security_in databases name security (get databases name)
 
--- a value that is a security object
-abbrev pub security_of : Value → Result Value Refusal
-security_of v = next (true_or Body (is_security v)) (λ _. Ok v)
+-- a value is refused as a security object because it is none, and for no other cause
+abbrev pub security_set : Contents → List ℕ → Option (Result Value WriteFault) → Result Outcome Refusal
+security_set databases name None = Err NoDatabase
+security_set databases name (Some (Ok security)) =
+    Ok (record { status = 200; value = done; after = with_security_at databases name security })
+security_set databases name (Some (Err fault)) = Err Body
 
 abbrev pub security_written : Identity → Contents → Message → Result Outcome Refusal
 security_written caller databases m =
     next (entered WriteSecurity caller databases m.path) (λ name.
-    unasked m (next (body_of m) (λ v. next (security_of v) (λ security.
-    Ok (record { status = 200; value = done; after = with_security_at databases name security })))))
+    unasked m (next (body_of m) (λ v. security_set databases name (security_in databases name v))))
 
 -- ---- databases
 

@@ -2,6 +2,8 @@ pub mod Paths
 pub mod Routing
 pub mod Refusals
 pub mod Asking
+pub mod Queries
+pub mod Queried
 pub mod Answer
 pub mod Answered
 pub mod Causes

@@ -1,5 +1,4 @@
 use couch_json::Json;
-use policy::Security;
 use store::DbName;
 use write::Planned;
 
@@ -21,8 +20,6 @@ pub(crate) enum Change {
     Create(DbName),
     /// A database with all that it holds, gone.
     Remove(DbName),
-    /// Another security object of a database.
-    Secure(DbName, Security),
-    /// Something written to a database.
+    /// What was planned for a database.
     Write(Planned),
 }

@@ -3,25 +3,29 @@
 ghost use Rattle.std.specs.Prelude.{◌≡◌, ◌≢◌, ◌≤◌, ◌∷◌, [], IfOk, IfErr, Ok, Err, Some, None, false};
 ghost use Rattle.couch_http.specs.Message.{message_of};
 ghost use Rattle.couch_json.specs.View.{view};
-ghost use Rattle.read.specs.Shown.{document_in};
+ghost use Rattle.read.specs.Causes.{IsCaused as IsReadCaused};
+ghost use Rattle.store.specs.declared.fault.StoreFault.TheVariants.{NoDatabase, Exists};
+ghost use Rattle.std.specs.FinMap as map;
 ghost use Rattle.tree.specs.DocumentId.{is_design_id, is_local_id};
 ghost use Rattle.write.specs.Admission.{edit_in};
-ghost use Rattle.node.specs.Answer.{document_asked, document_read, document_written, edited, shown, written};
+ghost use Rattle.node.specs.Answer.{document_asked, document_read, document_written, edited, read_in, shown, written};
 ghost use Rattle.node.specs.Answered.{MayChange, outcome_of};
 ghost use Rattle.node.specs.Causes.{IsCaused};
+ghost use Rattle.node.specs.Queried.{query_of};
 
 use crate::answered::{Answered, Change};
 use crate::asking::{body, without_parameters};
 use crate::entering::entered;
 use crate::members::put_text;
 use crate::path::document_id;
+use crate::query::{Asked, DocumentQuery, document_query};
 use crate::refusal::Refusal;
 use crate::stop::Stop;
 use auth::Caller;
 use couch_http::Request;
 use couch_json::{Got, Json, put_member};
 use policy::Action;
-use read::{ReadFault, get};
+use read::{ReadFault, get, open_revs};
 use std::alloc::Global;
 use std::collections::BTreeMap;
 use store::{DbName, Store, StoreFault};
@@ -46,44 +50,34 @@ pub(crate) fn read_document<S: Store>(
     ensures onward { (S.fault_count store.old ≤ S.fault_count store.new) × (S.is_honest store.new → S.is_honest store.old) }
 {
     let name = entered(alloc, store, Action::Read, caller, &request.path)?;
-    let id = document_asked(alloc, request)?;
-    shown(alloc, store, &name, &id)
-}
-
-/// The id of the document that a request without parameters asks for.
-fn document_asked(alloc: Global, request: &Request) -> Result<DocId, Stop>
-    ensures ok { IfOk result (λ id. document_asked (message_of request.now) ≡ Ok id) }
-    ensures plain { IfOk result (λ id. (is_design_id id ≡ false) × (is_local_id id ≡ false)) }
-    ensures refused { (refusal : _) → result ≡ Err (Stop.Refused refusal) → document_asked (message_of request.now) ≡ Err refusal }
-    ensures working { result ≢ Err Stop.Failed }
-{
     let id = document_id(alloc, &request.path)?;
-    without_parameters(request)?;
-    Ok(id)
+    let query = document_query(alloc, request)?;
+    shown(alloc, store, &name, &id, &query)
 }
 
-/// The document as it is shown.
+/// What the reader of a document is shown.
 #[tactic(auto, using(crate::proofs::Faults::cause_of))]
 fn shown<S: Store>(
     alloc: Global,
     store: &mut S,
     name: &DbName,
     id: &DocId,
+    query: &DocumentQuery,
 ) -> Result<Answered, Stop>
     ensures ok { S.is_honest store.new → IfOk result (λ answered.
-        shown (S.contents store.old) (document_in (S.contents store.old) name.now id.now) ≡ Ok (outcome_of (S.contents store.old) answered)) }
+        shown (S.contents store.old) (read_in (S.contents store.old) name.now id.now (query_of query.now)) ≡ Ok (outcome_of (S.contents store.old) answered)) }
     ensures refused { S.is_honest store.new → (refusal : _) → result ≡ Err (Stop.Refused refusal)
-        → shown (S.contents store.old) (document_in (S.contents store.old) name.now id.now) ≡ Err refusal }
+        → shown (S.contents store.old) (read_in (S.contents store.old) name.now id.now (query_of query.now)) ≡ Err refusal }
     ensures may { S.is_honest store.new → IfOk result (λ answered. MayChange (S.contents store.old) answered.change) }
     ensures same { S.is_honest store.new → S.contents store.new ≡ S.contents store.old }
     ensures caused { S.is_honest store.new → IfErr result (λ stop. IsCaused (S.fault_count store.old) (S.fault_count store.new) (S.is_damaged store.old) ⊥ stop) }
     ensures kept { S.is_honest store.new → (S.is_damaged store.new → S.is_damaged store.old) × ((n : _) → S.lacks_room store.new n → S.lacks_room store.old n) }
     ensures onward { (S.fault_count store.old ≤ S.fault_count store.new) × (S.is_honest store.new → S.is_honest store.old) }
 {
-    match get(alloc, store, name, id) {
-        Ok(document) => Ok(Answered {
+    match read_in(alloc, store, name, id, query) {
+        Ok(value) => Ok(Answered {
             status: 200,
-            value: document,
+            value,
             change: None,
         }),
         Err(ReadFault::Missing) => Err(Stop::Refused(Refusal::Missing)),
@@ -92,6 +86,45 @@ fn shown<S: Store>(
         Err(ReadFault::Memory) => Err(Stop::NoRoom),
         Err(ReadFault::Store(StoreFault::NoDatabase)) => Err(Stop::Refused(Refusal::NoDatabase)),
         Err(ReadFault::Store(_)) => Err(Stop::Failed),
+    }
+}
+
+/// What reading a document gives, by what is asked.
+fn read_in<S: Store>(
+    alloc: Global,
+    store: &mut S,
+    name: &DbName,
+    id: &DocId,
+    query: &DocumentQuery,
+) -> Result<Json, ReadFault>
+    ensures ok { S.is_honest store.new → IfOk result (λ value.
+        read_in (S.contents store.old) name.now id.now (query_of query.now) ≡ Some (Ok (view value))) }
+    ensures missing { S.is_honest store.new → result ≡ Err ReadFault.Missing
+        → read_in (S.contents store.old) name.now id.now (query_of query.now) ≡ Some (Err ReadFault.Missing) }
+    ensures deleted { S.is_honest store.new → result ≡ Err ReadFault.Deleted
+        → read_in (S.contents store.old) name.now id.now (query_of query.now) ≡ Some (Err ReadFault.Deleted) }
+    ensures no_database { S.is_honest store.new → result ≡ Err (ReadFault.Store NoDatabase)
+        → map.get (S.contents store.old) name.now ≡ None }
+    ensures same { S.is_honest store.new → S.contents store.new ≡ S.contents store.old }
+    ensures no_query { result ≢ Err ReadFault.BadQuery }
+    ensures others { result ≢ Err (ReadFault.Store Exists) }
+    ensures own_memory { result ≢ Err (ReadFault.Store StoreFault.Memory) }
+    ensures caused { IfErr result (λ fault. IsReadCaused (S.fault_count store.old) (S.fault_count store.new) (S.is_damaged store.old) fault) }
+    ensures kept { S.is_honest store.new → (S.is_damaged store.new → S.is_damaged store.old) × ((n : _) → S.lacks_room store.new n → S.lacks_room store.old n) }
+    ensures onward { (S.fault_count store.old ≤ S.fault_count store.new) × (S.is_honest store.new → S.is_honest store.old) }
+{
+    match &query.asked {
+        Asked::Winner => get(alloc, store, name, id, None, query.revs),
+        Asked::Revision(rev) => get(alloc, store, name, id, Some(rev), query.revs),
+        Asked::Leaves => open_revs(alloc, store, name, id, None, query.revs),
+        Asked::Revisions(revs) => open_revs(
+            alloc,
+            store,
+            name,
+            id,
+            Some(revs.as_slice()),
+            query.revs,
+        ),
     }
 }
 
@@ -118,8 +151,20 @@ pub(crate) fn write_document<S: Store>(
     written(alloc, store, &name, &id, document)
 }
 
+/// The id of the document that a request without parameters asks for.
+fn document_asked(alloc: Global, request: &Request) -> Result<DocId, Stop>
+    ensures ok { IfOk result (λ id. document_asked (message_of request.now) ≡ Ok id) }
+    ensures plain { IfOk result (λ id. (is_design_id id ≡ false) × (is_local_id id ≡ false)) }
+    ensures refused { (refusal : _) → result ≡ Err (Stop.Refused refusal) → document_asked (message_of request.now) ≡ Err refusal }
+    ensures working { result ≢ Err Stop.Failed }
+{
+    let asked = document_id(alloc, &request.path)?;
+    without_parameters(request)?;
+    Ok(asked)
+}
+
 /// What the edit of a document comes to.
-#[tactic(auto, using(crate::proofs::Faults::cause_of))]
+#[tactic(auto, using(crate::proofs::Faults::cause_of, crate::proofs::Changed::writes_made))]
 fn written<S: Store>(
     alloc: Global,
     store: &mut S,
@@ -139,8 +184,8 @@ fn written<S: Store>(
     ensures kept { S.is_honest store.new → (S.is_damaged store.new → S.is_damaged store.old) × ((n : _) → S.lacks_room store.new n → S.lacks_room store.old n) }
     ensures onward { (S.fault_count store.old ≤ S.fault_count store.new) × (S.is_honest store.new → S.is_honest store.old) }
 {
-    let planned = match edit(alloc, store, name, id, document) {
-        Ok(planned) => planned,
+    let edited = match edit(alloc, store, name, id, document) {
+        Ok(edited) => edited,
         Err(WriteFault::Memory) => return Err(Stop::NoRoom),
         Err(WriteFault::Store(StoreFault::NoDatabase)) => {
             return Err(Stop::Refused(Refusal::NoDatabase));
@@ -150,16 +195,16 @@ fn written<S: Store>(
         Err(WriteFault::Generation) => return Err(Stop::Refused(Refusal::Generation)),
         Err(_) => return Err(Stop::Refused(Refusal::Conflict)),
     };
-    let value = edited(alloc, &planned.id, &planned.rev)?;
+    let value = edit_reply(alloc, &edited.id, &edited.rev)?;
     Ok(Answered {
         status: 201,
         value,
-        change: Some(Change::Write(planned)),
+        change: Some(Change::Write(edited.planned)),
     })
 }
 
 /// The reply to an edit: the id and the new revision.
-fn edited(alloc: Global, id: &DocId, rev: &Rev) -> Got<Json>
+fn edit_reply(alloc: Global, id: &DocId, rev: &Rev) -> Got<Json>
     ensures { IfOk result (λ value. view value ≡ edited id.now (Some rev.now ∷ [])) }
 {
     let mut members = BTreeMap::new(alloc);

@@ -27,7 +27,6 @@ use crate::welcome::welcomed;
 use auth::{Auth, Caller};
 use couch_http::{Fixed, Request, Response};
 use couch_json::{Got, Json, NoMemory};
-use policy::Security;
 use std::alloc::Global;
 use store::{DbName, Store, StoreFault};
 use write::{Planned, WriteFault, apply};
@@ -140,7 +139,6 @@ fn change<S: Store>(store: &mut S, change: Option<Change>) -> Result<(), Stop>
         None => Ok(()),
         Some(Change::Create(name)) => create(store, &name),
         Some(Change::Remove(name)) => remove(store, &name),
-        Some(Change::Secure(name, security)) => secure(store, &name, &security),
         Some(Change::Write(planned)) => write(store, planned),
     }
 }
@@ -181,26 +179,8 @@ fn remove<S: Store>(store: &mut S, name: &DbName) -> Result<(), Stop>
     }
 }
 
-/// Gives a database another security object.
-#[tactic(auto, using(crate::proofs::Faults::cause_of))]
-fn secure<S: Store>(store: &mut S, name: &DbName, security: &Security) -> Result<(), Stop>
-    requires { S.is_honest store.old → MayChangeBy (S.contents store.old) (Change.Secure name.now security.now) }
-    ensures ok { S.is_honest store.new → OnOk result (S.contents store.new ≡ changed_by (S.contents store.old) (Change.Secure name.now security.now)) }
-    ensures unrefused { (refusal : _) → result ≢ Err (Stop.Refused refusal) }
-    ensures err { S.is_honest store.new → OnErr result (S.contents store.new ≡ S.contents store.old) }
-    ensures caused { S.is_honest store.new → IfErr result (λ stop. IsCaused (S.fault_count store.old) (S.fault_count store.new)
-        (S.is_damaged store.old) ((n : ℕ) × S.lacks_room store.old n) stop) }
-    ensures onward { (S.fault_count store.old ≤ S.fault_count store.new) × (S.is_honest store.new → S.is_honest store.old) }
-{
-    match store.set_security(name, security) {
-        Ok(()) => Ok(()),
-        Err(StoreFault::Memory) => Err(Stop::NoRoom),
-        Err(_) => Err(Stop::Failed),
-    }
-}
-
-/// Writes what was planned.
-#[tactic(auto, using(crate::proofs::Faults::caused_by_change, crate::proofs::Faults::unrefused_change))]
+/// Makes what was planned.
+#[tactic(auto, using(crate::proofs::Faults::caused_by_change, crate::proofs::Faults::room_lacking, crate::proofs::Faults::unrefused_change))]
 fn write<S: Store>(store: &mut S, planned: Planned) -> Result<(), Stop>
     requires { S.is_honest store.old → MayChangeBy (S.contents store.old) (Change.Write planned) }
     ensures ok { S.is_honest store.new → OnOk result (S.contents store.new ≡ changed_by (S.contents store.old) (Change.Write planned)) }

@@ -4,7 +4,8 @@ ghost use Rattle.std.specs.Prelude.{◌≡◌, ◌≢◌, ◌≤◌, IfOk, IfErr
 ghost use Rattle.std.specs.FinMap as map;
 ghost use Rattle.couch_http.specs.Message.{message_of};
 ghost use Rattle.couch_json.specs.View.{view};
-ghost use Rattle.node.specs.Answer.{secured, security_of, security_read, security_written};
+ghost use Rattle.write.specs.Planning.{security_in};
+ghost use Rattle.node.specs.Answer.{secured, security_read, security_set, security_written};
 ghost use Rattle.node.specs.Answered.{MayChange, outcome_of};
 ghost use Rattle.node.specs.Causes.{IsCaused};
 
@@ -17,9 +18,10 @@ use crate::stop::Stop;
 use auth::Caller;
 use couch_http::Request;
 use couch_json::Json;
-use policy::{Action, Security, SecurityFault};
+use policy::Action;
 use std::alloc::Global;
 use store::{DbName, Store, StoreFault};
+use write::{WriteFault, put_security};
 
 /// Reads the security object of a database.
 pub(crate) fn read_security<S: Store>(
@@ -63,26 +65,42 @@ pub(crate) fn write_security<S: Store>(
     let name = entered(alloc, store, Action::WriteSecurity, caller, &request.path)?;
     without_parameters(request)?;
     let value = body(alloc, request)?;
-    let security = security_of(alloc, &value)?;
+    security_set(alloc, store, &name, &value)
+}
+
+/// What becomes of a value that is to be the security object of a database.
+#[tactic(auto, using(crate::proofs::Faults::cause_of, crate::proofs::Changed::security_made, crate::proofs::Changed::security_may))]
+fn security_set<S: Store>(
+    alloc: Global,
+    store: &mut S,
+    name: &DbName,
+    value: &Json,
+) -> Result<Answered, Stop>
+    ensures ok { S.is_honest store.new → IfOk result (λ answered.
+        security_set (S.contents store.old) name.now (security_in (S.contents store.old) name.now (view value.now)) ≡ Ok (outcome_of (S.contents store.old) answered)) }
+    ensures refused { S.is_honest store.new → (refusal : _) → result ≡ Err (Stop.Refused refusal)
+        → security_set (S.contents store.old) name.now (security_in (S.contents store.old) name.now (view value.now)) ≡ Err refusal }
+    ensures may { S.is_honest store.new → IfOk result (λ answered. MayChange (S.contents store.old) answered.change) }
+    ensures same { S.is_honest store.new → S.contents store.new ≡ S.contents store.old }
+    ensures caused { S.is_honest store.new → IfErr result (λ stop. IsCaused (S.fault_count store.old) (S.fault_count store.new) (S.is_damaged store.old) ⊥ stop) }
+    ensures kept { S.is_honest store.new → (S.is_damaged store.new → S.is_damaged store.old) × ((n : _) → S.lacks_room store.new n → S.lacks_room store.old n) }
+    ensures onward { (S.fault_count store.old ≤ S.fault_count store.new) × (S.is_honest store.new → S.is_honest store.old) }
+{
+    let planned = match put_security(alloc, store, name, value) {
+        Ok(planned) => planned,
+        Err(WriteFault::Memory) => return Err(Stop::NoRoom),
+        Err(WriteFault::Store(StoreFault::NoDatabase)) => {
+            return Err(Stop::Refused(Refusal::NoDatabase));
+        }
+        Err(WriteFault::Store(_)) => return Err(Stop::Failed),
+        Err(_) => return Err(Stop::Refused(Refusal::Body)),
+    };
     let reply = done(alloc)?;
     Ok(Answered {
         status: 200,
         value: reply,
-        change: Some(Change::Secure(name, security)),
+        change: Some(Change::Write(planned)),
     })
-}
-
-/// The security object that a value is.
-fn security_of(alloc: Global, value: &Json) -> Result<Security, Stop>
-    ensures ok { IfOk result (λ security. security_of (view value.now) ≡ Ok security) }
-    ensures refused { (refusal : _) → result ≡ Err (Stop.Refused refusal) → security_of (view value.now) ≡ Err refusal }
-    ensures working { result ≢ Err Stop.Failed }
-{
-    match Security::read(alloc, value) {
-        Ok(security) => Ok(security),
-        Err(SecurityFault::Shape) => Err(Stop::Refused(Refusal::Body)),
-        Err(SecurityFault::Memory) => Err(Stop::NoRoom),
-    }
 }
 
 /// The security object of the database of this name.

@@ -1,3 +1,5 @@
 pub mod Causes
 pub mod Information
+pub mod OpenRevisions
+pub mod Path
 pub mod Shown

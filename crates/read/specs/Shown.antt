@@ -1,13 +1,14 @@
 -- The document that a reader is shown, and what reading a document gives.
--- CouchDB manual, api/document/common (the members `_id`, `_rev` and `_deleted`; `GET /{db}/{docid}`: 404 where the document is missing or deleted).
+-- CouchDB manual, api/document/common (the members `_id`, `_rev` and `_deleted`; `GET /{db}/{docid}`: 404 where the document is missing or deleted; `rev` and `revs`).
 use Rattle.std.specs.Prelude.{Bool, true, false, if◌then◌else◌, List, ℕ, codes, Option, Some, None, option_map, Result, Ok, Err}
 use Rattle.std.specs.FinMap.{get}
 use Rattle.couch_json.specs.Value.{Value, null, truth, whole, text, array, object, Members, no_members, put}
 use Rattle.tree.specs.Revision.{Revision, text_of}
-use Rattle.tree.specs.History.{HistoryContent, held_of, winner}
+use Rattle.tree.specs.History.{HistoryContent, held_of, is_deleted, winner}
 use Rattle.tree.specs.declared.entry.Held.{Held}
 use Rattle.store.specs.Contents.{Contents}
 use Rattle.store.specs.Database.{Database, history_at}
+use Rattle.read.specs.Path.{with_revisions}
 use Rattle.read.specs.declared.fault.ReadFault.{ReadFault}
 use Rattle.read.specs.declared.fault.ReadFault.TheVariants.{Missing, Deleted}
 
@@ -25,29 +26,33 @@ abbrev pub with_mark : Bool → Members → Members
 with_mark true ms = put (codes "_deleted") (truth true) ms
 with_mark false ms = ms
 
--- the body with the document's id and the revision, and a mark where the revision is deleted
-abbrev pub shown : List ℕ → Revision → Held → Value
-shown id r held =
-    object (with_mark held.deleted (put (codes "_rev") (text (text_of r)) (put (codes "_id") (text id) (members_in held.body))))
+-- the members of the body with the document's id and the revision, and a mark where the revision is deleted
+abbrev pub shown_members : List ℕ → Revision → Held → Members
+shown_members id r held = with_mark held.deleted (put (codes "_rev") (text (text_of r)) (put (codes "_id") (text id) (members_in held.body)))
 
--- the revision as shown, where it is not deleted and something is held of it
-abbrev pub live_document : List ℕ → Revision → Option Held → Result Value ReadFault
-live_document id r None = Err Missing
-live_document id r (Some held) = if held.deleted then Err Deleted else Ok (shown id r held)
+-- the document that a revision is shown as, deleted or not, with its path where that is asked for; nothing where no body is held of it
+abbrev pub shown : List ℕ → HistoryContent → Revision → Bool → Option Value
+shown id h r revs = option_map (λ held. object (with_revisions revs h r (shown_members id r held))) (held_of h r)
 
-abbrev pub winning_document : List ℕ → HistoryContent → Option Revision → Result Value ReadFault
-winning_document id h None = Err Missing
-winning_document id h (Some r) = live_document id r (held_of h r)
+-- missing where there is nothing to be shown
+abbrev pub found : Option Value → Result Value ReadFault
+found None = Err Missing
+found (Some document) = Ok document
 
--- what reading a document of this history gives: the winner as shown; missing where nothing was ever written; deleted where the
--- winner is
-abbrev pub document_by : List ℕ → HistoryContent → Result Value ReadFault
-document_by id h = winning_document id h (winner h)
+abbrev pub winning_document : List ℕ → HistoryContent → Option Revision → Bool → Result Value ReadFault
+winning_document id h None revs = Err Missing
+winning_document id h (Some r) revs = if is_deleted (held_of h r) then Err Deleted else found (shown id h r revs)
+
+-- What reading a document of this history gives. Of the revision that is asked for: the document as shown, and missing where no body
+-- is held of it. Where none is asked for, of the winner: deleted where it is, and missing where nothing was ever written.
+abbrev pub document_by : List ℕ → HistoryContent → Option Revision → Bool → Result Value ReadFault
+document_by id h None revs = winning_document id h (winner h) revs
+document_by id h (Some r) revs = found (shown id h r revs)
 
 -- what reading the document of this id gives
-abbrev pub document_at : Database → List ℕ → Result Value ReadFault
-document_at db id = document_by id (history_at db id)
+abbrev pub document_at : Database → List ℕ → Option Revision → Bool → Result Value ReadFault
+document_at db id rev revs = document_by id (history_at db id) rev revs
 
 -- the same in the database of this name, where there is one
-abbrev pub document_in : Contents → List ℕ → List ℕ → Option (Result Value ReadFault)
-document_in contents name id = option_map (λ db. document_at db id) (get contents name)
+abbrev pub document_in : Contents → List ℕ → List ℕ → Option Revision → Bool → Option (Result Value ReadFault)
+document_in contents name id rev revs = option_map (λ db. document_at db id rev revs) (get contents name)

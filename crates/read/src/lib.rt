@@ -4,6 +4,8 @@
 mod document;
 mod fault;
 mod information;
+mod open_revisions;
+mod path;
 mod shown;
 #[cfg(test)]
 mod tests;
@@ -11,3 +13,4 @@ mod tests;
 pub use document::get;
 pub use fault::ReadFault;
 pub use information::info;
+pub use open_revisions::open_revs;

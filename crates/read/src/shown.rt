@@ -1,19 +1,42 @@
-ghost use Rattle.std.specs.Prelude.{◌≡◌, IfOk, OnOk, OnErr, codes};
-ghost use Rattle.couch_json.specs.Value.{put, text, truth};
+ghost use Rattle.std.specs.Prelude.{◌≡◌, IfOk, option_map};
 ghost use Rattle.couch_json.specs.View.{view, members_view};
-ghost use Rattle.tree.specs.Revision.{text_of};
-ghost use Rattle.read.specs.Shown.{members_in, shown as shown_lem, with_mark};
+ghost use Rattle.read.specs.Shown.{members_in, shown as shown_lem, shown_members};
 
+use crate::path::put_revisions;
 use couch_json::{Got, Json, put_member};
 use std::alloc::Global;
 use std::collections::BTreeMap;
-use tree::{DocId, Rev};
+use tree::{DocId, History, Rev};
 
-/// The document that a revision is shown as: its body with `_id`, `_rev`, and `_deleted` where it
-/// is deleted.
-pub(crate) fn shown(alloc: Global, id: &DocId, rev: &Rev, deleted: bool, body: &Json) -> Got<Json>
-    ensures { IfOk result (λ document. view document
-        ≡ shown_lem id.now rev.now (record { deleted = deleted; body = view body.now })) }
+/// The document that a revision is shown as: its body with `_id`, `_rev`, `_deleted` where it is
+/// deleted, and `_revisions` where that is asked for. `None` where no body is held of it.
+pub(crate) fn shown(
+    alloc: Global,
+    history: &History,
+    id: &DocId,
+    rev: &Rev,
+    revs: bool,
+) -> Got<Option<Json>>
+    ensures { IfOk result (λ document. option_map view document ≡ shown_lem id.now history.now rev.now revs) }
+{
+    let Some((deleted, body)) = history.body(rev) else {
+        return Ok(None);
+    };
+    let mut members = shown_members(alloc, id, rev, deleted, body)?;
+    put_revisions(alloc, &mut members, history, rev, revs)?;
+    Ok(Some(Json::Object(members)))
+}
+
+/// The members that a revision is shown with, but for its path.
+fn shown_members(
+    alloc: Global,
+    id: &DocId,
+    rev: &Rev,
+    deleted: bool,
+    body: &Json,
+) -> Got<BTreeMap<String, Json>>
+    ensures { IfOk result (λ members. members_view members.entries
+        ≡ shown_members id.now rev.now (record { deleted = deleted; body = view body.now })) }
 {
     let mut members = members_of(alloc, body)?;
     let id = String::from_str(alloc, id.as_str())?;
@@ -22,7 +45,7 @@ pub(crate) fn shown(alloc: Global, id: &DocId, rev: &Rev, deleted: bool, body: &
     if deleted {
         put_member(alloc, &mut members, "_deleted", Json::Truth(true))?;
     }
-    Ok(Json::Object(members))
+    Ok(members)
 }
 
 /// The members of a body, with memory of their own.

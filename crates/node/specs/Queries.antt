@@ -1,0 +1,134 @@
+-- The parameters of a query, and what those of a document's page ask for.
+-- URL Standard, section 5.1 (names and values), by form_urlencoded's own definition; CouchDB manual, api/document/common (`rev`, `revs`, `open_revs`).
+use Rattle.std.specs.Prelude.{ℕ, Bool, true, false, List, [], ◌∷◌, map, Option, Some, None, option_map, option_and_then, Result, Ok, Err, if◌then◌else◌, bytes_eq, codes}
+use Rattle.std.specs.List.{list_all, list_any}
+use Rattle.std.specs.Str.Lossy.{utf8_lossy}
+use Rattle.couch_json.specs.Reading.{reading}
+use Rattle.couch_json.specs.Value.{Value, null, truth, whole, text, array, object, Items, no_items, item}
+use Rattle.couch_json.specs.declared.fault.JsonFault.{JsonFault}
+use Rattle.form_urlencoded.specs.Form.{decode, raw_pairs}
+use Rattle.tree.specs.Revision.{Revision, revision_read}
+
+-- ---- names and values
+
+-- the text that a name or a value stands for; U+FFFD stands where its bytes are not UTF-8
+abbrev pub form_text : List ℕ → List ℕ
+form_text bytes = utf8_lossy (decode bytes)
+
+-- a parameter is a name and a value
+abbrev pub parameter_of : List ℕ × List ℕ → List ℕ × List ℕ
+parameter_of pair = (form_text pair.0, form_text pair.1)
+
+-- the parameters of a query, in order
+abbrev pub parameters_in : Option (List ℕ) → List (List ℕ × List ℕ)
+parameters_in None = []
+parameters_in (Some query) = map parameter_of (raw_pairs query)
+
+-- no parameter has another name than these
+abbrev pub are_named : List (List ℕ) → List (List ℕ × List ℕ) → Bool
+are_named names parameters = list_all (λ p. list_any (λ name. bytes_eq name p.0) names) parameters
+
+-- the values of the parameters of this name, in order
+abbrev pub values_of : List ℕ → List (List ℕ × List ℕ) → List (List ℕ)
+values_of name [] = []
+values_of name (p ∷ ps) = if bytes_eq p.0 name then p.1 ∷ values_of name ps else values_of name ps
+
+abbrev pub at_most_one : List (List ℕ) → Option (Option (List ℕ))
+at_most_one [] = Some None
+at_most_one (value ∷ []) = Some (Some value)
+at_most_one (value ∷ other ∷ others) = None
+
+-- the value of the parameter of this name, or that there is none; no answer where the name stands twice
+abbrev pub sole_value : List ℕ → List (List ℕ × List ℕ) → Option (Option (List ℕ))
+sole_value name parameters = at_most_one (values_of name parameters)
+
+-- `true` or `false`, which is also what stands where there is no parameter
+abbrev pub flag : Option (List ℕ) → Option Bool
+flag None = Some false
+flag (Some value) =
+    if bytes_eq value (codes "true") then Some true else (if bytes_eq value (codes "false") then Some false else None)
+
+-- ---- revisions
+
+-- which revisions of a document are asked for
+pub data Asked : Type 0 where
+  winner : Asked
+  revision : Revision → Asked
+  -- all leaves
+  leaves : Asked
+  revisions : List Revision → Asked
+
+-- what is asked of a document: which revisions, and whether with the revisions before each
+pub record DocumentQuery : Type 0 where
+  pub asked : Asked
+  pub revs : Bool
+
+-- the revision that a value spells
+abbrev pub revision_in : Value → Option Revision
+revision_in null = None
+revision_in (truth b) = None
+revision_in (whole n) = None
+revision_in (text t) = revision_read t
+revision_in (array vs) = None
+revision_in (object ms) = None
+
+-- the revisions that elements spell, where each spells one; a revision may stand there more than once
+abbrev pub revisions_in : Items → Option (List Revision)
+revisions_in no_items = Some []
+revisions_in (item v vs) = option_and_then (λ r. option_map (λ rs. r ∷ rs) (revisions_in vs)) (revision_in v)
+
+abbrev pub revisions_listed : Value → Option (List Revision)
+revisions_listed null = None
+revisions_listed (truth b) = None
+revisions_listed (whole n) = None
+revisions_listed (text t) = None
+revisions_listed (array vs) = revisions_in vs
+revisions_listed (object ms) = None
+
+abbrev pub revisions_read : Result Value JsonFault → Option (List Revision)
+revisions_read (Ok v) = revisions_listed v
+revisions_read (Err fault) = None
+
+-- `all`, or a JSON list of revisions
+abbrev pub open_revisions : List ℕ → Option Asked
+open_revisions value =
+    if bytes_eq value (codes "all") then Some leaves else option_map revisions (revisions_read (reading value))
+
+-- what `rev` and `open_revs` ask for together
+abbrev pub asked_by : Option (List ℕ) → Option (List ℕ) → Option Asked
+asked_by None None = Some winner
+asked_by (Some rev) None = option_map revision (revision_read rev)
+asked_by None (Some open_revs) = open_revisions open_revs
+asked_by (Some rev) (Some open_revs) = None
+
+abbrev pub query_by : Option (List ℕ) → Option (List ℕ) → Option (List ℕ) → Option DocumentQuery
+query_by rev open_revs revs =
+    option_and_then (λ asked. option_map (λ with_revs. record { asked = asked; revs = with_revs }) (flag revs)) (asked_by rev open_revs)
+
+-- the revision that a value spells, where there is one
+abbrev pub revision_by : Option (List ℕ) → Option (Option Revision)
+revision_by None = Some None
+revision_by (Some rev) = option_map (λ r. Some r) (revision_read rev)
+
+-- ---- the queries of a document's page
+
+-- what a document's reader asks for, by parameters
+abbrev pub asked_of_document : List (List ℕ × List ℕ) → Option DocumentQuery
+asked_of_document parameters =
+    if are_named (codes "rev" ∷ codes "revs" ∷ codes "open_revs" ∷ []) parameters
+    then option_and_then (λ rev. option_and_then (λ open_revs. option_and_then (λ revs. query_by rev open_revs revs)
+    (sole_value (codes "revs") parameters)) (sole_value (codes "open_revs") parameters)) (sole_value (codes "rev") parameters)
+    else None
+
+-- what a document's reader asks for, or nothing where the query is a bad one
+abbrev pub document_query : Option (List ℕ) → Option DocumentQuery
+document_query query = asked_of_document (parameters_in query)
+
+abbrev pub revision_asked : List (List ℕ × List ℕ) → Option (Option Revision)
+revision_asked parameters =
+    if are_named (codes "rev" ∷ []) parameters then option_and_then (λ rev. revision_by rev) (sole_value (codes "rev") parameters)
+    else None
+
+-- the revision that a document's writer names, if any, or nothing where the query is a bad one
+abbrev pub revision_query : Option (List ℕ) → Option (Option Revision)
+revision_query query = revision_asked (parameters_in query)

@@ -1,0 +1,55 @@
+ghost use Rattle.std.specs.Prelude.{◌≡◌, map, IfOk, OnOk};
+ghost use Rattle.couch_json.specs.Value.{text};
+ghost use Rattle.couch_json.specs.View.{view, members_view};
+ghost use Rattle.read.specs.Path.{revisions_of, with_revisions};
+
+use couch_json::{Got, Json, Number, put_member};
+use std::alloc::Global;
+use std::collections::BTreeMap;
+use tree::{History, Rev};
+
+/// Puts the path of a known revision into the members of its document, where `revs` asks for it.
+pub(crate) fn put_revisions(
+    alloc: Global,
+    members: &mut BTreeMap<String, Json>,
+    history: &History,
+    rev: &Rev,
+    revs: bool,
+) -> Got<()>
+    ensures { OnOk result (members_view members.new.entries
+        ≡ with_revisions revs history.now rev.now (members_view members.old.entries)) }
+{
+    if !revs {
+        return Ok(());
+    }
+    let Some(path) = history.chain(rev)? else {
+        return Ok(());
+    };
+    put_member(alloc, members, "_revisions", revisions(alloc, rev, &path)?)
+}
+
+/// The path whose newest revision is this one, as `_revisions` has it.
+fn revisions(alloc: Global, rev: &Rev, path: &[Rev]) -> Got<Json>
+    ensures { IfOk result (λ value. view value ≡ revisions_of rev.now path.now) }
+{
+    let mut members = BTreeMap::new(alloc);
+    put_member(
+        alloc,
+        &mut members,
+        "ids",
+        Json::Array(hashes(alloc, path)?),
+    )?;
+    let start = Number::from(i64::from(rev.number()));
+    put_member(alloc, &mut members, "start", Json::Whole(start))?;
+    Ok(Json::Object(members))
+}
+
+fn hashes(alloc: Global, path: &[Rev]) -> Got<Vec<Json>>
+    ensures { IfOk result (λ hashes. map view hashes.items ≡ map (λ r. text r.hash) path.now) }
+{
+    let mut hashes = Vec::with_capacity(alloc, path.len())?;
+    for rev in path {
+        hashes.push(Json::Text(String::from_str(alloc, rev.hash())?))?;
+    }
+    Ok(hashes)
+}
