@@ -25,7 +25,7 @@ use Rattle.write.specs.declared.fault.WriteFault.{WriteFault}
 use Rattle.write.specs.declared.fault.WriteFault.TheVariants as write
 use Rattle.node.specs.Asking.{asking, body_of, denied, lacks_parameters, method_of}
 use Rattle.node.specs.Paths.{database_name_in, document_id_in}
-use Rattle.node.specs.Queries.{Asked, winner, revision, leaves, revisions, DocumentQuery, document_query}
+use Rattle.node.specs.Queries.{Asked, winner, revision, leaves, revisions, DocumentQuery, document_query, revision_query}
 use Rattle.node.specs.Refusals.{refusal_value, status_of}
 use Rattle.node.specs.Routing.{page_of}
 use Rattle.node.specs.declared.method.RequestMethod.{RequestMethod}
@@ -71,11 +71,6 @@ allowed_in action caller name (Some db) = allowed caller name (verdict action ca
 abbrev pub entered : Action → Identity → Contents → List ℕ → Result (List ℕ) Refusal
 entered action caller databases path =
     next (there_or DatabaseName (database_name_in path)) (λ name. allowed_in action caller name (get databases name))
-
--- the id of the document that the path leads to, in a request without parameters
-abbrev pub document_asked : Message → Result (List ℕ) Refusal
-document_asked m =
-    next (there_or Id (document_id_in m.path)) (λ id. next (true_or Query (lacks_parameters m.query)) (λ _. Ok id))
 
 -- ---- reading a document
 
@@ -124,17 +119,33 @@ refusal_of_edit write.BadDocument = BadDocument
 refusal_of_edit write.Generation = Generation
 refusal_of_edit fault = Conflict
 
-abbrev pub written : Contents → List ℕ → List ℕ → Option (Result (List DocumentWrite) WriteFault) → Result Outcome Refusal
-written databases name id None = Err NoDatabase
-written databases name id (Some (Ok ws)) =
-    Ok (record { status = 201; value = edited id (map new_revision ws); after = with_writes databases name ws })
-written databases name id (Some (Err fault)) = Err (refusal_of_edit fault)
+-- an edit, whose reply has this status where it is accepted
+abbrev pub written : ℕ → Contents → List ℕ → List ℕ → Option (Result (List DocumentWrite) WriteFault) → Result Outcome Refusal
+written status databases name id None = Err NoDatabase
+written status databases name id (Some (Ok ws)) =
+    Ok (record { status = status; value = edited id (map new_revision ws); after = with_writes databases name ws })
+written status databases name id (Some (Err fault)) = Err (refusal_of_edit fault)
+
+-- the id of the document that is edited, and the revision that the query names, if any
+abbrev pub edit_asked : Message → Result (List ℕ × Option Revision) Refusal
+edit_asked m = next (there_or Id (document_id_in m.path)) (λ id. next (there_or Query (revision_query m.query)) (λ rev. Ok (id, rev)))
 
 abbrev pub document_written : Identity → Contents → Message → Result Outcome Refusal
 document_written caller databases m =
     next (entered WriteDocument caller databases m.path) (λ name.
-    next (document_asked m) (λ id.
-    next (body_of m) (λ document. written databases name id (edit_in databases name id document))))
+    next (edit_asked m) (λ asked.
+    next (body_of m) (λ document. written 201 databases name asked.0 (edit_in databases name asked.0 asked.1 document))))
+
+-- the document that an edit which deletes has
+abbrev pub deletion : Value
+deletion = object (put (codes "_deleted") (truth true) no_members)
+
+-- a deletion has to name the revision that it deletes
+abbrev pub document_deleted : Identity → Contents → Message → Result Outcome Refusal
+document_deleted caller databases m =
+    next (entered WriteDocument caller databases m.path) (λ name.
+    next (edit_asked m) (λ asked.
+    next (there_or Conflict asked.1) (λ rev. written 200 databases name asked.0 (edit_in databases name asked.0 (Some rev) deletion))))
 
 -- ---- the server, and the security object of a database
 
@@ -240,6 +251,7 @@ served Security (Some Get) caller databases m = security_read caller databases m
 served Security (Some Put) caller databases m = security_written caller databases m
 served Document (Some Get) caller databases m = document_read caller databases m
 served Document (Some Put) caller databases m = document_written caller databases m
+served Document (Some Delete) caller databases m = document_deleted caller databases m
 served page method caller databases m = Err Method
 
 -- what a request comes to, or the first refusal, in this order: the caller's token, the path, the method, the database's name,

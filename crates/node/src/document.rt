@@ -1,4 +1,4 @@
-//! A document's page: `GET` and `PUT /{db}/{id}` (CouchDB manual, api/document/common).
+//! A document's page: `GET`, `PUT` and `DELETE /{db}/{id}` (CouchDB manual, api/document/common).
 
 ghost use Rattle.std.specs.Prelude.{◌≡◌, ◌≢◌, ◌≤◌, ◌∷◌, [], IfOk, IfErr, Ok, Err, Some, None, false};
 ghost use Rattle.couch_http.specs.Message.{message_of};
@@ -8,17 +8,17 @@ ghost use Rattle.store.specs.declared.fault.StoreFault.TheVariants.{NoDatabase, 
 ghost use Rattle.std.specs.FinMap as map;
 ghost use Rattle.tree.specs.DocumentId.{is_design_id, is_local_id};
 ghost use Rattle.write.specs.Admission.{edit_in};
-ghost use Rattle.node.specs.Answer.{document_asked, document_read, document_written, edited, read_in, shown, written};
+ghost use Rattle.node.specs.Answer.{deletion, document_deleted, document_read, document_written, edit_asked, edited, read_in, shown, written};
 ghost use Rattle.node.specs.Answered.{MayChange, outcome_of};
 ghost use Rattle.node.specs.Causes.{IsCaused};
 ghost use Rattle.node.specs.Queried.{query_of};
 
 use crate::answered::{Answered, Change};
-use crate::asking::{body, without_parameters};
+use crate::asking::body;
 use crate::entering::entered;
 use crate::members::put_text;
 use crate::path::document_id;
-use crate::query::{Asked, DocumentQuery, document_query};
+use crate::query::{Asked, DocumentQuery, document_query, revision_query};
 use crate::refusal::Refusal;
 use crate::stop::Stop;
 use auth::Caller;
@@ -146,21 +146,56 @@ pub(crate) fn write_document<S: Store>(
     ensures onward { (S.fault_count store.old ≤ S.fault_count store.new) × (S.is_honest store.new → S.is_honest store.old) }
 {
     let name = entered(alloc, store, Action::WriteDocument, caller, &request.path)?;
-    let id = document_asked(alloc, request)?;
+    let (id, rev) = edit_asked(alloc, request)?;
     let document = body(alloc, request)?;
-    written(alloc, store, &name, &id, document)
+    written(alloc, store, &name, &id, rev, document, 201)
 }
 
-/// The id of the document that a request without parameters asks for.
-fn document_asked(alloc: Global, request: &Request) -> Result<DocId, Stop>
-    ensures ok { IfOk result (λ id. document_asked (message_of request.now) ≡ Ok id) }
-    ensures plain { IfOk result (λ id. (is_design_id id ≡ false) × (is_local_id id ≡ false)) }
-    ensures refused { (refusal : _) → result ≡ Err (Stop.Refused refusal) → document_asked (message_of request.now) ≡ Err refusal }
+/// Deletes a document on one of its branches, but for the change of the store itself.
+pub(crate) fn delete_document<S: Store>(
+    alloc: Global,
+    store: &mut S,
+    caller: &Caller,
+    request: &Request,
+) -> Result<Answered, Stop>
+    ensures ok { S.is_honest store.new → IfOk result (λ answered.
+        document_deleted caller.now (S.contents store.old) (message_of request.now) ≡ Ok (outcome_of (S.contents store.old) answered)) }
+    ensures refused { S.is_honest store.new → (refusal : _) → result ≡ Err (Stop.Refused refusal)
+        → document_deleted caller.now (S.contents store.old) (message_of request.now) ≡ Err refusal }
+    ensures may { S.is_honest store.new → IfOk result (λ answered. MayChange (S.contents store.old) answered.change) }
+    ensures same { S.is_honest store.new → S.contents store.new ≡ S.contents store.old }
+    ensures caused { S.is_honest store.new → IfErr result (λ stop. IsCaused (S.fault_count store.old) (S.fault_count store.new) (S.is_damaged store.old) ⊥ stop) }
+    ensures kept { S.is_honest store.new → (S.is_damaged store.new → S.is_damaged store.old) × ((n : _) → S.lacks_room store.new n → S.lacks_room store.old n) }
+    ensures onward { (S.fault_count store.old ≤ S.fault_count store.new) × (S.is_honest store.new → S.is_honest store.old) }
+{
+    let name = entered(alloc, store, Action::WriteDocument, caller, &request.path)?;
+    let (id, rev) = edit_asked(alloc, request)?;
+    if rev.is_none() {
+        return Err(Stop::Refused(Refusal::Conflict));
+    }
+    let document = deletion(alloc)?;
+    written(alloc, store, &name, &id, rev, document, 200)
+}
+
+/// The document that is edited, and the revision that the query names, if any.
+fn edit_asked(alloc: Global, request: &Request) -> Result<(DocId, Option<Rev>), Stop>
+    ensures ok { IfOk result (λ asked. edit_asked (message_of request.now) ≡ Ok asked) }
+    ensures plain { IfOk result (λ asked. (is_design_id asked.0 ≡ false) × (is_local_id asked.0 ≡ false)) }
+    ensures refused { (refusal : _) → result ≡ Err (Stop.Refused refusal) → edit_asked (message_of request.now) ≡ Err refusal }
     ensures working { result ≢ Err Stop.Failed }
 {
-    let asked = document_id(alloc, &request.path)?;
-    without_parameters(request)?;
-    Ok(asked)
+    let id = document_id(alloc, &request.path)?;
+    let rev = revision_query(alloc, request)?;
+    Ok((id, rev))
+}
+
+/// The document of an edit that deletes.
+fn deletion(alloc: Global) -> Got<Json>
+    ensures { IfOk result (λ document. view document ≡ deletion) }
+{
+    let mut members = BTreeMap::new(alloc);
+    put_member(alloc, &mut members, "_deleted", Json::Truth(true))?;
+    Ok(Json::Object(members))
 }
 
 /// What the edit of a document comes to.
@@ -170,21 +205,23 @@ fn written<S: Store>(
     store: &mut S,
     name: &DbName,
     id: &DocId,
+    rev: Option<Rev>,
     document: Json,
+    status: u16,
 ) -> Result<Answered, Stop>
     requires design { is_design_id id.now ≡ false }
     requires local { is_local_id id.now ≡ false }
     ensures ok { S.is_honest store.new → IfOk result (λ answered.
-        written (S.contents store.old) name.now id.now (edit_in (S.contents store.old) name.now id.now (view document)) ≡ Ok (outcome_of (S.contents store.old) answered)) }
+        written status (S.contents store.old) name.now id.now (edit_in (S.contents store.old) name.now id.now rev (view document)) ≡ Ok (outcome_of (S.contents store.old) answered)) }
     ensures refused { S.is_honest store.new → (refusal : _) → result ≡ Err (Stop.Refused refusal)
-        → written (S.contents store.old) name.now id.now (edit_in (S.contents store.old) name.now id.now (view document)) ≡ Err refusal }
+        → written status (S.contents store.old) name.now id.now (edit_in (S.contents store.old) name.now id.now rev (view document)) ≡ Err refusal }
     ensures may { S.is_honest store.new → IfOk result (λ answered. MayChange (S.contents store.old) answered.change) }
     ensures same { S.is_honest store.new → S.contents store.new ≡ S.contents store.old }
     ensures caused { S.is_honest store.new → IfErr result (λ stop. IsCaused (S.fault_count store.old) (S.fault_count store.new) (S.is_damaged store.old) ⊥ stop) }
     ensures kept { S.is_honest store.new → (S.is_damaged store.new → S.is_damaged store.old) × ((n : _) → S.lacks_room store.new n → S.lacks_room store.old n) }
     ensures onward { (S.fault_count store.old ≤ S.fault_count store.new) × (S.is_honest store.new → S.is_honest store.old) }
 {
-    let edited = match edit(alloc, store, name, id, document) {
+    let edited = match edit(alloc, store, name, id, rev, document) {
         Ok(edited) => edited,
         Err(WriteFault::Memory) => return Err(Stop::NoRoom),
         Err(WriteFault::Store(StoreFault::NoDatabase)) => {
@@ -197,7 +234,7 @@ fn written<S: Store>(
     };
     let value = edit_reply(alloc, &edited.id, &edited.rev)?;
     Ok(Answered {
-        status: 201,
+        status,
         value,
         change: Some(Change::Write(edited.planned)),
     })

@@ -16,7 +16,7 @@ ghost use Rattle.node.specs.Step.{IsDone, IsStep};
 use crate::answered::{Answered, Change};
 use crate::asking::caller;
 use crate::databases::{create_database, list_databases, read_database, remove_database};
-use crate::document::{read_document, write_document};
+use crate::document::{delete_document, read_document, write_document};
 use crate::method::{RequestMethod, method_of};
 use crate::page::Page;
 use crate::refusal::Refusal;
@@ -90,6 +90,9 @@ fn served<S: Store>(
         (Page::Security, Some(RequestMethod::Put)) => write_security(alloc, store, caller, request),
         (Page::Document, Some(RequestMethod::Get)) => read_document(alloc, store, caller, request),
         (Page::Document, Some(RequestMethod::Put)) => write_document(alloc, store, caller, request),
+        (Page::Document, Some(RequestMethod::Delete)) => {
+            delete_document(alloc, store, caller, request)
+        }
         _ => Err(Stop::Refused(Refusal::Method)),
     }
 }
