@@ -50,7 +50,9 @@ fn documents_good_and_bad(rt: HostRuntime) -> Result<(), Fail> {
         (r#"{"_id":"z"}"#, "bad document"),
         (r#"{"_id":1}"#, "bad document"),
         (r#"{"_foo":1}"#, "bad document"),
-        (r#"{"_rev":"1-a"}"#, "bad document"),
+        (r#"{"_rev":"1-a"}"#, "conflict"),
+        (r#"{"_rev":"a"}"#, "bad document"),
+        (r#"{"_deleted":1}"#, "bad document"),
         (r#"{"_":1}"#, "bad document"),
         (too_deep.as_str(), "bad document"),
     ] {
