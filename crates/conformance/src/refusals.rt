@@ -89,6 +89,7 @@ GET /db/a?open_revs=%221-a%22
 GET /db/a?open_revs=%5B%22x%22%5D
 GET /db/a?open_revs=%5B%221-a%22%2Cnull%5D
 GET /db/a?open_revs=%ff
+GET /db/a?open_revs=%5B%221-%ff%22%5D
 GET /db/a?open_revs=%5B%221-a%22%5D&rev=1-a
 GET /db/a?rev=1-a&open_revs=all
 GET /db/a?Rev=1-a
@@ -113,8 +114,9 @@ anybody | PUT /db/a | {} | 201 {"id":"a","ok":true,"rev":"1-d2422118a02a398f9502
 anybody | GET /db/a? |  | 200 {"_id":"a","_rev":"1-d2422118a02a398f9502ebcbaa7b90bd"}
 anybody | GET /db/a?&& |  | 200 {"_id":"a","_rev":"1-d2422118a02a398f9502ebcbaa7b90bd"}
 anybody | GET /db/a?%72evs=tru%65&& |  | 200 {"_id":"a","_rev":"1-d2422118a02a398f9502ebcbaa7b90bd","_revisions":{"ids":["d2422118a02a398f9502ebcbaa7b90bd"],"start":1}}
-anybody | GET /db/a?&rev=1-d2422118a02a398f9502ebcbaa7b90bd& |  | 200 {"_id":"a","_rev":"1-d2422118a02a398f9502ebcbaa7b90bd"}
+anybody | GET /db/a?&%72ev=1%2Dd2422118a02a398f9502ebcbaa7b90bd& |  | 200 {"_id":"a","_rev":"1-d2422118a02a398f9502ebcbaa7b90bd"}
 anybody | GET /db/a?open%5frevs=%61ll |  | 200 [{"ok":{"_id":"a","_rev":"1-d2422118a02a398f9502ebcbaa7b90bd"}}]
+anybody | GET /db/a?open_revs=%5B%221-0%22,+%221-0%22%5D |  | 200 [{"missing":"1-0"},{"missing":"1-0"}]
 anybody | DELETE /db/_x?rev=x |  | 400 {"error":"bad_request","reason":"id"}
 anybody | DELETE /db/a?&rev=1-d2422118a02a398f9502ebcbaa7b90bd& |  | 200 {"id":"a","ok":true,"rev":"2-a8edeb75c23dcdbefb2fe8ebc2bfe20b"}
 "#;
