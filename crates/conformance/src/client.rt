@@ -1,7 +1,7 @@
 //! A client of one node in memory.
 
 use auth::Auth;
-use couch_http::{Cutter, Response};
+use couch_http::{Cutter, Request, Response};
 use couch_json::read;
 use node::{Node, Routes};
 use policy::Security;
@@ -82,14 +82,18 @@ pub fn reply(
     user: &str,
     body: &str,
 ) -> Result<String, Fail> {
+    shown(alloc, &node.handle(&request(alloc, line, user, body)?))
+}
+
+/// A request as it is cut from its bytes.
+pub fn request(alloc: Global, line: &str, user: &str, body: &str) -> Result<Request, Fail> {
     let length = body.len();
     let bytes = format!(in alloc;
         "{line} HTTP/1.1\r\n{user}Content-Length: {length}\r\n\r\n{body}"
     )?;
     let mut cutter = Cutter::new(alloc);
-    let cut = cutter.feed(bytes.as_bytes())?;
-    let request = cut.requests.first().ok_or("no request")?;
-    shown(alloc, &node.handle(request))
+    let mut cut = cutter.feed(bytes.as_bytes())?;
+    Ok(cut.requests.pop().ok_or("no request")?)
 }
 
 /// A reply as its status, a space, and its body.

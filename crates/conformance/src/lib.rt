@@ -2,7 +2,13 @@
 #![tactic(auto)]
 
 #[cfg(test)]
+mod bulk;
+#[cfg(test)]
 mod client;
+#[cfg(test)]
+mod conflicts;
+#[cfg(test)]
+mod convergence;
 #[cfg(test)]
 mod databases;
 #[cfg(test)]

@@ -61,3 +61,76 @@ fn a_body_nests_a_hundred_deep(rt: HostRuntime) -> Result<(), Fail> {
     }
     Ok(())
 }
+
+/// Each of these has a query that is none, and a body that is no JSON.
+const NO_QUERIES: &str = r#"
+GET /db/a?rev=x
+GET /db/a?rev=
+GET /db/a?rev
+GET /db/a?rev=1-a&rev=1-a
+GET /db/a?rev=1-a&r%65v=1-b
+GET /db/a?rev=01-a
+GET /db/a?rev=0-a
+GET /db/a?rev=2147483648-a
+GET /db/a?rev=1-a+
+GET /db/a?rev=1-a_b
+GET /db/a?revs=1
+GET /db/a?revs=
+GET /db/a?revs=True
+GET /db/a?revs=true&revs=true
+GET /db/a?revs=true&revs=false
+GET /db/a?open_revs=x
+GET /db/a?open_revs=
+GET /db/a?open_revs=ALL
+GET /db/a?open_revs=all&open_revs=all
+GET /db/a?open_revs=[
+GET /db/a?open_revs=[1]
+GET /db/a?open_revs=%221-a%22
+GET /db/a?open_revs=%5B%22x%22%5D
+GET /db/a?open_revs=%5B%221-a%22%2Cnull%5D
+GET /db/a?open_revs=%ff
+GET /db/a?open_revs=%5B%221-%ff%22%5D
+GET /db/a?open_revs=%5B%221-a%22%5D&rev=1-a
+GET /db/a?rev=1-a&open_revs=all
+GET /db/a?Rev=1-a
+GET /db/a?conflicts=true
+GET /db/a?=
+GET /db/a?=1
+GET /db/a?rev=1-a&=
+GET /db/a?%72ev=1-%61&revs=x
+PUT /db/a?revs=true
+PUT /db/a?open_revs=all
+PUT /db/a?rev=x
+PUT /db/a?rev=1-a&rev=1-a
+PUT /db/a?=
+DELETE /db/a?revs=true
+DELETE /db/a?rev=x
+DELETE /db/a?rev=
+DELETE /db/a?rev=1-a&x
+"#;
+
+const QUERIES: &str = r#"
+anybody | PUT /db/a | {} | 201 {"id":"a","ok":true,"rev":"1-d2422118a02a398f9502ebcbaa7b90bd"}
+anybody | GET /db/a? |  | 200 {"_id":"a","_rev":"1-d2422118a02a398f9502ebcbaa7b90bd"}
+anybody | GET /db/a?&& |  | 200 {"_id":"a","_rev":"1-d2422118a02a398f9502ebcbaa7b90bd"}
+anybody | GET /db/a?%72evs=tru%65&& |  | 200 {"_id":"a","_rev":"1-d2422118a02a398f9502ebcbaa7b90bd","_revisions":{"ids":["d2422118a02a398f9502ebcbaa7b90bd"],"start":1}}
+anybody | GET /db/a?&%72ev=1%2Dd2422118a02a398f9502ebcbaa7b90bd& |  | 200 {"_id":"a","_rev":"1-d2422118a02a398f9502ebcbaa7b90bd"}
+anybody | GET /db/a?open%5frevs=%61ll |  | 200 [{"ok":{"_id":"a","_rev":"1-d2422118a02a398f9502ebcbaa7b90bd"}}]
+anybody | GET /db/a?open_revs=%5B%221-0%22,+%221-0%22%5D |  | 200 [{"missing":"1-0"},{"missing":"1-0"}]
+anybody | DELETE /db/_x?rev=x |  | 400 {"error":"bad_request","reason":"id"}
+anybody | DELETE /db/a?&rev=1-d2422118a02a398f9502ebcbaa7b90bd& |  | 200 {"id":"a","ok":true,"rev":"2-a8edeb75c23dcdbefb2fe8ebc2bfe20b"}
+"#;
+
+#[test]
+fn queries_of_documents_have_their_form(rt: HostRuntime) -> Result<(), Fail> {
+    let alloc = rt.alloc();
+    let mut node = node(alloc)?;
+    for line in NO_QUERIES.trim().lines() {
+        assert_eq!(rt;
+            reply(alloc, &mut node, line, "", "[")?.as_str(),
+            r#"400 {"error":"bad_request","reason":"query"}"#,
+            "{line}"
+        );
+    }
+    play(&rt, alloc, &mut node, QUERIES)
+}
