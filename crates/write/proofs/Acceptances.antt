@@ -114,12 +114,12 @@ judged_by-acceptable new_edits db document (Some id) w e =
     acceptable db id (history_at db id) w refl (judged-Some new_edits id (history_at db id) document w e)
 
 -- the database after an outcome
-abbrev db_after : Database → Outcome → Database
+abbrev pub db_after : Database → Outcome → Database
 db_after db (Ok (Some w)) = with_one db w
 db_after db (Ok None) = db
 db_after db (Err fault) = db
 
-after_is : (db : Database) (o : Outcome) → after (history_at db) o ≡ history_at (db_after db o)
+pub after_is : (db : Database) (o : Outcome) → after (history_at db) o ≡ history_at (db_after db o)
 after_is db (Ok (Some w)) = λ i id. sym (history_at-with_one db w id) i
 after_is db (Ok None) = refl
 after_is db (Err fault) = refl

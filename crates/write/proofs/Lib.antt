@@ -3,3 +3,4 @@ pub mod Bodies
 pub mod Paths
 pub mod BulkLemmas
 pub mod Loaded
+pub mod Settlings

@@ -4,3 +4,4 @@ pub mod Admission
 pub mod Bulk
 pub mod BulkResults
 pub mod Planning
+pub mod Settling

@@ -9,6 +9,7 @@ mod document;
 mod editing;
 mod fault;
 mod histories;
+pub mod laws;
 mod planned;
 mod replicating;
 mod securing;
