@@ -1,3 +1,4 @@
 pub mod Faults
 pub mod Changed
 pub mod Listed
+pub mod Elements

@@ -17,23 +17,24 @@ use Rattle.read.specs.declared.fault.ReadFault.{ReadFault}
 use Rattle.read.specs.declared.fault.ReadFault.TheVariants as read
 use Rattle.policy.specs.Security.{closed}
 use Rattle.store.specs.Contents.{Contents, new_database, with_security}
-use Rattle.store.specs.Database.{Database, DocumentWrite, with_all}
+use Rattle.store.specs.Database.{Database, DocumentWrite, history_at, with_all}
 use Rattle.tree.specs.Revision.{Revision, text_of}
 use Rattle.write.specs.Admission.{edit_in, new_revision}
+use Rattle.write.specs.Bulk.{all_told, outcomes, writes_in, Outcome as DocumentOutcome}
 use Rattle.write.specs.Planning.{security_in}
 use Rattle.write.specs.declared.fault.WriteFault.{WriteFault}
-use Rattle.write.specs.declared.fault.WriteFault.TheVariants as write
 use Rattle.node.specs.Asking.{asking, body_of, denied, lacks_parameters, method_of}
+use Rattle.node.specs.Bulk.{Bulk, bulk_in, bulk_reply}
 use Rattle.node.specs.Paths.{database_name_in, document_id_in}
 use Rattle.node.specs.Queries.{Asked, winner, revision, leaves, revisions, DocumentQuery, document_query, revision_query}
-use Rattle.node.specs.Refusals.{refusal_value, status_of}
+use Rattle.node.specs.Refusals.{refusal_of_edit, refusal_value, status_of}
 use Rattle.node.specs.Routing.{page_of}
 use Rattle.node.specs.declared.method.RequestMethod.{RequestMethod}
-use Rattle.node.specs.declared.method.RequestMethod.TheVariants.{Get, Put, Delete}
+use Rattle.node.specs.declared.method.RequestMethod.TheVariants.{Get, Put, Post, Delete}
 use Rattle.node.specs.declared.page.Page.{Page}
-use Rattle.node.specs.declared.page.Page.TheVariants.{Welcome, AllDatabases, Database as DatabasePage, Security, Document}
+use Rattle.node.specs.declared.page.Page.TheVariants.{Welcome, AllDatabases, Database as DatabasePage, Security, BulkDocuments, Document}
 use Rattle.node.specs.declared.refusal.Refusal.{Refusal}
-use Rattle.node.specs.declared.refusal.Refusal.TheVariants.{Path, Method, DatabaseName, NoDatabase, Exists, Id, Query, Body, BadDocument, Conflict, Generation, Missing, Deleted}
+use Rattle.node.specs.declared.refusal.Refusal.TheVariants.{Path, Method, DatabaseName, NoDatabase, Exists, Id, Query, Body, Conflict, Missing, Deleted}
 
 -- what a request comes to
 pub record Outcome : Type 0 where
@@ -113,12 +114,6 @@ edited id (Some rev ∷ revs) =
 edited id (None ∷ revs) = null
 edited id [] = null
 
--- an edit is refused as a bad document, as a conflict, or for want of a further generation, and for no other cause
-abbrev pub refusal_of_edit : WriteFault → Refusal
-refusal_of_edit write.BadDocument = BadDocument
-refusal_of_edit write.Generation = Generation
-refusal_of_edit fault = Conflict
-
 -- an edit, whose reply has this status where it is accepted
 abbrev pub written : ℕ → Contents → List ℕ → List ℕ → Option (Result (List DocumentWrite) WriteFault) → Result Outcome Refusal
 written status databases name id None = Err NoDatabase
@@ -146,6 +141,25 @@ document_deleted caller databases m =
     next (entered WriteDocument caller databases m.path) (λ name.
     next (edit_asked m) (λ asked.
     next (there_or Conflict asked.1) (λ rev. written 200 databases name asked.0 (edit_in databases name asked.0 (Some rev) deletion))))
+
+-- ---- writing several documents
+
+abbrev pub bulk_outcome : Contents → List ℕ → Bulk → List DocumentOutcome → Outcome
+bulk_outcome databases name bulk os =
+    record { status = 201; value = bulk_reply bulk.new_edits (all_told bulk.documents os); after = with_writes databases name (writes_in os) }
+
+-- each document has its own outcome; what one is refused for refuses no other
+abbrev pub bulk_written : Contents → List ℕ → Bulk → Option Database → Result Outcome Refusal
+bulk_written databases name bulk None = Err NoDatabase
+bulk_written databases name bulk (Some db) =
+    Ok (bulk_outcome databases name bulk (outcomes bulk.new_edits (history_at db) bulk.documents))
+
+abbrev pub documents_written : Identity → Contents → Message → Result Outcome Refusal
+documents_written caller databases m =
+    next (entered WriteDocument caller databases m.path) (λ name.
+    next (true_or Query (lacks_parameters m.query)) (λ _.
+    next (body_of m) (λ value.
+    next (there_or Body (bulk_in value)) (λ bulk. bulk_written databases name bulk (get databases name)))))
 
 -- ---- the server, and the security object of a database
 
@@ -249,6 +263,7 @@ served DatabasePage (Some Put) caller databases m = database_created caller data
 served DatabasePage (Some Delete) caller databases m = database_removed caller databases m
 served Security (Some Get) caller databases m = security_read caller databases m
 served Security (Some Put) caller databases m = security_written caller databases m
+served BulkDocuments (Some Post) caller databases m = documents_written caller databases m
 served Document (Some Get) caller databases m = document_read caller databases m
 served Document (Some Put) caller databases m = document_written caller databases m
 served Document (Some Delete) caller databases m = document_deleted caller databases m

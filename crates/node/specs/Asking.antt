@@ -13,7 +13,7 @@ use Rattle.policy.specs.declared.rule.Rule.TheVariants.{ProxyToken}
 use Rattle.node.specs.declared.refusal.Refusal.{Refusal}
 use Rattle.node.specs.declared.refusal.Refusal.TheVariants.{Unauthorized, Forbidden, Syntax}
 use Rattle.node.specs.declared.method.RequestMethod.{RequestMethod}
-use Rattle.node.specs.declared.method.RequestMethod.TheVariants.{Get, Put, Delete}
+use Rattle.node.specs.declared.method.RequestMethod.TheVariants.{Get, Put, Post, Delete}
 
 -- a header as a name and a value
 abbrev pub pair_of : HeaderField → List ℕ × List ℕ
@@ -42,7 +42,8 @@ abbrev pub method_of : List ℕ → Option RequestMethod
 method_of method =
     if bytes_eq method (codes "GET") then Some Get else (
     if bytes_eq method (codes "PUT") then Some Put else (
-    if bytes_eq method (codes "DELETE") then Some Delete else None))
+    if bytes_eq method (codes "POST") then Some Post else (
+    if bytes_eq method (codes "DELETE") then Some Delete else None)))
 
 abbrev pub is_nothing : List (List ℕ × List ℕ) → Bool
 is_nothing [] = true

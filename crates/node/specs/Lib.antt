@@ -2,6 +2,8 @@ pub mod Paths
 pub mod Routing
 pub mod Refusals
 pub mod Asking
+pub mod Bulk
+pub mod BulkAsked
 pub mod Queries
 pub mod Queried
 pub mod Answer

@@ -4,8 +4,10 @@ use Rattle.std.specs.Prelude.{ℕ, List, codes, Option, Some, None}
 use Rattle.couch_json.specs.Value.{Value, text, object, Members, no_members, put}
 use Rattle.policy.specs.declared.rule.Rule.{Rule}
 use Rattle.policy.specs.declared.rule.Rule.TheVariants.{ProxyToken, ServerAdmin, DbMember, DbAdmin, DesignDocument, Update}
+use Rattle.write.specs.declared.fault.WriteFault.{WriteFault}
+use Rattle.write.specs.declared.fault.WriteFault.TheVariants as write
 use Rattle.node.specs.declared.refusal.Refusal.{Refusal}
-use Rattle.node.specs.declared.refusal.Refusal.TheVariants.{Unauthorized, Forbidden, Path, Method, DatabaseName, NoDatabase, Exists, Id, Query, Syntax, Body, BadDocument, Conflict, Generation, Missing, Deleted}
+use Rattle.node.specs.declared.refusal.Refusal.TheVariants.{Unauthorized, Forbidden, Path, Method, DatabaseName, NoDatabase, Exists, Id, Query, Syntax, Body, BadDocument, BadHistory, Conflict, Generation, Missing, Deleted}
 
 abbrev pub status_of : Refusal → ℕ
 status_of (Unauthorized rule) = 401
@@ -20,6 +22,7 @@ status_of Query = 400
 status_of Syntax = 400
 status_of Body = 400
 status_of BadDocument = 400
+status_of BadHistory = 400
 status_of Conflict = 409
 status_of Generation = 400
 status_of Missing = 404
@@ -38,6 +41,7 @@ error_of Query = codes "bad_request"
 error_of Syntax = codes "bad_request"
 error_of Body = codes "bad_request"
 error_of BadDocument = codes "doc_validation"
+error_of BadHistory = codes "bad_history"
 error_of Conflict = codes "conflict"
 error_of Generation = codes "generation"
 error_of Missing = codes "not_found"
@@ -65,6 +69,7 @@ reason_of Query = codes "query"
 reason_of Syntax = codes "JSON"
 reason_of Body = codes "body"
 reason_of BadDocument = codes "Bad document."
+reason_of BadHistory = codes "Bad revision history."
 reason_of Conflict = codes "Document update conflict."
 reason_of Generation = codes "No further generation."
 reason_of Missing = codes "missing"
@@ -93,6 +98,7 @@ rule_of Query = None
 rule_of Syntax = None
 rule_of Body = None
 rule_of BadDocument = None
+rule_of BadHistory = None
 rule_of Conflict = None
 rule_of Generation = None
 rule_of Missing = None
@@ -102,7 +108,18 @@ abbrev pub with_rule : Option (List ℕ) → Members → Members
 with_rule None ms = ms
 with_rule (Some rule) ms = put (codes "rule") (text rule) ms
 
--- the object of a refusal: `error`, `reason`, and for a denial `rule`
+-- what is said of a refusal: `error`, `reason`, and for a denial `rule`
+abbrev pub refusal_members : Refusal → Members
+refusal_members r = with_rule (rule_of r) (put (codes "reason") (text (reason_of r)) (put (codes "error") (text (error_of r)) no_members))
+
+-- the object of a refusal
 abbrev pub refusal_value : Refusal → Value
-refusal_value r =
-    object (with_rule (rule_of r) (put (codes "reason") (text (reason_of r)) (put (codes "error") (text (error_of r)) no_members)))
+refusal_value r = object (refusal_members r)
+
+-- the write of a document is refused as a bad document, for its history, as a conflict, or for want of a further generation, and for no
+-- other cause
+abbrev pub refusal_of_edit : WriteFault → Refusal
+refusal_of_edit write.BadDocument = BadDocument
+refusal_of_edit write.BadHistory = BadHistory
+refusal_of_edit write.Generation = Generation
+refusal_of_edit fault = Conflict

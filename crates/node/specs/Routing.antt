@@ -8,7 +8,7 @@ use Rattle.matchit.specs.Router.{RouteOf, route_from}
 use Rattle.matchit.specs.Seek.{first}
 use Rattle.matchit.specs.declared.error.InsertError.{InsertError}
 use Rattle.node.specs.declared.page.Page.{Page}
-use Rattle.node.specs.declared.page.Page.TheVariants.{Welcome, AllDatabases, Database, Security, Document}
+use Rattle.node.specs.declared.page.Page.TheVariants.{Welcome, AllDatabases, Database, Security, BulkDocuments, Document}
 
 -- the routes of the server, each with its page
 abbrev pub routes : List (List ℕ × Page)
@@ -18,6 +18,7 @@ routes =
     ∷ (codes "/{db}", Database)
     ∷ (codes "/{db}/", Database)
     ∷ (codes "/{db}/_security", Security)
+    ∷ (codes "/{db}/_bulk_docs", BulkDocuments)
     ∷ (codes "/{db}/{id}", Document)
     ∷ []
 

@@ -15,6 +15,7 @@ ghost use Rattle.node.specs.Step.{IsDone, IsStep};
 
 use crate::answered::{Answered, Change};
 use crate::asking::caller;
+use crate::bulk::write_documents;
 use crate::databases::{create_database, list_databases, read_database, remove_database};
 use crate::document::{delete_document, read_document, write_document};
 use crate::method::{RequestMethod, method_of};
@@ -88,6 +89,9 @@ fn served<S: Store>(
         ),
         (Page::Security, Some(RequestMethod::Get)) => read_security(alloc, store, caller, request),
         (Page::Security, Some(RequestMethod::Put)) => write_security(alloc, store, caller, request),
+        (Page::BulkDocuments, Some(RequestMethod::Post)) => write_documents(
+            alloc, store, caller, request,
+        ),
         (Page::Document, Some(RequestMethod::Get)) => read_document(alloc, store, caller, request),
         (Page::Document, Some(RequestMethod::Put)) => write_document(alloc, store, caller, request),
         (Page::Document, Some(RequestMethod::Delete)) => {

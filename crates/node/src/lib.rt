@@ -3,6 +3,8 @@
 
 mod answered;
 mod asking;
+mod bulk;
+mod bulk_reply;
 mod databases;
 mod document;
 mod entering;

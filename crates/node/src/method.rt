@@ -8,6 +8,8 @@ pub(crate) enum RequestMethod {
     Get,
     /// Write.
     Put,
+    /// Hand over.
+    Post,
     /// Remove.
     Delete,
 }
@@ -22,6 +24,9 @@ pub(crate) fn method_of(method: &str) -> Option<RequestMethod>
     }
     if method == "PUT" {
         return Some(RequestMethod::Put);
+    }
+    if method == "POST" {
+        return Some(RequestMethod::Post);
     }
     if method == "DELETE" {
         return Some(RequestMethod::Delete);

@@ -9,6 +9,8 @@ pub(crate) enum Page {
     Database,
     /// `/{db}/_security`: a database's security object.
     Security,
+    /// `/{db}/_bulk_docs`: documents of a database that are written together.
+    BulkDocuments,
     /// `/{db}/{id}`: a document.
     Document,
 }

@@ -1,12 +1,13 @@
 ghost use Rattle.std.specs.Prelude.{◌≡◌, IfOk, option_copied};
-ghost use Rattle.couch_json.specs.View.{view};
-ghost use Rattle.node.specs.Refusals.{error_of, name_of_rule, reason_of, reason_of_rule, refusal_value, rule_of, status_of};
+ghost use Rattle.couch_json.specs.View.{members_view, view};
+ghost use Rattle.node.specs.Refusals.{error_of, name_of_rule, reason_of, reason_of_rule, refusal_members, refusal_of_edit, refusal_value, rule_of, status_of};
 
 use crate::members::put_text;
 use couch_json::{Got, Json};
 use policy::Rule;
 use std::alloc::Global;
 use std::collections::BTreeMap;
+use write::WriteFault;
 
 /// Why a request is refused. Nothing has changed then.
 #[derive(Debug, Drop)]
@@ -35,6 +36,8 @@ pub(crate) enum Refusal {
     Body,
     /// What was sent is no document: 400.
     BadDocument,
+    /// The revisions that a document comes with make no path, or one that does not fit in: 400.
+    BadHistory,
     /// The edit does not follow what is stored: 409.
     Conflict,
     /// No revision follows the one with the greatest number: 400.
@@ -63,6 +66,7 @@ impl Refusal {
             Refusal::Syntax => 400,
             Refusal::Body => 400,
             Refusal::BadDocument => 400,
+            Refusal::BadHistory => 400,
             Refusal::Conflict => 409,
             Refusal::Generation => 400,
             Refusal::Missing => 404,
@@ -87,6 +91,7 @@ impl Refusal {
             Refusal::Syntax => "bad_request",
             Refusal::Body => "bad_request",
             Refusal::BadDocument => "doc_validation",
+            Refusal::BadHistory => "bad_history",
             Refusal::Conflict => "conflict",
             Refusal::Generation => "generation",
             Refusal::Missing => "not_found",
@@ -111,6 +116,7 @@ impl Refusal {
             Refusal::Syntax => "JSON",
             Refusal::Body => "body",
             Refusal::BadDocument => "Bad document.",
+            Refusal::BadHistory => "Bad revision history.",
             Refusal::Conflict => "Document update conflict.",
             Refusal::Generation => "No further generation.",
             Refusal::Missing => "missing",
@@ -129,11 +135,16 @@ impl Refusal {
         }
     }
 
-    /// The body of the reply: `error`, `reason`, and `rule` where a rule refuses.
-    ///
-    /// See the CouchDB manual, api/basics.
+    /// The body of the reply (CouchDB manual, api/basics).
     pub(crate) fn value(&self, alloc: Global) -> Got<Json>
         ensures { IfOk result (λ value. view value ≡ refusal_value self.now) }
+    {
+        Ok(Json::Object(self.members(alloc)?))
+    }
+
+    /// What is said of the refusal: `error`, `reason`, and `rule` where a rule refuses.
+    pub(crate) fn members(&self, alloc: Global) -> Got<BTreeMap<String, Json>>
+        ensures { IfOk result (λ members. members_view members.entries ≡ refusal_members self.now) }
     {
         let mut members = BTreeMap::new(alloc);
         put_text(alloc, &mut members, "error", self.error())?;
@@ -141,7 +152,19 @@ impl Refusal {
         if let Some(rule) = self.rule() {
             put_text(alloc, &mut members, "rule", rule)?;
         }
-        Ok(Json::Object(members))
+        Ok(members)
+    }
+}
+
+/// The refusal of a document that is not written.
+pub(crate) fn refusal_of_edit(fault: &WriteFault) -> Refusal
+    ensures { result ≡ refusal_of_edit fault.now }
+{
+    match fault {
+        WriteFault::BadDocument => Refusal::BadDocument,
+        WriteFault::BadHistory => Refusal::BadHistory,
+        WriteFault::Generation => Refusal::Generation,
+        _ => Refusal::Conflict,
     }
 }
 

@@ -8,12 +8,13 @@ use std::alloc::Global;
 use std::marker::Model;
 
 /// The paths that the server has, each with its page.
-const ROUTES: [(&str, Page); 6] = [
+const ROUTES: [(&str, Page); 7] = [
     ("/", Page::Welcome),
     ("/_all_dbs", Page::AllDatabases),
     ("/{db}", Page::Database),
     ("/{db}/", Page::Database),
     ("/{db}/_security", Page::Security),
+    ("/{db}/_bulk_docs", Page::BulkDocuments),
     ("/{db}/{id}", Page::Document),
 ];
 

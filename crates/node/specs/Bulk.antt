@@ -1,0 +1,121 @@
+-- What a request to write several documents asks for, and what its reply says of them.
+-- CouchDB manual, api/database/bulk-api (`docs` and `new_edits`; `id`, `ok` and `rev`, or `error` and `reason`); that no other member is taken, and that the failure of a replicated document names the `rev` that was sent, are this server's own.
+use Rattle.std.specs.Prelude.{ℕ, Bool, true, false, ◌&&◌, ◌||◌, if◌then◌else◌, List, [], ◌∷◌, map, Option, Some, None, Result, Ok, Err, bytes_eq, codes}
+use Rattle.couch_json.specs.Value.{Value, null, truth, whole, text, array, object, Items, no_items, item, Members, no_members, member, member_of, put}
+use Rattle.couch_json.specs.View.{items_of}
+use Rattle.tree.specs.Revision.{Revision, text_of}
+use Rattle.write.specs.Bulk.{Told}
+use Rattle.write.specs.declared.fault.WriteFault.{WriteFault}
+use Rattle.node.specs.Refusals.{refusal_members, refusal_of_edit}
+
+-- ---- what is asked for
+
+-- the documents that are to be written: as new edits, or as they stand, with the revisions that they come with
+pub record Bulk : Type 0 where
+  pub new_edits : Bool
+  pub documents : List Value
+
+abbrev pub is_bulk_member : List ℕ → Bool
+is_bulk_member name = bytes_eq name (codes "docs") || bytes_eq name (codes "new_edits")
+
+-- no other members
+abbrev pub are_bulk_members : Members → Bool
+are_bulk_members no_members = true
+are_bulk_members (member name v ms) = is_bulk_member name && are_bulk_members ms
+
+abbrev pub has_bulk_members : Value → Bool
+has_bulk_members null = false
+has_bulk_members (truth b) = false
+has_bulk_members (whole n) = false
+has_bulk_members (text s) = false
+has_bulk_members (array vs) = false
+has_bulk_members (object ms) = are_bulk_members ms
+
+abbrev pub elements : Items → List Value
+elements no_items = []
+elements (item v vs) = v ∷ elements vs
+
+-- `docs`, which has to be a list
+abbrev pub documents_of : Value → Option (List Value)
+documents_of null = None
+documents_of (truth b) = None
+documents_of (whole n) = None
+documents_of (text s) = None
+documents_of (array vs) = Some (elements vs)
+documents_of (object ms) = None
+
+abbrev pub documents_in : Option Value → Option (List Value)
+documents_in None = None
+documents_in (Some v) = documents_of v
+
+-- `new_edits`, true or false
+abbrev pub mark_of : Value → Option Bool
+mark_of null = None
+mark_of (truth b) = Some b
+mark_of (whole n) = None
+mark_of (text s) = None
+mark_of (array vs) = None
+mark_of (object ms) = None
+
+-- true where it is not given
+abbrev pub new_edits_in : Option Value → Option Bool
+new_edits_in None = Some true
+new_edits_in (Some v) = mark_of v
+
+abbrev pub bulk_by : Option Bool → Option (List Value) → Option Bulk
+bulk_by None documents = None
+bulk_by (Some new_edits) None = None
+bulk_by (Some new_edits) (Some documents) = Some (record { new_edits = new_edits; documents = documents })
+
+-- what a body asks for, where it is an object of this shape
+abbrev pub bulk_in : Value → Option Bulk
+bulk_in v =
+    if has_bulk_members v then bulk_by (new_edits_in (member_of v (codes "new_edits"))) (documents_in (member_of v (codes "docs"))) else None
+
+-- ---- what the reply says
+
+abbrev pub text_or_null : Option (List ℕ) → Value
+text_or_null None = null
+text_or_null (Some s) = text s
+
+abbrev pub revision_or_null : Option Revision → Value
+revision_or_null None = null
+revision_or_null (Some r) = text (text_of r)
+
+-- of an edit that was made: its id and the new revision
+abbrev pub made_members : Option (List ℕ) → Option Revision → Members
+made_members id rev =
+    put (codes "rev") (revision_or_null rev) (put (codes "ok") (truth true) (put (codes "id") (text_or_null id) no_members))
+
+-- of a document that was refused: its id, and why
+abbrev pub failed_members : Option (List ℕ) → WriteFault → Members
+failed_members id fault = put (codes "id") (text_or_null id) (refusal_members (refusal_of_edit fault))
+
+abbrev pub edit_members : Option (List ℕ) → Result (Option Revision) WriteFault → Members
+edit_members id (Ok rev) = made_members id rev
+edit_members id (Err fault) = failed_members id fault
+
+-- of a new edit, made or refused
+abbrev pub edit_listed : Told → Value
+edit_listed told = object (edit_members told.id told.outcome)
+
+-- of a replicated document that was refused, with the revision that was sent
+abbrev pub failure_listed : Told → WriteFault → Value
+failure_listed told fault = object (put (codes "rev") (text_or_null told.rev) (failed_members told.id fault))
+
+abbrev pub if_failed : Told → Result (Option Revision) WriteFault → List Value → List Value
+if_failed told (Ok rev) rest = rest
+if_failed told (Err fault) rest = failure_listed told fault ∷ rest
+
+-- of the replicated documents that were refused, in order
+abbrev pub failures_listed : List Told → List Value
+failures_listed [] = []
+failures_listed (told ∷ rest) = if_failed told told.outcome (failures_listed rest)
+
+-- an element for each new edit, in order; of replicated documents those that were refused alone
+abbrev pub listed : Bool → List Told → List Value
+listed true all = map edit_listed all
+listed false all = failures_listed all
+
+abbrev pub bulk_reply : Bool → List Told → Value
+bulk_reply new_edits all = array (items_of (listed new_edits all))
