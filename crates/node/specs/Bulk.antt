@@ -5,6 +5,7 @@ use Rattle.couch_json.specs.Value.{Value, null, truth, whole, text, array, objec
 use Rattle.couch_json.specs.View.{items_of}
 use Rattle.tree.specs.Revision.{Revision, text_of}
 use Rattle.write.specs.Bulk.{Told}
+use Rattle.write.specs.Document.{truth_in}
 use Rattle.write.specs.declared.fault.WriteFault.{WriteFault}
 use Rattle.node.specs.Refusals.{refusal_members, refusal_of_edit}
 
@@ -48,19 +49,10 @@ abbrev pub documents_in : Option Value → Option (List Value)
 documents_in None = None
 documents_in (Some v) = documents_of v
 
--- `new_edits`, true or false
-abbrev pub mark_of : Value → Option Bool
-mark_of null = None
-mark_of (truth b) = Some b
-mark_of (whole n) = None
-mark_of (text s) = None
-mark_of (array vs) = None
-mark_of (object ms) = None
-
--- true where it is not given
+-- `new_edits`, true or false, and true where it is not given
 abbrev pub new_edits_in : Option Value → Option Bool
 new_edits_in None = Some true
-new_edits_in (Some v) = mark_of v
+new_edits_in (Some v) = truth_in v
 
 abbrev pub bulk_by : Option Bool → Option (List Value) → Option Bulk
 bulk_by None documents = None
