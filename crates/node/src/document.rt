@@ -19,7 +19,7 @@ use crate::entering::entered;
 use crate::members::put_text;
 use crate::path::document_id;
 use crate::query::{Asked, DocumentQuery, document_query, revision_query};
-use crate::refusal::Refusal;
+use crate::refusal::{Refusal, refusal_of_edit};
 use crate::stop::Stop;
 use auth::Caller;
 use couch_http::Request;
@@ -228,9 +228,7 @@ fn written<S: Store>(
             return Err(Stop::Refused(Refusal::NoDatabase));
         }
         Err(WriteFault::Store(_)) => return Err(Stop::Failed),
-        Err(WriteFault::BadDocument) => return Err(Stop::Refused(Refusal::BadDocument)),
-        Err(WriteFault::Generation) => return Err(Stop::Refused(Refusal::Generation)),
-        Err(_) => return Err(Stop::Refused(Refusal::Conflict)),
+        Err(fault) => return Err(Stop::Refused(refusal_of_edit(&fault))),
     };
     let value = edit_reply(alloc, &edited.id, &edited.rev)?;
     Ok(Answered {

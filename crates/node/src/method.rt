@@ -8,7 +8,7 @@ pub(crate) enum RequestMethod {
     Get,
     /// Write.
     Put,
-    /// Hand over.
+    /// Process what is sent.
     Post,
     /// Remove.
     Delete,
