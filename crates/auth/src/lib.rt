@@ -11,8 +11,6 @@ mod caller;
 mod headers;
 mod hmac;
 mod roles;
-#[cfg(test)]
-mod tests;
 
 pub use auth::Auth;
 pub use auth_fault::AuthFault;

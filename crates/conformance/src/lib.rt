@@ -1,17 +1,12 @@
-//! Tests of the whole server in memory, as a client meets it: bytes in, status and body out.
+//! Tests of what has to fail: a refused allocation, a store, a reader and a writer that fail. All
+//! that a reply can show stands in rows of data, in the crates `values` and `requests`.
 #![tactic(auto)]
 
 #[cfg(test)]
-mod bulk;
+mod allocations;
 #[cfg(test)]
 mod client;
 #[cfg(test)]
-mod conflicts;
+mod scripts;
 #[cfg(test)]
-mod convergence;
-#[cfg(test)]
-mod databases;
-#[cfg(test)]
-mod documents;
-#[cfg(test)]
-mod refusals;
+mod stores;

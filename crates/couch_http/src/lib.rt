@@ -17,8 +17,6 @@ mod response;
 mod scan;
 mod stage;
 mod take;
-#[cfg(test)]
-mod tests;
 
 pub use cut::{Cut, Ending};
 pub use cutter::Cutter;

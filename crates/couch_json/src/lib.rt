@@ -12,8 +12,6 @@ mod nesting;
 mod no_memory;
 mod number;
 mod reading;
-#[cfg(test)]
-mod tests;
 mod value;
 mod walking;
 mod writing;

@@ -1,35 +1,15 @@
 //! The program `couchd`: a laboratory that plays a script of nodes and connections.
 #![tactic(auto)]
 
-mod command_line;
-mod escapes;
-mod fault;
-mod lab;
-mod layout;
-mod line;
-mod named;
-mod plan;
-mod printed;
-mod refusal;
-mod running;
-mod server;
-#[cfg(test)]
-mod tests;
-mod words;
-
-use command_line::plan;
-use fault::ProgramFault;
-use lab::lab;
-use plan::{Plan, PlanFault};
-use refusal::Refusal;
+use lab::{Plan, PlanFault, ProgramFault, Refusal, lab, plan};
 use std::env::Env;
 use std::io::{BufReader, BufWriter, Write};
 use std::process::ExitCode;
 use std::{env, io};
 
 /// Reads the command line and does what it says. The status is 0 at the end; 1 for a fault, with
-/// `couchd: ` and `file`, `line N` or `memory` on standard error; 2 for a command line that is
-/// none, with `couchd: usage` there.
+/// `couchd: ` and `file`, `line N` or `memory` on standard error; 2 where the command line is
+/// invalid, with `couchd: usage` there.
 fn main(rt: HostRuntime) -> ExitCode {
     match run(&rt) {
         Ok(status) => ExitCode::from(status),
@@ -48,7 +28,7 @@ fn run<R: Env + Input + Print + AllocGlobal>(rt: &R) -> Result<u8, Refusal> {
     }
 }
 
-/// The words of the command line. One that is no text makes them none that is understood.
+/// The words of the command line. One that is no text makes them invalid.
 fn words_of<R: Env + AllocGlobal>(rt: &R) -> Result<Vec<String>, PlanFault> {
     match env::args(rt) {
         Ok(words) => Ok(words.collect(rt.alloc())?),

@@ -7,8 +7,6 @@ mod group;
 mod rule;
 mod security;
 mod shape;
-#[cfg(test)]
-mod tests;
 mod verdict;
 
 pub use action::Action;

@@ -8,8 +8,6 @@ mod operator;
 mod parsing;
 mod selector;
 mod takes;
-#[cfg(test)]
-mod tests;
 
 pub use fault::SelectorFault;
 pub use selector::Selector;

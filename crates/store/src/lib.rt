@@ -13,8 +13,6 @@ mod plain;
 mod plain_store;
 mod replay;
 mod store;
-#[cfg(test)]
-mod tests;
 mod write;
 
 pub use database_name::{DbName, NameFault};

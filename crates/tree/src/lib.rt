@@ -10,8 +10,6 @@ mod next_revision;
 mod nodes;
 mod placement;
 mod revision;
-#[cfg(test)]
-mod tests;
 
 pub use body::Body;
 pub use document_id::{DocId, IdFault};

@@ -1,9 +1,0 @@
-use Rattle.std.proofs.Common.{ap, sym, ◌∙◌, ◌++◌, option_map}
-use Rattle.couchd.proofs.EscapeLemmas.{option_map-put}
-use Rattle.couchd.specs.Escapes.{spelled}
-use Rattle.couchd.proofs.escapes.spelled.Goals as goal
-
-pub loop-rest-preserved : goal.loop-rest-preserved
-loop-rest-preserved c =
-    rw c.in_ok-push.ensures.items (sym (option_map-put c.loop-rest.bytes.items c.in-Some.byte (spelled c.in-Some.after.now))
-    ∙ ap (option_map (λ more. c.loop-rest.bytes.items ++ more)) (sym c.in-Some.ensures.first) ∙ c.loop-rest.invariant)

@@ -1,0 +1,13 @@
+use Rattle.std.proofs.Common.{◌≡◌, ◌<◌, ℕ, true}
+use Rattle.std.specs.Prelude.{IfSome, is_some}
+use Rattle.std.specs.Io.BufRead.{first_piece}
+use Rattle.lab.specs.Playing.{Prints, ReadsLines, after_lines}
+use Rattle.lab.specs.Script.{line_of}
+use Rattle.lab.proofs.scripts.lab.Given as goal
+
+abbrev pub invariant-loop-number : goal.invariant-loop-number
+invariant-loop-number g l = record {
+  read : ReadsLines l.number (g.R.Read.remaining l.initial.reader) (g.R.Read.remaining l.reader);
+  lines : IfSome (g.R.Read.remaining l.initial.reader) (λ script. (k : ℕ) → k < l.number → is_some (line_of (first_piece 10 (after_lines k script))) ≡ true);
+  printed : Prints (g.W.Write.contents l.initial.writer) (g.W.Write.contents l.writer);
+}

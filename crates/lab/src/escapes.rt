@@ -1,0 +1,66 @@
+//! Texts with escapes.
+
+ghost use Rattle.std.specs.Prelude.{◌≡◌, ◌<◌, length, IfOk, IfSome, Option, option_map, option_and_then};
+ghost use Rattle.lab.specs.Escapes.{hex_byte, hex_digit, put, spelled};
+
+use couch_json::Got;
+use std::alloc::Global;
+
+/// The bytes that a text spells, where `\r`, `\n`, `\\` and `\xHH`, with hexadecimal digits in
+/// either case, stand for one byte and each other byte for itself; `None` where a backslash begins
+/// no such escape.
+pub fn spelled(alloc: Global, text: &[u8]) -> Got<Option<Vec<u8>>>
+    ensures { IfOk result (λ piece. option_map (λ bytes. bytes.items) piece ≡ spelled text.now) }
+{
+    let mut bytes = Vec::new(alloc);
+    let mut rest = text;
+    while !rest.is_empty() {
+        let Some((byte, after)) = first_spelled(rest) else {
+            return Ok(None);
+        };
+        bytes.push(byte)?;
+        rest = after;
+    }
+    Ok(Some(bytes))
+}
+
+/// The first byte that a text spells, and the text behind what spells it.
+fn first_spelled(text: &[u8]) -> Option<(u8, &[u8])>
+    requires { 0 < length text.now }
+    ensures first { spelled text.now ≡ option_and_then (λ p. put p.0 (spelled p.1.now)) result }
+    ensures shorter { IfSome result (λ p. length p.1.now < length text.now) }
+{
+    match text {
+        [b'\\', b'r', rest @ ..] => Some((b'\r', rest)),
+        [b'\\', b'n', rest @ ..] => Some((b'\n', rest)),
+        [b'\\', b'\\', rest @ ..] => Some((b'\\', rest)),
+        [b'\\', b'x', high, low, rest @ ..] => match byte_of(*high, *low) {
+            Some(byte) => Some((byte, rest)),
+            None => None,
+        },
+        [] | [b'\\', ..] => None,
+        [byte, rest @ ..] => Some((*byte, rest)),
+    }
+}
+
+/// The byte that two hexadecimal digits spell.
+fn byte_of(high: u8, low: u8) -> Option<u8>
+    ensures { result ≡ hex_byte high low }
+{
+    let high = hex_digit(high)?;
+    let low = hex_digit(low)?;
+    Some(16 * high + low)
+}
+
+/// The value of a hexadecimal digit.
+fn hex_digit(digit: u8) -> Option<u8>
+    ensures value { result ≡ hex_digit digit }
+    ensures small { IfSome result (λ value. value < 16) }
+{
+    match digit {
+        b'0'..=b'9' => Some(digit - b'0'),
+        b'a'..=b'f' => Some(digit - b'a' + 10),
+        b'A'..=b'F' => Some(digit - b'A' + 10),
+        _ => None,
+    }
+}

@@ -1,0 +1,23 @@
+//! The laboratory: scripts of nodes, databases and connections, played in memory as bytes would
+//! come over a socket, and the command line that asks for it.
+#![tactic(auto)]
+
+mod command_line;
+mod escapes;
+mod fault;
+mod layout;
+mod line;
+mod named;
+mod plan;
+mod printed;
+mod refusal;
+mod running;
+mod scripts;
+mod server;
+mod words;
+
+pub use command_line::plan;
+pub use fault::ProgramFault;
+pub use plan::{Plan, PlanFault};
+pub use refusal::Refusal;
+pub use scripts::lab;

@@ -1,0 +1,123 @@
+//! The lines of a script.
+
+ghost use Rattle.std.specs.Prelude.{◌≡◌, IfOk, Some, None, option_map, option_and_then, if◌then◌else◌};
+ghost use Rattle.store.specs.DatabaseName.{is_database_name};
+ghost use Rattle.lab.specs.Words.{parted};
+ghost use Rattle.lab.specs.Script.{line_of, line_with, node_of, public_of, conn_of, send_of};
+ghost use Rattle.lab.specs.Lines.{said_by};
+
+use crate::escapes::spelled;
+use crate::words::{is_node_name, is_word, parted};
+use couch_json::{Got, NoMemory};
+use std::alloc::Global;
+use std::str;
+use store::{DbName, NameFault};
+
+/// A line of a script.
+#[derive(Debug, Drop)]
+pub enum Line<'a> {
+    /// `node A`: there is a node A.
+    Node(&'a [u8]),
+    /// `public A db`: node A has a database of this name that is open to everyone.
+    Public(&'a [u8], DbName),
+    /// `conn A c`: c is a connection to node A.
+    Conn(&'a [u8], &'a [u8]),
+    /// `send c TEXT`: connection c is sent the bytes that TEXT spells.
+    Send(&'a [u8], Vec<u8>),
+}
+
+/// Reads a line, without its line feed; `None` where the bytes are no line of a script.
+///
+/// Words are separated by one space. A node's name is of ASCII letters and digits, a connection's
+/// of any bytes but space. The text of a `send` is the rest of its line, and may be empty.
+pub fn read_line<'a>(alloc: Global, bytes: &'a [u8]) -> Got<Option<Line<'a>>>
+    ensures { IfOk result (λ line. option_map said_by line ≡ line_of bytes.now) }
+{
+    match parted(bytes) {
+        Some((word, rest)) => read_with(alloc, word, rest),
+        None => Ok(None),
+    }
+}
+
+/// Reads the line whose first word this is, with what stands behind it.
+fn read_with<'a>(alloc: Global, word: &[u8], rest: &'a [u8]) -> Got<Option<Line<'a>>>
+    ensures { IfOk result (λ line. option_map said_by line ≡ line_with word.now rest.now) }
+{
+    if word == b"node".as_slice() {
+        return Ok(read_node(rest));
+    }
+    if word == b"public".as_slice() {
+        return read_public(alloc, rest);
+    }
+    if word == b"conn".as_slice() {
+        return Ok(read_conn(rest));
+    }
+    if word == b"send".as_slice() {
+        return read_send(alloc, rest);
+    }
+    Ok(None)
+}
+
+fn read_node<'a>(name: &'a [u8]) -> Option<Line<'a>>
+    ensures { option_map said_by result ≡ node_of name.now }
+{
+    if is_node_name(name) {
+        Some(Line::Node(name))
+    } else {
+        None
+    }
+}
+
+fn read_public<'a>(alloc: Global, rest: &'a [u8]) -> Got<Option<Line<'a>>>
+    ensures { IfOk result (λ line. option_map said_by line ≡ option_and_then (λ p. public_of p.0 p.1) (parted rest.now)) }
+{
+    let Some((node, name)) = parted(rest) else {
+        return Ok(None);
+    };
+    if !is_node_name(node) {
+        return Ok(None);
+    }
+    match read_name(alloc, name)? {
+        Some(name) => Ok(Some(Line::Public(node, name))),
+        None => Ok(None),
+    }
+}
+
+fn read_conn<'a>(rest: &'a [u8]) -> Option<Line<'a>>
+    ensures { option_map said_by result ≡ option_and_then (λ p. conn_of p.0 p.1) (parted rest.now) }
+{
+    match parted(rest) {
+        Some((node, name)) if is_node_name(node) && is_word(name) => Some(Line::Conn(node, name)),
+        _ => None,
+    }
+}
+
+fn read_send<'a>(alloc: Global, rest: &'a [u8]) -> Got<Option<Line<'a>>>
+    ensures { IfOk result (λ line. option_map said_by line ≡ option_and_then (λ p. send_of p.0 p.1) (parted rest.now)) }
+{
+    let Some((name, text)) = parted(rest) else {
+        return Ok(None);
+    };
+    if !is_word(name) {
+        return Ok(None);
+    }
+    match spelled(alloc, text)? {
+        Some(piece) => Ok(Some(Line::Send(name, piece))),
+        None => Ok(None),
+    }
+}
+
+/// The name of a database that the bytes spell. Its bytes are ASCII, so bytes that are no text are
+/// no name.
+fn read_name(alloc: Global, bytes: &[u8]) -> Got<Option<DbName>>
+    ensures { IfOk result (λ name. name ≡ (if is_database_name bytes.now then Some bytes.now else None)) }
+{
+    let Ok(text) = str::from_utf8(bytes) else {
+        return Ok(None);
+    };
+    match DbName::new(alloc, text) {
+        Ok(name) => Ok(Some(name)),
+        Err(NameFault::Shape) => Ok(None),
+        Err(NameFault::Memory) => Err(NoMemory),
+    }
+}

@@ -1,0 +1,36 @@
+use std::alloc::AllocError;
+use thiserror::Error;
+
+/// What the program is asked to do.
+#[derive(Debug, Drop)]
+pub enum Plan {
+    /// `lab --secret S [ADMIN]...`: play the script on standard input.
+    Lab {
+        /// The secret of the proxy's tokens.
+        secret: String,
+        /// The names of the server's admins.
+        admins: Vec<String>,
+    },
+}
+
+/// Why words are no plan.
+#[derive(Clone, Copy, Debug, PartialEq, Eq, Error)]
+pub enum PlanFault {
+    /// The words are none of the program's command lines.
+    #[error("usage")]
+    Usage = 1,
+    /// Memory ran out.
+    #[error("memory")]
+    Memory = 2,
+}
+
+impl From<AllocError> for PlanFault {
+    ghost use Rattle.std.specs.Prelude.{◌≡◌};
+    ghost use Rattle.lab.specs.declared.plan.PlanFault.TheVariants.{Memory};
+
+    ghost from_gives = { λ _ fault. fault ≡ Memory };
+
+    fn from(_error: AllocError) -> PlanFault {
+        PlanFault::Memory
+    }
+}

@@ -1,0 +1,144 @@
+//! Scripts, from the first line to the last.
+
+ghost use Rattle.std.specs.Prelude.{◌≡◌, ℕ, Err, Some, true, false, [], is_some, IfErr, IfOk, IfSome, OnOk};
+ghost use Rattle.std.specs.Io.BufRead.{drop_through, strip_last, take_through};
+ghost use Rattle.std.specs.Io.KnownBytes.{IsAtEnd, Keeps};
+ghost use Rattle.lab.specs.Playing.{AreLines, IsOfNoLine, Prints, ReadsLines};
+ghost use Rattle.lab.specs.Script.{line_of};
+
+use crate::fault::{LineFault, ProgramFault};
+use crate::layout::Layout;
+use crate::line::{Line, read_line};
+use crate::running::Running;
+use crate::server::Server;
+use std::alloc::Global;
+use std::io::{BufRead, Write};
+
+/// How many reads a script may take.
+const READS: u64 = 1_048_576;
+
+/// How far a script is: nodes and databases are laid out first, and then connections come.
+#[derive(Drop)]
+enum Stage {
+    Laying(Layout),
+    Running(Running),
+}
+
+/// Plays a script, and prints the replies: a line for each, `c STATUS BODY`. The answer is the
+/// program's status, 0.
+///
+/// `Line` is the number of the line that could not be played, counted from 1; what the lines before
+/// it printed stands. `File`: a read or a write failed, or the script had no end after 1,048,576
+/// reads, one for each line. `Memory`: memory ran out.
+pub fn lab<R: BufRead, W: Write>(
+    alloc: Global,
+    secret: &str,
+    admins: &[String],
+    reader: &mut R,
+    writer: &mut W,
+) -> Result<u8, ProgramFault>
+    ensures status { IfOk result (λ status. status ≡ 0) }
+    ensures whole { OnOk result (IfSome (R.remaining reader.old) (λ _. R.remaining reader.new ≡ Some [])) }
+    ensures lines { OnOk result (IfSome (R.remaining reader.old) AreLines) }
+    ensures printed { OnOk result (Prints (W.contents writer.old) (W.contents writer.new)) }
+
+    // At the fault of a line just the lines up to it were read, and what was printed stands.
+    ensures line { (n : ℕ) → result ≡ Err (ProgramFault.Line n) → ReadsLines n (R.remaining reader.old) (R.remaining reader.new) }
+    ensures stands { (n : ℕ) → result ≡ Err (ProgramFault.Line n) → Prints (W.contents writer.old) (W.contents writer.new) }
+{
+    let server = Server {
+        alloc,
+        secret,
+        admins,
+    };
+    let mut stage = Stage::Laying(Layout::new(alloc));
+    let mut bytes = Vec::new(alloc);
+    for number in 0..READS {
+        if !read_next(reader, &mut bytes)? {
+            return Ok(0);
+        }
+        match play(server, stage, without_line_feed(&bytes), writer) {
+            Ok(next) => stage = next,
+            Err(fault) => return Err(fault.at(number + 1)),
+        }
+        writer.flush()?;
+    }
+    Err(ProgramFault::File)
+}
+
+/// Reads the next line, with its line feed; false where there is none.
+fn read_next<R: BufRead>(reader: &mut R, bytes: &mut Vec<u8>) -> Result<bool, ProgramFault>
+    ensures line { OnOk result (IfSome (R.remaining reader.old) (λ script. bytes.new.items ≡ take_through 10 script)) }
+    ensures rest { OnOk result (IfSome (R.remaining reader.old) (λ script. R.remaining reader.new ≡ Some (drop_through 10 script))) }
+    ensures end { IfOk result (λ more. more ≡ false → IsAtEnd (R.remaining reader.old)) }
+    ensures faults { IfErr result IsOfNoLine }
+{
+    bytes.clear();
+    let count = reader.read_until(b'\n', bytes)?;
+    Ok(count > 0)
+}
+
+/// A line without its line feed, which the last of a script may lack.
+fn without_line_feed(line: &[u8]) -> &[u8]
+    ensures { result.now ≡ strip_last 10 line.now }
+{
+    match line {
+        [rest @ .., b'\n'] => rest,
+        _ => line,
+    }
+}
+
+/// Plays a line.
+fn play<W: Write>(
+    server: Server<'_>,
+    stage: Stage,
+    bytes: &[u8],
+    out: &mut W,
+) -> Result<Stage, LineFault>
+    ensures line { OnOk result (is_some (line_of bytes.now) ≡ true) }
+    ensures printed { OnOk result (Prints (W.contents out.old) (W.contents out.new)) }
+    ensures stands { result ≡ Err LineFault.Line → Keeps (W.contents out.old) (W.contents out.new) }
+{
+    let Some(line) = read_line(server.alloc, bytes)? else {
+        return Err(LineFault::Line);
+    };
+    match stage {
+        Stage::Laying(layout) => lay(server, layout, line),
+        Stage::Running(running) => run(running, line, out),
+    }
+}
+
+/// Plays a line before the first connection.
+fn lay(server: Server<'_>, layout: Layout, line: Line<'_>) -> Result<Stage, LineFault> {
+    let mut layout = layout;
+    match line {
+        Line::Node(name) => {
+            layout.add_node(name)?;
+            Ok(Stage::Laying(layout))
+        }
+        Line::Public(node, name) => {
+            layout.add_database(node, &name)?;
+            Ok(Stage::Laying(layout))
+        }
+        Line::Conn(node, name) => {
+            let mut running = Running::start(server, layout)?;
+            running.open(node, name)?;
+            Ok(Stage::Running(running))
+        }
+        Line::Send(_, _) => Err(LineFault::Line),
+    }
+}
+
+/// Plays a line after the first connection.
+fn run<W: Write>(running: Running, line: Line<'_>, out: &mut W) -> Result<Stage, LineFault>
+    ensures printed { OnOk result (Prints (W.contents out.old) (W.contents out.new)) }
+    ensures stands { result ≡ Err LineFault.Line → Keeps (W.contents out.old) (W.contents out.new) }
+{
+    let mut running = running;
+    match line {
+        Line::Conn(node, name) => running.open(node, name)?,
+        Line::Send(name, piece) => running.send(name, piece.as_slice(), out)?,
+        Line::Node(_) | Line::Public(_, _) => return Err(LineFault::Line),
+    }
+    Ok(Stage::Running(running))
+}

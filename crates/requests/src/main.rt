@@ -1,0 +1,67 @@
+//! Plays rows on whole nodes in memory: requests as bytes, pages of a store, scripts of the
+//! laboratory and command lines. A file's ending says which kind its rows are of.
+#![tactic(auto)]
+
+mod command_lines;
+mod nodes;
+mod pages;
+mod requests;
+mod scripts;
+mod setup;
+mod texts;
+
+use rows::{Report, RowsFault, file_names, play};
+use std::alloc::Global;
+use std::env::Env;
+use std::fs::read_to_string;
+use std::process::ExitCode;
+use std::rt::Files;
+
+/// Plays the files that the command line names or, where it names none, all files of the folder.
+/// The status is 0 where each row is as its answer says, else 1, with what differs on standard error.
+fn main(rt: HostRuntime) -> ExitCode {
+    let mut report = Report::new(rt.alloc());
+    let played = play_all(&rt, &mut report);
+    let _ = print!(rt; "{}", report.tables);
+    let _ = eprint!(rt; "{}", report.differences);
+    match played {
+        Ok(()) if report.differences.is_empty() => ExitCode::SUCCESS,
+        Ok(()) => ExitCode::FAILURE,
+        Err(fault) => {
+            let _ = eprintln!(rt; "requests: {fault}");
+            ExitCode::FAILURE
+        }
+    }
+}
+
+/// Plays the files.
+fn play_all<R: Env + Files + AllocGlobal + Clone + Drop>(
+    rt: &R,
+    report: &mut Report,
+) -> Result<(), RowsFault> {
+    for name in &file_names(rt)? {
+        let text = read_to_string(rt, name.as_str())?;
+        play_file(rt.alloc(), name.as_str(), text.as_str(), report)?;
+    }
+    Ok(())
+}
+
+/// Plays a file by its ending.
+fn play_file(
+    alloc: Global,
+    name: &str,
+    text: &str,
+    report: &mut Report,
+) -> Result<(), RowsFault> {
+    let ending = match name.rsplit_once('.') {
+        Some((_, ending)) => ending,
+        None => "",
+    };
+    match ending {
+        "commands" => play(alloc, name, text, &mut command_lines::CommandLines { alloc }, report),
+        "lab" => play(alloc, name, text, &mut scripts::Scripts::new(alloc), report),
+        "pages" => play(alloc, name, text, &mut pages::Pages::new(alloc), report),
+        "requests" => play(alloc, name, text, &mut requests::Requests::new(alloc), report),
+        _ => report.object(name, 1, "no kind of rows has this ending"),
+    }
+}

@@ -1,0 +1,77 @@
+use crate::nodes::{Asked, send};
+use crate::setup::Setup;
+use crate::texts::{answer, first_word, text_of};
+use node::Node;
+use rows::{Joint, Kind, RowsFault};
+use std::alloc::Global;
+use store::PlainStore;
+
+/// `USER METHOD TARGET BODY`: the reply's status and body. `B:USER ..` asks node B, which is made
+/// at its first request; the node without a name is A. Each table has nodes of its own.
+#[derive(Drop)]
+pub struct Requests {
+    alloc: Global,
+    setup: Setup,
+    nodes: Vec<(String, Node<PlainStore>)>,
+}
+
+impl Requests {
+    pub fn new(alloc: Global) -> Requests {
+        Requests {
+            alloc,
+            setup: Setup::new(alloc),
+            nodes: Vec::new(alloc),
+        }
+    }
+
+    /// Makes sure that there is a node of this name.
+    fn add_node(&mut self, name: &str) -> Result<(), RowsFault> {
+        if self.nodes.iter().any(|entry| entry.0.as_str() == name) {
+            return Ok(());
+        }
+        let node = self.setup.node(self.setup.store()?)?;
+        self.nodes.push((String::from_str(self.alloc, name)?, node))?;
+        Ok(())
+    }
+}
+
+impl Kind for Requests {
+    fn joint(&self) -> Joint {
+        Joint::Nothing
+    }
+
+    fn set(&mut self, line: &str) -> Result<bool, RowsFault> {
+        self.setup.set(line)
+    }
+
+    fn begin(&mut self) -> Result<(), RowsFault> {
+        self.nodes = Vec::new(self.alloc);
+        Ok(())
+    }
+
+    fn answer(&mut self, question: &[u8]) -> Result<Vec<u8>, RowsFault> {
+        let (who, rest) = first_word(text_of(question));
+        let (method, rest) = first_word(rest);
+        let (target, body) = first_word(rest);
+        let (name, user) = match who.split_once(':') {
+            Some((name, user)) => (name, user),
+            None => ("A", who),
+        };
+        self.add_node(name)?;
+        let Some(headers) = self.setup.headers_of(user) else {
+            return answer(self.alloc, "the head has no such user");
+        };
+        let asked = Asked {
+            method,
+            target,
+            headers,
+            body,
+        };
+        for entry in self.nodes.iter_mut() {
+            if entry.0.as_str() == name {
+                return send(self.alloc, &mut entry.1, asked);
+            }
+        }
+        answer(self.alloc, "no such node")
+    }
+}

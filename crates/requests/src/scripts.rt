@@ -1,0 +1,68 @@
+use crate::texts::answer;
+use lab::{Refusal, lab};
+use rows::{Joint, Kind, RowsFault};
+use std::alloc::Global;
+
+/// A script of the laboratory: what it prints, and a last line with the program's status and, after
+/// a refusal, what stands on standard error. The head says `secret TEXT` and `admin NAME`.
+#[derive(Drop)]
+pub struct Scripts {
+    alloc: Global,
+    secret: String,
+    admins: Vec<String>,
+}
+
+impl Scripts {
+    pub fn new(alloc: Global) -> Scripts {
+        Scripts {
+            alloc,
+            secret: String::new(alloc),
+            admins: Vec::new(alloc),
+        }
+    }
+}
+
+impl Kind for Scripts {
+    fn joint(&self) -> Joint {
+        Joint::LineFeed
+    }
+
+    fn set(&mut self, line: &str) -> Result<bool, RowsFault> {
+        if let Some(secret) = line.strip_prefix("secret ") {
+            self.secret = String::from_str(self.alloc, secret)?;
+            return Ok(true);
+        }
+        if let Some(admin) = line.strip_prefix("admin ") {
+            self.admins.push(String::from_str(self.alloc, admin)?)?;
+            return Ok(true);
+        }
+        Ok(false)
+    }
+
+    fn begin(&mut self) -> Result<(), RowsFault> {
+        Ok(())
+    }
+
+    fn answer(&mut self, question: &[u8]) -> Result<Vec<u8>, RowsFault> {
+        let alloc = self.alloc;
+        let mut script = question;
+        let mut printed = Vec::new(alloc);
+        let result = lab(
+            alloc,
+            self.secret.as_str(),
+            &self.admins,
+            &mut script,
+            &mut printed,
+        );
+        let ending = match result {
+            Ok(status) => format!(in alloc; "status {status}")?,
+            Err(fault) => {
+                let refusal = Refusal::from(fault);
+                let status = refusal.status();
+                format!(in alloc; "status {status}, couchd: {refusal}")?
+            }
+        };
+        printed.extend_from_slice(ending.as_bytes())?;
+        answer(alloc, String::from_utf8_lossy(alloc, &printed)?.as_str())
+    }
+}

@@ -1,0 +1,114 @@
+//! Playing the rows of a file, and telling what differs.
+
+use crate::escapes::escape;
+use crate::fault::RowsFault;
+use crate::file::{Row, Table, read_file};
+use crate::kind::Kind;
+use std::alloc::Global;
+
+/// What came of the rows that were played.
+#[derive(Drop)]
+pub struct Report {
+    alloc: Global,
+    /// A line for each table: `FILE: TITLE: N rows`.
+    pub tables: String,
+    /// What differs: `FILE:LINE: QUESTION`, and below it what was wanted and what came.
+    pub differences: String,
+}
+
+impl Report {
+    /// Returns an empty report. Takes no memory.
+    pub fn new(alloc: Global) -> Report {
+        Report {
+            alloc,
+            tables: String::new(alloc),
+            differences: String::new(alloc),
+        }
+    }
+
+    /// Tells that something is wrong with a file.
+    pub fn object(&mut self, file: &str, line: usize, what: &str) -> Result<(), RowsFault> {
+        let text = format!(in self.alloc; "{file}:{line}: {what}\n")?;
+        self.differences.push_str(text.as_str())?;
+        Ok(())
+    }
+
+    /// Tells that a table was played.
+    fn count(&mut self, file: &str, table: &Table) -> Result<(), RowsFault> {
+        let title = table.title.as_str();
+        let count = table.rows.len();
+        let text = format!(in self.alloc; "{file}: {title}: {count} rows\n")?;
+        self.tables.push_str(text.as_str())?;
+        Ok(())
+    }
+
+    /// Compares what came with what was wanted.
+    fn compare(
+        &mut self,
+        file: &str,
+        row: &Row,
+        got: &[u8],
+        is_wrong: bool,
+    ) -> Result<(), RowsFault> {
+        let is_right = row.answer.as_slice() == got;
+        if is_right == !is_wrong {
+            return Ok(());
+        }
+        let question = escape(self.alloc, &row.question)?;
+        self.object(file, row.line, question.as_str())?;
+        if is_wrong {
+            self.tell("is right", got, "in a table of rows that are wrong on purpose")
+        } else {
+            self.tell("wanted", &row.answer, "")?;
+            self.tell("got   ", got, "")
+        }
+    }
+
+    /// Tells bytes behind a word.
+    fn tell(&mut self, word: &str, bytes: &[u8], more: &str) -> Result<(), RowsFault> {
+        let bytes = escape(self.alloc, bytes)?;
+        let bytes = bytes.as_str();
+        let text = format!(in self.alloc; "  {word} {bytes} {more}\n")?;
+        self.differences.push_str(text.as_str())?;
+        Ok(())
+    }
+}
+
+/// Plays the rows of a file of this name and text, and adds what came of them to the report.
+pub fn play<K: Kind>(
+    alloc: Global,
+    name: &str,
+    text: &str,
+    kind: &mut K,
+    report: &mut Report,
+) -> Result<(), RowsFault> {
+    let file = match read_file(alloc, text, kind.joint()) {
+        Ok(file) => file,
+        Err(RowsFault::Line(line, what)) => return report.object(name, line, what),
+        Err(fault) => return Err(fault),
+    };
+    for line in &file.head {
+        if !kind.set(line.as_str())? {
+            report.object(name, 1, line.as_str())?;
+        }
+    }
+    for table in &file.tables {
+        play_table(name, table, kind, report)?;
+    }
+    Ok(())
+}
+
+/// Plays the rows of a table.
+fn play_table<K: Kind>(
+    name: &str,
+    table: &Table,
+    kind: &mut K,
+    report: &mut Report,
+) -> Result<(), RowsFault> {
+    kind.begin()?;
+    for row in &table.rows {
+        let got = kind.answer(&row.question)?;
+        report.compare(name, row, &got, table.is_wrong)?;
+    }
+    report.count(name, table)
+}

@@ -1,0 +1,81 @@
+use crate::texts::answer;
+use auth::{Auth, AuthFault, Caller};
+use rows::{Joint, Kind, RowsFault};
+use std::alloc::Global;
+
+/// Header lines: the caller that they name, as `NAME` or `NAME with ROLE; ROLE`, `anonymous`, or
+/// the fault. The head says `secret TEXT` and `admin NAME`.
+#[derive(Drop)]
+pub struct Callers {
+    alloc: Global,
+    secret: String,
+    admins: Vec<String>,
+}
+
+impl Callers {
+    pub fn new(alloc: Global) -> Callers {
+        Callers {
+            alloc,
+            secret: String::new(alloc),
+            admins: Vec::new(alloc),
+        }
+    }
+}
+
+impl Kind for Callers {
+    fn joint(&self) -> Joint {
+        Joint::LineFeed
+    }
+
+    fn set(&mut self, line: &str) -> Result<bool, RowsFault> {
+        if let Some(secret) = line.strip_prefix("secret ") {
+            self.secret = String::from_str(self.alloc, secret)?;
+            return Ok(true);
+        }
+        if let Some(admin) = line.strip_prefix("admin ") {
+            self.admins.push(String::from_str(self.alloc, admin)?)?;
+            return Ok(true);
+        }
+        Ok(false)
+    }
+
+    fn begin(&mut self) -> Result<(), RowsFault> {
+        Ok(())
+    }
+
+    fn answer(&mut self, question: &[u8]) -> Result<Vec<u8>, RowsFault> {
+        let auth = Auth::new(self.alloc, self.secret.as_bytes(), &self.admins)?;
+        let mut headers = Vec::new(self.alloc);
+        for line in question.split(|byte| *byte == b'\n') {
+            headers.push(header_of(self.alloc, line)?)?;
+        }
+        match auth.caller(&headers) {
+            Ok(caller) => answer(self.alloc, shown(self.alloc, &caller)?.as_str()),
+            Err(AuthFault::Token) => answer(self.alloc, "Token"),
+            Err(AuthFault::Repeated) => answer(self.alloc, "Repeated"),
+            Err(AuthFault::Memory) => Err(RowsFault::Memory),
+        }
+    }
+}
+
+/// Returns the name and the value of a header line: what stands before and behind `: `.
+fn header_of(alloc: Global, line: &[u8]) -> Result<(Vec<u8>, Vec<u8>), RowsFault> {
+    let mut parts = line.splitn(2, |byte| *byte == b':');
+    let name = parts.next().unwrap_or(b"");
+    let value = parts.next().unwrap_or(b"");
+    let value = value.strip_prefix(b" ").unwrap_or(value);
+    Ok((Vec::from_slice(alloc, name)?, Vec::from_slice(alloc, value)?))
+}
+
+/// Returns a caller as its name and its roles.
+fn shown(alloc: Global, caller: &Caller) -> Result<String, RowsFault> {
+    let Some(name) = caller.name() else {
+        return Ok(String::from_str(alloc, "anonymous")?);
+    };
+    let mut text = String::from_str(alloc, name)?;
+    for (place, role) in caller.roles().iter().enumerate() {
+        text.push_str(if place == 0 { " with " } else { "; " })?;
+        text.push_str(role.as_str())?;
+    }
+    Ok(text)
+}

@@ -1,0 +1,55 @@
+use crate::texts::{answer, text_of, value_of};
+use couch_json::{Json, collate};
+use rows::{Joint, Kind, RowsFault};
+use std::alloc::Global;
+use std::cmp::Ordering;
+
+/// `VALUE`: `after` where it collates behind each value above it in the table, and they before it.
+#[derive(Drop)]
+pub struct Ascending {
+    alloc: Global,
+    above: Vec<Json>,
+}
+
+impl Ascending {
+    pub fn new(alloc: Global) -> Ascending {
+        Ascending {
+            alloc,
+            above: Vec::new(alloc),
+        }
+    }
+
+    /// Tells whether a value comes behind all that stand above, and is equal to itself.
+    fn is_behind_all(&self, value: &Json) -> bool {
+        for low in &self.above {
+            if collate(low, value) != Ordering::Less || collate(value, low) != Ordering::Greater {
+                return false;
+            }
+        }
+        collate(value, value) == Ordering::Equal
+    }
+}
+
+impl Kind for Ascending {
+    fn joint(&self) -> Joint {
+        Joint::Nothing
+    }
+
+    fn set(&mut self, _line: &str) -> Result<bool, RowsFault> {
+        Ok(false)
+    }
+
+    fn begin(&mut self) -> Result<(), RowsFault> {
+        self.above.clear();
+        Ok(())
+    }
+
+    fn answer(&mut self, question: &[u8]) -> Result<Vec<u8>, RowsFault> {
+        let Some(value) = value_of(self.alloc, text_of(question))? else {
+            return answer(self.alloc, "not JSON");
+        };
+        let is_behind = self.is_behind_all(&value);
+        self.above.push(value)?;
+        answer(self.alloc, if is_behind { "after" } else { "not after" })
+    }
+}

@@ -1,0 +1,158 @@
+use crate::texts::{answer, first_word, text_of, value_of};
+use couch_json::canon;
+use rows::{Joint, Kind, RowsFault};
+use std::alloc::Global;
+use tree::{History, Placed, Rev, TreeFault};
+
+/// One history a table, empty at its start.
+///
+/// `insert PATH BODY`, `insert PATH deleted BODY`: `Added`, `Known` or the fault; a path is its
+/// revisions, newest first, with commas between them, and `-` has none.
+/// `winner`, `leaves`, `chain REV`, `body REV`, `state REV`: what the history says.
+#[derive(Drop)]
+pub struct Histories {
+    alloc: Global,
+    history: History,
+}
+
+impl Histories {
+    pub fn new(alloc: Global) -> Histories {
+        Histories {
+            alloc,
+            history: History::new(alloc),
+        }
+    }
+
+    /// Offers a write to the history.
+    fn insert(&mut self, text: &str) -> Result<Vec<u8>, RowsFault> {
+        let (path, rest) = first_word(text);
+        let Some(path) = path_of(self.alloc, path)? else {
+            return answer(self.alloc, "no path");
+        };
+        let (deleted, body) = match rest.strip_prefix("deleted ") {
+            Some(body) => (true, body),
+            None => (false, rest),
+        };
+        let Some(body) = value_of(self.alloc, body)? else {
+            return answer(self.alloc, "not JSON");
+        };
+        match self.history.insert(&path, deleted, &body) {
+            Ok(Placed::Added) => answer(self.alloc, "Added"),
+            Ok(Placed::Known) => answer(self.alloc, "Known"),
+            Err(TreeFault::BadPath) => answer(self.alloc, "BadPath"),
+            Err(TreeFault::OtherParent) => answer(self.alloc, "OtherParent"),
+            Err(TreeFault::Memory) => Err(RowsFault::Memory),
+        }
+    }
+
+    /// Answers with the winner.
+    fn winner(&self) -> Result<Vec<u8>, RowsFault> {
+        match self.history.winner() {
+            Some(rev) => answer(self.alloc, rev.text(self.alloc)?.as_str()),
+            None => answer(self.alloc, "none"),
+        }
+    }
+
+    /// Answers with the leaves of the history, which its copy has too.
+    fn leaves(&self) -> Result<Vec<u8>, RowsFault> {
+        let leaves = self.history.leaves()?;
+        if self.history.copy()?.leaves()?.as_slice() != leaves.as_slice() {
+            return answer(self.alloc, "the copy has others");
+        }
+        shown(self.alloc, &leaves)
+    }
+
+    /// Answers with the path of a revision.
+    fn chain(&self, rev: &Rev) -> Result<Vec<u8>, RowsFault> {
+        match self.history.chain(rev)? {
+            Some(path) => shown(self.alloc, &path),
+            None => answer(self.alloc, "none"),
+        }
+    }
+
+    /// Answers with the body that is held for a revision.
+    fn body(&self, rev: &Rev) -> Result<Vec<u8>, RowsFault> {
+        let Some((deleted, body)) = self.history.body(rev) else {
+            return answer(self.alloc, "none");
+        };
+        let body = canon(self.alloc, body)?;
+        let mark = if deleted { "deleted " } else { "" };
+        answer(self.alloc, format!(in self.alloc; "{mark}{body}")?.as_str())
+    }
+
+    /// Answers whether a revision is known, and whether it is a leaf.
+    fn state(&self, rev: &Rev) -> Result<Vec<u8>, RowsFault> {
+        let text = match (self.history.knows(rev), self.history.is_leaf(rev)) {
+            (true, true) => "leaf",
+            (true, false) => "inner",
+            (false, false) => "unknown",
+            (false, true) => "unknown leaf",
+        };
+        answer(self.alloc, text)
+    }
+
+    /// Answers a question about one revision.
+    fn tell(&self, verb: &str, rev: &str) -> Result<Vec<u8>, RowsFault> {
+        let Some(rev) = Rev::parse(rev.as_bytes()) else {
+            return answer(self.alloc, "no revision");
+        };
+        match verb {
+            "chain" => self.chain(&rev),
+            "body" => self.body(&rev),
+            "state" => self.state(&rev),
+            _ => answer(self.alloc, "insert, winner, leaves, chain, body or state"),
+        }
+    }
+}
+
+/// Returns the revisions of a path; `None` where one is none.
+fn path_of(alloc: Global, text: &str) -> Result<Option<Vec<Rev>>, RowsFault> {
+    let mut revs = Vec::new(alloc);
+    if text == "-" {
+        return Ok(Some(revs));
+    }
+    for text in text.split(',') {
+        let Some(rev) = Rev::parse(text.as_bytes()) else {
+            return Ok(None);
+        };
+        revs.push(rev)?;
+    }
+    Ok(Some(revs))
+}
+
+/// Returns revisions with blanks between them.
+fn shown(alloc: Global, revs: &[Rev]) -> Result<Vec<u8>, RowsFault> {
+    let mut text = String::new(alloc);
+    for (place, rev) in revs.iter().enumerate() {
+        if place > 0 {
+            text.push(' ')?;
+        }
+        text.push_str(rev.text(alloc)?.as_str())?;
+    }
+    answer(alloc, text.as_str())
+}
+
+impl Kind for Histories {
+    fn joint(&self) -> Joint {
+        Joint::Nothing
+    }
+
+    fn set(&mut self, _line: &str) -> Result<bool, RowsFault> {
+        Ok(false)
+    }
+
+    fn begin(&mut self) -> Result<(), RowsFault> {
+        self.history = History::new(self.alloc);
+        Ok(())
+    }
+
+    fn answer(&mut self, question: &[u8]) -> Result<Vec<u8>, RowsFault> {
+        let (verb, rest) = first_word(text_of(question));
+        match verb {
+            "insert" => self.insert(rest),
+            "winner" => self.winner(),
+            "leaves" => self.leaves(),
+            _ => self.tell(verb, rest),
+        }
+    }
+}

@@ -1,0 +1,43 @@
+use crate::texts::{answer, text_of};
+use rows::{Joint, Kind, RowsFault};
+use std::alloc::Global;
+use tree::{DocId, IdFault};
+
+/// `TEXT`: `id`, `design` or `local` as an id of a document, or `Shape`.
+#[derive(Drop)]
+pub struct Ids {
+    pub alloc: Global,
+}
+
+impl Kind for Ids {
+    fn joint(&self) -> Joint {
+        Joint::Nothing
+    }
+
+    fn set(&mut self, _line: &str) -> Result<bool, RowsFault> {
+        Ok(false)
+    }
+
+    fn begin(&mut self) -> Result<(), RowsFault> {
+        Ok(())
+    }
+
+    fn answer(&mut self, question: &[u8]) -> Result<Vec<u8>, RowsFault> {
+        let alloc = self.alloc;
+        let text = text_of(question);
+        let id = match DocId::new(alloc, text) {
+            Ok(id) => id,
+            Err(IdFault::Shape) => return answer(alloc, "Shape"),
+            Err(IdFault::Memory) => return Err(RowsFault::Memory),
+        };
+        if id.as_str() != text || id.copy(alloc)? != id {
+            return answer(alloc, "another id");
+        }
+        match (id.is_design(), id.is_local()) {
+            (false, false) => answer(alloc, "id"),
+            (true, false) => answer(alloc, "design"),
+            (false, true) => answer(alloc, "local"),
+            (true, true) => answer(alloc, "design and local"),
+        }
+    }
+}

@@ -1,0 +1,212 @@
+use crate::texts::{answer, text_of};
+use couch_http::{Cutter, Ending, HttpFault, Request};
+use rows::{Joint, Kind, RowsFault, escape, unescape};
+use std::alloc::Global;
+
+/// Pieces of a stream, one a line, with escapes; `cut N TEXT` is the text in pieces of N bytes.
+/// The answer has a line for each request, `METHOD PATH`, then `? QUERY` where there is one, the
+/// count of headers, the body, and `last` where it is; and how the stream ends: `open`, `last`,
+/// `Syntax`, `Encoding` or `TooLarge`, then `closed` for each piece behind the end.
+/// A short stream is played byte by byte too, which has to come to the same.
+#[derive(Drop)]
+pub struct Streams {
+    pub alloc: Global,
+}
+
+/// What came of a stream.
+#[derive(Drop)]
+struct Flow {
+    requests: String,
+    ending: Ending,
+    pieces_behind_end: usize,
+}
+
+/// Streams of more bytes are not played byte by byte.
+const SHORT: usize = 2_000;
+
+/// Bodies of more bytes are told by their length.
+const SHOWN: usize = 200;
+
+impl Streams {
+    /// Plays pieces on a new cutter.
+    fn play(&self, pieces: &[Vec<u8>]) -> Result<Flow, RowsFault> {
+        let mut cutter = Cutter::new(self.alloc);
+        let mut flow = Flow {
+            requests: String::new(self.alloc),
+            ending: Ending::Open,
+            pieces_behind_end: 0,
+        };
+        for piece in pieces {
+            self.feed(&mut cutter, piece, &mut flow)?;
+        }
+        Ok(flow)
+    }
+
+    /// Plays a piece.
+    fn feed(
+        &self,
+        cutter: &mut Cutter,
+        piece: &[u8],
+        flow: &mut Flow,
+    ) -> Result<(), RowsFault> {
+        match cutter.feed(piece) {
+            Ok(cut) => {
+                for request in &cut.requests {
+                    put_request(self.alloc, &mut flow.requests, request)?;
+                }
+                flow.ending = cut.ending;
+                Ok(())
+            }
+            Err(HttpFault::Closed) => {
+                flow.pieces_behind_end = flow.pieces_behind_end.saturating_add(1);
+                Ok(())
+            }
+            Err(_) => Err(RowsFault::Memory),
+        }
+    }
+
+    /// Plays the pieces and, where they are short, their bytes one by one.
+    fn play_both(&self, pieces: &[Vec<u8>]) -> Result<String, RowsFault> {
+        let flow = self.play(pieces)?;
+        let mut text = shown(self.alloc, &flow)?;
+        let bytes = single_bytes(self.alloc, pieces)?;
+        if bytes.len() > 0 {
+            let slow = self.play(&bytes)?;
+            if slow.requests.as_str() != flow.requests.as_str() || slow.ending != flow.ending {
+                text.push_str("\nbyte by byte:\n")?;
+                text.push_str(shown(self.alloc, &slow)?.as_str())?;
+            }
+        }
+        Ok(text)
+    }
+}
+
+/// Returns the bytes of pieces as pieces of one byte each, none where there are many.
+fn single_bytes(alloc: Global, pieces: &[Vec<u8>]) -> Result<Vec<Vec<u8>>, RowsFault> {
+    let mut bytes = Vec::new(alloc);
+    for piece in pieces {
+        if bytes.len().saturating_add(piece.len()) > SHORT {
+            return Ok(Vec::new(alloc));
+        }
+        for byte in piece {
+            bytes.push(Vec::from_slice(alloc, &[*byte])?)?;
+        }
+    }
+    Ok(bytes)
+}
+
+/// Adds the line of a request.
+fn put_request(alloc: Global, text: &mut String, request: &Request) -> Result<(), RowsFault> {
+    text.push_str(request.method.as_str())?;
+    text.push(' ')?;
+    text.push_str(request.path.as_str())?;
+    if let Some(query) = &request.query {
+        text.push_str(" ? ")?;
+        text.push_str(query.as_str())?;
+    }
+    let headers = request.headers.len();
+    text.push_str(format!(in alloc; ", {headers} headers")?.as_str())?;
+    put_body(alloc, text, &request.body)?;
+    text.push_str(if request.last { ", last\n" } else { "\n" })?;
+    Ok(())
+}
+
+/// Adds a body, or how long it is.
+fn put_body(alloc: Global, text: &mut String, body: &[u8]) -> Result<(), RowsFault> {
+    let length = body.len();
+    if length == 0 {
+        return Ok(());
+    }
+    if length > SHOWN {
+        text.push_str(format!(in alloc; ", {length} bytes")?.as_str())?;
+        return Ok(());
+    }
+    text.push_str(", ")?;
+    text.push_str(escape(alloc, body)?.as_str())?;
+    Ok(())
+}
+
+/// Returns what came of a stream as text.
+fn shown(alloc: Global, flow: &Flow) -> Result<String, RowsFault> {
+    let mut text = String::from_str(alloc, flow.requests.as_str())?;
+    text.push_str(match flow.ending {
+        Ending::Open => "open",
+        Ending::Last => "last",
+        Ending::Fault(HttpFault::Syntax) => "Syntax",
+        Ending::Fault(HttpFault::Encoding) => "Encoding",
+        Ending::Fault(HttpFault::TooLarge) => "TooLarge",
+        Ending::Fault(_) => "another fault",
+    })?;
+    for _piece in 0..flow.pieces_behind_end {
+        text.push_str("\nclosed")?;
+    }
+    Ok(text)
+}
+
+/// Returns the pieces of a question; `None` where a backslash begins no escape.
+fn pieces_of(alloc: Global, question: &str) -> Result<Option<Vec<Vec<u8>>>, RowsFault> {
+    let mut pieces = Vec::new(alloc);
+    for line in question.split('\n') {
+        let (size, text) = size_of(line);
+        let Some(bytes) = unescape(alloc, text.as_bytes())? else {
+            return Ok(None);
+        };
+        if size == 0 {
+            pieces.push(bytes)?;
+        } else {
+            put_pieces(alloc, &mut pieces, &bytes, size)?;
+        }
+    }
+    Ok(Some(pieces))
+}
+
+/// Adds bytes in pieces of one size.
+fn put_pieces(
+    alloc: Global,
+    pieces: &mut Vec<Vec<u8>>,
+    bytes: &[u8],
+    size: usize,
+) -> Result<(), RowsFault> {
+    if size == 0 {
+        return Ok(());
+    }
+    for piece in bytes.chunks(size) {
+        pieces.push(Vec::from_slice(alloc, piece)?)?;
+    }
+    Ok(())
+}
+
+/// Returns the size that `cut N` asks for, and the text behind it; 0 where it isn't asked for.
+fn size_of(line: &str) -> (usize, &str) {
+    let Some(rest) = line.strip_prefix("cut ") else {
+        return (0, line);
+    };
+    match rest.split_once(' ') {
+        Some((size, text)) => match size.parse::<usize>() {
+            Ok(size) => (size, text),
+            Err(_) => (0, line),
+        },
+        None => (0, line),
+    }
+}
+
+impl Kind for Streams {
+    fn joint(&self) -> Joint {
+        Joint::LineFeed
+    }
+
+    fn set(&mut self, _line: &str) -> Result<bool, RowsFault> {
+        Ok(false)
+    }
+
+    fn begin(&mut self) -> Result<(), RowsFault> {
+        Ok(())
+    }
+
+    fn answer(&mut self, question: &[u8]) -> Result<Vec<u8>, RowsFault> {
+        match pieces_of(self.alloc, text_of(question))? {
+            Some(pieces) => answer(self.alloc, self.play_both(&pieces)?.as_str()),
+            None => answer(self.alloc, "a backslash that begins no escape"),
+        }
+    }
+}
