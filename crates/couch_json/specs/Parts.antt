@@ -2,7 +2,7 @@
 -- RFC 8259, section 3: each value is of one of these kinds; section 4: the members of an object go by name.
 use Rattle.std.specs.Prelude.{ℕ, ℤ, Bool, true, false, is_some, ◌&&◌, List, Option, Some, None, bytes_eq}
 use Rattle.std.specs.List.{list_any}
-use Rattle.couch_json.specs.Value.{Value, null, truth, whole, text, array, object, Items, Members, no_members, member}
+use Rattle.couch_json.specs.Value.{Value, null, truth, whole, text, array, object, Items, no_items, Members, no_members, member}
 
 -- `true` or `false`
 abbrev pub truth_in : Value → Option Bool
@@ -64,6 +64,16 @@ is_array v = is_some (items_in v)
 abbrev pub is_object : Value → Bool
 is_object v = is_some (members_in v)
 
+-- there is one, and it passes the test
+abbrev pub is_there_and : {A : Type 0} → (A → Bool) → Option A → Bool
+is_there_and test None = false
+is_there_and test (Some a) = test a
+
+-- these elements, or none
+abbrev pub items_or_none : Option Items → Items
+items_or_none None = no_items
+items_or_none (Some vs) = vs
+
 -- each member has one of these names
 abbrev pub are_named : List (List ℕ) → Members → Bool
 are_named names no_members = true
@@ -71,9 +81,4 @@ are_named names (member name v ms) = list_any (λ known. bytes_eq known name) na
 
 -- an object that has no members but of these names; it need not have each
 abbrev pub has_only : List (List ℕ) → Value → Bool
-has_only names null = false
-has_only names (truth b) = false
-has_only names (whole n) = false
-has_only names (text s) = false
-has_only names (array vs) = false
-has_only names (object ms) = are_named names ms
+has_only names v = is_there_and (are_named names) (members_in v)
