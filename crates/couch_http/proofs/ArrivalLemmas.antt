@@ -109,6 +109,13 @@ Begins_arrives left piece m rest waiting begins = by_scan (head_scan left) refl 
 
 -- ---- places
 
+-- a last request has nothing behind it
+behind_last : (last : Bool) (P : ℕ → Type 0) (messages : List Message) (rest : List ℕ) (place : ℕ) (places : List ℕ)
+    → MatchBool last ((messages ≡ []) × (places ≡ [])) (EndsAt place rest messages places)
+    → (EndsAt place rest messages places → All P places) → All P places
+behind_last true P messages rest place places ends again = rw ends.1 (All-nil P)
+behind_last false P messages rest place places ends again = again ends
+
 -- each place lies behind the bytes before
 EndsAt_after : (before : ℕ) (bytes : List ℕ) (messages : List Message) (places : List ℕ) → EndsAt before bytes messages places
     → All (λ place. before < place) places
@@ -117,7 +124,8 @@ EndsAt_after before bytes (m ∷ messages) [] ends = absurd ends
 EndsAt_after before bytes (m ∷ messages) (place ∷ places) (rest, begins, at, ends) =
     let later : before < place = omega (arith, Begins_shorter bytes m rest begins, at) in
     All-cons (λ p. before < p) place places later
-    (All-weaker (λ p. place < p) (λ p. before < p) (λ p h. omega arith) places (EndsAt_after place rest messages places ends))
+    (All-weaker (λ p. place < p) (λ p. before < p) (λ p h. omega arith) places
+    (behind_last m.last (λ p. place < p) messages rest place places ends (EndsAt_after place rest messages places)))
 
 pub EndsAt_comes : (left piece : List ℕ) (messages : List Message) (places : List ℕ) → Begins left waits
     → EndsAt 0 (left ++ piece) messages places → All (λ place. length left < place) places
@@ -126,4 +134,5 @@ EndsAt_comes left piece (m ∷ messages) [] waiting ends = absurd ends
 EndsAt_comes left piece (m ∷ messages) (place ∷ places) waiting (rest, begins, at, ends) =
     let later : length left < place = omega (arith, Begins_arrives left piece m rest waiting begins, at, length-append left piece) in
     All-cons (λ p. length left < p) place places later
-    (All-weaker (λ p. place < p) (λ p. length left < p) (λ p h. omega arith) places (EndsAt_after place rest messages places ends))
+    (All-weaker (λ p. place < p) (λ p. length left < p) (λ p h. omega arith) places
+    (behind_last m.last (λ p. place < p) messages rest place places ends (EndsAt_after place rest messages places)))

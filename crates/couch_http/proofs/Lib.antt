@@ -6,3 +6,5 @@ pub mod BeginLemmas
 pub mod StreamLaws
 pub mod HeadLaws
 pub mod ArrivalLemmas
+pub mod FaultLemmas
+pub mod PlaceLemmas

@@ -1,11 +1,11 @@
 -- What a cutter answers to a piece, in the words of `Stream`.
 -- The same sources as `Stream`: RFC 9112, and this project's own limits.
-use Rattle.std.specs.Prelude.{List, ◌++◌, map, ℕ, Option, Some, None}
+use Rattle.std.specs.Prelude.{⊤, List, ◌++◌, map, ℕ, Option, Some, None}
 use Rattle.couch_http.specs.declared.cut.Ending.{Ending}
 use Rattle.couch_http.specs.declared.cut.Ending.TheVariants.{Open, Last, Fault}
 use Rattle.couch_http.specs.declared.cut.Cut.{Cut}
 use Rattle.couch_http.specs.Message.{Message, message_of}
-use Rattle.couch_http.specs.Stream.{Cuts, unfinished, ended, faulty}
+use Rattle.couch_http.specs.Stream.{Cuts, IsStreamFault, unfinished, ended, faulty}
 
 -- the requests of an answer
 abbrev pub messages_of : Cut → List Message
@@ -20,6 +20,12 @@ CutsTo bytes messages Last (Some left) = ⊥
 CutsTo bytes messages Last None = Cuts bytes messages ended
 CutsTo bytes messages (Fault fault) (Some left) = ⊥
 CutsTo bytes messages (Fault fault) None = Cuts bytes messages (faulty fault)
+
+-- where a stream ends with a fault, it is one that a stream may have
+abbrev pub HasStreamFault : Ending → Type 0
+HasStreamFault Open = ⊤
+HasStreamFault Last = ⊤
+HasStreamFault (Fault fault) = IsStreamFault fault
 
 -- the answer to a piece, where old had come of the next request before it
 abbrev pub Answers : Option (List ℕ) → List ℕ → Cut → Option (List ℕ) → Type 0

@@ -3,7 +3,7 @@
 use Rattle.std.specs.Prelude.{◌≡◌, ℕ, ◌<◌, ◌↔◌, List, [], ◌++◌, length, All}
 use Rattle.couch_http.specs.Message.{Message}
 use Rattle.couch_http.specs.Head.{IsHead, head_scan, complete}
-use Rattle.couch_http.specs.Stream.{waits, Begins, StreamEnd, unfinished, ended, faulty, Cuts}
+use Rattle.couch_http.specs.Stream.{waits, Begins, StreamEnd, unfinished, ended, faulty, Cuts, IsStreamFault}
 use Rattle.couch_http.specs.Pieces.{joined, CutInPieces}
 use Rattle.couch_http.specs.Places.{EndsAt}
 use Rattle.couch_http.specs.declared.fault.HttpFault.{HttpFault}
@@ -37,6 +37,17 @@ PiecesDoNotMatter =
 abbrev pub HeadsAreFound : Type 0
 HeadsAreFound =
     (head rest : List ℕ) (lines : ℕ) → IsHead head lines ↔ (head_scan (head ++ rest) ≡ complete lines rest)
+
+-- a fault is one of the three that a stream may have
+abbrev pub HasStreamFaults : Type 0
+HasStreamFaults = (bytes : List ℕ) (messages : List Message) (fault : HttpFault) → Cuts bytes messages (faulty fault) → IsStreamFault fault
+
+-- the requests that a stream holds have their last bytes at one list of places, with a place for each
+abbrev pub HasOnePlaceEach : Type 0
+HasOnePlaceEach =
+    (bytes : List ℕ) (messages : List Message) (end : StreamEnd) → Cuts bytes messages end
+    → (places : List ℕ) × EndsAt 0 bytes messages places × (length places ≡ length messages)
+    × ((others : List ℕ) → EndsAt 0 bytes messages others → others ≡ places)
 
 -- a request comes with the piece that has its last byte
 abbrev pub ComesWithLastByte : Type 0

@@ -1,9 +1,9 @@
 -- The requests that a stream of bytes holds from its front, and how it then stands.
 -- RFC 9112, sections 2, 3, 5, 6.3 and 9.6; the limits and what is refused are this project's own.
-use Rattle.std.specs.Prelude.{◌≡◌, ℕ, ◌-◌, ◌≤◌, ◌⊎◌, Bool, ◌||◌, List, [], ◌∷◌, ◌++◌, length, take, drop, map, if◌then◌else◌, ◌==◌, nat_lt, MatchBool, Result, Ok, Err}
+use Rattle.std.specs.Prelude.{◌≡◌, ⊤, ℕ, ◌-◌, ◌≤◌, ◌⊎◌, Bool, ◌||◌, List, [], ◌∷◌, ◌++◌, length, take, drop, map, if◌then◌else◌, ◌==◌, nat_lt, MatchBool, Result, Ok, Err}
 use Rattle.httparse.specs.Grammar.{Field, field_value, RequestHead, ReadsRequest}
 use Rattle.couch_http.specs.declared.fault.HttpFault.{HttpFault}
-use Rattle.couch_http.specs.declared.fault.HttpFault.TheVariants.{Syntax, Encoding, TooLarge}
+use Rattle.couch_http.specs.declared.fault.HttpFault.TheVariants.{Syntax, Encoding, TooLarge, Memory, Closed}
 use Rattle.couch_http.specs.Message.{HeaderField, Message}
 use Rattle.couch_http.specs.Head.{HeadScan, within, complete, head_scan}
 use Rattle.couch_http.specs.Fields.{has_transfer_encoding, content_length, asks_close, path_of, query_of}
@@ -88,6 +88,14 @@ AtScan (complete lines rest) bytes front = (head : List ℕ) × (bytes ≡ head 
 -- a stream of these bytes begins so
 unfoldable pub Begins : List ℕ → Front → Type 0
 Begins bytes front = AtScan (head_scan bytes) bytes front
+
+-- the faults that a stream may have; the others are those of calls
+abbrev pub IsStreamFault : HttpFault → Type 0
+IsStreamFault Syntax = ⊤
+IsStreamFault Encoding = ⊤
+IsStreamFault TooLarge = ⊤
+IsStreamFault Memory = ⊥
+IsStreamFault Closed = ⊥
 
 -- how a stream stands after its requests
 pub data StreamEnd : Type 0 where

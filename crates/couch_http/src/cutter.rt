@@ -1,8 +1,9 @@
 use crate::cut::Cut;
+use crate::cutting::take_piece;
 use crate::fault::HttpFault;
+use crate::response::Response;
 use crate::scan::Scan;
 use crate::stage::{PartialHead, Stage};
-use crate::take::take_piece;
 use std::alloc::Global;
 use std::marker::Model;
 use std::mem;
@@ -30,8 +31,8 @@ impl Model for Cutter {
 }
 
 impl Cutter {
-    ghost use Rattle.std.specs.Prelude.{◌≡◌, ◌≢◌, ◌↔◌, [], Some, None, IfOk, IfErr, OnErr, IsErrOf};
-    ghost use Rattle.couch_http.specs.Cutting.{Answers};
+    ghost use Rattle.std.specs.Prelude.{◌≡◌, ◌≢◌, ◌↔◌, ◌≤◌, ◌+◌, [], Some, None, length, vec_capacity, vec_len, IfOk, IfErr, OnErr, IsErrOf};
+    ghost use Rattle.couch_http.specs.Cutting.{Answers, HasStreamFault};
 
     /// At the front of a stream.
     #[tactic(auto, unfolding(crate::specs::Stream::head_limit))]
@@ -54,14 +55,40 @@ impl Cutter {
     /// fault each further piece is `Closed`.
     pub fn feed(&mut self, piece: &[u8]) -> Result<Cut, HttpFault>
         ensures cut { IfOk result (λ cut. Answers self.old piece.now cut self.new) }
+        ensures fault { IfOk result (λ cut. HasStreamFault cut.ending) }
 
         // Nothing changes at a refusal. `Closed` comes exactly on an ended stream, and else memory was refused.
         ensures err { OnErr result (self.new ≡ self.old) }
         ensures closed { IsErrOf result HttpFault.Closed ↔ (self.old ≡ None) }
         ensures refused { IfErr result (λ fault. self.old ≢ None → fault ≡ HttpFault.Memory) }
     {
+        let mut room = Vec::new(self.alloc);
+        self.feed_with_room(piece, &mut room)
+    }
+
+    /// Takes the next piece as `feed` does, and makes room in `room` for a reply to each of the requests and one more.
+    ///
+    /// Once a piece is taken its replies can then be kept without a growth that might be refused.
+    #[tactic(auto, using(crate::proofs::FaultLemmas::HasStreamFault_answer))]
+    pub fn feed_with_room(
+        &mut self,
+        piece: &[u8],
+        room: &mut Vec<Response>,
+    ) -> Result<Cut, HttpFault>
+        ensures cut { IfOk result (λ cut. Answers self.old piece.now cut self.new) }
+        ensures fault { IfOk result (λ cut. HasStreamFault cut.ending) }
+
+        // Nothing changes at a refusal. `Closed` comes exactly on an ended stream, and else memory was refused.
+        ensures err { OnErr result (self.new ≡ self.old) }
+        ensures closed { IsErrOf result HttpFault.Closed ↔ (self.old ≡ None) }
+        ensures refused { IfErr result (λ fault. self.old ≢ None → fault ≡ HttpFault.Memory) }
+
+        // What the room holds stays. There is place for as many replies as there are requests, and one more.
+        ensures items { room.new.items ≡ room.old.items }
+        ensures room { IfOk result (λ cut. vec_len room.new + length cut.requests.items + 1 ≤ vec_capacity room.new) }
+    {
         let stage = mem::replace(&mut self.stage, Stage::Closed);
-        match take_piece(self.alloc, stage, piece) {
+        match take_piece(self.alloc, stage, piece, room) {
             Ok(taken) => {
                 self.stage = taken.stage;
                 Ok(taken.cut)

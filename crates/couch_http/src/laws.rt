@@ -1,6 +1,6 @@
 //! Laws of the definitions alone: each function has an empty body, and its contract is the law.
 
-ghost use Rattle.couch_http.specs.Laws.{HasOneReading, GoesOnFromRest, StaysEnded, PiecesDoNotMatter, ComesWithLastByte, HeadsAreFound};
+ghost use Rattle.couch_http.specs.Laws.{HasOneReading, GoesOnFromRest, StaysEnded, PiecesDoNotMatter, HasStreamFaults, HasOnePlaceEach, ComesWithLastByte, HeadsAreFound};
 
 /// A stream holds one list of requests, and then stands in one way.
 pub fn one_reading()
@@ -20,6 +20,16 @@ pub fn stays_ended()
 /// However a stream is cut into pieces, it gives the same requests and the same end.
 pub fn pieces_do_not_matter()
     ensures { PiecesDoNotMatter }
+{}
+
+/// A fault of a stream is `Syntax`, `Encoding` or `TooLarge`.
+pub fn has_stream_faults()
+    ensures { HasStreamFaults }
+{}
+
+/// What a stream holds has exactly one place each, that of its last byte.
+pub fn has_one_place_each()
+    ensures { HasOnePlaceEach }
 {}
 
 /// A request comes with the piece that has its last byte, and no earlier or later one.

@@ -1,9 +1,9 @@
 //! HTTP/1.1 messages out of bytes and into bytes (RFC 9112), as the server of CouchDB's API takes and gives them.
 #![tactic(auto)]
 
-mod begun;
 mod cut;
 mod cutter;
+mod cutting;
 mod fault;
 mod fields;
 mod fixed;
@@ -16,7 +16,6 @@ mod request;
 mod response;
 mod scan;
 mod stage;
-mod take;
 
 pub use cut::{Cut, Ending};
 pub use cutter::Cutter;

@@ -37,8 +37,9 @@ impl Model for Response {
 }
 
 impl Response {
-    ghost use Rattle.std.specs.Prelude.{◌≡◌, ◌≤◌, length, drop, IfOk, IfErr};
+    ghost use Rattle.std.specs.Prelude.{◌≡◌, ◌≤◌, length, drop, IfOk, IfErr, OnOk};
     ghost use Rattle.couch_json.specs.Canonical.{canonical};
+    ghost use Rattle.couch_json.specs.Lawful.{IsLawful};
     ghost use Rattle.couch_json.specs.View.{view};
     ghost use Rattle.couch_http.specs.Reply.{reply_of, fixed_reply};
 
@@ -49,6 +50,7 @@ impl Response {
     /// refusal.
     pub fn made(alloc: Global, status: u16, value: &Json, last: bool) -> Result<Response, HttpFault>
         ensures reply { IfOk result (λ reply. reply ≡ reply_of status (canonical (view value.now)) last) }
+        ensures lawful { OnOk result (IsLawful (view value.now)) }
         ensures refused { IfErr result (λ fault. fault ≡ HttpFault.Memory) }
     {
         let body = canon(alloc, value)?;

@@ -8,3 +8,4 @@ pub mod OpenCounts
 pub mod TreeDepths
 pub mod Orders
 pub mod Signs
+pub mod Paths

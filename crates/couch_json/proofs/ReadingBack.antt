@@ -1,6 +1,7 @@
 -- The canonical text of a lawful value reads as that value, and is the text of no other.
 -- serde_json's own limit on depth refuses no text that is not nested too deep.
-use Rattle.std.proofs.Common.{◌≡◌, ℕ, suc, ◌^◌, ◌<◌, ◌≤◌, ℤ, pos, negsuc, List, [], ◌∷◌, ◌++◌, true, false, Ordering, Less, Equal, Greater, Option, Some, None, option_and_then, nat_cmp, IsUtf8, refl, sym, ap, ◌∙◌, arith, lt-ltb, Ok, subst, append-nil, ◌+◌}
+use Rattle.std.proofs.Common.{◌≡◌, ℕ, suc, ◌^◌, ◌<◌, ◌≤◌, ℤ, pos, negsuc, List, [], ◌∷◌, ◌++◌, Bool, true, false, cond, Ordering, Less, Equal, Greater, Option, Some, None, option_and_then, nat_cmp, IsUtf8, refl, sym, ap, ◌∙◌, arith, lt-ltb, Result, Ok, Err, subst, append-nil, ◌+◌}
+use Rattle.std.specs.Prelude.{⊤}
 use Rattle.std.proofs.lemmas.Int.{ints}
 use Rattle.std.proofs.lemmas.Fmt.{IsAscii-signed}
 use Rattle.std.proofs.lemmas.Str.{IsUtf8-append, IsUtf8-nil, IsUtf8-from_ascii}
@@ -29,7 +30,9 @@ use Rattle.couch_json.specs.Value.{Value, null, truth, whole, text, array, objec
 use Rattle.couch_json.specs.Lawful.{IsLawful, AreLawfulItems, AreLawfulMembers}
 use Rattle.couch_json.specs.Canonical.{canonical, items_texts, members_texts}
 use Rattle.couch_json.specs.Nesting.{max_open, nests_too_deep}
-use Rattle.couch_json.specs.Reading.{value_of, items_of_data, members_of_data, whole_or_fault, value_or_fault, reading, data_read_within}
+use Rattle.couch_json.specs.Reading.{value_of, items_of_data, members_of_data, whole_or_fault, value_or_fault, data_read, reading, data_read_within}
+use Rattle.couch_json.specs.declared.fault.JsonFault.{JsonFault}
+use Rattle.couch_json.specs.declared.fault.JsonFault.TheVariants.{Depth}
 use Rattle.couch_json.specs.Written.{data_of, items_data, members_data, value_tokens}
 use Rattle.couch_json.proofs.Objects.{put_all-no_members}
 use Rattle.couch_json.proofs.OpenCounts.{passes, NoBad, nests_too_deep-tokens}
@@ -198,6 +201,29 @@ read-canonical v h shallow =
 pub reading-canonical : (v : Value) → IsLawful v → depth v ≤ max_open → reading (canonical v) ≡ Ok v
 reading-canonical v h shallow =
     rw (nests_too_deep-canonical v h shallow) (ap value_or_fault (data_read-IsUtf8 (canonical v) (IsUtf8-canonical v h) ∙ read-canonical v h shallow) ∙ ap whole_or_fault (value_of-data_of v h))
+
+abbrev value_or : Value → Result Value JsonFault → Value
+value_or v (Ok w) = w
+value_or v (Err fault) = v
+
+abbrev IsOkOf : Result Value JsonFault → Type 0
+IsOkOf (Ok w) = ⊤
+IsOkOf (Err fault) = ⊥
+
+read_shallow : (deep : Bool) (rest : Result Value JsonFault) → IsOkOf (cond deep (Err Depth) rest) → deep ≡ false
+read_shallow true rest h = absurd h
+read_shallow false rest h = refl
+
+-- what is read isn't nested too deep
+pub what_was_read : (v w : Value) → IsLawful v → reading (canonical v) ≡ Ok w → v ≡ w
+what_was_read v w h is =
+    let tree = outline (data_of v) in
+    let whole_text : tokens (canonical v) ≡ json_tokens tree ++ [] = tokens-canonical v h ∙ sym (append-nil (json_tokens tree)) in
+    let well : NoBad (tokens (canonical v)) = subst NoBad (sym (tokens-canonical v h)) (NoBad-json_tokens tree) in
+    let shallow = read_shallow (nests_too_deep (canonical v)) (value_or_fault (data_read (canonical v))) (subst IsOkOf (sym is) tt) in
+    let few : passes 0 (json_tokens tree ++ []) ≡ false = sym (ap (passes 0) whole_text) ∙ sym (nests_too_deep-tokens (canonical v) well) ∙ shallow in
+    let within = depth_within tree 0 [] few in
+    ap (value_or v) (sym (reading-canonical v h (omega (arith, within.0, depth-outline v))) ∙ is)
 
 -- ---- one text, one value
 

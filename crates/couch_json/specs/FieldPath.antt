@@ -1,6 +1,7 @@
 -- Field paths: the names in a path's text, and the value inside another that they reach.
 -- CouchDB manual, api/database/find, "Subfields", for the dots and the backslash before one; the limit of 256 bytes is ours.
-use Rattle.std.specs.Prelude.{ℕ, ◌==◌, ◌&&◌, Bool, true, false, if◌then◌else◌, List, [], ◌∷◌, ◌++◌, length, nat_le, nat_lt, Option, Some, option_and_then}
+use Rattle.std.specs.Prelude.{◌≡◌, ⊤, ℕ, ◌==◌, ◌&&◌, Bool, true, false, if◌then◌else◌, List, [], ◌∷◌, ◌++◌, length, map, nat_le, nat_lt, Option, Some, option_and_then}
+use Rattle.std.specs.List.{join_with_byte}
 use Rattle.couch_json.specs.Value.{Value, member_of}
 
 abbrev pub dot : ℕ
@@ -27,6 +28,26 @@ names_from held name (byte ∷ bytes) =
 
 abbrev pub names_in : List ℕ → List (List ℕ)
 names_in path = names_from false [] path
+
+-- a name as it stands in a path: each dot of it behind a backslash
+abbrev pub name_text : List ℕ → List ℕ
+name_text [] = []
+name_text (byte ∷ bytes) = if byte == dot then (backslash ∷ byte ∷ name_text bytes) else (byte ∷ name_text bytes)
+
+-- the names, joined by dots
+abbrev pub path_text : List (List ℕ) → List ℕ
+path_text names = join_with_byte dot (map name_text names)
+
+-- the last byte is a backslash; of no bytes, as is said
+abbrev pub ends_in_backslash : Bool → List ℕ → Bool
+ends_in_backslash ends [] = ends
+ends_in_backslash ends (byte ∷ bytes) = ends_in_backslash (byte == backslash) bytes
+
+-- at least one name, and none but the last ends in a backslash, which would stand before the dot between two
+abbrev pub CanBeJoined : List (List ℕ) → Type 0
+CanBeJoined [] = ⊥
+CanBeJoined (name ∷ []) = ⊤
+CanBeJoined (name ∷ next ∷ names) = (ends_in_backslash false name ≡ false) × CanBeJoined (next ∷ names)
 
 -- no name is empty
 abbrev pub are_filled : List (List ℕ) → Bool

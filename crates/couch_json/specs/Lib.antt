@@ -1,4 +1,5 @@
 pub mod Value
+pub mod Parts
 pub mod Range
 pub mod Lawful
 pub mod Canonical

@@ -1,10 +1,11 @@
 //! What holds of the definitions alone: each law is the contract of a function that does nothing.
-ghost use Rattle.std.specs.Prelude.{◌≡◌, ◌≤◌, ℕ, false, Some, Ok};
+ghost use Rattle.std.specs.Prelude.{◌≡◌, ◌≤◌, ℕ, List, false, Some, Ok};
 ghost use Rattle.serde_json.specs.Data.{Data};
 ghost use Rattle.serde_json.specs.Read.{read};
 ghost use Rattle.std.specs.Cmp.{IsTotalOrder};
 ghost use Rattle.couch_json.specs.Canonical.{canonical};
 ghost use Rattle.couch_json.specs.Collation.{collation};
+ghost use Rattle.couch_json.specs.FieldPath.{CanBeJoined, names_in, path_text};
 ghost use Rattle.couch_json.specs.Lawful.{IsLawful};
 ghost use Rattle.couch_json.specs.Nesting.{max_open, nests_too_deep};
 ghost use Rattle.couch_json.specs.Reading.{reading, data_read_within};
@@ -18,6 +19,11 @@ use std::cmp::Ordering;
 /// The canonical text of a lawful value at most 110 deep reads as that value.
 pub fn canonical_text_reads_back()
     ensures { (v : Value) → IsLawful v → depth v ≤ max_open → reading (canonical v) ≡ Ok v }
+{}
+
+/// What the canonical text of a lawful value reads as is that value.
+pub fn what_is_read_is_the_value()
+    ensures { (v w : Value) → IsLawful v → reading (canonical v) ≡ Ok w → v ≡ w }
 {}
 
 /// Lawful values with one canonical text are equal.
@@ -50,4 +56,15 @@ pub fn collation_is_a_total_order()
 /// Values that tie in the order are equal.
 pub fn ties_are_equal_values()
     ensures { (v w : Value) → collation v w ≡ Ordering.Equal → v ≡ w }
+{}
+
+/// A field path is its names joined by dots, each with its dots behind a backslash.
+pub fn path_is_its_names_joined_by_dots()
+    ensures { (path : List ℕ) → path_text (names_in path) ≡ path }
+{}
+
+/// Its names can be joined so, and of all names that can be there are no others of the same text.
+pub fn names_of_a_path_are_the_only_ones()
+    ensures joined { (path : List ℕ) → CanBeJoined (names_in path) }
+    ensures only { (names : List (List ℕ)) → CanBeJoined names → names_in (path_text names) ≡ names }
 {}

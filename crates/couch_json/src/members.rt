@@ -1,4 +1,6 @@
-ghost use Rattle.std.specs.Prelude.{◌≡◌, OnErr, OnOk};
+ghost use Rattle.std.specs.Prelude.{◌≡◌, OnErr, OnOk, bytes_eq, map};
+ghost use Rattle.std.specs.List.{list_any};
+ghost use Rattle.couch_json.specs.Parts.{are_named};
 ghost use Rattle.couch_json.specs.Value.{put};
 ghost use Rattle.couch_json.specs.View.{view, members_view};
 
@@ -22,4 +24,27 @@ pub fn put_member(
 {
     drop(members.insert(String::from_str(alloc, name)?, value)?);
     Ok(())
+}
+
+/// Tests whether each member has one of these names.
+pub(crate) fn are_named(members: &BTreeMap<String, Json>, names: &[&str]) -> bool
+    ensures { result ≡ are_named (map (λ name. name.now) names.now) (members_view members.now.entries) }
+{
+    for (name, _value) in members.iter() {
+        if !is_among(name.as_str(), names) {
+            return false;
+        }
+    }
+    true
+}
+
+fn is_among(name: &str, names: &[&str]) -> bool
+    ensures { result ≡ list_any (λ known. bytes_eq known name.now) (map (λ known. known.now) names.now) }
+{
+    for known in names {
+        if *known == name {
+            return true;
+        }
+    }
+    false
 }

@@ -6,7 +6,8 @@ use Rattle.std.specs.List.{starts_with, list_any}
 use Rattle.std.specs.Cmp.Lexicographic.{pointwise}
 use Rattle.std.specs.Ordering.{int_eq}
 use Rattle.couch_json.specs.FieldPath.{is_field_path}
-use Rattle.couch_json.specs.Value.{Value, truth, whole, text, array, object, Items, no_items, item, Members, no_members, member}
+use Rattle.couch_json.specs.Parts.{is_array, is_object, is_there_and, is_truth, is_whole, text_in}
+use Rattle.couch_json.specs.Value.{Value, whole, array, object, Items, no_items, item, Members, no_members, member}
 use Rattle.selector.specs.Operators.{operator_named}
 use Rattle.selector.specs.declared.fault.SelectorFault.{SelectorFault}
 use Rattle.selector.specs.declared.fault.SelectorFault.TheVariants as fault
@@ -17,28 +18,11 @@ use Rattle.selector.specs.declared.operator.ValueOperator.TheVariants.{HasType, 
 
 -- ---- what the operators take
 
-abbrev pub is_truth_value : Value → Bool
-is_truth_value (truth b) = true
-is_truth_value v = false
-
-abbrev pub is_number : Value → Bool
-is_number (whole n) = true
-is_number v = false
-
-abbrev pub is_list : Value → Bool
-is_list (array vs) = true
-is_list v = false
-
-abbrev pub is_object : Value → Bool
-is_object (object ms) = true
-is_object v = false
-
 abbrev pub type_names : List (List ℕ)
 type_names = codes "null" ∷ codes "boolean" ∷ codes "number" ∷ codes "string" ∷ codes "array" ∷ codes "object" ∷ []
 
 abbrev pub is_type_name : Value → Bool
-is_type_name (text s) = list_any (pointwise ◌==◌ s) type_names
-is_type_name v = false
+is_type_name v = is_there_and (λ s. list_any (pointwise ◌==◌ s) type_names) (text_in v)
 
 -- a divisor and a remainder
 abbrev pub division_in : Value → Option (ℤ × ℤ)
@@ -52,11 +36,11 @@ has_divisor (Some division) = not (int_eq division.0 (pos 0))
 -- the six comparisons take every value
 abbrev pub takes : ValueOperator → Value → Bool
 takes HasType v = is_type_name v
-takes IsIn v = is_list v
-takes IsNotIn v = is_list v
-takes HasSize v = is_number v
+takes IsIn v = is_array v
+takes IsNotIn v = is_array v
+takes HasSize v = is_whole v
 takes HasRemainder v = has_divisor (division_in v)
-takes HasAll v = is_list v
+takes HasAll v = is_array v
 takes o v = true
 
 -- ---- the first fault
@@ -81,7 +65,7 @@ field_fault name v as_selector =
 
 -- a member, whose value has the fault `as_selector` where it is read as a selector, and `as_list` as a list of selectors
 abbrev pub member_fault : Option Operator → List ℕ → Value → Option SelectorFault → Option SelectorFault → Option SelectorFault
-member_fault (Some operator.Exists) name v as_selector as_list = unless (is_truth_value v) fault.Argument
+member_fault (Some operator.Exists) name v as_selector as_list = unless (is_truth v) fault.Argument
 member_fault (Some (operator.Value o)) name v as_selector as_list = unless (takes o v) fault.Argument
 member_fault (Some (operator.Selector o)) name v as_selector as_list = as_selector
 member_fault (Some (operator.List o)) name v as_selector as_list = as_list

@@ -7,8 +7,9 @@ use Rattle.std.specs.Cmp.Lexicographic.{pointwise}
 use Rattle.std.specs.Ordering.{is_eq, is_ne, is_lt, is_le, is_gt, is_ge, int_eq}
 use Rattle.couch_json.specs.Collation.{collation}
 use Rattle.couch_json.specs.FieldPath.{value_at}
+use Rattle.couch_json.specs.Parts.{is_object, is_there_and, items_in, items_or_none, text_in}
 use Rattle.couch_json.specs.Value.{Value, null, truth, whole, text, array, object, Items, no_items, item, Members, no_members, member}
-use Rattle.selector.specs.Grammar.{is_object, division_in}
+use Rattle.selector.specs.Grammar.{division_in}
 use Rattle.selector.specs.Operators.{operator_named}
 use Rattle.selector.specs.declared.operator.Operator.{Operator}
 use Rattle.selector.specs.declared.operator.Operator.TheVariants as operator
@@ -30,8 +31,7 @@ type_name (array vs) = codes "array"
 type_name (object ms) = codes "object"
 
 abbrev pub has_type : Value → Value → Bool
-has_type (text s) v = pointwise ◌==◌ (type_name v) s
-has_type argument v = false
+has_type argument v = is_there_and (λ s. pointwise ◌==◌ (type_name v) s) (text_in argument)
 
 abbrev pub some_item : (Value → Bool) → Items → Bool
 some_item test no_items = false
@@ -43,8 +43,7 @@ each_item test (item v vs) = test v && each_item test vs
 
 -- the elements of a list, and none where it is no list
 abbrev pub elements : Value → Items
-elements (array vs) = vs
-elements v = no_items
+elements v = items_or_none (items_in v)
 
 abbrev pub is_among : Value → Items → Bool
 is_among v vs = some_item (λ w. is_eq (collation v w)) vs
@@ -82,10 +81,6 @@ meets HasRemainder argument v = has_remainder (division_in argument) v
 meets HasAll argument v = each_of_some (λ w. is_among w (elements v)) (elements argument)
 
 -- ---- the truth of a selector
-
-abbrev pub is_there_and : (Value → Bool) → Option Value → Bool
-is_there_and test None = false
-is_there_and test (Some v) = test v
 
 -- "the value is there" equals the argument
 abbrev pub exists_as : Value → Option Value → Bool
@@ -133,3 +128,7 @@ abbrev mutual
   pub item_truths : Items → Option Value → List Bool
   item_truths no_items current = []
   item_truths (item v vs) current = is_true v current ∷ item_truths vs current
+
+-- this selector is true of this value: the word for whoever uses selectors
+unfoldable pub selector_matches : Value → Value → Bool
+selector_matches selector v = is_true selector (Some v)

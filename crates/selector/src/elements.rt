@@ -10,9 +10,9 @@ use couch_json::{Json, collate};
 pub(crate) fn elements(value: &Json) -> &[Json]
     ensures { items_view result.now ≡ elements (view value.now) }
 {
-    match value {
-        Json::Array(items) => items.as_slice(),
-        _ => &[],
+    match value.items() {
+        Some(items) => items,
+        None => &[],
     }
 }
 

@@ -1,10 +1,10 @@
 ghost use Rattle.std.specs.Prelude.{◌≡◌, Some, true, option_map, option_and_then};
 ghost use Rattle.std.specs.List.{list_all, list_any};
 ghost use Rattle.couch_json.specs.FieldPath.{value_at};
+ghost use Rattle.couch_json.specs.Parts.{is_object, is_there_and};
 ghost use Rattle.couch_json.specs.View.{view, items_of, items_view};
-ghost use Rattle.selector.specs.Grammar.{is_object};
 ghost use Rattle.selector.specs.Operators.{operator_named};
-ghost use Rattle.selector.specs.Truth.{is_true, truths, item_truths, member_truth, some_item, each_item, each_of_some, is_there_and, meets};
+ghost use Rattle.selector.specs.Truth.{is_true, truths, item_truths, member_truth, some_item, each_item, each_of_some, meets};
 ghost use Rattle.selector.specs.View.{name_of, value_of};
 
 use crate::elements::elements;

@@ -31,9 +31,9 @@ pub(crate) fn meets(operator: ValueOperator, argument: &Json, value: &Json) -> b
 fn has_type(argument: &Json, value: &Json) -> bool
     ensures { result ≡ has_type (view argument.now) (view value.now) }
 {
-    match argument {
-        Json::Text(name) => type_name(value) == name.as_str(),
-        _ => false,
+    match argument.text() {
+        Some(name) => type_name(value) == name,
+        None => false,
     }
 }
 

@@ -1,6 +1,6 @@
 ghost use Rattle.std.specs.Prelude.{◌≡◌, None, false};
+ghost use Rattle.couch_json.specs.Parts.{is_object};
 ghost use Rattle.couch_json.specs.View.{view};
-ghost use Rattle.selector.specs.Grammar.{is_object};
 ghost use Rattle.selector.specs.Operators.{operator_named};
 
 use crate::fault::SelectorFault;
@@ -63,9 +63,9 @@ impl Model for Selector {
 impl Selector {
     ghost use Rattle.std.specs.Prelude.{◌≢◌, IfOk, IfErr, Some};
     ghost use Rattle.selector.specs.Grammar.{first_fault};
-    ghost use Rattle.selector.specs.Truth.{is_true};
+    ghost use Rattle.selector.specs.Truth.{selector_matches};
 
-    /// The selector that a value is, or the fault that stands first in its canonical text:
+    /// Parses the selector that a value is, or answers the fault that stands first in its canonical text:
     ///
     /// - `Operator` at a name that begins with `$` and is no operator;
     /// - `Argument` at the innermost value that is not what its operator takes, or at a name that
@@ -82,9 +82,10 @@ impl Selector {
         parse_selector(alloc, value, 1)
     }
 
-    /// Whether the selector is true of the value. It takes no memory.
+    /// Tests whether the selector is true of the value. It takes no memory.
+    #[tactic(auto, unfolding(crate::specs::Truth::selector_matches))]
     pub fn matches(&self, value: &Json) -> bool
-        ensures { result ≡ is_true self.now (Some (view value.now)) }
+        ensures { result ≡ selector_matches self.now (view value.now) }
     {
         is_true(self, Some(value))
     }

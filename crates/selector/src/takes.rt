@@ -28,13 +28,10 @@ pub(crate) fn takes(operator: ValueOperator, value: &Json) -> bool
 fn is_type_name(value: &Json) -> bool
     ensures { result ≡ is_type_name (view value.now) }
 {
-    let Json::Text(text) = value else {
-        return false;
-    };
-    matches!(
-        text.as_str(),
-        "null" | "boolean" | "number" | "string" | "array" | "object"
-    )
+    match value.text() {
+        Some("null" | "boolean" | "number" | "string" | "array" | "object") => true,
+        _ => false,
+    }
 }
 
 /// The divisor and the remainder of a list that is just these.

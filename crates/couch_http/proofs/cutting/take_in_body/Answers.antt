@@ -1,7 +1,7 @@
 use Rattle.std.proofs.Common.{◌≡◌, ◌≤◌, ◌++◌, ◌-◌, length, take, drop, rules, arith, append_assoc}
 use Rattle.couch_http.specs.Message.{message_of}
 use Rattle.couch_http.proofs.BeginLemmas.{with_body-done}
-use Rattle.couch_http.proofs.take.take_in_body.Goals as goal
+use Rattle.couch_http.proofs.cutting.take_in_body.Goals as goal
 
 pub returns-in-Ok-cut_after-clause-ok : goal.returns-in-Ok-cut_after-clause-ok
 returns-in-Ok-cut_after-clause-ok c =

@@ -1,6 +1,6 @@
 use Rattle.std.proofs.Common.{sym}
 use Rattle.couch_http.proofs.BeginLemmas.{Begins-large, Begins-read}
-use Rattle.couch_http.proofs.begun.after_head.Goals as goal
+use Rattle.couch_http.proofs.cutting.after_head.Goals as goal
 
 pub returns-then-is_too_large : goal.returns-then-is_too_large
 returns-then-is_too_large c =

@@ -6,7 +6,7 @@ use Rattle.couch_http.specs.Stream.{head_limit}
 use Rattle.couch_http.specs.Stages.{IsTaken}
 use Rattle.couch_http.proofs.ScanLemmas.{scan-append_within}
 use Rattle.couch_http.proofs.BeginLemmas.{Begins-waits, Begins-long, head_ends}
-use Rattle.couch_http.proofs.take.take_in_head.Goals as goal
+use Rattle.couch_http.proofs.cutting.take_in_head.Goals as goal
 
 pub returns-then-not-may_go_on-clause-ok : goal.returns-then-not-may_go_on-clause-ok
 returns-then-not-may_go_on-clause-ok c =
@@ -52,4 +52,4 @@ returns-in-Ok-clause-ok c =
     let len = c.in-Complete.field-0.len in
     let all : take (c.len-had.result + len) c.deref.result.now ++ take (length piece - len) (drop len piece) ≡ old ++ piece =
     cc (ends.joined, take_rest piece len) in
-    subst (λ (bytes : List ℕ). IsTaken bytes c.in-Ok.taken) all c.in-Ok.ensures
+    subst (λ (bytes : List ℕ). IsTaken bytes c.in-Ok.taken) all c.in-Ok.ensures.taken

@@ -2,7 +2,7 @@ use Rattle.std.proofs.Common.{refl, [], append-nil}
 use Rattle.couch_http.specs.Message.{message_of}
 use Rattle.couch_http.specs.Stream.{unfinished, faulty}
 use Rattle.couch_http.proofs.BeginLemmas.{Begins_shorter}
-use Rattle.couch_http.proofs.begun.cut_all.Goals as goal
+use Rattle.couch_http.proofs.cutting.cut_all.Goals as goal
 
 pub returns-in-Waits : goal.returns-in-Waits
 returns-in-Waits c =

@@ -1,7 +1,7 @@
 use Rattle.std.proofs.Common.{rules, Some, sym, ap}
 use Rattle.std.proofs.lemmas.Bool.Decides.{nat_tests}
 use Rattle.couch_http.proofs.BeginLemmas.{Begins-waits, Begins-long, head_scan-take}
-use Rattle.couch_http.proofs.begun.begin.Goals as goal
+use Rattle.couch_http.proofs.cutting.begin.Goals as goal
 
 pub returns-then-not-may_go_on : goal.returns-then-not-may_go_on
 returns-then-not-may_go_on c =
