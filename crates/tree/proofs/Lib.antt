@@ -10,3 +10,4 @@ pub mod MadeRevision
 pub mod RevisionText
 pub mod Revisions
 pub mod Shown
+pub mod SortedEntries

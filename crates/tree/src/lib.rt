@@ -10,6 +10,7 @@ mod next_revision;
 mod nodes;
 mod placement;
 mod revision;
+mod shown_document;
 #[cfg(test)]
 mod tests;
 
@@ -19,3 +20,4 @@ pub use history::History;
 pub use next_revision::{RevFault, next_rev};
 pub use placement::{Placed, TreeFault};
 pub use revision::Rev;
+pub use shown_document::{show, show_members};
