@@ -1,5 +1,5 @@
 -- The rows of a plain store beside those of its contents.
-use Rattle.std.proofs.Common.{◌≡◌, ℕ, suc, ◌+◌, ◌≤◌, ◌<◌, ◌^◌, List, [], ◌∷◌, ◌++◌, length, map, filter, min, drop, reverse, nat_lt, subst, IfSome, Bool, true, false, cond, Ordering, Option, Some, None, option_map, nat_cmp, refl, sym, ap, ap₂, ◌∙◌, arith}
+use Rattle.std.proofs.Common.{◌≡◌, ℕ, suc, ◌+◌, ◌≤◌, ◌<◌, ◌^◌, List, [], ◌∷◌, ◌++◌, length, map, filter, min, drop, reverse, nat_lt, subst, IfSome, is_some, Bool, true, false, cond, Ordering, Option, Some, None, option_map, nat_cmp, refl, sym, ap, ap₂, ◌∙◌, arith}
 use Rattle.std.proofs.lemmas.Bool.Decides.{nat_tests}
 use Rattle.std.proofs.lemmas.Cmp.{nat_list_cmp_total}
 use Rattle.std.proofs.lemmas.List.{drop_min, length-reverse, map-append, take-map}
@@ -203,3 +203,7 @@ pub counts_below : (n : ℕ) (counts : Option DocumentCounts) → IfSome counts 
     → IfSome counts (λ c. (c.documents < 2 ^ 63) × (c.deleted < 2 ^ 63))
 counts_below n None h lt = tt
 counts_below n (Some c) h lt = (omega (arith, h.0, lt), omega (arith, h.1, lt))
+
+pub is_counted : {A : Type 0} (b : Bool) (counts : A) → is_some (if_counted b counts) ≡ b
+is_counted true counts = refl
+is_counted false counts = refl

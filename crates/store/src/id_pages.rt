@@ -20,7 +20,7 @@ use tree::{DocId, History, Rev};
 /// The rows that the writes made, by id, cut by the range.
 pub(crate) fn page_by_id(alloc: Global, writes: &Vec<Write>, range: &IdRange) -> Got<PageById>
     ensures page { IfOk result (λ page. id_page_of page ≡ id_page range.now (live_rows_lem (gathered_after 0 [] (writings writes.now.items)))) }
-    ensures counted { IfOk result IsCounted }
+    ensures counted { IfOk result (IsCounted range.now) }
 {
     let documents = documents_of(alloc, writes)?;
     let rows = live_rows(alloc, &documents)?;

@@ -22,7 +22,7 @@ use tree::{DocId, History, Rev};
 /// The rows that the writes made, in the order of their sequences, cut by the range.
 pub(crate) fn page_by_seq(alloc: Global, writes: &Vec<Write>, range: &SeqRange) -> Got<PageBySeq>
     ensures page { IfOk result (λ page. sequence_page_of page ≡ page_with range.now (length writes.now.items) (gathered_after 0 [] (writings writes.now.items))) }
-    ensures bounded { IfOk result IsBounded }
+    ensures bounded { IfOk result (IsBounded range.now) }
 {
     let documents = documents_of(alloc, writes)?;
     let rows = rows_of(alloc, &documents, range.all_leaves)?;

@@ -94,7 +94,7 @@ pub trait Store {
     fn page_by_id(&mut self, name: &DbName, range: &IdRange) -> Result<PageById, StoreFault>
         ensures answer { Answers is_honest fault_count self.old self.new id_page_of
             (option_map (λ db. page_by_id_lem range.now db) (map.get (contents self.old) name.now)) result }
-        ensures counted { IfOk result IsCounted }
+        ensures counted { IfOk result (IsCounted range.now) }
         ensures reads { OnlyReads contents is_honest is_clean fault_count lacks_room lacks_number self.old self.new };
 
     /// The documents of a database, each once at the sequence of its latest write, ascending and cut
@@ -103,7 +103,7 @@ pub trait Store {
     fn page_by_seq(&mut self, name: &DbName, range: &SeqRange) -> Result<PageBySeq, StoreFault>
         ensures answer { Answers is_honest fault_count self.old self.new sequence_page_of
             (option_map (λ db. page_by_sequence range.now db) (map.get (contents self.old) name.now)) result }
-        ensures bounded { IfOk result IsBounded }
+        ensures bounded { IfOk result (IsBounded range.now) }
         ensures reads { OnlyReads contents is_honest is_clean fault_count lacks_room lacks_number self.old self.new };
 
     /// Appends all the writes to a database, or none of them. `NoDatabase` comes exactly where there

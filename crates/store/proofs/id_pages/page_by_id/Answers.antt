@@ -1,6 +1,6 @@
-use Rattle.std.proofs.Common.{◌≡◌, ◌+◌, ◌<◌, ◌≤◌, filter, length, min, ap, ◌∙◌, rules, arith}
+use Rattle.std.proofs.Common.{◌≡◌, ◌+◌, ◌<◌, ◌≤◌, filter, length, min, is_some, ap, ◌∙◌, rules, arith}
 use Rattle.store.specs.Pages.{is_within, limited, live_rows}
-use Rattle.store.proofs.Pagings.{counted_within, counts_fit, id_page_made, smaller}
+use Rattle.store.proofs.Pagings.{counted_within, counts_fit, id_page_made, is_counted, smaller}
 use Rattle.store.proofs.id_pages.page_by_id.Goals as goal
 
 pub returns-clause-page : goal.returns-clause-page
@@ -26,4 +26,7 @@ returns-clause-counted c =
     let total : c.len-total.result ≡ length c.in_ok-rows.rows.items = search rules in
     let fits : c.len-total.result < 9223372036854775808 = search rules in
     let within : c.count_before-before.result + c.min-skipped.result ≤ c.len-total.result = omega (arith, counted_within range rows, c.count_before-before.ensures.count, least, count, ap length made, total) in
-    counts_fit range.counted c.counts_if.result (c.count_before-before.result + c.min-skipped.result) c.len-total.result c.counts_if.ensures within fits
+    record {
+      counted = ap is_some c.counts_if.ensures ∙ is_counted range.counted _;
+      counts = counts_fit range.counted c.counts_if.result (c.count_before-before.result + c.min-skipped.result) c.len-total.result c.counts_if.ensures within fits;
+    }

@@ -1,11 +1,11 @@
-use Rattle.std.proofs.Common.{◌≡◌, ◌<◌, [], filter, length, nat_lt, sym, ap, ◌∙◌, rules, arith}
+use Rattle.std.proofs.Common.{◌≡◌, ◌<◌, [], filter, length, nat_lt, is_some, sym, ap, ◌∙◌, rules, arith}
 use Rattle.couch_json.specs.Value.{null}
 use Rattle.store.specs.Pages.{document_counts, if_counted, last_sequence, limited, page_with, rows_of}
 use Rattle.store.specs.Paging.{sequence_rows}
 use Rattle.store.specs.Plain.{gathered_after}
 use Rattle.store.specs.Writing.{writings}
 use Rattle.store.proofs.Bounds.{page_bounded}
-use Rattle.store.proofs.Pagings.{counts_below, page_made, smaller}
+use Rattle.store.proofs.Pagings.{counts_below, is_counted, page_made, smaller}
 use Rattle.store.proofs.pages.page_by_seq.Goals as goal
 
 pub returns-clause-page : goal.returns-clause-page
@@ -34,5 +34,6 @@ returns-clause-bounded c =
       sequence = omega (arith, n, lt);
       last = omega (arith, h.0, lt);
       rows = λ k d i. omega (arith, h.1 k d i, lt);
+      counted = ap is_some c.counts_of.ensures.counts ∙ is_counted c.args.range.now.counted _;
       counts = counts_below (length c.in_ok-documents.documents.items) c.counts_of.result c.counts_of.ensures.within fewer;
     }
