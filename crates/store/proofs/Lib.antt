@@ -9,3 +9,4 @@ pub mod Rows
 pub mod Pagings
 pub mod Lawfuls
 pub mod Bounds
+pub mod Calls
