@@ -7,8 +7,6 @@ mod information;
 mod open_revisions;
 mod path;
 mod shown;
-#[cfg(test)]
-mod tests;
 
 pub use document::get;
 pub use fault::ReadFault;

@@ -13,8 +13,6 @@ pub mod laws;
 mod planned;
 mod replicating;
 mod securing;
-#[cfg(test)]
-mod tests;
 
 pub use applying::apply;
 pub use bulk_writes::{BulkPlan, BulkResult, bulk};
