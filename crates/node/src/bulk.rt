@@ -1,15 +1,16 @@
 //! The page on which several documents are written together (CouchDB manual, api/database/bulk-api).
 
-ghost use Rattle.std.specs.Prelude.{◌≡◌, ◌≢◌, ◌≤◌, IfOk, IfErr, Ok, Err, Some, None, is_some, true, option_map, map as list_map, codes};
+ghost use Rattle.std.specs.Prelude.{◌≡◌, ◌≢◌, IfOk, IfErr, Ok, Err, Some, None, is_some, true, option_map, map as list_map, codes};
 ghost use Rattle.std.specs.FinMap as map;
 ghost use Rattle.couch_http.specs.Message.{message_of};
 ghost use Rattle.couch_json.specs.Value.{member_at, member_of};
 ghost use Rattle.couch_json.specs.View.{members_view, view};
+ghost use Rattle.store.specs.Calls.{OnlyReads};
 ghost use Rattle.node.specs.Answer.{bulk_written, documents_written};
 ghost use Rattle.node.specs.Answered.{MayChange, outcome_of};
 ghost use Rattle.node.specs.Bulk.{are_bulk_members, bulk_in, documents_in, documents_of, has_bulk_members, is_bulk_member, new_edits_in};
 ghost use Rattle.node.specs.BulkAsked.{bulk_asked};
-ghost use Rattle.node.specs.Causes.{IsCaused};
+ghost use Rattle.node.specs.Causes.{Ends};
 
 use crate::answered::{Answered, Change};
 use crate::asking::{body, without_parameters};
@@ -23,7 +24,7 @@ use couch_json::Json;
 use policy::Action;
 use std::alloc::Global;
 use std::collections::BTreeMap;
-use store::{DbName, Store, StoreFault};
+use store::{DbName, Store};
 use write::{WriteFault, bulk};
 
 /// Documents that are to be written together.
@@ -47,10 +48,8 @@ pub(crate) fn write_documents<S: Store>(
     ensures refused { S.is_honest store.new → (refusal : _) → result ≡ Err (Stop.Refused refusal)
         → documents_written caller.now (S.contents store.old) (message_of request.now) ≡ Err refusal }
     ensures may { S.is_honest store.new → IfOk result (λ answered. MayChange (S.contents store.old) answered.change) }
-    ensures same { S.is_honest store.new → S.contents store.new ≡ S.contents store.old }
-    ensures caused { S.is_honest store.new → IfErr result (λ stop. IsCaused (S.fault_count store.old) (S.fault_count store.new) (S.is_damaged store.old) ⊥ stop) }
-    ensures kept { S.is_honest store.new → (S.is_damaged store.new → S.is_damaged store.old) × ((n : _) → S.lacks_room store.new n → S.lacks_room store.old n) }
-    ensures onward { (S.fault_count store.old ≤ S.fault_count store.new) × (S.is_honest store.new → S.is_honest store.old) }
+    ensures ends { IfErr result (Ends S.Store store.old store.new) }
+    ensures reads { OnlyReads S.Store store.old store.new }
 {
     let name = entered(alloc, store, Action::WriteDocument, caller, &request.path)?;
     without_parameters(request)?;
@@ -153,7 +152,7 @@ fn list_of(value: Json) -> Option<Vec<Json>>
 }
 
 /// What the documents come to.
-#[tactic(auto, using(crate::proofs::Faults::cause_of, crate::proofs::Changed::writes_made))]
+#[tactic(auto, using(crate::proofs::Changed::writes_made))]
 fn written<S: Store>(
     alloc: Global,
     store: &mut S,
@@ -166,18 +165,14 @@ fn written<S: Store>(
     ensures refused { S.is_honest store.new → (refusal : _) → result ≡ Err (Stop.Refused refusal)
         → bulk_written (S.contents store.old) name.now (bulk_asked asked) (map.get (S.contents store.old) name.now) ≡ Err refusal }
     ensures may { S.is_honest store.new → IfOk result (λ answered. MayChange (S.contents store.old) answered.change) }
-    ensures same { S.is_honest store.new → S.contents store.new ≡ S.contents store.old }
-    ensures caused { S.is_honest store.new → IfErr result (λ stop. IsCaused (S.fault_count store.old) (S.fault_count store.new) (S.is_damaged store.old) ⊥ stop) }
-    ensures kept { S.is_honest store.new → (S.is_damaged store.new → S.is_damaged store.old) × ((n : _) → S.lacks_room store.new n → S.lacks_room store.old n) }
-    ensures onward { (S.fault_count store.old ≤ S.fault_count store.new) × (S.is_honest store.new → S.is_honest store.old) }
+    ensures ends { IfErr result (Ends S.Store store.old store.new) }
+    ensures reads { OnlyReads S.Store store.old store.new }
 {
     let plan = match bulk(alloc, store, name, asked.documents, asked.new_edits) {
         Ok(plan) => plan,
-        Err(WriteFault::Store(StoreFault::NoDatabase)) => {
-            return Err(Stop::Refused(Refusal::NoDatabase));
-        }
-        Err(WriteFault::Store(_)) => return Err(Stop::Failed),
-        Err(_) => return Err(Stop::NoRoom),
+        Err(WriteFault::Store(fault)) => return Err(Stop::from(fault)),
+        Err(WriteFault::Memory) => return Err(Stop::NoRoom),
+        Err(_) => unreachable!(),
     };
     let value = bulk_reply(alloc, asked.new_edits, &plan.results)?;
     Ok(Answered {

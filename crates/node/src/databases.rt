@@ -1,13 +1,14 @@
 //! The pages of databases as such: `/_all_dbs` and `/{db}` (CouchDB manual, api/server/common and api/database/common).
 
-ghost use Rattle.std.specs.Prelude.{◌≡◌, ◌≢◌, ◌≤◌, IfOk, IfErr, OnOk, Ok, Err, None, Some, is_some, map as list_map};
+ghost use Rattle.std.specs.Prelude.{◌≡◌, ◌≢◌, IfOk, IfErr, OnOk, Ok, Err, None, Some, is_some, map as list_map};
 ghost use Rattle.std.specs.FinMap as map;
 ghost use Rattle.couch_http.specs.Message.{message_of};
 ghost use Rattle.couch_json.specs.Value.{array, text};
 ghost use Rattle.couch_json.specs.View.{items_of, view};
+ghost use Rattle.store.specs.Calls.{OnlyReads};
 ghost use Rattle.node.specs.Answer.{administering, created, database_created, database_read, database_removed, databases_listed, described, done, removed};
 ghost use Rattle.node.specs.Answered.{MayChange, outcome_of};
-ghost use Rattle.node.specs.Causes.{IsCaused};
+ghost use Rattle.node.specs.Causes.{Ends};
 
 use crate::answered::{Answered, Change};
 use crate::asking::{denied, without_parameters};
@@ -19,7 +20,7 @@ use auth::Caller;
 use couch_http::Request;
 use couch_json::{Got, Json, put_member};
 use policy::{Action, Security, refusal};
-use read::{ReadFault, info};
+use read::info;
 use std::alloc::Global;
 use std::collections::BTreeMap;
 use store::{DbName, Store, StoreFault};
@@ -36,10 +37,8 @@ pub(crate) fn list_databases<S: Store>(
     ensures refused { S.is_honest store.new → (refusal : _) → result ≡ Err (Stop.Refused refusal)
         → databases_listed caller.now (S.contents store.old) (message_of request.now) ≡ Err refusal }
     ensures may { S.is_honest store.new → IfOk result (λ answered. MayChange (S.contents store.old) answered.change) }
-    ensures same { S.is_honest store.new → S.contents store.new ≡ S.contents store.old }
-    ensures caused { S.is_honest store.new → IfErr result (λ stop. IsCaused (S.fault_count store.old) (S.fault_count store.new) (S.is_damaged store.old) ⊥ stop) }
-    ensures kept { S.is_honest store.new → (S.is_damaged store.new → S.is_damaged store.old) × ((n : _) → S.lacks_room store.new n → S.lacks_room store.old n) }
-    ensures onward { (S.fault_count store.old ≤ S.fault_count store.new) × (S.is_honest store.new → S.is_honest store.old) }
+    ensures ends { IfErr result (Ends S.Store store.old store.new) }
+    ensures reads { OnlyReads S.Store store.old store.new }
 {
     administering(alloc, caller)?;
     without_parameters(request)?;
@@ -64,10 +63,8 @@ pub(crate) fn read_database<S: Store>(
     ensures refused { S.is_honest store.new → (refusal : _) → result ≡ Err (Stop.Refused refusal)
         → database_read caller.now (S.contents store.old) (message_of request.now) ≡ Err refusal }
     ensures may { S.is_honest store.new → IfOk result (λ answered. MayChange (S.contents store.old) answered.change) }
-    ensures same { S.is_honest store.new → S.contents store.new ≡ S.contents store.old }
-    ensures caused { S.is_honest store.new → IfErr result (λ stop. IsCaused (S.fault_count store.old) (S.fault_count store.new) (S.is_damaged store.old) ⊥ stop) }
-    ensures kept { S.is_honest store.new → (S.is_damaged store.new → S.is_damaged store.old) × ((n : _) → S.lacks_room store.new n → S.lacks_room store.old n) }
-    ensures onward { (S.fault_count store.old ≤ S.fault_count store.new) × (S.is_honest store.new → S.is_honest store.old) }
+    ensures ends { IfErr result (Ends S.Store store.old store.new) }
+    ensures reads { OnlyReads S.Store store.old store.new }
 {
     let name = entered(alloc, store, Action::Read, caller, &request.path)?;
     without_parameters(request)?;
@@ -75,29 +72,21 @@ pub(crate) fn read_database<S: Store>(
 }
 
 /// What the database of this name says of itself.
-#[tactic(auto, using(crate::proofs::Faults::cause_of))]
 fn described<S: Store>(alloc: Global, store: &mut S, name: &DbName) -> Result<Answered, Stop>
     ensures ok { S.is_honest store.new → IfOk result (λ answered.
         described (S.contents store.old) name.now (map.get (S.contents store.old) name.now) ≡ Ok (outcome_of (S.contents store.old) answered)) }
     ensures refused { S.is_honest store.new → (refusal : _) → result ≡ Err (Stop.Refused refusal)
         → described (S.contents store.old) name.now (map.get (S.contents store.old) name.now) ≡ Err refusal }
     ensures may { S.is_honest store.new → IfOk result (λ answered. MayChange (S.contents store.old) answered.change) }
-    ensures same { S.is_honest store.new → S.contents store.new ≡ S.contents store.old }
-    ensures caused { S.is_honest store.new → IfErr result (λ stop. IsCaused (S.fault_count store.old) (S.fault_count store.new) (S.is_damaged store.old) ⊥ stop) }
-    ensures kept { S.is_honest store.new → (S.is_damaged store.new → S.is_damaged store.old) × ((n : _) → S.lacks_room store.new n → S.lacks_room store.old n) }
-    ensures onward { (S.fault_count store.old ≤ S.fault_count store.new) × (S.is_honest store.new → S.is_honest store.old) }
+    ensures ends { IfErr result (Ends S.Store store.old store.new) }
+    ensures reads { OnlyReads S.Store store.old store.new }
 {
-    match info(alloc, store, name) {
-        Ok(value) => Ok(Answered {
-            status: 200,
-            value,
-            change: None,
-        }),
-        Err(ReadFault::Memory) => Err(Stop::NoRoom),
-        Err(ReadFault::Store(StoreFault::NoDatabase)) => Err(Stop::Refused(Refusal::NoDatabase)),
-        Err(ReadFault::Store(_)) => Err(Stop::Failed),
-        Err(_) => Err(Stop::NoRoom),
-    }
+    let value = info(alloc, store, name)?;
+    Ok(Answered {
+        status: 200,
+        value,
+        change: None,
+    })
 }
 
 /// Creates a database, but for the change of the store itself.
@@ -112,10 +101,8 @@ pub(crate) fn create_database<S: Store>(
     ensures refused { S.is_honest store.new → (refusal : _) → result ≡ Err (Stop.Refused refusal)
         → database_created caller.now (S.contents store.old) (message_of request.now) ≡ Err refusal }
     ensures may { S.is_honest store.new → IfOk result (λ answered. MayChange (S.contents store.old) answered.change) }
-    ensures same { S.is_honest store.new → S.contents store.new ≡ S.contents store.old }
-    ensures caused { S.is_honest store.new → IfErr result (λ stop. IsCaused (S.fault_count store.old) (S.fault_count store.new) (S.is_damaged store.old) ⊥ stop) }
-    ensures kept { S.is_honest store.new → (S.is_damaged store.new → S.is_damaged store.old) × ((n : _) → S.lacks_room store.new n → S.lacks_room store.old n) }
-    ensures onward { (S.fault_count store.old ≤ S.fault_count store.new) × (S.is_honest store.new → S.is_honest store.old) }
+    ensures ends { IfErr result (Ends S.Store store.old store.new) }
+    ensures reads { OnlyReads S.Store store.old store.new }
 {
     let name = database_name(alloc, &request.path)?;
     administering(alloc, caller)?;
@@ -134,10 +121,8 @@ pub(crate) fn remove_database<S: Store>(
     ensures refused { S.is_honest store.new → (refusal : _) → result ≡ Err (Stop.Refused refusal)
         → database_removed caller.now (S.contents store.old) (message_of request.now) ≡ Err refusal }
     ensures may { S.is_honest store.new → IfOk result (λ answered. MayChange (S.contents store.old) answered.change) }
-    ensures same { S.is_honest store.new → S.contents store.new ≡ S.contents store.old }
-    ensures caused { S.is_honest store.new → IfErr result (λ stop. IsCaused (S.fault_count store.old) (S.fault_count store.new) (S.is_damaged store.old) ⊥ stop) }
-    ensures kept { S.is_honest store.new → (S.is_damaged store.new → S.is_damaged store.old) × ((n : _) → S.lacks_room store.new n → S.lacks_room store.old n) }
-    ensures onward { (S.fault_count store.old ≤ S.fault_count store.new) × (S.is_honest store.new → S.is_honest store.old) }
+    ensures ends { IfErr result (Ends S.Store store.old store.new) }
+    ensures reads { OnlyReads S.Store store.old store.new }
 {
     let name = database_name(alloc, &request.path)?;
     administering(alloc, caller)?;
@@ -169,10 +154,8 @@ fn created<S: Store>(
     ensures refused { S.is_honest store.new → (refusal : _) → result ≡ Err (Stop.Refused refusal)
         → created (S.contents store.old) name (message_of request.now) ≡ Err refusal }
     ensures may { S.is_honest store.new → IfOk result (λ answered. MayChange (S.contents store.old) answered.change) }
-    ensures same { S.is_honest store.new → S.contents store.new ≡ S.contents store.old }
-    ensures caused { S.is_honest store.new → IfErr result (λ stop. IsCaused (S.fault_count store.old) (S.fault_count store.new) (S.is_damaged store.old) ⊥ stop) }
-    ensures kept { S.is_honest store.new → (S.is_damaged store.new → S.is_damaged store.old) × ((n : _) → S.lacks_room store.new n → S.lacks_room store.old n) }
-    ensures onward { (S.fault_count store.old ≤ S.fault_count store.new) × (S.is_honest store.new → S.is_honest store.old) }
+    ensures ends { IfErr result (Ends S.Store store.old store.new) }
+    ensures reads { OnlyReads S.Store store.old store.new }
 {
     if is_there(store, &name)? {
         return Err(Stop::Refused(Refusal::Exists));
@@ -198,10 +181,8 @@ fn removed<S: Store>(
     ensures refused { S.is_honest store.new → (refusal : _) → result ≡ Err (Stop.Refused refusal)
         → removed (S.contents store.old) name (message_of request.now) ≡ Err refusal }
     ensures may { S.is_honest store.new → IfOk result (λ answered. MayChange (S.contents store.old) answered.change) }
-    ensures same { S.is_honest store.new → S.contents store.new ≡ S.contents store.old }
-    ensures caused { S.is_honest store.new → IfErr result (λ stop. IsCaused (S.fault_count store.old) (S.fault_count store.new) (S.is_damaged store.old) ⊥ stop) }
-    ensures kept { S.is_honest store.new → (S.is_damaged store.new → S.is_damaged store.old) × ((n : _) → S.lacks_room store.new n → S.lacks_room store.old n) }
-    ensures onward { (S.fault_count store.old ≤ S.fault_count store.new) × (S.is_honest store.new → S.is_honest store.old) }
+    ensures ends { IfErr result (Ends S.Store store.old store.new) }
+    ensures reads { OnlyReads S.Store store.old store.new }
 {
     if !is_there(store, &name)? {
         return Err(Stop::Refused(Refusal::NoDatabase));
@@ -216,38 +197,27 @@ fn removed<S: Store>(
 }
 
 /// Whether there is a database of this name.
-#[tactic(auto, using(crate::proofs::Faults::cause_of))]
 fn is_there<S: Store>(store: &mut S, name: &DbName) -> Result<bool, Stop>
     ensures ok { S.is_honest store.new → IfOk result (λ there. is_some (map.get (S.contents store.old) name.now) ≡ there) }
     ensures unrefused { (refusal : _) → result ≢ Err (Stop.Refused refusal) }
-    ensures same { S.is_honest store.new → S.contents store.new ≡ S.contents store.old }
-    ensures caused { S.is_honest store.new → IfErr result (λ stop. IsCaused (S.fault_count store.old) (S.fault_count store.new) (S.is_damaged store.old) ⊥ stop) }
-    ensures kept { S.is_honest store.new → (S.is_damaged store.new → S.is_damaged store.old) × ((n : _) → S.lacks_room store.new n → S.lacks_room store.old n) }
-    ensures onward { (S.fault_count store.old ≤ S.fault_count store.new) × (S.is_honest store.new → S.is_honest store.old) }
+    ensures ends { IfErr result (Ends S.Store store.old store.new) }
+    ensures reads { OnlyReads S.Store store.old store.new }
 {
     match store.security(name) {
         Ok(_security) => Ok(true),
         Err(StoreFault::NoDatabase) => Ok(false),
-        Err(StoreFault::Memory) => Err(Stop::NoRoom),
-        Err(_) => Err(Stop::Failed),
+        Err(fault) => Err(Stop::from(fault)),
     }
 }
 
 /// The names of all databases.
-#[tactic(auto, using(crate::proofs::Faults::cause_of))]
 fn names<S: Store>(store: &mut S) -> Result<Vec<DbName>, Stop>
     ensures ok { S.is_honest store.new → IfOk result (λ names. names.items ≡ map.keys (S.contents store.old)) }
     ensures unrefused { (refusal : _) → result ≢ Err (Stop.Refused refusal) }
-    ensures same { S.is_honest store.new → S.contents store.new ≡ S.contents store.old }
-    ensures caused { S.is_honest store.new → IfErr result (λ stop. IsCaused (S.fault_count store.old) (S.fault_count store.new) (S.is_damaged store.old) ⊥ stop) }
-    ensures kept { S.is_honest store.new → (S.is_damaged store.new → S.is_damaged store.old) × ((n : _) → S.lacks_room store.new n → S.lacks_room store.old n) }
-    ensures onward { (S.fault_count store.old ≤ S.fault_count store.new) × (S.is_honest store.new → S.is_honest store.old) }
+    ensures ends { IfErr result (Ends S.Store store.old store.new) }
+    ensures reads { OnlyReads S.Store store.old store.new }
 {
-    match store.names() {
-        Ok(names) => Ok(names),
-        Err(StoreFault::Memory) => Err(Stop::NoRoom),
-        Err(_) => Err(Stop::Failed),
-    }
+    Ok(store.names()?)
 }
 
 /// A list of names.

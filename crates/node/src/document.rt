@@ -1,16 +1,15 @@
 //! A document's page: `GET`, `PUT` and `DELETE /{db}/{id}` (CouchDB manual, api/document/common).
 
-ghost use Rattle.std.specs.Prelude.{◌≡◌, ◌≢◌, ◌≤◌, ◌∷◌, [], IfOk, IfErr, Ok, Err, Some, None, false};
+ghost use Rattle.std.specs.Prelude.{◌≡◌, ◌≢◌, ◌∷◌, [], IfOk, IfErr, Ok, Err, Some, None, false};
 ghost use Rattle.couch_http.specs.Message.{message_of};
 ghost use Rattle.couch_json.specs.View.{view};
-ghost use Rattle.read.specs.Causes.{IsCaused as IsReadCaused};
-ghost use Rattle.store.specs.declared.fault.StoreFault.TheVariants.{NoDatabase, Exists};
-ghost use Rattle.std.specs.FinMap as map;
+ghost use Rattle.read.specs.Answers.{Answers};
+ghost use Rattle.store.specs.Calls.{OnlyReads};
 ghost use Rattle.tree.specs.DocumentId.{is_design_id, is_local_id};
 ghost use Rattle.write.specs.Admission.{edit_in};
 ghost use Rattle.node.specs.Answer.{deletion, document_deleted, document_read, document_written, edit_asked, edited, read_in, shown, written};
 ghost use Rattle.node.specs.Answered.{MayChange, outcome_of};
-ghost use Rattle.node.specs.Causes.{IsCaused};
+ghost use Rattle.node.specs.Causes.{Ends};
 ghost use Rattle.node.specs.Queried.{query_of};
 
 use crate::answered::{Answered, Change};
@@ -28,7 +27,7 @@ use policy::Action;
 use read::{ReadFault, get, open_revs};
 use std::alloc::Global;
 use std::collections::BTreeMap;
-use store::{DbName, Store, StoreFault};
+use store::{DbName, Store};
 use tree::{DocId, Rev};
 use write::{WriteFault, edit};
 
@@ -44,10 +43,8 @@ pub(crate) fn read_document<S: Store>(
     ensures refused { S.is_honest store.new → (refusal : _) → result ≡ Err (Stop.Refused refusal)
         → document_read caller.now (S.contents store.old) (message_of request.now) ≡ Err refusal }
     ensures may { S.is_honest store.new → IfOk result (λ answered. MayChange (S.contents store.old) answered.change) }
-    ensures same { S.is_honest store.new → S.contents store.new ≡ S.contents store.old }
-    ensures caused { S.is_honest store.new → IfErr result (λ stop. IsCaused (S.fault_count store.old) (S.fault_count store.new) (S.is_damaged store.old) ⊥ stop) }
-    ensures kept { S.is_honest store.new → (S.is_damaged store.new → S.is_damaged store.old) × ((n : _) → S.lacks_room store.new n → S.lacks_room store.old n) }
-    ensures onward { (S.fault_count store.old ≤ S.fault_count store.new) × (S.is_honest store.new → S.is_honest store.old) }
+    ensures ends { IfErr result (Ends S.Store store.old store.new) }
+    ensures reads { OnlyReads S.Store store.old store.new }
 {
     let name = entered(alloc, store, Action::Read, caller, &request.path)?;
     let id = document_id(alloc, &request.path)?;
@@ -56,7 +53,6 @@ pub(crate) fn read_document<S: Store>(
 }
 
 /// What the reader of a document is shown.
-#[tactic(auto, using(crate::proofs::Faults::cause_of))]
 fn shown<S: Store>(
     alloc: Global,
     store: &mut S,
@@ -69,24 +65,15 @@ fn shown<S: Store>(
     ensures refused { S.is_honest store.new → (refusal : _) → result ≡ Err (Stop.Refused refusal)
         → shown (S.contents store.old) (read_in (S.contents store.old) name.now id.now (query_of query.now)) ≡ Err refusal }
     ensures may { S.is_honest store.new → IfOk result (λ answered. MayChange (S.contents store.old) answered.change) }
-    ensures same { S.is_honest store.new → S.contents store.new ≡ S.contents store.old }
-    ensures caused { S.is_honest store.new → IfErr result (λ stop. IsCaused (S.fault_count store.old) (S.fault_count store.new) (S.is_damaged store.old) ⊥ stop) }
-    ensures kept { S.is_honest store.new → (S.is_damaged store.new → S.is_damaged store.old) × ((n : _) → S.lacks_room store.new n → S.lacks_room store.old n) }
-    ensures onward { (S.fault_count store.old ≤ S.fault_count store.new) × (S.is_honest store.new → S.is_honest store.old) }
+    ensures ends { IfErr result (Ends S.Store store.old store.new) }
+    ensures reads { OnlyReads S.Store store.old store.new }
 {
-    match read_in(alloc, store, name, id, query) {
-        Ok(value) => Ok(Answered {
-            status: 200,
-            value,
-            change: None,
-        }),
-        Err(ReadFault::Missing) => Err(Stop::Refused(Refusal::Missing)),
-        Err(ReadFault::Deleted) => Err(Stop::Refused(Refusal::Deleted)),
-        Err(ReadFault::BadQuery) => Err(Stop::Refused(Refusal::Query)),
-        Err(ReadFault::Memory) => Err(Stop::NoRoom),
-        Err(ReadFault::Store(StoreFault::NoDatabase)) => Err(Stop::Refused(Refusal::NoDatabase)),
-        Err(ReadFault::Store(_)) => Err(Stop::Failed),
-    }
+    let value = read_in(alloc, store, name, id, query)?;
+    Ok(Answered {
+        status: 200,
+        value,
+        change: None,
+    })
 }
 
 /// What reading a document gives, by what is asked.
@@ -97,21 +84,8 @@ fn read_in<S: Store>(
     id: &DocId,
     query: &DocumentQuery,
 ) -> Result<Json, ReadFault>
-    ensures ok { S.is_honest store.new → IfOk result (λ value.
-        read_in (S.contents store.old) name.now id.now (query_of query.now) ≡ Some (Ok (view value))) }
-    ensures missing { S.is_honest store.new → result ≡ Err ReadFault.Missing
-        → read_in (S.contents store.old) name.now id.now (query_of query.now) ≡ Some (Err ReadFault.Missing) }
-    ensures deleted { S.is_honest store.new → result ≡ Err ReadFault.Deleted
-        → read_in (S.contents store.old) name.now id.now (query_of query.now) ≡ Some (Err ReadFault.Deleted) }
-    ensures no_database { S.is_honest store.new → result ≡ Err (ReadFault.Store NoDatabase)
-        → map.get (S.contents store.old) name.now ≡ None }
-    ensures same { S.is_honest store.new → S.contents store.new ≡ S.contents store.old }
-    ensures no_query { result ≢ Err ReadFault.BadQuery }
-    ensures others { result ≢ Err (ReadFault.Store Exists) }
-    ensures own_memory { result ≢ Err (ReadFault.Store StoreFault.Memory) }
-    ensures caused { IfErr result (λ fault. IsReadCaused (S.fault_count store.old) (S.fault_count store.new) (S.is_damaged store.old) fault) }
-    ensures kept { S.is_honest store.new → (S.is_damaged store.new → S.is_damaged store.old) × ((n : _) → S.lacks_room store.new n → S.lacks_room store.old n) }
-    ensures onward { (S.fault_count store.old ≤ S.fault_count store.new) × (S.is_honest store.new → S.is_honest store.old) }
+    ensures answer { Answers S.Store store.old store.new (read_in (S.contents store.old) name.now id.now (query_of query.now)) result }
+    ensures reads { OnlyReads S.Store store.old store.new }
 {
     match &query.asked {
         Asked::Winner => get(alloc, store, name, id, None, query.revs),
@@ -140,10 +114,8 @@ pub(crate) fn write_document<S: Store>(
     ensures refused { S.is_honest store.new → (refusal : _) → result ≡ Err (Stop.Refused refusal)
         → document_written caller.now (S.contents store.old) (message_of request.now) ≡ Err refusal }
     ensures may { S.is_honest store.new → IfOk result (λ answered. MayChange (S.contents store.old) answered.change) }
-    ensures same { S.is_honest store.new → S.contents store.new ≡ S.contents store.old }
-    ensures caused { S.is_honest store.new → IfErr result (λ stop. IsCaused (S.fault_count store.old) (S.fault_count store.new) (S.is_damaged store.old) ⊥ stop) }
-    ensures kept { S.is_honest store.new → (S.is_damaged store.new → S.is_damaged store.old) × ((n : _) → S.lacks_room store.new n → S.lacks_room store.old n) }
-    ensures onward { (S.fault_count store.old ≤ S.fault_count store.new) × (S.is_honest store.new → S.is_honest store.old) }
+    ensures ends { IfErr result (Ends S.Store store.old store.new) }
+    ensures reads { OnlyReads S.Store store.old store.new }
 {
     let name = entered(alloc, store, Action::WriteDocument, caller, &request.path)?;
     let (id, rev) = edit_asked(alloc, request)?;
@@ -163,10 +135,8 @@ pub(crate) fn delete_document<S: Store>(
     ensures refused { S.is_honest store.new → (refusal : _) → result ≡ Err (Stop.Refused refusal)
         → document_deleted caller.now (S.contents store.old) (message_of request.now) ≡ Err refusal }
     ensures may { S.is_honest store.new → IfOk result (λ answered. MayChange (S.contents store.old) answered.change) }
-    ensures same { S.is_honest store.new → S.contents store.new ≡ S.contents store.old }
-    ensures caused { S.is_honest store.new → IfErr result (λ stop. IsCaused (S.fault_count store.old) (S.fault_count store.new) (S.is_damaged store.old) ⊥ stop) }
-    ensures kept { S.is_honest store.new → (S.is_damaged store.new → S.is_damaged store.old) × ((n : _) → S.lacks_room store.new n → S.lacks_room store.old n) }
-    ensures onward { (S.fault_count store.old ≤ S.fault_count store.new) × (S.is_honest store.new → S.is_honest store.old) }
+    ensures ends { IfErr result (Ends S.Store store.old store.new) }
+    ensures reads { OnlyReads S.Store store.old store.new }
 {
     let name = entered(alloc, store, Action::WriteDocument, caller, &request.path)?;
     let (id, rev) = edit_asked(alloc, request)?;
@@ -199,7 +169,7 @@ fn deletion(alloc: Global) -> Got<Json>
 }
 
 /// What the edit of a document comes to.
-#[tactic(auto, using(crate::proofs::Faults::cause_of, crate::proofs::Changed::writes_made))]
+#[tactic(auto, using(crate::proofs::Changed::writes_made))]
 fn written<S: Store>(
     alloc: Global,
     store: &mut S,
@@ -216,18 +186,13 @@ fn written<S: Store>(
     ensures refused { S.is_honest store.new → (refusal : _) → result ≡ Err (Stop.Refused refusal)
         → written status (S.contents store.old) name.now id.now (edit_in (S.contents store.old) name.now id.now rev (view document)) ≡ Err refusal }
     ensures may { S.is_honest store.new → IfOk result (λ answered. MayChange (S.contents store.old) answered.change) }
-    ensures same { S.is_honest store.new → S.contents store.new ≡ S.contents store.old }
-    ensures caused { S.is_honest store.new → IfErr result (λ stop. IsCaused (S.fault_count store.old) (S.fault_count store.new) (S.is_damaged store.old) ⊥ stop) }
-    ensures kept { S.is_honest store.new → (S.is_damaged store.new → S.is_damaged store.old) × ((n : _) → S.lacks_room store.new n → S.lacks_room store.old n) }
-    ensures onward { (S.fault_count store.old ≤ S.fault_count store.new) × (S.is_honest store.new → S.is_honest store.old) }
+    ensures ends { IfErr result (Ends S.Store store.old store.new) }
+    ensures reads { OnlyReads S.Store store.old store.new }
 {
     let edited = match edit(alloc, store, name, id, rev, document) {
         Ok(edited) => edited,
         Err(WriteFault::Memory) => return Err(Stop::NoRoom),
-        Err(WriteFault::Store(StoreFault::NoDatabase)) => {
-            return Err(Stop::Refused(Refusal::NoDatabase));
-        }
-        Err(WriteFault::Store(_)) => return Err(Stop::Failed),
+        Err(WriteFault::Store(fault)) => return Err(Stop::from(fault)),
         Err(fault) => return Err(Stop::Refused(refusal_of_edit(&fault))),
     };
     let value = edit_reply(alloc, &edited.id, &edited.rev)?;

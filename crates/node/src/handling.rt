@@ -1,16 +1,17 @@
 //! The way of a request through a node, from its headers to its reply.
 
-ghost use Rattle.std.specs.Prelude.{◌≡◌, ◌≢◌, ◌≤◌, ◌⊎◌, ℕ, IfOk, IfErr, OnOk, OnErr, Ok, Err, Some, None, string_bytes};
+ghost use Rattle.std.specs.Prelude.{◌≡◌, ◌≢◌, ◌⊎◌, IfOk, IfErr, OnOk, Ok, Err, Some, None, string_bytes};
 ghost use Rattle.couch_http.specs.Message.{message_of};
 ghost use Rattle.couch_http.specs.Reply.{fixed_reply, reply_of};
 ghost use Rattle.couch_http.specs.declared.fixed.Fixed.TheVariants.{NoRoom};
 ghost use Rattle.couch_json.specs.Canonical.{canonical};
 ghost use Rattle.couch_json.specs.View.{view};
+ghost use Rattle.store.specs.Calls.{ChangesWhole, GoesOn, OnlyReads};
 ghost use Rattle.node.specs.Answer.{answer, judged, served};
 ghost use Rattle.node.specs.Asking.{method_of};
 ghost use Rattle.node.specs.Answered.{MayChange, MayChangeBy, changed, changed_by, outcome_of};
 ghost use Rattle.node.specs.Refusals.{refusal_value, status_of};
-ghost use Rattle.node.specs.Causes.{HasCause, IsCaused, stop_of_change};
+ghost use Rattle.node.specs.Causes.{Ends, EndsBefore, HasCause, stop_of_change};
 ghost use Rattle.node.specs.Step.{IsDone, IsStep};
 
 use crate::answered::{Answered, Change};
@@ -45,10 +46,8 @@ fn judged<S: Store>(
     ensures refused { S.is_honest store.new → (refusal : _) → result ≡ Err (Stop.Refused refusal)
         → judged auth.now (S.contents store.old) (message_of request.now) ≡ Err refusal }
     ensures may { S.is_honest store.new → IfOk result (λ answered. MayChange (S.contents store.old) answered.change) }
-    ensures same { S.is_honest store.new → S.contents store.new ≡ S.contents store.old }
-    ensures caused { S.is_honest store.new → IfErr result (λ stop. IsCaused (S.fault_count store.old) (S.fault_count store.new) (S.is_damaged store.old) ⊥ stop) }
-    ensures kept { S.is_honest store.new → (S.is_damaged store.new → S.is_damaged store.old) × ((n : _) → S.lacks_room store.new n → S.lacks_room store.old n) }
-    ensures onward { (S.fault_count store.old ≤ S.fault_count store.new) × (S.is_honest store.new → S.is_honest store.old) }
+    ensures ends { IfErr result (Ends S.Store store.old store.new) }
+    ensures reads { OnlyReads S.Store store.old store.new }
 {
     let caller = caller(alloc, auth, request)?;
     let Some(page) = routes.page(&request.path) else {
@@ -70,10 +69,8 @@ fn served<S: Store>(
     ensures refused { S.is_honest store.new → (refusal : _) → result ≡ Err (Stop.Refused refusal)
         → served page (method_of (string_bytes request.now.method)) caller.now (S.contents store.old) (message_of request.now) ≡ Err refusal }
     ensures may { S.is_honest store.new → IfOk result (λ answered. MayChange (S.contents store.old) answered.change) }
-    ensures same { S.is_honest store.new → S.contents store.new ≡ S.contents store.old }
-    ensures caused { S.is_honest store.new → IfErr result (λ stop. IsCaused (S.fault_count store.old) (S.fault_count store.new) (S.is_damaged store.old) ⊥ stop) }
-    ensures kept { S.is_honest store.new → (S.is_damaged store.new → S.is_damaged store.old) × ((n : _) → S.lacks_room store.new n → S.lacks_room store.old n) }
-    ensures onward { (S.fault_count store.old ≤ S.fault_count store.new) × (S.is_honest store.new → S.is_honest store.old) }
+    ensures ends { IfErr result (Ends S.Store store.old store.new) }
+    ensures reads { OnlyReads S.Store store.old store.new }
 {
     match (page, method_of(&request.method)) {
         (Page::Welcome, Some(RequestMethod::Get)) => Ok(welcomed(alloc, request)?),
@@ -112,10 +109,8 @@ fn finished<S: Store>(
     requires { S.is_honest store.old → MayChange (S.contents store.old) answered.change }
     ensures ok { S.is_honest store.new → IfOk result (λ reply. IsDone (outcome_of (S.contents store.old) answered) last reply (S.contents store.new)) }
     ensures unrefused { (refusal : _) → result ≢ Err (Stop.Refused refusal) }
-    ensures err { S.is_honest store.new → OnErr result (S.contents store.new ≡ S.contents store.old) }
-    ensures caused { S.is_honest store.new → IfErr result (λ stop. IsCaused (S.fault_count store.old) (S.fault_count store.new)
-        (S.is_damaged store.old) ((n : ℕ) × S.lacks_room store.old n) stop) }
-    ensures onward { (S.fault_count store.old ≤ S.fault_count store.new) × (S.is_honest store.new → S.is_honest store.old) }
+    ensures ends { IfErr result (EndsBefore S.Store store.old store.new (changed (S.contents store.old) answered.change)) }
+    ensures changes { ChangesWhole S.Store store.old store.new result }
 {
     let reply = made(alloc, answered.status, &answered.value, last)?;
     change(store, answered.change)?;
@@ -137,10 +132,8 @@ fn change<S: Store>(store: &mut S, change: Option<Change>) -> Result<(), Stop>
     requires { S.is_honest store.old → MayChange (S.contents store.old) change }
     ensures ok { S.is_honest store.new → OnOk result (S.contents store.new ≡ changed (S.contents store.old) change) }
     ensures unrefused { (refusal : _) → result ≢ Err (Stop.Refused refusal) }
-    ensures err { S.is_honest store.new → OnErr result (S.contents store.new ≡ S.contents store.old) }
-    ensures caused { S.is_honest store.new → IfErr result (λ stop. IsCaused (S.fault_count store.old) (S.fault_count store.new)
-        (S.is_damaged store.old) ((n : ℕ) × S.lacks_room store.old n) stop) }
-    ensures onward { (S.fault_count store.old ≤ S.fault_count store.new) × (S.is_honest store.new → S.is_honest store.old) }
+    ensures ends { IfErr result (EndsBefore S.Store store.old store.new (changed (S.contents store.old) change)) }
+    ensures changes { ChangesWhole S.Store store.old store.new result }
 {
     match change {
         None => Ok(()),
@@ -151,15 +144,13 @@ fn change<S: Store>(store: &mut S, change: Option<Change>) -> Result<(), Stop>
 }
 
 /// Makes a new database.
-#[tactic(auto, using(crate::proofs::Faults::cause_of))]
+#[tactic(auto, using(crate::proofs::Faults::number_lacking))]
 fn create<S: Store>(store: &mut S, name: &DbName) -> Result<(), Stop>
     requires { S.is_honest store.old → MayChangeBy (S.contents store.old) (Change.Create name.now) }
     ensures ok { S.is_honest store.new → OnOk result (S.contents store.new ≡ changed_by (S.contents store.old) (Change.Create name.now)) }
     ensures unrefused { (refusal : _) → result ≢ Err (Stop.Refused refusal) }
-    ensures err { S.is_honest store.new → OnErr result (S.contents store.new ≡ S.contents store.old) }
-    ensures caused { S.is_honest store.new → IfErr result (λ stop. IsCaused (S.fault_count store.old) (S.fault_count store.new)
-        (S.is_damaged store.old) ((n : ℕ) × S.lacks_room store.old n) stop) }
-    ensures onward { (S.fault_count store.old ≤ S.fault_count store.new) × (S.is_honest store.new → S.is_honest store.old) }
+    ensures ends { IfErr result (EndsBefore S.Store store.old store.new (changed_by (S.contents store.old) (Change.Create name.now))) }
+    ensures changes { ChangesWhole S.Store store.old store.new result }
 {
     match store.create(name) {
         Ok(()) => Ok(()),
@@ -169,15 +160,12 @@ fn create<S: Store>(store: &mut S, name: &DbName) -> Result<(), Stop>
 }
 
 /// Removes a database with all that it holds.
-#[tactic(auto, using(crate::proofs::Faults::cause_of))]
 fn remove<S: Store>(store: &mut S, name: &DbName) -> Result<(), Stop>
     requires { S.is_honest store.old → MayChangeBy (S.contents store.old) (Change.Remove name.now) }
     ensures ok { S.is_honest store.new → OnOk result (S.contents store.new ≡ changed_by (S.contents store.old) (Change.Remove name.now)) }
     ensures unrefused { (refusal : _) → result ≢ Err (Stop.Refused refusal) }
-    ensures err { S.is_honest store.new → OnErr result (S.contents store.new ≡ S.contents store.old) }
-    ensures caused { S.is_honest store.new → IfErr result (λ stop. IsCaused (S.fault_count store.old) (S.fault_count store.new)
-        (S.is_damaged store.old) ((n : ℕ) × S.lacks_room store.old n) stop) }
-    ensures onward { (S.fault_count store.old ≤ S.fault_count store.new) × (S.is_honest store.new → S.is_honest store.old) }
+    ensures ends { IfErr result (EndsBefore S.Store store.old store.new (changed_by (S.contents store.old) (Change.Remove name.now))) }
+    ensures changes { ChangesWhole S.Store store.old store.new result }
 {
     match store.remove(name) {
         Ok(()) => Ok(()),
@@ -187,15 +175,13 @@ fn remove<S: Store>(store: &mut S, name: &DbName) -> Result<(), Stop>
 }
 
 /// Makes what was planned.
-#[tactic(auto, using(crate::proofs::Faults::caused_by_change, crate::proofs::Faults::room_lacking, crate::proofs::Faults::unrefused_change))]
+#[tactic(auto, using(crate::proofs::Faults::unrefused_change))]
 fn write<S: Store>(store: &mut S, planned: Planned) -> Result<(), Stop>
     requires { S.is_honest store.old → MayChangeBy (S.contents store.old) (Change.Write planned) }
     ensures ok { S.is_honest store.new → OnOk result (S.contents store.new ≡ changed_by (S.contents store.old) (Change.Write planned)) }
     ensures unrefused { (refusal : _) → result ≢ Err (Stop.Refused refusal) }
-    ensures err { S.is_honest store.new → OnErr result (S.contents store.new ≡ S.contents store.old) }
-    ensures caused { S.is_honest store.new → IfErr result (λ stop. IsCaused (S.fault_count store.old) (S.fault_count store.new)
-        (S.is_damaged store.old) ((n : ℕ) × S.lacks_room store.old n) stop) }
-    ensures onward { (S.fault_count store.old ≤ S.fault_count store.new) × (S.is_honest store.new → S.is_honest store.old) }
+    ensures ends { IfErr result (EndsBefore S.Store store.old store.new (changed_by (S.contents store.old) (Change.Write planned))) }
+    ensures changes { ChangesWhole S.Store store.old store.new result }
 {
     match apply(store, planned) {
         Ok(()) => Ok(()),
@@ -225,10 +211,8 @@ fn replied<S: Store>(
         request.now.last reply (S.contents store.new)) }
     ensures refused { S.is_honest store.new → (refusal : _) → result ≡ Err (Stop.Refused refusal)
         → judged auth.now (S.contents store.old) (message_of request.now) ≡ Err refusal }
-    ensures err { S.is_honest store.new → OnErr result (S.contents store.new ≡ S.contents store.old) }
-    ensures caused { S.is_honest store.new → IfErr result (λ stop. IsCaused (S.fault_count store.old) (S.fault_count store.new)
-        (S.is_damaged store.old) ((n : ℕ) × S.lacks_room store.old n) stop) }
-    ensures onward { (S.fault_count store.old ≤ S.fault_count store.new) × (S.is_honest store.new → S.is_honest store.old) }
+    ensures ends { IfErr result (EndsBefore S.Store store.old store.new (answer auth.now (S.contents store.old) (message_of request.now)).after) }
+    ensures changes { ChangesWhole S.Store store.old store.new result }
 {
     let answered = judged(alloc, store, auth, routes, request)?;
     finished(alloc, store, answered, request.last)
@@ -260,9 +244,8 @@ pub(crate) fn handled<S: Store>(
     request: &Request,
 ) -> Response
     ensures step { S.is_honest store.new → IsStep auth.now (S.contents store.old) (message_of request.now)
-        (HasCause (S.fault_count store.old) (S.fault_count store.new) (S.is_damaged store.old) ((n : ℕ) × S.lacks_room store.old n))
-        result (S.contents store.new) }
-    ensures onward { (S.fault_count store.old ≤ S.fault_count store.new) × (S.is_honest store.new → S.is_honest store.old) }
+        (HasCause S.Store store.old store.new (answer auth.now (S.contents store.old) (message_of request.now)).after) result (S.contents store.new) }
+    ensures onward { GoesOn S.Store store.old store.new }
 {
     match replied(alloc, store, auth, routes, request) {
         Ok(reply) => reply,

@@ -26,8 +26,10 @@ impl<S: Store + Drop> Model for Node<S> {
 }
 
 impl<S: Store + Drop> Node<S> {
-    ghost use Rattle.std.specs.Prelude.{◌≡◌, ◌≤◌, ℕ};
+    ghost use Rattle.std.specs.Prelude.{◌≡◌};
     ghost use Rattle.couch_http.specs.Message.{message_of};
+    ghost use Rattle.store.specs.Calls.{GoesOn};
+    ghost use Rattle.node.specs.Answer.{answer};
     ghost use Rattle.node.specs.Causes.{HasCause};
     ghost use Rattle.node.specs.Step.{IsStep};
 
@@ -50,10 +52,10 @@ impl<S: Store + Drop> Node<S> {
     /// databases are as they were.
     pub fn handle(&mut self, request: &Request) -> Response
         ensures step { S.is_honest self.new.store → IsStep self.old.configuration (S.contents self.old.store) (message_of request.now)
-            (HasCause (S.fault_count self.old.store) (S.fault_count self.new.store) (S.is_damaged self.old.store) ((n : ℕ) × S.lacks_room self.old.store n))
+            (HasCause S.Store self.old.store self.new.store (answer self.old.configuration (S.contents self.old.store) (message_of request.now)).after)
             result (S.contents self.new.store) }
         ensures configuration { self.new.configuration ≡ self.old.configuration }
-        ensures onward { (S.fault_count self.old.store ≤ S.fault_count self.new.store) × (S.is_honest self.new.store → S.is_honest self.old.store) }
+        ensures onward { GoesOn S.Store self.old.store self.new.store }
     {
         handled(
             self.alloc,

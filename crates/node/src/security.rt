@@ -1,13 +1,14 @@
 //! The page of a database's security object (CouchDB manual, api/database/security).
 
-ghost use Rattle.std.specs.Prelude.{◌≡◌, ◌≢◌, ◌≤◌, IfOk, IfErr, Ok, Err, None};
+ghost use Rattle.std.specs.Prelude.{◌≡◌, ◌≢◌, IfOk, IfErr, Ok, Err, None};
 ghost use Rattle.std.specs.FinMap as map;
 ghost use Rattle.couch_http.specs.Message.{message_of};
 ghost use Rattle.couch_json.specs.View.{view};
 ghost use Rattle.write.specs.Planning.{security_in};
+ghost use Rattle.store.specs.Calls.{OnlyReads};
 ghost use Rattle.node.specs.Answer.{secured, security_read, security_set, security_written};
 ghost use Rattle.node.specs.Answered.{MayChange, outcome_of};
-ghost use Rattle.node.specs.Causes.{IsCaused};
+ghost use Rattle.node.specs.Causes.{Ends};
 
 use crate::answered::{Answered, Change};
 use crate::asking::{body, without_parameters};
@@ -20,7 +21,7 @@ use couch_http::Request;
 use couch_json::Json;
 use policy::Action;
 use std::alloc::Global;
-use store::{DbName, Store, StoreFault};
+use store::{DbName, Store};
 use write::{WriteFault, put_security};
 
 /// Reads the security object of a database.
@@ -35,10 +36,8 @@ pub(crate) fn read_security<S: Store>(
     ensures refused { S.is_honest store.new → (refusal : _) → result ≡ Err (Stop.Refused refusal)
         → security_read caller.now (S.contents store.old) (message_of request.now) ≡ Err refusal }
     ensures may { S.is_honest store.new → IfOk result (λ answered. MayChange (S.contents store.old) answered.change) }
-    ensures same { S.is_honest store.new → S.contents store.new ≡ S.contents store.old }
-    ensures caused { S.is_honest store.new → IfErr result (λ stop. IsCaused (S.fault_count store.old) (S.fault_count store.new) (S.is_damaged store.old) ⊥ stop) }
-    ensures kept { S.is_honest store.new → (S.is_damaged store.new → S.is_damaged store.old) × ((n : _) → S.lacks_room store.new n → S.lacks_room store.old n) }
-    ensures onward { (S.fault_count store.old ≤ S.fault_count store.new) × (S.is_honest store.new → S.is_honest store.old) }
+    ensures ends { IfErr result (Ends S.Store store.old store.new) }
+    ensures reads { OnlyReads S.Store store.old store.new }
 {
     let name = entered(alloc, store, Action::Read, caller, &request.path)?;
     without_parameters(request)?;
@@ -57,10 +56,8 @@ pub(crate) fn write_security<S: Store>(
     ensures refused { S.is_honest store.new → (refusal : _) → result ≡ Err (Stop.Refused refusal)
         → security_written caller.now (S.contents store.old) (message_of request.now) ≡ Err refusal }
     ensures may { S.is_honest store.new → IfOk result (λ answered. MayChange (S.contents store.old) answered.change) }
-    ensures same { S.is_honest store.new → S.contents store.new ≡ S.contents store.old }
-    ensures caused { S.is_honest store.new → IfErr result (λ stop. IsCaused (S.fault_count store.old) (S.fault_count store.new) (S.is_damaged store.old) ⊥ stop) }
-    ensures kept { S.is_honest store.new → (S.is_damaged store.new → S.is_damaged store.old) × ((n : _) → S.lacks_room store.new n → S.lacks_room store.old n) }
-    ensures onward { (S.fault_count store.old ≤ S.fault_count store.new) × (S.is_honest store.new → S.is_honest store.old) }
+    ensures ends { IfErr result (Ends S.Store store.old store.new) }
+    ensures reads { OnlyReads S.Store store.old store.new }
 {
     let name = entered(alloc, store, Action::WriteSecurity, caller, &request.path)?;
     without_parameters(request)?;
@@ -69,7 +66,7 @@ pub(crate) fn write_security<S: Store>(
 }
 
 /// What becomes of a value that is to be the security object of a database.
-#[tactic(auto, using(crate::proofs::Faults::cause_of, crate::proofs::Changed::security_made, crate::proofs::Changed::security_may))]
+#[tactic(auto, using(crate::proofs::Changed::security_made, crate::proofs::Changed::security_may))]
 fn security_set<S: Store>(
     alloc: Global,
     store: &mut S,
@@ -81,19 +78,15 @@ fn security_set<S: Store>(
     ensures refused { S.is_honest store.new → (refusal : _) → result ≡ Err (Stop.Refused refusal)
         → security_set (S.contents store.old) name.now (security_in (S.contents store.old) name.now (view value.now)) ≡ Err refusal }
     ensures may { S.is_honest store.new → IfOk result (λ answered. MayChange (S.contents store.old) answered.change) }
-    ensures same { S.is_honest store.new → S.contents store.new ≡ S.contents store.old }
-    ensures caused { S.is_honest store.new → IfErr result (λ stop. IsCaused (S.fault_count store.old) (S.fault_count store.new) (S.is_damaged store.old) ⊥ stop) }
-    ensures kept { S.is_honest store.new → (S.is_damaged store.new → S.is_damaged store.old) × ((n : _) → S.lacks_room store.new n → S.lacks_room store.old n) }
-    ensures onward { (S.fault_count store.old ≤ S.fault_count store.new) × (S.is_honest store.new → S.is_honest store.old) }
+    ensures ends { IfErr result (Ends S.Store store.old store.new) }
+    ensures reads { OnlyReads S.Store store.old store.new }
 {
     let planned = match put_security(alloc, store, name, value) {
         Ok(planned) => planned,
         Err(WriteFault::Memory) => return Err(Stop::NoRoom),
-        Err(WriteFault::Store(StoreFault::NoDatabase)) => {
-            return Err(Stop::Refused(Refusal::NoDatabase));
-        }
-        Err(WriteFault::Store(_)) => return Err(Stop::Failed),
-        Err(_) => return Err(Stop::Refused(Refusal::Body)),
+        Err(WriteFault::Store(fault)) => return Err(Stop::from(fault)),
+        Err(WriteFault::BadDocument) => return Err(Stop::Refused(Refusal::Body)),
+        Err(_) => unreachable!(),
     };
     let reply = done(alloc)?;
     Ok(Answered {
@@ -104,24 +97,16 @@ fn security_set<S: Store>(
 }
 
 /// The security object of the database of this name.
-#[tactic(auto, using(crate::proofs::Faults::cause_of))]
 fn secured<S: Store>(alloc: Global, store: &mut S, name: &DbName) -> Result<Answered, Stop>
     ensures ok { S.is_honest store.new → IfOk result (λ answered.
         secured (S.contents store.old) (map.get (S.contents store.old) name.now) ≡ Ok (outcome_of (S.contents store.old) answered)) }
     ensures refused { S.is_honest store.new → (refusal : _) → result ≡ Err (Stop.Refused refusal)
         → secured (S.contents store.old) (map.get (S.contents store.old) name.now) ≡ Err refusal }
     ensures may { S.is_honest store.new → IfOk result (λ answered. MayChange (S.contents store.old) answered.change) }
-    ensures same { S.is_honest store.new → S.contents store.new ≡ S.contents store.old }
-    ensures caused { S.is_honest store.new → IfErr result (λ stop. IsCaused (S.fault_count store.old) (S.fault_count store.new) (S.is_damaged store.old) ⊥ stop) }
-    ensures kept { S.is_honest store.new → (S.is_damaged store.new → S.is_damaged store.old) × ((n : _) → S.lacks_room store.new n → S.lacks_room store.old n) }
-    ensures onward { (S.fault_count store.old ≤ S.fault_count store.new) × (S.is_honest store.new → S.is_honest store.old) }
+    ensures ends { IfErr result (Ends S.Store store.old store.new) }
+    ensures reads { OnlyReads S.Store store.old store.new }
 {
-    let security = match store.security(name) {
-        Ok(security) => security,
-        Err(StoreFault::Memory) => return Err(Stop::NoRoom),
-        Err(StoreFault::NoDatabase) => return Err(Stop::Refused(Refusal::NoDatabase)),
-        Err(_) => return Err(Stop::Failed),
-    };
+    let security = store.security(name)?;
     Ok(Answered {
         status: 200,
         value: security.value().copy(alloc)?,

@@ -3,7 +3,9 @@ ghost use Rattle.node.specs.declared.stop.Stop.TheVariants.{NoRoom};
 
 use crate::refusal::Refusal;
 use couch_json::NoMemory;
+use read::ReadFault;
 use std::alloc::{AllocError, AllocFailed};
+use store::StoreFault;
 
 /// Why the work on a request ended before its reply was made. The store is as it was.
 #[derive(Debug, Drop)]
@@ -14,6 +16,37 @@ pub(crate) enum Stop {
     Failed,
     /// Memory ran out.
     NoRoom,
+}
+
+impl From<StoreFault> for Stop {
+    ghost use Rattle.node.specs.Causes.{stop_of};
+
+    ghost from_gives = { λ fault stop. stop ≡ stop_of fault };
+
+    fn from(fault: StoreFault) -> Stop {
+        match fault {
+            StoreFault::Memory => Stop::NoRoom,
+            StoreFault::NoDatabase => Stop::Refused(Refusal::NoDatabase),
+            StoreFault::Exists => Stop::Refused(Refusal::Exists),
+            StoreFault::Failed | StoreFault::Damaged | StoreFault::Full => Stop::Failed,
+        }
+    }
+}
+
+impl From<ReadFault> for Stop {
+    ghost use Rattle.node.specs.Causes.{stop_of_reader};
+
+    ghost from_gives = { λ fault stop. stop ≡ stop_of_reader fault };
+
+    fn from(fault: ReadFault) -> Stop {
+        match fault {
+            ReadFault::Missing => Stop::Refused(Refusal::Missing),
+            ReadFault::Deleted => Stop::Refused(Refusal::Deleted),
+            ReadFault::BadQuery => Stop::Refused(Refusal::Query),
+            ReadFault::Store(fault) => Stop::from(fault),
+            ReadFault::Memory => Stop::NoRoom,
+        }
+    }
 }
 
 impl From<NoMemory> for Stop {

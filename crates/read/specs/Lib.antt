@@ -1,4 +1,4 @@
-pub mod Causes
+pub mod Answers
 pub mod Information
 pub mod OpenRevisions
 pub mod Path

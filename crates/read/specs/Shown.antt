@@ -1,34 +1,16 @@
 -- The document that a reader is shown, and what reading a document gives.
--- CouchDB manual, api/document/common (the members `_id`, `_rev` and `_deleted`; `GET /{db}/{docid}`: 404 where the document is missing or deleted; `rev` and `revs`).
-use Rattle.std.specs.Prelude.{Bool, true, false, if◌then◌else◌, List, ℕ, codes, Option, Some, None, option_map, Result, Ok, Err}
+-- CouchDB manual, api/document/common (`GET /{db}/{docid}`: 404 where the document is missing or deleted; `rev` and `revs`).
+use Rattle.std.specs.Prelude.{Bool, if◌then◌else◌, List, ℕ, Option, Some, None, option_map, Result, Ok, Err}
 use Rattle.std.specs.FinMap.{get}
-use Rattle.couch_json.specs.Value.{Value, null, truth, whole, text, array, object, Members, no_members, put}
-use Rattle.tree.specs.Revision.{Revision, text_of}
+use Rattle.couch_json.specs.Value.{Value, object}
+use Rattle.tree.specs.Revision.{Revision}
 use Rattle.tree.specs.History.{HistoryContent, held_of, is_deleted, winner}
-use Rattle.tree.specs.declared.entry.Held.{Held}
+use Rattle.tree.specs.ShownDocument.{shown_members}
 use Rattle.store.specs.Contents.{Contents}
 use Rattle.store.specs.Database.{Database, history_at}
 use Rattle.read.specs.Path.{with_revisions}
 use Rattle.read.specs.declared.fault.ReadFault.{ReadFault}
 use Rattle.read.specs.declared.fault.ReadFault.TheVariants.{Missing, Deleted}
-
--- the members of a body; a body that is no object would have none
-abbrev pub members_in : Value → Members
-members_in (object ms) = ms
-members_in null = no_members
-members_in (truth b) = no_members
-members_in (whole n) = no_members
-members_in (text s) = no_members
-members_in (array vs) = no_members
-
--- a mark where the revision is deleted
-abbrev pub with_mark : Bool → Members → Members
-with_mark true ms = put (codes "_deleted") (truth true) ms
-with_mark false ms = ms
-
--- the members of the body with the document's id and the revision, and a mark where the revision is deleted
-abbrev pub shown_members : List ℕ → Revision → Held → Members
-shown_members id r held = with_mark held.deleted (put (codes "_rev") (text (text_of r)) (put (codes "_id") (text id) (members_in held.body)))
 
 -- the document that a revision is shown as, deleted or not, with its path where that is asked for; nothing where no body is held of it
 abbrev pub shown : List ℕ → HistoryContent → Revision → Bool → Option Value

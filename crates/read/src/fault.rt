@@ -26,6 +26,19 @@ pub enum ReadFault {
     Memory,
 }
 
+impl From<StoreFault> for ReadFault {
+    ghost use Rattle.read.specs.Answers.{passed};
+
+    ghost from_gives = { λ fault given. given ≡ passed fault };
+
+    fn from(fault: StoreFault) -> ReadFault {
+        match fault {
+            StoreFault::Memory => ReadFault::Memory,
+            _ => ReadFault::Store(fault),
+        }
+    }
+}
+
 impl From<NoMemory> for ReadFault {
     ghost from_gives = { λ _ fault. fault ≡ Memory };
 

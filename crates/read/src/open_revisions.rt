@@ -1,9 +1,8 @@
-ghost use Rattle.std.specs.Prelude.{◌≡◌, ◌≢◌, ◌≤◌, map as each, IfOk, IfErr, Some, None, Err, option_copied, option_map};
-ghost use Rattle.std.specs.FinMap as map;
+ghost use Rattle.std.specs.Prelude.{◌≡◌, ◌≢◌, map as each, IfOk, Ok, Err, option_copied, option_map};
 ghost use Rattle.couch_json.specs.Value.{member, no_members, object};
 ghost use Rattle.couch_json.specs.View.{view};
-ghost use Rattle.store.specs.declared.fault.StoreFault.TheVariants.{NoDatabase, Exists};
-ghost use Rattle.read.specs.Causes.{IsCaused};
+ghost use Rattle.store.specs.Calls.{OnlyReads};
+ghost use Rattle.read.specs.Answers.{Answers};
 ghost use Rattle.read.specs.OpenRevisions.{element as element_lem, open_revision as open_revision_lem, open_revisions as open_revisions_lem, open_revisions_in};
 
 use crate::fault::ReadFault;
@@ -11,7 +10,7 @@ use crate::shown::shown;
 use couch_json::{Got, Json, put_member};
 use std::alloc::Global;
 use std::collections::BTreeMap;
-use store::{DbName, Store, StoreFault};
+use store::{DbName, Store};
 use tree::{DocId, History, Rev};
 
 /// What a document shows of each revision that is asked for, in the order asked: a list of objects,
@@ -30,23 +29,12 @@ pub fn open_revs<S: Store>(
     asked: Option<&[Rev]>,
     revs: bool,
 ) -> Result<Json, ReadFault>
-    ensures ok { S.is_honest store.new → IfOk result (λ value.
-        open_revisions_in (S.contents store.old) db.now id.now (option_copied asked.entry) revs ≡ Some (view value)) }
-    ensures no_database { S.is_honest store.new → result ≡ Err (ReadFault.Store NoDatabase)
-        → map.get (S.contents store.old) db.now ≡ None }
-    ensures same { S.is_honest store.new → S.contents store.new ≡ S.contents store.old }
-    ensures plain { (result ≢ Err ReadFault.Missing) × (result ≢ Err ReadFault.Deleted) × (result ≢ Err ReadFault.BadQuery) }
-    ensures others { result ≢ Err (ReadFault.Store Exists) }
-    ensures own_memory { result ≢ Err (ReadFault.Store StoreFault.Memory) }
-    ensures caused { IfErr result (λ fault. IsCaused (S.fault_count store.old) (S.fault_count store.new) (S.is_damaged store.old) fault) }
-    ensures kept { S.is_honest store.new → (S.is_damaged store.new → S.is_damaged store.old) × ((n : _) → S.lacks_room store.new n → S.lacks_room store.old n) }
-    ensures onward { (S.fault_count store.old ≤ S.fault_count store.new) × (S.is_honest store.new → S.is_honest store.old) }
+    ensures answer { Answers S.Store store.old store.new (option_map (λ value. Ok value)
+        (open_revisions_in (S.contents store.old) db.now id.now (option_copied asked.entry) revs)) result }
+    ensures plain { (result ≢ Err ReadFault.Missing) × (result ≢ Err ReadFault.Deleted) }
+    ensures reads { OnlyReads S.Store store.old store.new }
 {
-    let history = match store.history(db, id) {
-        Ok(history) => history,
-        Err(StoreFault::Memory) => return Err(ReadFault::Memory),
-        Err(fault) => return Err(ReadFault::Store(fault)),
-    };
+    let history = store.history(db, id)?;
     Ok(open_revisions(alloc, &history, id, asked, revs)?)
 }
 

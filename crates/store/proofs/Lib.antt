@@ -2,7 +2,11 @@ pub mod Contents
 pub mod Logs
 pub mod Laters
 pub mod Plains
-pub mod Acceptable
 pub mod Orders
-pub mod Pagings
 pub mod Listings
+pub mod Among
+pub mod Rows
+pub mod Pagings
+pub mod Lawfuls
+pub mod Bounds
+pub mod Calls

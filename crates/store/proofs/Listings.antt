@@ -18,7 +18,7 @@ use Rattle.tree.proofs.SortedEntries.{less}
 use Rattle.store.specs.Database.{Database, Document, HasSequences}
 use Rattle.store.specs.Pages.{SequenceRow, put_in_sequence, row_of, rows_of}
 
-abbrev Entry : Type 0
+abbrev pub Entry : Type 0
 Entry = List ℕ × Document
 
 sorted : (rs : List SequenceRow) → T (is_sorted nat_cmp (put_in_sequence rs []))
@@ -30,7 +30,7 @@ ascending rs = true_from_T _ (sorted rs)
 
 -- ---- entries among entries
 
-abbrev In : List Entry → Entry → Type 0
+abbrev pub In : {X : Type 0} → List X → X → Type 0
 In [] x = ⊥
 In (e ∷ es) x = (e ≡ x) ⊎ In es x
 
@@ -44,11 +44,11 @@ inside : Document → Option Document → Document
 inside d None = d
 inside d (Some e) = e
 
-value : (d e : Document) → Some e ≡ Some d → e ≡ d
+pub value : (d e : Document) → Some e ≡ Some d → e ≡ d
 unfolding inside
 value d e h = ap (inside d) h
 
-found_in : (es : List Entry) (q : List ℕ) (v : Document) → find (slice_cmp nat_cmp) q es ≡ Some v → In es (q, v)
+pub found_in : (es : List Entry) (q : List ℕ) (v : Document) → find (slice_cmp nat_cmp) q es ≡ Some v → In es (q, v)
 found_in [] q v h = absurd cc
 found_in (e ∷ es) q v h =
     elim (eq_by_cmp (slice_cmp nat_cmp) q e.0) as (λ b. eq_by_cmp (slice_cmp nat_cmp) q e.0 ≡ b → cond b (Some e.1) (find (slice_cmp nat_cmp) q es) ≡ Some v → In (e ∷ es) (q, v)) [
@@ -64,7 +64,7 @@ below_in r (e ∷ es) x h (inr i) = below_in r es x (second_so _ _ h) i
 above : (r s : List ℕ) → slice_cmp nat_cmp r s ≡ Less → slice_cmp nat_cmp s r ≡ Greater
 above r s e = nat_list_cmp_total.antisymm s r ∙ ap ordering_reverse e
 
-in_found : (es : List Entry) (x : Entry) → is_sorted (slice_cmp nat_cmp) es ≡ true → In es x → find (slice_cmp nat_cmp) x.0 es ≡ Some x.1
+pub in_found : (es : List Entry) (x : Entry) → is_sorted (slice_cmp nat_cmp) es ≡ true → In es x → find (slice_cmp nat_cmp) x.0 es ≡ Some x.1
 in_found [] x h i = elim i [ ]
 in_found (e ∷ es) x h (inl i) =
     ap (λ b. cond b (Some e.1) (find (slice_cmp nat_cmp) x.0 es)) (tied x.0 e.0 (ap (λ (y : Entry). y.0) (sym i))) ∙ ap (λ (y : Entry). Some y.1) i

@@ -1,8 +1,10 @@
 -- The rows of a plain store beside those of its contents.
-use Rattle.std.proofs.Common.{◌≡◌, ℕ, suc, ◌+◌, List, [], ◌∷◌, ◌++◌, length, map, filter, min, drop, nat_lt, Bool, true, false, cond, Ordering, Option, Some, None, option_map, nat_cmp, refl, sym, ap, ap₂, ◌∙◌, arith}
+use Rattle.std.proofs.Common.{◌≡◌, ℕ, suc, ◌+◌, ◌≤◌, ◌<◌, ◌^◌, List, [], ◌∷◌, ◌++◌, length, map, filter, min, drop, reverse, nat_lt, subst, IfSome, is_some, Bool, true, false, cond, Ordering, Option, Some, None, option_map, nat_cmp, refl, sym, ap, ap₂, ◌∙◌, arith}
 use Rattle.std.proofs.lemmas.Bool.Decides.{nat_tests}
 use Rattle.std.proofs.lemmas.Cmp.{nat_list_cmp_total}
-use Rattle.std.proofs.lemmas.List.{drop_min, map-append, take-map}
+use Rattle.std.proofs.lemmas.List.{drop_min, length-reverse, map-append, take-map}
+use Rattle.std.proofs.lemmas.List.Sorted.{IsPermutation-reverse, sum_by-IsPermutation}
+use Rattle.std.proofs.lemmas.List.Sums.{length-filter}
 use Rattle.std.specs.declared.cmp.Ordering.TheVariants.{Less, Equal, Greater}
 use Rattle.std.specs.Ordering.{eq_by_cmp, ord_min}
 use Rattle.std.specs.Cmp.Lexicographic.{slice_cmp}
@@ -12,12 +14,14 @@ use Rattle.std.specs.FinMap.Entries.{by_order}
 use Rattle.tree.specs.History.{with_write}
 use Rattle.store.specs.Database.{Database, Document, DocumentWrite, history_at, history_in, with_one, with_all, empty_database}
 use Rattle.std.specs.List.{count_by}
-use Rattle.store.specs.Pages.{gone_count, live_count, id_page, is_before_start, live_rows, rows_within, page_by_id, SequenceRow, in_sequence, last_sequence, limited, page_by_sequence, page_with, put_in_sequence, rows_after, rows_of}
+use Rattle.store.specs.Pages.{document_counts, directed, if_counted, id_page, is_before_start, is_within, live_rows, rows_within, page_by_id, SequenceRow, in_sequence, last_sequence, limited, page_by_sequence, page_with, put_in_sequence, rows_after, rows_of}
 use Rattle.store.specs.Paging.{sequence_row_of, sequence_rows}
 use Rattle.store.specs.Plain.{content, gathered, gathered_after, with_write_at}
 use Rattle.store.specs.Writing.{writings}
+use Rattle.store.specs.declared.page.DocumentCounts.{DocumentCounts}
 use Rattle.store.specs.declared.page.IdRange.{IdRange}
 use Rattle.store.specs.declared.page.IdRow.{IdRow}
+use Rattle.store.specs.declared.page.RowCounts.{RowCounts}
 use Rattle.store.specs.declared.page.SeqRange.{SeqRange}
 use Rattle.store.specs.declared.page.SeqRow.{SeqRow}
 use Rattle.store.specs.declared.plain.PlainDatabase.{PlainDatabase}
@@ -61,11 +65,11 @@ entries-with_all : (ws : List DocumentWrite) (db : Database) → finite.entries 
 entries-with_all [] db = refl
 entries-with_all (w ∷ ws) db = entries-with_all ws (with_one db w) ∙ ap (λ es. gathered_after (db.length + 1) es ws) (gathered_entry db w)
 
-length-with_all : (ws : List DocumentWrite) (db : Database) → (with_all db ws).length ≡ db.length + length ws
+pub length-with_all : (ws : List DocumentWrite) (db : Database) → (with_all db ws).length ≡ db.length + length ws
 length-with_all [] db = omega arith
 length-with_all (w ∷ ws) db = let more = length-with_all ws (with_one db w) in omega arith
 
-length-writings : (ws : List Write) → length (writings ws) ≡ length ws
+pub length-writings : (ws : List Write) → length (writings ws) ≡ length ws
 length-writings [] = refl
 length-writings (w ∷ ws) = ap suc (length-writings ws)
 
@@ -127,29 +131,79 @@ pub length-gathered : (es : List (List ℕ × PlainDocument)) → length es ≡ 
 length-gathered [] = refl
 length-gathered (e ∷ es) = ap suc (length-gathered es)
 
-pub page_made : (range : SeqRange) (n last documents deleted : ℕ) (all : List SeqRow) (cut : List SequenceRow) (es : List (List ℕ × Document))
+pub page_made : (range : SeqRange) (n last : ℕ) (counts : Option DocumentCounts) (all : List SeqRow) (cut : List SequenceRow) (es : List (List ℕ × Document))
     → sequence_rows all ≡ rows_of range.all_leaves es → cut ≡ limited range.limit (filter (λ r. nat_lt range.since r.sequence) (in_sequence (sequence_rows all)))
-    → last ≡ last_sequence (min range.since n) cut → documents ≡ live_count es → deleted ≡ gone_count es
-    → record { rows = cut; last = last; sequence = n; documents = documents; deleted = deleted } ≡ page_with range n es
-page_made range n last documents deleted all cut es is made at live gone =
+    → last ≡ last_sequence (min range.since n) cut → counts ≡ if_counted range.counted (document_counts es)
+    → record { rows = cut; last = last; sequence = n; counts = counts } ≡ page_with range n es
+page_made range n last counts all cut es is made at count =
     let rows = made ∙ ap (rows_after range) is in
     let end = at ∙ ap (last_sequence (min range.since n)) rows in
-    λ i. record { rows = rows i; last = end i; sequence = n; documents = live i; deleted = gone i }
+    λ i. record { rows = rows i; last = end i; sequence = n; counts = count i }
 
 pub smaller : (a b : ℕ) → ord_min nat_cmp a b ≡ min a b
 smaller a b = grind (arith, nat_tests)
 
-pub id_page_made : (range : IdRange) (before skipped total : ℕ) (all within cut rs : List IdRow) → all ≡ rs → before ≡ count_by (λ r. is_before_start range r.id) all
+pub id_page_made : (range : IdRange) (before skipped total : ℕ) (counts : Option RowCounts) (all within cut rs : List IdRow) → all ≡ rs → before ≡ count_by (λ r. is_before_start range r.id) all
     → within ≡ rows_within range all → skipped ≡ min range.skip (length within) → cut ≡ limited range.limit (drop skipped within) → total ≡ length all
-    → record { offset = before + skipped; rows = cut; total = total } ≡ id_page range rs
-id_page_made range before skipped total all within cut rs is count made least at sum =
+    → counts ≡ if_counted range.counted (record { offset = before + skipped; total = total })
+    → record { rows = cut; counts = counts } ≡ id_page range rs
+id_page_made range before skipped total counts all within cut rs is count made least at sum told =
     let counted = count ∙ ap (count_by (λ r. is_before_start range r.id)) is in
     let rows = made ∙ ap (rows_within range) is in
     let left = least ∙ ap (λ ws. min range.skip (length ws)) rows in
     let page = at ∙ ap (λ n. limited range.limit (drop n within)) least ∙ ap (limited range.limit) (drop_min range.skip within) ∙ ap (λ ws. limited range.limit (drop range.skip ws)) rows in
     let summed = sum ∙ ap length is in
-    λ i. record { offset = counted i + left i; rows = page i; total = summed i }
+    λ i. record { rows = page i; counts = (told ∙ (λ j. if_counted range.counted (record { offset = counted j + left j; total = summed j }))) i }
 
 pub sequence_rows-limited : (limit : Option ℕ) (rs : List SeqRow) → sequence_rows (limited limit rs) ≡ limited limit (sequence_rows rs)
 sequence_rows-limited None rs = refl
 sequence_rows-limited (Some n) rs = sym (take-map sequence_row_of n rs)
+
+-- ---- counts
+
+apart : {X : Type 0} (p q : X → Bool) → ((x : X) → p x ≡ true → q x ≡ false) → (xs : List X) → length (filter p xs) + length (filter q xs) ≤ length xs
+apart p q h [] = omega arith
+apart p q h (x ∷ xs) = by (p x) (q x) (h x) (apart p q h xs)
+  where
+    by : (b c : Bool) → (b ≡ true → c ≡ false) → length (filter p xs) + length (filter q xs) ≤ length xs
+        → length (cond b (x ∷ filter p xs) (filter p xs)) + length (cond c (x ∷ filter q xs) (filter q xs)) ≤ suc (length xs)
+    by true true k le = let no = k refl in cc
+    by true false k le = omega (arith, le)
+    by false true k le = omega (arith, le)
+    by false false k le = omega (arith, le)
+
+count-directed : (descending : Bool) (p : IdRow → Bool) (rs : List IdRow) → count_by p (directed descending rs) ≡ count_by p rs
+count-directed true p rs = sum_by-IsPermutation (λ r. cond (p r) 1 0) rs (reverse rs) (IsPermutation-reverse rs)
+count-directed false p rs = refl
+
+length-directed : (descending : Bool) (rs : List IdRow) → length (directed descending rs) ≡ length rs
+length-directed true rs = length-reverse rs
+length-directed false rs = refl
+
+before_not_within : (range : IdRange) (id : List ℕ) → is_before_start range id ≡ true → is_within range id ≡ false
+before_not_within range id h = rw h refl
+
+-- the rows before the range and those of the range are not more than there are
+pub counted_within : (range : IdRange) (rs : List IdRow) → count_by (λ r. is_before_start range r.id) rs + length (rows_within range rs) ≤ length rs
+counted_within range rs =
+    let ds = directed range.descending rs in
+    let p = λ (r : IdRow). is_before_start range r.id in
+    let before = length-filter p ds ∙ count-directed range.descending p rs in
+    omega (arith, before, apart p (λ r. is_within range r.id) (λ r. before_not_within range r.id) ds, length-directed range.descending rs)
+
+pub counts_fit : (b : Bool) (counts : Option RowCounts) (offset total : ℕ) → counts ≡ if_counted b (record { offset = offset; total = total }) → offset ≤ total → total < 2 ^ 63
+    → IfSome counts (λ c. (c.offset ≤ c.total) × (c.total < 2 ^ 63))
+counts_fit b counts offset total is le lt = subst (λ (o : Option RowCounts). IfSome {T = RowCounts} o (λ c. (c.offset ≤ c.total) × (c.total < 2 ^ 63))) (sym is) (by b)
+  where
+    by : (b : Bool) → IfSome {T = RowCounts} (if_counted b (record { offset = offset; total = total })) (λ c. (c.offset ≤ c.total) × (c.total < 2 ^ 63))
+    by true = (le, lt)
+    by false = tt
+
+pub counts_below : (n : ℕ) (counts : Option DocumentCounts) → IfSome counts (λ c. (c.documents ≤ n) × (c.deleted ≤ n)) → n < 2 ^ 63
+    → IfSome counts (λ c. (c.documents < 2 ^ 63) × (c.deleted < 2 ^ 63))
+counts_below n None h lt = tt
+counts_below n (Some c) h lt = (omega (arith, h.0, lt), omega (arith, h.1, lt))
+
+pub is_counted : {A : Type 0} (b : Bool) (counts : A) → is_some (if_counted b counts) ≡ b
+is_counted true counts = refl
+is_counted false counts = refl

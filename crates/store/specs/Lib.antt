@@ -5,4 +5,7 @@ pub mod Causes
 pub mod Pages
 pub mod Writing
 pub mod Paging
+pub mod Lawful
+pub mod Leaving
+pub mod Calls
 pub mod Plain

@@ -1,17 +1,24 @@
--- The rows that a database is listed by, in the order of its writes and by id, cut by a range, with the counts of the database.
+-- The rows that a database is listed by, in the order of its writes and by id, cut by a range, with the counts of the database where they are asked for.
 -- CouchDB manual, api/database/changes (`_changes`: `since`, `limit`, `style`, `last_seq`), api/database/bulk-api (`_all_docs`: `startkey`, `endkey`, `inclusive_end`, `descending`, `skip`, `limit`, `offset`, `total_rows`) and api/database/common (`doc_count`, `doc_del_count`, `update_seq`); that ids are ordered by their bytes is this server's own.
-use Rattle.std.specs.Prelude.{ℕ, ◌+◌, ◌-◌, Bool, true, false, not, ◌||◌, List, [], ◌∷◌, map, filter, length, min, nat_lt, take, drop, reverse, string_bytes, Option, Some, None, option_map, if◌then◌else◌}
+use Rattle.std.specs.Prelude.{◌≡◌, ◌<◌, ℕ, ◌+◌, ◌-◌, Bool, true, false, not, ◌||◌, List, [], ◌∷◌, map, filter, length, min, nat_lt, take, drop, reverse, string_bytes, Option, Some, None, option_map, if◌then◌else◌}
 use Rattle.std.specs.List.{count_by}
 use Rattle.std.specs.Option.{option_to_list}
 use Rattle.std.specs.Ordering.{nat_cmp, is_lt}
 use Rattle.std.specs.Cmp.Lexicographic.{slice_cmp}
-use Rattle.std.specs.FinMap.{entries, put}
+use Rattle.std.specs.FinMap.{entries, get, put}
 use Rattle.tree.specs.Revision.{Revision}
 use Rattle.tree.specs.History.{HistoryContent, held_of, is_deleted, leaves, winner}
 use Rattle.store.specs.Database.{Database, Document}
+use Rattle.store.specs.declared.page.DocumentCounts.{DocumentCounts}
 use Rattle.store.specs.declared.page.IdRange.{IdRange}
 use Rattle.store.specs.declared.page.IdRow.{IdRow}
+use Rattle.store.specs.declared.page.RowCounts.{RowCounts}
 use Rattle.store.specs.declared.page.SeqRange.{SeqRange}
+
+-- counts come where they are asked for
+abbrev pub if_counted : {A : Type 0} → Bool → A → Option A
+if_counted false counts = None
+if_counted true counts = Some counts
 
 -- a document at the sequence of its latest write
 pub record SequenceRow : Type 0 where
@@ -24,10 +31,10 @@ pub record SequencePage : Type 0 where
   pub rows : List SequenceRow
   -- the sequence of the last of these rows, or what stands for it where there is none
   pub last : ℕ
-  -- the database's own sequence, and how many documents it has whose winner is not deleted, and whose winner is
+  -- the database's own sequence
   pub sequence : ℕ
-  pub documents : ℕ
-  pub deleted : ℕ
+  -- how many documents it has whose winner is not deleted, and whose winner is
+  pub counts : Option DocumentCounts
 
 -- whether the winner is deleted
 abbrev pub is_gone_by : HistoryContent → Option Revision → Bool
@@ -79,28 +86,36 @@ gone_count es = count_by (λ e. is_gone e.1.history) es
 abbrev pub live_count : List (List ℕ × Document) → ℕ
 live_count es = length es - gone_count es
 
+abbrev pub document_counts : List (List ℕ × Document) → DocumentCounts
+document_counts es = record { documents = live_count es; deleted = gone_count es }
+
 abbrev pub page_with : SeqRange → ℕ → List (List ℕ × Document) → SequencePage
 page_with range sequence es =
     record {
       rows = rows_after range (rows_of range.all_leaves es);
       last = last_sequence (min range.since sequence) (rows_after range (rows_of range.all_leaves es));
       sequence = sequence;
-      documents = live_count es;
-      deleted = gone_count es;
+      counts = if_counted range.counted (document_counts es);
     }
 
 -- the page of this database
 abbrev pub page_by_sequence : SeqRange → Database → SequencePage
 page_by_sequence range db = page_with range db.length (entries db.documents)
 
+-- the row is that of a document whose sequence is above the one that the range begins after
+pub record IsRowOf (range : SeqRange) (db : Database) (r : SequenceRow) : Type 0 where
+  pub document : Document
+  pub there : get db.documents r.id ≡ Some document
+  pub later : range.since < document.sequence
+  pub is : row_of range.all_leaves (r.id, document) ≡ r
+
 -- ---- by id
 
 pub record IdPage : Type 0 where
-  -- how many rows come before these, of those outside the range only the ones before its start
-  pub offset : ℕ
   pub rows : List IdRow
-  -- how many rows there are without any range
-  pub total : ℕ
+  -- how many rows come before these, of those outside the range only the ones before its start; and how many there are without any
+  -- range
+  pub counts : Option RowCounts
 
 -- the winner, where it is not deleted
 abbrev pub live_rev_by : HistoryContent → Option Revision → Option Revision
@@ -148,13 +163,16 @@ directed descending rs = if descending then reverse rs else rs
 abbrev pub rows_within : IdRange → List IdRow → List IdRow
 rows_within range rs = filter (λ r. is_within range r.id) (directed range.descending rs)
 
-abbrev pub id_page : IdRange → List IdRow → IdPage
-id_page range rs =
+abbrev pub row_counts : IdRange → List IdRow → RowCounts
+row_counts range rs =
     record {
       offset = count_by (λ r. is_before_start range r.id) rs + min range.skip (length (rows_within range rs));
-      rows = limited range.limit (drop range.skip (rows_within range rs));
       total = length rs;
     }
+
+abbrev pub id_page : IdRange → List IdRow → IdPage
+id_page range rs =
+    record { rows = limited range.limit (drop range.skip (rows_within range rs)); counts = if_counted range.counted (row_counts range rs) }
 
 -- the page of this database
 abbrev pub page_by_id : IdRange → Database → IdPage

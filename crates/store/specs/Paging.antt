@@ -1,9 +1,11 @@
 -- The pages that the structs of the code are.
 -- This crate's own: it ties them to the definitions of `Pages`.
-use Rattle.std.specs.Prelude.{◌<◌, ◌^◌, List, map}
+use Rattle.std.specs.Prelude.{◌≡◌, ◌<◌, ◌≤◌, ◌^◌, All, IfSome, is_some, List, map}
 use Rattle.store.specs.Pages.{IdPage, SequencePage, SequenceRow}
+use Rattle.store.specs.declared.page.IdRange.{IdRange}
 use Rattle.store.specs.declared.page.PageById.{PageById}
 use Rattle.store.specs.declared.page.PageBySeq.{PageBySeq}
+use Rattle.store.specs.declared.page.SeqRange.{SeqRange}
 use Rattle.store.specs.declared.page.SeqRow.{SeqRow}
 
 abbrev pub sequence_row_of : SeqRow → SequenceRow
@@ -18,13 +20,22 @@ sequence_page_of p =
       rows = sequence_rows p.rows.items;
       last = p.last_seq;
       sequence = p.sequence;
-      documents = p.documents;
-      deleted = p.deleted;
+      counts = p.counts;
     }
 
--- the counts are numbers that a JSON value may hold
-abbrev pub IsBounded : PageBySeq → Type 0
-IsBounded p = (p.sequence < 2 ^ 63) × (p.documents < 2 ^ 63) × (p.deleted < 2 ^ 63)
+-- sequences and counts are numbers that a JSON value may hold, and there are counts exactly where they are asked for
+pub record IsBounded (range : SeqRange) (p : PageBySeq) : Type 0 where
+  pub sequence : p.sequence < 2 ^ 63
+  pub last : p.last_seq < 2 ^ 63
+  pub rows : All (λ r. r.sequence < 2 ^ 63) p.rows.items
+  pub counted : is_some p.counts ≡ range.counted
+  pub counts : IfSome p.counts (λ counts. (counts.documents < 2 ^ 63) × (counts.deleted < 2 ^ 63))
 
 abbrev pub id_page_of : PageById → IdPage
-id_page_of p = record { offset = p.offset; rows = p.rows.items; total = p.total }
+id_page_of p = record { rows = p.rows.items; counts = p.counts }
+
+-- no more rows come before the page than there are, a JSON value may hold the numbers, and there are counts exactly where they are
+-- asked for
+pub record IsCounted (range : IdRange) (p : PageById) : Type 0 where
+  pub counted : is_some p.counts ≡ range.counted
+  pub counts : IfSome p.counts (λ counts. (counts.offset ≤ counts.total) × (counts.total < 2 ^ 63))

@@ -2,13 +2,13 @@
 
 ghost use Rattle.std.specs.Prelude.{◌≡◌, ◌≤◌, [], IfOk, filter, length, option_map, drop};
 ghost use Rattle.std.specs.List.{count_by};
-ghost use Rattle.store.specs.Pages.{comes_before as comes_before_lem, directed as directed_lem, id_page, is_after_end as is_after_end_lem, is_before_start as is_before_start_lem, is_within as is_within_lem, live_rev as live_rev_lem, live_rows as live_rows_lem};
-ghost use Rattle.store.specs.Paging.{id_page_of};
+ghost use Rattle.store.specs.Pages.{comes_before as comes_before_lem, directed as directed_lem, id_page, if_counted, is_after_end as is_after_end_lem, is_before_start as is_before_start_lem, is_within as is_within_lem, live_rev as live_rev_lem, live_rows as live_rows_lem};
+ghost use Rattle.store.specs.Paging.{IsCounted, id_page_of};
 ghost use Rattle.store.specs.Plain.{gathered, gathered_after};
 ghost use Rattle.store.specs.Writing.{writings};
 
 use crate::order::limited;
-use crate::page::{IdRange, IdRow, PageById};
+use crate::page::{IdRange, IdRow, PageById, RowCounts};
 use crate::pages::documents_of;
 use crate::plain::Documents;
 use crate::write::Write;
@@ -19,7 +19,8 @@ use tree::{DocId, History, Rev};
 
 /// The rows that the writes made, by id, cut by the range.
 pub(crate) fn page_by_id(alloc: Global, writes: &Vec<Write>, range: &IdRange) -> Got<PageById>
-    ensures { IfOk result (λ page. id_page_of page ≡ id_page range.now (live_rows_lem (gathered_after 0 [] (writings writes.now.items)))) }
+    ensures page { IfOk result (λ page. id_page_of page ≡ id_page range.now (live_rows_lem (gathered_after 0 [] (writings writes.now.items)))) }
+    ensures counted { IfOk result (IsCounted range.now) }
 {
     let documents = documents_of(alloc, writes)?;
     let rows = live_rows(alloc, &documents)?;
@@ -29,10 +30,18 @@ pub(crate) fn page_by_id(alloc: Global, writes: &Vec<Write>, range: &IdRange) ->
     let skipped = min(range.skip, rows.len() as u64);
     let rows = rows.split_off(skipped as usize)?;
     Ok(PageById {
-        offset: before + skipped,
         rows: limited(rows, range.limit),
-        total,
+        counts: counts_if(range.counted, before + skipped, total),
     })
+}
+
+fn counts_if(counted: bool, offset: u64, total: u64) -> Option<RowCounts>
+    ensures { result ≡ if_counted counted (record { offset = offset; total = total }) }
+{
+    if counted {
+        return Some(RowCounts { offset, total });
+    }
+    None
 }
 
 /// A row for each document whose winner is not deleted.

@@ -3,6 +3,7 @@
 
 mod database_name;
 mod databases;
+mod failing_store;
 mod fault;
 mod id_pages;
 pub mod laws;
@@ -16,8 +17,9 @@ mod store;
 mod write;
 
 pub use database_name::{DbName, NameFault};
+pub use failing_store::FailingStore;
 pub use fault::StoreFault;
-pub use page::{IdRange, IdRow, PageById, PageBySeq, SeqRange, SeqRow};
+pub use page::{DocumentCounts, IdRange, IdRow, PageById, PageBySeq, RowCounts, SeqRange, SeqRow};
 pub use plain_store::PlainStore;
 pub use store::Store;
 pub use write::Write;

@@ -9,6 +9,8 @@ pub struct SeqRange {
     pub limit: Option<u64>,
     /// All leaves of each document, best first; else its winner alone.
     pub all_leaves: bool,
+    /// Whether the documents of the database are to be counted, which costs a walk over all of them.
+    pub counted: bool,
 }
 
 /// A row of a listing by sequence: a document at the sequence of its latest write.
@@ -24,7 +26,16 @@ pub struct SeqRow {
     pub deleted: bool,
 }
 
-/// A part of the listing of a database by sequence, and the database's counts.
+/// How many documents a database has.
+#[derive(Clone, Copy, Debug)]
+pub struct DocumentCounts {
+    /// Documents whose winner is not deleted, design documents among them.
+    pub documents: u64,
+    /// Documents whose winner is deleted.
+    pub deleted: u64,
+}
+
+/// A part of the listing of a database by sequence.
 ///
 /// See the CouchDB manual, api/database/changes and api/database/common.
 #[derive(Drop)]
@@ -36,10 +47,8 @@ pub struct PageBySeq {
     pub last_seq: u64,
     /// The database's sequence: how many writes it accepted.
     pub sequence: u64,
-    /// How many documents have a winner that is not deleted, design documents among them.
-    pub documents: u64,
-    /// How many documents have a winner that is deleted.
-    pub deleted: u64,
+    /// How many documents the whole database has, where that was asked for.
+    pub counts: Option<DocumentCounts>,
 }
 
 /// Which rows of a listing by id are wanted.
@@ -57,6 +66,8 @@ pub struct IdRange {
     pub skip: u64,
     /// At most so many rows; `None` for all.
     pub limit: Option<u64>,
+    /// Whether the rows outside of the page are to be counted, which costs a walk over all of them.
+    pub counted: bool,
 }
 
 /// A row of a listing by id: a document whose winner is not deleted.
@@ -68,15 +79,22 @@ pub struct IdRow {
     pub rev: Rev,
 }
 
-/// A part of the listing of a database by id, in the order of bytes, with its counts.
+/// Where a page stands in the whole listing by id.
+#[derive(Clone, Copy, Debug)]
+pub struct RowCounts {
+    /// How many rows come before the start of the range, and how many of the range are left out.
+    pub offset: u64,
+    /// How many rows the whole listing has: documents whose winner is not deleted.
+    pub total: u64,
+}
+
+/// A part of the listing of a database by id, in the order of bytes.
 ///
 /// See the CouchDB manual, api/database/bulk-api.
 #[derive(Drop)]
 pub struct PageById {
-    /// How many rows come before the start of the range, and how many of the range are left out.
-    pub offset: u64,
     /// The rows, in the direction asked for.
     pub rows: Vec<IdRow>,
-    /// How many rows the whole listing has: documents whose winner is not deleted.
-    pub total: u64,
+    /// Where they stand in the whole listing, where that was asked for.
+    pub counts: Option<RowCounts>,
 }

@@ -1,17 +1,17 @@
 //! The pages of a plain store, made from its writes.
 
-ghost use Rattle.std.specs.Prelude.{◌≡◌, ◌≤◌, [], IfOk, OnOk, filter, length, map as list_map, nat_lt};
+ghost use Rattle.std.specs.Prelude.{◌≡◌, ◌≤◌, [], IfOk, IfSome, OnOk, filter, length, map as list_map, nat_lt};
 ghost use Rattle.std.specs.FinMap.{find};
 ghost use Rattle.std.specs.Ordering.{nat_cmp};
 ghost use Rattle.std.specs.Cmp.Lexicographic.{slice_cmp};
 ghost use Rattle.store.specs.Database.{history_in as history_in_lem};
-ghost use Rattle.store.specs.Pages.{gone_count, in_sequence as in_sequence_lem, is_gone as is_gone_lem, last_sequence as last_sequence_lem, limited as limited_lem, page_with, row_of as row_of_lem, rows_of as rows_of_lem, shown_revs as shown_revs_lem};
+ghost use Rattle.store.specs.Pages.{document_counts, gone_count, if_counted, in_sequence as in_sequence_lem, is_gone as is_gone_lem, last_sequence as last_sequence_lem, limited as limited_lem, page_with, row_of as row_of_lem, rows_of as rows_of_lem, shown_revs as shown_revs_lem};
 ghost use Rattle.store.specs.Paging.{IsBounded, sequence_page_of, sequence_row_of, sequence_rows};
 ghost use Rattle.store.specs.Plain.{gathered, gathered_after, stored, with_write_at};
 ghost use Rattle.store.specs.Writing.{writing_of, writings};
 
 use crate::order::{limited, put, value_at};
-use crate::page::{PageBySeq, SeqRange, SeqRow};
+use crate::page::{DocumentCounts, PageBySeq, SeqRange, SeqRow};
 use crate::plain::{Documents, PlainDocument};
 use crate::write::Write;
 use couch_json::Got;
@@ -22,12 +22,10 @@ use tree::{DocId, History, Rev};
 /// The rows that the writes made, in the order of their sequences, cut by the range.
 pub(crate) fn page_by_seq(alloc: Global, writes: &Vec<Write>, range: &SeqRange) -> Got<PageBySeq>
     ensures page { IfOk result (λ page. sequence_page_of page ≡ page_with range.now (length writes.now.items) (gathered_after 0 [] (writings writes.now.items))) }
-    ensures bounded { IfOk result IsBounded }
+    ensures bounded { IfOk result (IsBounded range.now) }
 {
     let documents = documents_of(alloc, writes)?;
     let rows = rows_of(alloc, &documents, range.all_leaves)?;
-    let deleted = count_deleted(&documents);
-    let documents = documents.len() as u64 - deleted;
     let sequence = writes.len() as u64;
     let rows = rows_after(in_sequence(alloc, rows)?, range);
     let last_seq = last_sequence(min(range.since, sequence), &rows);
@@ -35,7 +33,21 @@ pub(crate) fn page_by_seq(alloc: Global, writes: &Vec<Write>, range: &SeqRange) 
         rows,
         last_seq,
         sequence,
-        documents,
+        counts: counts_of(&documents, range.counted),
+    })
+}
+
+/// Counts the documents, where that is asked for.
+fn counts_of(documents: &Documents, counted: bool) -> Option<DocumentCounts>
+    ensures counts { result ≡ if_counted counted (document_counts (gathered documents.now.items)) }
+    ensures within { IfSome result (λ counts. (counts.documents ≤ length documents.now.items) × (counts.deleted ≤ length documents.now.items)) }
+{
+    if !counted {
+        return None;
+    }
+    let deleted = count_deleted(documents);
+    Some(DocumentCounts {
+        documents: documents.len() as u64 - deleted,
         deleted,
     })
 }

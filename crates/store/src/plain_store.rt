@@ -1,5 +1,6 @@
 ghost use Rattle.std.specs.Prelude.{◌≡◌, ⊤};
 ghost use Rattle.std.specs.FinMap as map;
+ghost use Rattle.store.specs.Lawful.{AreLawful};
 ghost use Rattle.store.specs.Plain.{contents_of};
 
 use crate::database_name::DbName;
@@ -18,11 +19,12 @@ use tree::{DocId, History};
 
 /// A store in memory that keeps the list of writes itself.
 ///
-/// It meets [`Store`] as plainly as can be: histories are replayed from the writes. It never fails
-/// and is never damaged, so `Failed` and `Damaged` never come, and `faults` is 0.
+/// It meets [`Store`] as plainly as can be: histories are replayed from the writes. It never fails,
+/// so `Failed`, `Damaged` and `Full` never come, and `faults` is 0.
 #[derive(Drop)]
 pub struct PlainStore {
     databases: Databases,
+    ghost lawful: { ∥ AreLawful (contents_of databases.items) ∥₁ },
 }
 
 impl PlainStore {
@@ -41,11 +43,13 @@ impl Store for PlainStore {
 
     ghost is_honest = { λ _. ⊤ };
 
+    ghost is_clean = { λ _. ⊤ };
+
     ghost fault_count = { λ _. 0 };
 
-    ghost is_damaged = { λ _. ⊥ };
+    ghost lacks_room = { λ _ _ _. ⊥ };
 
-    ghost lacks_room = { λ _ _. ⊥ };
+    ghost lacks_number = { λ _. ⊥ };
 
     fn create(&mut self, name: &DbName) -> Result<(), StoreFault> {
         if place_of(&self.databases, name).is_some() {
@@ -122,4 +126,6 @@ impl Store for PlainStore {
     fn faults(&self) -> u64 {
         0
     }
+
+    ghost lawful = { λ s _. s.lawful };
 }

@@ -1,10 +1,12 @@
-ghost use Rattle.std.specs.Prelude.{◌≡◌, ◌≢◌, ◌≤◌, ℕ, IfOk, IfErr, OnOk, OnErr, Ok, Err, Some, None, is_some, true, length, option_map};
+ghost use Rattle.std.specs.Prelude.{◌≡◌, ◌≢◌, ℕ, List, IfOk, IfErr, OnOk, Err, Some, None, is_some, true, option_map};
 ghost use Rattle.std.specs.FinMap as map;
 ghost use Rattle.store.specs.Causes.{IsCaused};
 ghost use Rattle.store.specs.Contents.{Contents, AreAcceptable, IfThere, new_database, with_security};
-ghost use Rattle.store.specs.Database.{history_at, with_all};
+ghost use Rattle.store.specs.Database.{DocumentWrite, history_at, with_all};
+ghost use Rattle.store.specs.Lawful.{AreLawful};
+ghost use Rattle.store.specs.Leaving.{Answers, ChangesWhole, OnlyReads};
 ghost use Rattle.store.specs.Pages.{page_by_id as page_by_id_lem, page_by_sequence};
-ghost use Rattle.store.specs.Paging.{IsBounded, id_page_of, sequence_page_of};
+ghost use Rattle.store.specs.Paging.{IsBounded, IsCounted, id_page_of, sequence_page_of};
 ghost use Rattle.store.specs.Writing.{writings};
 
 use crate::database_name::DbName;
@@ -22,18 +24,22 @@ pub trait Store {
     /// The databases by name.
     ghost contents: { Self → Contents };
 
-    /// What the store stands on has returned what was written. Clauses about contents say something
-    /// only where this holds at the return; in memory it always does.
+    /// What the store stands on has returned what was written, and what the store opened was laid out
+    /// as it lays out. Clauses about contents say something only where this holds at the return; in
+    /// memory it always does.
     ghost is_honest: { Self → Type 0 };
+
+    /// What the store stands on has returned what was written, whatever the store opened.
+    ghost is_clean: { Self → Type 0 };
 
     /// How many faults of what it stands on the store has met.
     ghost fault_count: { Self → ℕ };
 
-    /// Something stored is not laid out as the store lays it out.
-    ghost is_damaged: { Self → Type 0 };
+    /// The store has no numbers left for these writes in the database of this name.
+    ghost lacks_room: { Self → List ℕ → List DocumentWrite → Type 0 };
 
-    /// The store has no numbers left for so many more databases or writes.
-    ghost lacks_room: { Self → ℕ → Type 0 };
+    /// The store has no number left for a new database.
+    ghost lacks_number: { Self → Type 0 };
 
     /// Makes a new database, closed to all but server admins. `Exists` comes exactly where there is
     /// one of this name.
@@ -41,10 +47,10 @@ pub trait Store {
         ensures ok { is_honest self.new → OnOk result (contents self.new ≡ map.insert (contents self.old) name.now new_database) }
         ensures absent { is_honest self.new → OnOk result (map.get (contents self.old) name.now ≡ None) }
         ensures exists { is_honest self.new → result ≡ Err StoreFault.Exists → is_some (map.get (contents self.old) name.now) ≡ true }
-        ensures err { is_honest self.new → OnErr result (contents self.new ≡ contents self.old) }
         ensures others { result ≢ Err StoreFault.NoDatabase }
-        ensures caused { IfErr result (λ fault. IsCaused (fault_count self.old) (fault_count self.new) (is_damaged self.old) (lacks_room self.old 1) fault) }
-        ensures onward { (fault_count self.old ≤ fault_count self.new) × (is_honest self.new → is_honest self.old) };
+        ensures caused { IfErr result (λ fault. IsCaused (fault_count self.old) (fault_count self.new) (is_honest self.new)
+            (is_honest self.new → lacks_number self.old) fault) }
+        ensures changes { ChangesWhole contents is_honest is_clean fault_count self.old self.new result };
 
     /// Removes a database with all that it holds. `NoDatabase` comes exactly where there is none of
     /// this name.
@@ -52,73 +58,53 @@ pub trait Store {
         ensures ok { is_honest self.new → OnOk result (contents self.new ≡ map.remove (contents self.old) name.now) }
         ensures there { is_honest self.new → OnOk result (is_some (map.get (contents self.old) name.now) ≡ true) }
         ensures missing { is_honest self.new → result ≡ Err StoreFault.NoDatabase → map.get (contents self.old) name.now ≡ None }
-        ensures err { is_honest self.new → OnErr result (contents self.new ≡ contents self.old) }
         ensures others { result ≢ Err StoreFault.Exists }
-        ensures caused { IfErr result (λ fault. IsCaused (fault_count self.old) (fault_count self.new) (is_damaged self.old) ⊥ fault) }
-        ensures onward { (fault_count self.old ≤ fault_count self.new) × (is_honest self.new → is_honest self.old) };
+        ensures caused { IfErr result (λ fault. IsCaused (fault_count self.old) (fault_count self.new) (is_honest self.new) ⊥ fault) }
+        ensures changes { ChangesWhole contents is_honest is_clean fault_count self.old self.new result };
 
     /// The names of all databases, in the order of their bytes.
     fn names(&mut self) -> Result<Vec<DbName>, StoreFault>
-        ensures ok { is_honest self.new → IfOk result (λ names. names.items ≡ map.keys (contents self.old)) }
-        ensures same { is_honest self.new → contents self.new ≡ contents self.old }
-        ensures others { IfErr result (λ fault. (fault ≢ StoreFault.NoDatabase) × (fault ≢ StoreFault.Exists)) }
-        ensures caused { IfErr result (λ fault. IsCaused (fault_count self.old) (fault_count self.new) (is_damaged self.old) ⊥ fault) }
-        ensures kept { is_honest self.new → (is_damaged self.new → is_damaged self.old) × ((n : ℕ) → lacks_room self.new n → lacks_room self.old n) }
-        ensures onward { (fault_count self.old ≤ fault_count self.new) × (is_honest self.new → is_honest self.old) };
+        ensures answer { Answers is_honest fault_count self.old self.new (λ names. names.items) (Some (map.keys (contents self.old))) result }
+        ensures others { result ≢ Err StoreFault.NoDatabase }
+        ensures reads { OnlyReads contents is_honest is_clean fault_count lacks_room lacks_number self.old self.new };
 
     /// The security object of a database. `NoDatabase` comes exactly where there is none.
     fn security(&mut self, name: &DbName) -> Result<Security, StoreFault>
-        ensures ok { is_honest self.new → IfOk result (λ security. option_map (λ db. db.security) (map.get (contents self.old) name.now) ≡ Some security) }
-        ensures missing { is_honest self.new → result ≡ Err StoreFault.NoDatabase → map.get (contents self.old) name.now ≡ None }
-        ensures same { is_honest self.new → contents self.new ≡ contents self.old }
-        ensures others { result ≢ Err StoreFault.Exists }
-        ensures caused { IfErr result (λ fault. IsCaused (fault_count self.old) (fault_count self.new) (is_damaged self.old) ⊥ fault) }
-        ensures kept { is_honest self.new → (is_damaged self.new → is_damaged self.old) × ((n : ℕ) → lacks_room self.new n → lacks_room self.old n) }
-        ensures onward { (fault_count self.old ≤ fault_count self.new) × (is_honest self.new → is_honest self.old) };
+        ensures answer { Answers is_honest fault_count self.old self.new (λ security. security)
+            (option_map (λ db. db.security) (map.get (contents self.old) name.now)) result }
+        ensures reads { OnlyReads contents is_honest is_clean fault_count lacks_room lacks_number self.old self.new };
 
     /// Gives a database another security object. `NoDatabase` comes exactly where there is none.
     fn set_security(&mut self, name: &DbName, security: &Security) -> Result<(), StoreFault>
         ensures ok { is_honest self.new → OnOk result (option_map (λ db. map.insert (contents self.old) name.now (with_security db security.now)) (map.get (contents self.old) name.now) ≡ Some (contents self.new)) }
         ensures missing { is_honest self.new → result ≡ Err StoreFault.NoDatabase → map.get (contents self.old) name.now ≡ None }
-        ensures err { is_honest self.new → OnErr result (contents self.new ≡ contents self.old) }
         ensures others { result ≢ Err StoreFault.Exists }
-        ensures caused { IfErr result (λ fault. IsCaused (fault_count self.old) (fault_count self.new) (is_damaged self.old) ⊥ fault) }
-        ensures onward { (fault_count self.old ≤ fault_count self.new) × (is_honest self.new → is_honest self.old) };
+        ensures caused { IfErr result (λ fault. IsCaused (fault_count self.old) (fault_count self.new) (is_honest self.new) ⊥ fault) }
+        ensures changes { ChangesWhole contents is_honest is_clean fault_count self.old self.new result };
 
     /// The history of a document, empty where it was never written. `NoDatabase` comes exactly where
     /// there is no database of this name.
     fn history(&mut self, name: &DbName, id: &DocId) -> Result<History, StoreFault>
-        ensures ok { is_honest self.new → IfOk result (λ history. option_map (λ db. history_at db id.now) (map.get (contents self.old) name.now) ≡ Some history) }
-        ensures missing { is_honest self.new → result ≡ Err StoreFault.NoDatabase → map.get (contents self.old) name.now ≡ None }
-        ensures same { is_honest self.new → contents self.new ≡ contents self.old }
-        ensures others { result ≢ Err StoreFault.Exists }
-        ensures caused { IfErr result (λ fault. IsCaused (fault_count self.old) (fault_count self.new) (is_damaged self.old) ⊥ fault) }
-        ensures kept { is_honest self.new → (is_damaged self.new → is_damaged self.old) × ((n : ℕ) → lacks_room self.new n → lacks_room self.old n) }
-        ensures onward { (fault_count self.old ≤ fault_count self.new) × (is_honest self.new → is_honest self.old) };
+        ensures answer { Answers is_honest fault_count self.old self.new (λ history. history)
+            (option_map (λ db. history_at db id.now) (map.get (contents self.old) name.now)) result }
+        ensures reads { OnlyReads contents is_honest is_clean fault_count lacks_room lacks_number self.old self.new };
 
     /// The documents of a database whose winner is not deleted, by id and cut by a range, with their
-    /// counts. `NoDatabase` comes exactly where there is none of this name.
+    /// counts where those are asked for. `NoDatabase` comes exactly where there is none of this name.
     fn page_by_id(&mut self, name: &DbName, range: &IdRange) -> Result<PageById, StoreFault>
-        ensures ok { is_honest self.new → IfOk result (λ page. option_map (λ db. page_by_id_lem range.now db) (map.get (contents self.old) name.now) ≡ Some (id_page_of page)) }
-        ensures missing { is_honest self.new → result ≡ Err StoreFault.NoDatabase → map.get (contents self.old) name.now ≡ None }
-        ensures same { is_honest self.new → contents self.new ≡ contents self.old }
-        ensures others { result ≢ Err StoreFault.Exists }
-        ensures caused { IfErr result (λ fault. IsCaused (fault_count self.old) (fault_count self.new) (is_damaged self.old) ⊥ fault) }
-        ensures kept { is_honest self.new → (is_damaged self.new → is_damaged self.old) × ((n : ℕ) → lacks_room self.new n → lacks_room self.old n) }
-        ensures onward { (fault_count self.old ≤ fault_count self.new) × (is_honest self.new → is_honest self.old) };
+        ensures answer { Answers is_honest fault_count self.old self.new id_page_of
+            (option_map (λ db. page_by_id_lem range.now db) (map.get (contents self.old) name.now)) result }
+        ensures counted { IfOk result (IsCounted range.now) }
+        ensures reads { OnlyReads contents is_honest is_clean fault_count lacks_room lacks_number self.old self.new };
 
     /// The documents of a database, each once at the sequence of its latest write, ascending and cut
-    /// by a range, with the database's counts. `NoDatabase` comes exactly where there is none of this
-    /// name.
+    /// by a range, with the database's counts where those are asked for. `NoDatabase` comes exactly
+    /// where there is none of this name.
     fn page_by_seq(&mut self, name: &DbName, range: &SeqRange) -> Result<PageBySeq, StoreFault>
-        ensures ok { is_honest self.new → IfOk result (λ page. option_map (λ db. page_by_sequence range.now db) (map.get (contents self.old) name.now) ≡ Some (sequence_page_of page)) }
-        ensures bounded { IfOk result IsBounded }
-        ensures missing { is_honest self.new → result ≡ Err StoreFault.NoDatabase → map.get (contents self.old) name.now ≡ None }
-        ensures same { is_honest self.new → contents self.new ≡ contents self.old }
-        ensures others { result ≢ Err StoreFault.Exists }
-        ensures caused { IfErr result (λ fault. IsCaused (fault_count self.old) (fault_count self.new) (is_damaged self.old) ⊥ fault) }
-        ensures kept { is_honest self.new → (is_damaged self.new → is_damaged self.old) × ((n : ℕ) → lacks_room self.new n → lacks_room self.old n) }
-        ensures onward { (fault_count self.old ≤ fault_count self.new) × (is_honest self.new → is_honest self.old) };
+        ensures answer { Answers is_honest fault_count self.old self.new sequence_page_of
+            (option_map (λ db. page_by_sequence range.now db) (map.get (contents self.old) name.now)) result }
+        ensures bounded { IfOk result (IsBounded range.now) }
+        ensures reads { OnlyReads contents is_honest is_clean fault_count lacks_room lacks_number self.old self.new };
 
     /// Appends all the writes to a database, or none of them. `NoDatabase` comes exactly where there
     /// is none of this name.
@@ -130,12 +116,15 @@ pub trait Store {
         requires { is_honest self.old → IfThere (map.get (contents self.old) name.now) (λ db. AreAcceptable db (writings writes.now)) }
         ensures ok { is_honest self.new → OnOk result (option_map (λ db. map.insert (contents self.old) name.now (with_all db (writings writes.now))) (map.get (contents self.old) name.now) ≡ Some (contents self.new)) }
         ensures missing { is_honest self.new → result ≡ Err StoreFault.NoDatabase → map.get (contents self.old) name.now ≡ None }
-        ensures err { is_honest self.new → OnErr result (contents self.new ≡ contents self.old) }
         ensures others { result ≢ Err StoreFault.Exists }
-        ensures caused { IfErr result (λ fault. IsCaused (fault_count self.old) (fault_count self.new) (is_damaged self.old) (lacks_room self.old (length writes.now)) fault) }
-        ensures onward { (fault_count self.old ≤ fault_count self.new) × (is_honest self.new → is_honest self.old) };
+        ensures caused { IfErr result (λ fault. IsCaused (fault_count self.old) (fault_count self.new) (is_honest self.new)
+            (is_honest self.new → lacks_room self.old name.now (writings writes.now)) fault) }
+        ensures changes { ChangesWhole contents is_honest is_clean fault_count self.old self.new result };
 
     /// How many faults of what it stands on the store has met; it stays at 2^64 - 1.
     fn faults(&self) -> u64
         ensures { result ≡ fault_count self.now };
+
+    /// What an honest store holds is lawful.
+    ghost lawful: { (s : Self) → is_honest s → ∥ AreLawful (contents s) ∥₁ };
 }

@@ -3,7 +3,7 @@ use Rattle.std.proofs.Common.{◌≡◌, Bool, true, false, cond, List, [], ◌�
 use Rattle.std.specs.Prelude.{IsTrue, is_some, flat_map}
 use Rattle.std.proofs.lemmas.Grind.{flat_map-append}
 use Rattle.std.specs.Ordering.{eq_by_cmp}
-use Rattle.std.specs.FinMap.{find, get, insert, get-from_entries, get-insert, same_map}
+use Rattle.std.specs.FinMap.{empty, entries, find, get, insert, get-empty, get-entries, get-from_entries, get-insert, same_map}
 use Rattle.tree.specs.Revision.{Revision, revision_cmp}
 use Rattle.tree.specs.Write.{Write}
 use Rattle.tree.specs.History.{HistoryContent, is_known, write_entries, content_of, with_new, with_entries, with_write, entry_after}
@@ -103,3 +103,12 @@ one_more_write ws w =
     ∙ find-append r (flat_map write_entries ws) (write_entries w)
     ∙ ap (λ o. or o (find revision_cmp r (write_entries w))) (sym (get-content ws r))
     ∙ sym (write_shows (content_of ws) w r))
+
+-- ---- a history from its rows
+
+-- rows that say of each revision what the history knows of it make the history
+pub rows_make : (h : HistoryContent) (rows : List Node) → ((r : Revision) → find revision_cmp r rows ≡ get h r) → with_entries empty rows ≡ h
+rows_make h rows are = same_map revision_cmp_total revision_cmp_exact (with_entries empty rows) h (λ r. get-with_entries empty rows r ∙ ap (λ o. or o (find revision_cmp r rows)) (get-empty revision_cmp r) ∙ are r)
+
+pub entries_make : (h : HistoryContent) → with_entries empty (entries h) ≡ h
+entries_make h = rows_make h (entries h) (λ r. sym (get-entries h r))

@@ -1,18 +1,14 @@
 -- A history kept as its nodes in order: look-ups and writes by the nodes are those of the content.
-use Rattle.std.proofs.Common.{◌≡◌, ℕ, suc, ◌+◌, ◌-◌, ◌<◌, ◌≤◌, Bool, true, false, cond, length, List, [], ◌∷◌, ◌++◌, get_or, map, Option, Some, None, Result, Ok, Err, refl, sym, ap, subst, ◌∙◌, arith, append_assoc}
-use Rattle.std.specs.Prelude.{IsTrue, IfOk, IfErr, is_some, option_map, filter, slice_get}
-use Rattle.std.specs.List.{find as first_passing}
-use Rattle.std.specs.List.Sorted.{IsSearchInRange, IsBinarySearchResult}
-use Rattle.std.specs.declared.cmp.Ordering.TheVariants.{Less, Equal, Greater}
-use Rattle.std.proofs.lemmas.Option.{slice_get-get_or}
-use Rattle.tree.proofs.SortedEntries.{find_hit, find_miss, nondecreasing, put_gap}
+use Rattle.std.proofs.Common.{◌≡◌, ℕ, suc, ◌+◌, ◌-◌, ◌<◌, Bool, true, false, cond, length, List, [], ◌∷◌, ◌++◌, map, Option, Some, None, refl, sym, ap, subst, ◌∙◌, arith, append_assoc}
+use Rattle.std.specs.Prelude.{IsTrue, is_some, filter, reverse, slice_get}
+use Rattle.std.proofs.lemmas.List.{reverse-append}
 use Rattle.std.specs.Cmp.{IsTotalOrder, on_total, then_total, nat_cmp_total}
 use Rattle.std.specs.Cmp.Lexicographic.{lists_total}
 use Rattle.std.specs.FinMap.{find, put, is_sorted, entries, from_sorted, entries-from_sorted, entries-insert, empty, empty_of_len, len-entries, same_entries_map, get, get-entries, get-from_sorted, insert}
 use Rattle.std.specs.FinMap.Entries.{is_sorted-put}
 use Rattle.tree.specs.Revision.{Revision, revision_cmp}
-use Rattle.tree.specs.Nodes.{nodes_with_new, nodes_with, IsPlaceOf, IsGapFor}
-use Rattle.tree.specs.History.{HistoryContent, with_new, with_entries, line, onward, parent_of}
+use Rattle.tree.specs.Nodes.{nodes_with_new, nodes_with}
+use Rattle.tree.specs.History.{HistoryContent, with_new, is_leaf_in, with_entries, line, onward, parent_of}
 use Rattle.tree.specs.declared.entry.Entry.{Entry}
 use Rattle.std.proofs.Math.Dec.{T}
 
@@ -50,36 +46,22 @@ pub with_nodes : (old new es : List Node) → IsTrue (is_sorted revision_cmp old
 with_nodes old new es h k e =
     same_entries_map _ _ (nodes_of new k ∙ e ∙ ap (λ nodes. nodes_with nodes es) (sym (nodes_of old h)) ∙ sym (entries-with_entries (from_sorted old) es))
 
--- ---- what a binary search answers
+-- ---- the leaves among nodes that are left, the last first
 
-placed_at : (es : List Node) (q : Revision) (i : ℕ) (d : Node) → IsTrue (is_sorted revision_cmp es) → i < length es → revision_cmp (get_or es i d).0 q ≡ Equal → IsPlaceOf es q i
-placed_at es q i d h lt t =
-    let hit = find_hit revision_cmp_total q es i d h lt t in
-    record { within = lt; known = ap is_some hit; there = ap (option_map (λ (e : Node). e.1)) (slice_get-get_or es i d lt) ∙ sym hit }
+abbrev pub leaves_among : Bool → List Node → List Node → List Revision
+leaves_among mark nodes left = map (λ e. e.0) (filter (is_leaf_in mark nodes) (reverse left))
 
-pub placed : (es : List Node) (q : Revision) (r : Result ℕ ℕ) → IsTrue (is_sorted revision_cmp es) → IsSearchInRange r (length es) → IsBinarySearchResult (λ (e : Node). revision_cmp e.0 q) es r → IfOk r (IsPlaceOf es q)
-placed [] q (Ok i) h b p = absurd (omega arith)
-placed (e ∷ es) q (Ok i) h b p = placed_at (e ∷ es) q i e h b (p e)
-placed es q (Err i) h b p = tt
+-- one node less is left
+pub leaves_left : (mark : Bool) (nodes s t : List Node) (x : Node) → s ≡ t ++ x ∷ [] → leaves_among mark nodes s ≡ map (λ e. e.0) (cond (is_leaf_in mark nodes x) (x ∷ filter (is_leaf_in mark nodes) (reverse t)) (filter (is_leaf_in mark nodes) (reverse t)))
+leaves_left mark nodes s t x e = ap (λ xs. map (λ e. e.0) (filter (is_leaf_in mark nodes) xs)) (ap reverse e ∙ reverse-append t (x ∷ []))
 
-pub gapped : (es : List Node) (q : Revision) (r : Result ℕ ℕ) → IsTrue (is_sorted revision_cmp es) → IsSearchInRange r (length es) → IsBinarySearchResult (λ (e : Node). revision_cmp e.0 q) es r → IfErr r (IsGapFor es q)
-gapped es q (Ok i) h b p = tt
-gapped es q (Err i) h b p =
-    let cut = p (nondecreasing revision_cmp_total q es h) in
-    let low : (k : ℕ) (d : Node) → k < i → k < length es → revision_cmp (get_or es k d).0 q ≡ Less = λ k d below within. cut.0 k d (omega arith) below in
-    let high : (k : ℕ) (d : Node) → i ≤ k → k < length es → revision_cmp (get_or es k d).0 q ≡ Greater = λ k d from within. cut.1 k d from within in
-    record {
-      within = b;
-      absent = find_miss revision_cmp_total q es i low high;
-      put_there = λ e. put_gap revision_cmp_total q e es i b low high;
-    }
+pub leaf_passed : (mark : Bool) (nodes s t : List Node) (x : Node) → s ≡ t ++ x ∷ [] → is_leaf_in mark nodes x ≡ true → leaves_among mark nodes s ≡ x.0 ∷ leaves_among mark nodes t
+leaf_passed mark nodes s t x e is = leaves_left mark nodes s t x e ∙ ap (λ b. map (λ e. e.0) (cond b (x ∷ filter (is_leaf_in mark nodes) (reverse t)) (filter (is_leaf_in mark nodes) (reverse t)))) is
+
+pub other_passed : (mark : Bool) (nodes s t : List Node) (x : Node) → s ≡ t ++ x ∷ [] → is_leaf_in mark nodes x ≡ false → leaves_among mark nodes s ≡ leaves_among mark nodes t
+other_passed mark nodes s t x e is = leaves_left mark nodes s t x e ∙ ap (λ b. map (λ e. e.0) (cond b (x ∷ filter (is_leaf_in mark nodes) (reverse t)) (filter (is_leaf_in mark nodes) (reverse t)))) is
 
 -- ---- the first of a list
-
-pub first_of_filter : {X Y : Type 0} (f : X → Y) (p : X → Bool) (xs : List X) → slice_get (map f (filter p xs)) 0 ≡ option_map f (first_passing p xs)
-first_of_filter f p [] = refl
-first_of_filter f p (x ∷ xs) =
-    elim (p x) as (λ b. slice_get (map f (cond b (x ∷ filter p xs) (filter p xs))) 0 ≡ option_map f (cond b (Some x) (first_passing p xs))) [ true ↦ refl | false ↦ first_of_filter f p xs ]
 
 pub first_in_front : {X : Type 0} (xs ys : List X) (x : X) → Some x ≡ slice_get xs 0 → Some x ≡ slice_get (xs ++ ys) 0
 first_in_front [] ys x e = cc

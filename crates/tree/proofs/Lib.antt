@@ -2,6 +2,7 @@ pub mod Contents
 pub mod Continued
 pub mod Convergence
 pub mod EditText
+pub mod Insertions
 pub mod Kept
 pub mod LawfulContents
 pub mod Leaves

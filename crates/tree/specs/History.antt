@@ -1,10 +1,11 @@
 -- The content of a document's history: its known revisions, with their parents and what is held of them; leaves, winner and chains; how a write changes it.
 -- The CouchDB manual decides (replication/conflicts: the revision tree, conflicting leaves, and how the winner is picked).
-use Rattle.std.specs.Prelude.{◌≡◌, ◌⊎◌, ℕ, zero, suc, Bool, true, false, not, ◌&&◌, if◌then◌else◌, List, [], ◌∷◌, ◌++◌, map, filter, reverse, slice_get, Option, Some, None, option_and_then, Result, Ok, Err, IsTrue, ◌↔◌, ⊤}
+use Rattle.std.specs.Prelude.{◌≡◌, ◌⊎◌, ℕ, zero, suc, Bool, true, false, not, ◌&&◌, if◌then◌else◌, List, [], ◌∷◌, ◌++◌, map, filter, reverse, slice_get, Option, Some, None, option_and_then, option_map, Result, Ok, Err, IsTrue, ◌↔◌, ⊤}
 use Rattle.std.specs.List.{list_any, flat_map}
 use Rattle.std.specs.Ordering.{eq_by_cmp}
 use Rattle.std.specs.declared.cmp.Ordering.TheVariants.{Greater}
 use Rattle.std.specs.FinMap.{FinMap, get, contains_key, insert, entries, from_entries, find}
+use Rattle.couch_json.specs.Value.{Value}
 use Rattle.tree.specs.Revision.{Revision, revision_cmp}
 use Rattle.tree.specs.Write.{Write, is_whole, head, held_by, IsKnown, IsParent, IsBrought, IsLawful}
 use Rattle.tree.specs.declared.entry.Held.{Held}
@@ -133,6 +134,10 @@ with_new h r e = if is_known h r then h else insert h r e
 abbrev pub with_entries : HistoryContent → List (Revision × Entry) → HistoryContent
 with_entries h [] = h
 with_entries h (e ∷ es) = with_entries (with_new h e.0 e.1) es
+
+-- what a stored row says of its revision: the parent, and the mark and the body that are held
+abbrev pub row_of : Option Revision → Option (Bool × Value) → Entry
+row_of parent held = record { parent = parent; held = option_map (λ d. record { deleted = d.0; body = d.1 }) held }
 
 -- the content after one more write
 abbrev pub with_write : HistoryContent → Write → HistoryContent

@@ -6,4 +6,5 @@ pub mod KeptRevision
 pub mod NextRevision
 pub mod Nodes
 pub mod Revision
+pub mod ShownDocument
 pub mod Write

@@ -1,21 +1,17 @@
--- A history kept as a list of nodes in the order of their revisions: where a revision stands in it, and what taking one in makes of it.
+-- A history kept as the list of its nodes in the order of their revisions, and beside it the list of those that are parents: what taking one in makes of both, and what taking it back.
 -- No outside source decides: `proofs/Kept` ties it to the content of a history.
-use Rattle.std.specs.Prelude.{◌≡◌, ℕ, ◌<◌, ◌≤◌, if◌then◌else◌, List, [], ◌∷◌, length, insert, slice_get, None, is_some, option_map, IsTrue}
-use Rattle.std.specs.FinMap.{find, put}
+use Rattle.std.specs.Prelude.{◌≡◌, if◌then◌else◌, List, [], ◌∷◌, Option, Some, None, is_some, IsTrue}
+use Rattle.std.specs.List.{list_any}
+use Rattle.std.specs.Ordering.{eq_by_cmp}
+use Rattle.std.specs.Map.{remove_entry}
+use Rattle.std.specs.Set.{remove_key}
+use Rattle.std.specs.BTreeMap.{is_at}
+use Rattle.std.specs.BTreeSet.{insert_key}
+use Rattle.std.specs.FinMap.{find, put, is_sorted}
 use Rattle.tree.specs.Revision.{Revision, revision_cmp}
+use Rattle.tree.specs.History.{is_parent_in}
 use Rattle.tree.specs.declared.entry.Entry.{Entry}
-
--- r stands at this index
-pub record IsPlaceOf (nodes : List (Revision × Entry)) (r : Revision) (i : ℕ) : Type 0 where
-  pub within : i < length nodes
-  pub known : IsTrue (is_some (find revision_cmp r nodes))
-  pub there : option_map (λ e. e.1) (slice_get nodes i) ≡ find revision_cmp r nodes
-
--- r is not known, and would go to this index
-pub record IsGapFor (nodes : List (Revision × Entry)) (r : Revision) (i : ℕ) : Type 0 where
-  pub within : i ≤ length nodes
-  pub absent : find revision_cmp r nodes ≡ None
-  pub put_there : (e : Entry) → put revision_cmp r e nodes ≡ insert nodes i (r, e)
+use Rattle.tree.specs.declared.nodes.Insertion.{Insertion}
 
 abbrev pub nodes_with_new : List (Revision × Entry) → Revision → Entry → List (Revision × Entry)
 nodes_with_new nodes r e = if is_some (find revision_cmp r nodes) then nodes else put revision_cmp r e nodes
@@ -23,3 +19,35 @@ nodes_with_new nodes r e = if is_some (find revision_cmp r nodes) then nodes els
 abbrev pub nodes_with : List (Revision × Entry) → List (Revision × Entry) → List (Revision × Entry)
 nodes_with nodes [] = nodes
 nodes_with nodes (e ∷ es) = nodes_with (nodes_with_new nodes e.0 e.1) es
+
+-- the revisions that some node has as its parent
+abbrev pub AreParents : List Revision → List (Revision × Entry) → Type 0
+AreParents parents nodes = (r : Revision) → list_any (eq_by_cmp revision_cmp r) parents ≡ is_parent_in nodes r
+
+-- what a history keeps
+pub record AreKept (nodes : List (Revision × Entry)) (parents : List Revision) : Type 0 where
+  pub in_order : IsTrue (is_sorted revision_cmp nodes)
+  pub followed : AreParents parents nodes
+
+abbrev pub parents_with : List Revision → Option Revision → List Revision
+parents_with parents None = parents
+parents_with parents (Some p) = insert_key revision_cmp parents p
+
+abbrev pub parents_without : List Revision → Option Revision → List Revision
+parents_without parents None = parents
+parents_without parents (Some p) = remove_key (is_at (revision_cmp p)) parents
+
+-- what came in, if anything did
+abbrev pub listed : Option Insertion → List Insertion
+listed None = []
+listed (Some i) = i ∷ []
+
+-- the nodes before these came in, the last of them taken back first
+abbrev pub nodes_before : List (Revision × Entry) → List Insertion → List (Revision × Entry)
+nodes_before nodes [] = nodes
+nodes_before nodes (i ∷ is) = remove_entry (is_at (revision_cmp i.rev)) (nodes_before nodes is)
+
+-- the parents before them
+abbrev pub parents_before : List Revision → List Insertion → List Revision
+parents_before parents [] = parents
+parents_before parents (i ∷ is) = parents_without (parents_before parents is) i.parent

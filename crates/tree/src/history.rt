@@ -1,9 +1,8 @@
-ghost use Rattle.std.specs.Prelude.{◌≡◌, ◌≢◌, Option, Some, None, Result, Ok, Err, IfOk, IfErr, OnOk, OnErr, IsTrue, MatchOption, option_copied, option_map};
+ghost use Rattle.std.specs.Prelude.{◌≡◌, ◌≢◌, Option, Some, None, Result, Ok, Err, IfOk, IfErr, OnOk, OnErr, IsTrue, MatchOption, option_copied, option_map, slice_get};
 ghost use Rattle.std.specs.FinMap as map;
 ghost use Rattle.couch_json.specs.View.{view};
-ghost use Rattle.tree.specs.Revision.{revision_cmp};
 ghost use Rattle.tree.specs.Write.{counts_down, is_whole};
-ghost use Rattle.tree.specs.History.{GoesOn, agrees, chain, held_of, is_head_known, is_known, is_leaf, keeps_parents, leaves, line, parent_of, placement, winner, with_write};
+ghost use Rattle.tree.specs.History.{GoesOn, agrees, chain, has_child, held_of, is_head_known, is_known, is_leaf, is_leaf_in, keeps_parents, leaves, leaves_marked, line, parent_of, placement, row_of, winner, with_new, with_write};
 
 use crate::body::Body;
 use crate::entry::{Entry, Held};
@@ -12,6 +11,7 @@ use crate::placement::{Placed, TreeFault};
 use crate::revision::Rev;
 use couch_json::{Got, Json};
 use std::alloc::Global;
+use std::collections::{BTreeMap, BTreeSet};
 use std::marker::Model;
 
 /// The revision tree of one document: its known revisions, their parents, and the bodies held.
@@ -21,23 +21,26 @@ use std::marker::Model;
 /// replication/conflicts.
 #[derive(Drop)]
 pub struct History {
-    nodes: Vec<(Rev, Entry)>,
+    alloc: Global,
+    /// The known revisions, each with its entry.
+    nodes: BTreeMap<Rev, Entry>,
+    /// Those that some known revision has as its parent.
+    parents: BTreeSet<Rev>,
 }
 
 impl Model for History {
-    ghost use Rattle.std.specs.Prelude.{IsTrue};
     ghost use Rattle.std.specs.FinMap as map;
     ghost use Rattle.tree.specs.HistoryCode.{content_code};
     ghost use Rattle.tree.specs.History.{HistoryContent};
-    ghost use Rattle.tree.specs.Revision.{revision_cmp};
+    ghost use Rattle.tree.specs.Nodes.{AreKept};
 
     ghost Value = { HistoryContent };
 
     ghost coded = { content_code };
 
-    ghost view = { λ h. map.from_sorted h.nodes.items };
+    ghost view = { λ h. map.from_sorted h.nodes.entries };
 
-    ghost invariant = { λ h. IsTrue (map.is_sorted revision_cmp h.nodes.items) };
+    ghost invariant = { λ h. AreKept h.nodes.entries h.parents.keys };
 }
 
 impl History {
@@ -46,7 +49,9 @@ impl History {
         ensures { result ≡ map.empty }
     {
         History {
-            nodes: Vec::new(alloc),
+            alloc,
+            nodes: BTreeMap::new(alloc),
+            parents: BTreeSet::new(alloc),
         }
     }
 
@@ -54,9 +59,11 @@ impl History {
     pub fn copy(&self) -> Got<History>
         ensures { IfOk result (λ h. h ≡ self.now) }
     {
-        Ok(History {
-            nodes: nodes::copy(&self.nodes)?,
-        })
+        let mut copy = History::new(self.alloc);
+        for (rev, entry) in self.nodes().iter() {
+            copy.put_entry(*rev, entry.copy(self.alloc)?)?;
+        }
+        Ok(copy)
     }
 
     /// Takes in one more write, where it fits.
@@ -91,10 +98,35 @@ impl History {
         ensures ok { OnOk result (self.new ≡ with_write self.old (record { path = path.now; deleted = deleted; body = view body.now })) }
         ensures err { OnErr result (self.new ≡ self.old) }
     {
-        let body = Body::new(body.copy(*self.nodes.allocator())?);
-        self.nodes.reserve(path.len())?;
-        nodes::put_path(&mut self.nodes, path, Held { deleted, body });
+        let alloc = self.alloc;
+        let body = Body::new(body.copy(alloc)?);
+        let held = Held { deleted, body };
+        nodes::put_path(alloc, &mut self.nodes, &mut self.parents, path, held)?;
         Ok(())
+    }
+
+    /// Takes in one revision of a stored history, with its parent and what is held of it, the mark of
+    /// deletion and the body; a known revision keeps what is known of it.
+    ///
+    /// The revisions of a history make it, in whatever order they come in
+    /// ([`crate::laws::rows_make_the_history`]).
+    pub fn put_revision(
+        &mut self,
+        rev: Rev,
+        parent: Option<Rev>,
+        held: Option<(bool, Json)>,
+    ) -> Got<()>
+        ensures ok { OnOk result (self.new ≡ with_new self.old rev (row_of parent (option_map (λ h. (h.0, view h.1)) held))) }
+        ensures err { OnErr result (self.new ≡ self.old) }
+    {
+        let held = match held {
+            Some((deleted, body)) => Some(Held {
+                deleted,
+                body: Body::new(body),
+            }),
+            None => None,
+        };
+        self.put_entry(rev, Entry { parent, held })
     }
 
     /// The winning leaf, if anything was written: one that is not deleted before one that is, then
@@ -102,10 +134,9 @@ impl History {
     pub fn winner(&self) -> Option<&Rev>
         ensures { option_copied result ≡ winner self.now }
     {
-        let nodes = self.nodes();
-        match nodes::best_leaf(nodes, false) {
+        match self.best_leaf(false) {
             Some(rev) => Some(rev),
-            None => nodes::best_leaf(nodes, true),
+            None => self.best_leaf(true),
         }
     }
 
@@ -113,10 +144,8 @@ impl History {
     pub fn leaves(&self) -> Got<Vec<Rev>>
         ensures { IfOk result (λ revs. revs.items ≡ leaves self.now) }
     {
-        let alloc = *self.nodes.allocator();
-        let nodes = self.nodes();
-        let mut leaves = nodes::leaves(alloc, nodes, false)?;
-        let deleted = nodes::leaves(alloc, nodes, true)?;
+        let mut leaves = self.leaves_marked(false)?;
+        let deleted = self.leaves_marked(true)?;
         leaves.extend_from_slice(&deleted)?;
         Ok(leaves)
     }
@@ -145,7 +174,7 @@ impl History {
     pub fn is_leaf(&self, rev: &Rev) -> bool
         ensures { result ≡ is_leaf self.now rev.now }
     {
-        self.knows(rev) && !nodes::has_child(self.nodes(), rev)
+        self.knows(rev) && !self.has_child(rev)
     }
 
     /// Whether a revision stands in the path of some write.
@@ -155,22 +184,12 @@ impl History {
         self.entry(rev).is_some()
     }
 
-    /// The known revisions in their order, each with its entry.
-    fn nodes(&self) -> &[(Rev, Entry)]
-        ensures value { result.now ≡ map.entries self.now }
-        ensures sorted { IsTrue (map.is_sorted revision_cmp result.now) }
-    {
-        &self.nodes
-    }
-
-    fn entry(&self, rev: &Rev) -> Option<&Entry>
-        ensures { option_copied result ≡ map.get self.now rev.now }
-    {
-        nodes::entry(self.nodes(), rev)
-    }
-
-    /// What becomes of a write with this path.
-    fn placement(&self, path: &[Rev]) -> Result<Placed, TreeFault>
+    /// Judges a write with this path before it goes in, as [`History::insert`] would.
+    ///
+    /// `BadPath`: the path is empty, or its numbers do not go down by one to 1. `OtherParent`: it
+    /// gives a known revision another parent than it has. `Known`: its newest revision is known
+    /// already. `Added`: it would come in. The first that applies; `Memory` never comes.
+    pub fn placement(&self, path: &[Rev]) -> Result<Placed, TreeFault>
         ensures { result ≡ placement self.now path.now }
     {
         if !is_whole(path) {
@@ -184,6 +203,65 @@ impl History {
         } else {
             Ok(Placed::Added)
         }
+    }
+
+    fn put_entry(&mut self, rev: Rev, entry: Entry) -> Got<()>
+        ensures ok { OnOk result (self.new ≡ with_new self.old rev entry) }
+        ensures err { OnErr result (self.new ≡ self.old) }
+    {
+        drop(nodes::put_new(&mut self.nodes, &mut self.parents, rev, entry)?);
+        Ok(())
+    }
+
+    /// The known revisions in their order, each with its entry.
+    fn nodes(&self) -> &BTreeMap<Rev, Entry>
+        ensures { result.now.entries ≡ map.entries self.now }
+    {
+        &self.nodes
+    }
+
+    fn entry(&self, rev: &Rev) -> Option<&Entry>
+        ensures { option_copied result ≡ map.get self.now rev.now }
+    {
+        self.nodes().get(rev)
+    }
+
+    fn has_child(&self, rev: &Rev) -> bool
+        ensures { result ≡ has_child self.now rev.now }
+    {
+        self.parents.contains(rev)
+    }
+
+    /// Whether the node has this mark and is no node's parent.
+    fn is_leaf_marked(&self, rev: &Rev, entry: &Entry, deleted: bool) -> bool
+        ensures { result ≡ is_leaf_in deleted (map.entries self.now) (rev.now, entry.now) }
+    {
+        entry.is_marked(deleted) && !self.has_child(rev)
+    }
+
+    /// The greatest leaf with this mark.
+    fn best_leaf(&self, deleted: bool) -> Option<&Rev>
+        ensures { option_copied result ≡ slice_get (leaves_marked deleted self.now) 0 }
+    {
+        for (rev, entry) in self.nodes().iter().rev() {
+            if self.is_leaf_marked(rev, entry, deleted) {
+                return Some(rev);
+            }
+        }
+        None
+    }
+
+    /// The leaves with this mark, the greatest first.
+    fn leaves_marked(&self, deleted: bool) -> Got<Vec<Rev>>
+        ensures { IfOk result (λ revs. revs.items ≡ leaves_marked deleted self.now) }
+    {
+        let mut leaves = Vec::new(self.alloc);
+        for (rev, entry) in self.nodes().iter().rev() {
+            if self.is_leaf_marked(rev, entry, deleted) {
+                leaves.push(*rev)?;
+            }
+        }
+        Ok(leaves)
     }
 
     fn keeps_parents(&self, path: &[Rev]) -> bool
@@ -226,7 +304,7 @@ impl History {
     fn line(&self, rev: &Rev) -> Got<Vec<Rev>>
         ensures { IfOk result (λ revs. revs.items ≡ line self.now rev.now.number rev.now) }
     {
-        let mut revs = Vec::new(*self.nodes.allocator());
+        let mut revs = Vec::new(self.alloc);
         let mut next = Some(*rev);
         for _step in 0..rev.number() {
             let Some(current) = next else {

@@ -1,11 +1,13 @@
 //! What follows from the definitions alone. Each function has an empty body: its contract is the law.
 
 ghost use Rattle.std.specs.Prelude.{◌≡◌, ◌≢◌, ◌⊎◌, ◌↔◌, ℕ, List, [], ◌∷◌, ◌++◌, Some, Ok, Err, IsTrue, MatchOption, is_some};
-ghost use Rattle.std.specs.FinMap.{get};
-ghost use Rattle.tree.specs.Revision.{Revision, is_revision, revision_read, text_of};
+ghost use Rattle.std.specs.FinMap.{find, get};
+ghost use Rattle.std.specs.FinMap as map;
+ghost use Rattle.tree.specs.Revision.{Revision, is_revision, revision_cmp, revision_read, text_of};
 ghost use Rattle.tree.specs.Write.{Write, IsKnown, IsLawful, IsParent, IsPathEnd, StandsIn};
-ghost use Rattle.tree.specs.History.{HistoryContent, AreBestFirst, IsBetter, IsRooted, LooksAlike, Shows, chain, content_of, entry_after, held_of, inserted, is_known, is_leaf, leaves, parent_of, placement, winner, with_write};
+ghost use Rattle.tree.specs.History.{HistoryContent, AreBestFirst, IsBetter, IsRooted, LooksAlike, Shows, chain, content_of, entry_after, held_of, inserted, is_known, is_leaf, leaves, parent_of, placement, winner, with_entries, with_write};
 ghost use Rattle.tree.specs.Convergence.{AreConsistent, BringOne, HaveSame, merged};
+ghost use Rattle.tree.specs.declared.entry.Entry.{Entry};
 ghost use Rattle.tree.specs.declared.placement.Placed.{Placed};
 ghost use Rattle.tree.specs.declared.placement.TreeFault.{TreeFault};
 
@@ -41,6 +43,13 @@ pub fn entry_kept()
 /// A write brings just what its path says of the revisions that were not known.
 pub fn path_entries()
     ensures { (h : HistoryContent) (w : Write) (r : Revision) → get (with_write h w) r ≡ entry_after h w r }
+{}
+
+/// Rows that say of each revision what a history knows of it make the history, in whatever order they
+/// come in.
+pub fn rows_make_the_history()
+    ensures { (h : HistoryContent) (rows : List (Revision × Entry)) → ((r : Revision) → find revision_cmp r rows ≡ get h r)
+        → with_entries map.empty rows ≡ h }
 {}
 
 /// After a write that was added or known, its whole path is known.

@@ -10,6 +10,7 @@ mod next_revision;
 mod nodes;
 mod placement;
 mod revision;
+mod shown_document;
 
 pub use body::Body;
 pub use document_id::{DocId, IdFault};
@@ -17,3 +18,4 @@ pub use history::History;
 pub use next_revision::{RevFault, next_rev};
 pub use placement::{Placed, TreeFault};
 pub use revision::Rev;
+pub use shown_document::{show, show_members};

@@ -1,143 +1,144 @@
-//! The nodes of a history: revisions with their entries, in the order of the revisions.
+//! The revisions of a history with their entries, and beside them those that are parents.
 
-ghost use Rattle.std.specs.Prelude.{◌≡◌, ◌+◌, ◌<◌, ◌≤◌, length, reverse, slice_get, Some, IfOk, IfErr, IsTrue, option_copied, vec_len, vec_capacity};
-ghost use Rattle.std.specs.FinMap.{find, is_sorted};
-ghost use Rattle.std.specs.List.{find as first_passing};
+ghost use Rattle.std.specs.Prelude.{◌≡◌, ◌+◌, ◌<◌, ◌≤◌, ◌++◌, Some, IfOk, OnOk, OnErr, IsTrue, vec_capacity, vec_len};
+ghost use Rattle.std.specs.FinMap.{is_sorted};
 ghost use Rattle.tree.specs.Revision.{revision_cmp};
-ghost use Rattle.tree.specs.History.{is_leaf_in, is_parent_in, leaves_in, path_entries};
-ghost use Rattle.tree.specs.Nodes.{nodes_with_new, nodes_with, IsPlaceOf, IsGapFor};
+ghost use Rattle.tree.specs.Write.{head};
+ghost use Rattle.tree.specs.History.{path_entries};
+ghost use Rattle.tree.specs.Nodes.{AreParents, listed, nodes_before, nodes_with, nodes_with_new, parents_before, parents_with, parents_without};
 
 use crate::entry::{Entry, Held};
 use crate::revision::Rev;
-use couch_json::Got;
+use couch_json::{Got, NoMemory};
 use std::alloc::Global;
+use std::collections::{BTreeMap, BTreeSet};
 
-/// Where a revision stands, or where it would go.
-pub(crate) fn place(nodes: &[(Rev, Entry)], rev: &Rev) -> Result<usize, usize>
-    requires { IsTrue (is_sorted revision_cmp nodes.now) }
-    ensures found { IfOk result (IsPlaceOf nodes.now rev.now) }
-    ensures absent { IfErr result (IsGapFor nodes.now rev.now) }
-{
-    nodes.binary_search_by_key(rev, |node| node.0)
+/// One revision that came in, so that it can be taken back.
+#[derive(Drop)]
+pub(crate) struct Insertion {
+    /// The revision.
+    pub(crate) rev: Rev,
+    /// Its parent, where no revision had this parent before.
+    pub(crate) parent: Option<Rev>,
 }
 
-/// What is known of a revision.
-pub(crate) fn entry<'a>(nodes: &'a [(Rev, Entry)], rev: &Rev) -> Option<&'a Entry>
-    requires { IsTrue (is_sorted revision_cmp nodes.now) }
-    ensures { option_copied result ≡ find revision_cmp rev.now nodes.now }
+/// Takes in the revisions of a path, of which only the newest has something held; all or none.
+pub(crate) fn put_path(
+    alloc: Global,
+    nodes: &mut BTreeMap<Rev, Entry>,
+    parents: &mut BTreeSet<Rev>,
+    path: &[Rev],
+    held: Held,
+) -> Got<()>
+    requires sorted { IsTrue (is_sorted revision_cmp nodes.old.entries) }
+    requires parents { AreParents parents.old.keys nodes.old.entries }
+    ensures ok { OnOk result (nodes.new.entries ≡ nodes_with nodes.old.entries (path_entries (Some held) path.now)) }
+    ensures sorted { IsTrue (is_sorted revision_cmp nodes.new.entries) }
+    ensures parents { AreParents parents.new.keys nodes.new.entries }
+    ensures err { OnErr result (nodes.new.entries ≡ nodes.old.entries) }
 {
-    match place(nodes, rev) {
-        Ok(at) => Some(&nodes[at].1),
-        Err(_) => None,
-    }
-}
-
-/// Takes in a revision that is not known yet; a known one keeps its entry.
-#[tactic(auto, using(crate::proofs::Kept::sorted_put))]
-pub(crate) fn put_new(nodes: &mut Vec<(Rev, Entry)>, rev: Rev, entry: Entry)
-    requires sorted { IsTrue (is_sorted revision_cmp nodes.old.items) }
-    requires room { vec_len nodes.old < vec_capacity nodes.old }
-    ensures items { nodes.new.items ≡ nodes_with_new nodes.old.items rev entry }
-    ensures sorted { IsTrue (is_sorted revision_cmp nodes.new.items) }
-    ensures len { vec_len nodes.new ≤ vec_len nodes.old + 1 }
-    ensures capacity { vec_capacity nodes.old ≤ vec_capacity nodes.new }
-{
-    if let Err(at) = place(nodes, &rev) {
-        nodes.insert(at, (rev, entry)).unwrap();
-    }
-}
-
-/// Takes in the revisions of a path, of which only the newest has something held.
-pub(crate) fn put_path(nodes: &mut Vec<(Rev, Entry)>, path: &[Rev], held: Held)
-    requires sorted { IsTrue (is_sorted revision_cmp nodes.old.items) }
-    requires room { vec_len nodes.old + length path.now ≤ vec_capacity nodes.old }
-    ensures items { nodes.new.items ≡ nodes_with nodes.old.items (path_entries (Some held) path.now) }
-    ensures sorted { IsTrue (is_sorted revision_cmp nodes.new.items) }
-{
+    let mut insertions = Vec::with_capacity(alloc, path.len())?;
     let mut held = Some(held);
     for (i, rev) in path.iter().enumerate() {
         let entry = Entry {
-            parent: path.get(i + 1).copied(),
+            parent: head(&path[i + 1..]),
             held: held.take(),
         };
-        put_new(nodes, *rev, entry);
+        let Ok(insertion) = put_new(nodes, parents, *rev, entry) else {
+            take_back(nodes, parents, insertions);
+            return Err(NoMemory);
+        };
+        note(&mut insertions, insertion);
+    }
+    Ok(())
+}
+
+/// Names the newest revision of a path, if it has one.
+fn head(path: &[Rev]) -> Option<Rev>
+    ensures { result ≡ head path.now }
+{
+    path.first().copied()
+}
+
+/// Keeps an insertion, if there was one, so that it can be taken back.
+fn note(insertions: &mut Vec<Insertion>, insertion: Option<Insertion>)
+    requires { vec_len insertions.old < vec_capacity insertions.old }
+    ensures items { insertions.new.items ≡ insertions.old.items ++ listed insertion }
+    ensures len { vec_len insertions.new ≤ vec_len insertions.old + 1 }
+    ensures capacity { vec_capacity insertions.old ≤ vec_capacity insertions.new }
+{
+    if let Some(Insertion { rev, parent }) = insertion {
+        insertions.push(Insertion { rev, parent }).unwrap();
     }
 }
 
-/// An equal list of nodes of its own.
-pub(crate) fn copy(nodes: &Vec<(Rev, Entry)>) -> Got<Vec<(Rev, Entry)>>
-    ensures { IfOk result (λ copies. copies.items ≡ nodes.now.items) }
+/// Takes in a revision that is not known yet; a known one keeps its entry. Answers what came in, if
+/// anything did.
+pub(crate) fn put_new(
+    nodes: &mut BTreeMap<Rev, Entry>,
+    parents: &mut BTreeSet<Rev>,
+    rev: Rev,
+    entry: Entry,
+) -> Got<Option<Insertion>>
+    requires sorted { IsTrue (is_sorted revision_cmp nodes.old.entries) }
+    requires parents { AreParents parents.old.keys nodes.old.entries }
+    ensures ok { OnOk result (nodes.new.entries ≡ nodes_with_new nodes.old.entries rev entry) }
+    ensures sorted { IsTrue (is_sorted revision_cmp nodes.new.entries) }
+    ensures parents { AreParents parents.new.keys nodes.new.entries }
+    ensures nodes_back { IfOk result (λ insertion. nodes_before nodes.new.entries (listed insertion) ≡ nodes.old.entries) }
+    ensures parents_back { IfOk result (λ insertion. parents_before parents.new.keys (listed insertion) ≡ parents.old.keys) }
+    ensures err { OnErr result ((nodes.new.entries ≡ nodes.old.entries) × (parents.new.keys ≡ parents.old.keys)) }
 {
-    let alloc = *nodes.allocator();
-    let mut copies = Vec::with_capacity(alloc, nodes.len())?;
-    for node in nodes {
-        copies.push((node.0, node.1.copy(alloc)?))?;
+    if nodes.contains_key(&rev) {
+        return Ok(None);
     }
-    Ok(copies)
+    let parent = put_parent(parents, entry.parent)?;
+    match nodes.insert(rev, entry) {
+        Ok(_old) => Ok(Some(Insertion { rev, parent })),
+        Err(_failed) => {
+            take_parent(parents, parent);
+            Err(NoMemory)
+        }
+    }
 }
 
-/// Whether the revision is some node's parent.
-///
-/// Its children have greater numbers, so what follows its place is looked at first.
-pub(crate) fn has_child(nodes: &[(Rev, Entry)], rev: &Rev) -> bool
-    requires { IsTrue (is_sorted revision_cmp nodes.now) }
-    ensures { result ≡ is_parent_in nodes.now rev.now }
+/// Takes in a parent, and answers it where it was none yet.
+fn put_parent(parents: &mut BTreeSet<Rev>, parent: Option<Rev>) -> Got<Option<Rev>>
+    ensures ok { OnOk result (parents.new.keys ≡ parents_with parents.old.keys parent) }
+    ensures undone { IfOk result (λ new. parents_without parents.new.keys new ≡ parents.old.keys) }
+    ensures err { OnErr result (parents.new.keys ≡ parents.old.keys) }
 {
-    let at = match place(nodes, rev) {
-        Ok(at) => at,
-        Err(at) => at,
+    let Some(rev) = parent else {
+        return Ok(None);
     };
-    let (before, after) = nodes.split_at(at);
-    is_parent(after, rev) || is_parent(before, rev)
-}
-
-fn is_parent(nodes: &[(Rev, Entry)], rev: &Rev) -> bool
-    ensures { result ≡ is_parent_in nodes.now rev.now }
-{
-    nodes.iter().any(|node| node.1.has_parent(rev))
-}
-
-/// Whether the node has this mark and is no node's parent.
-fn is_leaf(nodes: &[(Rev, Entry)], node: &(Rev, Entry), deleted: bool) -> bool
-    requires { IsTrue (is_sorted revision_cmp nodes.now) }
-    ensures { result ≡ is_leaf_in deleted nodes.now node.now }
-{
-    node.1.is_marked(deleted) && !has_child(nodes, &node.0)
-}
-
-/// The greatest leaf with this mark.
-#[tactic(auto, using(crate::proofs::Kept::first_of_filter))]
-pub(crate) fn best_leaf(nodes: &[(Rev, Entry)], deleted: bool) -> Option<&Rev>
-    requires { IsTrue (is_sorted revision_cmp nodes.now) }
-    ensures { option_copied result ≡ slice_get (leaves_in deleted nodes.now) 0 }
-{
-    match last_leaf(nodes, deleted) {
-        Some(node) => Some(&node.0),
-        None => None,
+    if parents.insert(rev)? {
+        Ok(Some(rev))
+    } else {
+        Ok(None)
     }
 }
 
-fn last_leaf(nodes: &[(Rev, Entry)], deleted: bool) -> Option<&(Rev, Entry)>
-    requires { IsTrue (is_sorted revision_cmp nodes.now) }
-    ensures { option_copied result ≡ first_passing (is_leaf_in deleted nodes.now) (reverse nodes.now) }
+/// Takes out a parent.
+fn take_parent(parents: &mut BTreeSet<Rev>, parent: Option<Rev>)
+    ensures { parents.new.keys ≡ parents_without parents.old.keys parent }
 {
-    nodes
-        .iter()
-        .rev()
-        .find(|node| is_leaf(nodes, node, deleted))
+    if let Some(rev) = parent {
+        parents.remove(&rev);
+    }
 }
 
-/// The leaves with this mark, the greatest first.
-pub(crate) fn leaves(alloc: Global, nodes: &[(Rev, Entry)], deleted: bool) -> Got<Vec<Rev>>
-    requires { IsTrue (is_sorted revision_cmp nodes.now) }
-    ensures { IfOk result (λ leaves. leaves.items ≡ leaves_in deleted nodes.now) }
+/// Takes back what came in, the last first.
+fn take_back(
+    nodes: &mut BTreeMap<Rev, Entry>,
+    parents: &mut BTreeSet<Rev>,
+    insertions: Vec<Insertion>,
+)
+    ensures nodes { nodes.new.entries ≡ nodes_before nodes.old.entries insertions.items }
+    ensures parents { parents.new.keys ≡ parents_before parents.old.keys insertions.items }
 {
-    Ok(
-        nodes
-            .iter()
-            .rev()
-            .filter(|node| is_leaf(nodes, node, deleted))
-            .map(|node| node.0)
-            .collect(alloc)?,
-    )
+    let mut insertions = insertions;
+    while let Some(insertion) = insertions.pop() {
+        drop(nodes.remove(&insertion.rev));
+        take_parent(parents, insertion.parent);
+    }
 }

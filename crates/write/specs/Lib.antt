@@ -1,4 +1,4 @@
-pub mod Causes
+pub mod Refusing
 pub mod Document
 pub mod Admission
 pub mod Bulk

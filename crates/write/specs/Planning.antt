@@ -1,6 +1,6 @@
 -- What a planned change makes of its database, and when it may be made; and what becomes of a value that is to be a security object.
 -- CouchDB manual, api/database/security (`PUT /{db}/_security`); that a plan is made before anything changes is this project's own.
-use Rattle.std.specs.Prelude.{ℕ, List, [], length, Option, option_map, Result, Ok, Err, ⊤, if◌then◌else◌}
+use Rattle.std.specs.Prelude.{ℕ, List, [], Option, option_map, Result, Ok, Err, ⊤, if◌then◌else◌}
 use Rattle.std.specs.FinMap.{get}
 use Rattle.couch_json.specs.Value.{Value}
 use Rattle.policy.specs.Security.{is_security}
@@ -27,10 +27,10 @@ abbrev pub MayBeMade : Changes → Database → Type 0
 MayBeMade (Writes ws) db = AreAcceptable db (writings ws.items)
 MayBeMade (Security s) db = ⊤
 
--- there is no room for them, by what there is no room for: a security object takes none
-abbrev pub LacksRoomFor : (ℕ → Type 0) → Changes → Type 0
-LacksRoomFor lacks (Writes ws) = lacks (length ws.items)
-LacksRoomFor lacks (Security s) = ⊥
+-- there is no room for them in the database of this name, by the writes that there is no room for: a security object takes none
+abbrev pub LacksRoomFor : (List ℕ → List DocumentWrite → Type 0) → List ℕ → Changes → Type 0
+LacksRoomFor lacks name (Writes ws) = lacks name (writings ws.items)
+LacksRoomFor lacks name (Security s) = ⊥
 
 -- a value is a security object or a bad one
 abbrev pub secured : Value → Result Value WriteFault

@@ -3,13 +3,13 @@
 ghost use Rattle.std.specs.FinMap as map;
 ghost use Rattle.std.specs.Prelude.{◌≡◌, ◌≢◌, ◌≤◌, ◌++◌, [], IfOk, IfErr, OnErr, OnOk, Ok, Err, Some, None, map as list_map, option_map};
 ghost use Rattle.couch_json.specs.View.{view};
+ghost use Rattle.store.specs.Calls.{OnlyReads};
 ghost use Rattle.store.specs.Contents.{IfThere};
 ghost use Rattle.store.specs.Database.{history_at, with_all};
 ghost use Rattle.store.specs.Writing.{writing_of, writings};
-ghost use Rattle.store.specs.declared.fault.StoreFault.TheVariants.{NoDatabase, Exists};
 ghost use Rattle.write.specs.Bulk.{after, all_told, judged as judged_lem, outcome_in, outcomes, put_before, told, writes_in};
 ghost use Rattle.write.specs.BulkResults.{held_in, loaded, loaded_at, none_written, told_of};
-ghost use Rattle.write.specs.Causes.{IsCaused};
+ghost use Rattle.write.specs.Refusing.{Refuses};
 ghost use Rattle.write.specs.Document.{id_in as id_in_lem};
 ghost use Rattle.write.specs.Planning.{MayBeMade, changed, planned_writes};
 ghost use Rattle.write.specs.Admission.{with_taken};
@@ -23,7 +23,7 @@ use crate::replicating::replicated;
 use couch_json::{Got, Json, NoMemory};
 use std::alloc::Global;
 use std::collections::BTreeMap;
-use store::{DbName, Store, StoreFault, Write};
+use store::{DbName, Store, Write};
 use tree::{DocId, History, Rev};
 
 /// What became of one of several documents that were written together.
@@ -69,14 +69,8 @@ pub fn bulk<S: Store>(
     ensures changed { IfOk result (λ bulk. (d : _) → changed bulk.planned.changes d ≡ with_all d (planned_writes bulk.planned.changes)) }
     ensures database { IfOk result (λ bulk. bulk.planned.database ≡ db.now) }
     ensures only { IfErr result (λ fault. fault ≢ WriteFault.Memory → ((cause : _) → fault ≢ WriteFault.Store cause) → ⊥) }
-    ensures no_database { S.is_honest store.new → result ≡ Err (WriteFault.Store NoDatabase)
-        → map.get (S.contents store.old) db.now ≡ None }
-    ensures same { S.is_honest store.new → S.contents store.new ≡ S.contents store.old }
-    ensures others { result ≢ Err (WriteFault.Store Exists) }
-    ensures own_memory { result ≢ Err (WriteFault.Store StoreFault.Memory) }
-    ensures caused { S.is_honest store.new → IfErr result (λ fault. IsCaused (S.fault_count store.old) (S.fault_count store.new) (S.is_damaged store.old) ⊥ fault) }
-    ensures kept { S.is_honest store.new → (S.is_damaged store.new → S.is_damaged store.old) × ((n : _) → S.lacks_room store.new n → S.lacks_room store.old n) }
-    ensures onward { (S.fault_count store.old ≤ S.fault_count store.new) × (S.is_honest store.new → S.is_honest store.old) }
+    ensures passed { IfErr result (Refuses S.Store store.old store.new (map.get (S.contents store.old) db.now ≡ None) ⊥) }
+    ensures reads { OnlyReads S.Store store.old store.new }
 {
     let histories = histories_of(alloc, store, db, &documents)?;
     let (writes, results) = judged_all(alloc, histories, documents, new_edits)?;
@@ -97,14 +91,8 @@ fn histories_of<S: Store>(
     ensures ok { S.is_honest store.new → IfOk result (λ histories. IfThere (map.get (S.contents store.old) db.now) (λ d.
         held_in histories ≡ loaded (history_at d) none_written (list_map view documents.now))) }
     ensures only { IfErr result (λ fault. fault ≢ WriteFault.Memory → ((cause : _) → fault ≢ WriteFault.Store cause) → ⊥) }
-    ensures no_database { S.is_honest store.new → result ≡ Err (WriteFault.Store NoDatabase)
-        → map.get (S.contents store.old) db.now ≡ None }
-    ensures same { S.is_honest store.new → S.contents store.new ≡ S.contents store.old }
-    ensures others { result ≢ Err (WriteFault.Store Exists) }
-    ensures own_memory { result ≢ Err (WriteFault.Store StoreFault.Memory) }
-    ensures caused { S.is_honest store.new → IfErr result (λ fault. IsCaused (S.fault_count store.old) (S.fault_count store.new) (S.is_damaged store.old) ⊥ fault) }
-    ensures kept { S.is_honest store.new → (S.is_damaged store.new → S.is_damaged store.old) × ((n : _) → S.lacks_room store.new n → S.lacks_room store.old n) }
-    ensures onward { (S.fault_count store.old ≤ S.fault_count store.new) × (S.is_honest store.new → S.is_honest store.old) }
+    ensures passed { IfErr result (Refuses S.Store store.old store.new (map.get (S.contents store.old) db.now ≡ None) ⊥) }
+    ensures reads { OnlyReads S.Store store.old store.new }
 {
     let mut histories = BTreeMap::new(alloc);
     for document in documents {
@@ -124,23 +112,13 @@ fn load<S: Store>(
     ensures ok { S.is_honest store.new → OnOk result (IfThere (map.get (S.contents store.old) db.now) (λ d.
         held_in histories.new ≡ loaded_at (history_at d) (held_in histories.old) (id_in_lem (view document.now)))) }
     ensures only { IfErr result (λ fault. fault ≢ WriteFault.Memory → ((cause : _) → fault ≢ WriteFault.Store cause) → ⊥) }
-    ensures no_database { S.is_honest store.new → result ≡ Err (WriteFault.Store NoDatabase)
-        → map.get (S.contents store.old) db.now ≡ None }
-    ensures same { S.is_honest store.new → S.contents store.new ≡ S.contents store.old }
-    ensures others { result ≢ Err (WriteFault.Store Exists) }
-    ensures own_memory { result ≢ Err (WriteFault.Store StoreFault.Memory) }
-    ensures caused { IfErr result (λ fault. IsCaused (S.fault_count store.old) (S.fault_count store.new) (S.is_damaged store.old) ⊥ fault) }
-    ensures kept { S.is_honest store.new → (S.is_damaged store.new → S.is_damaged store.old) × ((n : _) → S.lacks_room store.new n → S.lacks_room store.old n) }
-    ensures onward { (S.fault_count store.old ≤ S.fault_count store.new) × (S.is_honest store.new → S.is_honest store.old) }
+    ensures passed { IfErr result (Refuses S.Store store.old store.new (map.get (S.contents store.old) db.now ≡ None) ⊥) }
+    ensures reads { OnlyReads S.Store store.old store.new }
 {
     let Some(id) = id_in(alloc, document)? else {
         return Ok(());
     };
-    let history = match store.history(db, &id) {
-        Ok(history) => history,
-        Err(StoreFault::Memory) => return Err(WriteFault::Memory),
-        Err(fault) => return Err(WriteFault::Store(fault)),
-    };
+    let history = store.history(db, &id)?;
     put_history(histories, id, history)?;
     Ok(())
 }

@@ -2,12 +2,12 @@ ghost use Rattle.std.specs.Prelude.{◌≡◌, ◌≢◌, ◌≤◌, ◌<◌, �
 ghost use Rattle.std.specs.FinMap as map;
 ghost use Rattle.couch_json.specs.View.{view};
 ghost use Rattle.tree.specs.DocumentId.{is_design_id, is_local_id};
+ghost use Rattle.store.specs.Calls.{OnlyReads};
 ghost use Rattle.store.specs.Contents.{AreAcceptable, IfThere};
 ghost use Rattle.store.specs.Database.{with_all};
 ghost use Rattle.store.specs.Writing.{writing_of};
-ghost use Rattle.store.specs.declared.fault.StoreFault.TheVariants.{NoDatabase, Exists};
 ghost use Rattle.write.specs.Admission.{edit_in, new_revision};
-ghost use Rattle.write.specs.Causes.{IsCaused};
+ghost use Rattle.write.specs.Refusing.{Refuses};
 ghost use Rattle.write.specs.Planning.{MayBeMade, changed, planned_writes};
 
 use crate::admission::admitted;
@@ -15,7 +15,7 @@ use crate::fault::WriteFault;
 use crate::planned::{Changes, Edited, Planned};
 use couch_json::{Got, Json};
 use std::alloc::Global;
-use store::{DbName, Store, StoreFault, Write};
+use store::{DbName, Store, Write};
 use tree::{DocId, Rev};
 
 /// What becomes of an edit of a document that is no design document and no local one. It reads the
@@ -51,21 +51,11 @@ pub fn edit<S: Store>(
     ensures refused { S.is_honest store.new → IfErr result (λ fault.
         fault ≢ WriteFault.Memory → ((cause : _) → fault ≢ WriteFault.Store cause)
         → edit_in (S.contents store.old) db.now id.now query (view document) ≡ Some (Err fault)) }
-    ensures no_database { S.is_honest store.new → result ≡ Err (WriteFault.Store NoDatabase)
-        → map.get (S.contents store.old) db.now ≡ None }
-    ensures same { S.is_honest store.new → S.contents store.new ≡ S.contents store.old }
     ensures undenied { IfErr result (λ fault. (fault ≢ WriteFault.BadHistory) × ((rule : _) → fault ≢ WriteFault.Denied rule)) }
-    ensures others { result ≢ Err (WriteFault.Store Exists) }
-    ensures own_memory { result ≢ Err (WriteFault.Store StoreFault.Memory) }
-    ensures caused { IfErr result (λ fault. IsCaused (S.fault_count store.old) (S.fault_count store.new) (S.is_damaged store.old) ⊥ fault) }
-    ensures kept { S.is_honest store.new → (S.is_damaged store.new → S.is_damaged store.old) × ((n : _) → S.lacks_room store.new n → S.lacks_room store.old n) }
-    ensures onward { (S.fault_count store.old ≤ S.fault_count store.new) × (S.is_honest store.new → S.is_honest store.old) }
+    ensures passed { IfErr result (Refuses S.Store store.old store.new (map.get (S.contents store.old) db.now ≡ None) ⊥) }
+    ensures reads { OnlyReads S.Store store.old store.new }
 {
-    let mut history = match store.history(db, id) {
-        Ok(history) => history,
-        Err(StoreFault::Memory) => return Err(WriteFault::Memory),
-        Err(fault) => return Err(WriteFault::Store(fault)),
-    };
+    let mut history = store.history(db, id)?;
     let write = admitted(alloc, &mut history, id, query, document)?;
     Ok(edited(alloc, db, id, write)?)
 }

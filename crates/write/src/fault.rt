@@ -34,6 +34,19 @@ pub enum WriteFault {
     Memory,
 }
 
+impl From<StoreFault> for WriteFault {
+    ghost use Rattle.write.specs.Refusing.{passed};
+
+    ghost from_gives = { λ fault given. given ≡ passed fault };
+
+    fn from(fault: StoreFault) -> WriteFault {
+        match fault {
+            StoreFault::Memory => WriteFault::Memory,
+            _ => WriteFault::Store(fault),
+        }
+    }
+}
+
 impl From<NoMemory> for WriteFault {
     ghost from_gives = { λ _ fault. fault ≡ Memory };
 

@@ -1,8 +1,8 @@
 ghost use Rattle.std.specs.Prelude.{◌≡◌, ◌≢◌, ◌≤◌, IfOk, IfErr, Some, None, Ok, Err};
 ghost use Rattle.std.specs.FinMap as map;
 ghost use Rattle.couch_json.specs.View.{view};
-ghost use Rattle.store.specs.declared.fault.StoreFault.TheVariants.{NoDatabase, Exists};
-ghost use Rattle.write.specs.Causes.{IsCaused};
+ghost use Rattle.store.specs.Calls.{OnlyReads};
+ghost use Rattle.write.specs.Refusing.{Refuses};
 ghost use Rattle.write.specs.Planning.{secured as secured_lem, security_in};
 
 use crate::fault::WriteFault;
@@ -10,7 +10,7 @@ use crate::planned::{Changes, Planned};
 use couch_json::Json;
 use policy::{Security, SecurityFault};
 use std::alloc::Global;
-use store::{DbName, Store, StoreFault};
+use store::{DbName, Store};
 
 /// Plans another security object for a database. It reads the store and changes nothing.
 ///
@@ -30,21 +30,12 @@ pub fn put_security<S: Store>(
     ensures refused { S.is_honest store.new → IfErr result (λ fault.
         fault ≢ WriteFault.Memory → ((cause : _) → fault ≢ WriteFault.Store cause)
         → security_in (S.contents store.old) db.now (view value.now) ≡ Some (Err fault)) }
-    ensures no_database { S.is_honest store.new → result ≡ Err (WriteFault.Store NoDatabase)
-        → map.get (S.contents store.old) db.now ≡ None }
-    ensures same { S.is_honest store.new → S.contents store.new ≡ S.contents store.old }
     ensures only { IfErr result (λ fault. fault ≢ WriteFault.BadDocument → fault ≢ WriteFault.Memory → ((cause : _) → fault ≢ WriteFault.Store cause) → ⊥) }
-    ensures others { result ≢ Err (WriteFault.Store Exists) }
-    ensures own_memory { result ≢ Err (WriteFault.Store StoreFault.Memory) }
-    ensures caused { IfErr result (λ fault. IsCaused (S.fault_count store.old) (S.fault_count store.new) (S.is_damaged store.old) ⊥ fault) }
-    ensures kept { S.is_honest store.new → (S.is_damaged store.new → S.is_damaged store.old) × ((n : _) → S.lacks_room store.new n → S.lacks_room store.old n) }
-    ensures onward { (S.fault_count store.old ≤ S.fault_count store.new) × (S.is_honest store.new → S.is_honest store.old) }
+    ensures passed { IfErr result (Refuses S.Store store.old store.new (map.get (S.contents store.old) db.now ≡ None) ⊥) }
+    ensures reads { OnlyReads S.Store store.old store.new }
 {
-    match store.security(db) {
-        Ok(_present) => Ok(secured(alloc, db, value)?),
-        Err(StoreFault::Memory) => Err(WriteFault::Memory),
-        Err(fault) => Err(WriteFault::Store(fault)),
-    }
+    let _present = store.security(db)?;
+    secured(alloc, db, value)
 }
 
 /// The plan, where the value is a security object.

@@ -1,9 +1,11 @@
-use Rattle.std.proofs.Common.{◌≡◌, ◌-◌, [], filter, length, nat_lt, ap, ap₂, ◌∙◌, rules}
-use Rattle.store.specs.Pages.{gone_count, last_sequence, limited, live_count, page_with, rows_of}
+use Rattle.std.proofs.Common.{◌≡◌, ◌<◌, [], filter, length, nat_lt, is_some, sym, ap, ◌∙◌, rules, arith}
+use Rattle.couch_json.specs.Value.{null}
+use Rattle.store.specs.Pages.{document_counts, if_counted, last_sequence, limited, page_with, rows_of}
 use Rattle.store.specs.Paging.{sequence_rows}
 use Rattle.store.specs.Plain.{gathered_after}
 use Rattle.store.specs.Writing.{writings}
-use Rattle.store.proofs.Pagings.{length-gathered, page_made, smaller}
+use Rattle.store.proofs.Bounds.{page_bounded}
+use Rattle.store.proofs.Pagings.{counts_below, is_counted, page_made, smaller}
 use Rattle.store.proofs.pages.page_by_seq.Goals as goal
 
 pub returns-clause-page : goal.returns-clause-page
@@ -17,9 +19,21 @@ returns-clause-page c =
     let cut = c.rows_after-rows.ensures ∙ ap (λ qs. limited range.limit (filter (λ r. nat_lt range.since r.sequence) qs)) c.in_ok-in_sequence.ensures in
     let least = c.min.ensures ∙ smaller range.since n in
     let last = c.last_sequence-last_seq.ensures ∙ ap (λ m. last_sequence m (sequence_rows c.rows_after-rows.result.items)) least in
-    let count : c.len.result ≡ length c.in_ok-documents.documents.items = search rules in
-    let live = ap₂ ◌-◌ (count ∙ length-gathered c.in_ok-documents.documents.items) c.count_deleted-deleted.ensures.count ∙ ap live_count made in
-    let gone = c.count_deleted-deleted.ensures.count ∙ ap gone_count made in
+    let counts = c.counts_of.ensures.counts ∙ ap (λ ds. if_counted range.counted (document_counts ds)) made in
     let writes : c.len-sequence.result ≡ length c.args.writes.now.items = search rules in
-    page_made range n c.last_sequence-last_seq.result (c.len.result - c.count_deleted-deleted.result) c.count_deleted-deleted.result all (sequence_rows c.rows_after-rows.result.items) es rows cut last live gone
-    ∙ ap (λ k. page_with range k es) writes
+    page_made range n c.last_sequence-last_seq.result c.counts_of.result all (sequence_rows c.rows_after-rows.result.items) es rows cut last counts ∙ ap (λ k. page_with range k es) writes
+
+pub returns-clause-bounded : goal.returns-clause-bounded
+returns-clause-bounded c =
+    let n : c.len-sequence.result ≡ length c.args.writes.now.items = search rules in
+    let lt : length c.args.writes.now.items < 9223372036854775808 = search rules in
+    let fewer : length c.in_ok-documents.documents.items < 9223372036854775808 = search rules in
+    let page = returns-clause-page c ∙ ap (λ k. page_with c.args.range.now k (gathered_after 0 [] (writings c.args.writes.now.items))) (sym n) in
+    let h = page_bounded c.args.range.now (record { writes = c.args.writes.now; security = null }) c.last_sequence-last_seq.result c.len-sequence.result c.rows_after-rows.result.items c.counts_of.result n page in
+    record {
+      sequence = omega (arith, n, lt);
+      last = omega (arith, h.0, lt);
+      rows = λ k d i. omega (arith, h.1 k d i, lt);
+      counted = ap is_some c.counts_of.ensures.counts ∙ is_counted c.args.range.now.counted _;
+      counts = counts_below (length c.in_ok-documents.documents.items) c.counts_of.result c.counts_of.ensures.within fewer;
+    }

@@ -1,6 +1,7 @@
-use Rattle.std.proofs.Common.{◌≡◌, ◌≤◌, map, drop}
+use Rattle.std.proofs.Common.{◌≡◌, map, drop}
 use Rattle.std.specs.FinMap as finite
 use Rattle.couch_json.specs.View.{view}
+use Rattle.store.specs.Calls.{OnlyReads}
 use Rattle.store.specs.Contents.{IfThere}
 use Rattle.store.specs.Database.{history_at}
 use Rattle.write.specs.BulkResults.{held_in, loaded, none_written}
@@ -10,9 +11,5 @@ abbrev pub invariant-loop-document : goal.invariant-loop-document
 invariant-loop-document g l = record {
   loaded : g.S.Store.is_honest l.store → IfThere (finite.get (g.S.Store.contents l.initial.store) l.db)
       (λ d. loaded (history_at d) (held_in l.histories) (map view (drop l.document-index l.documents)) ≡ loaded (history_at d) none_written (map view l.documents));
-  same : g.S.Store.is_honest l.store → g.S.Store.contents l.store ≡ g.S.Store.contents l.initial.store;
-  damage : g.S.Store.is_honest l.store → g.S.Store.is_damaged l.store → g.S.Store.is_damaged l.initial.store;
-  room : g.S.Store.is_honest l.store → (n : _) → g.S.Store.lacks_room l.store n → g.S.Store.lacks_room l.initial.store n;
-  counted : g.S.Store.fault_count l.initial.store ≤ g.S.Store.fault_count l.store;
-  honest : g.S.Store.is_honest l.store → g.S.Store.is_honest l.initial.store;
+  reads : OnlyReads g.S.Store l.initial.store l.store;
 }

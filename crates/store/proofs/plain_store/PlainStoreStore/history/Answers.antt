@@ -6,8 +6,8 @@ use Rattle.store.specs.Writing.{writings}
 use Rattle.store.proofs.Contents.{history_at-content}
 use Rattle.store.proofs.plain_store.PlainStoreStore.history.Goals as goal
 
-pub returns-in_ok-history_of-in-Some-clause-ok : goal.returns-in_ok-history_of-in-Some-clause-ok
-returns-in_ok-history_of-in-Some-clause-ok c =
+pub returns-in_ok-history_of-in-Some-clause-answer : goal.returns-in_ok-history_of-in-Some-clause-answer
+returns-in_ok-history_of-in-Some-clause-answer c =
     let d = c.in-Some.database.now in
     let there : map.get (contents_of c.args.self.now.databases.items) c.args.name.now ≡ Some (content c.in-Some.database.now) = search rules in
     let replayed : c.in_ok-history_of-in-Some.field-0 ≡ history_after map.empty c.args.id.now (writings c.in-Some.database.now.writes.items) = search rules in

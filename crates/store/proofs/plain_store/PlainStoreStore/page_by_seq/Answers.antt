@@ -5,8 +5,8 @@ use Rattle.store.specs.Plain.{content, contents_of}
 use Rattle.store.proofs.Pagings.{page_by_sequence-content}
 use Rattle.store.proofs.plain_store.PlainStoreStore.page_by_seq.Goals as goal
 
-pub returns-in_ok-page_by_seq-in-Some-clause-ok : goal.returns-in_ok-page_by_seq-in-Some-clause-ok
-returns-in_ok-page_by_seq-in-Some-clause-ok c =
+pub returns-in_ok-page_by_seq-in-Some-clause-answer : goal.returns-in_ok-page_by_seq-in-Some-clause-answer
+returns-in_ok-page_by_seq-in-Some-clause-answer c =
     let d = c.in-Some.database.now in
     let range = c.args.range.now in
     let there : map.get (contents_of c.args.self.now.databases.items) c.args.name.now ≡ Some (content c.in-Some.database.now) = search rules in

@@ -1,4 +1,8 @@
-use Rattle.std.proofs.Common.{◌≡◌, true, is_some, rules}
+use Rattle.std.proofs.Common.{◌≡◌, true, is_some, sym, subst, rules}
+use Rattle.std.proofs.Math.Logic.{∥∥₁_map}
+use Rattle.store.specs.Lawful.{AreLawful}
+use Rattle.store.specs.Plain.{contents_of}
+use Rattle.store.proofs.Lawfuls.{lawful_remove}
 use Rattle.store.proofs.Plains.{there}
 use Rattle.store.proofs.plain_store.PlainStoreStore.remove.Goals as goal
 
@@ -6,3 +10,7 @@ pub returns-clause-there : goal.returns-clause-there
 returns-clause-there c =
     let found : is_some c.place_of.result ≡ true = search rules in
     λ _. there c.args.self.now.databases.items c.args.name.now c.place_of.result c.place_of.ensures.place found
+
+pub invariant_of-self : goal.invariant_of-self
+invariant_of-self c =
+    record { lawful = ∥∥₁_map c.args.self.now.lawful (λ h. subst AreLawful (sym c.remove.ensures) (lawful_remove (contents_of c.args.self.now.databases.items) c.args.name.now h)) }

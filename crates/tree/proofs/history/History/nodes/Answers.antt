@@ -4,8 +4,5 @@ use Rattle.std.specs.FinMap as map
 use Rattle.tree.proofs.Kept.{nodes_of}
 use Rattle.tree.proofs.history.History.nodes.Goals as goal
 
-pub returns-clause-value : goal.returns-clause-value
-returns-clause-value c = c.deref.ensures.value ∙ sym (nodes_of c.self.inside.nodes.items c.self.invariant) ∙ ap map.entries c.self.view_is
-
-pub returns-clause-sorted : goal.returns-clause-sorted
-returns-clause-sorted c = rw c.deref.ensures.value c.self.invariant
+pub returns : goal.returns
+returns c = sym (nodes_of c.self.inside.nodes.entries c.self.invariant.in_order) ∙ ap map.entries c.self.view_is

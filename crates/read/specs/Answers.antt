@@ -1,0 +1,45 @@
+-- What a reader answers: what is defined, or why it refuses.
+-- This server's own: what the store says of the cause of its fault holds of the fault that is passed on.
+use Rattle.std.specs.Prelude.{◌≡◌, Option, Some, None, Result, Ok, Err, ⊤}
+use Rattle.couch_json.specs.Value.{Value}
+use Rattle.couch_json.specs.View.{view}
+use Rattle.couch_json.specs.declared.value.Json.{Json}
+use Rattle.store.specs.Causes.{HasFailed}
+use Rattle.store.specs.declared.fault.StoreFault.{StoreFault}
+use Rattle.store.specs.declared.fault.StoreFault.TheVariants as store
+use Rattle.store.specs.declared.store.Store.{Ghosts}
+use Rattle.read.specs.declared.fault.ReadFault.{ReadFault}
+use Rattle.read.specs.declared.fault.ReadFault.TheVariants.{Missing, Deleted, BadQuery, Store, Memory}
+
+-- the store's fault as it is passed on: want of memory is one cause, wherever it comes from
+abbrev pub passed : StoreFault → ReadFault
+passed store.Memory = Memory
+passed fault = Store fault
+
+-- when the store refuses a reader: there is no such database, and so nothing defined, or a fault that has a cause
+abbrev pub Refuses : {S : Type 0} → Ghosts S → S → S → Option (Result Value ReadFault) → StoreFault → Type 0
+Refuses g old new defined store.NoDatabase = g.is_honest new → defined ≡ None
+Refuses g old new defined store.Failed = HasFailed (g.fault_count old) (g.fault_count new)
+Refuses g old new defined store.Damaged = ¬ (g.is_honest new)
+Refuses g old new defined store.Memory = ⊥
+Refuses g old new defined store.Exists = ⊥
+Refuses g old new defined store.Full = ⊥
+
+-- What a reader answers, by what is defined for the database of a name, if there is one: that value, that refusal, or want of memory or
+-- a fault of the store. It never answers that it was asked wrongly.
+abbrev pub Answers : {S : Type 0} → Ghosts S → S → S → Option (Result Value ReadFault) → Result Json ReadFault → Type 0
+Answers g old new defined (Ok json) = g.is_honest new → defined ≡ Some (Ok (view json))
+Answers g old new defined (Err Missing) = g.is_honest new → defined ≡ Some (Err Missing)
+Answers g old new defined (Err Deleted) = g.is_honest new → defined ≡ Some (Err Deleted)
+Answers g old new defined (Err BadQuery) = ⊥
+Answers g old new defined (Err (Store fault)) = Refuses g old new defined fault
+Answers g old new defined (Err Memory) = ⊤
+
+-- the same where the history is at hand, so that no store is asked
+abbrev pub Shows : Result Value ReadFault → Result Json ReadFault → Type 0
+Shows defined (Ok json) = defined ≡ Ok (view json)
+Shows defined (Err Missing) = defined ≡ Err Missing
+Shows defined (Err Deleted) = defined ≡ Err Deleted
+Shows defined (Err BadQuery) = ⊥
+Shows defined (Err (Store fault)) = ⊥
+Shows defined (Err Memory) = ⊤

@@ -1,0 +1,35 @@
+-- When a plan, or the change that it makes, is refused for the sake of the store.
+-- This server's own: what the store says of the cause of its fault holds of the fault that is passed on.
+use Rattle.store.specs.Causes.{HasFailed}
+use Rattle.store.specs.declared.fault.StoreFault.{StoreFault}
+use Rattle.store.specs.declared.fault.StoreFault.TheVariants as store
+use Rattle.store.specs.declared.store.Store.{Ghosts}
+use Rattle.std.specs.Prelude.{⊤}
+use Rattle.write.specs.declared.fault.WriteFault.{WriteFault}
+use Rattle.write.specs.declared.fault.WriteFault.TheVariants.{BadDocument, Denied, BadHistory, Conflict, Generation, Store, Memory}
+
+-- the store's fault as it is passed on: want of memory is one cause, wherever it comes from
+abbrev pub passed : StoreFault → WriteFault
+passed store.Memory = Memory
+passed fault = Store fault
+
+-- the store refuses: there is no such database, as `absent` says of an honest one, a fault has its cause, or numbers ran out, as `full`
+-- says; it never refuses because there is such a database
+abbrev pub IsRefused : {S : Type 0} → Ghosts S → S → S → Type 0 → Type 0 → StoreFault → Type 0
+IsRefused g old new absent full store.NoDatabase = g.is_honest new → absent
+IsRefused g old new absent full store.Failed = HasFailed (g.fault_count old) (g.fault_count new)
+IsRefused g old new absent full store.Damaged = ¬ (g.is_honest new)
+IsRefused g old new absent full store.Full = full
+IsRefused g old new absent full store.Memory = ⊥
+IsRefused g old new absent full store.Exists = ⊥
+
+-- What has to hold where this fault is answered: of a fault of the store what makes it refuse. Of the other faults clauses of their own
+-- speak.
+abbrev pub Refuses : {S : Type 0} → Ghosts S → S → S → Type 0 → Type 0 → WriteFault → Type 0
+Refuses g old new absent full (Store fault) = IsRefused g old new absent full fault
+Refuses g old new absent full BadDocument = ⊤
+Refuses g old new absent full (Denied rule) = ⊤
+Refuses g old new absent full BadHistory = ⊤
+Refuses g old new absent full Conflict = ⊤
+Refuses g old new absent full Generation = ⊤
+Refuses g old new absent full Memory = ⊤
