@@ -45,9 +45,7 @@ pub fn reply<S: Store + Drop>(
 /// Returns a request as it is cut from its bytes.
 pub fn request(alloc: Global, line: &str, body: &str) -> Result<Request, Fail> {
     let length = body.len();
-    let bytes = format!(in alloc;
-        "{line} HTTP/1.1\r\nContent-Length: {length}\r\n\r\n{body}"
-    )?;
+    let bytes = format!(in alloc; "{line} HTTP/1.1\r\nContent-Length: {length}\r\n\r\n{body}")?;
     let mut cutter = Cutter::new(alloc);
     let mut cut = cutter.feed(bytes.as_bytes())?;
     Ok(cut.requests.pop().ok_or("no request")?)

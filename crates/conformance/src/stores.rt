@@ -9,10 +9,7 @@ const FAILED: &str = r#"500 {"error":"internal_server_error","reason":"store"}"#
 fn a_full_database_refuses_writes_to_it_alone(rt: HostRuntime) -> Result<(), Fail> {
     let alloc = rt.alloc();
     let full = DbName::new(alloc, "db")?;
-    let mut node = node(
-        alloc,
-        FailingStore::new(store(alloc)?, 1_000, Some(full)),
-    )?;
+    let mut node = node(alloc, FailingStore::new(store(alloc)?, 1_000, Some(full)))?;
     for (line, body, expected) in [
         ("PUT /db/a", "{}", FAILED),
         ("POST /db/_bulk_docs", r#"{"docs":[{"_id":"b"}]}"#, FAILED),
@@ -27,7 +24,11 @@ fn a_full_database_refuses_writes_to_it_alone(rt: HostRuntime) -> Result<(), Fai
             r#"201 {"id":"a","ok":true,"rev":"1-d2422118a02a398f9502ebcbaa7b90bd"}"#,
         ),
     ] {
-        assert_eq!(rt; reply(alloc, &mut node, line, body)?.as_str(), expected, "{line}");
+        assert_eq!(rt;
+            reply(alloc, &mut node, line, body)?.as_str(),
+            expected,
+            "{line}"
+        );
     }
     Ok(())
 }

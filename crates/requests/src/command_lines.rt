@@ -1,6 +1,6 @@
 use crate::texts::{answer, text_of};
 use lab::{Plan, PlanFault, Refusal, plan};
-use rows::{Joint, Kind, RowsFault};
+use rows::{Kind, RowsFault};
 use std::alloc::Global;
 
 /// A command line, whose words stand between single blanks: what it asks for, or the status and the
@@ -11,18 +11,6 @@ pub struct CommandLines {
 }
 
 impl Kind for CommandLines {
-    fn joint(&self) -> Joint {
-        Joint::Nothing
-    }
-
-    fn set(&mut self, _line: &str) -> Result<bool, RowsFault> {
-        Ok(false)
-    }
-
-    fn begin(&mut self) -> Result<(), RowsFault> {
-        Ok(())
-    }
-
     fn answer(&mut self, question: &[u8]) -> Result<Vec<u8>, RowsFault> {
         let alloc = self.alloc;
         let mut words = Vec::new(alloc);

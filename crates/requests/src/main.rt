@@ -47,21 +47,28 @@ fn play_all<R: Env + Files + AllocGlobal + Clone + Drop>(
 }
 
 /// Plays a file by its ending.
-fn play_file(
-    alloc: Global,
-    name: &str,
-    text: &str,
-    report: &mut Report,
-) -> Result<(), RowsFault> {
+fn play_file(alloc: Global, name: &str, text: &str, report: &mut Report) -> Result<(), RowsFault> {
     let ending = match name.rsplit_once('.') {
         Some((_, ending)) => ending,
         None => "",
     };
     match ending {
-        "commands" => play(alloc, name, text, &mut command_lines::CommandLines { alloc }, report),
+        "commands" => play(
+            alloc,
+            name,
+            text,
+            &mut command_lines::CommandLines { alloc },
+            report,
+        ),
         "lab" => play(alloc, name, text, &mut scripts::Scripts::new(alloc), report),
         "pages" => play(alloc, name, text, &mut pages::Pages::new(alloc), report),
-        "requests" => play(alloc, name, text, &mut requests::Requests::new(alloc), report),
+        "requests" => play(
+            alloc,
+            name,
+            text,
+            &mut requests::Requests::new(alloc),
+            report,
+        ),
         _ => report.object(name, 1, "no kind of rows has this ending"),
     }
 }

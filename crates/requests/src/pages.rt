@@ -1,15 +1,15 @@
 use crate::nodes::{Asked, send};
 use crate::setup::Setup;
 use crate::texts::{answer, first_word, text_of};
-use rows::{Joint, Kind, RowsFault};
+use rows::{Kind, RowsFault};
 use std::alloc::Global;
 use store::{DbName, IdRange, PageById, PageBySeq, PlainStore, SeqRange, Store};
 
 /// Pages of the store of one node, which its users write by requests: `USER METHOD TARGET BODY`.
 ///
-/// `seq NAME WORD ..`: rows by sequence, with `since N`, `limit N` and `leaves` for all leaves.
+/// `seq NAME WORD ..`: rows by sequence, with `since N`, `limit N`, `leaves` for all leaves.
 /// `id NAME WORD ..`: rows by id, with `start ID`, `end ID`, `before ID` for an end that is left
-/// out, `down`, `skip N`, `limit N`.
+/// out, `down`, `skip N`, `limit N`. `uncounted` in either asks for no counts.
 #[derive(Drop)]
 pub struct Pages {
     alloc: Global,
@@ -99,6 +99,7 @@ fn sequence_range(words: &str) -> SeqRange {
         since: 0,
         limit: None,
         all_leaves: false,
+        counted: true,
     };
     let mut last = "";
     for word in words.split(' ') {
@@ -107,8 +108,10 @@ fn sequence_range(words: &str) -> SeqRange {
             "limit" => range.limit = Some(number(word)),
             _ => {}
         }
-        if word == "leaves" {
-            range.all_leaves = true;
+        match word {
+            "leaves" => range.all_leaves = true,
+            "uncounted" => range.counted = false,
+            _ => {}
         }
         last = word;
     }
@@ -124,6 +127,7 @@ fn id_range(alloc: Global, words: &str) -> Result<IdRange, RowsFault> {
         descending: false,
         skip: 0,
         limit: None,
+        counted: true,
     };
     let mut last = "";
     for word in words.split(' ') {
@@ -138,8 +142,10 @@ fn id_range(alloc: Global, words: &str) -> Result<IdRange, RowsFault> {
             "limit" => range.limit = Some(number(word)),
             _ => {}
         }
-        if word == "down" {
-            range.descending = true;
+        match word {
+            "down" => range.descending = true,
+            "uncounted" => range.counted = false,
+            _ => {}
         }
         last = word;
     }
@@ -157,11 +163,13 @@ fn shown_by_sequence(alloc: Global, page: &PageBySeq) -> Result<String, RowsFaul
         text.push_str(if row.deleted { " deleted, " } else { ", " })?;
     }
     let last = page.last_seq;
-    let (sequence, documents, deleted) = (page.sequence, page.documents, page.deleted);
-    text.push_str(
-        format!(in alloc; "last {last} of {sequence}, {documents} documents, {deleted} deleted")?
-            .as_str(),
-    )?;
+    let sequence = page.sequence;
+    text.push_str(format!(in alloc; "last {last} of {sequence}")?.as_str())?;
+    if let Some(counts) = &page.counts {
+        let (documents, deleted) = (counts.documents, counts.deleted);
+        let text_of_counts = format!(in alloc; ", {documents} documents, {deleted} deleted")?;
+        text.push_str(text_of_counts.as_str())?;
+    }
     Ok(text)
 }
 
@@ -171,16 +179,17 @@ fn shown_by_id(alloc: Global, page: &PageById) -> Result<String, RowsFault> {
     for row in &page.rows {
         text.push_str(format!(in alloc; "{} {}, ", row.id.as_str(), row.rev)?.as_str())?;
     }
-    let (offset, total) = (page.offset, page.total);
-    text.push_str(format!(in alloc; "offset {offset} of {total}")?.as_str())?;
+    match &page.counts {
+        Some(counts) => {
+            let (offset, total) = (counts.offset, counts.total);
+            text.push_str(format!(in alloc; "offset {offset} of {total}")?.as_str())?;
+        }
+        None => text.push_str("uncounted")?,
+    }
     Ok(text)
 }
 
 impl Kind for Pages {
-    fn joint(&self) -> Joint {
-        Joint::Nothing
-    }
-
     fn set(&mut self, line: &str) -> Result<bool, RowsFault> {
         self.setup.set(line)
     }

@@ -2,7 +2,7 @@ use crate::nodes::{Asked, send};
 use crate::setup::Setup;
 use crate::texts::{answer, first_word, text_of};
 use node::Node;
-use rows::{Joint, Kind, RowsFault};
+use rows::{Kind, RowsFault};
 use std::alloc::Global;
 use store::PlainStore;
 
@@ -30,16 +30,13 @@ impl Requests {
             return Ok(());
         }
         let node = self.setup.node(self.setup.store()?)?;
-        self.nodes.push((String::from_str(self.alloc, name)?, node))?;
+        self.nodes
+            .push((String::from_str(self.alloc, name)?, node))?;
         Ok(())
     }
 }
 
 impl Kind for Requests {
-    fn joint(&self) -> Joint {
-        Joint::Nothing
-    }
-
     fn set(&mut self, line: &str) -> Result<bool, RowsFault> {
         self.setup.set(line)
     }

@@ -39,10 +39,6 @@ impl Kind for Scripts {
         Ok(false)
     }
 
-    fn begin(&mut self) -> Result<(), RowsFault> {
-        Ok(())
-    }
-
     fn answer(&mut self, question: &[u8]) -> Result<Vec<u8>, RowsFault> {
         let alloc = self.alloc;
         let mut script = question;

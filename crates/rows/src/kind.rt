@@ -11,15 +11,22 @@ pub enum Joint {
 
 /// A kind of rows: how their questions are answered.
 pub trait Kind {
-    /// Returns how lines become one text.
-    fn joint(&self) -> Joint;
+    /// Returns how lines become one text: as JSON does, where a kind doesn't say otherwise.
+    fn joint(&self) -> Joint {
+        Joint::Nothing
+    }
 
     /// Takes in a line of the head of a file. The answer is false where the line is none that this
-    /// kind knows.
-    fn set(&mut self, line: &str) -> Result<bool, RowsFault>;
+    /// kind knows; a kind that doesn't say otherwise knows none.
+    fn set(&mut self, _line: &str) -> Result<bool, RowsFault> {
+        Ok(false)
+    }
 
-    /// Begins a table: whatever earlier tables made is gone.
-    fn begin(&mut self) -> Result<(), RowsFault>;
+    /// Begins a table: whatever earlier tables made is gone. A kind that doesn't say otherwise
+    /// keeps nothing.
+    fn begin(&mut self) -> Result<(), RowsFault> {
+        Ok(())
+    }
 
     /// Answers a question. A question that this kind can't read has an answer that says so.
     fn answer(&mut self, question: &[u8]) -> Result<Vec<u8>, RowsFault>;

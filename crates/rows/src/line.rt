@@ -8,9 +8,15 @@ pub(crate) enum Line<'a> {
     /// `# ..`: nothing to anybody but the reader.
     Comment,
     /// `== TITLE` or, where each row is wrong on purpose, `=! TITLE`.
-    Title { title: &'a str, is_wrong: bool },
+    Title {
+        title: &'a str,
+        is_wrong: bool,
+    },
     /// `let NAME TEXT`.
-    Let { name: &'a str, text: &'a str },
+    Let {
+        name: &'a str,
+        text: &'a str,
+    },
     /// `times NAME COUNT TEXT`.
     Times {
         name: &'a str,

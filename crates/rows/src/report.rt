@@ -57,7 +57,11 @@ impl Report {
         let question = escape(self.alloc, &row.question)?;
         self.object(file, row.line, question.as_str())?;
         if is_wrong {
-            self.tell("is right", got, "in a table of rows that are wrong on purpose")
+            self.tell(
+                "is right",
+                got,
+                "in a table of rows that are wrong on purpose",
+            )
         } else {
             self.tell("wanted", &row.answer, "")?;
             self.tell("got   ", got, "")

@@ -39,10 +39,6 @@ impl Kind for Callers {
         Ok(false)
     }
 
-    fn begin(&mut self) -> Result<(), RowsFault> {
-        Ok(())
-    }
-
     fn answer(&mut self, question: &[u8]) -> Result<Vec<u8>, RowsFault> {
         let auth = Auth::new(self.alloc, self.secret.as_bytes(), &self.admins)?;
         let mut headers = Vec::new(self.alloc);
@@ -64,7 +60,10 @@ fn header_of(alloc: Global, line: &[u8]) -> Result<(Vec<u8>, Vec<u8>), RowsFault
     let name = parts.next().unwrap_or(b"");
     let value = parts.next().unwrap_or(b"");
     let value = value.strip_prefix(b" ").unwrap_or(value);
-    Ok((Vec::from_slice(alloc, name)?, Vec::from_slice(alloc, value)?))
+    Ok((
+        Vec::from_slice(alloc, name)?,
+        Vec::from_slice(alloc, value)?,
+    ))
 }
 
 /// Returns a caller as its name and its roles.

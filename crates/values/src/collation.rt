@@ -1,6 +1,6 @@
 use crate::texts::{answer, text_of, value_of};
 use couch_json::{Json, collate};
-use rows::{Joint, Kind, RowsFault};
+use rows::{Kind, RowsFault};
 use std::alloc::Global;
 use std::cmp::Ordering;
 
@@ -31,14 +31,6 @@ impl Ascending {
 }
 
 impl Kind for Ascending {
-    fn joint(&self) -> Joint {
-        Joint::Nothing
-    }
-
-    fn set(&mut self, _line: &str) -> Result<bool, RowsFault> {
-        Ok(false)
-    }
-
     fn begin(&mut self) -> Result<(), RowsFault> {
         self.above.clear();
         Ok(())

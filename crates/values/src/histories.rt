@@ -1,6 +1,6 @@
 use crate::texts::{answer, first_word, text_of, value_of};
 use couch_json::canon;
-use rows::{Joint, Kind, RowsFault};
+use rows::{Kind, RowsFault};
 use std::alloc::Global;
 use tree::{History, Placed, Rev, TreeFault};
 
@@ -133,14 +133,6 @@ fn shown(alloc: Global, revs: &[Rev]) -> Result<Vec<u8>, RowsFault> {
 }
 
 impl Kind for Histories {
-    fn joint(&self) -> Joint {
-        Joint::Nothing
-    }
-
-    fn set(&mut self, _line: &str) -> Result<bool, RowsFault> {
-        Ok(false)
-    }
-
     fn begin(&mut self) -> Result<(), RowsFault> {
         self.history = History::new(self.alloc);
         Ok(())

@@ -1,5 +1,5 @@
 use crate::texts::{answer, text_of};
-use rows::{Joint, Kind, RowsFault};
+use rows::{Kind, RowsFault};
 use std::alloc::Global;
 use tree::{DocId, IdFault};
 
@@ -10,18 +10,6 @@ pub struct Ids {
 }
 
 impl Kind for Ids {
-    fn joint(&self) -> Joint {
-        Joint::Nothing
-    }
-
-    fn set(&mut self, _line: &str) -> Result<bool, RowsFault> {
-        Ok(false)
-    }
-
-    fn begin(&mut self) -> Result<(), RowsFault> {
-        Ok(())
-    }
-
     fn answer(&mut self, question: &[u8]) -> Result<Vec<u8>, RowsFault> {
         let alloc = self.alloc;
         let text = text_of(question);

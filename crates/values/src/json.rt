@@ -1,6 +1,6 @@
 use crate::texts::{answer, canonical};
 use couch_json::{JsonFault, read};
-use rows::{Joint, Kind, RowsFault};
+use rows::{Kind, RowsFault};
 use std::alloc::Global;
 
 /// `TEXT`: its canonical text, or the fault by which it is no JSON.
@@ -10,18 +10,6 @@ pub struct Texts {
 }
 
 impl Kind for Texts {
-    fn joint(&self) -> Joint {
-        Joint::Nothing
-    }
-
-    fn set(&mut self, _line: &str) -> Result<bool, RowsFault> {
-        Ok(false)
-    }
-
-    fn begin(&mut self) -> Result<(), RowsFault> {
-        Ok(())
-    }
-
     fn answer(&mut self, question: &[u8]) -> Result<Vec<u8>, RowsFault> {
         let value = match read(self.alloc, question) {
             Ok(value) => value,

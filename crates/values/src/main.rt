@@ -54,28 +54,53 @@ fn play_all<R: Env + Files + AllocGlobal + Clone + Drop>(
 }
 
 /// Plays a file by its ending.
-fn play_file(
-    alloc: Global,
-    name: &str,
-    text: &str,
-    report: &mut Report,
-) -> Result<(), RowsFault> {
+fn play_file(alloc: Global, name: &str, text: &str, report: &mut Report) -> Result<(), RowsFault> {
     let ending = match name.rsplit_once('.') {
         Some((_, ending)) => ending,
         None => "",
     };
     match ending {
         "callers" => play(alloc, name, text, &mut callers::Callers::new(alloc), report),
-        "collation" => play(alloc, name, text, &mut collation::Ascending::new(alloc), report),
-        "histories" => play(alloc, name, text, &mut histories::Histories::new(alloc), report),
+        "collation" => play(
+            alloc,
+            name,
+            text,
+            &mut collation::Ascending::new(alloc),
+            report,
+        ),
+        "histories" => play(
+            alloc,
+            name,
+            text,
+            &mut histories::Histories::new(alloc),
+            report,
+        ),
         "ids" => play(alloc, name, text, &mut ids::Ids { alloc }, report),
         "json" => play(alloc, name, text, &mut json::Texts { alloc }, report),
         "numbers" => play(alloc, name, text, &mut numbers::Numbers { alloc }, report),
         "paths" => play(alloc, name, text, &mut paths::Paths { alloc }, report),
         "replies" => play(alloc, name, text, &mut replies::Replies { alloc }, report),
-        "revisions" => play(alloc, name, text, &mut revisions::Revisions::new(alloc), report),
-        "security" => play(alloc, name, text, &mut security::Verdicts::new(alloc), report),
-        "selectors" => play(alloc, name, text, &mut selectors::Selectors { alloc }, report),
+        "revisions" => play(
+            alloc,
+            name,
+            text,
+            &mut revisions::Revisions::new(alloc),
+            report,
+        ),
+        "security" => play(
+            alloc,
+            name,
+            text,
+            &mut security::Verdicts::new(alloc),
+            report,
+        ),
+        "selectors" => play(
+            alloc,
+            name,
+            text,
+            &mut selectors::Selectors { alloc },
+            report,
+        ),
         "stream" => play(alloc, name, text, &mut streams::Streams { alloc }, report),
         "tokens" => play(alloc, name, text, &mut tokens::Tokens { alloc }, report),
         _ => report.object(name, 1, "no kind of rows has this ending"),

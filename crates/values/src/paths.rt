@@ -1,6 +1,6 @@
 use crate::texts::{answer, canonical, text_of, value_of};
 use couch_json::{FieldPath, PathFault, at};
-use rows::{Joint, Kind, RowsFault};
+use rows::{Kind, RowsFault};
 use std::alloc::Global;
 
 /// `VALUE at PATH`: what the path reaches in the value, `nothing`, or `Shape` where it is no path.
@@ -10,18 +10,6 @@ pub struct Paths {
 }
 
 impl Kind for Paths {
-    fn joint(&self) -> Joint {
-        Joint::Nothing
-    }
-
-    fn set(&mut self, _line: &str) -> Result<bool, RowsFault> {
-        Ok(false)
-    }
-
-    fn begin(&mut self) -> Result<(), RowsFault> {
-        Ok(())
-    }
-
     fn answer(&mut self, question: &[u8]) -> Result<Vec<u8>, RowsFault> {
         let alloc = self.alloc;
         let (value, text) = parts_of(text_of(question));

@@ -1,6 +1,6 @@
 use crate::texts::{answer, first_word, text_of, value_of};
 use couch_http::{Fixed, HttpFault, Response};
-use rows::{Joint, Kind, RowsFault};
+use rows::{Kind, RowsFault};
 use std::alloc::Global;
 
 /// `STATUS VALUE`, `STATUS last VALUE`: the bytes of the reply.
@@ -56,18 +56,6 @@ fn fixed_of(text: &str) -> Option<Fixed> {
 }
 
 impl Kind for Replies {
-    fn joint(&self) -> Joint {
-        Joint::Nothing
-    }
-
-    fn set(&mut self, _line: &str) -> Result<bool, RowsFault> {
-        Ok(false)
-    }
-
-    fn begin(&mut self) -> Result<(), RowsFault> {
-        Ok(())
-    }
-
     fn answer(&mut self, question: &[u8]) -> Result<Vec<u8>, RowsFault> {
         let (word, rest) = first_word(text_of(question));
         if word != "fixed" {

@@ -1,5 +1,5 @@
 use crate::texts::{answer, first_word, text_of, value_of};
-use rows::{Joint, Kind, RowsFault};
+use rows::{Kind, RowsFault};
 use std::alloc::Global;
 use std::cmp::Ordering;
 use tree::{Rev, RevFault, next_rev};
@@ -32,7 +32,10 @@ impl Revisions {
         }
         let number = rev.number();
         let hash = rev.hash();
-        answer(self.alloc, format!(in self.alloc; "{number} {hash}")?.as_str())
+        answer(
+            self.alloc,
+            format!(in self.alloc; "{number} {hash}")?.as_str(),
+        )
     }
 
     /// Answers whether a revision is behind those above.
@@ -75,14 +78,6 @@ fn is_behind_all(above: &[Rev], rev: &Rev) -> bool {
 }
 
 impl Kind for Revisions {
-    fn joint(&self) -> Joint {
-        Joint::Nothing
-    }
-
-    fn set(&mut self, _line: &str) -> Result<bool, RowsFault> {
-        Ok(false)
-    }
-
     fn begin(&mut self) -> Result<(), RowsFault> {
         self.above.clear();
         Ok(())

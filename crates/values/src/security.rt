@@ -1,7 +1,7 @@
 use crate::texts::{answer, canonical, first_word, text_of, value_of};
 use auth::{Auth, Caller};
 use policy::{Action, Rule, Security, SecurityFault, refusal};
-use rows::{Joint, Kind, RowsFault};
+use rows::{Kind, RowsFault};
 use std::alloc::Global;
 
 /// `closed`: the security object of a new database.
@@ -71,15 +71,22 @@ impl Verdicts {
 fn caller_of(alloc: Global, name: &str, roles: &str) -> Result<Option<Caller>, RowsFault> {
     let auth = Auth::new(alloc, b"Jefe", &[])?;
     let token = auth.token(name)?;
-    let headers = [
-        ("X-Auth-CouchDB-UserName", name),
-        ("X-Auth-CouchDB-Roles", roles),
-        ("X-Auth-CouchDB-Token", token.as_str()),
-    ];
+    let mut headers = Vec::new(alloc);
+    headers.push(header(alloc, "X-Auth-CouchDB-UserName", name)?)?;
+    headers.push(header(alloc, "X-Auth-CouchDB-Roles", roles)?)?;
+    headers.push(header(alloc, "X-Auth-CouchDB-Token", token.as_str())?)?;
     match auth.caller(&headers) {
         Ok(caller) => Ok(Some(caller)),
         Err(_) => Ok(None),
     }
+}
+
+/// Returns a header.
+fn header(alloc: Global, name: &str, value: &str) -> Result<(String, String), RowsFault> {
+    Ok((
+        String::from_str(alloc, name)?,
+        String::from_str(alloc, value)?,
+    ))
 }
 
 /// Returns the action of a word.
@@ -107,10 +114,6 @@ fn verdict(action: Action, caller: &Caller, security: &Security) -> &'static str
 }
 
 impl Kind for Verdicts {
-    fn joint(&self) -> Joint {
-        Joint::Nothing
-    }
-
     fn set(&mut self, line: &str) -> Result<bool, RowsFault> {
         let Some(rest) = line.strip_prefix("user ") else {
             return Ok(false);
@@ -120,10 +123,6 @@ impl Kind for Verdicts {
         let roles = String::from_str(self.alloc, roles)?;
         self.users.push((name, roles))?;
         Ok(true)
-    }
-
-    fn begin(&mut self) -> Result<(), RowsFault> {
-        Ok(())
     }
 
     fn answer(&mut self, question: &[u8]) -> Result<Vec<u8>, RowsFault> {

@@ -1,6 +1,6 @@
 use crate::texts::{answer, text_of, value_of};
 use couch_json::Json;
-use rows::{Joint, Kind, RowsFault};
+use rows::{Kind, RowsFault};
 use selector::{Selector, SelectorFault};
 use std::alloc::Global;
 
@@ -13,18 +13,6 @@ pub struct Selectors {
 }
 
 impl Kind for Selectors {
-    fn joint(&self) -> Joint {
-        Joint::Nothing
-    }
-
-    fn set(&mut self, _line: &str) -> Result<bool, RowsFault> {
-        Ok(false)
-    }
-
-    fn begin(&mut self) -> Result<(), RowsFault> {
-        Ok(())
-    }
-
     fn answer(&mut self, question: &[u8]) -> Result<Vec<u8>, RowsFault> {
         let question = text_of(question);
         if let Some((selector, values)) = question.split_once(" on each of ") {

@@ -43,12 +43,7 @@ impl Streams {
     }
 
     /// Plays a piece.
-    fn feed(
-        &self,
-        cutter: &mut Cutter,
-        piece: &[u8],
-        flow: &mut Flow,
-    ) -> Result<(), RowsFault> {
+    fn feed(&self, cutter: &mut Cutter, piece: &[u8], flow: &mut Flow) -> Result<(), RowsFault> {
         match cutter.feed(piece) {
             Ok(cut) => {
                 for request in &cut.requests {
@@ -193,14 +188,6 @@ fn size_of(line: &str) -> (usize, &str) {
 impl Kind for Streams {
     fn joint(&self) -> Joint {
         Joint::LineFeed
-    }
-
-    fn set(&mut self, _line: &str) -> Result<bool, RowsFault> {
-        Ok(false)
-    }
-
-    fn begin(&mut self) -> Result<(), RowsFault> {
-        Ok(())
     }
 
     fn answer(&mut self, question: &[u8]) -> Result<Vec<u8>, RowsFault> {

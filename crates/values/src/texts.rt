@@ -42,7 +42,9 @@ pub fn first_word(text: &str) -> (&str, &str) {
 
 /// Returns what stands before and behind the first ` | ` of bytes.
 pub fn two_parts(bytes: &[u8]) -> Option<(&[u8], &[u8])> {
-    let place = bytes.windows(3).position(|three| three == b" | ".as_slice())?;
+    let place = bytes
+        .windows(3)
+        .position(|three| three == b" | ".as_slice())?;
     let (before, rest) = bytes.split_at_checked(place)?;
     let (_, behind) = rest.split_at_checked(3)?;
     Some((before, behind))

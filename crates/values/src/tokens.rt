@@ -1,6 +1,6 @@
 use crate::texts::{answer, text_of, two_parts};
 use auth::Auth;
-use rows::{Joint, Kind, RowsFault};
+use rows::{Kind, RowsFault};
 use std::alloc::Global;
 
 /// `SECRET | NAME`: the token of the name under the secret.
@@ -10,18 +10,6 @@ pub struct Tokens {
 }
 
 impl Kind for Tokens {
-    fn joint(&self) -> Joint {
-        Joint::Nothing
-    }
-
-    fn set(&mut self, _line: &str) -> Result<bool, RowsFault> {
-        Ok(false)
-    }
-
-    fn begin(&mut self) -> Result<(), RowsFault> {
-        Ok(())
-    }
-
     fn answer(&mut self, question: &[u8]) -> Result<Vec<u8>, RowsFault> {
         let Some((secret, name)) = two_parts(question) else {
             return answer(self.alloc, "no secret and name");
