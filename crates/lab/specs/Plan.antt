@@ -3,8 +3,8 @@
 use Rattle.std.specs.Prelude.{ℕ, true, List, [], ◌∷◌, map, codes, Option, Some, None, option_map, option_and_then, unwrap_or, bytes_eq, string_bytes, if◌then◌else◌}
 use Rattle.clap.specs.declared.builder.ArgAction.TheVariants.{Set, Append}
 use Rattle.clap.specs.Words.{App, Kinds, Row, Rule, Shape, Text, all_of, fault_of, first_of, new_app, new_rule, subcommand_of, with_rule, with_subcommand}
-use Rattle.lab.specs.declared.plan.Plan.{Plan}
-use Rattle.lab.specs.declared.plan.Plan.TheVariants.{Lab}
+use Rattle.lab.specs.declared.plans.Plan.{Plan}
+use Rattle.lab.specs.declared.plans.Plan.TheVariants.{Lab}
 
 -- `--secret S`
 abbrev pub secret_rule : Rule

@@ -4,7 +4,7 @@ ghost use Rattle.std.specs.Prelude.{◌≡◌, ◌≢◌, None, Some, [], IfErr,
 ghost use Rattle.clap.specs.Words.{all_of, app_of, fault_of, found_of, kind_of, rows_of, subcommand_of, subcommand_rows_of};
 ghost use Rattle.lab.specs.Plan.{asked_at, asked_by, asked_of, couchd_command, lab_asked_by};
 
-use crate::plan::{Plan, PlanFault};
+use crate::plans::{Plan, PlanFault};
 use clap::error::ErrorKind;
 use clap::{Arg, ArgAction, ArgMatches, Command, Error};
 use std::alloc::{AllocError, Global};

@@ -8,7 +8,7 @@ mod fault;
 mod layout;
 mod line;
 mod named;
-mod plan;
+mod plans;
 mod printed;
 mod refusal;
 mod running;
@@ -18,6 +18,6 @@ mod words;
 
 pub use command_line::plan;
 pub use fault::ProgramFault;
-pub use plan::{Plan, PlanFault};
+pub use plans::{Plan, PlanFault};
 pub use refusal::Refusal;
 pub use scripts::lab;

@@ -1,5 +1,5 @@
 use crate::fault::ProgramFault;
-use crate::plan::PlanFault;
+use crate::plans::PlanFault;
 use thiserror::Error;
 
 /// Why the program did not do what it was asked, or not to its end.

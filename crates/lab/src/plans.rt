@@ -26,7 +26,7 @@ pub enum PlanFault {
 
 impl From<AllocError> for PlanFault {
     ghost use Rattle.std.specs.Prelude.{◌≡◌};
-    ghost use Rattle.lab.specs.declared.plan.PlanFault.TheVariants.{Memory};
+    ghost use Rattle.lab.specs.declared.plans.PlanFault.TheVariants.{Memory};
 
     ghost from_gives = { λ _ fault. fault ≡ Memory };
 
