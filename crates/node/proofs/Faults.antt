@@ -1,5 +1,5 @@
 -- A fault that a store's caller can't mend has a cause.
-use Rattle.std.proofs.Common.{◌≡◌, ◌≢◌, ◌≤◌, ℕ, List, Option, Some, None, true, is_some, ap, sym, ◌∙◌, subst, arith, refl, inl, inr}
+use Rattle.std.proofs.Common.{◌≡◌, ◌≢◌, ◌≤◌, ℕ, IfErr, List, Option, Some, None, Result, Ok, Err, true, is_some, ap, sym, ◌∙◌, subst, arith, refl, inl, inr}
 use Rattle.std.specs.FinMap.{get, insert}
 use Rattle.store.specs.Calls.{OnlyReads}
 use Rattle.store.specs.Causes.{HasFailed}
@@ -94,3 +94,9 @@ pub ends_before_from : {S : Type 0} (g : Ghosts S) (a b c : S) (after whole : Co
 ends_before_from g a b c after whole Broken reads onward same h = λ honest. subst (λ (x : Contents). HasCause g a c x) (same honest) (cause_from g a b c after reads (onward honest) (h honest))
 ends_before_from g a b c after whole (Refused refusal) reads onward same h = tt
 ends_before_from g a b c after whole NoRoom reads onward same h = tt
+
+-- the same of whatever the later call answers
+pub all_end_before : {S A : Type 0} (g : Ghosts S) (a b c : S) (after whole : Contents) (r : Result A Stop) → OnlyReads g a b → (g.is_honest c → g.is_honest b) → (g.is_honest c → after ≡ whole)
+    → IfErr r (EndsBefore g b c after) → IfErr r (EndsBefore g a c whole)
+all_end_before g a b c after whole (Ok v) reads onward same h = h
+all_end_before g a b c after whole (Err stop) reads onward same h = ends_before_from g a b c after whole stop reads onward same h

@@ -1,12 +1,12 @@
 -- Histories as functions of ids, and what a map of them holds.
-use Rattle.std.proofs.Common.{◌≡◌, ℕ, Bool, true, false, cond, List, [], ◌∷◌, ◌++◌, map, Result, Ok, Err, IfOk, IfErr, OnErr, ◌≢◌, option_map, Option, Some, None, refl, ap, sym, ◌∙◌}
+use Rattle.std.proofs.Common.{◌≡◌, ℕ, Bool, true, false, cond, List, [], ◌∷◌, ◌++◌, map, Result, Ok, Err, IfOk, IfErr, OnErr, ◌≢◌, option_map, Option, Some, None, refl, ap, sym, ◌∙◌, subst}
 use Rattle.std.specs.BTreeMap.{BTreeMap, get}
 use Rattle.std.specs.Ordering.{is_eq, nat_cmp}
 use Rattle.std.specs.Cmp.Lexicographic.{slice_cmp}
 use Rattle.std.proofs.lemmas.Map.Text.{is_eq-slice_cmp}
 use Rattle.std.proofs.lemmas.List.{append_assoc, map-append}
 use Rattle.std.proofs.lemmas.Slice.Eq.{bytes_eq-Decides}
-use Rattle.std.specs.Prelude.{bytes_eq}
+use Rattle.std.specs.Prelude.{bytes_eq, IfSome}
 use Rattle.tree.specs.History.{HistoryContent}
 use Rattle.tree.specs.History.{with_write}
 use Rattle.couch_json.specs.Value.{Value}
@@ -17,7 +17,7 @@ use Rattle.store.specs.Writing.{writing_of}
 use Rattle.store.specs.declared.write.Write.{Write}
 use Rattle.write.specs.Admission.{with_taken}
 use Rattle.write.specs.Bulk.{Histories, Outcome, Told, after, all_told, judged, outcome_in, outcomes, put_before, told, with_write_in, writes_in}
-use Rattle.write.specs.BulkResults.{held_in, or_empty, told_of, with_history}
+use Rattle.write.specs.BulkResults.{AreStored, held_in, or_empty, told_of, with_history}
 use Rattle.write.specs.declared.bulk_writes.BulkResult.{BulkResult}
 use Rattle.write.specs.declared.fault.WriteFault.{WriteFault}
 use Rattle.write.specs.declared.fault.WriteFault.TheVariants.{Memory}
@@ -39,6 +39,18 @@ put_held m n id h updates =
     λ i q. (ap or_empty (updates q) ∙ or_cond (is_eq (slice_cmp nat_cmp id q)) h (get (slice_cmp nat_cmp) m q)
     ∙ ap (λ b. cond b h (or_empty (get (slice_cmp nat_cmp) m q))) (is_eq-slice_cmp id q)) i
 
+stored_or : (stored : Histories) (id q : List ℕ) (h : HistoryContent) (o : Option HistoryContent) (b : Bool) → is_eq (slice_cmp nat_cmp id q) ≡ b
+    → stored id ≡ h → IfSome o (λ g. g ≡ stored q) → IfSome (cond b (Some h) o) (λ g. g ≡ stored q)
+stored_or stored id q h o true e is are = sym is ∙ ap stored ((bytes_eq-Decides id q).0 (sym (is_eq-slice_cmp id q) ∙ e))
+stored_or stored id q h o false e is are = are
+
+-- after an insertion of the stored history, the map holds stored ones still
+pub put_stored : (m n : BTreeMap (List ℕ) HistoryContent) (id : List ℕ) (h : HistoryContent)
+    → ((q : List ℕ) → get (slice_cmp nat_cmp) n q ≡ cond (is_eq (slice_cmp nat_cmp id q)) (Some h) (get (slice_cmp nat_cmp) m q))
+    → (stored : Histories) → stored id ≡ h → AreStored stored m → AreStored stored n
+put_stored m n id h updates stored is are q =
+    subst (λ o. IfSome o (λ g. g ≡ stored q)) (sym (updates q)) (stored_or stored id q h (get (slice_cmp nat_cmp) m q) (is_eq (slice_cmp nat_cmp id q)) refl is (are q))
+
 -- after a removal only the id's history can be another
 pub removed_held : (m n : BTreeMap (List ℕ) HistoryContent) (id : List ℕ)
     → ((q : List ℕ) → get (slice_cmp nat_cmp) n q ≡ cond (is_eq (slice_cmp nat_cmp id q)) None (get (slice_cmp nat_cmp) m q))
@@ -56,7 +68,7 @@ same_at old id k true e = ap old ((bytes_eq-Decides id k).0 e)
 same_at old id k false e = refl
 
 -- the same history put back changes nothing
-put_same : (old : Histories) (id : List ℕ) → with_history old id (old id) ≡ old
+pub put_same : (old : Histories) (id : List ℕ) → with_history old id (old id) ≡ old
 put_same old id = λ i k. same_at old id k (bytes_eq id k) refl i
 
 write_at : (old : Histories) (w : DocumentWrite) (k : List ℕ) (b : Bool) → bytes_eq w.id k ≡ b

@@ -1,15 +1,19 @@
 -- The stored histories of several documents serve to judge them.
 use Rattle.std.proofs.Common.{◌≡◌, ℕ, Bool, true, false, cond, List, [], ◌∷◌, Option, Some, None, Ok, Err, refl, ap, sym, ◌∙◌, subst, option_map}
-use Rattle.std.specs.Prelude.{bytes_eq, ⊤}
+use Rattle.std.specs.Prelude.{bytes_eq, is_some, IfSome, ⊤}
+use Rattle.std.specs.BTreeMap.{BTreeMap, get}
+use Rattle.std.specs.Ordering.{nat_cmp}
+use Rattle.std.specs.Cmp.Lexicographic.{slice_cmp}
 use Rattle.std.proofs.lemmas.Slice.Eq.{bytes_eq-Decides}
 use Rattle.couch_json.specs.Value.{Value}
 use Rattle.tree.specs.History.{HistoryContent, with_write}
 use Rattle.store.specs.Contents.{AreAcceptable, IfThere}
 use Rattle.store.specs.Database.{Database, DocumentWrite, history_at, is_of}
 use Rattle.write.specs.Bulk.{Histories, Outcome, Told, after, all_told, judged, judged_by, outcome_in, outcomes, writes_in}
-use Rattle.write.specs.BulkResults.{loaded, loaded_at, none_written, with_history}
+use Rattle.write.specs.BulkResults.{AreStored, held_in, loaded, loaded_at, none_written, or_empty, with_history}
 use Rattle.write.specs.Document.{id_in}
 use Rattle.write.proofs.Acceptances.{bulk_acceptable, if_there}
+use Rattle.write.proofs.BulkLemmas.{put_same}
 
 -- both have the same history of this document
 abbrev AgreeAt : Histories → Histories → Option (List ℕ) → Type 0
@@ -106,20 +110,39 @@ bulk_may there new_edits hs vs ws are_stored e =
 is_history : (d : Database) (id : List ℕ) (h : HistoryContent) → Some (history_at d id) ≡ Some h → history_at d id ≡ h
 is_history d id h e = cc
 
-pub load_found : (there : Option Database) (held new : Histories) (id : List ℕ) (h : HistoryContent) (own : Option (List ℕ))
-    → own ≡ Some id → option_map (λ d. history_at d id) there ≡ Some h → new ≡ with_history held id h
-    → IfThere there (λ d. new ≡ loaded_at (history_at d) held own)
-load_found None held new id h own is read put = tt
-load_found (Some d) held new id h own is read put =
-    put ∙ ap (with_history held id) (sym (is_history d id h read)) ∙ sym (ap (loaded_at (history_at d) held) is)
+held_already : (stored : Histories) (id : List ℕ) (o : Option HistoryContent) → is_some o ≡ true → IfSome o (λ h. h ≡ stored id) → or_empty o ≡ stored id
+held_already stored id None is e = cc
+held_already stored id (Some h) is e = e
 
-pub load_nothing : (there : Option Database) (held : Histories) (own : Option (List ℕ)) → own ≡ None → IfThere there (λ d. held ≡ loaded_at (history_at d) held own)
-load_nothing None held own is = tt
-load_nothing (Some d) held own is = sym (ap (loaded_at (history_at d) held) is)
+pub load_held : (there : Option Database) (m : BTreeMap (List ℕ) HistoryContent) (id : List ℕ) (own : Option (List ℕ)) (held : Bool)
+    → own ≡ Some id → held ≡ is_some (get (slice_cmp nat_cmp) m id) → held ≡ true
+    → IfThere there (λ d. AreStored (history_at d) m → (held_in m ≡ loaded_at (history_at d) (held_in m) own) × AreStored (history_at d) m)
+load_held None m id own held is has so = tt
+load_held (Some d) m id own held is has so =
+    λ are. (
+      sym (ap (loaded_at (history_at d) (held_in m)) is
+          ∙ ap (with_history (held_in m) id) (sym (held_already (history_at d) id (get (slice_cmp nat_cmp) m id) (sym has ∙ so) (are id))) ∙ put_same (held_in m) id),
+      are,
+    )
 
-pub load_next : (there : Option Database) (v : Value) (vs all : List Value) (held new : Histories)
-    → IfThere there (λ d. loaded (history_at d) held (v ∷ vs) ≡ loaded (history_at d) none_written all)
-    → IfThere there (λ d. new ≡ loaded_at (history_at d) held (id_in v))
-    → IfThere there (λ d. loaded (history_at d) new vs ≡ loaded (history_at d) none_written all)
-load_next None v vs all held new so_far one = tt
-load_next (Some d) v vs all held new so_far one = ap (λ hs. loaded (history_at d) hs vs) one ∙ so_far
+pub load_found : (there : Option Database) (m n : BTreeMap (List ℕ) HistoryContent) (id : List ℕ) (h : HistoryContent) (own : Option (List ℕ))
+    → own ≡ Some id → option_map (λ d. history_at d id) there ≡ Some h → held_in n ≡ with_history (held_in m) id h
+    → ((stored : Histories) → stored id ≡ h → AreStored stored m → AreStored stored n)
+    → IfThere there (λ d. AreStored (history_at d) m → (held_in n ≡ loaded_at (history_at d) (held_in m) own) × AreStored (history_at d) n)
+load_found None m n id h own is read put more = tt
+load_found (Some d) m n id h own is read put more =
+    λ are. (put ∙ ap (with_history (held_in m) id) (sym (is_history d id h read)) ∙ sym (ap (loaded_at (history_at d) (held_in m)) is), more (history_at d) (is_history d id h read) are)
+
+pub load_nothing : (there : Option Database) (m : BTreeMap (List ℕ) HistoryContent) (own : Option (List ℕ)) → own ≡ None
+    → IfThere there (λ d. AreStored (history_at d) m → (held_in m ≡ loaded_at (history_at d) (held_in m) own) × AreStored (history_at d) m)
+load_nothing None m own is = tt
+load_nothing (Some d) m own is = λ are. (sym (ap (loaded_at (history_at d) (held_in m)) is), are)
+
+pub load_next : (there : Option Database) (v : Value) (vs all : List Value) (m n : BTreeMap (List ℕ) HistoryContent)
+    → IfThere there (λ d. (loaded (history_at d) (held_in m) (v ∷ vs) ≡ loaded (history_at d) none_written all) × AreStored (history_at d) m)
+    → IfThere there (λ d. AreStored (history_at d) m → (held_in n ≡ loaded_at (history_at d) (held_in m) (id_in v)) × AreStored (history_at d) n)
+    → IfThere there (λ d. (loaded (history_at d) (held_in n) vs ≡ loaded (history_at d) none_written all) × AreStored (history_at d) n)
+load_next None v vs all m n so_far one = tt
+load_next (Some d) v vs all m n so_far one =
+    let next = one so_far.1 in
+    (ap (λ hs. loaded (history_at d) hs vs) next.0 ∙ so_far.0, next.1)

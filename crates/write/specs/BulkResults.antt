@@ -1,6 +1,6 @@
 -- What the code keeps while it judges several documents, in the words of `Bulk`.
 -- This crate's own: it ties structs of the code to the definition.
-use Rattle.std.specs.Prelude.{ℕ, List, [], ◌∷◌, if◌then◌else◌, Option, Some, None, option_map, string_bytes, bytes_eq}
+use Rattle.std.specs.Prelude.{ℕ, List, [], ◌∷◌, if◌then◌else◌, Option, Some, None, option_map, string_bytes, bytes_eq, IfSome, ◌≡◌}
 use Rattle.std.specs.FinMap.{empty}
 use Rattle.std.specs.BTreeMap.{BTreeMap, get}
 use Rattle.std.specs.Ordering.{nat_cmp}
@@ -22,6 +22,10 @@ or_empty (Some h) = h
 -- the histories that a map holds; a document that it doesn't hold was never written
 abbrev pub held_in : BTreeMap (List ℕ) HistoryContent → Histories
 held_in m = λ id. or_empty (get (slice_cmp nat_cmp) m id)
+
+-- each history that the map holds is the stored one
+abbrev pub AreStored : Histories → BTreeMap (List ℕ) HistoryContent → Type 0
+AreStored stored m = (id : List ℕ) → IfSome (get (slice_cmp nat_cmp) m id) (λ h. h ≡ stored id)
 
 -- the histories with this one for the id
 abbrev pub with_history : Histories → List ℕ → HistoryContent → Histories

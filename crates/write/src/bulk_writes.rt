@@ -8,7 +8,7 @@ ghost use Rattle.store.specs.Contents.{IfThere};
 ghost use Rattle.store.specs.Database.{history_at, with_all};
 ghost use Rattle.store.specs.Writing.{writing_of, writings};
 ghost use Rattle.write.specs.Bulk.{after, all_told, judged as judged_lem, outcome_in, outcomes, put_before, told, writes_in};
-ghost use Rattle.write.specs.BulkResults.{held_in, loaded, loaded_at, none_written, told_of};
+ghost use Rattle.write.specs.BulkResults.{AreStored, held_in, loaded, loaded_at, none_written, told_of};
 ghost use Rattle.write.specs.Refusing.{Refuses};
 ghost use Rattle.write.specs.Document.{id_in as id_in_lem};
 ghost use Rattle.write.specs.Planning.{MayBeMade, changed, planned_writes};
@@ -101,7 +101,7 @@ fn histories_of<S: Store>(
     Ok(histories)
 }
 
-/// Puts the stored history of a document in.
+/// Puts the stored history of a document in, which is read once for each id.
 fn load<S: Store>(
     alloc: Global,
     store: &mut S,
@@ -110,7 +110,8 @@ fn load<S: Store>(
     histories: &mut BTreeMap<DocId, History>,
 ) -> Result<(), WriteFault>
     ensures ok { S.is_honest store.new → OnOk result (IfThere (map.get (S.contents store.old) db.now) (λ d.
-        held_in histories.new ≡ loaded_at (history_at d) (held_in histories.old) (id_in_lem (view document.now)))) }
+        AreStored (history_at d) histories.old
+        → (held_in histories.new ≡ loaded_at (history_at d) (held_in histories.old) (id_in_lem (view document.now))) × AreStored (history_at d) histories.new)) }
     ensures only { IfErr result (λ fault. fault ≢ WriteFault.Memory → ((cause : _) → fault ≢ WriteFault.Store cause) → ⊥) }
     ensures passed { IfErr result (Refuses S.Store store.old store.new (map.get (S.contents store.old) db.now ≡ None) ⊥) }
     ensures reads { OnlyReads S.Store store.old store.new }
@@ -118,6 +119,9 @@ fn load<S: Store>(
     let Some(id) = id_in(alloc, document)? else {
         return Ok(());
     };
+    if histories.contains_key(&id) {
+        return Ok(());
+    }
     let history = store.history(db, &id)?;
     put_history(histories, id, history)?;
     Ok(())

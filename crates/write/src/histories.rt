@@ -6,7 +6,7 @@ ghost use Rattle.couch_json.specs.View.{view};
 ghost use Rattle.store.specs.Contents.{IfThere};
 ghost use Rattle.store.specs.Database.{history_at};
 ghost use Rattle.store.specs.declared.fault.StoreFault.TheVariants.{NoDatabase, Exists};
-ghost use Rattle.write.specs.BulkResults.{held_in, with_history};
+ghost use Rattle.write.specs.BulkResults.{AreStored, held_in, with_history};
 
 use couch_json::Got;
 use std::alloc::Global;
@@ -34,7 +34,8 @@ pub(crate) fn put_history(
     id: DocId,
     history: History,
 ) -> Got<()>
-    ensures { OnOk result (held_in histories.new ≡ with_history (held_in histories.old) id history) }
+    ensures value { OnOk result (held_in histories.new ≡ with_history (held_in histories.old) id history) }
+    ensures stored { OnOk result ((stored : _) → stored id ≡ history → AreStored stored histories.old → AreStored stored histories.new) }
 {
     drop(histories.insert(id, history)?);
     Ok(())
