@@ -1,5 +1,5 @@
 -- Calls one after another.
-use Rattle.std.proofs.Common.{◌≡◌, ◌∙◌, Result, Ok, Err, arith, refl}
+use Rattle.std.proofs.Common.{◌∙◌, Result, Ok, Err, arith, refl}
 use Rattle.store.specs.Calls.{ChangesWhole, GoesOn, OnlyReads}
 use Rattle.store.specs.declared.store.Store.{Ghosts}
 

@@ -86,6 +86,14 @@ pub lawful_secured : (db : Database) (security : Value) → IsLawful db → IsLa
 lawful_secured db security h =
     record { documents = h.documents; sequences = record { positive = h.sequences.positive; within = h.sequences.within; distinct = h.sequences.distinct } }
 
+-- the lawful writes that stand behind the history of an id, none where it was never written
+pub writes_behind : (db : Database) (id : List ℕ) → IsLawful db → (ws : List Write) × AreWritten ws × (history_at db id ≡ content_of ws)
+writes_behind db id h = by (map.get db.documents id) (h.documents id)
+  where
+    by : (o : Option Document) → ((d : Document) → o ≡ Some d → IsWritten d.history) → (ws : List Write) × AreWritten ws × (history_in o ≡ content_of ws)
+    by None k = ([], none_lawful, refl)
+    by (Some d) k = let was = k d refl in (was.before ++ was.last ∷ [], was.lawful, was.content)
+
 -- ---- the newest write's head is a leaf
 
 stands_low : (path : List Revision) (s : Revision) → counts_down path ≡ true → StandsIn path s → s.number ≤ length path

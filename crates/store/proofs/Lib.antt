@@ -10,3 +10,5 @@ pub mod Pagings
 pub mod Lawfuls
 pub mod Bounds
 pub mod Calls
+pub mod RowOrders
+pub mod IdRows

@@ -56,7 +56,7 @@ found_in (e ∷ es) q v h =
       | false ↦ λ t k. inr (found_in es q v k)
     ] refl h
 
-below_in : (r : List ℕ) (es : List Entry) (x : Entry) → below_all (slice_cmp nat_cmp) r es ≡ true → In es x → slice_cmp nat_cmp r x.0 ≡ Less
+pub below_in : (r : List ℕ) (es : List Entry) (x : Entry) → below_all (slice_cmp nat_cmp) r es ≡ true → In es x → slice_cmp nat_cmp r x.0 ≡ Less
 below_in r [] x h i = elim i [ ]
 below_in r (e ∷ es) x h (inl i) = ap (λ (y : Entry). slice_cmp nat_cmp r y.0) (sym i) ∙ less _ (first_so _ _ h)
 below_in r (e ∷ es) x h (inr i) = below_in r es x (second_so _ _ h) i

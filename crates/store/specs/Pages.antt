@@ -177,3 +177,10 @@ id_page range rs =
 -- the page of this database
 abbrev pub page_by_id : IdRange → Database → IdPage
 page_by_id range db = id_page range (live_rows (entries db.documents))
+
+-- the row is that of a document of the range whose winner is not deleted
+pub record IsIdRowOf (range : IdRange) (db : Database) (r : IdRow) : Type 0 where
+  pub document : Document
+  pub there : get db.documents r.id ≡ Some document
+  pub live : live_rev document.history ≡ Some r.rev
+  pub within : is_within range r.id ≡ true

@@ -1,10 +1,18 @@
 //! What follows from the definitions alone. Each function has an empty body: its contract is the law.
 
-ghost use Rattle.std.specs.Prelude.{◌≡◌, ℕ, Bool, List, [], Some, IsTrue};
-ghost use Rattle.std.specs.FinMap.{entries, find, get, is_sorted};
-ghost use Rattle.std.specs.Ordering.{nat_cmp};
-ghost use Rattle.store.specs.Pages.{SequenceRow, put_in_sequence, row_of, rows_of};
-ghost use Rattle.store.specs.Database.{Database, Document, DocumentWrite, HasSequences, IsContentOf, IsLater, Log, with_all, with_one, with_write_logged};
+ghost use Rattle.std.specs.Prelude.{◌≡◌, ◌<◌, ◌≤◌, ℕ, AllPairs, Contains, List, None, Some, IsTrue, is_some, take, true};
+ghost use Rattle.std.specs.FinMap.{get};
+ghost use Rattle.couch_json.specs.Value.{Value};
+ghost use Rattle.tree.specs.Revision.{Revision};
+ghost use Rattle.tree.specs.History.{held_of, winner};
+ghost use Rattle.tree.specs.declared.entry.Held.{Held};
+ghost use Rattle.store.specs.Contents.{AreAcceptable, IsAcceptable, with_security};
+ghost use Rattle.store.specs.Database.{Database, Document, DocumentWrite, HasSequences, IsContentOf, IsLater, Log, empty_database, with_all, with_one, with_write_logged};
+ghost use Rattle.store.specs.Lawful.{IsBody, IsLawful};
+ghost use Rattle.store.specs.Pages.{IsIdRowOf, IsRowOf, SequenceRow, comes_before, is_within, live_rev, page_by_id, page_by_sequence, row_of};
+ghost use Rattle.store.specs.declared.page.IdRange.{IdRange};
+ghost use Rattle.store.specs.declared.page.IdRow.{IdRow};
+ghost use Rattle.store.specs.declared.page.SeqRange.{SeqRange};
 
 /// Every log has a content, and only one.
 pub fn content_of_a_log()
@@ -35,10 +43,43 @@ pub fn sequences()
     ensures by_all { (ws : List DocumentWrite) (db : Database) → HasSequences db → HasSequences (with_all db ws) }
 {}
 
-/// In a listing by sequence the sequences strictly ascend; and where they are as in `sequences`, each
-/// document has its row at its sequence.
+/// An empty database is lawful, and each acceptable write, and so any number of them, keeps it so, as
+/// does another security object.
+pub fn lawful_databases()
+    ensures empty { (security : Value) → IsLawful (empty_database security) }
+    ensures by_one { (db : Database) (w : DocumentWrite) → IsLawful db → IsAcceptable db w → IsLawful (with_one db w) }
+    ensures by_all { (ws : List DocumentWrite) (db : Database) → IsLawful db → AreAcceptable db ws → IsLawful (with_all db ws) }
+    ensures secured { (db : Database) (security : Value) → IsLawful db → IsLawful (with_security db security) }
+{}
+
+/// Each document of a lawful database has a winner, something is held of it, and each body that is
+/// held is an object that is not nested too deep.
+pub fn lawful_documents()
+    ensures winner { (db : Database) (id : List ℕ) (d : Document) → IsLawful db → get db.documents id ≡ Some d → IsTrue (is_some (winner d.history)) }
+    ensures held { (db : Database) (id : List ℕ) (d : Document) (r : Revision) → IsLawful db → get db.documents id ≡ Some d
+        → winner d.history ≡ Some r → IsTrue (is_some (held_of d.history r)) }
+    ensures body { (db : Database) (id : List ℕ) (d : Document) (r : Revision) (held : Held) → IsLawful db → get db.documents id ≡ Some d
+        → held_of d.history r ≡ Some held → IsBody held.body }
+{}
+
+/// The rows of a page by sequence ascend; each is that of a document whose sequence the range is
+/// before, and without a limit each such document has its row. A limited page has the first rows of
+/// the whole one, and none is above the database's own sequence.
 pub fn rows_by_sequence()
-    ensures ascending { (rows : List SequenceRow) → IsTrue (is_sorted nat_cmp (put_in_sequence rows [])) }
-    ensures whole { (all : Bool) (db : Database) (id : List ℕ) (d : Document) → HasSequences db → get db.documents id ≡ Some d
-        → find nat_cmp d.sequence (put_in_sequence (rows_of all (entries db.documents)) []) ≡ Some (row_of all (id, d)) }
+    ensures ascending { (range : SeqRange) (db : Database) → AllPairs (λ a b. a.sequence < b.sequence) (page_by_sequence range db).rows }
+    ensures there { (range : SeqRange) (db : Database) (r : SequenceRow) → Contains (page_by_sequence range db).rows r → IsRowOf range db r }
+    ensures whole { (range : SeqRange) (db : Database) (id : List ℕ) (d : Document) → HasSequences db → range.limit ≡ None
+        → get db.documents id ≡ Some d → range.since < d.sequence → Contains (page_by_sequence range db).rows (row_of range.all_leaves (id, d)) }
+    ensures first { (range : SeqRange) (db : Database) (n : ℕ)
+        → (page_by_sequence (record range { limit = Some n }) db).rows ≡ take n (page_by_sequence (record range { limit = None }) db).rows }
+    ensures within { (range : SeqRange) (db : Database) → HasSequences db → (page_by_sequence range db).last ≤ db.length }
+{}
+
+/// The rows of a page by id stand in the order of the range; each is that of a document of the range
+/// whose winner is not deleted, and where nothing is skipped and without a limit each such document
+/// has its row.
+pub fn rows_by_id()
+    ensures ascending { (range : IdRange) (db : Database) → AllPairs (λ a b. comes_before range.descending a.id b.id ≡ true) (page_by_id range db).rows }
+    ensures there { (range : IdRange) (db : Database) (r : IdRow) → Contains (page_by_id range db).rows r → IsIdRowOf range db r }
+    ensures whole { (range : IdRange) (db : Database) (r : IdRow) → range.limit ≡ None → range.skip ≡ 0 → IsIdRowOf range db r → Contains (page_by_id range db).rows r }
 {}

@@ -4,3 +4,4 @@ pub mod Paths
 pub mod BulkLemmas
 pub mod Loaded
 pub mod Settlings
+pub mod Fitting
