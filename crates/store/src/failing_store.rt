@@ -52,7 +52,7 @@ fn count_call(calls_left: &mut u64, failures: &mut u64) -> Result<(), StoreFault
     Ok(())
 }
 
-/// Whether this is the name of the full database.
+/// Tells whether this is the name of the full database.
 fn is_full(full: &Option<DbName>, name: &DbName) -> bool
     ensures { result ≡ true → full.now ≡ Some name.now }
 {
