@@ -2,7 +2,7 @@
 use Rattle.std.proofs.Common.{◌≡◌, ◌≤◌, List, [], ◌∷◌, length, get_or, Option, Some, None, Ok, true, cond, option_map, sym, ap, ◌∙◌, arith}
 use Rattle.std.proofs.lemmas.Slice.Eq.{bytes_eq-Decides}
 use Rattle.couch_json.specs.Value.{depth}
-use Rattle.policy.specs.Security.{is_object}
+use Rattle.couch_json.specs.Parts.{is_object}
 use Rattle.tree.specs.History.{HistoryContent, placement, with_write}
 use Rattle.tree.specs.declared.placement.Placed.TheVariants.{Added}
 use Rattle.store.specs.Database.{Database, DocumentWrite, history_at, with_one, is_of}

@@ -1,7 +1,7 @@
 ghost use Rattle.std.specs.Prelude.{◌≡◌, ◌≤◌, Ok, OnOk, true};
 ghost use Rattle.couch_json.specs.Value.{depth};
 ghost use Rattle.couch_json.specs.View.{view};
-ghost use Rattle.policy.specs.Security.{is_object};
+ghost use Rattle.couch_json.specs.Parts.{is_object};
 ghost use Rattle.tree.specs.History.{placement, with_write};
 ghost use Rattle.store.specs.Writing.{writing_of};
 
