@@ -1,5 +1,5 @@
 -- How streams begin: with a head that is whole, or with less.
-use Rattle.std.proofs.Common.{◌≡◌, ℕ, ◌+◌, ◌-◌, ◌<◌, ◌≤◌, Bool, true, false, cond, List, [], ◌++◌, length, take, drop, refl, sym, ap, ◌∙◌, arith, take-append-drop, length-append, length-drop, Ok, Err, Result, map, inl, inr}
+use Rattle.std.proofs.Common.{◌≡◌, ℕ, ◌+◌, ◌-◌, ◌<◌, ◌≤◌, Bool, true, false, cond, List, [], ◌++◌, length, take, drop, refl, sym, ap, ◌∙◌, arith, append_assoc, take-append-drop, length-append, length-drop, Ok, Err, Result, map, inl, inr}
 use Rattle.std.proofs.lemmas.List.{append_cancel_right, drop_at, drop-drop}
 use Rattle.std.proofs.lemmas.Bool.{le-ltb, lt-ltb}
 use Rattle.std.proofs.Math.Seq.{take-append-add}
@@ -9,13 +9,13 @@ use Rattle.couch_http.specs.declared.scan.Line.TheVariants.{Empty}
 use Rattle.couch_http.specs.declared.fault.HttpFault.{HttpFault}
 use Rattle.couch_http.specs.declared.fault.HttpFault.TheVariants.{Encoding, TooLarge}
 use Rattle.couch_http.specs.Message.{HeaderField, Message}
-use Rattle.couch_http.specs.Fields.{has_transfer_encoding, content_length}
+use Rattle.couch_http.specs.Fields.{has_transfer_encoding, request_length}
 use Rattle.couch_http.specs.Head.{HeadScan, within, complete, scan_from, head_scan}
 use Rattle.couch_http.specs.Stream.{Front, waits, broken, whole, head_limit, Begins, AtHead, AtScan, ReadsHead, is_too_large, unfinished_head, field_of, announced, with_body, with_length, after_head}
 use Rattle.couch_http.proofs.ScanLemmas.{scan-append_complete, scan-append_within, scan_front}
 
 -- a stream whose head is whole
-pub Begins-head : (head rest : List ℕ) (lines : ℕ) (front : Front) → head_scan head ≡ complete lines []
+pub Begins-head : (head rest : List ℕ) (lines : ℕ) (front : Front Message) → head_scan head ≡ complete lines []
     → AtHead head lines rest front → Begins (head ++ rest) front
 unfolding Begins
 Begins-head head rest lines front scanned at =
@@ -25,7 +25,7 @@ pub Begins-large : (head rest : List ℕ) (lines : ℕ) → head_scan head ≡ c
     → is_too_large head lines ≡ true → Begins (head ++ rest) (broken TooLarge)
 Begins-large head rest lines scanned large = Begins-head head rest lines _ scanned (rw large refl)
 
-pub Begins-read : (head rest : List ℕ) (lines : ℕ) (front : Front) → head_scan head ≡ complete lines []
+pub Begins-read : (head rest : List ℕ) (lines : ℕ) (front : Front Message) → head_scan head ≡ complete lines []
     → is_too_large head lines ≡ false → ReadsHead head rest front → Begins (head ++ rest) front
 Begins-read head rest lines front scanned small read = Begins-head head rest lines _ scanned (rw small read)
 
@@ -54,8 +54,8 @@ head_scan-take bytes len n scanned =
 
 -- the same where the head came in two parts
 pub record EndsIn (old piece : List ℕ) (len n : ℕ) : Type 0 where
-  pub whole : head_scan (take (length old + len) (old ++ piece)) ≡ complete n []
-  pub joined : take (length old + len) (old ++ piece) ++ drop len piece ≡ old ++ piece
+  pub whole : head_scan (old ++ take len piece) ≡ complete n []
+  pub joined : (old ++ take len piece) ++ drop len piece ≡ old ++ piece
 
 pub head_ends : (old piece : List ℕ) (lines : ℕ) (line : Line) (len n : ℕ) → head_scan old ≡ within lines line
     → complete n (drop len piece) ≡ scan_from lines line piece → EndsIn old piece len n
@@ -65,8 +65,8 @@ head_ends old piece lines line len n before scanned =
     let found : head_scan (old ++ piece) ≡ complete n (drop (length old + len) (old ++ piece)) =
     scan-append_within old piece 0 Empty lines line before ∙ sym scanned ∙ ap (complete n) (sym past) in
     record {
-      whole = head_scan-take (old ++ piece) (length old + len) n found;
-      joined = ap (λ (l : List ℕ). take (length old + len) (old ++ piece) ++ l) (sym past) ∙ take-append-drop (length old + len) (old ++ piece);
+      whole = ap head_scan (sym (take-append-add old piece len)) ∙ head_scan-take (old ++ piece) (length old + len) n found;
+      joined = append_assoc old (take len piece) (drop len piece) ∙ ap (λ (l : List ℕ). old ++ l) (take-append-drop len piece);
     }
 
 -- a request leaves less than the stream had
@@ -87,10 +87,10 @@ pub after_head_shorter : (m : Message) (rest method target : List ℕ) (minor : 
 after_head_shorter m rest method target minor headers after e = by_test (has_transfer_encoding headers) e
   where
     by_test : (t : Bool)
-        → whole m rest ≡ cond t (broken Encoding) (with_length (announced method target minor headers) (content_length headers) after)
+        → whole m rest ≡ cond t (broken Encoding) (with_length (announced method target minor headers) (request_length headers) after)
         → length rest ≤ length after
     by_test true e = cc
-    by_test false e = whole_shorter m (announced method target minor headers) rest after (content_length headers) e
+    by_test false e = whole_shorter m (announced method target minor headers) rest after (request_length headers) e
 
 pub Begins_shorter : (bytes : List ℕ) (m : Message) (rest : List ℕ) → Begins bytes (whole m rest) → length rest < length bytes
 unfolding Begins

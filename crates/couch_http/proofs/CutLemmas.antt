@@ -4,7 +4,8 @@ use Rattle.std.specs.Prelude.{MatchBool}
 use Rattle.couch_http.specs.declared.fault.HttpFault.{HttpFault}
 use Rattle.couch_http.specs.declared.scan.Line.TheVariants.{Empty}
 use Rattle.couch_http.specs.Message.{Message}
-use Rattle.couch_http.specs.Stream.{waits, broken, whole, Begins, StreamEnd, unfinished, ended, faulty, Cuts, head_limit}
+use Rattle.couch_http.specs.Stream.{waits, broken, whole, Begins, StreamEnd, unfinished, ended, faulty, Cuts}
+use Rattle.couch_http.specs.Front.{head_limit}
 use Rattle.couch_http.specs.Pieces.{joined, CutInPieces, GoesOn}
 use Rattle.couch_http.proofs.BeginLemmas.{Begins-waits}
 use Rattle.couch_http.proofs.StreamLaws.{Begins_unique, Begins-append_whole, Begins-append_broken}

@@ -1,21 +1,19 @@
 -- The faults of a stream are Syntax, Encoding and TooLarge.
-use Rattle.std.proofs.Common.{◌≡◌, ℕ, Bool, true, false, cond, List, [], ◌∷◌, ◌++◌, length, take, drop, map, sym, subst, Ok, Err, Result, Option, Some, None, inl, inr}
-use Rattle.std.specs.Char.{is_ascii_digit}
-use Rattle.std.specs.List.{list_all}
-use Rattle.std.specs.Prelude.{⊤, MatchBool, ◌&&◌, nat_lt, codes}
+use Rattle.std.proofs.Common.{◌≡◌, ℕ, Bool, true, false, cond, List, [], ◌∷◌, ◌++◌, length, map, sym, subst, Ok, Err, Result, Option, Some, None, inl, inr}
+use Rattle.std.specs.Prelude.{⊤, MatchBool, nat_lt, codes}
 use Rattle.couch_http.specs.declared.cut.Cut.{Cut}
 use Rattle.couch_http.specs.declared.cut.Ending.{Ending}
 use Rattle.couch_http.specs.declared.cut.Ending.TheVariants.{Open, Last, Fault}
 use Rattle.couch_http.specs.declared.fault.HttpFault.{HttpFault}
 use Rattle.couch_http.specs.declared.fault.HttpFault.TheVariants.{Syntax, Encoding, TooLarge}
 use Rattle.couch_http.specs.Cutting.{Answers, CutsTo, HasStreamFault, messages_of}
-use Rattle.couch_http.specs.Fields.{body_limit, decimal_after, length_text, length_of, content_length, has_transfer_encoding, values_of}
+use Rattle.couch_http.specs.Fields.{body_limit, length_of, request_length, has_transfer_encoding, values_of}
 use Rattle.couch_http.specs.Head.{HeadScan, within, complete, head_scan}
 use Rattle.couch_http.specs.Message.{HeaderField, Message}
-use Rattle.couch_http.specs.Stream.{Front, waits, broken, whole, head_limit, with_body, with_length, announced, after_head, field_of, ReadsHead, AtScan, is_too_large, Begins, StreamEnd, unfinished, ended, faulty, Cuts, IsStreamFault}
+use Rattle.couch_http.specs.Stream.{Front, waits, broken, whole, head_limit, with_length, announced, after_head, field_of, ReadsHead, AtScan, is_too_large, Begins, ended, faulty, Cuts, IsStreamFault}
 
 -- a front that isn't broken by the fault of a call
-abbrev IsSound : Front → Type 0
+abbrev IsSound : Front Message → Type 0
 IsSound waits = ⊤
 IsSound (broken fault) = IsStreamFault fault
 IsSound (whole m rest) = ⊤
@@ -32,10 +30,10 @@ text_sound : (written : Bool) (large : Bool) (n : ℕ) → IsLength (cond writte
 text_sound true large n = number_sound large n
 text_sound false large n = tt
 
-length_sound : (values : List (List ℕ)) → IsLength (length_of values)
-length_sound [] = tt
-length_sound (value ∷ []) = text_sound _ _ _
-length_sound (value ∷ other ∷ more) = tt
+length_sound : (limit : ℕ) (absent : Result ℕ HttpFault) → IsLength absent → (values : List (List ℕ)) → IsLength (length_of limit absent values)
+length_sound limit absent h [] = h
+length_sound limit absent h (value ∷ []) = text_sound _ _ _
+length_sound limit absent h (value ∷ other ∷ more) = tt
 
 body_sound : (short : Bool) (m : Message) (rest : List ℕ) → IsSound (cond short waits (whole m rest))
 body_sound true m rest = tt
@@ -51,10 +49,10 @@ head_sound false m size rest h = with_length_sound m size rest h
 
 after_head_sound : (method target : List ℕ) (minor : ℕ) (headers : List HeaderField) (rest : List ℕ) → IsSound (after_head method target minor headers rest)
 after_head_sound method target minor headers rest =
-    head_sound (has_transfer_encoding headers) (announced method target minor headers) (content_length headers) rest
-    (length_sound (values_of (codes "Content-Length") headers))
+    head_sound (has_transfer_encoding headers) (announced method target minor headers) (request_length headers) rest
+    (length_sound body_limit (Ok 0) tt (values_of (codes "Content-Length") headers))
 
-reads_sound : (head rest : List ℕ) (front : Front) → ReadsHead head rest front → IsSound front
+reads_sound : (head rest : List ℕ) (front : Front Message) → ReadsHead head rest front → IsSound front
 reads_sound head rest front (inl (h, of, e)) = subst IsSound (sym e) (after_head_sound h.method h.target h.minor (map field_of h.fields) rest)
 reads_sound head rest front (inr (none, e)) = subst IsSound (sym e) tt
 
@@ -62,11 +60,11 @@ unfinished_sound : (short : Bool) → IsSound (cond short waits (broken TooLarge
 unfinished_sound true = tt
 unfinished_sound false = tt
 
-size_sound : (large : Bool) (head rest : List ℕ) (front : Front) → MatchBool large (front ≡ broken TooLarge) (ReadsHead head rest front) → IsSound front
+size_sound : (large : Bool) (head rest : List ℕ) (front : Front Message) → MatchBool large (front ≡ broken TooLarge) (ReadsHead head rest front) → IsSound front
 size_sound true head rest front e = subst IsSound (sym e) tt
 size_sound false head rest front reads = reads_sound head rest front reads
 
-pub Begins_sound : (bytes : List ℕ) (front : Front) → Begins bytes front → IsSound front
+pub Begins_sound : (bytes : List ℕ) (front : Front Message) → Begins bytes front → IsSound front
 unfolding Begins
 Begins_sound bytes front begins = by_scan (head_scan bytes) begins
   where

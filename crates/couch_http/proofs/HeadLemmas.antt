@@ -1,33 +1,32 @@
 -- What follows from the headers of a head.
-use Rattle.std.proofs.Common.{◌≡◌, ℕ, ◌<◌, false, List, [], ◌∷◌, map, take, refl, sym, ap, ◌∙◌, arith, Ok}
-use Rattle.std.specs.Prelude.{IsTrue, IsUtf8}
-use Rattle.std.proofs.lemmas.Bool.Decides.{nat_tests}
+use Rattle.std.proofs.Common.{◌≡◌, ℕ, false, List, [], ◌∷◌, map, take, refl, sym, ap, ◌∙◌, Ok}
+use Rattle.std.specs.Prelude.{IsTrue}
 use Rattle.std.proofs.lemmas.List.Elements.{All-weaker}
-use Rattle.std.proofs.lemmas.Str.{IsUtf8-from_ascii}
-use Rattle.std.proofs.lemmas.Str.Ascii.{IsAscii-from_all}
 use Rattle.httparse.specs.declared.spans.HeaderSpan.{HeaderSpan}
 use Rattle.httparse.specs.declared.spans.RequestSpans.{RequestSpans}
-use Rattle.httparse.specs.Grammar.{is_token_byte, AllPass, Field, RequestHead}
+use Rattle.http_header.specs.Token as Token
+use Rattle.httparse.specs.Grammar as Grammar
+use Rattle.httparse.specs.Grammar.{Field, RequestHead}
 use Rattle.httparse.specs.Spans.{span_bytes, header_bytes, name_and_value, IsRequestAt}
 use Rattle.couch_http.specs.Beginning.{field_at}
 use Rattle.couch_http.specs.Message.{HeaderField, Message}
-use Rattle.couch_http.specs.Fields.{has_transfer_encoding, content_length}
+use Rattle.couch_http.specs.Fields.{has_transfer_encoding, request_length}
 use Rattle.couch_http.specs.Stream.{announced, with_body, after_head, field_of, front_of}
 
 -- the request that is announced awaits its body
 pub with_body-announced : (method target : List ℕ) (minor : ℕ) (headers : List HeaderField) (m : Message) (size : ℕ)
-    → has_transfer_encoding headers ≡ false → content_length headers ≡ Ok size → m ≡ announced method target minor headers
+    → has_transfer_encoding headers ≡ false → request_length headers ≡ Ok size → m ≡ announced method target minor headers
     → (rest : List ℕ) → with_body m size rest ≡ after_head method target minor headers rest
 with_body-announced method target minor headers m size plain length same rest = rw (same, plain, length) refl
 
-token_is_ascii : (b : ℕ) → IsTrue (is_token_byte b) → b < 128
-unfolding is_token_byte
-token_is_ascii b token = grind (arith, nat_tests)
+same_tokens : (b : ℕ) → IsTrue (Grammar.is_token_byte b) → IsTrue (Token.is_token_byte b)
+unfolding Grammar.is_token_byte Token.is_token_byte
+same_tokens b token = token
 
--- a method is a text
-pub token_text : (bytes : List ℕ) → AllPass is_token_byte bytes → IsUtf8 bytes
-token_text bytes pass =
-    IsUtf8-from_ascii bytes (IsAscii-from_all bytes (All-weaker (λ b. IsTrue (is_token_byte b)) (λ b. b < 128) token_is_ascii bytes pass))
+-- a method of the grammar is a token
+pub method_token : (bytes : List ℕ) → Grammar.IsToken bytes → Token.IsToken bytes
+method_token bytes token =
+    (token.0, All-weaker (λ b. IsTrue (Grammar.is_token_byte b)) (λ b. IsTrue (Token.is_token_byte b)) same_tokens bytes token.1)
 
 -- a name and a value as a header
 with_name : List ℕ × List ℕ → HeaderField

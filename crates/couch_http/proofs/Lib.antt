@@ -8,3 +8,4 @@ pub mod HeadLaws
 pub mod ArrivalLemmas
 pub mod FaultLemmas
 pub mod PlaceLemmas
+pub mod PhraseLemmas

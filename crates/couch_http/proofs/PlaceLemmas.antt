@@ -3,7 +3,7 @@ use Rattle.std.proofs.Common.{◌≡◌, ℕ, suc, ◌+◌, ◌-◌, ◌<◌, Bo
 use Rattle.std.specs.Prelude.{MatchBool}
 use Rattle.couch_http.specs.Message.{Message}
 use Rattle.couch_http.specs.Places.{EndsAt}
-use Rattle.couch_http.specs.Stream.{whole, Begins, StreamEnd, ended, Cuts}
+use Rattle.couch_http.specs.Stream.{whole, StreamEnd, ended, Cuts}
 use Rattle.couch_http.proofs.BeginLemmas.{Begins_shorter}
 use Rattle.couch_http.proofs.StreamLaws.{Begins_unique}
 

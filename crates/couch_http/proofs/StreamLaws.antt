@@ -10,14 +10,14 @@ use Rattle.couch_http.specs.declared.scan.Line.TheVariants.{Empty}
 use Rattle.couch_http.specs.declared.fault.HttpFault.{HttpFault}
 use Rattle.couch_http.specs.declared.fault.HttpFault.TheVariants.{Encoding, TooLarge}
 use Rattle.couch_http.specs.Message.{HeaderField, Message}
-use Rattle.couch_http.specs.Fields.{has_transfer_encoding, content_length}
+use Rattle.couch_http.specs.Fields.{has_transfer_encoding, request_length}
 use Rattle.couch_http.specs.Head.{HeadScan, within, complete, scan_from, head_scan}
 use Rattle.couch_http.specs.Stream.{Front, waits, broken, whole, head_limit, Begins, AtScan, ReadsHead, is_too_large, field_of, announced, with_body, with_length, after_head, front_of}
 use Rattle.couch_http.proofs.ScanLemmas.{scan-append_complete, scan-append_within, scan_front}
 
 -- ---- one way
 
-heads_unique : (head : List ℕ) (rest : List ℕ) (x y : Front) → ReadsHead head rest x → ReadsHead head rest y → x ≡ y
+heads_unique : (head : List ℕ) (rest : List ℕ) (x y : Front Message) → ReadsHead head rest x → ReadsHead head rest y → x ≡ y
 heads_unique head rest x y (inl (h, of, e)) (inl (k, also, f)) =
     let same : h ≡ k = (request_unique head h k [] [] of.reads also.reads).0 in
     e ∙ ap (λ (g : RequestHead). front_of g rest) same ∙ sym f
@@ -25,12 +25,12 @@ heads_unique head rest x y (inl (h, of, e)) (inr (none, f)) = absurd (none h of)
 heads_unique head rest x y (inr (none, e)) (inl (k, also, f)) = absurd (none k also)
 heads_unique head rest x y (inr (none, e)) (inr (also, f)) = e ∙ sym f
 
-at_unique : (large : Bool) (head rest : List ℕ) (x y : Front)
+at_unique : (large : Bool) (head rest : List ℕ) (x y : Front Message)
     → MatchBool large (x ≡ broken TooLarge) (ReadsHead head rest x) → MatchBool large (y ≡ broken TooLarge) (ReadsHead head rest y) → x ≡ y
 at_unique true head rest x y e f = e ∙ sym f
 at_unique false head rest x y e f = heads_unique head rest x y e f
 
-pub Begins_unique : (bytes : List ℕ) (x y : Front) → Begins bytes x → Begins bytes y → x ≡ y
+pub Begins_unique : (bytes : List ℕ) (x y : Front Message) → Begins bytes x → Begins bytes y → x ≡ y
 unfolding Begins
 Begins_unique bytes x y = by_scan (head_scan bytes)
   where
@@ -68,11 +68,11 @@ head_append : (m : Message) (rest method target : List ℕ) (minor : ℕ) (heade
 head_append m rest method target minor headers after more e = by_test (has_transfer_encoding headers) e
   where
     by_test : (t : Bool)
-        → whole m rest ≡ cond t (broken Encoding) (with_length (announced method target minor headers) (content_length headers) after)
+        → whole m rest ≡ cond t (broken Encoding) (with_length (announced method target minor headers) (request_length headers) after)
         → whole m (rest ++ more)
-        ≡ cond t (broken Encoding) (with_length (announced method target minor headers) (content_length headers) (after ++ more))
+        ≡ cond t (broken Encoding) (with_length (announced method target minor headers) (request_length headers) (after ++ more))
     by_test true e = cc
-    by_test false e = length_append m (announced method target minor headers) (content_length headers) rest after more e
+    by_test false e = length_append m (announced method target minor headers) (request_length headers) rest after more e
 
 pub Begins-append_whole : (bytes more : List ℕ) (m : Message) (rest : List ℕ) → Begins bytes (whole m rest)
     → Begins (bytes ++ more) (whole m (rest ++ more))
@@ -118,15 +118,15 @@ head_fault : (f : HttpFault) (method target : List ℕ) (minor : ℕ) (headers :
 head_fault f method target minor headers after more e = by_test (has_transfer_encoding headers) e
   where
     by_test : (t : Bool)
-        → broken f ≡ cond t (broken Encoding) (with_length (announced method target minor headers) (content_length headers) after)
+        → broken f ≡ cond t (broken Encoding) (with_length (announced method target minor headers) (request_length headers) after)
         → broken f
-        ≡ cond t (broken Encoding) (with_length (announced method target minor headers) (content_length headers) (after ++ more))
+        ≡ cond t (broken Encoding) (with_length (announced method target minor headers) (request_length headers) (after ++ more))
     by_test true e = e
-    by_test false e = length_fault f (announced method target minor headers) (content_length headers) after more e
+    by_test false e = length_fault f (announced method target minor headers) (request_length headers) after more e
 
 -- a stream without a head that is as long as a head may be stays too large
 still_long : (bytes more : List ℕ) (n : ℕ) (line : Line) (f : HttpFault) → head_scan bytes ≡ within n line
-    → head_limit ≤ length bytes → broken f ≡ broken TooLarge → AtScan (head_scan (bytes ++ more)) (bytes ++ more) (broken f)
+    → head_limit ≤ length bytes → ◌≡◌ {A = Front Message} (broken f) (broken TooLarge) → AtScan (head_scan (bytes ++ more)) (bytes ++ more) (broken f)
 still_long bytes more n line f scanned long e =
     rw (scan-append_within bytes more 0 Empty n line scanned) (by_scan (scan_from n line more) refl)
   where
@@ -146,12 +146,12 @@ unfolding Begins
 Begins-append_broken bytes more f begins = by_scan (head_scan bytes) refl begins
   where
     by_test : (t : Bool) (n : ℕ) (line : Line) → nat_lt (length bytes) head_limit ≡ t → head_scan bytes ≡ within n line
-        → broken f ≡ cond t waits (broken TooLarge) → AtScan (head_scan (bytes ++ more)) (bytes ++ more) (broken f)
+        → ◌≡◌ {A = Front Message} (broken f) (cond t waits (broken TooLarge)) → AtScan (head_scan (bytes ++ more)) (bytes ++ more) (broken f)
     by_test true n line is scanned e = cc
     by_test false n line is scanned e = still_long bytes more n line f scanned (ltb-false (length bytes) head_limit is) e
 
-    by_size : (t : Bool) (head after : List ℕ) → MatchBool t (broken f ≡ broken TooLarge) (ReadsHead head after (broken f))
-        → MatchBool t (broken f ≡ broken TooLarge) (ReadsHead head (after ++ more) (broken f))
+    by_size : (t : Bool) (head after : List ℕ) → MatchBool t (◌≡◌ {A = Front Message} (broken f) (broken TooLarge)) (ReadsHead head after (broken f))
+        → MatchBool t (◌≡◌ {A = Front Message} (broken f) (broken TooLarge)) (ReadsHead head (after ++ more) (broken f))
     by_size true head after e = e
     by_size false head after (inl (h, of, e)) =
         inl (h, of, head_fault f h.method h.target h.minor (map field_of h.fields) after more e)

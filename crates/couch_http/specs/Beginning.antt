@@ -6,11 +6,11 @@ use Rattle.httparse.specs.declared.spans.HeaderSpan.{HeaderSpan}
 use Rattle.httparse.specs.declared.spans.RequestSpans.{RequestSpans}
 use Rattle.couch_http.specs.declared.head.HeadRead.{HeadRead}
 use Rattle.couch_http.specs.declared.head.HeadRead.TheVariants.{Broken, Announced}
-use Rattle.couch_http.specs.Message.{HeaderField, message_of}
+use Rattle.couch_http.specs.Message.{HeaderField, Message, message_of}
 use Rattle.couch_http.specs.Stream.{Front, broken, with_body, after_head, IsHeadOf, ReadsHead}
 
 -- how a stream begins with the head that was read, and then these bytes
-abbrev pub read_front : HeadRead → List ℕ → Front
+abbrev pub read_front : HeadRead → List ℕ → Front Message
 read_front (Broken fault) rest = broken fault
 read_front (Announced request size) rest = with_body (message_of request) size rest
 

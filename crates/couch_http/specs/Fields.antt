@@ -30,20 +30,25 @@ decimal_after n [] = n
 decimal_after n (digit ∷ digits) = decimal_after (n * 10 + (digit - 48)) digits
 
 -- a length is written in decimal digits, at least one, and may not pass the limit
-abbrev pub length_text : List ℕ → Result ℕ HttpFault
-length_text text =
+abbrev pub length_text : ℕ → List ℕ → Result ℕ HttpFault
+length_text limit text =
     if nat_lt 0 (length text) && list_all is_ascii_digit text
-    then (if nat_lt body_limit (decimal_after 0 text) then Err TooLarge else Ok (decimal_after 0 text))
+    then (if nat_lt limit (decimal_after 0 text) then Err TooLarge else Ok (decimal_after 0 text))
     else Err Syntax
 
--- no `Content-Length` means 0, and two are refused
-abbrev pub length_of : List (List ℕ) → Result ℕ HttpFault
-length_of [] = Ok 0
-length_of (value ∷ []) = length_text value
-length_of (value ∷ other ∷ more) = Err Syntax
+-- the length of these values, which is `absent` where there is none; two are refused
+abbrev pub length_of : ℕ → Result ℕ HttpFault → List (List ℕ) → Result ℕ HttpFault
+length_of limit absent [] = absent
+length_of limit absent (value ∷ []) = length_text limit value
+length_of limit absent (value ∷ other ∷ more) = Err Syntax
 
-abbrev pub content_length : List HeaderField → Result ℕ HttpFault
-content_length headers = length_of (values_of (codes "Content-Length") headers)
+-- what `Content-Length` says, up to the limit
+abbrev pub content_length : ℕ → Result ℕ HttpFault → List HeaderField → Result ℕ HttpFault
+content_length limit absent headers = length_of limit absent (values_of (codes "Content-Length") headers)
+
+-- of a request: without the header it has no body
+abbrev pub request_length : List HeaderField → Result ℕ HttpFault
+request_length headers = content_length body_limit (Ok 0) headers
 
 abbrev pub has_transfer_encoding : List HeaderField → Bool
 has_transfer_encoding headers = nat_lt 0 (length (values_of (codes "Transfer-Encoding") headers))

@@ -2,6 +2,7 @@ pub mod Message
 pub mod Head
 pub mod Scanning
 pub mod Fields
+pub mod Front
 pub mod Stream
 pub mod Cutting
 pub mod Stages

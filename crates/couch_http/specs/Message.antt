@@ -27,7 +27,7 @@ header_field h = record { name = h.name.items; value = h.value.items }
 -- a request of the program
 abbrev pub message_of : Request → Message
 message_of r = record {
-  method = string_bytes r.method;
+  method = r.method;
   path = string_bytes r.path;
   query = option_map string_bytes r.query;
   headers = map header_field r.headers.items;

@@ -1,7 +1,8 @@
 -- The bytes of a reply: a status line, three or four header lines, an empty line, and a body of JSON.
 -- RFC 9112, sections 4, 6.2 and 9.6, and RFC 9110, section 15; which statuses and headers there are is this project's own.
-use Rattle.std.specs.Prelude.{ℕ, Bool, true, List, [], ◌++◌, length, if◌then◌else◌, ◌==◌, codes}
+use Rattle.std.specs.Prelude.{ℕ, Bool, true, List, [], ◌++◌, length, unwrap_or, if◌then◌else◌, codes}
 use Rattle.std.specs.Fmt.{decimal}
+use Rattle.http.specs.StatusCode.{reason_phrase}
 use Rattle.httparse.specs.Ascii.{crlf_bytes}
 use Rattle.couch_http.specs.declared.fixed.Fixed.{Fixed}
 use Rattle.couch_http.specs.declared.fixed.Fixed.TheVariants.{Syntax, Encoding, TooLarge, Store, NoRoom}
@@ -12,22 +13,9 @@ pub record Reply : Type 0 where
   pub body : List ℕ
   pub bytes : List ℕ
 
--- the phrase of a status; none but these thirteen is used
+-- the phrase of a status, as the kit's http has them from RFC 9110; a number that has none has no bytes here
 abbrev pub phrase_of : ℕ → List ℕ
-phrase_of status =
-    if status == 200 then codes "OK" else (
-    if status == 201 then codes "Created" else (
-    if status == 400 then codes "Bad Request" else (
-    if status == 401 then codes "Unauthorized" else (
-    if status == 403 then codes "Forbidden" else (
-    if status == 404 then codes "Not Found" else (
-    if status == 405 then codes "Method Not Allowed" else (
-    if status == 409 then codes "Conflict" else (
-    if status == 412 then codes "Precondition Failed" else (
-    if status == 413 then codes "Payload Too Large" else (
-    if status == 500 then codes "Internal Server Error" else (
-    if status == 501 then codes "Not Implemented" else (
-    if status == 503 then codes "Service Unavailable" else []))))))))))))
+phrase_of status = unwrap_or (reason_phrase status) []
 
 -- the status line
 unfoldable pub status_line : ℕ → List ℕ

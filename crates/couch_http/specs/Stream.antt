@@ -1,28 +1,13 @@
 -- The requests that a stream of bytes holds from its front, and how it then stands.
 -- RFC 9112, sections 2, 3, 5, 6.3 and 9.6; the limits and what is refused are this project's own.
-use Rattle.std.specs.Prelude.{◌≡◌, ⊤, ℕ, ◌-◌, ◌≤◌, ◌⊎◌, Bool, ◌||◌, List, [], ◌∷◌, ◌++◌, length, take, drop, map, if◌then◌else◌, ◌==◌, nat_lt, MatchBool, Result, Ok, Err}
+use Rattle.std.specs.Prelude.{◌≡◌, ⊤, ℕ, ◌≤◌, ◌||◌, List, [], ◌∷◌, length, map, if◌then◌else◌, ◌==◌, MatchBool, Result}
 use Rattle.httparse.specs.Grammar.{Field, field_value, RequestHead, ReadsRequest}
 use Rattle.couch_http.specs.declared.fault.HttpFault.{HttpFault}
 use Rattle.couch_http.specs.declared.fault.HttpFault.TheVariants.{Syntax, Encoding, TooLarge, Memory, Closed}
 use Rattle.couch_http.specs.Message.{HeaderField, Message}
-use Rattle.couch_http.specs.Head.{HeadScan, within, complete, head_scan}
-use Rattle.couch_http.specs.Fields.{has_transfer_encoding, content_length, asks_close, path_of, query_of}
-
--- a head has at most so many bytes
-unfoldable pub head_limit : ℕ
-head_limit = 16384
-
--- and at most so many header lines
-unfoldable pub header_limit : ℕ
-header_limit = 64
-
--- how a stream begins
-pub data Front : Type 0 where
-  -- neither a whole request nor a fault is there yet
-  waits : Front
-  broken : HttpFault → Front
-  -- a request, and the bytes after its last
-  whole : Message → List ℕ → Front
+use Rattle.couch_http.specs.Head.{HeadScan, head_scan}
+pub use Rattle.couch_http.specs.Front.{Front, waits, broken, whole, head_limit, header_limit, with_content, with_content_length, ReadsBy, is_too_large, StandsAtHead, unfinished_head, StandsAtScan, BeginsBy}
+use Rattle.couch_http.specs.Fields.{has_transfer_encoding, request_length, asks_close, path_of, query_of}
 
 -- httparse reads all of the head, and no more, as a request with at most so many headers
 pub record IsHeadOf (head : List ℕ) (h : RequestHead) : Type 0 where
@@ -34,14 +19,12 @@ abbrev pub field_of : Field → HeaderField
 field_of f = record { name = f.name; value = field_value f }
 
 -- a request whose body is the first bytes of those that have come, once there are as many as its length says
-abbrev pub with_body : Message → ℕ → List ℕ → Front
-with_body m size rest =
-    if nat_lt (length rest) size then waits else whole (record m { body = take size rest }) (drop size rest)
+abbrev pub with_body : Message → ℕ → List ℕ → Front Message
+with_body m size rest = with_content (λ body. record m { body = body }) size rest
 
 -- the same where the length may be refused
-abbrev pub with_length : Message → Result ℕ HttpFault → List ℕ → Front
-with_length m (Ok size) rest = with_body m size rest
-with_length m (Err fault) rest = broken fault
+abbrev pub with_length : Message → Result ℕ HttpFault → List ℕ → Front Message
+with_length m size rest = with_content_length (λ body. record m { body = body }) size rest
 
 -- the request that a head announces, without its body
 abbrev pub announced : List ℕ → List ℕ → ℕ → List HeaderField → Message
@@ -55,38 +38,27 @@ announced method target minor headers = record {
 }
 
 -- a head of the grammar, and the bytes after it
-abbrev pub after_head : List ℕ → List ℕ → ℕ → List HeaderField → List ℕ → Front
+abbrev pub after_head : List ℕ → List ℕ → ℕ → List HeaderField → List ℕ → Front Message
 after_head method target minor headers rest =
     if has_transfer_encoding headers then broken Encoding
-    else with_length (announced method target minor headers) (content_length headers) rest
+    else with_length (announced method target minor headers) (request_length headers) rest
 
-abbrev pub front_of : RequestHead → List ℕ → Front
+abbrev pub front_of : RequestHead → List ℕ → Front Message
 front_of h rest = after_head h.method h.target h.minor (map field_of h.fields) rest
 
 -- a head of lawful size that is read, or is not
-abbrev pub ReadsHead : List ℕ → List ℕ → Front → Type 0
-ReadsHead head rest front =
-    ((h : RequestHead) × IsHeadOf head h × (front ≡ front_of h rest))
-    ⊎ (((h : RequestHead) → ¬ (IsHeadOf head h)) × (front ≡ broken Syntax))
-
--- the head is too long, or has more lines than the request line and its headers may have
-abbrev pub is_too_large : List ℕ → ℕ → Bool
-is_too_large head lines = nat_lt head_limit (length head) || nat_lt header_limit (lines - 1)
+abbrev pub ReadsHead : List ℕ → List ℕ → Front Message → Type 0
+ReadsHead head rest front = ReadsBy IsHeadOf front_of head rest front
 
 -- a whole head of so many lines, and the bytes after it
-abbrev pub AtHead : List ℕ → ℕ → List ℕ → Front → Type 0
-AtHead head lines rest front = MatchBool (is_too_large head lines) (front ≡ broken TooLarge) (ReadsHead head rest front)
+abbrev pub AtHead : List ℕ → ℕ → List ℕ → Front Message → Type 0
+AtHead head lines rest front = StandsAtHead ReadsHead head lines rest front
 
--- no whole head yet: a stream that is as long as a head may be waits no more
-abbrev pub unfinished_head : List ℕ → Front
-unfinished_head bytes = if nat_lt (length bytes) head_limit then waits else broken TooLarge
-
-abbrev pub AtScan : HeadScan → List ℕ → Front → Type 0
-AtScan (within lines line) bytes front = front ≡ unfinished_head bytes
-AtScan (complete lines rest) bytes front = (head : List ℕ) × (bytes ≡ head ++ rest) × AtHead head lines rest front
+abbrev pub AtScan : HeadScan → List ℕ → Front Message → Type 0
+AtScan scan bytes front = StandsAtScan ReadsHead scan bytes front
 
 -- a stream of these bytes begins so
-unfoldable pub Begins : List ℕ → Front → Type 0
+unfoldable pub Begins : List ℕ → Front Message → Type 0
 Begins bytes front = AtScan (head_scan bytes) bytes front
 
 -- the faults that a stream may have; the others are those of calls

@@ -35,7 +35,7 @@ impl Cutter {
     ghost use Rattle.couch_http.specs.Cutting.{Answers, HasStreamFault};
 
     /// At the front of a stream.
-    #[tactic(auto, unfolding(crate::specs::Stream::head_limit))]
+    #[tactic(auto, unfolding(crate::specs::Front::head_limit))]
     pub fn new(alloc: Global) -> Cutter
         ensures { result ≡ Some [] }
     {

@@ -73,29 +73,27 @@ fn take_in_head(
         return Err(partial);
     }
     let had = partial.bytes.len();
-    if partial.bytes.extend_from_slice(piece).is_err() {
-        return Err(partial);
-    }
     match partial.scan.run(piece) {
         Scanned::Within(scan) => {
-            if !may_go_on(partial.bytes.len()) {
+            if !may_go_on(had.saturating_add(piece.len())) {
                 return Ok(without_requests(
                     alloc,
                     Stage::Closed,
                     Ending::Fault(HttpFault::TooLarge),
                 ));
             }
+            if partial.bytes.extend_from_slice(piece).is_err() {
+                return Err(partial);
+            }
             partial.scan = scan;
             Ok(without_requests(alloc, Stage::Head(partial), Ending::Open))
         }
         Scanned::Complete(WholeHead { lines, len }) => {
-            match cut_at_head(
-                alloc,
-                &partial.bytes[..had + len],
-                &piece[len..],
-                lines,
-                room,
-            ) {
+            let (end, rest) = piece.split_at(len);
+            if partial.bytes.extend_from_slice(end).is_err() {
+                return Err(partial);
+            }
+            match cut_at_head(alloc, &partial.bytes, rest, lines, room) {
                 Ok(taken) => Ok(taken),
                 Err(NoMemory) => {
                     partial.bytes.truncate(had);
@@ -345,7 +343,7 @@ fn with_body<'a>(
 }
 
 /// Tests whether a head is too long, or has too many lines.
-#[tactic(auto, unfolding(crate::specs::Stream::head_limit, crate::specs::Stream::header_limit))]
+#[tactic(auto, unfolding(crate::specs::Front::head_limit, crate::specs::Front::header_limit))]
 fn is_too_large(head: &[u8], lines: usize) -> bool
     ensures { result ≡ is_too_large head.now lines }
 {
@@ -353,7 +351,7 @@ fn is_too_large(head: &[u8], lines: usize) -> bool
 }
 
 /// Tests whether more of a head may come behind so many bytes of it.
-#[tactic(auto, unfolding(crate::specs::Stream::head_limit))]
+#[tactic(auto, unfolding(crate::specs::Front::head_limit))]
 fn may_go_on(len: usize) -> bool
     ensures { result ≡ nat_lt len head_limit }
 {

@@ -1,11 +1,11 @@
 //! What the headers of a request say of its body and its connection.
 
-ghost use Rattle.std.specs.Prelude.{◌≡◌, ◌||◌, ◌==◌, [], ◌∷◌, map, reverse, nat_lt, if◌then◌else◌, None, Some, MatchOption};
+ghost use Rattle.std.specs.Prelude.{◌≡◌, ◌≤◌, ◌^◌, ◌||◌, ◌==◌, [], ◌∷◌, map, reverse, nat_lt, if◌then◌else◌, None, Some, MatchOption};
 ghost use Rattle.std.specs.Char.{is_ascii_digit};
 ghost use Rattle.std.specs.List.{list_all};
 ghost use Rattle.httparse.specs.Grammar.{skip_ows, trim_ows};
 ghost use Rattle.couch_http.specs.Message.{header_field};
-ghost use Rattle.couch_http.specs.Fields.{body_limit, same_name, values_of, decimal_after, length_text, content_length, has_transfer_encoding, lists_close, asks_close};
+ghost use Rattle.couch_http.specs.Fields.{same_name, values_of, decimal_after, length_text, content_length, request_length, has_transfer_encoding, lists_close, asks_close};
 
 use crate::fault::HttpFault;
 use crate::limits::BODY_LIMIT;
@@ -40,27 +40,41 @@ pub fn has_transfer_encoding(headers: &[Header]) -> bool
     find_header(headers, b"Transfer-Encoding").is_some()
 }
 
-/// How many bytes the body has (RFC 9112, section 6.3): what `Content-Length` says, and 0 without it.
-pub fn content_length(headers: &[Header]) -> Result<usize, HttpFault>
-    ensures { result ≡ content_length (map header_field headers.now) }
+/// Reads how many bytes the body of a request has (RFC 9112, section 6.3): none without `Content-Length`.
+#[tactic(auto, unfolding(crate::specs::Fields::body_limit))]
+pub fn request_length(headers: &[Header]) -> Result<usize, HttpFault>
+    ensures { result ≡ request_length (map header_field headers.now) }
+{
+    content_length(headers, BODY_LIMIT, Ok(0))
+}
+
+/// Reads what `Content-Length` says, up to the limit: what is `absent` where there is none.
+fn content_length(
+    headers: &[Header],
+    limit: usize,
+    absent: Result<usize, HttpFault>,
+) -> Result<usize, HttpFault>
+    requires { limit ≤ 2 ^ 32 }
+    ensures { result ≡ content_length limit absent (map header_field headers.now) }
 {
     match find_header(headers, b"Content-Length") {
-        None => Ok(0),
+        None => absent,
         Some((value, others)) => match find_header(others, b"Content-Length") {
-            None => length_text(value),
+            None => length_text(value, limit),
             Some(_) => Err(HttpFault::Syntax),
         },
     }
 }
 
-/// The length that a text writes in decimal digits.
-fn length_text(text: &[u8]) -> Result<usize, HttpFault>
-    ensures { result ≡ length_text text.now }
+/// Reads the length that a text writes in decimal digits.
+fn length_text(text: &[u8], limit: usize) -> Result<usize, HttpFault>
+    requires { limit ≤ 2 ^ 32 }
+    ensures { result ≡ length_text limit text.now }
 {
     if text.is_empty() || !are_digits(text) {
         return Err(HttpFault::Syntax);
     }
-    decimal(text).ok_or(HttpFault::TooLarge)
+    decimal(text, limit).ok_or(HttpFault::TooLarge)
 }
 
 fn are_digits(text: &[u8]) -> bool
@@ -69,15 +83,15 @@ fn are_digits(text: &[u8]) -> bool
     text.iter().all(|byte| byte.is_ascii_digit())
 }
 
-/// The number that these digits write, if it is a lawful length.
-#[tactic(auto, unfolding(crate::specs::Fields::body_limit))]
-fn decimal(digits: &[u8]) -> Option<usize>
-    ensures { result ≡ (if nat_lt body_limit (decimal_after 0 digits.now) then None else Some (decimal_after 0 digits.now)) }
+/// Reads the number that these digits write, if it is within the limit.
+fn decimal(digits: &[u8], limit: usize) -> Option<usize>
+    requires { limit ≤ 2 ^ 32 }
+    ensures { result ≡ (if nat_lt limit (decimal_after 0 digits.now) then None else Some (decimal_after 0 digits.now)) }
 {
     let mut number = 0;
     for digit in digits {
         number = number * 10 + usize::from(digit.saturating_sub(b'0'));
-        if number > BODY_LIMIT {
+        if number > limit {
             return None;
         }
     }

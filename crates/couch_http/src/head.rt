@@ -3,6 +3,7 @@
 ghost use Rattle.std.specs.Prelude.{◌≡◌, length, map, All, IsUtf8, IfOk, IfSome, IfNone};
 ghost use Rattle.std.specs.Option.{option_map};
 ghost use Rattle.std.specs.String.{string_bytes};
+ghost use Rattle.http_header.specs.Token.{IsToken};
 ghost use Rattle.httparse.specs.Grammar.{RequestHead};
 ghost use Rattle.httparse.specs.Spans.{span_bytes, IsWithin, IsHeaderWithin, IsRequestWithin};
 ghost use Rattle.couch_http.specs.Message.{header_field};
@@ -11,10 +12,12 @@ ghost use Rattle.couch_http.specs.Beginning.{IsHeadRead, IsReadOf, IsWholeReques
 ghost use Rattle.couch_http.specs.Stream.{IsHeadOf, header_limit};
 
 use crate::fault::HttpFault;
-use crate::fields::{content_length, has_transfer_encoding, is_last};
+use crate::fields::{has_transfer_encoding, is_last, request_length};
 use crate::limits::HEADER_LIMIT;
 use crate::request::{Header, Request};
-use couch_json::Got;
+use couch_json::{Got, NoMemory};
+use http::Method;
+use http::method::MethodError;
 use httparse::Status;
 use httparse::spans::{EMPTY_HEADER_SPAN, HeaderSpan, RequestSpans, Span, parse_request};
 use std::alloc::Global;
@@ -29,7 +32,7 @@ pub enum HeadRead {
 }
 
 /// Reads a head that is whole (RFC 9112, sections 3 and 5), by `httparse`'s grammar.
-#[tactic(auto, unfolding(crate::specs::Stream::header_limit))]
+#[tactic(auto, unfolding(crate::specs::Front::header_limit))]
 pub fn read_head(alloc: Global, head: &[u8]) -> Got<HeadRead>
     ensures { IfOk result (IsHeadRead head.now) }
 {
@@ -64,7 +67,7 @@ fn announced(alloc: Global, head: &[u8], found: RequestSpans, spans: &[HeaderSpa
     requires method { IsWithin (length head.now) found.method }
     requires path { IsWithin (length head.now) found.path }
     requires headers { All (IsHeaderWithin (length head.now)) spans.now }
-    requires method_text { IsUtf8 (span_bytes head.now found.method) }
+    requires method_token { IsToken (span_bytes head.now found.method) }
     requires path_text { IsUtf8 (span_bytes head.now found.path) }
     ensures { IfOk result (IsReadOf head.now found spans.now) }
 {
@@ -72,12 +75,12 @@ fn announced(alloc: Global, head: &[u8], found: RequestSpans, spans: &[HeaderSpa
     if has_transfer_encoding(&headers) {
         return Ok(HeadRead::Broken(HttpFault::Encoding));
     }
-    let length = match content_length(&headers) {
+    let length = match request_length(&headers) {
         Ok(length) => length,
         Err(fault) => return Ok(HeadRead::Broken(fault)),
     };
     let target = text_of(found.path.of(head));
-    let method = String::from_str(alloc, text_of(found.method.of(head)))?;
+    let method = method_of(alloc, found.method.of(head))?;
     let path = path_of(alloc, target)?;
     let query = query_of(alloc, target)?;
     let last = is_last(found.version, &headers);
@@ -107,6 +110,18 @@ fn headers_at(alloc: Global, head: &[u8], spans: &[HeaderSpan]) -> Got<Vec<Heade
         headers.push(Header { name, value })?;
     }
     Ok(headers)
+}
+
+/// Makes the method of a token.
+fn method_of(alloc: Global, token: &[u8]) -> Got<Method>
+    requires { IsToken token.now }
+    ensures { IfOk result (λ method. method ≡ token.now) }
+{
+    match Method::from_bytes(alloc, token) {
+        Ok(method) => Ok(method),
+        Err(MethodError::OutOfMemory) => Err(NoMemory),
+        Err(MethodError::Invalid) => unreachable!(),
+    }
 }
 
 /// Bytes that are UTF-8, as a text.

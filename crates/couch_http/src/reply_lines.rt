@@ -5,31 +5,21 @@ ghost use Rattle.std.specs.String.{string_bytes};
 ghost use Rattle.couch_http.specs.Reply.{phrase_of, status_line, type_line, length_line, close_line};
 
 use couch_json::Got;
+use http::StatusCode;
 use std::fmt::Write;
 
-/// The phrase of a status (RFC 9110, section 15). None but these thirteen is used.
+/// Looks up the phrase of a status (RFC 9110, section 15): nothing where it has none.
+#[tactic(auto, using(crate::proofs::PhraseLemmas::phrase_none))]
 fn phrase(status: u16) -> &'static str
     ensures { result.now ≡ phrase_of status }
 {
-    match status {
-        200 => "OK",
-        201 => "Created",
-        400 => "Bad Request",
-        401 => "Unauthorized",
-        403 => "Forbidden",
-        404 => "Not Found",
-        405 => "Method Not Allowed",
-        409 => "Conflict",
-        412 => "Precondition Failed",
-        413 => "Payload Too Large",
-        500 => "Internal Server Error",
-        501 => "Not Implemented",
-        503 => "Service Unavailable",
-        _ => "",
+    match StatusCode::from_u16(status) {
+        Ok(code) => code.canonical_reason().unwrap_or(""),
+        Err(_) => "",
     }
 }
 
-/// The status line.
+/// Writes the status line.
 #[tactic(auto, unfolding(crate::specs::Reply::status_line))]
 pub fn push_status(out: &mut String, status: u16) -> Got<()>
     ensures { OnOk result (string_bytes out.new ≡ string_bytes out.old ++ status_line status) }
@@ -39,7 +29,7 @@ pub fn push_status(out: &mut String, status: u16) -> Got<()>
     Ok(())
 }
 
-/// What the body is.
+/// Writes what the body is.
 #[tactic(auto, unfolding(crate::specs::Reply::type_line))]
 pub fn push_type(out: &mut String) -> Got<()>
     ensures { OnOk result (string_bytes out.new ≡ string_bytes out.old ++ type_line) }
@@ -48,7 +38,7 @@ pub fn push_type(out: &mut String) -> Got<()>
     Ok(())
 }
 
-/// How many bytes the body has.
+/// Writes how many bytes the body has.
 #[tactic(auto, unfolding(crate::specs::Reply::length_line))]
 pub fn push_length(out: &mut String, size: usize) -> Got<()>
     ensures { OnOk result (string_bytes out.new ≡ string_bytes out.old ++ length_line size) }
@@ -57,7 +47,7 @@ pub fn push_length(out: &mut String, size: usize) -> Got<()>
     Ok(())
 }
 
-/// Whether the connection ends after the reply.
+/// Writes whether the connection ends after the reply.
 #[tactic(auto, unfolding(crate::specs::Reply::close_line))]
 pub fn push_close(out: &mut String, last: bool) -> Got<()>
     ensures { OnOk result (string_bytes out.new ≡ string_bytes out.old ++ close_line last) }

@@ -1,3 +1,5 @@
+use http::Method;
+
 /// A header of a request (RFC 9110, section 5).
 #[derive(Debug, Drop)]
 pub struct Header {
@@ -10,8 +12,8 @@ pub struct Header {
 /// A request (RFC 9112, section 3).
 #[derive(Debug, Drop)]
 pub struct Request {
-    /// The method as it came: methods have case (RFC 9110, section 9.1).
-    pub method: String,
+    /// The method: methods have case (RFC 9110, section 9.1).
+    pub method: Method,
     /// The request target as it came, up to its first `?`.
     pub path: String,
     /// What stands behind the first `?` of the target, where there is one.

@@ -1,11 +1,11 @@
 -- What a request to write several documents asks for, and what its reply says of them.
 -- CouchDB manual, api/database/bulk-api (`docs` and `new_edits`; `id`, `ok` and `rev`, or `error` and `reason`); that no other member is taken, and that the failure of a replicated document names the `rev` that was sent, are this server's own.
-use Rattle.std.specs.Prelude.{ℕ, Bool, true, false, ◌&&◌, ◌||◌, if◌then◌else◌, List, [], ◌∷◌, map, Option, Some, None, Result, Ok, Err, bytes_eq, codes}
-use Rattle.couch_json.specs.Value.{Value, null, truth, whole, text, array, object, Items, no_items, item, Members, no_members, member, member_of, put}
+use Rattle.std.specs.Prelude.{ℕ, Bool, true, false, if◌then◌else◌, List, [], ◌∷◌, map, Option, Some, None, option_map, option_and_then, Result, Ok, Err, codes}
+use Rattle.couch_json.specs.Parts.{has_only, items_in, truth_in}
+use Rattle.couch_json.specs.Value.{Value, null, truth, text, array, object, Items, no_items, item, Members, no_members, member_of, put}
 use Rattle.couch_json.specs.View.{items_of}
 use Rattle.tree.specs.Revision.{Revision, text_of}
 use Rattle.write.specs.Bulk.{Told}
-use Rattle.write.specs.Document.{truth_in}
 use Rattle.write.specs.declared.fault.WriteFault.{WriteFault}
 use Rattle.node.specs.Refusals.{refusal_members, refusal_of_edit}
 
@@ -16,38 +16,16 @@ pub record Bulk : Type 0 where
   pub new_edits : Bool
   pub documents : List Value
 
-abbrev pub is_bulk_member : List ℕ → Bool
-is_bulk_member name = bytes_eq name (codes "docs") || bytes_eq name (codes "new_edits")
-
--- no other members
-abbrev pub are_bulk_members : Members → Bool
-are_bulk_members no_members = true
-are_bulk_members (member name v ms) = is_bulk_member name && are_bulk_members ms
-
-abbrev pub has_bulk_members : Value → Bool
-has_bulk_members null = false
-has_bulk_members (truth b) = false
-has_bulk_members (whole n) = false
-has_bulk_members (text s) = false
-has_bulk_members (array vs) = false
-has_bulk_members (object ms) = are_bulk_members ms
-
 abbrev pub elements : Items → List Value
 elements no_items = []
 elements (item v vs) = v ∷ elements vs
 
 -- `docs`, which has to be a list
 abbrev pub documents_of : Value → Option (List Value)
-documents_of null = None
-documents_of (truth b) = None
-documents_of (whole n) = None
-documents_of (text s) = None
-documents_of (array vs) = Some (elements vs)
-documents_of (object ms) = None
+documents_of v = option_map (λ vs. elements vs) (items_in v)
 
 abbrev pub documents_in : Option Value → Option (List Value)
-documents_in None = None
-documents_in (Some v) = documents_of v
+documents_in v = option_and_then (λ docs. documents_of docs) v
 
 -- `new_edits`, true or false, and true where it is not given
 abbrev pub new_edits_in : Option Value → Option Bool
@@ -59,10 +37,10 @@ bulk_by None documents = None
 bulk_by (Some new_edits) None = None
 bulk_by (Some new_edits) (Some documents) = Some (record { new_edits = new_edits; documents = documents })
 
--- what a body asks for, where it is an object of this shape
+-- what a body asks for, where it is an object of this shape, with no other members
 abbrev pub bulk_in : Value → Option Bulk
 bulk_in v =
-    if has_bulk_members v then bulk_by (new_edits_in (member_of v (codes "new_edits"))) (documents_in (member_of v (codes "docs"))) else None
+    if has_only (codes "docs" ∷ codes "new_edits" ∷ []) v then bulk_by (new_edits_in (member_of v (codes "new_edits"))) (documents_in (member_of v (codes "docs"))) else None
 
 -- ---- what the reply says
 

@@ -4,7 +4,8 @@ use Rattle.std.specs.Prelude.{ℕ, Bool, true, false, List, [], ◌∷◌, map, 
 use Rattle.std.specs.List.{list_all, list_any}
 use Rattle.std.specs.Str.Lossy.{utf8_lossy}
 use Rattle.couch_json.specs.Reading.{reading}
-use Rattle.couch_json.specs.Value.{Value, null, truth, whole, text, array, object, Items, no_items, item}
+use Rattle.couch_json.specs.Parts.{items_in, text_in}
+use Rattle.couch_json.specs.Value.{Value, Items, no_items, item}
 use Rattle.couch_json.specs.declared.fault.JsonFault.{JsonFault}
 use Rattle.form_urlencoded.specs.Form.{decode, raw_pairs}
 use Rattle.tree.specs.Revision.{Revision, revision_read}
@@ -65,12 +66,7 @@ pub record DocumentQuery : Type 0 where
 
 -- the revision that a value spells
 abbrev pub revision_in : Value → Option Revision
-revision_in null = None
-revision_in (truth b) = None
-revision_in (whole n) = None
-revision_in (text t) = revision_read t
-revision_in (array vs) = None
-revision_in (object ms) = None
+revision_in v = option_and_then (λ t. revision_read t) (text_in v)
 
 -- the revisions that elements spell, where each spells one; a revision may stand there more than once
 abbrev pub revisions_in : Items → Option (List Revision)
@@ -78,12 +74,7 @@ revisions_in no_items = Some []
 revisions_in (item v vs) = option_and_then (λ r. option_map (λ rs. r ∷ rs) (revisions_in vs)) (revision_in v)
 
 abbrev pub revisions_listed : Value → Option (List Revision)
-revisions_listed null = None
-revisions_listed (truth b) = None
-revisions_listed (whole n) = None
-revisions_listed (text t) = None
-revisions_listed (array vs) = revisions_in vs
-revisions_listed (object ms) = None
+revisions_listed v = option_and_then (λ vs. revisions_in vs) (items_in v)
 
 abbrev pub revisions_read : Result Value JsonFault → Option (List Revision)
 revisions_read (Ok v) = revisions_listed v

@@ -8,7 +8,7 @@ ghost use Rattle.couch_json.specs.View.{members_view, view};
 ghost use Rattle.store.specs.Calls.{OnlyReads};
 ghost use Rattle.node.specs.Answer.{bulk_written, documents_written};
 ghost use Rattle.node.specs.Answered.{MayChange, outcome_of};
-ghost use Rattle.node.specs.Bulk.{are_bulk_members, bulk_in, documents_in, documents_of, has_bulk_members, is_bulk_member, new_edits_in};
+ghost use Rattle.node.specs.Bulk.{bulk_in, documents_in, documents_of, new_edits_in};
 ghost use Rattle.node.specs.BulkAsked.{bulk_asked};
 ghost use Rattle.node.specs.Causes.{Ends};
 
@@ -74,7 +74,7 @@ fn asked(value: Json) -> Result<BulkAsked, Stop>
 fn bulk_in(value: Json) -> Option<BulkAsked>
     ensures { option_map bulk_asked result ≡ bulk_in (view value) }
 {
-    if !has_bulk_members(&value) {
+    if !value.has_only(&["docs", "new_edits"]) {
         return None;
     }
     let new_edits = new_edits_in(value.member("new_edits"))?;
@@ -85,40 +85,12 @@ fn bulk_in(value: Json) -> Option<BulkAsked>
     })
 }
 
-/// Whether it is an object that has no other members.
-fn has_bulk_members(value: &Json) -> bool
-    ensures { result ≡ has_bulk_members (view value.now) }
-{
-    match value {
-        Json::Object(members) => are_bulk_members(members),
-        _ => false,
-    }
-}
-
-fn are_bulk_members(members: &BTreeMap<String, Json>) -> bool
-    ensures { result ≡ are_bulk_members (members_view members.now.entries) }
-{
-    for (name, _value) in members.iter() {
-        if !is_bulk_member(name) {
-            return false;
-        }
-    }
-    true
-}
-
-fn is_bulk_member(name: &str) -> bool
-    ensures { result ≡ is_bulk_member name.now }
-{
-    name == "docs" || name == "new_edits"
-}
-
 /// What `new_edits` says, true where it is not given; `None` where it is neither true nor false.
 fn new_edits_in(value: Option<&Json>) -> Option<bool>
     ensures { result ≡ new_edits_in (option_map (λ v. view v.now) value.entry) }
 {
     match value {
-        Some(Json::Truth(new_edits)) => Some(*new_edits),
-        Some(_) => None,
+        Some(value) => value.truth(),
         None => Some(true),
     }
 }

@@ -1,6 +1,6 @@
 //! The way of a request through a node, from its headers to its reply.
 
-ghost use Rattle.std.specs.Prelude.{◌≡◌, ◌≢◌, ◌⊎◌, IfOk, IfErr, OnOk, Ok, Err, Some, None, string_bytes};
+ghost use Rattle.std.specs.Prelude.{◌≡◌, ◌≢◌, ◌⊎◌, IfOk, IfErr, OnOk, Ok, Err, Some, None};
 ghost use Rattle.couch_http.specs.Message.{message_of};
 ghost use Rattle.couch_http.specs.Reply.{fixed_reply, reply_of};
 ghost use Rattle.couch_http.specs.declared.fixed.Fixed.TheVariants.{NoRoom};
@@ -65,14 +65,14 @@ fn served<S: Store>(
     request: &Request,
 ) -> Result<Answered, Stop>
     ensures ok { S.is_honest store.new → IfOk result (λ answered.
-        served page (method_of (string_bytes request.now.method)) caller.now (S.contents store.old) (message_of request.now) ≡ Ok (outcome_of (S.contents store.old) answered)) }
+        served page (method_of request.now.method) caller.now (S.contents store.old) (message_of request.now) ≡ Ok (outcome_of (S.contents store.old) answered)) }
     ensures refused { S.is_honest store.new → (refusal : _) → result ≡ Err (Stop.Refused refusal)
-        → served page (method_of (string_bytes request.now.method)) caller.now (S.contents store.old) (message_of request.now) ≡ Err refusal }
+        → served page (method_of request.now.method) caller.now (S.contents store.old) (message_of request.now) ≡ Err refusal }
     ensures may { S.is_honest store.new → IfOk result (λ answered. MayChange (S.contents store.old) answered.change) }
     ensures ends { IfErr result (Ends S.Store store.old store.new) }
     ensures reads { OnlyReads S.Store store.old store.new }
 {
-    match (page, method_of(&request.method)) {
+    match (page, method_of(request.method.as_str())) {
         (Page::Welcome, Some(RequestMethod::Get)) => Ok(welcomed(alloc, request)?),
         (Page::AllDatabases, Some(RequestMethod::Get)) => list_databases(
             alloc, store, caller, request,

@@ -154,9 +154,9 @@ fn listed(alloc: Global, value: &Json) -> Result<Vec<Rev>, Stop>
     ensures refused { (refusal : _) → result ≡ Err (Stop.Refused refusal) → (revisions_listed (view value.now) ≡ None) × (refusal ≡ Refusal.Query) }
     ensures working { result ≢ Err Stop.Failed }
 {
-    match value {
-        Json::Array(items) => spelled_by(alloc, items),
-        _ => Err(Stop::Refused(Refusal::Query)),
+    match value.items() {
+        Some(items) => spelled_by(alloc, items),
+        None => Err(Stop::Refused(Refusal::Query)),
     }
 }
 
@@ -181,8 +181,8 @@ fn element(value: &Json) -> Result<Rev, Stop>
     ensures ready { result ≢ Err Stop.NoRoom }
     ensures working { result ≢ Err Stop.Failed }
 {
-    match value {
-        Json::Text(text) => spelled(text.as_str()),
-        _ => Err(Stop::Refused(Refusal::Query)),
+    match value.text() {
+        Some(text) => spelled(text),
+        None => Err(Stop::Refused(Refusal::Query)),
     }
 }

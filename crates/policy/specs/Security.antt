@@ -1,38 +1,18 @@
 -- Which values are security objects, and whom one names as admins and members of its database.
 -- CouchDB manual, api/database/security; the limit on nesting is that of document bodies, and this server's own.
-use Rattle.std.specs.Prelude.{ℕ, Bool, true, false, ◌&&◌, ◌||◌, List, [], ◌∷◌, codes, Option, Some, None, nat_le, option_and_then}
+use Rattle.std.specs.Prelude.{ℕ, Bool, true, false, ◌&&◌, ◌||◌, List, [], ◌∷◌, ◌++◌, codes, Option, Some, None, nat_le, option_and_then, option_to_list}
 use Rattle.std.specs.List.{list_any}
 use Rattle.auth.specs.Callers.{Identity}
 use Rattle.auth.specs.Roles.{is_among, admin_role}
-use Rattle.couch_json.specs.Value.{Value, null, truth, whole, text, array, object, Items, no_items, item, Members, no_members, member, member_of, depth}
-
-abbrev pub is_text : Value → Bool
-is_text null = false
-is_text (truth b) = false
-is_text (whole n) = false
-is_text (text s) = true
-is_text (array vs) = false
-is_text (object ms) = false
+use Rattle.couch_json.specs.Parts.{is_object, is_text, is_there_and, items_in, items_or_none, text_in}
+use Rattle.couch_json.specs.Value.{Value, text, array, object, Items, no_items, item, no_members, member, member_of, depth}
 
 abbrev pub are_texts : Items → Bool
 are_texts no_items = true
 are_texts (item v vs) = is_text v && are_texts vs
 
 abbrev pub is_list_of_texts : Value → Bool
-is_list_of_texts null = false
-is_list_of_texts (truth b) = false
-is_list_of_texts (whole n) = false
-is_list_of_texts (text s) = false
-is_list_of_texts (array vs) = are_texts vs
-is_list_of_texts (object ms) = false
-
-abbrev pub is_object : Value → Bool
-is_object null = false
-is_object (truth b) = false
-is_object (whole n) = false
-is_object (text s) = false
-is_object (array vs) = false
-is_object (object ms) = true
+is_list_of_texts v = is_there_and are_texts (items_in v)
 
 -- what may be absent, and passes the test where it is there
 abbrev pub is_absent_or : (Value → Bool) → Option Value → Bool
@@ -64,35 +44,15 @@ closed = object (member (codes "admins") admins_only (member (codes "members") a
 
 -- ---- whom a security object names
 
-abbrev pub text_then : Value → List (List ℕ) → List (List ℕ)
-text_then null texts = texts
-text_then (truth b) texts = texts
-text_then (whole n) texts = texts
-text_then (text s) texts = s ∷ texts
-text_then (array vs) texts = texts
-text_then (object ms) texts = texts
-
 -- the texts among the elements
 abbrev pub item_texts : Items → List (List ℕ)
 item_texts no_items = []
-item_texts (item v vs) = text_then v (item_texts vs)
-
--- those of a list
-abbrev pub list_texts : Value → List (List ℕ)
-list_texts null = []
-list_texts (truth b) = []
-list_texts (whole n) = []
-list_texts (text s) = []
-list_texts (array vs) = item_texts vs
-list_texts (object ms) = []
-
-abbrev pub texts_of : Option Value → List (List ℕ)
-texts_of None = []
-texts_of (Some v) = list_texts v
+item_texts (item v vs) = option_to_list (text_in v) ++ item_texts vs
 
 -- the texts that a group lists under `names` or `roles`
 abbrev pub listed_in : Option Value → List ℕ → List (List ℕ)
-listed_in group part = texts_of (option_and_then (λ v. member_of v part) group)
+listed_in group part =
+    item_texts (items_or_none (option_and_then (λ v. items_in v) (option_and_then (λ v. member_of v part) group)))
 
 abbrev pub is_name_among : Option (List ℕ) → List (List ℕ) → Bool
 is_name_among None names = false

@@ -1,8 +1,9 @@
-ghost use Rattle.std.specs.Prelude.{◌≡◌, [], option_map};
+ghost use Rattle.std.specs.Prelude.{◌≡◌, option_map, option_to_list};
 ghost use Rattle.std.specs.List.{list_any};
 ghost use Rattle.auth.specs.Roles.{is_among as is_among_lem};
+ghost use Rattle.couch_json.specs.Parts.{text_in};
 ghost use Rattle.couch_json.specs.View.{view, items_view};
-ghost use Rattle.policy.specs.Security.{is_empty, is_in, is_name_among, is_vacant, item_texts, listed_in, text_then};
+ghost use Rattle.policy.specs.Security.{is_empty, is_in, is_name_among, is_vacant, item_texts, listed_in};
 
 use auth::Caller;
 use couch_json::Json;
@@ -21,16 +22,19 @@ pub(crate) fn is_vacant(group: Option<&Json>) -> bool
     has_no_text(listed(group, "names")) && has_no_text(listed(group, "roles"))
 }
 
-/// The elements of the list that a group has under this name, or none.
+/// Returns the elements of the list that a group has under this name, or none.
 fn listed<'a>(group: Option<&'a Json>, part: &str) -> &'a [Json]
     ensures { item_texts (items_view result.now) ≡ listed_in (option_map (λ v. view v.now) group.entry) part.now }
 {
     let Some(group) = group else {
         return &[];
     };
-    match group.member(part) {
-        Some(Json::Array(items)) => items.as_slice(),
-        _ => &[],
+    let Some(list) = group.member(part) else {
+        return &[];
+    };
+    match list.items() {
+        Some(items) => items,
+        None => &[],
     }
 }
 
@@ -59,19 +63,19 @@ fn is_among(items: &[Json], text: &str) -> bool
     ensures { result ≡ is_among_lem text.now (item_texts (items_view items.now)) }
 {
     for item in items {
-        if is_text(item, text) {
+        if is_same_text(item, text) {
             return true;
         }
     }
     false
 }
 
-fn is_text(item: &Json, text: &str) -> bool
-    ensures { result ≡ is_among_lem text.now (text_then (view item.now) []) }
+fn is_same_text(item: &Json, text: &str) -> bool
+    ensures { result ≡ is_among_lem text.now (option_to_list (text_in (view item.now))) }
 {
-    match item {
-        Json::Text(found) => found.as_str() == text,
-        _ => false,
+    match item.text() {
+        Some(found) => found == text,
+        None => false,
     }
 }
 
@@ -79,7 +83,7 @@ fn has_no_text(items: &[Json]) -> bool
     ensures { result ≡ is_empty (item_texts (items_view items.now)) }
 {
     for item in items {
-        if matches!(item, Json::Text(_)) {
+        if item.is_text() {
             return false;
         }
     }

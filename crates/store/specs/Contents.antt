@@ -2,7 +2,8 @@
 -- CouchDB manual, api/server/common (`/_all_dbs`) and api/database; this project's own words for what a store is.
 use Rattle.std.specs.Prelude.{◌≡◌, ◌≤◌, ℕ, List, [], ◌∷◌, true, Option, Some, None, Ok, ⊤}
 use Rattle.couch_json.specs.Value.{Value, depth}
-use Rattle.policy.specs.Security.{closed, is_object}
+use Rattle.couch_json.specs.Parts.{is_object}
+use Rattle.policy.specs.Security.{closed}
 use Rattle.tree.specs.History.{placement}
 use Rattle.tree.specs.declared.placement.Placed.TheVariants.{Added}
 use Rattle.store.specs.Database.{TextMap, Database, DocumentWrite, history_at, with_one, empty_database}

@@ -4,7 +4,7 @@ use Rattle.std.specs.Prelude.{◌≡◌, ◌≤◌, ℕ, List, [], ◌∷◌, �
 use Rattle.std.specs.List.{AllByRecursion}
 use Rattle.std.specs.FinMap.{get}
 use Rattle.couch_json.specs.Value.{Value, depth}
-use Rattle.policy.specs.Security.{is_object}
+use Rattle.couch_json.specs.Parts.{is_object}
 use Rattle.tree.specs.Write as tree
 use Rattle.tree.specs.History.{HistoryContent, content_of}
 use Rattle.store.specs.Contents.{Contents, max_body_depth}

@@ -1,10 +1,10 @@
 -- What is left of an object's members without the special ones, and what a body that was accepted is.
 use Rattle.std.proofs.Common.{◌≡◌, ◌≤◌, ℕ, Bool, true, false, not, cond, ◌&&◌, List, [], ◌∷◌, filter, String, Global, Option, Some, None, option_map, option_and_then, string_bytes, nat_le, refl, ap, arith}
 use Rattle.std.proofs.lemmas.Bool.Decides.{nat_tests}
+use Rattle.couch_json.specs.Parts.{is_object}
 use Rattle.couch_json.specs.Value.{Value, null, truth, whole, text, array, object, Members, member, depth}
 use Rattle.couch_json.specs.View.{view, members_view}
 use Rattle.couch_json.specs.declared.value.Json.{Json}
-use Rattle.policy.specs.Security.{is_object}
 use Rattle.store.specs.Contents.{max_body_depth}
 use Rattle.tree.specs.Revision.{Revision}
 use Rattle.write.specs.Document.{are_allowed, body_if, body_in, is_special, said, sent_in, sent_with, without_special}

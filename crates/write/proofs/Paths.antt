@@ -1,10 +1,11 @@
 -- The path that a list of hashes gives, hash by hash.
 use Rattle.std.proofs.Common.{◌≡◌, ℕ, suc, ◌+◌, ◌-◌, ◌<◌, List, [], ◌∷◌, ◌++◌, drop, length, get_or, Option, Some, None, option_map, option_and_then, refl, ap, sym, ◌∙◌, arith}
 use Rattle.std.proofs.lemmas.List.{append_assoc, drop_more, length-drop}
+use Rattle.couch_json.specs.Parts.{text_in}
 use Rattle.couch_json.specs.View.{view, items_view}
 use Rattle.couch_json.specs.declared.value.Json.{Json}
 use Rattle.tree.specs.Revision.{Revision, revision_of}
-use Rattle.write.specs.Document.{count, onto, path_of, text_in}
+use Rattle.write.specs.Document.{count, onto, path_of}
 
 count_items : (vs : List Json) → count (items_view vs) ≡ length vs
 count_items [] = refl

@@ -2,7 +2,8 @@
 -- CouchDB manual, api/document/common ("Special Fields": names that begin with `_` are reserved) and api/database/bulk-api (`_revisions`); that other special members are refused and the limit on depth are this server's own.
 use Rattle.std.specs.Prelude.{ℕ, suc, ◌==◌, Bool, true, false, not, ◌&&◌, ◌||◌, if◌then◌else◌, List, [], ◌∷◌, length, ℤ, pos, negsuc, Option, Some, None, option_map, option_and_then, Result, Ok, Err, codes, nat_eq, nat_le, bytes_eq}
 use Rattle.std.specs.List.{starts_with}
-use Rattle.couch_json.specs.Value.{Value, null, truth, whole, text, array, object, Items, no_items, item, Members, no_members, member, member_of, depth}
+use Rattle.couch_json.specs.Parts.{has_only, items_in, members_in, text_in, truth_in, whole_in}
+use Rattle.couch_json.specs.Value.{Value, object, Items, no_items, item, Members, no_members, member, member_of, depth}
 use Rattle.store.specs.Contents.{max_body_depth}
 use Rattle.tree.specs.DocumentId.{is_design_id, is_document_id, is_local_id}
 use Rattle.tree.specs.Revision.{Revision, greatest_number, revision_of, revision_read}
@@ -12,35 +13,13 @@ use Rattle.write.specs.declared.document.Sent.{Sent}
 
 -- ---- parts of a value
 
--- the text that a value is
-abbrev pub text_in : Value → Option (List ℕ)
-text_in (text t) = Some t
-text_in null = None
-text_in (truth b) = None
-text_in (whole n) = None
-text_in (array vs) = None
-text_in (object ms) = None
-
-abbrev pub truth_in : Value → Option Bool
-truth_in (truth b) = Some b
-truth_in null = None
-truth_in (whole n) = None
-truth_in (text s) = None
-truth_in (array vs) = None
-truth_in (object ms) = None
-
 abbrev pub natural : ℤ → Option ℕ
 natural (pos n) = Some n
 natural (negsuc n) = None
 
 -- the number that a value is, from 0
 abbrev pub natural_in : Value → Option ℕ
-natural_in (whole n) = natural n
-natural_in null = None
-natural_in (truth b) = None
-natural_in (text s) = None
-natural_in (array vs) = None
-natural_in (object ms) = None
+natural_in v = option_and_then (λ n. natural n) (whole_in v)
 
 -- the text of a member, where there is one and it is a text
 abbrev pub member_text : List ℕ → Value → Option (List ℕ)
@@ -101,15 +80,14 @@ said id document = if fits_id id (member_of document (codes "_id")) then said_of
 abbrev pub body_if : Bool → Value → Option Value
 body_if good body = if good then Some body else None
 
--- what is left of a document without its special members, where it has no others than these and is not nested too deep
-abbrev pub body_in : Value → Option Value
-body_in (object ms) =
+-- what is left of members without the special ones, where they have no others than a document may have and aren't nested too deep
+abbrev pub body_of : Members → Option Value
+body_of ms =
     body_if (are_allowed ms && nat_le (depth (object (without_special ms))) max_body_depth) (object (without_special ms))
-body_in null = None
-body_in (truth b) = None
-body_in (whole n) = None
-body_in (text s) = None
-body_in (array vs) = None
+
+-- the same of a document, which is an object
+abbrev pub body_in : Value → Option Value
+body_in document = option_and_then (λ ms. body_of ms) (members_in document)
 
 abbrev pub sent_with : Option Revision × Bool → Value → Sent
 sent_with words body = record { rev = words.0; deleted = words.1; body = body }
@@ -145,33 +123,9 @@ abbrev pub path_of : Items → Option (List Revision)
 path_of no_items = Some []
 path_of (item v vs) = onto (option_and_then (λ hash. revision_of (suc (count vs)) hash) (text_in v)) (path_of vs)
 
-abbrev pub path_in_list : Value → Option (List Revision)
-path_in_list (array vs) = path_of vs
-path_in_list null = None
-path_in_list (truth b) = None
-path_in_list (whole n) = None
-path_in_list (text s) = None
-path_in_list (object ms) = None
-
 -- the number of a revision
 abbrev pub number_if : ℕ → Option ℕ
 number_if n = if nat_le 1 n && nat_le n greatest_number then Some n else None
-
-abbrev pub is_start_or_ids : List ℕ → Bool
-is_start_or_ids name = bytes_eq name (codes "start") || bytes_eq name (codes "ids")
-
--- the object has no member but `start` and `ids`
-abbrev pub are_start_and_ids : Members → Bool
-are_start_and_ids no_members = true
-are_start_and_ids (member name v ms) = is_start_or_ids name && are_start_and_ids ms
-
-abbrev pub has_start_and_ids : Value → Bool
-has_start_and_ids (object ms) = are_start_and_ids ms
-has_start_and_ids null = false
-has_start_and_ids (truth b) = false
-has_start_and_ids (whole n) = false
-has_start_and_ids (text s) = false
-has_start_and_ids (array vs) = false
 
 -- the number that `start` gives the newest revision
 abbrev pub start_in : Value → Option ℕ
@@ -179,14 +133,14 @@ start_in v = option_and_then (λ n. number_if n) (option_and_then (λ m. natural
 
 -- the revisions of `ids`, numbered from the oldest, which is the first of all
 abbrev pub ids_in : Value → Option (List Revision)
-ids_in v = option_and_then (λ m. path_in_list m) (member_of v (codes "ids"))
+ids_in v = option_and_then (λ vs. path_of vs) (option_and_then (λ m. items_in m) (member_of v (codes "ids")))
 
 abbrev pub ancestry_if : Bool → Value → Option (ℕ × List Revision)
 ancestry_if good v = if good then option_and_then (λ start. option_map (λ path. (start, path)) (ids_in v)) (start_in v) else None
 
 -- what `_revisions` says: `start` and `ids`, newest first, and nothing else
 abbrev pub ancestry_in : Value → Option (ℕ × List Revision)
-ancestry_in v = ancestry_if (has_start_and_ids v) v
+ancestry_in v = ancestry_if (has_only (codes "start" ∷ codes "ids" ∷ []) v) v
 
 -- the newest revision is `start` with the first of `ids`; a document that names its revision too names this one
 abbrev pub is_newest : ℕ → List Revision → Option Revision → Bool

@@ -1,14 +1,14 @@
 //! The history that a replicated document comes with: `_revisions`, or its one revision.
 
 ghost use Rattle.std.specs.Prelude.{◌≡◌, ◌≢◌, ◌<◌, IfOk, IfErr, Ok, Err, length, option_map, option_and_then};
-ghost use Rattle.couch_json.specs.View.{view, items_view, members_view};
+ghost use Rattle.couch_json.specs.Parts.{text_in};
+ghost use Rattle.couch_json.specs.View.{view, items_view};
 ghost use Rattle.tree.specs.Revision.{revision_of};
-ghost use Rattle.write.specs.Document.{ancestry_in, are_start_and_ids, has_start_and_ids, is_newest, is_start_or_ids, natural, number_if, path_alone, path_from, path_in as path_in_lem, path_of, start_in, text_in};
+ghost use Rattle.write.specs.Document.{ancestry_in, is_newest, natural, number_if, path_alone, path_from, path_in as path_in_lem, path_of, start_in};
 
 use crate::fault::WriteFault;
 use couch_json::{Got, Json};
 use std::alloc::Global;
-use std::collections::BTreeMap;
 use tree::Rev;
 
 /// The path of a replicated document that names this revision, newest first.
@@ -74,7 +74,7 @@ fn is_newest(start: u32, path: &[Rev], rev: Option<Rev>) -> bool
 fn ancestry_in(alloc: Global, value: &Json) -> Got<Option<(u32, Vec<Rev>)>>
     ensures { IfOk result (λ ancestry. option_map (λ a. (a.0, a.1.items)) ancestry ≡ ancestry_in (view value.now)) }
 {
-    if !has_start_and_ids(value) {
+    if !value.has_only(&["start", "ids"]) {
         return Ok(None);
     }
     let Some(start) = start_in(value) else {
@@ -87,32 +87,6 @@ fn ancestry_in(alloc: Global, value: &Json) -> Got<Option<(u32, Vec<Rev>)>>
         Some(path) => Ok(Some((start, path))),
         None => Ok(None),
     }
-}
-
-fn has_start_and_ids(value: &Json) -> bool
-    ensures { result ≡ has_start_and_ids (view value.now) }
-{
-    match value {
-        Json::Object(members) => are_start_and_ids(members),
-        _ => false,
-    }
-}
-
-fn are_start_and_ids(members: &BTreeMap<String, Json>) -> bool
-    ensures { result ≡ are_start_and_ids (members_view members.now.entries) }
-{
-    for (name, _value) in members.iter() {
-        if !is_start_or_ids(name) {
-            return false;
-        }
-    }
-    true
-}
-
-fn is_start_or_ids(name: &str) -> bool
-    ensures { result ≡ is_start_or_ids name.now }
-{
-    name == "start" || name == "ids"
 }
 
 /// The number that `start` gives the newest revision.
@@ -153,9 +127,7 @@ fn path_of(alloc: Global, ids: &[Json]) -> Got<Option<Vec<Rev>>>
 fn revision_at(number: usize, hash: &Json) -> Option<Rev>
     ensures { result ≡ option_and_then (λ text. revision_of number text) (text_in (view hash.now)) }
 {
-    let Json::Text(hash) = hash else {
-        return None;
-    };
+    let hash = hash.text()?;
     if number > 2_147_483_647 {
         return None;
     }

@@ -104,10 +104,12 @@ fn without_special(members: BTreeMap<String, Json>) -> BTreeMap<String, Json>
 fn fits_id(id: &DocId, value: Option<&Json>) -> bool
     ensures { result ≡ fits_id id.now (option_map (λ v. view v.now) value.entry) }
 {
-    match value {
-        Some(Json::Text(text)) => text.as_str() == id.as_str(),
-        Some(_) => false,
-        None => true,
+    let Some(value) = value else {
+        return true;
+    };
+    match value.text() {
+        Some(text) => text == id.as_str(),
+        None => false,
     }
 }
 
@@ -115,11 +117,11 @@ fn fits_id(id: &DocId, value: Option<&Json>) -> bool
 fn revision_in(value: Option<&Json>) -> Option<Option<Rev>>
     ensures { result ≡ revision_in (option_map (λ v. view v.now) value.entry) }
 {
-    match value {
-        Some(Json::Text(text)) => Some(Some(Rev::parse(text.as_bytes())?)),
-        Some(_) => None,
-        None => Some(None),
-    }
+    let Some(value) = value else {
+        return Some(None);
+    };
+    let rev = Rev::parse(value.text()?.as_bytes())?;
+    Some(Some(rev))
 }
 
 /// Whether `_deleted` marks the document as deleted; `None` where it is neither true nor false.
@@ -127,8 +129,7 @@ fn mark_in(value: Option<&Json>) -> Option<bool>
     ensures { result ≡ mark_in (option_map (λ v. view v.now) value.entry) }
 {
     match value {
-        Some(Json::Truth(deleted)) => Some(*deleted),
-        Some(_) => None,
+        Some(value) => value.truth(),
         None => Some(false),
     }
 }

@@ -6,5 +6,5 @@ use Rattle.couch_http.proofs.fields.decimal.Given as goal
 abbrev pub invariant-loop-digit : goal.invariant-loop-digit
 invariant-loop-digit l = record {
   made : decimal_after l.number (drop l.digit-index l.digits) ≡ decimal_after 0 l.digits;
-  small : l.number ≤ 4194304;
+  small : l.number ≤ l.limit;
 }

@@ -1,13 +1,13 @@
 use Rattle.std.proofs.Common.{◌∙◌, inl}
 use Rattle.std.proofs.lemmas.Result.{IfOk-weaker}
 use Rattle.couch_http.specs.Beginning.{IsHeadRead}
-use Rattle.couch_http.proofs.HeadLemmas.{token_text, after_head-found}
+use Rattle.couch_http.proofs.HeadLemmas.{method_token, after_head-found}
 use Rattle.couch_http.proofs.head.read_head.Goals as goal
 
-pub announced-requires-clause-method_text : goal.announced-requires-clause-method_text
-announced-requires-clause-method_text c =
+pub announced-requires-clause-method_token : goal.announced-requires-clause-method_token
+announced-requires-clause-method_token c =
     let found = c.in-Some.ensures.found in
-    rw found.2.method (token_text found.0.method found.2.reads.0.method.1)
+    rw found.2.method (method_token found.0.method found.2.reads.0.method)
 
 pub returns-in-Some : goal.returns-in-Some
 returns-in-Some c =

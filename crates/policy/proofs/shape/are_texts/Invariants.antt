@@ -4,4 +4,4 @@ use Rattle.policy.specs.Security.{are_texts}
 use Rattle.policy.proofs.shape.are_texts.Given as goal
 
 abbrev pub invariant-loop-item : goal.invariant-loop-item
-invariant-loop-item l = are_texts (items_view (drop l.item-index l.item-items)) ≡ are_texts (items_view l.items.items)
+invariant-loop-item l = are_texts (items_view (drop l.item-index l.items)) ≡ are_texts (items_view l.items)

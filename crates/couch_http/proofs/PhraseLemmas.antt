@@ -1,0 +1,76 @@
+-- The phrases of statuses.
+use Rattle.std.proofs.Common.{◌≡◌, ℕ, false, [], eqb, refl, arith}
+use Rattle.std.proofs.lemmas.Bool.{ne_eqb}
+use Rattle.http.specs.StatusCode.{IsStatusCode}
+use Rattle.couch_http.specs.Reply.{phrase_of}
+
+other : (n k : ℕ) → ¬ (IsStatusCode n) → IsStatusCode k → eqb n k ≡ false
+other n k none is = ne_eqb n k (λ same. none (rw same is))
+
+-- a number that is no status has no phrase
+pub phrase_none : (n : ℕ) → ¬ (IsStatusCode n) → phrase_of n ≡ []
+phrase_none n none =
+    rw (
+      other n 100 none (omega arith, omega arith),
+      other n 101 none (omega arith, omega arith),
+      other n 102 none (omega arith, omega arith),
+      other n 103 none (omega arith, omega arith),
+      other n 200 none (omega arith, omega arith),
+      other n 201 none (omega arith, omega arith),
+      other n 202 none (omega arith, omega arith),
+      other n 203 none (omega arith, omega arith),
+      other n 204 none (omega arith, omega arith),
+      other n 205 none (omega arith, omega arith),
+      other n 206 none (omega arith, omega arith),
+      other n 207 none (omega arith, omega arith),
+      other n 208 none (omega arith, omega arith),
+      other n 226 none (omega arith, omega arith),
+      other n 300 none (omega arith, omega arith),
+      other n 301 none (omega arith, omega arith),
+      other n 302 none (omega arith, omega arith),
+      other n 303 none (omega arith, omega arith),
+      other n 304 none (omega arith, omega arith),
+      other n 305 none (omega arith, omega arith),
+      other n 307 none (omega arith, omega arith),
+      other n 308 none (omega arith, omega arith),
+      other n 400 none (omega arith, omega arith),
+      other n 401 none (omega arith, omega arith),
+      other n 402 none (omega arith, omega arith),
+      other n 403 none (omega arith, omega arith),
+      other n 404 none (omega arith, omega arith),
+      other n 405 none (omega arith, omega arith),
+      other n 406 none (omega arith, omega arith),
+      other n 407 none (omega arith, omega arith),
+      other n 408 none (omega arith, omega arith),
+      other n 409 none (omega arith, omega arith),
+      other n 410 none (omega arith, omega arith),
+      other n 411 none (omega arith, omega arith),
+      other n 412 none (omega arith, omega arith),
+      other n 413 none (omega arith, omega arith),
+      other n 414 none (omega arith, omega arith),
+      other n 415 none (omega arith, omega arith),
+      other n 416 none (omega arith, omega arith),
+      other n 417 none (omega arith, omega arith),
+      other n 418 none (omega arith, omega arith),
+      other n 421 none (omega arith, omega arith),
+      other n 422 none (omega arith, omega arith),
+      other n 423 none (omega arith, omega arith),
+      other n 424 none (omega arith, omega arith),
+      other n 425 none (omega arith, omega arith),
+      other n 426 none (omega arith, omega arith),
+      other n 428 none (omega arith, omega arith),
+      other n 429 none (omega arith, omega arith),
+      other n 431 none (omega arith, omega arith),
+      other n 451 none (omega arith, omega arith),
+      other n 500 none (omega arith, omega arith),
+      other n 501 none (omega arith, omega arith),
+      other n 502 none (omega arith, omega arith),
+      other n 503 none (omega arith, omega arith),
+      other n 504 none (omega arith, omega arith),
+      other n 505 none (omega arith, omega arith),
+      other n 506 none (omega arith, omega arith),
+      other n 507 none (omega arith, omega arith),
+      other n 508 none (omega arith, omega arith),
+      other n 510 none (omega arith, omega arith),
+      other n 511 none (omega arith, omega arith),
+    ) refl
