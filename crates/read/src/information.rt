@@ -36,12 +36,7 @@ pub fn info<S: Store>(alloc: Global, store: &mut S, db: &DbName) -> Result<Json,
     }
 }
 
-fn information(
-    alloc: Global,
-    db: &DbName,
-    counts: DocumentCounts,
-    sequence: u64,
-) -> Got<Json>
+fn information(alloc: Global, db: &DbName, counts: DocumentCounts, sequence: u64) -> Got<Json>
     requires documents { counts.documents < 2 ^ 63 }
     requires deleted { counts.deleted < 2 ^ 63 }
     requires sequence { sequence < 2 ^ 63 }
