@@ -85,71 +85,58 @@ impl Pages {
     }
 }
 
-/// Returns a number, or 0.
-fn number(text: &str) -> u64 {
-    match text.parse::<u64>() {
-        Ok(number) => number,
-        Err(_) => 0,
+/// Tells whether a word is among these.
+fn has_word(words: &str, wanted: &str) -> bool {
+    words.split(' ').any(|word| word == wanted)
+}
+
+/// Returns the word behind a name and its blank, where that is there.
+fn word_behind<'a>(words: &'a str, name: &str) -> Option<&'a str> {
+    let (_, rest) = words.split_once(name)?;
+    let (word, _) = first_word(rest);
+    Some(word)
+}
+
+/// Returns the number behind a name and its blank, where there is one.
+fn number_behind(words: &str, name: &str) -> Option<u64> {
+    word_behind(words, name)?.parse::<u64>().ok()
+}
+
+/// Returns a copy of the word behind a name and its blank, where that is there.
+fn text_behind(alloc: Global, words: &str, name: &str) -> Result<Option<String>, RowsFault> {
+    match word_behind(words, name) {
+        Some(word) => Ok(Some(String::from_str(alloc, word)?)),
+        None => Ok(None),
     }
 }
 
 /// Reads the words of a range of sequences.
 fn sequence_range(words: &str) -> SeqRange {
-    let mut range = SeqRange {
-        since: 0,
-        limit: None,
-        all_leaves: false,
-        counted: true,
-    };
-    let mut last = "";
-    for word in words.split(' ') {
-        match last {
-            "since" => range.since = number(word),
-            "limit" => range.limit = Some(number(word)),
-            _ => {}
-        }
-        match word {
-            "leaves" => range.all_leaves = true,
-            "uncounted" => range.counted = false,
-            _ => {}
-        }
-        last = word;
+    SeqRange {
+        since: number_behind(words, "since ").unwrap_or(0),
+        limit: number_behind(words, "limit "),
+        all_leaves: has_word(words, "leaves"),
+        counted: !has_word(words, "uncounted"),
     }
-    range
 }
 
 /// Reads the words of a range of ids.
 fn id_range(alloc: Global, words: &str) -> Result<IdRange, RowsFault> {
-    let mut range = IdRange {
-        start: None,
-        end: None,
-        inclusive_end: true,
-        descending: false,
-        skip: 0,
-        limit: None,
-        counted: true,
+    let before = text_behind(alloc, words, "before ")?;
+    let inclusive_end = before.is_none();
+    let end = match before {
+        Some(end) => Some(end),
+        None => text_behind(alloc, words, "end ")?,
     };
-    let mut last = "";
-    for word in words.split(' ') {
-        match last {
-            "start" => range.start = Some(String::from_str(alloc, word)?),
-            "end" => range.end = Some(String::from_str(alloc, word)?),
-            "before" => {
-                range.end = Some(String::from_str(alloc, word)?);
-                range.inclusive_end = false;
-            }
-            "skip" => range.skip = number(word),
-            "limit" => range.limit = Some(number(word)),
-            _ => {}
-        }
-        match word {
-            "down" => range.descending = true,
-            "uncounted" => range.counted = false,
-            _ => {}
-        }
-        last = word;
-    }
-    Ok(range)
+    Ok(IdRange {
+        start: text_behind(alloc, words, "start ")?,
+        end,
+        inclusive_end,
+        descending: has_word(words, "down"),
+        skip: number_behind(words, "skip ").unwrap_or(0),
+        limit: number_behind(words, "limit "),
+        counted: !has_word(words, "uncounted"),
+    })
 }
 
 /// Returns a page by sequence as text.
