@@ -99,13 +99,7 @@ impl History {
     /// The path goes from the new revision back to a first one, or to one that follows `parent`:
     /// what the history knows behind that one is the rest of the path. It takes time by the length
     /// of `path`, however much stands behind it.
-    pub fn put(
-        &mut self,
-        path: &[Rev],
-        parent: Option<Rev>,
-        deleted: bool,
-        body: &Json,
-    ) -> Got<()>
+    pub fn put(&mut self, path: &[Rev], parent: Option<Rev>, deleted: bool, body: &Json) -> Got<()>
         ensures ok { OnOk result (self.new ≡ with_write self.old
             (record { path = path.now ++ behind self.old parent; deleted = deleted; body = view body.now })) }
         ensures err { OnErr result (self.new ≡ self.old) }
@@ -113,8 +107,15 @@ impl History {
         let alloc = self.alloc;
         let body = Body::new(body.copy(alloc)?);
         let held = Held { deleted, body };
-        let parent = self.followed(parent);
-        nodes::put_path(alloc, &mut self.nodes, &mut self.parents, path, parent, held)?;
+        let parent = self.keep_known(parent);
+        nodes::put_path(
+            alloc,
+            &mut self.nodes,
+            &mut self.parents,
+            path,
+            parent,
+            held,
+        )?;
         Ok(())
     }
 
@@ -307,8 +308,8 @@ impl History {
         }
     }
 
-    /// Finds the parent of a write that follows this revision: the revision, where it is known.
-    fn followed(&self, parent: Option<Rev>) -> Option<Rev>
+    /// Keeps the parent of a write where it is known.
+    fn keep_known(&self, parent: Option<Rev>) -> Option<Rev>
         ensures { result ≡ head (behind self.now parent) }
     {
         let parent = parent?;

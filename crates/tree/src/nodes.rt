@@ -41,7 +41,7 @@ pub(crate) fn put_path(
     let mut held = Some(held);
     for (i, rev) in path.iter().enumerate() {
         let entry = Entry {
-            parent: next_of(&path[i + 1..], parent),
+            parent: next_of(&path[i + 1..], &parent),
             held: held.take(),
         };
         let Ok(insertion) = put_new(nodes, parents, *rev, entry) else {
@@ -54,12 +54,12 @@ pub(crate) fn put_path(
 }
 
 /// Names the newest revision of a path, or what it follows where it has none.
-fn next_of(path: &[Rev], parent: Option<Rev>) -> Option<Rev>
-    ensures { result ≡ next_of_lem path.now parent }
+fn next_of(path: &[Rev], parent: &Option<Rev>) -> Option<Rev>
+    ensures { result ≡ next_of_lem path.now parent.now }
 {
     match path.first() {
         Some(rev) => Some(*rev),
-        None => parent,
+        None => *parent,
     }
 }
 
