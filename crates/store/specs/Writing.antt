@@ -35,4 +35,4 @@ written_at db a = written_in (history_at db a.id) a
 -- the writes that they are, each in the database that those before it left
 abbrev pub writings_in : Database → List Addition → List DocumentWrite
 writings_in db [] = []
-writings_in db (a ∷ as) = written_at db a ∷ writings_in (with_one db (written_at db a)) as
+writings_in db (a ∷ more) = written_at db a ∷ writings_in (with_one db (written_at db a)) more

@@ -8,7 +8,7 @@ ghost use Rattle.store.specs.Database.{history_in as history_in_lem};
 ghost use Rattle.store.specs.Pages.{document_counts, gone_count, if_counted, in_sequence as in_sequence_lem, is_gone as is_gone_lem, last_sequence as last_sequence_lem, limited as limited_lem, page_with, row_of as row_of_lem, rows_of as rows_of_lem, shown_revs as shown_revs_lem};
 ghost use Rattle.store.specs.Paging.{IsBounded, sequence_page_of, sequence_row_of, sequence_rows};
 ghost use Rattle.store.specs.Plain.{gathered, gathered_after, stored, with_write_at};
-ghost use Rattle.store.specs.Writing.{writing_of, writings};
+ghost use Rattle.store.specs.Writing.{addition_of, additions};
 
 use crate::order::{limited, put, value_at};
 use crate::page::{DocumentCounts, PageBySeq, SeqRange, SeqRow};
@@ -21,7 +21,7 @@ use tree::{DocId, History, Rev};
 
 /// The rows that the writes made, in the order of their sequences, cut by the range.
 pub(crate) fn page_by_seq(alloc: Global, writes: &Vec<Write>, range: &SeqRange) -> Got<PageBySeq>
-    ensures page { IfOk result (λ page. sequence_page_of page ≡ page_with range.now (length writes.now.items) (gathered_after 0 [] (writings writes.now.items))) }
+    ensures page { IfOk result (λ page. sequence_page_of page ≡ page_with range.now (length writes.now.items) (gathered_after 0 [] (additions writes.now.items))) }
     ensures bounded { IfOk result (IsBounded range.now) }
 {
     let documents = documents_of(alloc, writes)?;
@@ -54,7 +54,7 @@ fn counts_of(documents: &Documents, counted: bool) -> Option<DocumentCounts>
 
 /// The documents that the writes made, in the order of their ids.
 pub(crate) fn documents_of(alloc: Global, writes: &Vec<Write>) -> Got<Documents>
-    ensures { IfOk result (λ documents. gathered documents.items ≡ gathered_after 0 [] (writings writes.now.items)) }
+    ensures { IfOk result (λ documents. gathered documents.items ≡ gathered_after 0 [] (additions writes.now.items)) }
 {
     let mut documents = Vec::new(alloc);
     for (at, write) in writes.iter().enumerate() {
@@ -65,10 +65,10 @@ pub(crate) fn documents_of(alloc: Global, writes: &Vec<Write>) -> Got<Documents>
 
 /// Takes in the write that has this sequence.
 fn take_in(alloc: Global, documents: &mut Documents, sequence: u64, write: &Write) -> Got<()>
-    ensures ok { OnOk result (gathered documents.new.items ≡ with_write_at sequence (gathered documents.old.items) (writing_of write.now)) }
+    ensures ok { OnOk result (gathered documents.new.items ≡ with_write_at sequence (gathered documents.old.items) (addition_of write.now)) }
 {
     let mut history = history_in(alloc, documents, &write.id)?;
-    history.put(&write.path, write.deleted, &write.body)?;
+    history.put(&write.path, write.parent, write.deleted, &write.body)?;
     let id = write.id.copy(alloc)?;
     put(documents, id, PlainDocument { sequence, history })?;
     Ok(())
