@@ -2,7 +2,7 @@
 use Rattle.std.proofs.Common.{◌≡◌, ℕ, suc, ◌+◌, ◌≤◌, ◌<◌, ◌^◌, List, [], ◌∷◌, ◌++◌, length, map, filter, min, drop, reverse, nat_lt, subst, IfSome, is_some, Bool, true, false, cond, Ordering, Option, Some, None, option_map, nat_cmp, refl, sym, ap, ap₂, ◌∙◌, arith}
 use Rattle.std.proofs.lemmas.Bool.Decides.{nat_tests}
 use Rattle.std.proofs.lemmas.Cmp.{nat_list_cmp_total}
-use Rattle.std.proofs.lemmas.List.{drop_min, length-reverse, map-append, take-map}
+use Rattle.std.proofs.lemmas.List.{drop_min, length-map, length-reverse, map-append, take-map}
 use Rattle.std.proofs.lemmas.List.Sorted.{IsPermutation-reverse, sum_by-IsPermutation}
 use Rattle.std.proofs.lemmas.List.Sums.{length-filter}
 use Rattle.std.specs.declared.cmp.Ordering.TheVariants.{Less, Equal, Greater}
@@ -16,8 +16,8 @@ use Rattle.store.specs.Database.{Database, Document, DocumentWrite, history_at, 
 use Rattle.std.specs.List.{count_by}
 use Rattle.store.specs.Pages.{document_counts, directed, if_counted, id_page, is_before_start, is_within, live_rows, rows_within, page_by_id, SequenceRow, in_sequence, last_sequence, limited, page_by_sequence, page_with, put_in_sequence, rows_after, rows_of}
 use Rattle.store.specs.Paging.{sequence_row_of, sequence_rows}
-use Rattle.store.specs.Plain.{content, gathered, gathered_after, with_write_at}
-use Rattle.store.specs.Writing.{writings}
+use Rattle.store.specs.Plain.{content, gathered, gathered_after, with_addition, with_write_at}
+use Rattle.store.specs.Writing.{Addition, addition_of, additions, written_at, writings_in}
 use Rattle.store.specs.declared.page.DocumentCounts.{DocumentCounts}
 use Rattle.store.specs.declared.page.IdRange.{IdRange}
 use Rattle.store.specs.declared.page.IdRow.{IdRow}
@@ -56,40 +56,44 @@ find-seen R f q (e ∷ es) = found-seen f (eq_by_cmp R q e.0) e.1 (find R q es) 
 abbrev pub document : PlainDocument → Document
 document d = record { sequence = d.sequence; history = d.history }
 
-gathered_entry : (db : Database) (w : DocumentWrite) → finite.entries (with_one db w).documents ≡ with_write_at (db.length + 1) (finite.entries db.documents) w
-gathered_entry db w =
-    finite.entries-insert nat_list_cmp_total db.documents w.id (record { sequence = db.length + 1; history = with_write (history_at db w.id) w.write })
-    ∙ ap (λ o. put (slice_cmp nat_cmp) w.id (record { sequence = db.length + 1; history = with_write (history_in o) w.write }) (finite.entries db.documents)) (finite.get-entries db.documents w.id)
+gathered_entry : (db : Database) (a : Addition) → finite.entries (with_one db (written_at db a)).documents ≡ with_write_at (db.length + 1) (finite.entries db.documents) a
+gathered_entry db a =
+    finite.entries-insert nat_list_cmp_total db.documents a.id (record { sequence = db.length + 1; history = with_addition (history_at db a.id) a })
+    ∙ ap (λ o. put (slice_cmp nat_cmp) a.id (record { sequence = db.length + 1; history = with_addition (history_in o) a }) (finite.entries db.documents)) (finite.get-entries db.documents a.id)
 
-entries-with_all : (ws : List DocumentWrite) (db : Database) → finite.entries (with_all db ws).documents ≡ gathered_after db.length (finite.entries db.documents) ws
+entries-with_all : (all : List Addition) (db : Database) → finite.entries (with_all db (writings_in db all)).documents ≡ gathered_after db.length (finite.entries db.documents) all
 entries-with_all [] db = refl
-entries-with_all (w ∷ ws) db = entries-with_all ws (with_one db w) ∙ ap (λ es. gathered_after (db.length + 1) es ws) (gathered_entry db w)
+entries-with_all (a ∷ all) db = entries-with_all all (with_one db (written_at db a)) ∙ ap (λ es. gathered_after (db.length + 1) es all) (gathered_entry db a)
 
 pub length-with_all : (ws : List DocumentWrite) (db : Database) → (with_all db ws).length ≡ db.length + length ws
 length-with_all [] db = omega arith
 length-with_all (w ∷ ws) db = let more = length-with_all ws (with_one db w) in omega arith
 
-pub length-writings : (ws : List Write) → length (writings ws) ≡ length ws
-length-writings [] = refl
-length-writings (w ∷ ws) = ap suc (length-writings ws)
+length-writings_in : (db : Database) (all : List Addition) → length (writings_in db all) ≡ length all
+length-writings_in db [] = refl
+length-writings_in db (a ∷ all) = ap suc (length-writings_in (with_one db (written_at db a)) all)
+
+-- a plain database is as long as its list of writes
+pub length-content : (d : PlainDatabase) → (content d).length ≡ length d.writes.items
+length-content d =
+    let e = empty_database d.security in
+    let all = additions d.writes.items in
+    omega (arith, length-with_all (writings_in e all) e, length-writings_in e all, length-map d.writes.items addition_of)
 
 pub no_length : {A : Type 0} (xs : List A) → length xs ≡ 0 → xs ≡ []
 no_length [] e = refl
 no_length (x ∷ xs) e = absurd (omega arith)
 
-pub entries-content : (d : PlainDatabase) → finite.entries (content d).documents ≡ gathered_after 0 [] (writings d.writes.items)
+pub entries-content : (d : PlainDatabase) → finite.entries (content d).documents ≡ gathered_after 0 [] (additions d.writes.items)
 entries-content d =
-    let ws = writings d.writes.items in
+    let all = additions d.writes.items in
     let none : finite.entries (empty_database d.security).documents ≡ [] = no_length _ (sym (finite.len-entries (empty_database d.security).documents) ∙ finite.len-empty (slice_cmp nat_cmp) Document) in
-    entries-with_all ws (empty_database d.security) ∙ ap (λ es. gathered_after 0 es ws) none
+    entries-with_all all (empty_database d.security) ∙ ap (λ es. gathered_after 0 es all) none
 
-pub page_by_sequence-content : (range : SeqRange) (d : PlainDatabase) → page_by_sequence range (content d) ≡ page_with range (length d.writes.items) (gathered_after 0 [] (writings d.writes.items))
-page_by_sequence-content range d =
-    let ws = writings d.writes.items in
-    let count : (content d).length ≡ length d.writes.items = length-with_all ws (empty_database d.security) ∙ omega (arith, length-writings d.writes.items) in
-    ap₂ (page_with range) count (entries-content d)
+pub page_by_sequence-content : (range : SeqRange) (d : PlainDatabase) → page_by_sequence range (content d) ≡ page_with range (length d.writes.items) (gathered_after 0 [] (additions d.writes.items))
+page_by_sequence-content range d = ap₂ (page_with range) (length-content d) (entries-content d)
 
-pub page_by_id-content : (range : IdRange) (d : PlainDatabase) → page_by_id range (content d) ≡ id_page range (live_rows (gathered_after 0 [] (writings d.writes.items)))
+pub page_by_id-content : (range : IdRange) (d : PlainDatabase) → page_by_id range (content d) ≡ id_page range (live_rows (gathered_after 0 [] (additions d.writes.items)))
 page_by_id-content range d = ap (λ es. id_page range (live_rows es)) (entries-content d)
 
 -- ---- rows in the order of their sequences
