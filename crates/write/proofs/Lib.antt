@@ -1,7 +1,7 @@
-pub mod Acceptances
 pub mod Bodies
+pub mod Fitting
+pub mod Acceptances
+pub mod Names
 pub mod Paths
 pub mod BulkLemmas
-pub mod Loaded
 pub mod Settlings
-pub mod Fitting

@@ -1,3 +1,4 @@
+pub mod Provisional
 pub mod Refusing
 pub mod Document
 pub mod Admission
