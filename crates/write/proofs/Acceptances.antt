@@ -22,7 +22,10 @@ use Rattle.write.specs.declared.fault.WriteFault.TheVariants.{Conflict, Generati
 use Rattle.write.proofs.Bodies.{IsBody, sent_in-Some}
 use Rattle.write.proofs.Fitting.{edit_placed}
 use Rattle.std.specs.FinMap.{get}
-use Rattle.std.proofs.Math.Logic.{∥∥₁_elim}
+use Rattle.std.proofs.Math.Logic.{∥∥₁_elim, ∥∥₁_map}
+use Rattle.std.proofs.Math.Bridge.{le_prop}
+use Rattle.std.proofs.lemmas.Grind.{not_there}
+use Rattle.couch_json.specs.Parts.{is_object}
 
 -- the write fits a history of its document
 pub record Fits (id : List ℕ) (h : HistoryContent) (w : DocumentWrite) : Type 0 where
@@ -180,15 +183,29 @@ replicated_alone_acceptable db id document = alone_acceptable db (replication db
 
 -- ---- what is said of the contents of a store
 
--- a write is acceptable or it isn't
-acceptable_prop : (db : Database) (w : DocumentWrite) → IsProp (IsAcceptable db w)
-acceptable_prop db w = hlevel rules
+-- what is merely known of a write that may be appended is known
+added : (placed : Result Placed TreeFault) → ¬ (¬ (placed ≡ Ok Added)) → placed ≡ Ok Added
+added (Ok Added) sure = refl
+added (Ok Known) sure = absurd (sure (λ e. cc))
+added (Err fault) sure = absurd (sure (λ e. cc))
 
-are_acceptable_prop : (db : Database) (ws : List DocumentWrite) → IsProp (AreAcceptable db ws)
-are_acceptable_prop db [] = hlevel rules
-are_acceptable_prop db (w ∷ ws) = hlevel (acceptable_prop db w, are_acceptable_prop (with_one db w) ws)
+tested : (b : Bool) → ¬ (¬ (b ≡ true)) → b ≡ true
+tested true sure = refl
+tested false sure = absurd (sure (λ e. cc))
+
+sure_acceptable : (db : Database) (w : DocumentWrite) → ∥ IsAcceptable db w ∥₁ → IsAcceptable db w
+sure_acceptable db w known =
+    record {
+      placed = added (placement (history_at db w.id) w.write.path) (λ no. not_there known (λ a. no a.placed));
+      body = tested (is_object w.write.body) (λ no. not_there known (λ a. no a.body));
+      shallow = ∥∥₁_elim known le_prop (λ a. a.shallow);
+    }
+
+sure_all : (db : Database) (ws : List DocumentWrite) → ∥ AreAcceptable db ws ∥₁ → AreAcceptable db ws
+sure_all db [] known = tt
+sure_all db (w ∷ ws) known = (sure_acceptable db w (∥∥₁_map known (λ all. all.0)), sure_all (with_one db w) ws (∥∥₁_map known (λ all. all.1)))
 
 -- what lawful databases accept may be appended
 pub acceptable_in : (contents : Contents) (name : List ℕ) (db : Database) (ws : List DocumentWrite) → ∥ AreLawful contents ∥₁ → get contents name ≡ Some db
     → (IsLawful db → AreAcceptable db ws) → AreAcceptable db ws
-acceptable_in contents name db ws lawful there follows = ∥∥₁_elim lawful (are_acceptable_prop db ws) (λ are. follows (are name db there))
+acceptable_in contents name db ws lawful there follows = sure_all db ws (∥∥₁_map lawful (λ are. follows (are name db there)))

@@ -10,8 +10,8 @@ use Rattle.tree.specs.History.{HistoryContent}
 use Rattle.tree.specs.History.{with_write}
 use Rattle.couch_json.specs.Value.{Value}
 use Rattle.store.specs.Database.{DocumentWrite}
-use Rattle.write.specs.Provisional.{addition_of, written_in}
-use Rattle.write.specs.declared.provisional.Write.{Write}
+use Rattle.store.specs.Writing.{addition_of, written_in}
+use Rattle.store.specs.declared.write.Write.{Write}
 use Rattle.write.specs.Admission.{with_taken}
 use Rattle.write.specs.Bulk.{Histories, after, judged, with_write_in}
 use Rattle.write.specs.BulkResults.{IsHeld, brought, held_or, seen_in, with_history}

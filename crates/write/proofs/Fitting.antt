@@ -17,7 +17,7 @@ use Rattle.tree.proofs.Shown.{inside, is_known_writes, whole_counts}
 use Rattle.store.specs.Database.{Database, history_at}
 use Rattle.store.specs.Lawful.{IsLawful}
 use Rattle.store.proofs.Lawfuls.{writes_behind}
-use Rattle.write.specs.Provisional.{behind}
+use Rattle.tree.specs.History.{behind}
 use Rattle.write.specs.Admission.{base, extended}
 
 -- ---- the path behind a known revision
@@ -54,7 +54,7 @@ behind_known (w ∷ ws) r whole (inr i) = let k = behind_known ws r whole.1 i in
 -- ---- a revision to follow
 
 -- what stands behind a revision is whole by itself and keeps the parents that are known, and there is nothing behind none
-record GoesOn (h : HistoryContent) (parent : Option Revision) : Type 0 where
+pub record GoesOn (h : HistoryContent) (parent : Option Revision) : Type 0 where
   pub counts : counts_down (behind h parent) ≡ true
   pub keeps : keeps_parents h (behind h parent) ≡ true
   pub number : number_before parent ≡ length (behind h parent)
@@ -152,8 +152,7 @@ added_new h r rest is = by (is_whole (r ∷ rest)) (keeps_parents h (r ∷ rest)
 pub edit_fits : (db : Database) (id : List ℕ) (named parent : Option Revision) (deleted : Bool) (body : Value) → IsLawful db → base (history_at db id) named ≡ Some parent
     → (placement (history_at db id) (next_revision parent deleted body ∷ behind (history_at db id) parent) ≡ Ok Added) ↔ (is_known (history_at db id) (next_revision parent deleted body) ≡ false)
 edit_fits db id named parent deleted body lawful is =
-    let past = writes_behind db id lawful in
-    (
+    let past = writes_behind db id lawful in (
       added_new (history_at db id) (next_revision parent deleted body) (behind (history_at db id) parent),
       edit_placed past.0 (history_at db id) named parent deleted body past.1 past.2 is,
     )

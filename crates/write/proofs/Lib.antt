@@ -4,4 +4,6 @@ pub mod Acceptances
 pub mod Names
 pub mod Paths
 pub mod BulkLemmas
+pub mod Judgings
+pub mod Plannings
 pub mod Settlings

@@ -15,7 +15,7 @@ use Rattle.write.specs.declared.document.Sent.{Sent}
 use Rattle.write.specs.declared.fault.WriteFault.{WriteFault}
 use Rattle.write.specs.declared.fault.WriteFault.TheVariants.{Conflict, Generation}
 
-same_id : (w v : DocumentWrite) → Ok {E = WriteFault} (Some w) ≡ Ok (Some v) → v.id ≡ w.id
+same_id : (w v : DocumentWrite) → as_outcome (Ok w) ≡ Ok (Some v) → v.id ≡ w.id
 same_id w v e = let is : v ≡ w = cc in ap (λ (x : DocumentWrite). x.id) is
 
 edited : (last known : Bool) (w v : DocumentWrite) → as_outcome (cond last (Err Generation) (cond known (Err Conflict) (Ok w))) ≡ Ok (Some v) → v.id ≡ w.id
@@ -46,6 +46,12 @@ sent-named : (id : List ℕ) (h : HistoryContent) (document : Value) (sent : Opt
 sent-named id h document None v e = absurd cc
 sent-named id h document (Some sent) v e = path-named id h sent (path_in document sent.rev) v e
 
+pub admitted-named : (id : List ℕ) (query : Option Revision) (document : Value) (h : HistoryContent) (v : DocumentWrite) → as_outcome (admitted id h query document) ≡ Ok (Some v) → v.id ≡ id
+admitted-named id query document h v e = edit-named id h (edit_of id query document) v e
+
+pub replicated-named : (id : List ℕ) (document : Value) (h : HistoryContent) (v : DocumentWrite) → replicated id h document ≡ Ok (Some v) → v.id ≡ id
+replicated-named id document h v e = sent-named id h document (sent_in id document) v e
+
 pub judged-named : (new_edits : Bool) (id : List ℕ) (h : HistoryContent) (document : Value) (v : DocumentWrite) → judged new_edits id h document ≡ Ok (Some v) → v.id ≡ id
-judged-named true id h document v e = edit-named id h (edit_of id None document) v e
-judged-named false id h document v e = sent-named id h document (sent_in id document) v e
+judged-named true id h document v e = admitted-named id None document h v e
+judged-named false id h document v e = replicated-named id document h v e

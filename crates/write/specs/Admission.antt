@@ -7,7 +7,7 @@ use Rattle.tree.specs.Revision.{Revision, greatest_number, revision_cmp}
 use Rattle.tree.specs.NextRevision.{next_revision, number_before}
 use Rattle.tree.specs.Write.{head}
 use Rattle.tree.specs.History.{HistoryContent, held_of, is_deleted, is_head_known, is_leaf, placement, winner, with_write}
-use Rattle.write.specs.Provisional.{behind}
+use Rattle.tree.specs.History.{behind}
 use Rattle.tree.specs.declared.placement.Placed.{Placed}
 use Rattle.tree.specs.declared.placement.Placed.TheVariants.{Added, Known}
 use Rattle.tree.specs.declared.placement.TreeFault.{TreeFault}

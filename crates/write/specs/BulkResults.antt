@@ -6,14 +6,14 @@ use Rattle.std.specs.Ordering.{nat_cmp}
 use Rattle.std.specs.Cmp.Lexicographic.{slice_cmp}
 use Rattle.tree.specs.History.{HistoryContent}
 use Rattle.store.specs.Database.{DocumentWrite}
-use Rattle.write.specs.Provisional.{addition_of, written_in}
+use Rattle.store.specs.Writing.{addition_of, written_in}
 use Rattle.write.specs.Bulk.{DocumentOutcome, Histories, Told, outcome_told}
 use Rattle.write.specs.Refusing.{IsOwn}
 use Rattle.write.specs.declared.planned.DocumentResult.{DocumentResult}
 use Rattle.write.specs.declared.planned.Outcome.{Outcome}
 use Rattle.write.specs.declared.planned.Outcome.TheVariants.{Made, Known, Refused}
 use Rattle.write.specs.declared.planning.Words.{Words}
-use Rattle.write.specs.declared.provisional.Write.{Write}
+use Rattle.store.specs.declared.write.Write.{Write}
 
 -- what a result tells
 abbrev pub told_of : DocumentResult → Told

@@ -1,4 +1,3 @@
-pub mod Provisional
 pub mod Refusing
 pub mod Document
 pub mod Admission

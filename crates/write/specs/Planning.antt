@@ -5,7 +5,7 @@ use Rattle.couch_json.specs.Value.{Value}
 use Rattle.policy.specs.Security.{is_security}
 use Rattle.store.specs.Contents.{AreAcceptable, with_security}
 use Rattle.store.specs.Database.{Database, DocumentWrite, with_all}
-use Rattle.write.specs.Provisional.{additions, writings_in}
+use Rattle.store.specs.Writing.{additions, writings_in}
 use Rattle.write.specs.Bulk.{DocumentOutcome, all_told, writes_in}
 use Rattle.write.specs.BulkResults.{told_of}
 use Rattle.write.specs.declared.fault.WriteFault.{WriteFault}

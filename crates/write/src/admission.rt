@@ -5,15 +5,15 @@ ghost use Rattle.couch_json.specs.View.{view};
 ghost use Rattle.tree.specs.History.{winner};
 ghost use Rattle.tree.specs.NextRevision.{next_revision, number_before};
 ghost use Rattle.tree.specs.Revision.{greatest_number};
-ghost use Rattle.write.specs.Provisional.{addition_of, written_in};
+ghost use Rattle.store.specs.Writing.{addition_of, written_in};
 ghost use Rattle.write.specs.Admission.{admitted, base as base_lem, continued as continued_lem, edit_of as edit_of_lem, extended as extended_lem, named as named_lem};
 ghost use Rattle.write.specs.declared.fault.WriteFault.TheVariants.{Generation};
 
 use crate::document::{Sent, sent_in};
 use crate::fault::WriteFault;
-use crate::provisional::Write;
 use couch_json::Json;
 use std::alloc::Global;
+use store::Write;
 use tree::{DocId, History, Rev, RevFault, next_rev};
 
 /// Judges an edit of a document with this history: its write, or why it is refused.

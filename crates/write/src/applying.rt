@@ -25,10 +25,12 @@ pub fn apply<S: Store>(store: &mut S, planned: Planned) -> Result<(), WriteFault
     ensures changes { ChangesWhole S.Store store.old store.new result }
 {
     let Planned {
-        database, changes, ..
+        database,
+        changes,
+        ..
     } = planned;
     match changes {
-        Changes::Writes(_writes) => return Err(WriteFault::Memory),
+        Changes::Writes(writes) => store.commit(&database, &writes)?,
         Changes::Security(security) => store.set_security(&database, &security)?,
     }
     Ok(())

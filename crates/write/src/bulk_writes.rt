@@ -7,7 +7,7 @@ ghost use Rattle.couch_json.specs.View.{view};
 ghost use Rattle.store.specs.Calls.{OnlyReads};
 ghost use Rattle.store.specs.Contents.{IfThere};
 ghost use Rattle.store.specs.Database.{Database, history_at, with_all};
-ghost use Rattle.write.specs.Provisional.{addition_of, additions, writings_in, written_in};
+ghost use Rattle.store.specs.Writing.{addition_of, additions, writings_in, written_in};
 ghost use Rattle.write.specs.Admission.{with_taken};
 ghost use Rattle.write.specs.Bulk.{Histories, after, all_told, judged as judged_lem, outcome_in, outcomes, put_before, told as told_lem, writes_in};
 ghost use Rattle.write.specs.BulkResults.{IsHeld, IsOwnOutcome, brought, seen_in, told_of};
@@ -21,12 +21,11 @@ use crate::fault::WriteFault;
 use crate::histories::{load, put_history, take_history, take_in};
 use crate::planned::{Changes, DocumentResult, Outcome, Planned};
 use crate::planning::{outcome_of, result_of, words_of};
-use crate::provisional::Write;
 use crate::replicating::admit_replicated;
 use couch_json::{Got, Json, NoMemory};
 use std::alloc::Global;
 use std::collections::BTreeMap;
-use store::{DbName, Store};
+use store::{DbName, Store, Write};
 use tree::{DocId, History};
 
 /// Plans what becomes of documents that are written together. It reads the store and changes nothing.
@@ -84,13 +83,7 @@ fn judge_all<S: Store>(
     let mut results = Vec::with_capacity(alloc, documents.len())?;
     for document in documents {
         load(alloc, store, db, &document, &mut histories)?;
-        results.push(judge_one(
-            alloc,
-            &mut histories,
-            &mut writes,
-            new_edits,
-            document,
-        )?)?;
+        results.push(judge_one(alloc, &mut histories, &mut writes, new_edits, document)?)?;
     }
     Ok((writes, results))
 }
@@ -114,16 +107,35 @@ fn judge_one(
         ≡ writings_in d (additions writes.old.items) ++ put_before (outcome_in new_edits (seen_in stored histories.old) (view document)) []) }
 {
     let words = words_of(alloc, &document)?;
-    let outcome = match settle(alloc, histories, new_edits, document) {
+    match settle(alloc, histories, new_edits, document) {
         Ok(write) => {
             let outcome = outcome_of(&write);
             append(writes, write)?;
-            outcome
+            Ok(result_of(words, outcome))
         }
-        Err(WriteFault::Memory) => return Err(NoMemory),
-        Err(fault) => Outcome::Refused(fault),
-    };
-    Ok(result_of(words, outcome))
+        Err(fault) => {
+            let outcome = refused(fault)?;
+            Ok(result_of(words, outcome))
+        }
+    }
+}
+
+/// Tells that a document was refused, where that is not for want of memory.
+fn refused(fault: WriteFault) -> Got<Outcome>
+    requires { (cause : _) → fault ≢ WriteFault.Store cause }
+    ensures told { IfOk result (λ outcome. outcome ≡ Outcome.Refused fault) }
+    ensures own { IfOk result (λ outcome. IsOwnOutcome outcome) }
+    ensures other { OnOk result (fault ≢ WriteFault.Memory) }
+{
+    match fault {
+        WriteFault::Memory => Err(NoMemory),
+        WriteFault::Store(_cause) => unreachable!(),
+        WriteFault::BadDocument => Ok(Outcome::Refused(WriteFault::BadDocument)),
+        WriteFault::Denied(rule) => Ok(Outcome::Refused(WriteFault::Denied(rule))),
+        WriteFault::BadHistory => Ok(Outcome::Refused(WriteFault::BadHistory)),
+        WriteFault::Conflict => Ok(Outcome::Refused(WriteFault::Conflict)),
+        WriteFault::Generation => Ok(Outcome::Refused(WriteFault::Generation)),
+    }
 }
 
 /// Puts a write at the end, where there is one.

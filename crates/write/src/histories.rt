@@ -6,7 +6,7 @@ ghost use Rattle.couch_json.specs.View.{view};
 ghost use Rattle.tree.specs.History.{with_write};
 ghost use Rattle.store.specs.Calls.{OnlyReads};
 ghost use Rattle.store.specs.Database.{Database, history_at};
-ghost use Rattle.write.specs.Provisional.{addition_of, written_in};
+ghost use Rattle.store.specs.Writing.{addition_of, written_in};
 ghost use Rattle.write.specs.Bulk.{Histories};
 ghost use Rattle.write.specs.BulkResults.{IsHeld, seen_in, with_history};
 ghost use Rattle.write.specs.Document.{id_in as id_in_lem};
@@ -14,11 +14,10 @@ ghost use Rattle.write.specs.Refusing.{Refuses};
 
 use crate::document::id_in;
 use crate::fault::WriteFault;
-use crate::provisional::{Write, put};
 use couch_json::{Got, Json};
 use std::alloc::Global;
 use std::collections::BTreeMap;
-use store::{DbName, Store};
+use store::{DbName, Store, Write};
 use tree::{DocId, History};
 
 /// Puts the stored history of a document in, where it isn't there yet.
@@ -77,11 +76,5 @@ pub(crate) fn take_in(history: &mut History, write: &Write) -> Got<()>
     ensures ok { OnOk result (history.new ≡ with_write history.old (written_in history.old (addition_of write.now)).write) }
     ensures err { OnErr result (history.new ≡ history.old) }
 {
-    put(
-        history,
-        &write.path,
-        write.parent,
-        write.deleted,
-        &write.body,
-    )
+    history.put(&write.path, write.parent, write.deleted, &write.body)
 }

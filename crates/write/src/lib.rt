@@ -12,7 +12,6 @@ mod histories;
 pub mod laws;
 mod planned;
 mod planning;
-mod provisional;
 mod replicating;
 mod securing;
 

@@ -1,7 +1,6 @@
 use crate::fault::WriteFault;
-use crate::provisional::Write;
 use policy::Security;
-use store::DbName;
+use store::{DbName, Write};
 use tree::Rev;
 
 /// A change of a database that was found in order and is not made yet.

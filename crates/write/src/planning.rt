@@ -5,7 +5,7 @@ ghost use Rattle.couch_json.specs.View.{view};
 ghost use Rattle.tree.specs.History.{HistoryContent};
 ghost use Rattle.std.specs.Option.{option_to_list};
 ghost use Rattle.store.specs.Database.{Database, with_all};
-ghost use Rattle.write.specs.Provisional.{addition_of, written_at, written_in};
+ghost use Rattle.store.specs.Writing.{addition_of, written_at, written_in};
 ghost use Rattle.write.specs.Bulk.{outcome_told, put_before};
 ghost use Rattle.write.specs.BulkResults.{IsMadeOutcome, IsUnrefused, OfFirst, told_as, told_of};
 ghost use Rattle.write.specs.Document.{member_text as member_text_lem};
@@ -14,10 +14,9 @@ ghost use Rattle.store.specs.Contents.{AreAcceptable};
 
 use crate::document::member_text;
 use crate::planned::{Changes, DocumentResult, Outcome, Planned};
-use crate::provisional::Write;
 use couch_json::{Got, Json};
 use std::alloc::Global;
-use store::DbName;
+use store::{DbName, Write};
 
 /// What a document says of itself.
 #[derive(Drop)]

@@ -7,7 +7,7 @@ ghost use Rattle.tree.specs.DocumentId.{is_design_id, is_local_id};
 ghost use Rattle.tree.specs.History.{placement};
 ghost use Rattle.store.specs.Calls.{OnlyReads};
 ghost use Rattle.store.specs.Contents.{IfThere};
-ghost use Rattle.write.specs.Provisional.{addition_of, written_in};
+ghost use Rattle.store.specs.Writing.{addition_of, written_in};
 ghost use Rattle.write.specs.Admission.{replicated as replicated_lem, replication, taken as taken_lem};
 ghost use Rattle.write.specs.Bulk.{writes_alone};
 ghost use Rattle.write.specs.BulkResults.{IsUnrefused, OfFirst};
@@ -19,10 +19,9 @@ use crate::document::{body_in, said};
 use crate::fault::WriteFault;
 use crate::planned::Planned;
 use crate::planning::{plan_alone, words_of};
-use crate::provisional::Write;
 use couch_json::Json;
 use std::alloc::Global;
-use store::{DbName, Store};
+use store::{DbName, Store, Write};
 use tree::{DocId, History, Placed, TreeFault};
 
 /// Plans what becomes of a replicated document, which is no design document and no local one. It
