@@ -33,9 +33,8 @@ use tree::{DocId, History};
 /// Each document is judged on its own, by its `_id`, in order, by the histories that those before it
 /// left: as an edit, or with `new_edits` false as a replicated write, whose path is `_revisions` or
 /// its one revision, and which changes nothing where its revision is known. Their writes make one
-/// plan. `Store(NoDatabase)` comes exactly where there is no database of this name. It takes some
-/// look-ups for each document, however long its history is. See the CouchDB manual,
-/// api/database/bulk-api.
+/// plan. `Store(NoDatabase)` comes exactly where there is no database of this name. No history is
+/// copied, and no path of an edit is walked. See the CouchDB manual, api/database/bulk-api.
 pub fn bulk<S: Store>(
     alloc: Global,
     store: &mut S,
@@ -114,14 +113,14 @@ fn judge_one(
             Ok(result_of(words, outcome))
         }
         Err(fault) => {
-            let outcome = refused(fault)?;
+            let outcome = refusal_of(fault)?;
             Ok(result_of(words, outcome))
         }
     }
 }
 
 /// Tells that a document was refused, where that is not for want of memory.
-fn refused(fault: WriteFault) -> Got<Outcome>
+fn refusal_of(fault: WriteFault) -> Got<Outcome>
     requires { (cause : _) → fault ≢ WriteFault.Store cause }
     ensures told { IfOk result (λ outcome. outcome ≡ Outcome.Refused fault) }
     ensures own { IfOk result (λ outcome. IsOwnOutcome outcome) }

@@ -72,7 +72,7 @@ pub(crate) fn plan_alone(
     results.push(result_of(words, outcome))?;
     Ok(Planned {
         database: db.copy(alloc)?,
-        changes: Changes::Writes(listed(alloc, write)?),
+        changes: Changes::Writes(list_of(alloc, write)?),
         results,
     })
 }
@@ -90,7 +90,7 @@ pub(crate) fn result_of(words: Words, outcome: Outcome) -> DocumentResult
 }
 
 /// Lists the write, where there is one.
-fn listed(alloc: Global, write: Option<Write>) -> Got<Vec<Write>>
+fn list_of(alloc: Global, write: Option<Write>) -> Got<Vec<Write>>
     ensures { IfOk result (λ writes. writes.items ≡ option_to_list write) }
 {
     let mut writes = Vec::with_capacity(alloc, 1)?;

@@ -29,7 +29,7 @@ use tree::{DocId, History, Placed, TreeFault};
 ///
 /// The document comes with its path: `_revisions`, or its one revision. Where its revision is known
 /// there is nothing to write. `BadDocument` comes exactly where the document is no object, has a
-/// special member that no document has or one of another form, names no revision, or has a body that
+/// special member that no document has or one of another form, comes with no path, or has a body that
 /// nests more than 100 deep; else `BadHistory` where the path is not whole or gives a known revision
 /// another parent; `Store(NoDatabase)` exactly where there is no database of this name, and before
 /// these. See the CouchDB manual, api/document/common and replication/conflicts.
