@@ -1,6 +1,6 @@
 //! What becomes of a replicated write of a document.
 
-ghost use Rattle.std.specs.Prelude.{◌≡◌, ◌≢◌, ◌∷◌, [], ◌<◌, IfOk, IfErr, OnOk, IfSome, Ok, Err, None, false, true, is_some, option_map, length};
+ghost use Rattle.std.specs.Prelude.{◌≡◌, ◌≢◌, ◌∷◌, [], ◌<◌, IfOk, IfErr, IfSome, Ok, Err, None, false, true, is_some, option_map, length};
 ghost use Rattle.std.specs.FinMap as map;
 ghost use Rattle.couch_json.specs.View.{view};
 ghost use Rattle.tree.specs.DocumentId.{is_design_id, is_local_id};
@@ -22,7 +22,7 @@ use crate::planning::{plan_alone, words_of};
 use couch_json::Json;
 use std::alloc::Global;
 use store::{DbName, Store, Write};
-use tree::{DocId, History, Placed, TreeFault};
+use tree::{DocId, History, Placed};
 
 /// Plans what becomes of a replicated document, which is no design document and no local one. It
 /// reads the store and changes nothing.
