@@ -7,8 +7,8 @@ mod bulk;
 mod bulk_reply;
 mod databases;
 mod document;
-mod entering;
 mod handling;
+pub mod laws;
 mod members;
 mod method;
 mod node;
@@ -21,6 +21,7 @@ mod routes;
 mod security;
 mod stop;
 mod welcome;
+mod working;
 
 pub use node::Node;
 pub use routes::Routes;
