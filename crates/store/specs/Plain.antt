@@ -48,6 +48,11 @@ abbrev pub spot_from : {K X : Type 0} → (K → K → Ordering) → ℕ → K �
 spot_from R n k [] = Err n
 spot_from R n k (e ∷ es) = by_order (R k e.0) (Err n) (Ok n) (spot_from R (n + 1) k es)
 
+-- the value at a key among entries in the order of their keys
+abbrev pub value_in : {K X : Type 0} → (K → K → Ordering) → K → List (K × X) → Option X
+value_in R k [] = None
+value_in R k (e ∷ es) = by_order (R k e.0) None (Some e.1) (value_in R k es)
+
 -- the keys of the entries, put one after the other, the last first, among entries that hold nothing
 abbrev pub keys_put : {K X : Type 0} → (K → K → Ordering) → List (K × X) → List (K × ⊤) → List (K × ⊤)
 keys_put R [] among = among
@@ -63,7 +68,7 @@ gathered es = map stored es
 -- one more write gathered, and each of them, after n that were
 abbrev pub with_write_at : ℕ → List (List ℕ × Document) → Addition → List (List ℕ × Document)
 with_write_at sequence es a =
-    put (slice_cmp nat_cmp) a.id (record { sequence = sequence; history = with_addition (history_in (find (slice_cmp nat_cmp) a.id es)) a }) es
+    put (slice_cmp nat_cmp) a.id (record { sequence = sequence; history = with_addition (history_in (value_in (slice_cmp nat_cmp) a.id es)) a }) es
 
 abbrev pub gathered_after : ℕ → List (List ℕ × Document) → List Addition → List (List ℕ × Document)
 gathered_after n es [] = es

@@ -1,15 +1,15 @@
--- What stands behind a write that follows a known revision is known, so of the write's path it changes nothing but the parent of the last revision that the write brings.
-use Rattle.std.proofs.Common.{◌≡◌, ℕ, zero, suc, Bool, true, false, cond, List, [], ◌∷◌, ◌++◌, Option, Some, None, refl, ap, ◌∙◌}
+-- What stands behind a write is known, so it changes nothing but the parent of the last revision that the write brings.
+use Rattle.std.proofs.Common.{◌≡◌, ℕ, zero, suc, Bool, true, false, cond, List, [], ◌∷◌, ◌++◌, Option, Some, None, refl, sym, ap, ◌∙◌, inl, inr}
 use Rattle.std.specs.Prelude.{is_some, ⊤}
 use Rattle.std.specs.FinMap.{insert}
 use Rattle.tree.specs.Revision.{Revision}
-use Rattle.tree.specs.Write.{head}
-use Rattle.tree.specs.History.{HistoryContent, behind, is_known, line, onward, parent_of, path_entries, with_entries, with_new}
+use Rattle.tree.specs.Write.{head, StandsIn}
+use Rattle.tree.specs.History.{HistoryContent, behind, chain, is_known, line, onward, parent_of, path_entries, with_entries, with_new}
 use Rattle.tree.specs.Nodes.{entries_before, next_of}
 use Rattle.tree.specs.declared.entry.Held.{Held}
 use Rattle.tree.specs.declared.entry.Entry.{Entry}
 use Rattle.tree.proofs.Contents.{get-with_new}
-use Rattle.tree.proofs.Kept.{line_on}
+use Rattle.tree.proofs.Kept.{line_off}
 use Rattle.tree.proofs.Shown.{left_some}
 
 -- each of these is known
@@ -33,9 +33,20 @@ pub behind_known : (h : HistoryContent) (o : Option Revision) → AllKnown h (be
 behind_known h None = tt
 behind_known h (Some p) = line_known h p.number p
 
--- the parent of a write that follows a revision
-pub behind_first : (h : HistoryContent) (n : ℕ) (p : Revision) → is_known h p ≡ true → head (line h (suc n) p) ≡ Some p
-behind_first h n p known = ap head (line_on h n p known)
+among_known : (h : HistoryContent) (rs : List Revision) (r : Revision) → AllKnown h rs → StandsIn rs r → is_known h r ≡ true
+among_known h [] r a i = absurd i
+among_known h (s ∷ rs) r a (inl e) = ap (is_known h) (sym e) ∙ a.0
+among_known h (s ∷ rs) r a (inr i) = among_known h rs r a.1 i
+
+pub stands_known : (h : HistoryContent) (o : Option Revision) (r : Revision) → StandsIn (behind h o) r → is_known h r ≡ true
+stands_known h o r i = among_known h (behind h o) r (behind_known h o) i
+
+-- behind a known revision stands its path, and behind another nothing
+pub behind_chain : (h : HistoryContent) (p : Revision) → is_known h p ≡ true → chain h p ≡ Some (behind h (Some p))
+behind_chain h p known = ap (λ b. cond b (Some (line h p.number p)) None) known
+
+pub behind_unknown : (h : HistoryContent) (p : Revision) → is_known h p ≡ false → behind h (Some p) ≡ []
+behind_unknown h p new = line_off h p.number p new
 
 -- ---- what is known stays known
 

@@ -77,7 +77,7 @@ first_behind (y ∷ xs) ys o e f = cc
 pub line_on : (h : HistoryContent) (n : ℕ) (r : Revision) → is_known h r ≡ true → line h (suc n) r ≡ r ∷ onward (λ p. line h n p) (parent_of h r)
 line_on h n r known = ap (λ b. cond b (r ∷ onward (λ p. line h n p) (parent_of h r)) []) known
 
-line_off : (h : HistoryContent) (n : ℕ) (r : Revision) → is_known h r ≡ false → line h n r ≡ []
+pub line_off : (h : HistoryContent) (n : ℕ) (r : Revision) → is_known h r ≡ false → line h n r ≡ []
 line_off h zero r new = refl
 line_off h (suc n) r new = ap (λ b. cond b (r ∷ onward (λ p. line h n p) (parent_of h r)) []) new
 

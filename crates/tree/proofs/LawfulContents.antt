@@ -4,7 +4,7 @@ use Rattle.std.specs.Prelude.{is_some, option_and_then}
 use Rattle.std.specs.FinMap.{get, same_map}
 use Rattle.tree.specs.Revision.{Revision}
 use Rattle.tree.specs.Write.{Write, counts_down, head, held_by, StandsIn, IsBehind, EndsWith, IsKnown, IsParent, IsBrought, IsPathEnd, AreWhole, IsLawful}
-use Rattle.tree.specs.History.{HistoryContent, is_known, parent_of, held_of, content_of, Shows, IsRooted, agrees, keeps_parents, is_head_known, placement, inserted, with_write, line, onward, chain}
+use Rattle.tree.specs.History.{HistoryContent, is_known, parent_of, held_of, content_of, Shows, IsRooted, agrees, keeps_parents, is_head_known, placement, inserted, with_write, line, onward, chain, behind}
 use Rattle.tree.specs.declared.entry.Held.{Held}
 use Rattle.tree.specs.declared.entry.Entry.{Entry}
 use Rattle.tree.specs.declared.placement.Placed.{Placed}
@@ -117,6 +117,14 @@ chain_is_path ws lawful r rest e =
         by : (o : Option Revision) → parent_of (content_of ws) s ≡ o → o ≡ None
         by None is = refl
         by (Some p) is = let b = parent_below ws s p lawful.whole ((shows.parent s p).0 is) in absurd (omega (arith, n, b.number, b.positive))
+
+found_inside : (b : Bool) (path found : List Revision) → cond b (Some path) None ≡ Some found → path ≡ found
+found_inside true path found e = cc
+found_inside false path found e = cc
+
+-- what stands behind a write that follows a revision of a lawful history
+pub behind_path : (ws : List Write) → IsLawful ws → (p : Revision) (rest : List Revision) → IsPathEnd ws (p ∷ rest) → behind (content_of ws) (Some p) ≡ p ∷ rest
+behind_path ws lawful p rest e = found_inside (is_known (content_of ws) p) (behind (content_of ws) (Some p)) (p ∷ rest) (chain_is_path ws lawful p rest e)
 
 -- ---- the content is the only one that shows so
 
