@@ -10,8 +10,8 @@ use Rattle.couch_json.specs.Value.{Value}
 use Rattle.tree.specs.History.{HistoryContent, with_write}
 use Rattle.store.specs.Database.{Database, DocumentWrite, Document, history_at, history_in, with_one, with_all, empty_database, is_of}
 use Rattle.store.specs.Contents.{with_security}
-use Rattle.store.specs.Plain.{content, history_after}
-use Rattle.store.specs.Writing.{writing_of, writings}
+use Rattle.store.specs.Plain.{content, history_after, with_addition}
+use Rattle.store.specs.Writing.{Addition, addition_of, additions, written_at, written_in, writings_in}
 use Rattle.store.specs.declared.plain.PlainDatabase.{PlainDatabase}
 use Rattle.store.specs.declared.write.Write.{Write}
 
@@ -49,26 +49,54 @@ pub history_at-with_one : (db : Database) (w : DocumentWrite) (id : List ℕ) �
 history_at-with_one db w id =
     ap history_in (document_after db w id) ∙ history_after-document (bytes_eq id w.id) _ (map.get db.documents id) ∙ of_id (history_at db) w id (bytes_eq id w.id) refl
 
+-- ---- writes of the code, each in the database that those before it left
+
+pub writings_in-append : (db : Database) (all more : List Addition) → writings_in db (all ++ more) ≡ writings_in db all ++ writings_in (with_all db (writings_in db all)) more
+writings_in-append db [] more = refl
+writings_in-append db (a ∷ all) more = ap (λ ws. written_at db a ∷ ws) (writings_in-append (with_one db (written_at db a)) all more)
+
+pub with_all-writings_in : (db : Database) (all more : List Addition) → with_all db (writings_in db (all ++ more)) ≡ with_all (with_all db (writings_in db all)) (writings_in (with_all db (writings_in db all)) more)
+with_all-writings_in db all more =
+    ap (with_all db) (writings_in-append db all more) ∙ with_all-append db (writings_in db all) (writings_in (with_all db (writings_in db all)) more)
+
+-- a security object changes none of them
+pub writings_in-with_security : (db : Database) (security : Value) (all : List Addition) → writings_in (with_security db security) all ≡ writings_in db all
+writings_in-with_security db security [] = refl
+writings_in-with_security db security (a ∷ all) = ap (λ ws. written_at db a ∷ ws) (writings_in-with_security (with_one db (written_at db a)) security all)
+
+pub additions-append : (ws vs : List Write) → additions (ws ++ vs) ≡ additions ws ++ additions vs
+additions-append [] vs = refl
+additions-append (w ∷ ws) vs = ap (λ all. addition_of w ∷ all) (additions-append ws vs)
+
 -- the history of a document is what its writes made of it
-pub history_at-with_all : (ws : List DocumentWrite) (db : Database) (id : List ℕ) → history_at (with_all db ws) id ≡ history_after (history_at db id) id ws
+added_to : (h : List ℕ → HistoryContent) (a : Addition) (id : List ℕ) (b : Bool) → bytes_eq a.id id ≡ b → cond b (with_write (h id) (written_in (h a.id) a).write) (h id) ≡ cond b (with_addition (h id) a) (h id)
+added_to h a id true is = ap (λ k. with_write (h id) (written_in (h k) a).write) ((bytes_eq-Decides a.id id).0 is)
+added_to h a id false is = refl
+
+history_at-with_one-addition : (db : Database) (a : Addition) (id : List ℕ) → history_at (with_one db (written_at db a)) id ≡ cond (bytes_eq a.id id) (with_addition (history_at db id) a) (history_at db id)
+history_at-with_one-addition db a id = history_at-with_one db (written_at db a) id ∙ added_to (history_at db) a id (bytes_eq a.id id) refl
+
+pub history_at-with_all : (all : List Addition) (db : Database) (id : List ℕ) → history_at (with_all db (writings_in db all)) id ≡ history_after (history_at db id) id all
 history_at-with_all [] db id = refl
-history_at-with_all (w ∷ ws) db id = history_at-with_all ws (with_one db w) id ∙ ap (λ h. history_after h id ws) (history_at-with_one db w id)
+history_at-with_all (a ∷ all) db id = history_at-with_all all (with_one db (written_at db a)) id ∙ ap (λ h. history_after h id all) (history_at-with_one-addition db a id)
 
 pub history_at-empty_database : (security : Value) (id : List ℕ) → history_at (empty_database security) id ≡ map.empty
 history_at-empty_database security id = ap history_in (map.get-empty (slice_cmp nat_cmp) id)
-
-pub writings-append : (ws vs : List Write) → writings (ws ++ vs) ≡ writings ws ++ writings vs
-writings-append [] vs = refl
-writings-append (w ∷ ws) vs = ap (λ r. writing_of w ∷ r) (writings-append ws vs)
 
 pub security-with_all : (db : Database) (ws : List DocumentWrite) → (with_all db ws).security ≡ db.security
 security-with_all db [] = refl
 security-with_all db (w ∷ ws) = security-with_all (with_one db w) ws
 
+-- a plain database with another security object
+pub content-with_security : (security other : Value) (all : List Addition)
+    → with_all (empty_database other) (writings_in (empty_database other) all) ≡ with_security (with_all (empty_database security) (writings_in (empty_database security) all)) other
+content-with_security security other all =
+    ap (with_all (empty_database other)) (writings_in-with_security (empty_database security) other all) ∙ with_all-with_security (empty_database security) other (writings_in (empty_database security) all)
+
 -- a plain database's security object and histories
 pub security-content : (d : PlainDatabase) → (content d).security ≡ d.security
-security-content d = security-with_all (empty_database d.security) (writings d.writes.items)
+security-content d = security-with_all (empty_database d.security) (writings_in (empty_database d.security) (additions d.writes.items))
 
-pub history_at-content : (d : PlainDatabase) (id : List ℕ) → history_at (content d) id ≡ history_after map.empty id (writings d.writes.items)
+pub history_at-content : (d : PlainDatabase) (id : List ℕ) → history_at (content d) id ≡ history_after map.empty id (additions d.writes.items)
 history_at-content d id =
-    history_at-with_all (writings d.writes.items) (empty_database d.security) id ∙ ap (λ h. history_after h id (writings d.writes.items)) (history_at-empty_database d.security id)
+    history_at-with_all (additions d.writes.items) (empty_database d.security) id ∙ ap (λ h. history_after h id (additions d.writes.items)) (history_at-empty_database d.security id)

@@ -21,6 +21,7 @@ use Rattle.tree.proofs.Shown.{behind_below, inside, is_known_writes, parent_belo
 use Rattle.store.specs.Database.{Database, Document, DocumentWrite, history_at, history_in, with_one, with_all, empty_database}
 use Rattle.store.specs.Contents.{Contents, IsAcceptable, AreAcceptable, IfThere, with_security}
 use Rattle.store.specs.Lawful.{IsBody, IsWritten, IsLawful, AreLawful}
+use Rattle.store.specs.Writing.{Addition, writings_in}
 use Rattle.store.proofs.Contents.{document_after}
 use Rattle.store.proofs.Laters.{sequences_by_one}
 
@@ -201,10 +202,11 @@ pub lawful_change : (c d : Contents) (name : List ℕ) (o : Option Database) (ch
 lawful_change c d name None change at is keeps h = cc
 lawful_change c d name (Some db) change at is keeps h = subst AreLawful (inside _ d is) (lawful_insert c name (change db) h (keeps db refl (h name db (sym at))))
 
-pub lawful_commit : (c d : Contents) (name : List ℕ) (ws : List DocumentWrite) → IfThere (map.get c name) (λ db. AreAcceptable db ws)
-    → option_map (λ db. map.insert c name (with_all db ws)) (map.get c name) ≡ Some d → AreLawful c → AreLawful d
-lawful_commit c d name ws ok is h =
-    lawful_change c d name (map.get c name) (λ db. with_all db ws) refl is (λ db at l. lawful_by_all ws db l (subst (λ (o : Option Database). IfThere o (λ e. AreAcceptable e ws)) at ok)) h
+pub lawful_commit : (c d : Contents) (name : List ℕ) (all : List Addition) → IfThere (map.get c name) (λ db. AreAcceptable db (writings_in db all))
+    → option_map (λ db. map.insert c name (with_all db (writings_in db all))) (map.get c name) ≡ Some d → AreLawful c → AreLawful d
+lawful_commit c d name all ok is h =
+    lawful_change c d name (map.get c name) (λ db. with_all db (writings_in db all)) refl is
+    (λ db at l. lawful_by_all (writings_in db all) db l (subst (λ (o : Option Database). IfThere o (λ e. AreAcceptable e (writings_in e all))) at ok)) h
 
 -- a call that changes lawful contents lawfully, or leaves them, leaves them lawful
 pub lawful_after : {T E : Type 0} (r : Result T E) (c d : Contents) (Made : Type 0) → OnOk r Made → OnErr r (d ≡ c) → (Made → AreLawful c → AreLawful d) → ∥ AreLawful c ∥₁ → ∥ AreLawful d ∥₁

@@ -1,23 +1,22 @@
 -- The rows of a plain store beside those of its contents.
-use Rattle.std.proofs.Common.{◌≡◌, ℕ, suc, ◌+◌, ◌≤◌, ◌<◌, ◌^◌, List, [], ◌∷◌, ◌++◌, length, map, filter, min, drop, reverse, nat_lt, subst, IfSome, is_some, Bool, true, false, cond, Ordering, Option, Some, None, option_map, nat_cmp, refl, sym, ap, ap₂, ◌∙◌, arith}
+use Rattle.std.proofs.Common.{◌≡◌, ℕ, suc, ◌+◌, ◌≤◌, ◌<◌, ◌^◌, List, [], ◌∷◌, ◌++◌, length, get_or, set, take, map, filter, min, drop, Ok, Err, reverse, nat_lt, subst, IfSome, is_some, Bool, true, false, cond, Ordering, Option, Some, None, option_map, nat_cmp, refl, sym, ap, ap₂, ◌∙◌, arith}
 use Rattle.std.proofs.lemmas.Bool.Decides.{nat_tests}
 use Rattle.std.proofs.lemmas.Cmp.{nat_list_cmp_total}
-use Rattle.std.proofs.lemmas.List.{drop_min, length-reverse, map-append, take-map}
+use Rattle.std.proofs.lemmas.List.{drop_min, length-map, length-reverse, map-append, take-map}
 use Rattle.std.proofs.lemmas.List.Sorted.{IsPermutation-reverse, sum_by-IsPermutation}
 use Rattle.std.proofs.lemmas.List.Sums.{length-filter}
 use Rattle.std.specs.declared.cmp.Ordering.TheVariants.{Less, Equal, Greater}
-use Rattle.std.specs.Ordering.{eq_by_cmp, ord_min}
+use Rattle.std.specs.Ordering.{ord_min}
 use Rattle.std.specs.Cmp.Lexicographic.{slice_cmp}
 use Rattle.std.specs.FinMap as finite
-use Rattle.std.specs.FinMap.{find, put}
+use Rattle.std.specs.FinMap.{put}
 use Rattle.std.specs.FinMap.Entries.{by_order}
-use Rattle.tree.specs.History.{with_write}
 use Rattle.store.specs.Database.{Database, Document, DocumentWrite, history_at, history_in, with_one, with_all, empty_database}
 use Rattle.std.specs.List.{count_by}
 use Rattle.store.specs.Pages.{document_counts, directed, if_counted, id_page, is_before_start, is_within, live_rows, rows_within, page_by_id, SequenceRow, in_sequence, last_sequence, limited, page_by_sequence, page_with, put_in_sequence, rows_after, rows_of}
 use Rattle.store.specs.Paging.{sequence_row_of, sequence_rows}
-use Rattle.store.specs.Plain.{content, gathered, gathered_after, with_write_at}
-use Rattle.store.specs.Writing.{writings}
+use Rattle.store.specs.Plain.{content, gathered, gathered_after, spot_from, value_in, with_addition, with_write_at}
+use Rattle.store.specs.Writing.{Addition, addition_of, additions, written_at, writings_in}
 use Rattle.store.specs.declared.page.DocumentCounts.{DocumentCounts}
 use Rattle.store.specs.declared.page.IdRange.{IdRange}
 use Rattle.store.specs.declared.page.IdRow.{IdRow}
@@ -26,7 +25,8 @@ use Rattle.store.specs.declared.page.SeqRange.{SeqRange}
 use Rattle.store.specs.declared.page.SeqRow.{SeqRow}
 use Rattle.store.specs.declared.plain.PlainDatabase.{PlainDatabase}
 use Rattle.store.specs.declared.plain.PlainDocument.{PlainDocument}
-use Rattle.store.specs.declared.write.Write.{Write}
+use Rattle.store.proofs.Orders.{no_value, put_at, put_in, value_at, value_in-find}
+use Rattle.tree.proofs.Kept.{true_from_T}
 
 -- ---- entries whose values are seen as others
 
@@ -43,53 +43,77 @@ pub put-seen : {K X Y : Type 0} (R : K → K → Ordering) (f : X → Y) (k : K)
 put-seen R f k v [] = refl
 put-seen R f k v (e ∷ es) = put_by-seen f (R k e.0) k v e es (put R k v es) (put R k (f v) (seen f es)) (put-seen R f k v es)
 
-found-seen : {X Y : Type 0} (f : X → Y) (b : Bool) (v : X) (o : Option X) (p : Option Y) → p ≡ option_map f o → cond b (Some (f v)) p ≡ option_map f (cond b (Some v) o)
-found-seen f true v o p h = refl
-found-seen f false v o p h = h
+value_by-seen : {X Y : Type 0} (f : X → Y) (r : Ordering) (v : X) (o : Option X) (p : Option Y) → p ≡ option_map f o → by_order r None (Some (f v)) p ≡ option_map f (by_order r None (Some v) o)
+value_by-seen f Less v o p h = refl
+value_by-seen f Equal v o p h = refl
+value_by-seen f Greater v o p h = h
 
-pub find-seen : {K X Y : Type 0} (R : K → K → Ordering) (f : X → Y) (q : K) (es : List (K × X)) → find R q (seen f es) ≡ option_map f (find R q es)
-find-seen R f q [] = refl
-find-seen R f q (e ∷ es) = found-seen f (eq_by_cmp R q e.0) e.1 (find R q es) (find R q (seen f es)) (find-seen R f q es)
+value_in-seen : {K X Y : Type 0} (R : K → K → Ordering) (f : X → Y) (q : K) (es : List (K × X)) → value_in R q (seen f es) ≡ option_map f (value_in R q es)
+value_in-seen R f q [] = refl
+value_in-seen R f q (e ∷ es) = value_by-seen f (R q e.0) e.1 (value_in R q es) (value_in R q (seen f es)) (value_in-seen R f q es)
 
 -- ---- the documents gathered from the writes are those of the content
 
 abbrev pub document : PlainDocument → Document
 document d = record { sequence = d.sequence; history = d.history }
 
-gathered_entry : (db : Database) (w : DocumentWrite) → finite.entries (with_one db w).documents ≡ with_write_at (db.length + 1) (finite.entries db.documents) w
-gathered_entry db w =
-    finite.entries-insert nat_list_cmp_total db.documents w.id (record { sequence = db.length + 1; history = with_write (history_at db w.id) w.write })
-    ∙ ap (λ o. put (slice_cmp nat_cmp) w.id (record { sequence = db.length + 1; history = with_write (history_in o) w.write }) (finite.entries db.documents)) (finite.get-entries db.documents w.id)
+gathered_entry : (db : Database) (a : Addition) → finite.entries (with_one db (written_at db a)).documents ≡ with_write_at (db.length + 1) (finite.entries db.documents) a
+gathered_entry db a =
+    finite.entries-insert nat_list_cmp_total db.documents a.id (record { sequence = db.length + 1; history = with_addition (history_at db a.id) a })
+    ∙ ap (λ o. put (slice_cmp nat_cmp) a.id (record { sequence = db.length + 1; history = with_addition (history_in o) a }) (finite.entries db.documents))
+    (finite.get-entries db.documents a.id ∙ sym (value_in-find (slice_cmp nat_cmp) nat_list_cmp_total a.id (finite.entries db.documents) (true_from_T _ (finite.entries_sorted db.documents))))
 
-entries-with_all : (ws : List DocumentWrite) (db : Database) → finite.entries (with_all db ws).documents ≡ gathered_after db.length (finite.entries db.documents) ws
+-- a write goes into the document that stands at a place
+pub written_there : (sequence : ℕ) (a : Addition) (es : List (List ℕ × PlainDocument)) (at : ℕ) (e : List ℕ × PlainDocument) (d : PlainDocument) → spot_from (slice_cmp nat_cmp) 0 a.id es ≡ Ok at → e ≡ get_or es at e
+    → d ≡ record { sequence = sequence; history = with_addition e.1.history a } → gathered (set es at (e.0, d)) ≡ with_write_at sequence (gathered es) a
+written_there sequence a es at e d place is made =
+    let R = slice_cmp nat_cmp in
+    let old = value_in-seen R document a.id es ∙ ap (option_map document) (value_at R a.id e es at place ∙ ap (λ f. Some f.1) (sym is)) in
+    ap (λ f. gathered (set es at (f.0, d))) is ∙ ap gathered (sym (put_at R a.id d e es at place)) ∙ put-seen R document a.id d es
+    ∙ ap (λ x. put R a.id (document x) (gathered es)) made ∙ ap (λ o. put R a.id (record { sequence = sequence; history = with_addition (history_in o) a }) (gathered es)) (sym old)
+
+-- a write makes a document, which goes in at a place
+pub written_new : (sequence : ℕ) (a : Addition) (es : List (List ℕ × PlainDocument)) (at : ℕ) (d : PlainDocument) → spot_from (slice_cmp nat_cmp) 0 a.id es ≡ Err at
+    → d ≡ record { sequence = sequence; history = with_addition finite.empty a } → gathered (take at es ++ (a.id, d) ∷ drop at es) ≡ with_write_at sequence (gathered es) a
+written_new sequence a es at d place made =
+    let R = slice_cmp nat_cmp in
+    let old = value_in-seen R document a.id es ∙ ap (option_map document) (no_value R a.id d es at place) in
+    ap gathered (sym (put_in R a.id d es at place)) ∙ put-seen R document a.id d es
+    ∙ ap (λ x. put R a.id (document x) (gathered es)) made ∙ ap (λ o. put R a.id (record { sequence = sequence; history = with_addition (history_in o) a }) (gathered es)) (sym old)
+
+entries-with_all : (all : List Addition) (db : Database) → finite.entries (with_all db (writings_in db all)).documents ≡ gathered_after db.length (finite.entries db.documents) all
 entries-with_all [] db = refl
-entries-with_all (w ∷ ws) db = entries-with_all ws (with_one db w) ∙ ap (λ es. gathered_after (db.length + 1) es ws) (gathered_entry db w)
+entries-with_all (a ∷ all) db = entries-with_all all (with_one db (written_at db a)) ∙ ap (λ es. gathered_after (db.length + 1) es all) (gathered_entry db a)
 
 pub length-with_all : (ws : List DocumentWrite) (db : Database) → (with_all db ws).length ≡ db.length + length ws
 length-with_all [] db = omega arith
 length-with_all (w ∷ ws) db = let more = length-with_all ws (with_one db w) in omega arith
 
-pub length-writings : (ws : List Write) → length (writings ws) ≡ length ws
-length-writings [] = refl
-length-writings (w ∷ ws) = ap suc (length-writings ws)
+length-writings_in : (db : Database) (all : List Addition) → length (writings_in db all) ≡ length all
+length-writings_in db [] = refl
+length-writings_in db (a ∷ all) = ap suc (length-writings_in (with_one db (written_at db a)) all)
+
+-- a plain database is as long as its list of writes
+pub length-content : (d : PlainDatabase) → (content d).length ≡ length d.writes.items
+length-content d =
+    let e = empty_database d.security in
+    let all = additions d.writes.items in
+    omega (arith, length-with_all (writings_in e all) e, length-writings_in e all, length-map d.writes.items addition_of)
 
 pub no_length : {A : Type 0} (xs : List A) → length xs ≡ 0 → xs ≡ []
 no_length [] e = refl
 no_length (x ∷ xs) e = absurd (omega arith)
 
-pub entries-content : (d : PlainDatabase) → finite.entries (content d).documents ≡ gathered_after 0 [] (writings d.writes.items)
+pub entries-content : (d : PlainDatabase) → finite.entries (content d).documents ≡ gathered_after 0 [] (additions d.writes.items)
 entries-content d =
-    let ws = writings d.writes.items in
+    let all = additions d.writes.items in
     let none : finite.entries (empty_database d.security).documents ≡ [] = no_length _ (sym (finite.len-entries (empty_database d.security).documents) ∙ finite.len-empty (slice_cmp nat_cmp) Document) in
-    entries-with_all ws (empty_database d.security) ∙ ap (λ es. gathered_after 0 es ws) none
+    entries-with_all all (empty_database d.security) ∙ ap (λ es. gathered_after 0 es all) none
 
-pub page_by_sequence-content : (range : SeqRange) (d : PlainDatabase) → page_by_sequence range (content d) ≡ page_with range (length d.writes.items) (gathered_after 0 [] (writings d.writes.items))
-page_by_sequence-content range d =
-    let ws = writings d.writes.items in
-    let count : (content d).length ≡ length d.writes.items = length-with_all ws (empty_database d.security) ∙ omega (arith, length-writings d.writes.items) in
-    ap₂ (page_with range) count (entries-content d)
+pub page_by_sequence-content : (range : SeqRange) (d : PlainDatabase) → page_by_sequence range (content d) ≡ page_with range (length d.writes.items) (gathered_after 0 [] (additions d.writes.items))
+page_by_sequence-content range d = ap₂ (page_with range) (length-content d) (entries-content d)
 
-pub page_by_id-content : (range : IdRange) (d : PlainDatabase) → page_by_id range (content d) ≡ id_page range (live_rows (gathered_after 0 [] (writings d.writes.items)))
+pub page_by_id-content : (range : IdRange) (d : PlainDatabase) → page_by_id range (content d) ≡ id_page range (live_rows (gathered_after 0 [] (additions d.writes.items)))
 page_by_id-content range d = ap (λ es. id_page range (live_rows es)) (entries-content d)
 
 -- ---- rows in the order of their sequences

@@ -1,27 +1,23 @@
 -- What a plain store holds, as contents; for private clauses and proofs.
 -- This crate's own.
-use Rattle.std.specs.Prelude.{ℕ, ◌+◌, List, [], ◌∷◌, map, Option, Some, None, Result, Ok, Err, if◌then◌else◌, ⊤}
+use Rattle.std.specs.Prelude.{ℕ, bytes_eq, ◌+◌, List, [], ◌∷◌, map, Option, Some, None, Result, Ok, Err, if◌then◌else◌, ⊤}
 use Rattle.std.specs.declared.cmp.Ordering.{Ordering}
 use Rattle.std.specs.Ordering.{nat_cmp, eq_by_cmp}
 use Rattle.std.specs.Cmp.Lexicographic.{slice_cmp}
-use Rattle.std.specs.FinMap.{from_entries, empty, find, put}
+use Rattle.std.specs.FinMap.{from_entries, find, put}
 use Rattle.std.specs.FinMap.Entries.{by_order}
 use Rattle.tree.specs.History.{HistoryContent, with_write}
 use Rattle.store.specs.Contents.{Contents}
-use Rattle.store.specs.Database.{Database, Document, DocumentWrite, Log, history_in, with_all, empty_database, is_of}
-use Rattle.store.specs.Writing.{writings}
+use Rattle.store.specs.Database.{Database, Document, history_in, with_all, empty_database}
+use Rattle.store.specs.Writing.{Addition, additions, written_in, writings_in}
 use Rattle.store.specs.declared.plain.PlainDatabase.{PlainDatabase}
 use Rattle.store.specs.declared.plain.PlainDocument.{PlainDocument}
 
 abbrev pub Named : Type 0
 Named = List ℕ × PlainDatabase
 
--- the database as the log of what happened to it
-abbrev pub log_of : PlainDatabase → Log
-log_of d = record { writes = writings d.writes.items; security = d.security; locals = empty }
-
 abbrev pub content : PlainDatabase → Database
-content d = with_all (empty_database d.security) (writings d.writes.items)
+content d = with_all (empty_database d.security) (writings_in (empty_database d.security) (additions d.writes.items))
 
 abbrev pub listed : List Named → List (List ℕ × Database)
 listed es = map (λ e. (e.0, content e.1)) es
@@ -38,15 +34,24 @@ abbrev pub place_from : ℕ → List ℕ → List Named → Option ℕ
 place_from n name [] = None
 place_from n name (e ∷ es) = if eq_by_cmp (slice_cmp nat_cmp) name e.0 then Some n else place_from (n + 1) name es
 
+-- one more write to a document with this history
+abbrev pub with_addition : HistoryContent → Addition → HistoryContent
+with_addition h a = with_write h (written_in h a).write
+
 -- the history that the writes of the document make of one
-abbrev pub history_after : HistoryContent → List ℕ → List DocumentWrite → HistoryContent
+abbrev pub history_after : HistoryContent → List ℕ → List Addition → HistoryContent
 history_after h id [] = h
-history_after h id (w ∷ ws) = history_after (if is_of id w then with_write h w.write else h) id ws
+history_after h id (a ∷ more) = history_after (if bytes_eq a.id id then with_addition h a else h) id more
 
 -- where a key stands among entries, counted on from n: Ok at the first that has it, Err before the first that is above it
 abbrev pub spot_from : {K X : Type 0} → (K → K → Ordering) → ℕ → K → List (K × X) → Result ℕ ℕ
 spot_from R n k [] = Err n
 spot_from R n k (e ∷ es) = by_order (R k e.0) (Err n) (Ok n) (spot_from R (n + 1) k es)
+
+-- the value at a key among entries in the order of their keys
+abbrev pub value_in : {K X : Type 0} → (K → K → Ordering) → K → List (K × X) → Option X
+value_in R k [] = None
+value_in R k (e ∷ es) = by_order (R k e.0) None (Some e.1) (value_in R k es)
 
 -- the keys of the entries, put one after the other, the last first, among entries that hold nothing
 abbrev pub keys_put : {K X : Type 0} → (K → K → Ordering) → List (K × X) → List (K × ⊤) → List (K × ⊤)
@@ -61,10 +66,10 @@ abbrev pub gathered : List (List ℕ × PlainDocument) → List (List ℕ × Doc
 gathered es = map stored es
 
 -- one more write gathered, and each of them, after n that were
-abbrev pub with_write_at : ℕ → List (List ℕ × Document) → DocumentWrite → List (List ℕ × Document)
-with_write_at sequence es w =
-    put (slice_cmp nat_cmp) w.id (record { sequence = sequence; history = with_write (history_in (find (slice_cmp nat_cmp) w.id es)) w.write }) es
+abbrev pub with_write_at : ℕ → List (List ℕ × Document) → Addition → List (List ℕ × Document)
+with_write_at sequence es a =
+    put (slice_cmp nat_cmp) a.id (record { sequence = sequence; history = with_addition (history_in (value_in (slice_cmp nat_cmp) a.id es)) a }) es
 
-abbrev pub gathered_after : ℕ → List (List ℕ × Document) → List DocumentWrite → List (List ℕ × Document)
+abbrev pub gathered_after : ℕ → List (List ℕ × Document) → List Addition → List (List ℕ × Document)
 gathered_after n es [] = es
-gathered_after n es (w ∷ ws) = gathered_after (n + 1) (with_write_at (n + 1) es w) ws
+gathered_after n es (a ∷ more) = gathered_after (n + 1) (with_write_at (n + 1) es a) more

@@ -3,7 +3,7 @@ ghost use Rattle.std.specs.FinMap as map;
 ghost use Rattle.store.specs.Contents.{new_database, with_security};
 ghost use Rattle.store.specs.Database.{with_all};
 ghost use Rattle.store.specs.Plain.{content, contents_of, place_from};
-ghost use Rattle.store.specs.Writing.{writings};
+ghost use Rattle.store.specs.Writing.{additions, writings_in};
 ghost use Rattle.std.specs.Ordering.{nat_cmp, eq_by_cmp};
 ghost use Rattle.std.specs.Cmp.Lexicographic.{slice_cmp};
 
@@ -77,7 +77,7 @@ pub(crate) fn append(
     writes: &[Write],
 ) -> Got<()>
     requires { place_from 0 name.now databases.old.items ≡ Some at }
-    ensures ok { OnOk result (option_map (λ db. map.insert (contents_of databases.old.items) name.now (with_all db (writings writes.now)))
+    ensures ok { OnOk result (option_map (λ db. map.insert (contents_of databases.old.items) name.now (with_all db (writings_in db (additions writes.now))))
         (map.get (contents_of databases.old.items) name.now) ≡ Some (contents_of databases.new.items)) }
     ensures err { OnErr result (contents_of databases.new.items ≡ contents_of databases.old.items) }
 {

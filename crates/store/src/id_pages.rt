@@ -5,7 +5,7 @@ ghost use Rattle.std.specs.List.{count_by};
 ghost use Rattle.store.specs.Pages.{comes_before as comes_before_lem, directed as directed_lem, id_page, if_counted, is_after_end as is_after_end_lem, is_before_start as is_before_start_lem, is_within as is_within_lem, live_rev as live_rev_lem, live_rows as live_rows_lem};
 ghost use Rattle.store.specs.Paging.{IsCounted, id_page_of};
 ghost use Rattle.store.specs.Plain.{gathered, gathered_after};
-ghost use Rattle.store.specs.Writing.{writings};
+ghost use Rattle.store.specs.Writing.{additions};
 
 use crate::order::limited;
 use crate::page::{IdRange, IdRow, PageById, RowCounts};
@@ -19,7 +19,7 @@ use tree::{DocId, History, Rev};
 
 /// The rows that the writes made, by id, cut by the range.
 pub(crate) fn page_by_id(alloc: Global, writes: &Vec<Write>, range: &IdRange) -> Got<PageById>
-    ensures page { IfOk result (λ page. id_page_of page ≡ id_page range.now (live_rows_lem (gathered_after 0 [] (writings writes.now.items)))) }
+    ensures page { IfOk result (λ page. id_page_of page ≡ id_page range.now (live_rows_lem (gathered_after 0 [] (additions writes.now.items)))) }
     ensures counted { IfOk result (IsCounted range.now) }
 {
     let documents = documents_of(alloc, writes)?;

@@ -1,6 +1,6 @@
 //! What follows from the definitions alone. Each function has an empty body: its contract is the law.
 
-ghost use Rattle.std.specs.Prelude.{◌≡◌, ◌<◌, ◌≤◌, ℕ, AllPairs, Contains, List, None, Some, IsTrue, is_some, take, true};
+ghost use Rattle.std.specs.Prelude.{◌≡◌, ◌<◌, ◌≤◌, ◌++◌, ℕ, AllPairs, Contains, List, None, Some, IsTrue, is_some, take, true};
 ghost use Rattle.std.specs.FinMap.{get};
 ghost use Rattle.couch_json.specs.Value.{Value};
 ghost use Rattle.tree.specs.Revision.{Revision};
@@ -10,6 +10,7 @@ ghost use Rattle.store.specs.Contents.{AreAcceptable, IsAcceptable, with_securit
 ghost use Rattle.store.specs.Database.{Database, Document, DocumentWrite, HasSequences, IsContentOf, IsLater, Log, empty_database, with_all, with_one, with_write_logged};
 ghost use Rattle.store.specs.Lawful.{IsBody, IsLawful};
 ghost use Rattle.store.specs.Pages.{IsIdRowOf, IsRowOf, SequenceRow, comes_before, is_within, live_rev, page_by_id, page_by_sequence, row_of};
+ghost use Rattle.store.specs.Writing.{Addition, writings_in};
 ghost use Rattle.store.specs.declared.page.IdRange.{IdRange};
 ghost use Rattle.store.specs.declared.page.IdRow.{IdRow};
 ghost use Rattle.store.specs.declared.page.SeqRange.{SeqRange};
@@ -24,6 +25,13 @@ pub fn content_of_a_log()
 pub fn content_of_one_more_write()
     ensures { (log : Log) (db : Database) (w : DocumentWrite) → IsContentOf log db
         → IsContentOf (with_write_logged log w) (with_one db w) }
+{}
+
+/// Writes that come one after the other are those of the first list, and those of the other in the
+/// database that the first list left.
+pub fn writes_in_a_row()
+    ensures { (db : Database) (first more : List Addition)
+        → writings_in db (first ++ more) ≡ writings_in db first ++ writings_in (with_all db (writings_in db first)) more }
 {}
 
 /// A content is later than itself, and what is later than a later one is later; each write, and so

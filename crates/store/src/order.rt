@@ -1,7 +1,7 @@
 //! Lists of entries in the order of their keys, and lists that are cut, as the plain store builds them.
 
-ghost use Rattle.std.specs.Prelude.{◌≡◌, ◌<◌, ◌≤◌, IfOk, IfErr, OnOk, length, option_map};
-ghost use Rattle.std.specs.FinMap.{find, put as put_lem};
+ghost use Rattle.std.specs.Prelude.{◌≡◌, ◌<◌, ◌≤◌, IfOk, IfErr, OnOk, length};
+ghost use Rattle.std.specs.FinMap.{put as put_lem};
 ghost use Rattle.store.specs.Pages.{limited as limited_lem};
 ghost use Rattle.store.specs.Plain.{spot_from};
 
@@ -22,18 +22,6 @@ pub(crate) fn spot<K: Ord, V>(entries: &Vec<(K, V)>, key: &K) -> Result<usize, u
         }
     }
     Err(entries.len())
-}
-
-/// The value at a key.
-pub(crate) fn value_at<'a, K: Ord, V>(entries: &'a Vec<(K, V)>, key: &K) -> Option<&'a V>
-    ensures { option_map (λ v. v.now) result ≡ find K.cmp key.now entries.now.items }
-{
-    for entry in entries {
-        if key.cmp(&entry.0).is_eq() {
-            return Some(&entry.1);
-        }
-    }
-    None
 }
 
 /// Puts a value at a key: in the place of the one that was there, or before the first greater key.

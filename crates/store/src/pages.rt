@@ -1,16 +1,13 @@
 //! The pages of a plain store, made from its writes.
 
 ghost use Rattle.std.specs.Prelude.{◌≡◌, ◌≤◌, [], IfOk, IfSome, OnOk, filter, length, map as list_map, nat_lt};
-ghost use Rattle.std.specs.FinMap.{find};
-ghost use Rattle.std.specs.Ordering.{nat_cmp};
-ghost use Rattle.std.specs.Cmp.Lexicographic.{slice_cmp};
-ghost use Rattle.store.specs.Database.{history_in as history_in_lem};
+ghost use Rattle.std.specs.FinMap as map;
 ghost use Rattle.store.specs.Pages.{document_counts, gone_count, if_counted, in_sequence as in_sequence_lem, is_gone as is_gone_lem, last_sequence as last_sequence_lem, limited as limited_lem, page_with, row_of as row_of_lem, rows_of as rows_of_lem, shown_revs as shown_revs_lem};
 ghost use Rattle.store.specs.Paging.{IsBounded, sequence_page_of, sequence_row_of, sequence_rows};
-ghost use Rattle.store.specs.Plain.{gathered, gathered_after, stored, with_write_at};
-ghost use Rattle.store.specs.Writing.{writing_of, writings};
+ghost use Rattle.store.specs.Plain.{gathered, gathered_after, stored, with_addition, with_write_at};
+ghost use Rattle.store.specs.Writing.{addition_of, additions};
 
-use crate::order::{limited, put, value_at};
+use crate::order::{limited, put, spot};
 use crate::page::{DocumentCounts, PageBySeq, SeqRange, SeqRow};
 use crate::plain::{Documents, PlainDocument};
 use crate::write::Write;
@@ -21,7 +18,7 @@ use tree::{DocId, History, Rev};
 
 /// The rows that the writes made, in the order of their sequences, cut by the range.
 pub(crate) fn page_by_seq(alloc: Global, writes: &Vec<Write>, range: &SeqRange) -> Got<PageBySeq>
-    ensures page { IfOk result (λ page. sequence_page_of page ≡ page_with range.now (length writes.now.items) (gathered_after 0 [] (writings writes.now.items))) }
+    ensures page { IfOk result (λ page. sequence_page_of page ≡ page_with range.now (length writes.now.items) (gathered_after 0 [] (additions writes.now.items))) }
     ensures bounded { IfOk result (IsBounded range.now) }
 {
     let documents = documents_of(alloc, writes)?;
@@ -54,7 +51,7 @@ fn counts_of(documents: &Documents, counted: bool) -> Option<DocumentCounts>
 
 /// The documents that the writes made, in the order of their ids.
 pub(crate) fn documents_of(alloc: Global, writes: &Vec<Write>) -> Got<Documents>
-    ensures { IfOk result (λ documents. gathered documents.items ≡ gathered_after 0 [] (writings writes.now.items)) }
+    ensures { IfOk result (λ documents. gathered documents.items ≡ gathered_after 0 [] (additions writes.now.items)) }
 {
     let mut documents = Vec::new(alloc);
     for (at, write) in writes.iter().enumerate() {
@@ -65,22 +62,39 @@ pub(crate) fn documents_of(alloc: Global, writes: &Vec<Write>) -> Got<Documents>
 
 /// Takes in the write that has this sequence.
 fn take_in(alloc: Global, documents: &mut Documents, sequence: u64, write: &Write) -> Got<()>
-    ensures ok { OnOk result (gathered documents.new.items ≡ with_write_at sequence (gathered documents.old.items) (writing_of write.now)) }
+    ensures ok { OnOk result (gathered documents.new.items ≡ with_write_at sequence (gathered documents.old.items) (addition_of write.now)) }
 {
-    let mut history = history_in(alloc, documents, &write.id)?;
-    history.put(&write.path, write.deleted, &write.body)?;
-    let id = write.id.copy(alloc)?;
-    put(documents, id, PlainDocument { sequence, history })?;
+    match spot(documents, &write.id) {
+        Ok(at) => write_to(&mut documents[at].1, sequence, write)?,
+        Err(at) => {
+            let id = write.id.copy(alloc)?;
+            let document = new_document(alloc, sequence, write)?;
+            documents.insert(at, (id, document))?;
+        }
+    }
     Ok(())
 }
 
-fn history_in(alloc: Global, documents: &Documents, id: &DocId) -> Got<History>
-    ensures { IfOk result (λ history. history ≡ history_in_lem (find (slice_cmp nat_cmp) id.now (gathered documents.now.items))) }
+/// Takes the write that has this sequence into its document.
+fn write_to(document: &mut PlainDocument, sequence: u64, write: &Write) -> Got<()>
+    ensures ok { OnOk result (document.new ≡ record { sequence = sequence; history = with_addition document.old.history (addition_of write.now) }) }
 {
-    match value_at(documents, id) {
-        Some(document) => Ok(document.history.copy()?),
-        None => Ok(History::new(alloc)),
-    }
+    document.sequence = sequence;
+    document
+        .history
+        .put(&write.path, write.parent, write.deleted, &write.body)
+}
+
+/// Makes the document of its first write.
+fn new_document(alloc: Global, sequence: u64, write: &Write) -> Got<PlainDocument>
+    ensures { IfOk result (λ document. document ≡ record { sequence = sequence; history = with_addition map.empty (addition_of write.now) }) }
+{
+    let mut document = PlainDocument {
+        sequence,
+        history: History::new(alloc),
+    };
+    write_to(&mut document, sequence, write)?;
+    Ok(document)
 }
 
 /// A row for each document.

@@ -1,8 +1,6 @@
-ghost use Rattle.std.specs.Prelude.{◌≡◌, IfOk, OnOk, if◌then◌else◌};
-ghost use Rattle.tree.specs.History.{with_write};
-ghost use Rattle.store.specs.Database.{is_of};
-ghost use Rattle.store.specs.Plain.{history_after};
-ghost use Rattle.store.specs.Writing.{writing_of, writings};
+ghost use Rattle.std.specs.Prelude.{◌≡◌, IfOk, OnOk, bytes_eq, if◌then◌else◌};
+ghost use Rattle.store.specs.Plain.{history_after, with_addition};
+ghost use Rattle.store.specs.Writing.{addition_of, additions};
 ghost use Rattle.std.specs.FinMap as map;
 
 use crate::write::Write;
@@ -12,7 +10,7 @@ use tree::{DocId, History};
 
 /// The history that the writes made of a document.
 pub(crate) fn history_of(alloc: Global, writes: &Vec<Write>, id: &DocId) -> Got<History>
-    ensures { IfOk result (λ history. history ≡ history_after map.empty id.now (writings writes.now.items)) }
+    ensures { IfOk result (λ history. history ≡ history_after map.empty id.now (additions writes.now.items)) }
 {
     let mut history = History::new(alloc);
     for write in writes {
@@ -24,17 +22,17 @@ pub(crate) fn history_of(alloc: Global, writes: &Vec<Write>, id: &DocId) -> Got<
 /// Takes the write into the history, where it is one of the document.
 fn take_in(history: &mut History, write: &Write, id: &DocId) -> Got<()>
     ensures ok { OnOk result (history.new
-        ≡ (if is_of id.now (writing_of write.now) then with_write history.old (writing_of write.now).write else history.old)) }
+        ≡ (if bytes_eq write.now.id id.now then with_addition history.old (addition_of write.now) else history.old)) }
 {
     if write.id.as_str() == id.as_str() {
-        history.put(&write.path, write.deleted, &write.body)?;
+        history.put(&write.path, write.parent, write.deleted, &write.body)?;
     }
     Ok(())
 }
 
 /// Copies of the writes, in order.
 pub(crate) fn copies(alloc: Global, writes: &[Write]) -> Got<Vec<Write>>
-    ensures { IfOk result (λ copies. writings copies.items ≡ writings writes.now) }
+    ensures { IfOk result (λ copies. additions copies.items ≡ additions writes.now) }
 {
     let mut copies = Vec::with_capacity(alloc, writes.len())?;
     for write in writes {
@@ -44,7 +42,7 @@ pub(crate) fn copies(alloc: Global, writes: &[Write]) -> Got<Vec<Write>>
 }
 
 fn copy_of(alloc: Global, write: &Write) -> Got<Write>
-    ensures { IfOk result (λ copy. writing_of copy ≡ writing_of write.now) }
+    ensures { IfOk result (λ copy. addition_of copy ≡ addition_of write.now) }
 {
     let id = write.id.copy(alloc)?;
     let path = Vec::from_slice(alloc, &write.path)?;
@@ -52,6 +50,7 @@ fn copy_of(alloc: Global, write: &Write) -> Got<Write>
     Ok(Write {
         id,
         path,
+        parent: write.parent,
         deleted: write.deleted,
         body,
     })

@@ -7,7 +7,7 @@ ghost use Rattle.store.specs.Lawful.{AreLawful};
 ghost use Rattle.store.specs.Leaving.{Answers, ChangesWhole, OnlyReads};
 ghost use Rattle.store.specs.Pages.{page_by_id as page_by_id_lem, page_by_sequence};
 ghost use Rattle.store.specs.Paging.{IsBounded, IsCounted, id_page_of, sequence_page_of};
-ghost use Rattle.store.specs.Writing.{writings};
+ghost use Rattle.store.specs.Writing.{additions, writings_in};
 
 use crate::database_name::DbName;
 use crate::fault::StoreFault;
@@ -109,16 +109,18 @@ pub trait Store {
     /// Appends all the writes to a database, or none of them. `NoDatabase` comes exactly where there
     /// is none of this name.
     ///
-    /// The caller owes that each write, once those before it are in, has a whole path whose head is
-    /// not known and that gives no known revision another parent, and a body that is an object at
-    /// most 100 deep.
+    /// A write's path goes on with what the history, once the writes before it are in, knows behind
+    /// its parent. The caller owes that each path is whole, that its head is not known and that it
+    /// gives no known revision another parent, and that each body is an object at most 100 deep.
     fn commit(&mut self, name: &DbName, writes: &[Write]) -> Result<(), StoreFault>
-        requires { is_honest self.old → IfThere (map.get (contents self.old) name.now) (λ db. AreAcceptable db (writings writes.now)) }
-        ensures ok { is_honest self.new → OnOk result (option_map (λ db. map.insert (contents self.old) name.now (with_all db (writings writes.now))) (map.get (contents self.old) name.now) ≡ Some (contents self.new)) }
+        requires { is_honest self.old → IfThere (map.get (contents self.old) name.now)
+            (λ db. AreAcceptable db (writings_in db (additions writes.now))) }
+        ensures ok { is_honest self.new → OnOk result (option_map (λ db. map.insert (contents self.old) name.now (with_all db (writings_in db (additions writes.now))))
+            (map.get (contents self.old) name.now) ≡ Some (contents self.new)) }
         ensures missing { is_honest self.new → result ≡ Err StoreFault.NoDatabase → map.get (contents self.old) name.now ≡ None }
         ensures others { result ≢ Err StoreFault.Exists }
         ensures caused { IfErr result (λ fault. IsCaused (fault_count self.old) (fault_count self.new) (is_honest self.new)
-            (is_honest self.new → lacks_room self.old name.now (writings writes.now)) fault) }
+            (is_honest self.new → IfThere (map.get (contents self.old) name.now) (λ db. lacks_room self.old name.now (writings_in db (additions writes.now)))) fault) }
         ensures changes { ChangesWhole contents is_honest is_clean fault_count self.old self.new result };
 
     /// How many faults of what it stands on the store has met; it stays at 2^64 - 1.

@@ -44,7 +44,7 @@ find-append r (x ∷ xs) ys =
 pub get-content : (ws : List Write) (r : Revision) → get (content_of ws) r ≡ find revision_cmp r (flat_map write_entries ws)
 get-content ws r = get-from_entries revision_cmp_total (flat_map write_entries ws) r
 
-get-with_new : (h : HistoryContent) (k : Revision) (e : Entry) (r : Revision) → get (with_new h k e) r ≡ or (get h r) (cond (eq_by_cmp revision_cmp r k) (Some e) None)
+pub get-with_new : (h : HistoryContent) (k : Revision) (e : Entry) (r : Revision) → get (with_new h k e) r ≡ or (get h r) (cond (eq_by_cmp revision_cmp r k) (Some e) None)
 get-with_new h k e r = by (is_known h k) refl
   where
     hit : (o : Option Entry) (b : Bool) → (b ≡ true → is_some o ≡ true) → o ≡ or o (cond b (Some e) None)

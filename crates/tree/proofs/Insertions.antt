@@ -13,9 +13,8 @@ use Rattle.std.specs.BTreeSet.{insert_key}
 use Rattle.std.specs.FinMap.{find, put}
 use Rattle.std.specs.FinMap.Entries.{by_order}
 use Rattle.tree.specs.Revision.{Revision, revision_cmp}
-use Rattle.tree.specs.History.{is_parent_in, names, path_entries}
-use Rattle.tree.specs.Nodes.{AreParents, listed, nodes_before, nodes_with, nodes_with_new, parents_before, parents_with, parents_without}
-use Rattle.tree.specs.Write.{head}
+use Rattle.tree.specs.History.{is_parent_in, names}
+use Rattle.tree.specs.Nodes.{AreParents, entries_before, listed, next_of, nodes_before, nodes_with, nodes_with_new, parents_before, parents_with, parents_without}
 use Rattle.tree.specs.declared.entry.Held.{Held}
 use Rattle.tree.specs.declared.entry.Entry.{Entry}
 use Rattle.tree.specs.declared.nodes.Insertion.{Insertion}
@@ -178,13 +177,13 @@ key_back new old p added is so put_in = ap (remove_key (is_at (revision_cmp p)))
     untrue false e = refl
 
 -- one revision of a path after another
-pub path_step : (nodes new : List Node) (path : List Revision) (i : ℕ) (r : Revision) (parent : Option Revision) (held taken after : Option Held) (all : List Node)
-    → i < length path → r ≡ get_or path i r → parent ≡ head (drop (i + 1) path) → taken ≡ held → after ≡ None
+pub path_step : (nodes new : List Node) (path : List Revision) (last : Option Revision) (i : ℕ) (r : Revision) (parent : Option Revision) (held taken after : Option Held) (all : List Node)
+    → i < length path → r ≡ get_or path i r → parent ≡ next_of (drop (i + 1) path) last → taken ≡ held → after ≡ None
     → new ≡ nodes_with_new nodes r (record { parent = parent; held = taken })
-    → nodes_with nodes (path_entries held (drop i path)) ≡ all → nodes_with new (path_entries after (drop (i + 1) path)) ≡ all
-path_step nodes new path i r parent held taken after all lt is up took empty put_in so_far =
+    → nodes_with nodes (entries_before held (drop i path) last) ≡ all → nodes_with new (entries_before after (drop (i + 1) path) last) ≡ all
+path_step nodes new path last i r parent held taken after all lt is up took empty put_in so_far =
     let next : suc i ≡ i + 1 = omega arith in
     let cut : drop i path ≡ r ∷ drop (i + 1) path = drop-cons path i r lt ∙ (λ j. sym is j ∷ drop (next j) path) in
-    ap (λ o. nodes_with new (path_entries o (drop (i + 1) path))) empty
-    ∙ ap (λ es. nodes_with es (path_entries None (drop (i + 1) path))) (put_in ∙ (λ j. nodes_with_new nodes r (record { parent = up j; held = took j })))
-    ∙ ap (λ p. nodes_with nodes (path_entries held p)) (sym cut) ∙ so_far
+    ap (λ o. nodes_with new (entries_before o (drop (i + 1) path) last)) empty
+    ∙ ap (λ es. nodes_with es (entries_before None (drop (i + 1) path) last)) (put_in ∙ (λ j. nodes_with_new nodes r (record { parent = up j; held = took j })))
+    ∙ ap (λ p. nodes_with nodes (entries_before held p last)) (sym cut) ∙ so_far

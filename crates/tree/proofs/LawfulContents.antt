@@ -4,11 +4,11 @@ use Rattle.std.specs.Prelude.{is_some, option_and_then}
 use Rattle.std.specs.FinMap.{get, same_map}
 use Rattle.tree.specs.Revision.{Revision}
 use Rattle.tree.specs.Write.{Write, counts_down, head, held_by, StandsIn, IsBehind, EndsWith, IsKnown, IsParent, IsBrought, IsPathEnd, AreWhole, IsLawful}
-use Rattle.tree.specs.History.{HistoryContent, is_known, parent_of, held_of, content_of, Shows, IsRooted, agrees, keeps_parents, is_head_known, placement, inserted, with_write, line, onward, chain}
+use Rattle.tree.specs.History.{HistoryContent, is_known, parent_of, held_of, content_of, Shows, IsRooted, agrees, keeps_parents, is_head_known, placement, inserted, with_write, line, onward, chain, behind}
 use Rattle.tree.specs.declared.entry.Held.{Held}
 use Rattle.tree.specs.declared.entry.Entry.{Entry}
 use Rattle.tree.specs.declared.placement.Placed.{Placed}
-use Rattle.tree.proofs.Kept.{revision_cmp_total}
+use Rattle.tree.proofs.Kept.{line_on, revision_cmp_total}
 use Rattle.tree.proofs.Revisions.{revision_cmp_exact}
 use Rattle.tree.proofs.RevisionText.{parts}
 use Rattle.tree.proofs.Shown.{shown, is_known_writes, parent_below, root_number, entry_of_known, whole_counts, stands_found, right_some}
@@ -89,13 +89,15 @@ path_end [] r rest w e = elim e [ ]
 path_end (v ∷ ws) r rest w (inl e) = record { counts = end_counts v.path r rest (whole_counts v.path w.0) e; known = inl (end_stands v.path r rest e); parents = λ s p b. inl (end_behind v.path r rest s p e b) }
 path_end (v ∷ ws) r rest w (inr e) = let k = path_end ws r rest w.1 e in record { counts = k.counts; known = inr k.known; parents = λ s p b. inr (k.parents s p b) }
 
-line_is : (h : HistoryContent) (r : Revision) (rest : List Revision) → counts_down (r ∷ rest) ≡ true → ((s p : Revision) → IsBehind (r ∷ rest) s p → parent_of h s ≡ Some p) → ((s : Revision) → s.number ≡ 1 → parent_of h s ≡ None) → line h (length (r ∷ rest)) r ≡ r ∷ rest
-line_is h r [] w up root =
+line_is : (h : HistoryContent) (r : Revision) (rest : List Revision) → counts_down (r ∷ rest) ≡ true → is_known h r ≡ true → ((s p : Revision) → IsBehind (r ∷ rest) s p → parent_of h s ≡ Some p) → IsRooted h → ((s : Revision) → s.number ≡ 1 → parent_of h s ≡ None)
+    → line h (length (r ∷ rest)) r ≡ r ∷ rest
+line_is h r [] w known up rooted root =
     let n = eqb-true r.number 1 (parts _ _ w).0 in
-    ap (λ (o : Option Revision). r ∷ onward (λ p. line h 0 p) o) (root r n)
-line_is h r (s ∷ rest) w up root =
-    ap (λ (o : Option Revision). r ∷ onward (λ p. line h (length (s ∷ rest)) p) o) (up r s (inl (refl, refl)))
-    ∙ ap (λ (xs : List Revision). r ∷ xs) (line_is h s rest (parts _ _ w).1 (λ t p b. up t p (inr b)) root)
+    line_on h 0 r known ∙ ap (λ (o : Option Revision). r ∷ onward (λ p. line h 0 p) o) (root r n)
+line_is h r (s ∷ rest) w known up rooted root =
+    let next = up r s (inl (refl, refl)) in
+    line_on h (length (s ∷ rest)) r known ∙ ap (λ (o : Option Revision). r ∷ onward (λ p. line h (length (s ∷ rest)) p) o) next
+    ∙ ap (λ (xs : List Revision). r ∷ xs) (line_is h s rest (parts _ _ w).1 (rooted.parents_known r s next) (λ t p b. up t p (inr b)) rooted root)
 
 pub chain_is_path : (ws : List Write) → IsLawful ws → (r : Revision) (rest : List Revision) → IsPathEnd ws (r ∷ rest) → chain (content_of ws) r ≡ Some (r ∷ rest)
 chain_is_path ws lawful r rest e =
@@ -104,7 +106,7 @@ chain_is_path ws lawful r rest e =
     let n = eqb-true r.number (suc (length rest)) (parts _ _ k.counts).0 in
     ap (λ (b : Bool). cond b (Some (line (content_of ws) r.number r)) None) known
     ∙ ap (λ (n : ℕ). Some (line (content_of ws) n r)) n
-    ∙ ap Some (line_is (content_of ws) r rest k.counts (λ s p b. (shows.parent s p).1 (k.parents s p b)) root)
+    ∙ ap Some (line_is (content_of ws) r rest k.counts known (λ s p b. (shows.parent s p).1 (k.parents s p b)) (rooted ws lawful) root)
   where
     shows : Shows ws (content_of ws)
     shows = shown ws lawful
@@ -115,6 +117,14 @@ chain_is_path ws lawful r rest e =
         by : (o : Option Revision) → parent_of (content_of ws) s ≡ o → o ≡ None
         by None is = refl
         by (Some p) is = let b = parent_below ws s p lawful.whole ((shows.parent s p).0 is) in absurd (omega (arith, n, b.number, b.positive))
+
+found_inside : (b : Bool) (path found : List Revision) → cond b (Some path) None ≡ Some found → path ≡ found
+found_inside true path found e = cc
+found_inside false path found e = cc
+
+-- what stands behind a write that follows a revision of a lawful history
+pub behind_path : (ws : List Write) → IsLawful ws → (p : Revision) (rest : List Revision) → IsPathEnd ws (p ∷ rest) → behind (content_of ws) (Some p) ≡ p ∷ rest
+behind_path ws lawful p rest e = found_inside (is_known (content_of ws) p) (behind (content_of ws) (Some p)) (p ∷ rest) (chain_is_path ws lawful p rest e)
 
 -- ---- the content is the only one that shows so
 

@@ -1,3 +1,4 @@
+pub mod Behind
 pub mod Contents
 pub mod Continued
 pub mod Convergence

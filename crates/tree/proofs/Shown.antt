@@ -111,7 +111,7 @@ either : {X : Type 0} (a b : Option X) → is_some (or a b) ≡ true → (is_som
 either None b h = inr h
 either (Some x) b h = inl refl
 
-left_some : {X : Type 0} (a b : Option X) → is_some a ≡ true → is_some (or a b) ≡ true
+pub left_some : {X : Type 0} (a b : Option X) → is_some a ≡ true → is_some (or a b) ≡ true
 left_some None b h = cc
 left_some (Some x) b h = refl
 

@@ -103,14 +103,19 @@ abbrev pub onward : (Revision → List Revision) → Option Revision → List Re
 onward rest None = []
 onward rest (Some p) = rest p
 
--- r, its parent, and so on, at most n of them
+-- r, its parent, and so on, at most n of them, up to one that is not known
 abbrev pub line : HistoryContent → ℕ → Revision → List Revision
 line h zero r = []
-line h (suc n) r = r ∷ onward (λ p. line h n p) (parent_of h r)
+line h (suc n) r = if is_known h r then r ∷ onward (λ p. line h n p) (parent_of h r) else []
 
 -- the path of a known revision
 abbrev pub chain : HistoryContent → Revision → Option (List Revision)
 chain h r = if is_known h r then Some (line h r.number r) else None
+
+-- what stands behind a write that follows this revision: the path of one that is known, else nothing
+abbrev pub behind : HistoryContent → Option Revision → List Revision
+behind h None = []
+behind h (Some p) = line h p.number p
 
 -- ---- writes
 

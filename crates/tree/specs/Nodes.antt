@@ -10,6 +10,7 @@ use Rattle.std.specs.BTreeSet.{insert_key}
 use Rattle.std.specs.FinMap.{find, put, is_sorted}
 use Rattle.tree.specs.Revision.{Revision, revision_cmp}
 use Rattle.tree.specs.History.{is_parent_in}
+use Rattle.tree.specs.declared.entry.Held.{Held}
 use Rattle.tree.specs.declared.entry.Entry.{Entry}
 use Rattle.tree.specs.declared.nodes.Insertion.{Insertion}
 
@@ -19,6 +20,16 @@ nodes_with_new nodes r e = if is_some (find revision_cmp r nodes) then nodes els
 abbrev pub nodes_with : List (Revision × Entry) → List (Revision × Entry) → List (Revision × Entry)
 nodes_with nodes [] = nodes
 nodes_with nodes (e ∷ es) = nodes_with (nodes_with_new nodes e.0 e.1) es
+
+-- the newest revision of a path, or what it follows where it has none
+abbrev pub next_of : List Revision → Option Revision → Option Revision
+next_of [] parent = parent
+next_of (r ∷ rest) parent = Some r
+
+-- what a path says of its revisions, where d is held of the newest and the last follows this parent
+abbrev pub entries_before : Option Held → List Revision → Option Revision → List (Revision × Entry)
+entries_before d [] parent = []
+entries_before d (r ∷ rest) parent = (r, record { parent = next_of rest parent; held = d }) ∷ entries_before None rest parent
 
 -- the revisions that some node has as its parent
 abbrev pub AreParents : List Revision → List (Revision × Entry) → Type 0

@@ -1,8 +1,8 @@
-ghost use Rattle.std.specs.Prelude.{◌≡◌, ◌≢◌, Option, Some, None, Result, Ok, Err, IfOk, IfErr, OnOk, OnErr, IsTrue, MatchOption, option_copied, option_map, slice_get};
+ghost use Rattle.std.specs.Prelude.{◌≡◌, ◌≢◌, ◌++◌, Option, Some, None, Result, Ok, Err, IfOk, IfErr, OnOk, OnErr, IsTrue, MatchOption, option_copied, option_map, slice_get};
 ghost use Rattle.std.specs.FinMap as map;
 ghost use Rattle.couch_json.specs.View.{view};
-ghost use Rattle.tree.specs.Write.{counts_down, is_whole};
-ghost use Rattle.tree.specs.History.{GoesOn, agrees, chain, has_child, held_of, is_head_known, is_known, is_leaf, is_leaf_in, keeps_parents, leaves, leaves_marked, line, parent_of, placement, row_of, winner, with_new, with_write};
+ghost use Rattle.tree.specs.Write.{counts_down, head, is_whole};
+ghost use Rattle.tree.specs.History.{GoesOn, agrees, behind, chain, has_child, held_of, is_head_known, is_known, is_leaf, is_leaf_in, keeps_parents, leaves, leaves_marked, line, placement, row_of, winner, with_new, with_write};
 
 use crate::body::Body;
 use crate::entry::{Entry, Held};
@@ -86,22 +86,36 @@ impl History {
         match self.placement(path)? {
             Placed::Known => Ok(Placed::Known),
             Placed::Added => {
-                self.put(path, deleted, body)?;
+                self.put(path, None, deleted, body)?;
                 Ok(Placed::Added)
             }
         }
     }
 
     /// Takes in a write without asking whether it fits: each revision of the path that is not
-    /// known comes in. For a store that replays the writes that it accepted.
-    pub fn put(&mut self, path: &[Rev], deleted: bool, body: &Json) -> Got<()>
-        ensures ok { OnOk result (self.new ≡ with_write self.old (record { path = path.now; deleted = deleted; body = view body.now })) }
+    /// known comes in. For a writer that knows that it fits, and for a store that replays what it
+    /// accepted.
+    ///
+    /// The path goes from the new revision back to a first one, or to one that follows `parent`:
+    /// what the history knows behind that one is the rest of the path. It takes time by the length
+    /// of `path`, however much stands behind it.
+    pub fn put(&mut self, path: &[Rev], parent: Option<Rev>, deleted: bool, body: &Json) -> Got<()>
+        ensures ok { OnOk result (self.new ≡ with_write self.old
+            (record { path = path.now ++ behind self.old parent; deleted = deleted; body = view body.now })) }
         ensures err { OnErr result (self.new ≡ self.old) }
     {
         let alloc = self.alloc;
         let body = Body::new(body.copy(alloc)?);
         let held = Held { deleted, body };
-        nodes::put_path(alloc, &mut self.nodes, &mut self.parents, path, held)?;
+        let parent = self.keep_known(parent);
+        nodes::put_path(
+            alloc,
+            &mut self.nodes,
+            &mut self.parents,
+            path,
+            parent,
+            held,
+        )?;
         Ok(())
     }
 
@@ -294,13 +308,21 @@ impl History {
         }
     }
 
-    fn parent(&self, rev: &Rev) -> Option<Rev>
-        ensures { result ≡ parent_of self.now rev.now }
+    /// Keeps the parent of a write where it is known.
+    fn keep_known(&self, parent: Option<Rev>) -> Option<Rev>
+        ensures { result ≡ head (behind self.now parent) }
     {
-        self.entry(rev)?.parent
+        let parent = parent?;
+        prove!(parent.number() > 0);
+        if self.knows(&parent) {
+            Some(parent)
+        } else {
+            None
+        }
     }
 
-    /// The revision, its parent, and so on, at most as many as its number says.
+    /// The revision, its parent, and so on, up to one that is not known, and at most as many as its
+    /// number says.
     fn line(&self, rev: &Rev) -> Got<Vec<Rev>>
         ensures { IfOk result (λ revs. revs.items ≡ line self.now rev.now.number rev.now) }
     {
@@ -310,8 +332,11 @@ impl History {
             let Some(current) = next else {
                 break;
             };
+            let Some(entry) = self.entry(&current) else {
+                break;
+            };
             revs.push(current)?;
-            next = self.parent(&current);
+            next = entry.parent;
         }
         Ok(revs)
     }

@@ -1,11 +1,11 @@
 //! What follows from the definitions alone. Each function has an empty body: its contract is the law.
 
-ghost use Rattle.std.specs.Prelude.{◌≡◌, ◌≢◌, ◌⊎◌, ◌↔◌, ℕ, List, [], ◌∷◌, ◌++◌, Some, Ok, Err, IsTrue, MatchOption, is_some};
+ghost use Rattle.std.specs.Prelude.{◌≡◌, ◌≢◌, ◌⊎◌, ◌↔◌, ℕ, false, List, [], ◌∷◌, ◌++◌, Option, Some, Ok, Err, IsTrue, MatchOption, is_some};
 ghost use Rattle.std.specs.FinMap.{find, get};
 ghost use Rattle.std.specs.FinMap as map;
 ghost use Rattle.tree.specs.Revision.{Revision, is_revision, revision_cmp, revision_read, text_of};
 ghost use Rattle.tree.specs.Write.{Write, IsKnown, IsLawful, IsParent, IsPathEnd, StandsIn};
-ghost use Rattle.tree.specs.History.{HistoryContent, AreBestFirst, IsBetter, IsRooted, LooksAlike, Shows, chain, content_of, entry_after, held_of, inserted, is_known, is_leaf, leaves, parent_of, placement, winner, with_entries, with_write};
+ghost use Rattle.tree.specs.History.{HistoryContent, AreBestFirst, IsBetter, IsRooted, LooksAlike, Shows, behind, chain, content_of, entry_after, held_of, inserted, is_known, is_leaf, leaves, parent_of, placement, winner, with_entries, with_write};
 ghost use Rattle.tree.specs.Convergence.{AreConsistent, BringOne, HaveSame, merged};
 ghost use Rattle.tree.specs.declared.entry.Entry.{Entry};
 ghost use Rattle.tree.specs.declared.placement.Placed.{Placed};
@@ -67,6 +67,16 @@ pub fn whole()
 pub fn chain_is_path()
     ensures { (ws : List Write) (r : Revision) (rest : List Revision) → IsLawful ws
         → IsPathEnd ws (r ∷ rest) → chain (content_of ws) r ≡ Some (r ∷ rest) }
+{}
+
+/// Behind a write that follows a known revision stands the path of that revision, of which all is
+/// known; behind one that follows no known revision stands nothing.
+pub fn behind_is_chain()
+    ensures known { (h : HistoryContent) (p : Revision) → IsTrue (is_known h p) → chain h p ≡ Some (behind h (Some p)) }
+    ensures unknown { (h : HistoryContent) (p : Revision) → is_known h p ≡ false → behind h (Some p) ≡ [] }
+    ensures all_known { (h : HistoryContent) (p : Option Revision) (r : Revision) → StandsIn (behind h p) r → IsTrue (is_known h r) }
+    ensures path { (ws : List Write) (p : Revision) (rest : List Revision) → IsLawful ws
+        → IsPathEnd ws (p ∷ rest) → behind (content_of ws) (Some p) ≡ p ∷ rest }
 {}
 
 /// A leaf is a known revision that is no revision's parent.

@@ -3,9 +3,7 @@
 ghost use Rattle.std.specs.Prelude.{◌≡◌, ◌+◌, ◌<◌, ◌≤◌, ◌++◌, Some, IfOk, OnOk, OnErr, IsTrue, vec_capacity, vec_len};
 ghost use Rattle.std.specs.FinMap.{is_sorted};
 ghost use Rattle.tree.specs.Revision.{revision_cmp};
-ghost use Rattle.tree.specs.Write.{head};
-ghost use Rattle.tree.specs.History.{path_entries};
-ghost use Rattle.tree.specs.Nodes.{AreParents, listed, nodes_before, nodes_with, nodes_with_new, parents_before, parents_with, parents_without};
+ghost use Rattle.tree.specs.Nodes.{AreParents, entries_before, listed, next_of as next_of_lem, nodes_before, nodes_with, nodes_with_new, parents_before, parents_with, parents_without};
 
 use crate::entry::{Entry, Held};
 use crate::revision::Rev;
@@ -22,17 +20,19 @@ pub(crate) struct Insertion {
     pub(crate) parent: Option<Rev>,
 }
 
-/// Takes in the revisions of a path, of which only the newest has something held; all or none.
+/// Takes in the revisions of a path that follows a parent, where there is one; only the newest has
+/// something held. All or none.
 pub(crate) fn put_path(
     alloc: Global,
     nodes: &mut BTreeMap<Rev, Entry>,
     parents: &mut BTreeSet<Rev>,
     path: &[Rev],
+    parent: Option<Rev>,
     held: Held,
 ) -> Got<()>
     requires sorted { IsTrue (is_sorted revision_cmp nodes.old.entries) }
     requires parents { AreParents parents.old.keys nodes.old.entries }
-    ensures ok { OnOk result (nodes.new.entries ≡ nodes_with nodes.old.entries (path_entries (Some held) path.now)) }
+    ensures ok { OnOk result (nodes.new.entries ≡ nodes_with nodes.old.entries (entries_before (Some held) path.now parent)) }
     ensures sorted { IsTrue (is_sorted revision_cmp nodes.new.entries) }
     ensures parents { AreParents parents.new.keys nodes.new.entries }
     ensures err { OnErr result (nodes.new.entries ≡ nodes.old.entries) }
@@ -41,7 +41,7 @@ pub(crate) fn put_path(
     let mut held = Some(held);
     for (i, rev) in path.iter().enumerate() {
         let entry = Entry {
-            parent: head(&path[i + 1..]),
+            parent: next_of(&path[i + 1..], &parent),
             held: held.take(),
         };
         let Ok(insertion) = put_new(nodes, parents, *rev, entry) else {
@@ -53,11 +53,14 @@ pub(crate) fn put_path(
     Ok(())
 }
 
-/// Names the newest revision of a path, if it has one.
-fn head(path: &[Rev]) -> Option<Rev>
-    ensures { result ≡ head path.now }
+/// Names the newest revision of a path, or what it follows where it has none.
+fn next_of(path: &[Rev], parent: &Option<Rev>) -> Option<Rev>
+    ensures { result ≡ next_of_lem path.now parent.now }
 {
-    path.first().copied()
+    match path.first() {
+        Some(rev) => Some(*rev),
+        None => *parent,
+    }
 }
 
 /// Keeps an insertion, if there was one, so that it can be taken back.

@@ -163,9 +163,10 @@ impl Ord for Rev {
     ghost matches_eq = { Prim.search (comparing, rules) };
 
     fn cmp(&self, other: &Rev) -> Ordering {
-        self.number
-            .cmp(&other.number)
-            .then(self.hash_bytes().cmp(other.hash_bytes()))
+        match self.number.cmp(&other.number) {
+            Ordering::Equal => self.hash_bytes().cmp(other.hash_bytes()),
+            order => order,
+        }
     }
 }
 

@@ -1,7 +1,9 @@
-pub mod Acceptances
 pub mod Bodies
+pub mod Fitting
+pub mod Acceptances
+pub mod Names
 pub mod Paths
 pub mod BulkLemmas
-pub mod Loaded
+pub mod Judgings
+pub mod Plannings
 pub mod Settlings
-pub mod Fitting

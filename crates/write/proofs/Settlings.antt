@@ -16,7 +16,7 @@ use Rattle.tree.proofs.Contents.{entry_kept, or, write_shows}
 use Rattle.tree.proofs.Shown.{stands_found}
 use Rattle.store.specs.Database.{Database, DocumentWrite, history_at, is_of, with_all}
 use Rattle.write.specs.Admission.{taken, taken_in, taken_on, write_at}
-use Rattle.write.specs.Bulk.{Histories, Outcome, after, judged_by, outcome_in, outcomes, put_before, writes_in}
+use Rattle.write.specs.Bulk.{Histories, DocumentOutcome, after, judged_by, outcome_in, outcomes, put_before, writes_in}
 use Rattle.write.specs.Document.{id_in, path_in, sent_in}
 use Rattle.write.specs.Settling.{AreKnownOrRefused, IsKnownIn, IsKnownOrRefused, after_all, head_of}
 use Rattle.write.specs.declared.document.Sent.{Sent}
@@ -29,18 +29,18 @@ kept : (h : HistoryContent) (w : tree.Write) (r : Revision) (b : Bool) → IsTru
 kept h w r true k = subst (λ o. IsTrue (is_some o)) (sym (entry_kept h w r k)) k
 kept h w r false k = k
 
-kept_after : (histories : Histories) (o : Outcome) (id : List ℕ) (r : Revision)
+kept_after : (histories : Histories) (o : DocumentOutcome) (id : List ℕ) (r : Revision)
     → IsTrue (is_known (histories id) r) → IsTrue (is_known (after histories o id) r)
 kept_after histories (Ok (Some w)) id r k = kept (histories id) w.write r (is_of id w) k
 kept_after histories (Ok None) id r k = k
 kept_after histories (Err fault) id r k = k
 
-kept_after_all : (os : List Outcome) (histories : Histories) (id : List ℕ) (r : Revision)
+kept_after_all : (os : List DocumentOutcome) (histories : Histories) (id : List ℕ) (r : Revision)
     → IsTrue (is_known (histories id) r) → IsTrue (is_known (after_all histories os id) r)
 kept_after_all [] histories id r k = k
 kept_after_all (o ∷ os) histories id r k = kept_after_all os (after histories o) id r (kept_after histories o id r k)
 
-still : (histories : Histories) (os : List Outcome) (document : Value) (o : Outcome)
+still : (histories : Histories) (os : List DocumentOutcome) (document : Value) (o : DocumentOutcome)
     → IsKnownOrRefused histories document o → IsKnownOrRefused (after_all histories os) document o
 still histories os document (Ok w) k =
     record { id = k.id; rev = k.rev; named = k.named; brought = k.brought; known = kept_after_all os histories k.id k.rev k.known }
@@ -70,7 +70,7 @@ record IsRead (id : List ℕ) (document : Value) (sent : Sent) (path : List Revi
   says : sent_in id document ≡ Some sent
   leads : path_in document sent.rev ≡ Ok path
 
-settled : (histories : Histories) (id : List ℕ) (document : Value) (sent : Sent) (r : Revision) (rest : List Revision) (o : Outcome)
+settled : (histories : Histories) (id : List ℕ) (document : Value) (sent : Sent) (r : Revision) (rest : List Revision) (o : DocumentOutcome)
     → IsRead id document sent (r ∷ rest) → IsTrue (is_known (after histories o id) r) → IsKnownIn (after histories o) document
 settled histories id document sent r rest o read known =
     record {
@@ -119,18 +119,18 @@ pub all_settled : (documents : List Value) (histories : Histories)
     → AreKnownOrRefused (after_all histories (outcomes false histories documents)) documents (outcomes false histories documents)
 all_settled [] histories = tt
 all_settled (v ∷ vs) histories =
-    let o : Outcome = outcome_in false histories v in
+    let o : DocumentOutcome = outcome_in false histories v in
     let left : Histories = after histories o in
     (still left (outcomes false left vs) v o (id_settled histories v (id_in v) refl), all_settled vs left)
 
 -- ---- the database with the writes
 
-with_before : (db : Database) (o : Outcome) (ws : List DocumentWrite) → with_all (db_after db o) ws ≡ with_all db (put_before o ws)
+with_before : (db : Database) (o : DocumentOutcome) (ws : List DocumentWrite) → with_all (db_after db o) ws ≡ with_all db (put_before o ws)
 with_before db (Ok (Some w)) ws = refl
 with_before db (Ok None) ws = refl
 with_before db (Err fault) ws = refl
 
-pub after_all_is : (os : List Outcome) (db : Database) → after_all (history_at db) os ≡ history_at (with_all db (writes_in os))
+pub after_all_is : (os : List DocumentOutcome) (db : Database) → after_all (history_at db) os ≡ history_at (with_all db (writes_in os))
 after_all_is [] db = refl
 after_all_is (o ∷ os) db =
     ap (λ (histories : Histories). after_all histories os) (after_is db o)
@@ -141,5 +141,5 @@ pub all_settled_in : (db : Database) (documents : List Value)
     → AreKnownOrRefused (history_at (with_all db (writes_in (outcomes false (history_at db) documents)))) documents
     (outcomes false (history_at db) documents)
 all_settled_in db documents =
-    let os : List Outcome = outcomes false (history_at db) documents in
+    let os : List DocumentOutcome = outcomes false (history_at db) documents in
     subst (λ histories. AreKnownOrRefused histories documents os) (after_all_is os db) (all_settled documents (history_at db))

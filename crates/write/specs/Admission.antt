@@ -1,17 +1,16 @@
 -- What becomes of a write of a document: a bad document, a bad history, a conflict, no further generation, or the write that is appended.
 -- CouchDB manual, api/document/common (`PUT` and `DELETE /{db}/{docid}`: 409 where the revision is not the one to follow), api/database/bulk-api (`new_edits`) and replication/conflicts.
 use Rattle.std.specs.Prelude.{ℕ, ◌==◌, Bool, if◌then◌else◌, List, [], ◌∷◌, Option, Some, None, option_map, option_and_then, Result, Ok, Err}
-use Rattle.std.specs.FinMap.{get}
 use Rattle.std.specs.Ordering.{eq_by_cmp}
 use Rattle.couch_json.specs.Value.{Value}
 use Rattle.tree.specs.Revision.{Revision, greatest_number, revision_cmp}
 use Rattle.tree.specs.NextRevision.{next_revision, number_before}
 use Rattle.tree.specs.Write.{head}
-use Rattle.tree.specs.History.{HistoryContent, chain, held_of, is_deleted, is_leaf, placement, winner, with_write}
+use Rattle.tree.specs.History.{HistoryContent, held_of, is_deleted, is_head_known, is_leaf, placement, winner, with_write}
+use Rattle.tree.specs.History.{behind}
 use Rattle.tree.specs.declared.placement.Placed.{Placed}
 use Rattle.tree.specs.declared.placement.Placed.TheVariants.{Added, Known}
 use Rattle.tree.specs.declared.placement.TreeFault.{TreeFault}
-use Rattle.store.specs.Contents.{Contents}
 use Rattle.store.specs.Database.{Database, DocumentWrite, history_at}
 use Rattle.write.specs.Document.{path_in, sent_in}
 use Rattle.write.specs.declared.document.Sent.{Sent}
@@ -37,39 +36,34 @@ naming query sent = option_map (λ rev. record sent { rev = rev }) (named query 
 abbrev pub edit_of : List ℕ → Option Revision → Value → Option Sent
 edit_of id query document = option_and_then (λ sent. naming query sent) (sent_in id document)
 
--- The path that an edit without a revision goes on from: none behind it where nothing was ever written, that of the winner where
--- the winner is deleted. Where the winner is not deleted there is no such path.
-abbrev pub extended : HistoryContent → Option Revision → Option (List Revision)
-extended h None = Some []
-extended h (Some r) = if is_deleted (held_of h r) then chain h r else None
+-- What an edit that names no revision follows: nothing where nothing was ever written, the winner where it is deleted. Where the
+-- winner is not deleted there is nothing that it may follow.
+abbrev pub extended : HistoryContent → Option Revision → Option (Option Revision)
+extended h None = Some None
+extended h (Some r) = if is_deleted (held_of h r) then Some (Some r) else None
 
--- the path that an edit goes on from: that of the leaf that it names, deleted or not
-abbrev pub base : HistoryContent → Option Revision → Option (List Revision)
+-- what an edit follows: the leaf that it names, deleted or not
+abbrev pub base : HistoryContent → Option Revision → Option (Option Revision)
 base h None = extended h (winner h)
-base h (Some r) = if is_leaf h r then chain h r else None
+base h (Some r) = if is_leaf h r then Some (Some r) else None
 
--- the write of a body, with its mark of deletion, as the next revision of a path
-abbrev pub next_write : List ℕ → List Revision → Bool → Value → DocumentWrite
-next_write id path deleted body =
-    record { id = id; write = record { path = next_revision (head path) deleted body ∷ path; deleted = deleted; body = body } }
+-- the write of a body, with its mark of deletion, as the next revision after a known one, or as a first one
+abbrev pub next_write : List ℕ → HistoryContent → Bool → Value → Option Revision → DocumentWrite
+next_write id h deleted body parent =
+    record { id = id; write = record { path = next_revision parent deleted body ∷ behind h parent; deleted = deleted; body = body } }
 
--- an edit is appended where its revision is new to the tree and its path fits in; else it is a conflict
-abbrev pub appended : Result Placed TreeFault → DocumentWrite → Result DocumentWrite WriteFault
-appended (Ok Added) w = Ok w
-appended (Ok Known) w = Err Conflict
-appended (Err fault) w = Err Conflict
-
-abbrev pub fitted : HistoryContent → DocumentWrite → Result DocumentWrite WriteFault
-fitted h w = appended (placement h w.write.path) w
+-- an edit is appended where its revision is new to the tree; else it is a conflict
+abbrev pub appended : HistoryContent → DocumentWrite → Result DocumentWrite WriteFault
+appended h w = if is_head_known h w.write.path then Err Conflict else Ok w
 
 -- after the greatest number there is no further generation
-abbrev pub continued : List ℕ → HistoryContent → Bool → Value → List Revision → Result DocumentWrite WriteFault
-continued id h deleted body path =
-    if number_before (head path) == greatest_number then Err Generation else fitted h (next_write id path deleted body)
+abbrev pub continued : List ℕ → HistoryContent → Bool → Value → Option Revision → Result DocumentWrite WriteFault
+continued id h deleted body parent =
+    if number_before parent == greatest_number then Err Generation else appended h (next_write id h deleted body parent)
 
-abbrev pub admitted_after : List ℕ → HistoryContent → Sent → Option (List Revision) → Result DocumentWrite WriteFault
+abbrev pub admitted_after : List ℕ → HistoryContent → Sent → Option (Option Revision) → Result DocumentWrite WriteFault
 admitted_after id h sent None = Err Conflict
-admitted_after id h sent (Some path) = continued id h sent.deleted sent.body path
+admitted_after id h sent (Some parent) = continued id h sent.deleted sent.body parent
 
 abbrev pub admitted_edit : List ℕ → HistoryContent → Option Sent → Result DocumentWrite WriteFault
 admitted_edit id h None = Err BadDocument
@@ -82,15 +76,6 @@ admitted id h query document = admitted_edit id h (edit_of id query document)
 -- what becomes of the edit in this database
 abbrev pub admission : Database → List ℕ → Option Revision → Value → Result DocumentWrite WriteFault
 admission db id query document = admitted id (history_at db id) query document
-
--- the writes that it makes: one
-abbrev pub alone : Result DocumentWrite WriteFault → Result (List DocumentWrite) WriteFault
-alone (Ok w) = Ok (w ∷ [])
-alone (Err fault) = Err fault
-
--- what becomes of the edit in the database of this name, where there is one
-abbrev pub edit_in : Contents → List ℕ → List ℕ → Option Revision → Value → Option (Result (List DocumentWrite) WriteFault)
-edit_in contents name id query document = option_map (λ db. alone (admission db id query document)) (get contents name)
 
 -- the revision that a write makes
 abbrev pub new_revision : DocumentWrite → Option Revision
@@ -116,7 +101,11 @@ taken_in id h document (Some sent) = taken_on id h sent (path_in document sent.r
 abbrev pub replicated : List ℕ → HistoryContent → Value → Result (Option DocumentWrite) WriteFault
 replicated id h document = taken_in id h document (sent_in id document)
 
--- a history once a replicated write is in, where there is one
+-- what becomes of the replicated document in this database
+abbrev pub replication : Database → List ℕ → Value → Result (Option DocumentWrite) WriteFault
+replication db id document = replicated id (history_at db id) document
+
+-- a history once a write is in, where there is one
 abbrev pub with_taken : HistoryContent → Option DocumentWrite → HistoryContent
 with_taken h None = h
 with_taken h (Some w) = with_write h w.write

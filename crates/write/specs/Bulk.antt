@@ -8,18 +8,20 @@ use Rattle.store.specs.Database.{DocumentWrite, is_of}
 use Rattle.write.specs.Admission.{admitted, new_revision, replicated}
 use Rattle.write.specs.Document.{id_in, member_text}
 use Rattle.write.specs.declared.fault.WriteFault.{WriteFault}
-use Rattle.write.specs.declared.fault.WriteFault.TheVariants.{BadDocument}
+use Rattle.write.specs.declared.fault.WriteFault.TheVariants.{BadDocument, BadHistory}
+use Rattle.write.specs.declared.planned.Outcome.{Outcome}
+use Rattle.write.specs.declared.planned.Outcome.TheVariants.{Made, Known, Refused}
 
 -- a write that is appended, nothing where there is nothing to do, or a fault
-abbrev pub Outcome : Type 0
-Outcome = Result (Option DocumentWrite) WriteFault
+abbrev pub DocumentOutcome : Type 0
+DocumentOutcome = Result (Option DocumentWrite) WriteFault
 
-abbrev pub as_outcome : Result DocumentWrite WriteFault → Outcome
+abbrev pub as_outcome : Result DocumentWrite WriteFault → DocumentOutcome
 as_outcome (Ok w) = Ok (Some w)
 as_outcome (Err fault) = Err fault
 
 -- what becomes of a document with this history: as a new edit, or as a replicated write
-abbrev pub judged : Bool → List ℕ → HistoryContent → Value → Outcome
+abbrev pub judged : Bool → List ℕ → HistoryContent → Value → DocumentOutcome
 judged true id h document = as_outcome (admitted id h None document)
 judged false id h document = replicated id h document
 
@@ -31,55 +33,65 @@ Histories = List ℕ → HistoryContent
 abbrev pub with_write_in : Histories → DocumentWrite → Histories
 with_write_in histories w = λ id. if is_of id w then with_write (histories id) w.write else histories id
 
-abbrev pub judged_by : Bool → Histories → Value → Option (List ℕ) → Outcome
+abbrev pub judged_by : Bool → Histories → Value → Option (List ℕ) → DocumentOutcome
 judged_by new_edits histories document None = Err BadDocument
 judged_by new_edits histories document (Some id) = judged new_edits id (histories id) document
 
 -- what becomes of a document
-abbrev pub outcome_in : Bool → Histories → Value → Outcome
+abbrev pub outcome_in : Bool → Histories → Value → DocumentOutcome
 outcome_in new_edits histories document = judged_by new_edits histories document (id_in document)
 
 -- the histories after an outcome
-abbrev pub after : Histories → Outcome → Histories
+abbrev pub after : Histories → DocumentOutcome → Histories
 after histories (Ok (Some w)) = with_write_in histories w
 after histories (Ok None) = histories
 after histories (Err fault) = histories
 
 -- what becomes of each document, in order, by the histories that those before it left
-abbrev pub outcomes : Bool → Histories → List Value → List Outcome
+abbrev pub outcomes : Bool → Histories → List Value → List DocumentOutcome
 outcomes new_edits histories [] = []
 outcomes new_edits histories (v ∷ vs) =
     outcome_in new_edits histories v ∷ outcomes new_edits (after histories (outcome_in new_edits histories v)) vs
 
-abbrev pub put_before : Outcome → List DocumentWrite → List DocumentWrite
+abbrev pub put_before : DocumentOutcome → List DocumentWrite → List DocumentWrite
 put_before (Ok (Some w)) ws = w ∷ ws
 put_before (Ok None) ws = ws
 put_before (Err fault) ws = ws
 
 -- the writes that are appended, in order
-abbrev pub writes_in : List Outcome → List DocumentWrite
+abbrev pub writes_in : List DocumentOutcome → List DocumentWrite
 writes_in [] = []
 writes_in (o ∷ os) = put_before o (writes_in os)
 
+-- the writes that one document makes, where it is not refused
+abbrev pub writes_alone : DocumentOutcome → Result (List DocumentWrite) WriteFault
+writes_alone (Ok w) = Ok (put_before (Ok w) [])
+writes_alone (Err fault) = Err fault
+
 -- ---- what is told of them
 
--- what is told of a document: its `_id` and its `_rev`, where these are texts, and the new revision, none where nothing was done,
--- or the fault
+-- what is told of a document: its `_id` and its `_rev`, where these are texts, and what became of it
 pub record Told : Type 0 where
   pub id : Option (List ℕ)
   pub rev : Option (List ℕ)
-  pub outcome : Result (Option Revision) WriteFault
+  pub outcome : Outcome
 
-abbrev pub revision_made : Outcome → Result (Option Revision) WriteFault
-revision_made (Ok None) = Ok None
-revision_made (Ok (Some w)) = Ok (new_revision w)
-revision_made (Err fault) = Err fault
+-- what is told of a write by the revision that it makes: each write that is appended makes one
+abbrev pub made : Option Revision → Outcome
+made None = Refused BadHistory
+made (Some r) = Made r
 
-abbrev pub told : Value → Outcome → Told
+-- a revision was made, was known already, or the document was refused
+abbrev pub outcome_told : DocumentOutcome → Outcome
+outcome_told (Ok None) = Known
+outcome_told (Ok (Some w)) = made (new_revision w)
+outcome_told (Err fault) = Refused fault
+
+abbrev pub told : Value → DocumentOutcome → Told
 told document outcome =
-    record { id = member_text (codes "_id") document; rev = member_text (codes "_rev") document; outcome = revision_made outcome }
+    record { id = member_text (codes "_id") document; rev = member_text (codes "_rev") document; outcome = outcome_told outcome }
 
-abbrev pub all_told : List Value → List Outcome → List Told
+abbrev pub all_told : List Value → List DocumentOutcome → List Told
 all_told [] os = []
 all_told (v ∷ vs) [] = []
 all_told (v ∷ vs) (o ∷ os) = told v o ∷ all_told vs os

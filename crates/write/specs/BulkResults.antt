@@ -1,46 +1,69 @@
--- What the code keeps while it judges several documents, in the words of `Bulk`.
+-- What the code keeps while it judges several documents, and what its results tell, in the words of `Bulk`.
 -- This crate's own: it ties structs of the code to the definition.
-use Rattle.std.specs.Prelude.{ℕ, List, [], ◌∷◌, if◌then◌else◌, Option, Some, None, option_map, string_bytes, bytes_eq, IfSome, ◌≡◌}
-use Rattle.std.specs.FinMap.{empty}
+use Rattle.std.specs.Prelude.{ℕ, List, [], ◌∷◌, if◌then◌else◌, Option, Some, None, option_map, string_bytes, bytes_eq, is_some, true, IsTrue, ◌≡◌, ◌≢◌, ⊤}
 use Rattle.std.specs.BTreeMap.{BTreeMap, get}
 use Rattle.std.specs.Ordering.{nat_cmp}
 use Rattle.std.specs.Cmp.Lexicographic.{slice_cmp}
-use Rattle.couch_json.specs.Value.{Value}
 use Rattle.tree.specs.History.{HistoryContent}
-use Rattle.write.specs.Bulk.{Histories, Told}
-use Rattle.write.specs.Document.{id_in}
-use Rattle.write.specs.declared.bulk_writes.BulkResult.{BulkResult}
+use Rattle.store.specs.Database.{DocumentWrite}
+use Rattle.store.specs.Writing.{addition_of, written_in}
+use Rattle.write.specs.Bulk.{DocumentOutcome, Histories, Told, outcome_told}
+use Rattle.write.specs.Refusing.{IsOwn}
+use Rattle.write.specs.declared.planned.DocumentResult.{DocumentResult}
+use Rattle.write.specs.declared.planned.Outcome.{Outcome}
+use Rattle.write.specs.declared.planned.Outcome.TheVariants.{Made, Known, Refused}
+use Rattle.write.specs.declared.planning.Words.{Words}
+use Rattle.store.specs.declared.write.Write.{Write}
 
 -- what a result tells
-abbrev pub told_of : BulkResult → Told
+abbrev pub told_of : DocumentResult → Told
 told_of r = record { id = option_map string_bytes r.id; rev = option_map string_bytes r.rev; outcome = r.outcome }
 
-abbrev pub or_empty : Option HistoryContent → HistoryContent
-or_empty None = empty
-or_empty (Some h) = h
+-- a document that was refused was refused for a cause of its own
+abbrev pub IsOwnOutcome : Outcome → Type 0
+IsOwnOutcome (Made r) = ⊤
+IsOwnOutcome Known = ⊤
+IsOwnOutcome (Refused fault) = IsOwn fault
 
--- the histories that a map holds; a document that it doesn't hold was never written
-abbrev pub held_in : BTreeMap (List ℕ) HistoryContent → Histories
-held_in m = λ id. or_empty (get (slice_cmp nat_cmp) m id)
+abbrev pub IsMadeOutcome : Outcome → Type 0
+IsMadeOutcome (Made r) = ⊤
+IsMadeOutcome Known = ⊥
+IsMadeOutcome (Refused fault) = ⊥
 
--- each history that the map holds is the stored one
-abbrev pub AreStored : Histories → BTreeMap (List ℕ) HistoryContent → Type 0
-AreStored stored m = (id : List ℕ) → IfSome (get (slice_cmp nat_cmp) m id) (λ h. h ≡ stored id)
+abbrev pub IsUnrefused : Outcome → Type 0
+IsUnrefused (Made r) = ⊤
+IsUnrefused Known = ⊤
+IsUnrefused (Refused fault) = ⊥
+
+-- the first of the results is of this kind
+abbrev pub OfFirst : (Outcome → Type 0) → List DocumentResult → Type 0
+OfFirst kind [] = ⊥
+OfFirst kind (r ∷ rs) = kind r.outcome
+
+-- ---- histories
+
+abbrev pub held_or : HistoryContent → Option HistoryContent → HistoryContent
+held_or stored None = stored
+held_or stored (Some h) = h
+
+-- the histories that a map holds, and the stored ones of all other documents
+abbrev pub seen_in : Histories → BTreeMap (List ℕ) HistoryContent → Histories
+seen_in stored m = λ id. held_or (stored id) (get (slice_cmp nat_cmp) m id)
+
+-- the map holds the history of this document, where there is one
+abbrev pub IsHeld : BTreeMap (List ℕ) HistoryContent → Option (List ℕ) → Type 0
+IsHeld m None = ⊤
+IsHeld m (Some id) = is_some (get (slice_cmp nat_cmp) m id) ≡ true
 
 -- the histories with this one for the id
 abbrev pub with_history : Histories → List ℕ → HistoryContent → Histories
 with_history histories id h = λ k. if bytes_eq id k then h else histories k
 
--- the same of some, where the id has one
-abbrev pub loaded_at : Histories → Histories → Option (List ℕ) → Histories
-loaded_at stored histories None = histories
-loaded_at stored histories (Some id) = with_history histories id (stored id)
+-- the write that a write of the code is, by the histories before it
+abbrev pub brought : Histories → Write → DocumentWrite
+brought histories w = written_in (histories w.id) (addition_of w)
 
--- the histories with the stored ones of these documents
-abbrev pub loaded : Histories → Histories → List Value → Histories
-loaded stored histories [] = histories
-loaded stored histories (v ∷ vs) = loaded stored (loaded_at stored histories (id_in v)) vs
-
--- nothing was ever written
-abbrev pub none_written : Histories
-none_written = λ id. empty
+-- what is told of a document that says these words of itself
+abbrev pub told_as : Words → DocumentOutcome → Told
+told_as words outcome =
+    record { id = option_map string_bytes words.id; rev = option_map string_bytes words.rev; outcome = outcome_told outcome }

@@ -4,7 +4,7 @@ use Rattle.store.specs.Causes.{HasFailed}
 use Rattle.store.specs.declared.fault.StoreFault.{StoreFault}
 use Rattle.store.specs.declared.fault.StoreFault.TheVariants as store
 use Rattle.store.specs.declared.store.Store.{Ghosts}
-use Rattle.std.specs.Prelude.{⊤}
+use Rattle.std.specs.Prelude.{Result, Ok, Err, ⊤}
 use Rattle.write.specs.declared.fault.WriteFault.{WriteFault}
 use Rattle.write.specs.declared.fault.WriteFault.TheVariants.{BadDocument, Denied, BadHistory, Conflict, Generation, Store, Memory}
 
@@ -33,3 +33,18 @@ Refuses g old new absent full BadHistory = ⊤
 Refuses g old new absent full Conflict = ⊤
 Refuses g old new absent full Generation = ⊤
 Refuses g old new absent full Memory = ⊤
+
+-- the fault is one of the document, and not of the store or of memory
+abbrev pub IsOwn : WriteFault → Type 0
+IsOwn BadDocument = ⊤
+IsOwn (Denied rule) = ⊤
+IsOwn BadHistory = ⊤
+IsOwn Conflict = ⊤
+IsOwn Generation = ⊤
+IsOwn (Store fault) = ⊥
+IsOwn Memory = ⊥
+
+-- the answer is about the document: it is planned, or refused for a cause of its own
+abbrev pub IsDecided : {A : Type 0} → Result A WriteFault → Type 0
+IsDecided (Ok planned) = ⊤
+IsDecided (Err fault) = IsOwn fault

@@ -5,12 +5,12 @@ use Rattle.couch_json.specs.Value.{Value}
 use Rattle.tree.specs.Revision.{Revision}
 use Rattle.tree.specs.Write.{head}
 use Rattle.tree.specs.History.{is_known}
-use Rattle.write.specs.Bulk.{Histories, Outcome, after}
+use Rattle.write.specs.Bulk.{Histories, DocumentOutcome, after}
 use Rattle.write.specs.Document.{id_in, path_in, sent_in}
 use Rattle.write.specs.declared.fault.WriteFault.{WriteFault}
 
 -- the histories after several outcomes, one after another
-abbrev pub after_all : Histories → List Outcome → Histories
+abbrev pub after_all : Histories → List DocumentOutcome → Histories
 after_all histories [] = histories
 after_all histories (o ∷ os) = after_all (after histories o) os
 
@@ -31,12 +31,12 @@ pub record IsKnownIn (histories : Histories) (document : Value) : Type 0 where
   pub known : IsTrue (is_known (histories id) rev)
 
 -- a document that was not refused is known
-abbrev pub IsKnownOrRefused : Histories → Value → Outcome → Type 0
+abbrev pub IsKnownOrRefused : Histories → Value → DocumentOutcome → Type 0
 IsKnownOrRefused histories document (Ok w) = IsKnownIn histories document
 IsKnownOrRefused histories document (Err fault) = ⊤
 
 -- each document has its outcome, in order, and is known or refused
-abbrev pub AreKnownOrRefused : Histories → List Value → List Outcome → Type 0
+abbrev pub AreKnownOrRefused : Histories → List Value → List DocumentOutcome → Type 0
 AreKnownOrRefused histories [] [] = ⊤
 AreKnownOrRefused histories [] (o ∷ os) = ⊥
 AreKnownOrRefused histories (v ∷ vs) [] = ⊥

@@ -21,10 +21,14 @@ pub fn apply<S: Store>(store: &mut S, planned: Planned) -> Result<(), WriteFault
         (map.get (S.contents store.old) planned.database) ≡ Some (S.contents store.new)) }
     ensures only { IfErr result (λ fault. fault ≢ WriteFault.Memory → ((cause : _) → fault ≢ WriteFault.Store cause) → ⊥) }
     ensures passed { IfErr result (Refuses S.Store store.old store.new (map.get (S.contents store.old) planned.database ≡ None)
-        (S.is_honest store.new → LacksRoomFor (S.lacks_room store.old) planned.database planned.changes)) }
+        (S.is_honest store.new → IfThere (map.get (S.contents store.old) planned.database) (λ d. LacksRoomFor (S.lacks_room store.old) planned.database planned.changes d))) }
     ensures changes { ChangesWhole S.Store store.old store.new result }
 {
-    let Planned { database, changes } = planned;
+    let Planned {
+        database,
+        changes,
+        ..
+    } = planned;
     match changes {
         Changes::Writes(writes) => store.commit(&database, &writes)?,
         Changes::Security(security) => store.set_security(&database, &security)?,

@@ -1,216 +1,216 @@
 //! Several documents that are written together.
 
 ghost use Rattle.std.specs.FinMap as map;
-ghost use Rattle.std.specs.Prelude.{◌≡◌, ◌≢◌, ◌≤◌, ◌++◌, [], IfOk, IfErr, OnErr, OnOk, Ok, Err, Some, None, map as list_map, option_map};
+ghost use Rattle.std.specs.Prelude.{◌≡◌, ◌≢◌, ◌++◌, ◌<◌, [], All, IfOk, IfErr, IfSome, OnErr, OnOk, Ok, Err, Some, None, is_some, true, length, map as list_map, option_map};
+ghost use Rattle.std.specs.Option.{option_to_list};
 ghost use Rattle.couch_json.specs.View.{view};
 ghost use Rattle.store.specs.Calls.{OnlyReads};
 ghost use Rattle.store.specs.Contents.{IfThere};
-ghost use Rattle.store.specs.Database.{history_at, with_all};
-ghost use Rattle.store.specs.Writing.{writing_of, writings};
-ghost use Rattle.write.specs.Bulk.{after, all_told, judged as judged_lem, outcome_in, outcomes, put_before, told, writes_in};
-ghost use Rattle.write.specs.BulkResults.{AreStored, held_in, loaded, loaded_at, none_written, told_of};
-ghost use Rattle.write.specs.Refusing.{Refuses};
-ghost use Rattle.write.specs.Document.{id_in as id_in_lem};
-ghost use Rattle.write.specs.Planning.{MayBeMade, changed, planned_writes};
+ghost use Rattle.store.specs.Database.{Database, history_at, with_all};
+ghost use Rattle.store.specs.Writing.{addition_of, additions, writings_in, written_in};
 ghost use Rattle.write.specs.Admission.{with_taken};
+ghost use Rattle.write.specs.Bulk.{Histories, after, all_told, judged as judged_lem, outcome_in, outcomes, put_before, told as told_lem, writes_in};
+ghost use Rattle.write.specs.BulkResults.{IsHeld, IsOwnOutcome, brought, seen_in, told_of};
+ghost use Rattle.write.specs.Document.{id_in as id_in_lem};
+ghost use Rattle.write.specs.Planning.{Plans};
+ghost use Rattle.write.specs.Refusing.{IsDecided, Refuses};
 
-use crate::admission::admitted;
-use crate::document::{id_in, member_text};
+use crate::admission::admit_edit;
+use crate::document::id_in;
 use crate::fault::WriteFault;
-use crate::histories::{put_history, take_history};
-use crate::planned::{Changes, Planned};
-use crate::replicating::replicated;
+use crate::histories::{load, put_history, take_history, take_in};
+use crate::planned::{Changes, DocumentResult, Outcome, Planned};
+use crate::planning::{outcome_of, result_of, words_of};
+use crate::replicating::admit_replicated;
 use couch_json::{Got, Json, NoMemory};
 use std::alloc::Global;
 use std::collections::BTreeMap;
 use store::{DbName, Store, Write};
-use tree::{DocId, History, Rev};
+use tree::{DocId, History};
 
-/// What became of one of several documents that were written together.
-#[derive(Drop)]
-pub struct BulkResult {
-    /// Its `_id`, where that is a text.
-    pub id: Option<String>,
-    /// Its `_rev`, where that is a text.
-    pub rev: Option<String>,
-    /// Its new revision, `None` where its revision was known already, or why it was refused.
-    pub outcome: Result<Option<Rev>, WriteFault>,
-}
-
-/// The plan of several documents, and what the reply says of them.
-#[derive(Drop)]
-pub struct BulkPlan {
-    /// The plan.
-    pub planned: Planned,
-    /// What became of each document, in order.
-    pub results: Vec<BulkResult>,
-}
-
-/// What becomes of documents that are written together. It reads the store and changes nothing.
+/// Plans what becomes of documents that are written together. It reads the store and changes nothing.
 ///
 /// Each document is judged on its own, by its `_id`, in order, by the histories that those before it
 /// left: as an edit, or with `new_edits` false as a replicated write, whose path is `_revisions` or
 /// its one revision, and which changes nothing where its revision is known. Their writes make one
-/// plan. `Store(NoDatabase)` comes only where there is no database of this name. See the CouchDB
-/// manual, api/database/bulk-api.
+/// plan. `Store(NoDatabase)` comes exactly where there is no database of this name. It takes some
+/// look-ups for each document, however long its history is. See the CouchDB manual,
+/// api/database/bulk-api.
 pub fn bulk<S: Store>(
     alloc: Global,
     store: &mut S,
     db: &DbName,
     documents: Vec<Json>,
     new_edits: bool,
-) -> Result<BulkPlan, WriteFault>
-    ensures results { S.is_honest store.new → IfOk result (λ bulk. IfThere (map.get (S.contents store.old) db.now) (λ d.
-        all_told (list_map view documents.items) (outcomes new_edits (history_at d) (list_map view documents.items)) ≡ list_map told_of bulk.results.items)) }
-    ensures writes { S.is_honest store.new → IfOk result (λ bulk. IfThere (map.get (S.contents store.old) db.now) (λ d.
-        writes_in (outcomes new_edits (history_at d) (list_map view documents.items)) ≡ planned_writes bulk.planned.changes)) }
-    ensures acceptable { S.is_honest store.new → IfOk result (λ bulk.
-        IfThere (map.get (S.contents store.old) db.now) (λ d. MayBeMade bulk.planned.changes d)) }
-    ensures changed { IfOk result (λ bulk. (d : _) → changed bulk.planned.changes d ≡ with_all d (planned_writes bulk.planned.changes)) }
-    ensures database { IfOk result (λ bulk. bulk.planned.database ≡ db.now) }
+) -> Result<Planned, WriteFault>
+    ensures there { S.is_honest store.new → IsDecided result → is_some (map.get (S.contents store.old) db.now) ≡ true }
+    ensures plan { S.is_honest store.new → IfOk result (λ planned. IfThere (map.get (S.contents store.old) db.now) (λ d.
+        Plans d (list_map view documents.items) (outcomes new_edits (history_at d) (list_map view documents.items)) planned)) }
+    ensures own { IfOk result (λ planned. All (λ r. IsOwnOutcome r.outcome) planned.results.items) }
+    ensures database { IfOk result (λ planned. planned.database ≡ db.now) }
     ensures only { IfErr result (λ fault. fault ≢ WriteFault.Memory → ((cause : _) → fault ≢ WriteFault.Store cause) → ⊥) }
     ensures passed { IfErr result (Refuses S.Store store.old store.new (map.get (S.contents store.old) db.now ≡ None) ⊥) }
     ensures reads { OnlyReads S.Store store.old store.new }
 {
-    let histories = histories_of(alloc, store, db, &documents)?;
-    let (writes, results) = judged_all(alloc, histories, documents, new_edits)?;
-    let planned = Planned {
+    let _present = store.security(db)?;
+    let (writes, results) = judge_all(alloc, store, db, documents, new_edits)?;
+    Ok(Planned {
         database: db.copy(alloc)?,
         changes: Changes::Writes(writes),
-    };
-    Ok(BulkPlan { planned, results })
+        results,
+    })
 }
 
-/// The stored histories of the documents.
-fn histories_of<S: Store>(
+/// Judges the documents one after another: the writes that are appended, and what is told of each.
+fn judge_all<S: Store>(
     alloc: Global,
     store: &mut S,
     db: &DbName,
-    documents: &[Json],
-) -> Result<BTreeMap<DocId, History>, WriteFault>
-    ensures ok { S.is_honest store.new → IfOk result (λ histories. IfThere (map.get (S.contents store.old) db.now) (λ d.
-        held_in histories ≡ loaded (history_at d) none_written (list_map view documents.now))) }
+    documents: Vec<Json>,
+    new_edits: bool,
+) -> Result<(Vec<Write>, Vec<DocumentResult>), WriteFault>
+    ensures writes { S.is_honest store.new → IfOk result (λ all. (d : Database) → map.get (S.contents store.old) db.now ≡ Some d
+        → writings_in d (additions all.0.items) ≡ writes_in (outcomes new_edits (history_at d) (list_map view documents.items))) }
+    ensures results { S.is_honest store.new → IfOk result (λ all. (d : Database) → map.get (S.contents store.old) db.now ≡ Some d
+        → list_map told_of all.1.items ≡ all_told (list_map view documents.items) (outcomes new_edits (history_at d) (list_map view documents.items))) }
+    ensures own { IfOk result (λ all. All (λ r. IsOwnOutcome r.outcome) all.1.items) }
     ensures only { IfErr result (λ fault. fault ≢ WriteFault.Memory → ((cause : _) → fault ≢ WriteFault.Store cause) → ⊥) }
     ensures passed { IfErr result (Refuses S.Store store.old store.new (map.get (S.contents store.old) db.now ≡ None) ⊥) }
     ensures reads { OnlyReads S.Store store.old store.new }
 {
     let mut histories = BTreeMap::new(alloc);
-    for document in documents {
-        load(alloc, store, db, document, &mut histories)?;
-    }
-    Ok(histories)
-}
-
-/// Puts the stored history of a document in, which is read once for each id.
-fn load<S: Store>(
-    alloc: Global,
-    store: &mut S,
-    db: &DbName,
-    document: &Json,
-    histories: &mut BTreeMap<DocId, History>,
-) -> Result<(), WriteFault>
-    ensures ok { S.is_honest store.new → OnOk result (IfThere (map.get (S.contents store.old) db.now) (λ d.
-        AreStored (history_at d) histories.old
-        → (held_in histories.new ≡ loaded_at (history_at d) (held_in histories.old) (id_in_lem (view document.now))) × AreStored (history_at d) histories.new)) }
-    ensures only { IfErr result (λ fault. fault ≢ WriteFault.Memory → ((cause : _) → fault ≢ WriteFault.Store cause) → ⊥) }
-    ensures passed { IfErr result (Refuses S.Store store.old store.new (map.get (S.contents store.old) db.now ≡ None) ⊥) }
-    ensures reads { OnlyReads S.Store store.old store.new }
-{
-    let Some(id) = id_in(alloc, document)? else {
-        return Ok(());
-    };
-    if histories.contains_key(&id) {
-        return Ok(());
-    }
-    let history = store.history(db, &id)?;
-    put_history(histories, id, history)?;
-    Ok(())
-}
-
-/// What becomes of each of the documents, in order, and the writes that are appended.
-pub(crate) fn judged_all(
-    alloc: Global,
-    histories: BTreeMap<DocId, History>,
-    documents: Vec<Json>,
-    new_edits: bool,
-) -> Got<(Vec<Write>, Vec<BulkResult>)>
-    ensures results { IfOk result (λ all. all_told (list_map view documents.items) (outcomes new_edits (held_in histories) (list_map view documents.items))
-        ≡ list_map told_of all.1.items) }
-    ensures writes { IfOk result (λ all. writes_in (outcomes new_edits (held_in histories) (list_map view documents.items)) ≡ writings all.0.items) }
-{
-    let mut histories = histories;
     let mut writes = Vec::new(alloc);
     let mut results = Vec::with_capacity(alloc, documents.len())?;
     for document in documents {
-        results.push(told(alloc, &mut histories, &mut writes, new_edits, document)?)?;
+        load(alloc, store, db, &document, &mut histories)?;
+        results.push(judge_one(alloc, &mut histories, &mut writes, new_edits, document)?)?;
     }
     Ok((writes, results))
 }
 
-/// What becomes of a document, and its write, if it is appended.
-fn told(
+/// Judges a document by the histories, which take in its write, and puts that at the end of the
+/// writes, if it is appended.
+fn judge_one(
     alloc: Global,
     histories: &mut BTreeMap<DocId, History>,
     writes: &mut Vec<Write>,
     new_edits: bool,
     document: Json,
-) -> Got<BulkResult>
-    ensures told { IfOk result (λ r. told (view document) (outcome_in new_edits (held_in histories.old) (view document)) ≡ told_of r) }
-    ensures histories { OnOk result (held_in histories.new ≡ after (held_in histories.old) (outcome_in new_edits (held_in histories.old) (view document))) }
-    ensures writes { OnOk result (writings writes.new.items
-        ≡ writings writes.old.items ++ put_before (outcome_in new_edits (held_in histories.old) (view document)) []) }
+) -> Got<DocumentResult>
+    requires { IsHeld histories.old (id_in_lem (view document)) }
+    ensures told { IfOk result (λ r. (stored : Histories) → told_lem (view document) (outcome_in new_edits (seen_in stored histories.old) (view document)) ≡ told_of r) }
+    ensures own { IfOk result (λ r. IsOwnOutcome r.outcome) }
+    ensures histories { OnOk result ((stored : Histories) → seen_in stored histories.new
+        ≡ after (seen_in stored histories.old) (outcome_in new_edits (seen_in stored histories.old) (view document))) }
+    ensures writes { OnOk result ((stored : Histories) (d : Database) → seen_in stored histories.old ≡ history_at (with_all d (writings_in d (additions writes.old.items)))
+        → writings_in d (additions writes.new.items)
+        ≡ writings_in d (additions writes.old.items) ++ put_before (outcome_in new_edits (seen_in stored histories.old) (view document)) []) }
 {
-    let id = member_text(alloc, &document, "_id")?;
-    let rev = member_text(alloc, &document, "_rev")?;
-    let outcome = match settled(alloc, histories, new_edits, document) {
-        Ok(Some(write)) => {
-            let rev = write.path.first().copied();
-            writes.push(write)?;
-            Ok(rev)
+    let words = words_of(alloc, &document)?;
+    match settle(alloc, histories, new_edits, document) {
+        Ok(write) => {
+            let outcome = outcome_of(&write);
+            append(writes, write)?;
+            Ok(result_of(words, outcome))
         }
-        Ok(None) => Ok(None),
-        Err(WriteFault::Memory) => return Err(NoMemory),
-        Err(fault) => Err(fault),
-    };
-    Ok(BulkResult { id, rev, outcome })
+        Err(fault) => {
+            let outcome = refused(fault)?;
+            Ok(result_of(words, outcome))
+        }
+    }
 }
 
-/// The write that a document comes to, by the histories, which take it in.
-fn settled(
+/// Tells that a document was refused, where that is not for want of memory.
+fn refused(fault: WriteFault) -> Got<Outcome>
+    requires { (cause : _) → fault ≢ WriteFault.Store cause }
+    ensures told { IfOk result (λ outcome. outcome ≡ Outcome.Refused fault) }
+    ensures own { IfOk result (λ outcome. IsOwnOutcome outcome) }
+    ensures other { OnOk result (fault ≢ WriteFault.Memory) }
+{
+    match fault {
+        WriteFault::Memory => Err(NoMemory),
+        WriteFault::Store(_cause) => unreachable!(),
+        WriteFault::BadDocument => Ok(Outcome::Refused(WriteFault::BadDocument)),
+        WriteFault::Denied(rule) => Ok(Outcome::Refused(WriteFault::Denied(rule))),
+        WriteFault::BadHistory => Ok(Outcome::Refused(WriteFault::BadHistory)),
+        WriteFault::Conflict => Ok(Outcome::Refused(WriteFault::Conflict)),
+        WriteFault::Generation => Ok(Outcome::Refused(WriteFault::Generation)),
+    }
+}
+
+/// Puts a write at the end, where there is one.
+fn append(writes: &mut Vec<Write>, write: Option<Write>) -> Got<()>
+    ensures { OnOk result (writes.new.items ≡ writes.old.items ++ option_to_list write) }
+{
+    if let Some(write) = write {
+        writes.push(write)?;
+    }
+    Ok(())
+}
+
+/// Judges a document by its history, which takes in its write.
+fn settle(
     alloc: Global,
     histories: &mut BTreeMap<DocId, History>,
     new_edits: bool,
     document: Json,
 ) -> Result<Option<Write>, WriteFault>
-    ensures ok { IfOk result (λ write. outcome_in new_edits (held_in histories.old) (view document) ≡ Ok (option_map writing_of write)) }
-    ensures fault { IfErr result (λ fault. fault ≢ WriteFault.Memory → outcome_in new_edits (held_in histories.old) (view document) ≡ Err fault) }
-    ensures histories { IfOk result (λ write. held_in histories.new ≡ after (held_in histories.old) (Ok (option_map writing_of write))) }
-    ensures same { IfErr result (λ fault. fault ≢ WriteFault.Memory → held_in histories.new ≡ held_in histories.old) }
+    requires { IsHeld histories.old (id_in_lem (view document)) }
+    ensures ok { IfOk result (λ write. (stored : Histories) → outcome_in new_edits (seen_in stored histories.old) (view document)
+        ≡ Ok (option_map (brought (seen_in stored histories.old)) write)) }
+    ensures headed { IfOk result (λ write. IfSome write (λ w. 0 < length w.path.items)) }
+    ensures histories { IfOk result (λ write. (stored : Histories) → seen_in stored histories.new
+        ≡ after (seen_in stored histories.old) (Ok (option_map (brought (seen_in stored histories.old)) write))) }
+    ensures fault { IfErr result (λ fault. fault ≢ WriteFault.Memory → (stored : Histories) → outcome_in new_edits (seen_in stored histories.old) (view document) ≡ Err fault) }
+    ensures same { IfErr result (λ fault. fault ≢ WriteFault.Memory → (stored : Histories) → seen_in stored histories.new ≡ seen_in stored histories.old) }
+    ensures others { IfErr result (λ fault. (cause : _) → fault ≢ WriteFault.Store cause) }
 {
     let Some(id) = id_in(alloc, &document)? else {
         return Err(WriteFault::BadDocument);
     };
-    let mut history = take_history(alloc, histories, &id);
-    let outcome = judged(alloc, &mut history, &id, new_edits, document);
+    let mut history = take_history(histories, &id);
+    let outcome = judge_in(alloc, &mut history, &id, new_edits, document);
     put_history(histories, id, history)?;
     outcome
 }
 
-/// What becomes of a document with this history, as a new edit or as a replicated write.
-fn judged(
+/// Judges a document by this history, which takes in its write.
+fn judge_in(
     alloc: Global,
     history: &mut History,
     id: &DocId,
     new_edits: bool,
     document: Json,
 ) -> Result<Option<Write>, WriteFault>
-    ensures ok { IfOk result (λ write. judged_lem new_edits id.now history.old (view document) ≡ Ok (option_map writing_of write)) }
-    ensures taken_in { IfOk result (λ write. history.new ≡ with_taken history.old (option_map writing_of write)) }
+    ensures ok { IfOk result (λ write. judged_lem new_edits id.now history.old (view document) ≡ Ok (option_map (λ w. written_in history.old (addition_of w)) write)) }
+    ensures headed { IfOk result (λ write. IfSome write (λ w. 0 < length w.path.items)) }
+    ensures taken_in { IfOk result (λ write. history.new ≡ with_taken history.old (option_map (λ w. written_in history.old (addition_of w)) write)) }
     ensures fault { IfErr result (λ fault. fault ≢ WriteFault.Memory → judged_lem new_edits id.now history.old (view document) ≡ Err fault) }
     ensures err { OnErr result (history.new ≡ history.old) }
+    ensures others { IfErr result (λ fault. (cause : _) → fault ≢ WriteFault.Store cause) }
+{
+    let write = judge(alloc, history, id, new_edits, document)?;
+    if let Some(write) = &write {
+        take_in(history, write)?;
+    }
+    Ok(write)
+}
+
+/// Judges a document by this history, as a new edit or as a replicated write.
+fn judge(
+    alloc: Global,
+    history: &History,
+    id: &DocId,
+    new_edits: bool,
+    document: Json,
+) -> Result<Option<Write>, WriteFault>
+    ensures ok { IfOk result (λ write. judged_lem new_edits id.now history.now (view document) ≡ Ok (option_map (λ w. written_in history.now (addition_of w)) write)) }
+    ensures headed { IfOk result (λ write. IfSome write (λ w. 0 < length w.path.items)) }
+    ensures fault { IfErr result (λ fault. fault ≢ WriteFault.Memory → judged_lem new_edits id.now history.now (view document) ≡ Err fault) }
+    ensures others { IfErr result (λ fault. (cause : _) → fault ≢ WriteFault.Store cause) }
 {
     if new_edits {
-        return Ok(Some(admitted(alloc, history, id, None, document)?));
+        return Ok(Some(admit_edit(alloc, history, id, None, document)?));
     }
-    replicated(alloc, history, id, document)
+    admit_replicated(alloc, history, id, document)
 }

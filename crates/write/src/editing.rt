@@ -1,25 +1,26 @@
-ghost use Rattle.std.specs.Prelude.{◌≡◌, ◌≢◌, ◌≤◌, ◌<◌, ◌∷◌, [], false, IfOk, IfErr, Some, None, Ok, Err, length, map as list_map};
+ghost use Rattle.std.specs.Prelude.{◌≡◌, ◌≢◌, ◌∷◌, [], false, true, IfOk, IfErr, OnOk, None, Ok, Err, is_some};
 ghost use Rattle.std.specs.FinMap as map;
 ghost use Rattle.couch_json.specs.View.{view};
 ghost use Rattle.tree.specs.DocumentId.{is_design_id, is_local_id};
 ghost use Rattle.store.specs.Calls.{OnlyReads};
-ghost use Rattle.store.specs.Contents.{AreAcceptable, IfThere};
-ghost use Rattle.store.specs.Database.{with_all};
-ghost use Rattle.store.specs.Writing.{writing_of};
-ghost use Rattle.write.specs.Admission.{edit_in, new_revision};
-ghost use Rattle.write.specs.Refusing.{Refuses};
-ghost use Rattle.write.specs.Planning.{MayBeMade, changed, planned_writes};
+ghost use Rattle.store.specs.Contents.{IfThere};
+ghost use Rattle.write.specs.Admission.{admission};
+ghost use Rattle.write.specs.Bulk.{as_outcome, writes_alone};
+ghost use Rattle.write.specs.BulkResults.{IsMadeOutcome, OfFirst};
+ghost use Rattle.write.specs.Planning.{Plans, planned_writes};
+ghost use Rattle.write.specs.Refusing.{IsDecided, IsOwn, Refuses};
 
-use crate::admission::admitted;
+use crate::admission::admit_edit;
 use crate::fault::WriteFault;
-use crate::planned::{Changes, Edited, Planned};
-use couch_json::{Got, Json};
+use crate::planned::Planned;
+use crate::planning::{plan_alone, words_of};
+use couch_json::Json;
 use std::alloc::Global;
-use store::{DbName, Store, Write};
+use store::{DbName, Store};
 use tree::{DocId, Rev};
 
-/// What becomes of an edit of a document that is no design document and no local one. It reads the
-/// store and changes nothing.
+/// Plans what becomes of an edit of a document that is no design document and no local one. It reads
+/// the store and changes nothing.
 ///
 /// The edit names a revision by `query`, by the document's `_rev`, or by both alike, and then goes on
 /// from this revision, a leaf, deleted or not. Without one an unknown document is created, and where
@@ -37,46 +38,24 @@ pub fn edit<S: Store>(
     id: &DocId,
     query: Option<Rev>,
     document: Json,
-) -> Result<Edited, WriteFault>
+) -> Result<Planned, WriteFault>
     requires design { is_design_id id.now ≡ false }
     requires local { is_local_id id.now ≡ false }
-    ensures ok { S.is_honest store.new → IfOk result (λ edited.
-        edit_in (S.contents store.old) db.now id.now query (view document) ≡ Some (Ok (planned_writes edited.planned.changes))) }
-    ensures acceptable { S.is_honest store.new → IfOk result (λ edited.
-        IfThere (map.get (S.contents store.old) db.now) (λ d. MayBeMade edited.planned.changes d)) }
-    ensures changed { IfOk result (λ edited. (d : _) → changed edited.planned.changes d ≡ with_all d (planned_writes edited.planned.changes)) }
-    ensures database { IfOk result (λ edited. edited.planned.database ≡ db.now) }
-    ensures document { IfOk result (λ edited. edited.id ≡ id.now) }
-    ensures revision { IfOk result (λ edited. list_map new_revision (planned_writes edited.planned.changes) ≡ Some edited.rev ∷ []) }
-    ensures refused { S.is_honest store.new → IfErr result (λ fault.
-        fault ≢ WriteFault.Memory → ((cause : _) → fault ≢ WriteFault.Store cause)
-        → edit_in (S.contents store.old) db.now id.now query (view document) ≡ Some (Err fault)) }
+    ensures there { S.is_honest store.new → IsDecided result → is_some (map.get (S.contents store.old) db.now) ≡ true }
+    ensures ok { S.is_honest store.new → IfOk result (λ planned. IfThere (map.get (S.contents store.old) db.now) (λ d.
+        writes_alone (as_outcome (admission d id.now query (view document))) ≡ Ok (planned_writes d planned.changes))) }
+    ensures plan { S.is_honest store.new → IfOk result (λ planned. IfThere (map.get (S.contents store.old) db.now) (λ d.
+        Plans d (view document ∷ []) (as_outcome (admission d id.now query (view document)) ∷ []) planned)) }
+    ensures made { IfOk result (λ planned. OfFirst IsMadeOutcome planned.results.items) }
+    ensures database { IfOk result (λ planned. planned.database ≡ db.now) }
+    ensures refused { S.is_honest store.new → IfErr result (λ fault. IsOwn fault
+        → IfThere (map.get (S.contents store.old) db.now) (λ d. admission d id.now query (view document) ≡ Err fault)) }
     ensures undenied { IfErr result (λ fault. (fault ≢ WriteFault.BadHistory) × ((rule : _) → fault ≢ WriteFault.Denied rule)) }
     ensures passed { IfErr result (Refuses S.Store store.old store.new (map.get (S.contents store.old) db.now ≡ None) ⊥) }
     ensures reads { OnlyReads S.Store store.old store.new }
 {
-    let mut history = store.history(db, id)?;
-    let write = admitted(alloc, &mut history, id, query, document)?;
-    Ok(edited(alloc, db, id, write)?)
-}
-
-/// The plan of one write.
-fn edited(alloc: Global, db: &DbName, id: &DocId, write: Write) -> Got<Edited>
-    requires { 0 < length write.path.items }
-    ensures writes { IfOk result (λ edited. planned_writes edited.planned.changes ≡ writing_of write ∷ []) }
-    ensures changed { IfOk result (λ edited. (d : _) → changed edited.planned.changes d ≡ with_all d (planned_writes edited.planned.changes)) }
-    ensures acceptable { IfOk result (λ edited. (d : _) → AreAcceptable d (planned_writes edited.planned.changes) → MayBeMade edited.planned.changes d) }
-    ensures database { IfOk result (λ edited. edited.planned.database ≡ db.now) }
-    ensures document { IfOk result (λ edited. edited.id ≡ id.now) }
-    ensures revision { IfOk result (λ edited. new_revision (writing_of write) ≡ Some edited.rev) }
-{
-    let rev = write.path[0];
-    let mut writes = Vec::with_capacity(alloc, 1)?;
-    writes.push(write)?;
-    let planned = Planned {
-        database: db.copy(alloc)?,
-        changes: Changes::Writes(writes),
-    };
-    let id = id.copy(alloc)?;
-    Ok(Edited { planned, id, rev })
+    let history = store.history(db, id)?;
+    let words = words_of(alloc, &document)?;
+    let write = admit_edit(alloc, &history, id, query, document)?;
+    Ok(plan_alone(alloc, db, words, Some(write))?)
 }

@@ -1,30 +1,60 @@
 //! The histories of the documents that are written together, by id.
 
-ghost use Rattle.std.specs.Prelude.{◌≡◌, ◌≢◌, ◌≤◌, IfErr, IfOk, OnOk, Some, None, Ok, Err};
+ghost use Rattle.std.specs.Prelude.{◌≡◌, ◌≢◌, IfErr, OnOk, OnErr, Some, None, Ok, Err};
 ghost use Rattle.std.specs.FinMap as map;
 ghost use Rattle.couch_json.specs.View.{view};
-ghost use Rattle.store.specs.Contents.{IfThere};
-ghost use Rattle.store.specs.Database.{history_at};
-ghost use Rattle.store.specs.declared.fault.StoreFault.TheVariants.{NoDatabase, Exists};
-ghost use Rattle.write.specs.BulkResults.{AreStored, held_in, with_history};
+ghost use Rattle.tree.specs.History.{with_write};
+ghost use Rattle.store.specs.Calls.{OnlyReads};
+ghost use Rattle.store.specs.Database.{Database, history_at};
+ghost use Rattle.store.specs.Writing.{addition_of, written_in};
+ghost use Rattle.write.specs.Bulk.{Histories};
+ghost use Rattle.write.specs.BulkResults.{IsHeld, seen_in, with_history};
+ghost use Rattle.write.specs.Document.{id_in as id_in_lem};
+ghost use Rattle.write.specs.Refusing.{Refuses};
 
-use couch_json::Got;
+use crate::document::id_in;
+use crate::fault::WriteFault;
+use couch_json::{Got, Json};
 use std::alloc::Global;
 use std::collections::BTreeMap;
+use store::{DbName, Store, Write};
 use tree::{DocId, History};
 
-/// The history of a document, taken out; one that isn't there is empty.
-pub(crate) fn take_history(
+/// Puts the stored history of a document in, where it isn't there yet.
+pub(crate) fn load<S: Store>(
     alloc: Global,
+    store: &mut S,
+    db: &DbName,
+    document: &Json,
     histories: &mut BTreeMap<DocId, History>,
-    id: &DocId,
-) -> History
-    ensures value { result ≡ held_in histories.old id.now }
-    ensures others { (history : _) → with_history (held_in histories.new) id.now history ≡ with_history (held_in histories.old) id.now history }
+) -> Result<(), WriteFault>
+    ensures ok { S.is_honest store.new → OnOk result ((d : Database) → map.get (S.contents store.old) db.now ≡ Some d
+        → seen_in (history_at d) histories.new ≡ seen_in (history_at d) histories.old) }
+    ensures held { OnOk result (IsHeld histories.new (id_in_lem (view document.now))) }
+    ensures only { IfErr result (λ fault. fault ≢ WriteFault.Memory → ((cause : _) → fault ≢ WriteFault.Store cause) → ⊥) }
+    ensures passed { IfErr result (Refuses S.Store store.old store.new (map.get (S.contents store.old) db.now ≡ None) ⊥) }
+    ensures reads { OnlyReads S.Store store.old store.new }
+{
+    let Some(id) = id_in(alloc, document)? else {
+        return Ok(());
+    };
+    if histories.contains_key(&id) {
+        return Ok(());
+    }
+    let history = store.history(db, &id)?;
+    put_history(histories, id, history)?;
+    Ok(())
+}
+
+/// Takes the history of a document out.
+pub(crate) fn take_history(histories: &mut BTreeMap<DocId, History>, id: &DocId) -> History
+    requires { IsHeld histories.old (Some id.now) }
+    ensures value { (stored : Histories) → result ≡ seen_in stored histories.old id.now }
+    ensures others { (stored : Histories) (history : _) → with_history (seen_in stored histories.new) id.now history ≡ with_history (seen_in stored histories.old) id.now history }
 {
     match histories.remove(id) {
         Some(history) => history,
-        None => History::new(alloc),
+        None => unreachable!(),
     }
 }
 
@@ -34,9 +64,17 @@ pub(crate) fn put_history(
     id: DocId,
     history: History,
 ) -> Got<()>
-    ensures value { OnOk result (held_in histories.new ≡ with_history (held_in histories.old) id history) }
-    ensures stored { OnOk result ((stored : _) → stored id ≡ history → AreStored stored histories.old → AreStored stored histories.new) }
+    ensures value { OnOk result ((stored : Histories) → seen_in stored histories.new ≡ with_history (seen_in stored histories.old) id history) }
+    ensures held { OnOk result (IsHeld histories.new (Some id)) }
 {
     drop(histories.insert(id, history)?);
     Ok(())
+}
+
+/// Takes a write into the history of its document.
+pub(crate) fn take_in(history: &mut History, write: &Write) -> Got<()>
+    ensures ok { OnOk result (history.new ≡ with_write history.old (written_in history.old (addition_of write.now)).write) }
+    ensures err { OnErr result (history.new ≡ history.old) }
+{
+    history.put(&write.path, write.parent, write.deleted, &write.body)
 }

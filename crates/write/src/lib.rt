@@ -11,12 +11,14 @@ mod fault;
 mod histories;
 pub mod laws;
 mod planned;
+mod planning;
 mod replicating;
 mod securing;
 
 pub use applying::apply;
-pub use bulk_writes::{BulkPlan, BulkResult, bulk};
+pub use bulk_writes::bulk;
 pub use editing::edit;
 pub use fault::WriteFault;
-pub use planned::{Changes, Edited, Planned};
+pub use planned::{Changes, DocumentResult, Outcome, Planned};
+pub use replicating::replicated;
 pub use securing::put_security;

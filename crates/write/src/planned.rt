@@ -1,6 +1,7 @@
+use crate::fault::WriteFault;
 use policy::Security;
 use store::{DbName, Write};
-use tree::{DocId, Rev};
+use tree::Rev;
 
 /// A change of a database that was found in order and is not made yet.
 #[derive(Drop)]
@@ -9,6 +10,8 @@ pub struct Planned {
     pub database: DbName,
     /// What is changed in it.
     pub changes: Changes,
+    /// What became of each document, in order; none for a security object.
+    pub results: Vec<DocumentResult>,
 }
 
 /// What a plan changes in its database.
@@ -20,13 +23,24 @@ pub enum Changes {
     Security(Security),
 }
 
-/// The plan of an edit, and what the reply says of it.
+/// A document that was to be written, and what became of it.
 #[derive(Drop)]
-pub struct Edited {
-    /// The plan.
-    pub planned: Planned,
-    /// The document that is edited.
-    pub id: DocId,
-    /// Its new revision.
-    pub rev: Rev,
+pub struct DocumentResult {
+    /// Its `_id`, where that is a text.
+    pub id: Option<String>,
+    /// Its `_rev`, where that is a text.
+    pub rev: Option<String>,
+    /// What became of it.
+    pub outcome: Outcome,
+}
+
+/// What became of a document that was to be written.
+#[derive(Drop)]
+pub enum Outcome {
+    /// It makes this revision.
+    Made(Rev),
+    /// Its revision was known already, so nothing changes.
+    Known,
+    /// It was refused, for a cause of its own: never for the store or for want of memory.
+    Refused(WriteFault),
 }

@@ -1,9 +1,9 @@
-ghost use Rattle.std.specs.Prelude.{◌≡◌, ◌≢◌, ◌≤◌, IfOk, IfErr, Some, None, Ok, Err};
+ghost use Rattle.std.specs.Prelude.{◌≡◌, ◌≢◌, [], true, IfOk, IfErr, None, Ok, Err, is_some};
 ghost use Rattle.std.specs.FinMap as map;
 ghost use Rattle.couch_json.specs.View.{view};
 ghost use Rattle.store.specs.Calls.{OnlyReads};
-ghost use Rattle.write.specs.Refusing.{Refuses};
-ghost use Rattle.write.specs.Planning.{secured as secured_lem, security_in};
+ghost use Rattle.write.specs.Refusing.{IsDecided, IsOwn, Refuses};
+ghost use Rattle.write.specs.Planning.{secured as secured_lem};
 
 use crate::fault::WriteFault;
 use crate::planned::{Changes, Planned};
@@ -23,13 +23,12 @@ pub fn put_security<S: Store>(
     db: &DbName,
     value: &Json,
 ) -> Result<Planned, WriteFault>
-    ensures ok { S.is_honest store.new → IfOk result (λ planned.
-        security_in (S.contents store.old) db.now (view value.now) ≡ Some (Ok (view value.now))) }
+    ensures there { S.is_honest store.new → IsDecided result → is_some (map.get (S.contents store.old) db.now) ≡ true }
+    ensures ok { IfOk result (λ planned. secured_lem (view value.now) ≡ Ok (view value.now)) }
     ensures changes { IfOk result (λ planned. planned.changes ≡ Changes.Security (view value.now)) }
+    ensures results { IfOk result (λ planned. planned.results.items ≡ []) }
     ensures database { IfOk result (λ planned. planned.database ≡ db.now) }
-    ensures refused { S.is_honest store.new → IfErr result (λ fault.
-        fault ≢ WriteFault.Memory → ((cause : _) → fault ≢ WriteFault.Store cause)
-        → security_in (S.contents store.old) db.now (view value.now) ≡ Some (Err fault)) }
+    ensures refused { IfErr result (λ fault. IsOwn fault → secured_lem (view value.now) ≡ Err fault) }
     ensures only { IfErr result (λ fault. fault ≢ WriteFault.BadDocument → fault ≢ WriteFault.Memory → ((cause : _) → fault ≢ WriteFault.Store cause) → ⊥) }
     ensures passed { IfErr result (Refuses S.Store store.old store.new (map.get (S.contents store.old) db.now ≡ None) ⊥) }
     ensures reads { OnlyReads S.Store store.old store.new }
@@ -42,6 +41,7 @@ pub fn put_security<S: Store>(
 fn secured(alloc: Global, db: &DbName, value: &Json) -> Result<Planned, WriteFault>
     ensures ok { IfOk result (λ planned. secured_lem (view value.now) ≡ Ok (view value.now)) }
     ensures changes { IfOk result (λ planned. planned.changes ≡ Changes.Security (view value.now)) }
+    ensures results { IfOk result (λ planned. planned.results.items ≡ []) }
     ensures database { IfOk result (λ planned. planned.database ≡ db.now) }
     ensures refused { IfErr result (λ fault. fault ≢ WriteFault.Memory → secured_lem (view value.now) ≡ Err fault) }
     ensures only { IfErr result (λ fault. fault ≢ WriteFault.BadDocument → fault ≢ WriteFault.Memory → ⊥) }
@@ -54,5 +54,6 @@ fn secured(alloc: Global, db: &DbName, value: &Json) -> Result<Planned, WriteFau
     Ok(Planned {
         database: db.copy(alloc)?,
         changes: Changes::Security(security),
+        results: Vec::new(alloc),
     })
 }

@@ -1,10 +1,10 @@
-use Rattle.std.proofs.Common.{◌≡◌, ◌<◌, ◌++◌, length, ap, ◌∙◌, rules}
+use Rattle.std.proofs.Common.{◌≡◌, ◌<◌, ◌++◌, List, length, ap, ◌∙◌, rules}
 use Rattle.std.specs.FinMap as map
 use Rattle.store.specs.Database.{with_all, empty_database}
 use Rattle.store.specs.Plain.{content}
-use Rattle.store.specs.Writing.{writings}
+use Rattle.store.specs.Writing.{Addition, additions, writings_in}
 use Rattle.store.specs.declared.plain.PlainDatabase.{PlainDatabase}
-use Rattle.store.proofs.Contents.{with_all-append, writings-append}
+use Rattle.store.proofs.Contents.{additions-append, with_all-writings_in}
 use Rattle.store.proofs.Plains.{changed_at, unchanged_at, is_first, place_within, whatever}
 use Rattle.store.proofs.databases.append.Goals as goal
 
@@ -19,7 +19,7 @@ returns-in_err-append-clause-err c =
     let e = c.index_mut.result.now in
     let d : PlainDatabase = record { writes = c.append.new.self; security = e.1.security } in
     let kept : c.append.new.self.items ≡ c.index_mut.result.now.1.writes.items = search rules in
-    whatever _ (ap map.from_entries (unchanged_at c.args.databases.now.items c.args.at e d c.index_mut.ensures.value (ap (λ ws. with_all (empty_database e.1.security) (writings ws)) kept)))
+    whatever _ (ap map.from_entries (unchanged_at c.args.databases.now.items c.args.at e d c.index_mut.ensures.value (ap (λ ws. with_all (empty_database e.1.security) (writings_in (empty_database e.1.security) (additions ws))) kept)))
 
 pub returns-clause-ok : goal.returns-clause-ok
 returns-clause-ok c =
@@ -29,7 +29,8 @@ returns-clause-ok c =
     let old = e.1.writes.items in
     let d : PlainDatabase = record { writes = c.append.new.self; security = s } in
     let appended : c.append.new.self.items ≡ c.index_mut.result.now.1.writes.items ++ c.in_ok-more.more.items = search rules in
-    let made : content d ≡ with_all (content e.1) (writings c.args.writes.now) =
-    ap (λ ws. with_all (empty_database s) (writings ws)) appended ∙ ap (with_all (empty_database s)) (writings-append old more)
-    ∙ with_all-append (empty_database s) (writings old) (writings more) ∙ ap (with_all (content e.1)) c.in_ok-more.ensures in
-    changed_at c.args.databases.now.items c.args.at c.args.name.now e d (λ db. with_all db (writings c.args.writes.now)) c.requires c.index_mut.ensures.value made
+    let logged = λ (all : List Addition). with_all (empty_database s) (writings_in (empty_database s) all) in
+    let made : content d ≡ with_all (content e.1) (writings_in (content e.1) (additions c.args.writes.now)) =
+    ap (λ ws. logged (additions ws)) appended ∙ ap logged (additions-append old more) ∙ with_all-writings_in (empty_database s) (additions old) (additions more)
+    ∙ ap (λ all. with_all (content e.1) (writings_in (content e.1) all)) c.in_ok-more.ensures in
+    changed_at c.args.databases.now.items c.args.at c.args.name.now e d (λ db. with_all db (writings_in db (additions c.args.writes.now))) c.requires c.index_mut.ensures.value made

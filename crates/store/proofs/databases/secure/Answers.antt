@@ -1,8 +1,7 @@
 use Rattle.std.proofs.Common.{◌<◌, length, rules}
 use Rattle.store.specs.Contents.{with_security}
-use Rattle.store.specs.Database.{empty_database}
-use Rattle.store.specs.Writing.{writings}
-use Rattle.store.proofs.Contents.{with_all-with_security}
+use Rattle.store.specs.Writing.{additions}
+use Rattle.store.proofs.Contents.{content-with_security}
 use Rattle.store.proofs.Plains.{changed_at, is_first, place_within}
 use Rattle.store.proofs.databases.secure.Goals as goal
 
@@ -16,4 +15,4 @@ pub returns : goal.returns
 returns c =
     let e = c.index_mut.result.now in
     changed_at c.args.databases.now.items c.args.at c.args.name.now e (record { writes = e.1.writes; security = c.args.security }) (λ db. with_security db c.args.security) c.requires
-    c.index_mut.ensures.value (with_all-with_security (empty_database e.1.security) c.args.security (writings e.1.writes.items))
+    c.index_mut.ensures.value (content-with_security e.1.security c.args.security (additions e.1.writes.items))

@@ -3,7 +3,7 @@ use Rattle.couch_json.specs.Value.{null}
 use Rattle.store.specs.Pages.{document_counts, if_counted, last_sequence, limited, page_with, rows_of}
 use Rattle.store.specs.Paging.{sequence_rows}
 use Rattle.store.specs.Plain.{gathered_after}
-use Rattle.store.specs.Writing.{writings}
+use Rattle.store.specs.Writing.{additions}
 use Rattle.store.proofs.Bounds.{page_bounded}
 use Rattle.store.proofs.Pagings.{counts_below, is_counted, page_made, smaller}
 use Rattle.store.proofs.pages.page_by_seq.Goals as goal
@@ -13,7 +13,7 @@ returns-clause-page c =
     let range = c.args.range.now in
     let all = c.in_ok-rows.rows.items in
     let n = c.len-sequence.result in
-    let es = gathered_after 0 [] (writings c.args.writes.now.items) in
+    let es = gathered_after 0 [] (additions c.args.writes.now.items) in
     let made = c.in_ok-documents.ensures in
     let rows = c.in_ok-rows.ensures ∙ ap (rows_of range.all_leaves) made in
     let cut = c.rows_after-rows.ensures ∙ ap (λ qs. limited range.limit (filter (λ r. nat_lt range.since r.sequence) qs)) c.in_ok-in_sequence.ensures in
@@ -28,7 +28,7 @@ returns-clause-bounded c =
     let n : c.len-sequence.result ≡ length c.args.writes.now.items = search rules in
     let lt : length c.args.writes.now.items < 9223372036854775808 = search rules in
     let fewer : length c.in_ok-documents.documents.items < 9223372036854775808 = search rules in
-    let page = returns-clause-page c ∙ ap (λ k. page_with c.args.range.now k (gathered_after 0 [] (writings c.args.writes.now.items))) (sym n) in
+    let page = returns-clause-page c ∙ ap (λ k. page_with c.args.range.now k (gathered_after 0 [] (additions c.args.writes.now.items))) (sym n) in
     let h = page_bounded c.args.range.now (record { writes = c.args.writes.now; security = null }) c.last_sequence-last_seq.result c.len-sequence.result c.rows_after-rows.result.items c.counts_of.result n page in
     record {
       sequence = omega (arith, n, lt);

@@ -1,20 +1,22 @@
-use Rattle.std.proofs.Common.{◌≡◌, nat_cmp, ap, ap₂, ◌∙◌, rules}
-use Rattle.std.specs.Cmp.Lexicographic.{slice_cmp}
-use Rattle.std.specs.FinMap.{put}
-use Rattle.tree.specs.History.{HistoryContent, with_write}
+use Rattle.std.proofs.Common.{◌∷◌, ◌++◌, drop, take, sym, ap, ◌∙◌}
 use Rattle.store.specs.Plain.{gathered}
-use Rattle.store.specs.Writing.{writing_of}
-use Rattle.store.proofs.Pagings.{document, put-seen}
+use Rattle.store.specs.Writing.{addition_of}
+use Rattle.store.proofs.Pagings.{written_new, written_there}
 use Rattle.store.proofs.pages.take_in.Goals as goal
 
-pub returns : goal.returns
-returns c =
-    let R = slice_cmp nat_cmp in
-    let es = c.args.documents.now.items in
-    let w = writing_of c.args.write.now in
-    let written : c.put.new.self ≡ with_write c.in_ok-history.history (writing_of c.args.write.now).write = search rules in
-    let history = written ∙ ap (λ (h : HistoryContent). with_write h w.write) c.in_ok-history.ensures in
+pub returns-in_ok-write_to-in-Ok : goal.returns-in_ok-write_to-in-Ok
+returns-in_ok-write_to-in-Ok c =
     record {
-      ok = ap gathered c.in_ok-put-2.ensures.ok ∙ put-seen R document c.in_ok-id.id (record { sequence = c.args.sequence; history = c.put.new.self }) es
-          ∙ ap₂ (λ i h. put R i (record { sequence = c.args.sequence; history = h }) (gathered es)) c.in_ok-id.ensures history;
+      ok = written_there c.args.sequence (addition_of c.args.write.now) c.args.documents.now.items c.in-Ok.at c.index_mut.result.now c.write_to.new.document
+          (sym c.in-Ok.ensures.spot) c.index_mut.ensures.value c.in_ok-write_to-in-Ok.ensures.ok;
+    }
+
+pub returns-in_ok-insert-in-Err : goal.returns-in_ok-insert-in-Err
+returns-in_ok-insert-in-Err c =
+    let es = c.args.documents.now.items in
+    let at = c.in-Err.at in
+    let d = c.in_ok-document-in-Err.document in
+    record {
+      ok = ap gathered (c.in_ok-insert-in-Err.ensures.items ∙ ap (λ id. take at es ++ (id, d) ∷ drop at es) c.in_ok-id-in-Err.ensures)
+          ∙ written_new c.args.sequence (addition_of c.args.write.now) es at d (sym c.in-Err.ensures.spot) c.in_ok-document-in-Err.ensures;
     }

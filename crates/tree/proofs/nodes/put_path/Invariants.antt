@@ -2,8 +2,7 @@ use Rattle.std.proofs.Common.{◌≡◌, ◌≤◌, length, drop, vec_len, vec_c
 use Rattle.std.specs.Prelude.{IsTrue}
 use Rattle.std.specs.FinMap.{is_sorted}
 use Rattle.tree.specs.Revision.{revision_cmp}
-use Rattle.tree.specs.Nodes.{AreParents, nodes_before, nodes_with, parents_before}
-use Rattle.tree.specs.History.{path_entries}
+use Rattle.tree.specs.Nodes.{AreParents, entries_before, nodes_before, nodes_with, parents_before}
 use Rattle.tree.proofs.nodes.put_path.Given as goal
 
 -- in order, with room for the rest; the rest makes of the nodes what the whole path makes of those at the start; and what came in can be taken back
@@ -13,7 +12,7 @@ invariant-loop-i l = record {
   parents : AreParents l.parents.keys l.nodes.entries;
   few : vec_len l.insertions ≤ l.i;
   room : length l.path ≤ vec_capacity l.insertions;
-  rest : nodes_with l.nodes.entries (path_entries l.held (drop l.i l.path)) ≡ nodes_with l.initial.nodes.entries (path_entries l.initial.held l.path);
+  rest : nodes_with l.nodes.entries (entries_before l.held (drop l.i l.path) l.parent) ≡ nodes_with l.initial.nodes.entries (entries_before l.initial.held l.path l.parent);
   nodes_back : nodes_before l.nodes.entries l.insertions.items ≡ l.initial.nodes.entries;
   parents_back : parents_before l.parents.keys l.insertions.items ≡ l.initial.parents.keys;
 }

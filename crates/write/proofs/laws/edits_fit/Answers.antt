@@ -1,5 +1,5 @@
-use Rattle.write.proofs.Fitting.{edit_fits}
+use Rattle.write.proofs.Fitting.{edit_fits, edit_known}
 use Rattle.write.proofs.laws.edits_fit.Goals as goal
 
 pub returns : goal.returns
-returns c = edit_fits
+returns c = record { added = edit_fits; known = edit_known }

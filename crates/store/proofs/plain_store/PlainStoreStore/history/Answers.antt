@@ -2,7 +2,7 @@ use Rattle.std.proofs.Common.{◌≡◌, Some, option_map, sym, ap, ◌∙◌, r
 use Rattle.std.specs.FinMap as map
 use Rattle.store.specs.Database.{history_at}
 use Rattle.store.specs.Plain.{content, contents_of, history_after}
-use Rattle.store.specs.Writing.{writings}
+use Rattle.store.specs.Writing.{additions}
 use Rattle.store.proofs.Contents.{history_at-content}
 use Rattle.store.proofs.plain_store.PlainStoreStore.history.Goals as goal
 
@@ -10,5 +10,5 @@ pub returns-in_ok-history_of-in-Some-clause-answer : goal.returns-in_ok-history_
 returns-in_ok-history_of-in-Some-clause-answer c =
     let d = c.in-Some.database.now in
     let there : map.get (contents_of c.args.self.now.databases.items) c.args.name.now ≡ Some (content c.in-Some.database.now) = search rules in
-    let replayed : c.in_ok-history_of-in-Some.field-0 ≡ history_after map.empty c.args.id.now (writings c.in-Some.database.now.writes.items) = search rules in
+    let replayed : c.in_ok-history_of-in-Some.field-0 ≡ history_after map.empty c.args.id.now (additions c.in-Some.database.now.writes.items) = search rules in
     λ _. ap (option_map (λ db. history_at db c.args.id.now)) there ∙ ap Some (history_at-content d c.args.id.now ∙ sym replayed)

@@ -1,0 +1,101 @@
+//! The plan of one document, and what is told of it.
+
+ghost use Rattle.std.specs.Prelude.{◌≡◌, ◌<◌, ◌∷◌, [], Ok, IfOk, IfSome, map, option_map, string_bytes, codes, length};
+ghost use Rattle.couch_json.specs.View.{view};
+ghost use Rattle.tree.specs.History.{HistoryContent};
+ghost use Rattle.std.specs.Option.{option_to_list};
+ghost use Rattle.store.specs.Database.{Database, with_all};
+ghost use Rattle.store.specs.Writing.{addition_of, written_at, written_in};
+ghost use Rattle.write.specs.Bulk.{outcome_told, put_before};
+ghost use Rattle.write.specs.BulkResults.{IsMadeOutcome, IsUnrefused, OfFirst, told_as, told_of};
+ghost use Rattle.write.specs.Document.{member_text as member_text_lem};
+ghost use Rattle.write.specs.Planning.{MayBeMade, changed, planned_writes};
+ghost use Rattle.store.specs.Contents.{AreAcceptable};
+
+use crate::document::member_text;
+use crate::planned::{Changes, DocumentResult, Outcome, Planned};
+use couch_json::{Got, Json};
+use std::alloc::Global;
+use store::{DbName, Write};
+
+/// What a document says of itself.
+#[derive(Drop)]
+pub(crate) struct Words {
+    /// Its `_id`, where that is a text.
+    pub(crate) id: Option<String>,
+    /// Its `_rev`, where that is a text.
+    pub(crate) rev: Option<String>,
+}
+
+/// Reads what a document says of itself.
+pub(crate) fn words_of(alloc: Global, document: &Json) -> Got<Words>
+    ensures id { IfOk result (λ words. option_map string_bytes words.id ≡ member_text_lem (codes "_id") (view document.now)) }
+    ensures rev { IfOk result (λ words. option_map string_bytes words.rev ≡ member_text_lem (codes "_rev") (view document.now)) }
+{
+    let id = member_text(alloc, document, "_id")?;
+    let rev = member_text(alloc, document, "_rev")?;
+    Ok(Words { id, rev })
+}
+
+/// Tells what became of a document that was not refused.
+pub(crate) fn outcome_of(write: &Option<Write>) -> Outcome
+    requires { IfSome write.now (λ w. 0 < length w.path.items) }
+    ensures told { (h : HistoryContent) → outcome_told (Ok (option_map (λ w. written_in h (addition_of w)) write.now)) ≡ result }
+    ensures unrefused { IsUnrefused result }
+    ensures made { IfSome write.now (λ w. IsMadeOutcome result) }
+{
+    match write {
+        Some(write) => Outcome::Made(write.path[0]),
+        None => Outcome::Known,
+    }
+}
+
+/// Plans the write of one document, or nothing where there is nothing to write.
+pub(crate) fn plan_alone(
+    alloc: Global,
+    db: &DbName,
+    words: Words,
+    write: Option<Write>,
+) -> Got<Planned>
+    requires { IfSome write (λ w. 0 < length w.path.items) }
+    ensures writes { IfOk result (λ planned. (d : Database) → planned_writes d planned.changes ≡ put_before (Ok (option_map (λ w. written_at d (addition_of w)) write)) []) }
+    ensures changed { IfOk result (λ planned. (d : Database) → changed planned.changes d ≡ with_all d (planned_writes d planned.changes)) }
+    ensures may { IfOk result (λ planned. (d : Database) → AreAcceptable d (planned_writes d planned.changes) → MayBeMade planned.changes d) }
+    ensures results { IfOk result (λ planned. (h : HistoryContent) → map told_of planned.results.items
+        ≡ told_as words (Ok (option_map (λ w. written_in h (addition_of w)) write)) ∷ []) }
+    ensures unrefused { IfOk result (λ planned. OfFirst IsUnrefused planned.results.items) }
+    ensures made { IfOk result (λ planned. IfSome write (λ w. OfFirst IsMadeOutcome planned.results.items)) }
+    ensures database { IfOk result (λ planned. planned.database ≡ db.now) }
+{
+    let outcome = outcome_of(&write);
+    let mut results = Vec::with_capacity(alloc, 1)?;
+    results.push(result_of(words, outcome))?;
+    Ok(Planned {
+        database: db.copy(alloc)?,
+        changes: Changes::Writes(listed(alloc, write)?),
+        results,
+    })
+}
+
+/// Puts what a document says of itself beside what became of it.
+pub(crate) fn result_of(words: Words, outcome: Outcome) -> DocumentResult
+    ensures words { told_of result ≡ record { id = option_map string_bytes words.id; rev = option_map string_bytes words.rev; outcome = outcome } }
+    ensures outcome { result.outcome ≡ outcome }
+{
+    DocumentResult {
+        id: words.id,
+        rev: words.rev,
+        outcome,
+    }
+}
+
+/// Lists the write, where there is one.
+fn listed(alloc: Global, write: Option<Write>) -> Got<Vec<Write>>
+    ensures { IfOk result (λ writes. writes.items ≡ option_to_list write) }
+{
+    let mut writes = Vec::with_capacity(alloc, 1)?;
+    if let Some(write) = write {
+        writes.push(write)?;
+    }
+    Ok(writes)
+}
