@@ -68,7 +68,7 @@ fn take_in(alloc: Global, documents: &mut Documents, sequence: u64, write: &Writ
         Ok(at) => write_to(&mut documents[at].1, sequence, write)?,
         Err(at) => {
             let id = write.id.copy(alloc)?;
-            let document = new_document(alloc, sequence, write)?;
+            let document = make_document(alloc, sequence, write)?;
             documents.insert(at, (id, document))?;
         }
     }
@@ -86,7 +86,7 @@ fn write_to(document: &mut PlainDocument, sequence: u64, write: &Write) -> Got<(
 }
 
 /// Makes the document of its first write.
-fn new_document(alloc: Global, sequence: u64, write: &Write) -> Got<PlainDocument>
+fn make_document(alloc: Global, sequence: u64, write: &Write) -> Got<PlainDocument>
     ensures { IfOk result (λ document. document ≡ record { sequence = sequence; history = with_addition map.empty (addition_of write.now) }) }
 {
     let mut document = PlainDocument {

@@ -3,7 +3,7 @@
 ghost use Rattle.std.specs.Prelude.{◌≡◌, ◌+◌, ◌<◌, ◌≤◌, ◌++◌, Some, IfOk, OnOk, OnErr, IsTrue, vec_capacity, vec_len};
 ghost use Rattle.std.specs.FinMap.{is_sorted};
 ghost use Rattle.tree.specs.Revision.{revision_cmp};
-ghost use Rattle.tree.specs.Nodes.{AreParents, entries_before, listed, next_of as next_of_lem, nodes_before, nodes_with, nodes_with_new, parents_before, parents_with, parents_without};
+ghost use Rattle.tree.specs.Nodes.{AreParents, entries_before, listed, next_of, nodes_before, nodes_with, nodes_with_new, parents_before, parents_with, parents_without};
 
 use crate::entry::{Entry, Held};
 use crate::revision::Rev;
@@ -41,7 +41,7 @@ pub(crate) fn put_path(
     let mut held = Some(held);
     for (i, rev) in path.iter().enumerate() {
         let entry = Entry {
-            parent: next_of(&path[i + 1..], &parent),
+            parent: find_next(&path[i + 1..], &parent),
             held: held.take(),
         };
         let Ok(insertion) = put_new(nodes, parents, *rev, entry) else {
@@ -53,9 +53,9 @@ pub(crate) fn put_path(
     Ok(())
 }
 
-/// Names the newest revision of a path, or what it follows where it has none.
-fn next_of(path: &[Rev], parent: &Option<Rev>) -> Option<Rev>
-    ensures { result ≡ next_of_lem path.now parent.now }
+/// Finds the newest revision of a path, or what it follows where it has none.
+fn find_next(path: &[Rev], parent: &Option<Rev>) -> Option<Rev>
+    ensures { result ≡ next_of path.now parent.now }
 {
     match path.first() {
         Some(rev) => Some(*rev),

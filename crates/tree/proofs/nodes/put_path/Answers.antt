@@ -13,7 +13,7 @@ loop-i-preserved c =
       parents = c.put_new.ensures.parents;
       few = let a = inv.few in let b = c.note.ensures.len in omega arith;
       room = let a = inv.room in let b = c.note.ensures.capacity in omega arith;
-      rest = path_step _ _ c.args.path.now c.args.parent c.loop-i.i c.index-path-i.result _ _ _ _ _ c.loop-i-test.true c.index-path-i.is (c.next_of.ensures ∙ ap (λ p. next_of p c.args.parent) (take_rest c.args.path.now (c.loop-i.i + 1))) c.take.ensures.value c.take.ensures.after c.in-Ok.ensures.ok inv.rest;
+      rest = path_step _ _ c.args.path.now c.args.parent c.loop-i.i c.index-path-i.result _ _ _ _ _ c.loop-i-test.true c.index-path-i.is (c.find_next.ensures ∙ ap (λ p. next_of p c.args.parent) (take_rest c.args.path.now (c.loop-i.i + 1))) c.take.ensures.value c.take.ensures.after c.in-Ok.ensures.ok inv.rest;
       nodes_back = rw c.note.ensures.items (nodes_back_more _ _ _ c.loop-i.insertions.items c.in-Ok.insertion c.in-Ok.ensures.nodes_back inv.nodes_back);
       parents_back = rw c.note.ensures.items (parents_back_more _ _ _ c.loop-i.insertions.items c.in-Ok.insertion c.in-Ok.ensures.parents_back inv.parents_back);
     }
