@@ -4,8 +4,9 @@ use Rattle.std.specs.FinMap.{get, insert}
 use Rattle.store.specs.Calls.{OnlyReads}
 use Rattle.store.specs.Causes.{HasFailed}
 use Rattle.store.specs.Contents.{Contents}
+use Rattle.store.specs.Contents.{IfThere}
 use Rattle.store.specs.Database.{Database, with_all}
-use Rattle.store.specs.Writing.{writings}
+use Rattle.store.specs.Writing.{additions, writings_in}
 use Rattle.store.specs.declared.fault.StoreFault.{StoreFault}
 use Rattle.store.specs.declared.fault.StoreFault.TheVariants.{Memory, Failed, NoDatabase, Exists, Damaged, Full}
 use Rattle.store.specs.declared.store.Store.{Ghosts}
@@ -25,16 +26,16 @@ use Rattle.node.specs.declared.stop.Stop.TheVariants.{Refused, Failed as Broken,
 
 -- changes for which there is no room in a database that is there
 room_lacking : {S : Type 0} (g : Ghosts S) (s : S) (name : List ℕ) (changes : Changes) (o : Option Database) → is_some o ≡ true
-    → LacksRoomFor (g.lacks_room s) name changes → LacksNumbers g s (change_inside name changes o)
-room_lacking g s name (Security v) o there h = absurd h
-room_lacking g s name (Writes ws) None there h = absurd cc
+    → IfThere o (λ d. LacksRoomFor (g.lacks_room s) name changes d) → LacksNumbers g s (change_inside name changes o)
+room_lacking g s name changes None there h = absurd cc
+room_lacking g s name (Security v) (Some db) there h = absurd h
 room_lacking g s name (Writes ws) (Some db) there h = h
 
 -- a change that is not made, though there is a database, is not made for want of memory or has a cause
 pub change_ends : {S : Type 0} (g : Ghosts S) (old new : S) (name : List ℕ) (changes : Changes) (fault : WriteFault)
     → (g.is_honest new → is_some (get (g.contents old) name) ≡ true)
     → (fault ≢ write.Memory → ((cause : StoreFault) → fault ≢ write.Store cause) → ⊥)
-    → Refuses g old new (get (g.contents old) name ≡ None) (g.is_honest new → LacksRoomFor (g.lacks_room old) name changes) fault
+    → Refuses g old new (get (g.contents old) name ≡ None) (g.is_honest new → IfThere (get (g.contents old) name) (λ d. LacksRoomFor (g.lacks_room old) name changes d)) fault
     → EndsBefore g old new (change_inside name changes (get (g.contents old) name)) (stop_of_change fault)
 change_ends g old new name changes (write.Store Memory) there only h = absurd h
 change_ends g old new name changes (write.Store NoDatabase) there only h = λ honest. absurd (let none = h honest in let some = there honest in cc)
@@ -62,7 +63,7 @@ unrefused_change write.Memory refusal e = cc
 pub change_made : (databases after : Contents) (name : List ℕ) (changes : Changes) (o : Option Database) → get databases name ≡ o
     → option_map (λ d. insert databases name (changed changes d)) o ≡ Some after → after ≡ with_change (change_inside name changes o) databases
 change_made databases after name changes None is h = absurd cc
-change_made databases after name (Writes ws) (Some db) is h = let e : after ≡ insert databases name (with_all db (writings ws.items)) = cc in rw is e
+change_made databases after name (Writes ws) (Some db) is h = let e : after ≡ insert databases name (with_all db (writings_in db (additions ws.items))) = cc in rw is e
 change_made databases after name (Security v) (Some db) is h = let e : after ≡ insert databases name (changed (Security v) db) = cc in rw is e
 
 -- ---- after calls that only read

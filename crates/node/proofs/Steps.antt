@@ -8,13 +8,16 @@ use Rattle.std.proofs.lemmas.Slice.Eq.{bytes_eq-Decides}
 use Rattle.auth.specs.Callers.{Configuration}
 use Rattle.couch_http.specs.Message.{Message}
 use Rattle.couch_http.specs.Reply.{Reply}
+use Rattle.store.specs.Causes.{HasFailed}
+use Rattle.store.specs.declared.store.Store.{Ghosts}
 use Rattle.store.specs.Contents.{Contents, new_database}
-use Rattle.store.specs.Database.{Database, IsLater}
+use Rattle.store.specs.Database.{Database, DocumentWrite, IsLater}
 use Rattle.store.specs.Lawful.{AreLawful, IsLawful}
 use Rattle.store.proofs.Laters.{later_by_all, later_itself}
 use Rattle.store.proofs.Lawfuls.{lawful_by_all, lawful_empty, lawful_insert, lawful_remove, lawful_secured}
 use Rattle.policy.specs.Security.{closed}
 use Rattle.node.specs.Answer.{Change, Outcome, answer, creation, inside, judged, kept, removal, settled, with_change, with_effect_at}
+use Rattle.node.specs.Causes.{HasCause, LacksNumbers}
 use Rattle.node.specs.Effects.{Fits, IsLaterThan}
 use Rattle.node.specs.Paths.{database_name_in}
 use Rattle.node.specs.Refusals.{status_of}
@@ -257,3 +260,27 @@ answer_served c a m = (λ e. omega (arith, answer_status c a m, e), λ e. omega 
 
 pub refused_changes_nothing : (c : Configuration) (a : Contents) (m : Message) → 400 ≤ (answer c a m).status → with_change (answer c a m).change a ≡ a
 refused_changes_nothing c a m high = ap (λ (x : Change). with_change x a) (refused_keeps c a m high)
+
+-- ---- over a store that never fails
+
+lacking_nothing : {S : Type 0} (g : Ghosts S) (s : S) (change : Change) → (g.lacks_number s → ⊥) → ((name : List ℕ) (ws : List DocumentWrite) → g.lacks_room s name ws → ⊥)
+    → LacksNumbers g s change → ⊥
+lacking_nothing g s kept numbers room h = h
+lacking_nothing g s (creation name) numbers room h = numbers h
+lacking_nothing g s (removal name) numbers room h = h
+lacking_nothing g s (inside name nothing) numbers room h = h
+lacking_nothing g s (inside name (appended ws)) numbers room h = room name ws h
+lacking_nothing g s (inside name (secured v)) numbers room h = h
+
+pub step_unfailing : {S : Type 0} (g : Ghosts S) (old new : S) (c : Configuration) (before : Contents) (m : Message) (reply : Reply) (after : Contents)
+    → (HasFailed (g.fault_count old) (g.fault_count new) → ⊥) → (g.lacks_number old → ⊥) → ((name : List ℕ) (ws : List DocumentWrite) → g.lacks_room old name ws → ⊥)
+    → IsStep c before m (HasCause g old new) reply after → IsStep c before m (λ _. ⊥) reply after
+step_unfailing g old new c before m reply after failed numbers room (inl done) = inl done
+step_unfailing g old new c before m reply after failed numbers room (inr (inl no_room)) = inr (inl no_room)
+step_unfailing g old new c before m reply after failed numbers room (inr (inr (r, same, inl rose))) = absurd (failed rose)
+step_unfailing g old new c before m reply after failed numbers room (inr (inr (r, same, inr lacking))) = absurd (lacking_nothing g old (answer c before m).change numbers room lacking)
+
+pub unfailing_status : (c : Configuration) (before : Contents) (m : Message) (reply : Reply) (after : Contents) → IsStep c before m (λ _. ⊥) reply after → reply.status ≢ 500
+unfailing_status c before m reply after (inl done) = λ e. omega (arith, answer_status c before m, ap (λ (r : Reply). r.status) done.0, e)
+unfailing_status c before m reply after (inr (inl no_room)) = λ e. omega (arith, ap (λ (r : Reply). r.status) no_room.0, e)
+unfailing_status c before m reply after (inr (inr failed)) = absurd failed.2

@@ -15,7 +15,7 @@ use Rattle.store.specs.Lawful.{IsLawful}
 use Rattle.write.specs.Planning.{secured as secured_value}
 use Rattle.write.specs.declared.fault.WriteFault.{WriteFault}
 use Rattle.write.specs.Admission.{admission}
-use Rattle.write.proofs.Acceptances.{acceptable_plan, bulk_acceptable}
+use Rattle.write.proofs.Acceptances.{all_acceptable, edit_acceptable}
 use Rattle.tree.specs.Revision.{Revision}
 use Rattle.node.specs.Asking.{asking, body_of, method_of}
 use Rattle.node.specs.Bulk.{bulk_in}
@@ -97,28 +97,28 @@ sound_edited : (caller : Identity) (status : ℕ) (id : List ℕ) (db : Database
 sound_edited caller status id db (Ok w) d good ok e = subst (λ (x : Done). IsSound db x) (same {A = Done} _ d e) (record { status = good; fits = λ lawful. ok w refl lawful })
 sound_edited caller status id db (Err fault) d good ok e = absurd cc
 
-edit_acceptable : (db : Database) (id : List ℕ) (query : Option Revision) (document : Value) (w : DocumentWrite) → admission db id query document ≡ Ok w → IsLawful db
+edit_fits : (db : Database) (id : List ℕ) (query : Option Revision) (document : Value) (w : DocumentWrite) → admission db id query document ≡ Ok w → IsLawful db
     → AreAcceptable db (w ∷ [])
-edit_acceptable db id query document w e lawful = acceptable_plan (Some db) id (history_at db id) query document w (w ∷ []) refl e refl
+edit_fits db id query document w e lawful = (edit_acceptable db id query document w lawful e, tt)
 
 sound_document : (caller : Identity) (m : Message) → AreSound (document_written caller m)
 sound_document caller m db d e =
     let k = went (edit_asked m) (λ asked. next (body_of m) (λ document. edited caller 201 asked.0 (admission db asked.0 asked.1 document))) d e in
     let l = went (body_of m) (λ document. edited caller 201 k.first.0 (admission db k.first.0 k.first.1 document)) d k.then in
-    sound_edited caller 201 k.first.0 db (admission db k.first.0 k.first.1 l.first) d (inr refl) (λ w. edit_acceptable db k.first.0 k.first.1 l.first w) l.then
+    sound_edited caller 201 k.first.0 db (admission db k.first.0 k.first.1 l.first) d (inr refl) (λ w. edit_fits db k.first.0 k.first.1 l.first w) l.then
 
 sound_deletion : (caller : Identity) (m : Message) → AreSound (document_deleted caller m)
 sound_deletion caller m db d e =
     let k = went (edit_asked m) (λ asked. next (there_or Conflict asked.1) (λ rev. edited caller 200 asked.0 (admission db asked.0 (Some rev) deletion))) d e in
     let l = went (there_or Conflict k.first.1) (λ rev. edited caller 200 k.first.0 (admission db k.first.0 (Some rev) deletion)) d k.then in
-    sound_edited caller 200 k.first.0 db (admission db k.first.0 (Some l.first) deletion) d (inl refl) (λ w. edit_acceptable db k.first.0 (Some l.first) deletion w) l.then
+    sound_edited caller 200 k.first.0 db (admission db k.first.0 (Some l.first) deletion) d (inl refl) (λ w. edit_fits db k.first.0 (Some l.first) deletion w) l.then
 
 sound_documents : (caller : Identity) (m : Message) → AreSound (documents_written caller m)
 sound_documents caller m db d e =
     let k = went (plain m) (λ _. next (body_of m) (λ value. next (there_or Body (bulk_in value)) (λ bulk. bulk_written caller bulk db))) d e in
     let l = went (body_of m) (λ value. next (there_or Body (bulk_in value)) (λ bulk. bulk_written caller bulk db)) d k.then in
     let b = went (there_or Body (bulk_in l.first)) (λ bulk. bulk_written caller bulk db) d l.then in
-    subst (λ (x : Done). IsSound db x) (same {A = Done} _ d b.then) (record { status = inr refl; fits = λ lawful. bulk_acceptable b.first.new_edits db b.first.documents })
+    subst (λ (x : Done). IsSound db x) (same {A = Done} _ d b.then) (record { status = inr refl; fits = λ lawful. all_acceptable b.first.new_edits db b.first.documents lawful })
 
 -- ---- what is asked
 

@@ -7,7 +7,7 @@ use Rattle.couch_http.specs.Message.{Message}
 use Rattle.couch_json.specs.View.{view}
 use Rattle.store.specs.Contents.{Contents, IfThere}
 use Rattle.store.specs.Database.{Database}
-use Rattle.store.specs.Writing.{writings}
+use Rattle.store.specs.Writing.{additions, writings_in}
 use Rattle.policy.specs.declared.action.Action.{Action}
 use Rattle.policy.specs.declared.action.Action.TheVariants.{Read as ToRead, WriteSecurity, WriteDocument}
 use Rattle.write.specs.Planning.{MayBeMade}
@@ -61,7 +61,7 @@ action_of (asked.Write w) = action_of_writing w
 -- ---- what it comes to
 
 abbrev pub effect_of : Changes → Database → Effect
-effect_of (Writes ws) db = appended (writings ws.items)
+effect_of (Writes ws) db = appended (writings_in db (additions ws.items))
 effect_of (SecurityObject security) db = secured security
 
 -- what work comes to in a database

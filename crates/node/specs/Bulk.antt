@@ -8,6 +8,8 @@ use Rattle.couch_json.specs.View.{items_of}
 use Rattle.tree.specs.Revision.{Revision, text_of}
 use Rattle.write.specs.Bulk.{Told}
 use Rattle.write.specs.declared.fault.WriteFault.{WriteFault}
+use Rattle.write.specs.declared.planned.Outcome.{Outcome}
+use Rattle.write.specs.declared.planned.Outcome.TheVariants.{Made, Known, Refused}
 use Rattle.node.specs.Refusals.{refusal_members, refusal_of_edit}
 
 -- ---- what is asked for
@@ -49,24 +51,24 @@ abbrev pub text_or_null : Option (List ℕ) → Value
 text_or_null None = null
 text_or_null (Some s) = text s
 
-abbrev pub revision_or_null : Option Revision → Value
-revision_or_null None = null
-revision_or_null (Some r) = text (text_of r)
+-- of a document that is there: its id
+abbrev pub known_members : Option (List ℕ) → Members
+known_members id = put (codes "ok") (truth true) (put (codes "id") (text_or_null id) no_members)
 
 -- of an edit that was made: its id and the new revision
-abbrev pub made_members : Option (List ℕ) → Option Revision → Members
-made_members id rev =
-    put (codes "rev") (revision_or_null rev) (put (codes "ok") (truth true) (put (codes "id") (text_or_null id) no_members))
+abbrev pub made_members : Option (List ℕ) → Revision → Members
+made_members id rev = put (codes "rev") (text (text_of rev)) (known_members id)
 
 -- of a document that was refused: its id, and why
 abbrev pub failed_members : Identity → Option (List ℕ) → WriteFault → Members
 failed_members caller id fault = put (codes "id") (text_or_null id) (refusal_members (refusal_of_edit caller fault))
 
-abbrev pub edit_members : Identity → Option (List ℕ) → Result (Option Revision) WriteFault → Members
-edit_members caller id (Ok rev) = made_members id rev
-edit_members caller id (Err fault) = failed_members caller id fault
+abbrev pub edit_members : Identity → Option (List ℕ) → Outcome → Members
+edit_members caller id (Made rev) = made_members id rev
+edit_members caller id Known = known_members id
+edit_members caller id (Refused fault) = failed_members caller id fault
 
--- of a new edit, made or refused
+-- of a new edit: made, as it always is where it isn't refused, or refused
 abbrev pub edit_listed : Identity → Told → Value
 edit_listed caller told = object (edit_members caller told.id told.outcome)
 
@@ -74,9 +76,10 @@ edit_listed caller told = object (edit_members caller told.id told.outcome)
 abbrev pub failure_listed : Identity → Option (List ℕ) → Option (List ℕ) → WriteFault → Value
 failure_listed caller id rev fault = object (put (codes "rev") (text_or_null rev) (failed_members caller id fault))
 
-abbrev pub if_failed : Identity → Told → Result (Option Revision) WriteFault → List Value → List Value
-if_failed caller told (Ok rev) rest = rest
-if_failed caller told (Err fault) rest = failure_listed caller told.id told.rev fault ∷ rest
+abbrev pub if_failed : Identity → Told → Outcome → List Value → List Value
+if_failed caller told (Made rev) rest = rest
+if_failed caller told Known rest = rest
+if_failed caller told (Refused fault) rest = failure_listed caller told.id told.rev fault ∷ rest
 
 -- of the replicated documents that were refused, in order
 abbrev pub failures_listed : Identity → List Told → List Value

@@ -6,6 +6,7 @@ use Rattle.couch_http.specs.Message.{Message}
 use Rattle.couch_http.specs.Reply.{Reply, reply_of, fixed_reply}
 use Rattle.couch_http.specs.declared.fixed.Fixed.TheVariants.{Store, NoRoom}
 use Rattle.couch_json.specs.Canonical.{canonical}
+use Rattle.couch_json.specs.Lawful.{IsLawful}
 use Rattle.store.specs.Contents.{Contents}
 use Rattle.node.specs.Answer.{Change, Outcome, answer, with_change}
 
@@ -18,9 +19,10 @@ pub record Serving (S : Type 0) : Type 0 where
 abbrev pub reply_to : Outcome → Bool → Reply
 reply_to outcome last = reply_of outcome.status (canonical outcome.value) last
 
--- the reply is that to the outcome, and the databases are those with its change
+-- the reply is that to the outcome, whose value is lawful, and the databases are those with its change
 abbrev pub IsDone : Outcome → Bool → Contents → Reply → Contents → Type 0
-IsDone outcome last before reply after = (reply ≡ reply_to outcome last) × (after ≡ with_change outcome.change before)
+IsDone outcome last before reply after =
+    (reply ≡ reply_to outcome last) × (after ≡ with_change outcome.change before) × IsLawful outcome.value
 
 -- The step of a request: the definition's answer; or, with the databases as they were, the reply for want of memory, or the one
 -- for a fault of the store, which then has a cause, by the change that the answer makes.

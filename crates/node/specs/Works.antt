@@ -11,12 +11,12 @@ use Rattle.read.specs.declared.fault.ReadFault.{ReadFault}
 use Rattle.read.specs.declared.fault.ReadFault.TheVariants as read
 use Rattle.store.specs.Database.{Database, DocumentWrite, history_at}
 use Rattle.tree.specs.Revision.{Revision}
-use Rattle.write.specs.Admission.{admission, new_revision}
-use Rattle.write.specs.Bulk.{all_told, outcomes, writes_in, Outcome}
+use Rattle.write.specs.Admission.{admission}
+use Rattle.write.specs.Bulk.{DocumentOutcome, all_told, outcome_told, outcomes, writes_in}
 use Rattle.write.specs.Planning.{secured as secured_value}
 use Rattle.write.specs.declared.fault.WriteFault.{WriteFault}
 use Rattle.node.specs.Asking.{body_of, lacks_parameters}
-use Rattle.node.specs.Bulk.{Bulk, bulk_in, bulk_reply, made_members}
+use Rattle.node.specs.Bulk.{Bulk, bulk_in, bulk_reply, edit_members}
 use Rattle.node.specs.Paths.{document_id_in}
 use Rattle.node.specs.Queries.{Asked, winner, revision, leaves, revisions, document_query, revision_query}
 use Rattle.node.specs.Refusals.{refusal_of_edit}
@@ -72,10 +72,10 @@ document_read m db =
 
 -- ---- writing a document
 
--- what an edit comes to, whose reply has this status where it is accepted: the reply has the id and the new revision
+-- what an edit comes to, whose reply has this status where it is accepted: the reply says of the document of this id what became of it
 abbrev pub edited : Identity → ℕ → List ℕ → Result DocumentWrite WriteFault → Result Done Refusal
 edited caller status id (Ok w) =
-    Ok (record { status = status; value = object (made_members (Some id) (new_revision w)); effect = appended (w ∷ []) })
+    Ok (record { status = status; value = object (edit_members caller (Some id) (outcome_told (Ok (Some w)))); effect = appended (w ∷ []) })
 edited caller status id (Err fault) = Err (refusal_of_edit caller fault)
 
 -- the id of the document that is edited, and the revision that the query names, if any
@@ -99,7 +99,7 @@ document_deleted caller m db =
 -- ---- writing several documents
 
 -- each document has its own outcome; what one is refused for refuses no other
-abbrev pub bulk_done : Identity → Bulk → List Outcome → Done
+abbrev pub bulk_done : Identity → Bulk → List DocumentOutcome → Done
 bulk_done caller bulk os =
     record { status = 201; value = bulk_reply caller bulk.new_edits (all_told bulk.documents os); effect = appended (writes_in os) }
 

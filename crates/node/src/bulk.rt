@@ -25,7 +25,7 @@ use couch_json::Json;
 use std::alloc::Global;
 use std::collections::BTreeMap;
 use store::{DbName, Store};
-use write::{WriteFault, bulk};
+use write::{Planned, WriteFault, bulk};
 
 /// Documents that are to be written together.
 #[derive(Drop)]
@@ -127,16 +127,25 @@ fn write_bulk<S: Store>(
     ensures ends { IfErr result (Ends S.Store store.old store.new) }
     ensures reads { OnlyReads S.Store store.old store.new }
 {
-    let plan = match bulk(alloc, store, name, asked.documents, asked.new_edits) {
-        Ok(plan) => plan,
+    let planned = match bulk(alloc, store, name, asked.documents, asked.new_edits) {
+        Ok(planned) => planned,
         Err(WriteFault::Store(fault)) => return Err(Stop::from(fault)),
         Err(WriteFault::Memory) => return Err(Stop::NoRoom),
         Err(_) => unreachable!(),
     };
-    let value = bulk_reply(alloc, caller, asked.new_edits, plan.results)?;
+    let Planned {
+        database,
+        changes,
+        results,
+    } = planned;
+    let value = bulk_reply(alloc, caller, asked.new_edits, results)?;
     Ok(Worked {
         status: 201,
         value,
-        planned: plan.planned,
+        planned: Planned {
+            database,
+            changes,
+            results: Vec::new(alloc),
+        },
     })
 }

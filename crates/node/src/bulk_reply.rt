@@ -4,7 +4,7 @@ ghost use Rattle.std.specs.Prelude.{◌≡◌, IfOk, OnOk, option_map, string_by
 ghost use Rattle.couch_json.specs.Value.{put};
 ghost use Rattle.couch_json.specs.View.{members_view, view};
 ghost use Rattle.write.specs.BulkResults.{told_of};
-ghost use Rattle.node.specs.Bulk.{bulk_reply, edit_listed, failed_members, failure_listed, failures_listed, made_members, revision_or_null, text_or_null};
+ghost use Rattle.node.specs.Bulk.{bulk_reply, edit_listed, failed_members, failure_listed, failures_listed, known_members, made_members, text_or_null};
 
 use crate::members::put_text;
 use crate::refusal::refusal_of_edit;
@@ -13,7 +13,7 @@ use couch_json::{Got, Json, put_member};
 use std::alloc::Global;
 use std::collections::BTreeMap;
 use tree::Rev;
-use write::{BulkResult, WriteFault};
+use write::{DocumentResult, Outcome, WriteFault};
 
 /// Makes the reply: of new edits an element for each, of replicated documents one for each that was
 /// refused.
@@ -21,7 +21,7 @@ pub(crate) fn bulk_reply(
     alloc: Global,
     caller: &Caller,
     new_edits: bool,
-    results: Vec<BulkResult>,
+    results: Vec<DocumentResult>,
 ) -> Got<Json>
     ensures { IfOk result (λ value. view value ≡ bulk_reply caller.now new_edits (map told_of results.items)) }
 {
@@ -32,7 +32,7 @@ pub(crate) fn bulk_reply(
 }
 
 /// An element for each edit, in order.
-fn edits_listed(alloc: Global, caller: &Caller, results: Vec<BulkResult>) -> Got<Vec<Json>>
+fn edits_listed(alloc: Global, caller: &Caller, results: Vec<DocumentResult>) -> Got<Vec<Json>>
     ensures { IfOk result (λ values. map view values.items ≡ map (edit_listed caller.now) (map told_of results.items)) }
 {
     let mut values = Vec::with_capacity(alloc, results.len())?;
@@ -43,13 +43,17 @@ fn edits_listed(alloc: Global, caller: &Caller, results: Vec<BulkResult>) -> Got
 }
 
 /// An element for each document that was refused, in order.
-fn failures_listed(alloc: Global, caller: &Caller, results: Vec<BulkResult>) -> Got<Vec<Json>>
+fn failures_listed(
+    alloc: Global,
+    caller: &Caller,
+    results: Vec<DocumentResult>,
+) -> Got<Vec<Json>>
     ensures { IfOk result (λ values. map view values.items ≡ failures_listed caller.now (map told_of results.items)) }
 {
     let mut values = Vec::new(alloc);
     for told in results {
-        let BulkResult { id, rev, outcome } = told;
-        if let Err(fault) = outcome {
+        let DocumentResult { id, rev, outcome } = told;
+        if let Outcome::Refused(fault) = outcome {
             values.push(failure_listed(alloc, caller, &id, &rev, fault)?)?;
         }
     }
@@ -57,17 +61,14 @@ fn failures_listed(alloc: Global, caller: &Caller, results: Vec<BulkResult>) -> 
 }
 
 /// What is said of a new edit.
-fn edit_listed(alloc: Global, caller: &Caller, told: BulkResult) -> Got<Json>
+fn edit_listed(alloc: Global, caller: &Caller, told: DocumentResult) -> Got<Json>
     ensures { IfOk result (λ value. view value ≡ edit_listed caller.now (told_of told)) }
 {
-    let BulkResult {
-        id,
-        rev: _,
-        outcome,
-    } = told;
+    let DocumentResult { id, rev: _, outcome } = told;
     let members = match outcome {
-        Ok(rev) => made_members(alloc, &id, &rev)?,
-        Err(fault) => failed_members(alloc, caller, &id, fault)?,
+        Outcome::Made(rev) => made_members(alloc, &id, &rev)?,
+        Outcome::Known => known_members(alloc, &id)?,
+        Outcome::Refused(fault) => failed_members(alloc, caller, &id, fault)?,
     };
     Ok(Json::Object(members))
 }
@@ -91,14 +92,22 @@ fn failure_listed(
 pub(crate) fn made_members(
     alloc: Global,
     id: &Option<String>,
-    rev: &Option<Rev>,
+    rev: &Rev,
 ) -> Got<BTreeMap<String, Json>>
     ensures { IfOk result (λ members. members_view members.entries ≡ made_members (option_map string_bytes id.now) rev.now) }
+{
+    let mut members = known_members(alloc, id)?;
+    put_member(alloc, &mut members, "rev", Json::Text(rev.text(alloc)?))?;
+    Ok(members)
+}
+
+/// Of a document that is there: its id.
+fn known_members(alloc: Global, id: &Option<String>) -> Got<BTreeMap<String, Json>>
+    ensures { IfOk result (λ members. members_view members.entries ≡ known_members (option_map string_bytes id.now)) }
 {
     let mut members = BTreeMap::new(alloc);
     put_text_or_null(alloc, &mut members, "id", id)?;
     put_member(alloc, &mut members, "ok", Json::Truth(true))?;
-    put_member(alloc, &mut members, "rev", revision_or_null(alloc, rev)?)?;
     Ok(members)
 }
 
@@ -114,15 +123,6 @@ fn failed_members(
     let mut members = refusal_of_edit(caller, fault).members(alloc)?;
     put_text_or_null(alloc, &mut members, "id", id)?;
     Ok(members)
-}
-
-fn revision_or_null(alloc: Global, rev: &Option<Rev>) -> Got<Json>
-    ensures { IfOk result (λ value. view value ≡ revision_or_null rev.now) }
-{
-    match rev {
-        Some(rev) => Ok(Json::Text(rev.text(alloc)?)),
-        None => Ok(Json::Null),
-    }
 }
 
 /// Puts a text at a name into the members of an object, or null.

@@ -8,7 +8,10 @@ ghost use Rattle.read.specs.Answers.{Answers};
 ghost use Rattle.store.specs.Calls.{OnlyReads};
 ghost use Rattle.tree.specs.DocumentId.{is_design_id, is_local_id};
 ghost use Rattle.write.specs.Admission.{admission};
+ghost use Rattle.write.specs.BulkResults.{IsMadeOutcome, OfFirst};
 ghost use Rattle.write.specs.Planning.{MayBeMade};
+ghost use Rattle.node.specs.Bulk.{made_members};
+ghost use Rattle.couch_json.specs.Value.{object};
 ghost use Rattle.node.specs.Answered.{done_of};
 ghost use Rattle.node.specs.Causes.{Ends};
 ghost use Rattle.node.specs.Coming.{Comes, OfThere, Says};
@@ -30,7 +33,7 @@ use std::alloc::Global;
 use std::collections::BTreeMap;
 use store::{DbName, Store};
 use tree::{DocId, Rev};
-use write::{WriteFault, edit};
+use write::{DocumentResult, Outcome, WriteFault, edit};
 
 /// Reads a document.
 pub(crate) fn read_document<S: Store>(
@@ -174,17 +177,39 @@ fn edit_document<S: Store>(
     ensures ends { IfErr result (Ends S.Store store.old store.new) }
     ensures reads { OnlyReads S.Store store.old store.new }
 {
-    let edited = match edit(alloc, store, name, id, rev, document) {
-        Ok(edited) => edited,
+    let planned = match edit(alloc, store, name, id, rev, document) {
+        Ok(planned) => planned,
         Err(WriteFault::Memory) => return Err(Stop::NoRoom),
         Err(WriteFault::Store(fault)) => return Err(Stop::from(fault)),
         Err(fault) => return Err(Stop::Refused(refusal_of_edit(caller, fault))),
     };
-    let id = String::from_str(alloc, edited.id.as_str())?;
-    let members = made_members(alloc, &Some(id), &Some(edited.rev))?;
+    let rev = made_revision(&planned.results);
+    let value = edit_reply(alloc, id, &rev)?;
     Ok(Worked {
         status,
-        value: Json::Object(members),
-        planned: edited.planned,
+        value,
+        planned,
     })
+}
+
+/// The revision that the first of the results makes.
+fn made_revision(results: &[DocumentResult]) -> Rev
+    requires { OfFirst IsMadeOutcome results.now }
+    ensures { OfFirst (λ outcome. outcome ≡ Outcome.Made result) results.now }
+{
+    let Some(first) = results.first() else {
+        unreachable!()
+    };
+    match &first.outcome {
+        Outcome::Made(rev) => *rev,
+        _ => unreachable!(),
+    }
+}
+
+/// The reply to an edit: the id and the new revision.
+fn edit_reply(alloc: Global, id: &DocId, rev: &Rev) -> Got<Json>
+    ensures { IfOk result (λ value. view value ≡ object (made_members (Some id.now) rev.now)) }
+{
+    let id = String::from_str(alloc, id.as_str())?;
+    Ok(Json::Object(made_members(alloc, &Some(id), rev)?))
 }

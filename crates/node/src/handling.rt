@@ -5,6 +5,7 @@ ghost use Rattle.couch_http.specs.Message.{message_of};
 ghost use Rattle.couch_http.specs.Reply.{fixed_reply, reply_of};
 ghost use Rattle.couch_http.specs.declared.fixed.Fixed.TheVariants.{NoRoom};
 ghost use Rattle.couch_json.specs.Canonical.{canonical};
+ghost use Rattle.couch_json.specs.Lawful.{IsLawful};
 ghost use Rattle.couch_json.specs.View.{view};
 ghost use Rattle.store.specs.Calls.{ChangesWhole, GoesOn, OnlyReads};
 ghost use Rattle.node.specs.Answer.{answer, judged, served, with_change};
@@ -155,7 +156,8 @@ fn finish<S: Store>(
 
 /// The reply of a status and a value.
 fn made(alloc: Global, status: u16, value: &Json, last: bool) -> Got<Response>
-    ensures { IfOk result (λ reply. reply ≡ reply_of status (canonical (view value.now)) last) }
+    ensures reply { IfOk result (λ reply. reply ≡ reply_of status (canonical (view value.now)) last) }
+    ensures lawful { OnOk result (IsLawful (view value.now)) }
 {
     match Response::made(alloc, status, value, last) {
         Ok(reply) => Ok(reply),
@@ -256,7 +258,8 @@ fn reply<S: Store>(
 
 /// The reply to a refused request, or where memory runs out the fixed one.
 fn refusal_reply(alloc: Global, refusal: &Refusal, last: bool) -> Response
-    ensures { (result ≡ reply_of (status_of refusal.now) (canonical (refusal_value refusal.now)) last) ⊎ (result ≡ fixed_reply (NoRoom last)) }
+    ensures { ((result ≡ reply_of (status_of refusal.now) (canonical (refusal_value refusal.now)) last) × IsLawful (refusal_value refusal.now))
+        ⊎ (result ≡ fixed_reply (NoRoom last)) }
 {
     match refusal_made(alloc, refusal, last) {
         Ok(reply) => reply,
@@ -265,7 +268,8 @@ fn refusal_reply(alloc: Global, refusal: &Refusal, last: bool) -> Response
 }
 
 fn refusal_made(alloc: Global, refusal: &Refusal, last: bool) -> Got<Response>
-    ensures { IfOk result (λ reply. reply ≡ reply_of (status_of refusal.now) (canonical (refusal_value refusal.now)) last) }
+    ensures reply { IfOk result (λ reply. reply ≡ reply_of (status_of refusal.now) (canonical (refusal_value refusal.now)) last) }
+    ensures lawful { OnOk result (IsLawful (refusal_value refusal.now)) }
 {
     let value = refusal.value(alloc)?;
     made(alloc, refusal.status(), &value, last)

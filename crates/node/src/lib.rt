@@ -10,6 +10,7 @@ mod document;
 mod handling;
 pub mod laws;
 mod members;
+mod memory;
 mod method;
 mod node;
 mod page;
@@ -23,5 +24,6 @@ mod stop;
 mod welcome;
 mod working;
 
+pub use memory::handle_in_memory;
 pub use node::Node;
 pub use routes::Routes;
