@@ -1,6 +1,6 @@
 -- What a request to write several documents asks for, and what its reply says of them.
 -- CouchDB manual, api/database/bulk-api (`docs` and `new_edits`; `id`, `ok` and `rev`, or `error` and `reason`); that no other member is taken, and that the failure of a replicated document names the `rev` that was sent, are this server's own.
-use Rattle.std.specs.Prelude.{ℕ, Bool, true, false, if◌then◌else◌, List, [], ◌∷◌, map, Option, Some, None, option_map, option_and_then, Result, Ok, Err, codes}
+use Rattle.std.specs.Prelude.{ℕ, Bool, true, false, if◌then◌else◌, List, [], ◌∷◌, map, Option, Some, None, option_map, option_and_then, codes}
 use Rattle.auth.specs.Callers.{Identity}
 use Rattle.couch_json.specs.Parts.{has_only, items_in, truth_in}
 use Rattle.couch_json.specs.Value.{Value, null, truth, text, array, object, Items, no_items, item, Members, no_members, member_of, put}

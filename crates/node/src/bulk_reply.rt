@@ -43,11 +43,7 @@ fn edits_listed(alloc: Global, caller: &Caller, results: Vec<DocumentResult>) ->
 }
 
 /// An element for each document that was refused, in order.
-fn failures_listed(
-    alloc: Global,
-    caller: &Caller,
-    results: Vec<DocumentResult>,
-) -> Got<Vec<Json>>
+fn failures_listed(alloc: Global, caller: &Caller, results: Vec<DocumentResult>) -> Got<Vec<Json>>
     ensures { IfOk result (λ values. map view values.items ≡ failures_listed caller.now (map told_of results.items)) }
 {
     let mut values = Vec::new(alloc);
@@ -64,7 +60,11 @@ fn failures_listed(
 fn edit_listed(alloc: Global, caller: &Caller, told: DocumentResult) -> Got<Json>
     ensures { IfOk result (λ value. view value ≡ edit_listed caller.now (told_of told)) }
 {
-    let DocumentResult { id, rev: _, outcome } = told;
+    let DocumentResult {
+        id,
+        rev: _,
+        outcome,
+    } = told;
     let members = match outcome {
         Outcome::Made(rev) => made_members(alloc, &id, &rev)?,
         Outcome::Known => known_members(alloc, &id)?,
