@@ -22,10 +22,10 @@ reply_lines-append name [] ss = refl
 reply_lines-append name (r ∷ rs) ss = ap (λ t. reply_line name r ++ t) (reply_lines-append name rs ss) ∙ sym (append_assoc (reply_line name r) (reply_lines name rs) (reply_lines name ss))
 
 AreReplies-push : (c : Configuration) (before : Contents) (ms : List Message) (rs : List Reply) (between : Contents) (m : Message) (r : Reply) (after : Contents)
-    → AreReplies c before ms rs between → IsStep c between m ⊥ r after → AreReplies c before (ms ++ m ∷ []) (rs ++ r ∷ []) after
+    → AreReplies c before ms rs between → IsStep c between m (λ _. ⊥) r after → AreReplies c before (ms ++ m ∷ []) (rs ++ r ∷ []) after
 AreReplies-push c before [] [] between m r after p step = (after, step-at, refl)
   where
-    step-at : IsStep c before m ⊥ r after
+    step-at : IsStep c before m (λ _. ⊥) r after
     step-at = rw (sym p) step
 AreReplies-push c before [] (s ∷ rs) between m r after p step = absurd p
 AreReplies-push c before (n ∷ ms) [] between m r after p step = absurd p
@@ -33,7 +33,7 @@ AreReplies-push c before (n ∷ ms) (s ∷ rs) between m r after p step = (p.0, 
 
 -- one more request answered, and its reply printed
 pub IsAnswered-push : (c : Configuration) (before : Contents) (ms : List Message) (name : List ℕ) (a b d : Option (List ℕ)) (between : Contents) (m : Message) (r : Reply)
-    (after : Contents) → IsAnswered c before ms [] name a b between → IsStep c between m ⊥ r after → Appends b d (reply_line name r)
+    (after : Contents) → IsAnswered c before ms [] name a b between → IsStep c between m (λ _. ⊥) r after → Appends b d (reply_line name r)
     → IsAnswered c before (ms ++ m ∷ []) [] name a d after
 IsAnswered-push c before ms name a b d between m r after p step printed =
     (p.0 ++ r ∷ [], AreReplies-push c before ms p.0 between m r after p.1 step, lines)
@@ -47,10 +47,10 @@ IsAnswered-push c before ms name a b d between m r after p step printed =
 -- the same at the next request of a list
 pub IsAnswered-more : (c k : Configuration) → k ≡ c → (before : Contents) (requests : List Request) (i : ℕ) (q : Request) → i < length requests → q ≡ get_or requests i q
     → (name : List ℕ) (a b d : Option (List ℕ)) (between : Contents) (r : Reply) (after : Contents)
-    → IsAnswered c before (map message_of (take i requests)) [] name a b between → IsStep k between (message_of q) ⊥ r after → Appends b d (reply_line name r)
+    → IsAnswered c before (map message_of (take i requests)) [] name a b between → IsStep k between (message_of q) (λ _. ⊥) r after → Appends b d (reply_line name r)
     → IsAnswered c before (map message_of (take (i + 1) requests)) [] name a d after
 IsAnswered-more c k same before requests i q inside at name a b d between r after p step printed =
-    let P : Configuration → Type 0 = λ x. IsStep x between (message_of q) ⊥ r after in
+    let P : Configuration → Type 0 = λ x. IsStep x between (message_of q) (λ _. ⊥) r after in
     let items : map message_of (take (i + 1) requests) ≡ map message_of (take i requests) ++ message_of q ∷ [] =
     map_more message_of requests i q inside ∙ ap (λ (x : Request). map message_of (take i requests) ++ message_of x ∷ []) (sym at) in
     rw items (IsAnswered-push c before (map message_of (take i requests)) name a b d between (message_of q) r after p (subst P same step) printed)

@@ -28,7 +28,7 @@ AreReplies c before [] [] after = after ≡ before
 AreReplies c before [] (reply ∷ replies) after = ⊥
 AreReplies c before (m ∷ messages) [] after = ⊥
 AreReplies c before (m ∷ messages) (reply ∷ replies) after =
-    (between : Contents) × IsStep c before m ⊥ reply between × AreReplies c between messages replies after
+    (between : Contents) × IsStep c before m (λ _. ⊥) reply between × AreReplies c between messages replies after
 
 -- the reply to a fault of a stream
 abbrev pub refusal_of : HttpFault → List Reply

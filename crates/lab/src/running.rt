@@ -153,7 +153,7 @@ fn answer_all<W: Write>(
 
 /// Handles a request. A store in memory never fails, so the reply is no 500.
 fn handle(node: &mut Node<PlainStore>, request: &Request) -> Response
-    ensures step { IsStep node.old.configuration (databases_of node.old.store) (message_of request.now) ⊥ result (databases_of node.new.store) }
+    ensures step { IsStep node.old.configuration (databases_of node.old.store) (message_of request.now) (λ _. ⊥) result (databases_of node.new.store) }
     ensures configuration { node.new.configuration ≡ node.old.configuration }
 {
     node.handle(request)

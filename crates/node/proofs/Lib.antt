@@ -1,4 +1,7 @@
 pub mod Faults
-pub mod Changed
 pub mod Listed
 pub mod Elements
+pub mod Comings
+pub mod Planned
+pub mod Tasks
+pub mod Steps

@@ -1,46 +1,100 @@
 -- What a request came to, in the words of `Answer`: for private clauses.
--- This crate's own: it ties a struct of the code to the definition.
-use Rattle.std.specs.Prelude.{◌≡◌, ℕ, List, true, Option, Some, None, ⊤, is_some}
-use Rattle.std.specs.FinMap.{get, insert, remove}
+-- This crate's own: it ties structs of the code to the definition.
+use Rattle.std.specs.Prelude.{◌≡◌, ℕ, List, true, Option, Some, None, Result, ⊤, is_some}
+use Rattle.std.specs.FinMap.{get}
+use Rattle.auth.specs.Callers.{Identity}
+use Rattle.couch_http.specs.Message.{Message}
 use Rattle.couch_json.specs.View.{view}
-use Rattle.store.specs.Contents.{Contents, IfThere, new_database}
+use Rattle.store.specs.Contents.{Contents, IfThere}
 use Rattle.store.specs.Database.{Database}
-use Rattle.write.specs.Planning as planning
+use Rattle.store.specs.Writing.{additions, writings_in}
+use Rattle.policy.specs.declared.action.Action.{Action}
+use Rattle.policy.specs.declared.action.Action.TheVariants.{Read as ToRead, WriteSecurity, WriteDocument}
+use Rattle.write.specs.Planning.{MayBeMade}
 use Rattle.write.specs.declared.planned.Changes.{Changes}
-use Rattle.node.specs.Answer.{Outcome}
+use Rattle.write.specs.declared.planned.Changes.TheVariants.{Writes, Security as SecurityObject}
+use Rattle.couch_json.specs.Value.{Value}
+use Rattle.node.specs.Answer as answer
+use Rattle.node.specs.Work.{Done, Effect, Work, appended, reading, secured}
+use Rattle.node.specs.Works.{database_read, document_deleted, document_read, document_written, documents_written, security_read, security_written}
+use Rattle.node.specs.declared.refusal.Refusal.{Refusal}
 use Rattle.node.specs.declared.answered.Answered.{Answered}
 use Rattle.node.specs.declared.answered.Change.{Change}
 use Rattle.node.specs.declared.answered.Change.TheVariants.{Create, Remove, Write}
+use Rattle.node.specs.declared.answered.Worked.{Worked}
+use Rattle.node.specs.declared.working.Work.{Work as WorkAsked}
+use Rattle.node.specs.declared.working.Work.TheVariants as asked
+use Rattle.node.specs.declared.working.Reading.{Reading}
+use Rattle.node.specs.declared.working.Reading.TheVariants as read
+use Rattle.node.specs.declared.working.Writing.{Writing}
+use Rattle.node.specs.declared.working.Writing.TheVariants as write
 
--- the databases with changes made in the one of this name, where there is one
-abbrev pub with_changes_in : Contents → List ℕ → Changes → Option Database → Contents
-with_changes_in databases name changes None = databases
-with_changes_in databases name changes (Some db) = insert databases name (planning.changed changes db)
+-- ---- work
 
-abbrev pub with_changes : Contents → List ℕ → Changes → Contents
-with_changes databases name changes = with_changes_in databases name changes (get databases name)
+-- a read of a database of this name
+abbrev pub reading_of : Reading → Message → List ℕ → Database → Result Value Refusal
+reading_of read.Database m name = database_read m name
+reading_of read.Security m name = security_read m
+reading_of read.Document m name = document_read m
 
-abbrev pub changed_by : Contents → Change → Contents
-changed_by databases (Create name) = insert databases name new_database
-changed_by databases (Remove name) = remove databases name
-changed_by databases (Write planned) = with_changes databases planned.database planned.changes
+abbrev pub writing_of : Writing → Identity → Message → Work
+writing_of write.Security caller m = security_written m
+writing_of write.Documents caller m = documents_written caller m
+writing_of write.Document caller m = document_written caller m
+writing_of write.Deletion caller m = document_deleted caller m
 
--- the databases with a change made
-abbrev pub changed : Contents → Option Change → Contents
-changed databases None = databases
-changed databases (Some change) = changed_by databases change
+abbrev pub work_of : WorkAsked → Identity → Message → List ℕ → Work
+work_of (asked.Read r) caller m name = reading (reading_of r m name)
+work_of (asked.Write w) caller m name = writing_of w caller m
+
+abbrev pub action_of_writing : Writing → Action
+action_of_writing write.Security = WriteSecurity
+action_of_writing write.Documents = WriteDocument
+action_of_writing write.Document = WriteDocument
+action_of_writing write.Deletion = WriteDocument
+
+-- the action that the policy of the database is asked for
+abbrev pub action_of : WorkAsked → Action
+action_of (asked.Read r) = ToRead
+action_of (asked.Write w) = action_of_writing w
+
+-- ---- what it comes to
+
+abbrev pub effect_of : Changes → Database → Effect
+effect_of (Writes ws) db = appended (writings_in db (additions ws.items))
+effect_of (SecurityObject security) db = secured security
+
+-- what work comes to in a database
+abbrev pub done_of : Database → Worked → Done
+done_of db w = record { status = w.status; value = view w.value; effect = effect_of w.planned.changes db }
+
+abbrev pub change_inside : List ℕ → Changes → Option Database → answer.Change
+change_inside name changes None = answer.kept
+change_inside name changes (Some db) = answer.change_at name (effect_of changes db)
+
+abbrev pub change_by : Contents → Change → answer.Change
+change_by databases (Create name) = answer.creation name
+change_by databases (Remove name) = answer.removal name
+change_by databases (Write planned) = change_inside planned.database planned.changes (get databases planned.database)
+
+-- the change that was found in order, if there is one
+abbrev pub change_of : Contents → Option Change → answer.Change
+change_of databases None = answer.kept
+change_of databases (Some change) = change_by databases change
+
+abbrev pub outcome_of : Contents → Answered → answer.Outcome
+outcome_of databases a = record { status = a.status; value = view a.value; change = change_of databases a.change }
+
+-- ---- when it may be made
 
 abbrev pub MayChangeBy : Contents → Change → Type 0
 MayChangeBy databases (Create name) = get databases name ≡ None
 MayChangeBy databases (Remove name) = is_some (get databases name) ≡ true
 MayChangeBy databases (Write planned) =
-    IfThere (get databases planned.database) (λ db. planning.MayBeMade planned.changes db)
+    IfThere (get databases planned.database) (λ db. MayBeMade planned.changes db)
     × (is_some (get databases planned.database) ≡ true)
 
 -- the change may be made
 abbrev pub MayChange : Contents → Option Change → Type 0
 MayChange databases None = ⊤
 MayChange databases (Some change) = MayChangeBy databases change
-
-abbrev pub outcome_of : Contents → Answered → Outcome
-outcome_of databases a = record { status = a.status; value = view a.value; after = changed databases a.change }

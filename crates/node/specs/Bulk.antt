@@ -1,12 +1,15 @@
 -- What a request to write several documents asks for, and what its reply says of them.
 -- CouchDB manual, api/database/bulk-api (`docs` and `new_edits`; `id`, `ok` and `rev`, or `error` and `reason`); that no other member is taken, and that the failure of a replicated document names the `rev` that was sent, are this server's own.
-use Rattle.std.specs.Prelude.{ℕ, Bool, true, false, if◌then◌else◌, List, [], ◌∷◌, map, Option, Some, None, option_map, option_and_then, Result, Ok, Err, codes}
+use Rattle.std.specs.Prelude.{ℕ, Bool, true, false, if◌then◌else◌, List, [], ◌∷◌, map, Option, Some, None, option_map, option_and_then, codes}
+use Rattle.auth.specs.Callers.{Identity}
 use Rattle.couch_json.specs.Parts.{has_only, items_in, truth_in}
 use Rattle.couch_json.specs.Value.{Value, null, truth, text, array, object, Items, no_items, item, Members, no_members, member_of, put}
 use Rattle.couch_json.specs.View.{items_of}
 use Rattle.tree.specs.Revision.{Revision, text_of}
 use Rattle.write.specs.Bulk.{Told}
 use Rattle.write.specs.declared.fault.WriteFault.{WriteFault}
+use Rattle.write.specs.declared.planned.Outcome.{Outcome}
+use Rattle.write.specs.declared.planned.Outcome.TheVariants.{Made, Known, Refused}
 use Rattle.node.specs.Refusals.{refusal_members, refusal_of_edit}
 
 -- ---- what is asked for
@@ -48,44 +51,46 @@ abbrev pub text_or_null : Option (List ℕ) → Value
 text_or_null None = null
 text_or_null (Some s) = text s
 
-abbrev pub revision_or_null : Option Revision → Value
-revision_or_null None = null
-revision_or_null (Some r) = text (text_of r)
+-- of a document that is there: its id
+abbrev pub known_members : Option (List ℕ) → Members
+known_members id = put (codes "ok") (truth true) (put (codes "id") (text_or_null id) no_members)
 
 -- of an edit that was made: its id and the new revision
-abbrev pub made_members : Option (List ℕ) → Option Revision → Members
-made_members id rev =
-    put (codes "rev") (revision_or_null rev) (put (codes "ok") (truth true) (put (codes "id") (text_or_null id) no_members))
+abbrev pub made_members : Option (List ℕ) → Revision → Members
+made_members id rev = put (codes "rev") (text (text_of rev)) (known_members id)
 
 -- of a document that was refused: its id, and why
-abbrev pub failed_members : Option (List ℕ) → WriteFault → Members
-failed_members id fault = put (codes "id") (text_or_null id) (refusal_members (refusal_of_edit fault))
+abbrev pub failed_members : Identity → Option (List ℕ) → WriteFault → Members
+failed_members caller id fault = put (codes "id") (text_or_null id) (refusal_members (refusal_of_edit caller fault))
 
-abbrev pub edit_members : Option (List ℕ) → Result (Option Revision) WriteFault → Members
-edit_members id (Ok rev) = made_members id rev
-edit_members id (Err fault) = failed_members id fault
+abbrev pub edit_members : Identity → Option (List ℕ) → Outcome → Members
+edit_members caller id (Made rev) = made_members id rev
+edit_members caller id Known = known_members id
+edit_members caller id (Refused fault) = failed_members caller id fault
 
--- of a new edit, made or refused
-abbrev pub edit_listed : Told → Value
-edit_listed told = object (edit_members told.id told.outcome)
+-- of a new edit: made, as it always is where it isn't refused, or refused
+abbrev pub edit_listed : Identity → Told → Value
+edit_listed caller told = object (edit_members caller told.id told.outcome)
 
 -- of a replicated document that was refused, with the revision that was sent
-abbrev pub failure_listed : Told → WriteFault → Value
-failure_listed told fault = object (put (codes "rev") (text_or_null told.rev) (failed_members told.id fault))
+abbrev pub failure_listed : Identity → Option (List ℕ) → Option (List ℕ) → WriteFault → Value
+failure_listed caller id rev fault = object (put (codes "rev") (text_or_null rev) (failed_members caller id fault))
 
-abbrev pub if_failed : Told → Result (Option Revision) WriteFault → List Value → List Value
-if_failed told (Ok rev) rest = rest
-if_failed told (Err fault) rest = failure_listed told fault ∷ rest
+abbrev pub if_failed : Identity → Told → Outcome → List Value → List Value
+if_failed caller told (Made rev) rest = rest
+if_failed caller told Known rest = rest
+if_failed caller told (Refused fault) rest = failure_listed caller told.id told.rev fault ∷ rest
 
 -- of the replicated documents that were refused, in order
-abbrev pub failures_listed : List Told → List Value
-failures_listed [] = []
-failures_listed (told ∷ rest) = if_failed told told.outcome (failures_listed rest)
+abbrev pub failures_listed : Identity → List Told → List Value
+failures_listed caller [] = []
+failures_listed caller (told ∷ rest) = if_failed caller told told.outcome (failures_listed caller rest)
 
 -- an element for each new edit, in order; of replicated documents those that were refused alone
-abbrev pub listed : Bool → List Told → List Value
-listed true all = map edit_listed all
-listed false all = failures_listed all
+abbrev pub listed : Identity → Bool → List Told → List Value
+listed caller true all = map (edit_listed caller) all
+listed caller false all = failures_listed caller all
 
-abbrev pub bulk_reply : Bool → List Told → Value
-bulk_reply new_edits all = array (items_of (listed new_edits all))
+-- what the reply to this caller says of all of them
+abbrev pub bulk_reply : Identity → Bool → List Told → Value
+bulk_reply caller new_edits all = array (items_of (listed caller new_edits all))

@@ -1,10 +1,7 @@
 -- Why the work on a request may end because the store failed.
 -- This server's own: a reply of 500 stands for a fault of the store that is counted, or for want of numbers for the change that the answer makes, and for nothing else.
-use Rattle.std.specs.Prelude.{◌≡◌, ℕ, List, Some, ◌⊎◌, ⊤}
-use Rattle.std.specs.FinMap.{get, insert}
+use Rattle.std.specs.Prelude.{◌⊎◌, ⊤}
 use Rattle.store.specs.Causes.{HasFailed}
-use Rattle.store.specs.Contents.{Contents, new_database}
-use Rattle.store.specs.Database.{Database, DocumentWrite, with_all}
 use Rattle.store.specs.declared.fault.StoreFault.{StoreFault}
 use Rattle.store.specs.declared.fault.StoreFault.TheVariants as store
 use Rattle.store.specs.declared.store.Store.{Ghosts}
@@ -12,28 +9,24 @@ use Rattle.read.specs.declared.fault.ReadFault.{ReadFault}
 use Rattle.read.specs.declared.fault.ReadFault.TheVariants as read
 use Rattle.write.specs.declared.fault.WriteFault.{WriteFault}
 use Rattle.write.specs.declared.fault.WriteFault.TheVariants as write
+use Rattle.node.specs.Answer.{Change, creation, inside, kept, removal}
+use Rattle.node.specs.Work.{appended, nothing, secured}
 use Rattle.node.specs.declared.refusal.Refusal.TheVariants.{Deleted, Exists, Missing, NoDatabase, Query}
 use Rattle.node.specs.declared.stop.Stop.{Stop}
 use Rattle.node.specs.declared.stop.Stop.TheVariants.{Refused, Failed, NoRoom}
 
--- these databases are the store's with a new one, and there is no number left for it
-pub record LacksNumber {S : Type 0} (g : Ghosts S) (s : S) (after : Contents) : Type 0 where
-  pub name : List ℕ
-  pub made : after ≡ insert (g.contents s) name new_database
-  pub lacking : g.lacks_number s
+-- the store has no number left for this change: for a new database, or for writes that are appended
+abbrev pub LacksNumbers : {S : Type 0} → Ghosts S → S → Change → Type 0
+LacksNumbers g s kept = ⊥
+LacksNumbers g s (creation name) = g.lacks_number s
+LacksNumbers g s (removal name) = ⊥
+LacksNumbers g s (inside name nothing) = ⊥
+LacksNumbers g s (inside name (appended ws)) = g.lacks_room s name ws
+LacksNumbers g s (inside name (secured security)) = ⊥
 
--- these databases are the store's with more writes in one, and there are no numbers left for them
-pub record LacksRoom {S : Type 0} (g : Ghosts S) (s : S) (after : Contents) : Type 0 where
-  pub name : List ℕ
-  pub database : Database
-  pub writes : List DocumentWrite
-  pub there : get (g.contents s) name ≡ Some database
-  pub made : after ≡ insert (g.contents s) name (with_all database writes)
-  pub lacking : g.lacks_room s name writes
-
--- a fault was counted, or numbers ran out for the change that makes these databases
-abbrev pub HasCause : {S : Type 0} → Ghosts S → S → S → Contents → Type 0
-HasCause g old new after = HasFailed (g.fault_count old) (g.fault_count new) ⊎ (LacksNumber g old after ⊎ LacksRoom g old after)
+-- a fault was counted, or numbers lacked for this change
+abbrev pub HasCause : {S : Type 0} → Ghosts S → S → S → Change → Type 0
+HasCause g old new change = HasFailed (g.fault_count old) (g.fault_count new) ⊎ LacksNumbers g old change
 
 -- what has to hold where the work on a request ends so before anything is changed
 abbrev pub Ends : {S : Type 0} → Ghosts S → S → S → Stop → Type 0
@@ -41,11 +34,11 @@ Ends g old new Failed = g.is_honest new → HasFailed (g.fault_count old) (g.fau
 Ends g old new (Refused refusal) = ⊤
 Ends g old new NoRoom = ⊤
 
--- what has to hold where it ends so though these databases were to be made
-abbrev pub EndsBefore : {S : Type 0} → Ghosts S → S → S → Contents → Stop → Type 0
-EndsBefore g old new after Failed = g.is_honest new → HasCause g old new after
-EndsBefore g old new after (Refused refusal) = ⊤
-EndsBefore g old new after NoRoom = ⊤
+-- what has to hold where it ends so though this change was to be made
+abbrev pub EndsBefore : {S : Type 0} → Ghosts S → S → S → Change → Stop → Type 0
+EndsBefore g old new change Failed = g.is_honest new → HasCause g old new change
+EndsBefore g old new change (Refused refusal) = ⊤
+EndsBefore g old new change NoRoom = ⊤
 
 -- how a request ends that the store refuses
 abbrev pub stop_of : StoreFault → Stop

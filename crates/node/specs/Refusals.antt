@@ -1,11 +1,13 @@
 -- The reply to a request that is refused: its status, and an object that says why.
 -- CouchDB manual, api/basics (`error` and `reason`, the status codes); that a denial names its rule is this server's own.
 use Rattle.std.specs.Prelude.{ℕ, List, codes, Option, Some, None}
+use Rattle.auth.specs.Callers.{Identity}
 use Rattle.couch_json.specs.Value.{Value, text, object, Members, no_members, put}
 use Rattle.policy.specs.declared.rule.Rule.{Rule}
 use Rattle.policy.specs.declared.rule.Rule.TheVariants.{ProxyToken, ServerAdmin, DbMember, DbAdmin, DesignDocument, Update}
 use Rattle.write.specs.declared.fault.WriteFault.{WriteFault}
 use Rattle.write.specs.declared.fault.WriteFault.TheVariants as write
+use Rattle.node.specs.Asking.{denied}
 use Rattle.node.specs.declared.refusal.Refusal.{Refusal}
 use Rattle.node.specs.declared.refusal.Refusal.TheVariants.{Unauthorized, Forbidden, Path, Method, DatabaseName, NoDatabase, Exists, Id, Query, Syntax, Body, BadDocument, BadHistory, Conflict, Generation, Missing, Deleted}
 
@@ -116,10 +118,13 @@ refusal_members r = with_rule (rule_of r) (put (codes "reason") (text (reason_of
 abbrev pub refusal_value : Refusal → Value
 refusal_value r = object (refusal_members r)
 
--- the write of a document is refused as a bad document, for its history, as a conflict, or for want of a further generation, and for no
--- other cause
-abbrev pub refusal_of_edit : WriteFault → Refusal
-refusal_of_edit write.BadDocument = BadDocument
-refusal_of_edit write.BadHistory = BadHistory
-refusal_of_edit write.Generation = Generation
-refusal_of_edit fault = Conflict
+-- What the write of a document is refused for: as a bad document, by a rule, for its history, as a conflict, or for want of a further
+-- generation. No definition refuses it for the store's sake or for want of memory.
+abbrev pub refusal_of_edit : Identity → WriteFault → Refusal
+refusal_of_edit caller write.BadDocument = BadDocument
+refusal_of_edit caller (write.Denied rule) = denied caller rule
+refusal_of_edit caller write.BadHistory = BadHistory
+refusal_of_edit caller write.Conflict = Conflict
+refusal_of_edit caller write.Generation = Generation
+refusal_of_edit caller (write.Store fault) = Conflict
+refusal_of_edit caller write.Memory = Conflict

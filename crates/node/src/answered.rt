@@ -23,3 +23,14 @@ pub(crate) enum Change {
     /// What was planned for a database.
     Write(Planned),
 }
+
+/// What a request comes to that changes a database, with the change not made yet.
+#[derive(Drop)]
+pub(crate) struct Worked {
+    /// The status of the reply.
+    pub(crate) status: u16,
+    /// The value of its body.
+    pub(crate) value: Json,
+    /// The change that the reply stands for.
+    pub(crate) planned: Planned,
+}

@@ -1,9 +1,11 @@
 //! What a request says besides its path: who asks, with which parameters, and with which body.
 
-ghost use Rattle.std.specs.Prelude.{◌≡◌, ◌≢◌, true, false, OnOk, IfOk, Ok, Err, Some, None, map, option_map, string_bytes};
+ghost use Rattle.std.specs.Prelude.{◌≡◌, IfOk, map, option_map, string_bytes};
 ghost use Rattle.couch_json.specs.View.{view};
 ghost use Rattle.couch_http.specs.Message.{header_field, message_of};
 ghost use Rattle.node.specs.Asking.{asking, body_of, denied, lacks_parameters, pair_of};
+ghost use Rattle.node.specs.Coming.{Says};
+ghost use Rattle.node.specs.Works.{plain};
 
 use crate::refusal::Refusal;
 use crate::stop::Stop;
@@ -13,18 +15,17 @@ use couch_json::{Got, Json, JsonFault, read};
 use policy::Rule;
 use std::alloc::Global;
 
-/// Who asks, by the proxy's headers.
+/// Tells who asks, by the proxy's headers.
 pub(crate) fn caller(alloc: Global, auth: &Auth, request: &Request) -> Result<Caller, Stop>
-    ensures ok { IfOk result (λ caller. asking auth.now (message_of request.now) ≡ Ok caller) }
-    ensures refused { (refusal : _) → result ≡ Err (Stop.Refused refusal) → asking auth.now (message_of request.now) ≡ Err refusal }
-    ensures working { result ≢ Err Stop.Failed }
+    ensures { Says (λ caller. caller) result (asking auth.now (message_of request.now)) }
 {
     let headers = pairs(alloc, &request.headers)?;
     match auth.caller(&headers) {
         Ok(caller) => Ok(caller),
         Err(AuthFault::Memory) => Err(Stop::NoRoom),
-        Err(AuthFault::Token) => Err(Stop::Refused(Refusal::Unauthorized(Rule::ProxyToken))),
-        Err(AuthFault::Repeated) => Err(Stop::Refused(Refusal::Unauthorized(Rule::ProxyToken))),
+        Err(AuthFault::Token | AuthFault::Repeated) => {
+            Err(Stop::Refused(Refusal::Unauthorized(Rule::ProxyToken)))
+        }
     }
 }
 
@@ -63,11 +64,7 @@ fn lacks_parameters(query: &Option<String>) -> bool
 
 /// Refuses a query that has a parameter.
 pub(crate) fn without_parameters(request: &Request) -> Result<(), Stop>
-    ensures ok { OnOk result (lacks_parameters (message_of request.now).query ≡ true) }
-    ensures refused { (refusal : _) → result ≡ Err (Stop.Refused refusal)
-        → (lacks_parameters (message_of request.now).query ≡ false) × (refusal ≡ Refusal.Query) }
-    ensures ready { result ≢ Err Stop.NoRoom }
-    ensures working { result ≢ Err Stop.Failed }
+    ensures { Says (λ nothing. nothing) result (plain (message_of request.now)) }
 {
     if !lacks_parameters(&request.query) {
         return Err(Stop::Refused(Refusal::Query));
@@ -75,11 +72,9 @@ pub(crate) fn without_parameters(request: &Request) -> Result<(), Stop>
     Ok(())
 }
 
-/// The value of a body.
+/// Reads the value of a body.
 pub(crate) fn body(alloc: Global, request: &Request) -> Result<Json, Stop>
-    ensures ok { IfOk result (λ value. body_of (message_of request.now) ≡ Ok (view value)) }
-    ensures refused { (refusal : _) → result ≡ Err (Stop.Refused refusal) → body_of (message_of request.now) ≡ Err refusal }
-    ensures working { result ≢ Err Stop.Failed }
+    ensures { Says view result (body_of (message_of request.now)) }
 {
     match read(alloc, &request.body) {
         Ok(value) => Ok(value),

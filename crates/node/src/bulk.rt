@@ -1,31 +1,31 @@
 //! The page on which several documents are written together (CouchDB manual, api/database/bulk-api).
 
-ghost use Rattle.std.specs.Prelude.{◌≡◌, ◌≢◌, IfOk, IfErr, Ok, Err, Some, None, is_some, true, option_map, map as list_map, codes};
+ghost use Rattle.std.specs.Prelude.{◌≡◌, IfOk, IfErr, Ok, is_some, true, option_map, map as list_map, codes};
 ghost use Rattle.std.specs.FinMap as map;
 ghost use Rattle.couch_http.specs.Message.{message_of};
 ghost use Rattle.couch_json.specs.Value.{member_at, member_of};
 ghost use Rattle.couch_json.specs.View.{members_view, view};
 ghost use Rattle.store.specs.Calls.{OnlyReads};
-ghost use Rattle.node.specs.Answer.{bulk_written, documents_written};
-ghost use Rattle.node.specs.Answered.{MayChange, outcome_of};
+ghost use Rattle.write.specs.Planning.{MayBeMade};
+ghost use Rattle.node.specs.Answered.{done_of};
 ghost use Rattle.node.specs.Bulk.{bulk_in, documents_in, documents_of, new_edits_in};
 ghost use Rattle.node.specs.BulkAsked.{bulk_asked};
 ghost use Rattle.node.specs.Causes.{Ends};
+ghost use Rattle.node.specs.Coming.{Comes, OfThere};
+ghost use Rattle.node.specs.Works.{bulk_written, documents_written};
 
-use crate::answered::{Answered, Change};
+use crate::answered::Worked;
 use crate::asking::{body, without_parameters};
 use crate::bulk_reply::bulk_reply;
-use crate::entering::entered;
 use crate::refusal::Refusal;
 use crate::stop::Stop;
 use auth::Caller;
 use couch_http::Request;
 use couch_json::Json;
-use policy::Action;
 use std::alloc::Global;
 use std::collections::BTreeMap;
 use store::{DbName, Store};
-use write::{WriteFault, bulk};
+use write::{Planned, WriteFault, bulk};
 
 /// Documents that are to be written together.
 #[derive(Drop)]
@@ -41,33 +41,22 @@ pub(crate) fn write_documents<S: Store>(
     alloc: Global,
     store: &mut S,
     caller: &Caller,
+    name: &DbName,
     request: &Request,
-) -> Result<Answered, Stop>
-    ensures ok { S.is_honest store.new → IfOk result (λ answered.
-        documents_written caller.now (S.contents store.old) (message_of request.now) ≡ Ok (outcome_of (S.contents store.old) answered)) }
-    ensures refused { S.is_honest store.new → (refusal : _) → result ≡ Err (Stop.Refused refusal)
-        → documents_written caller.now (S.contents store.old) (message_of request.now) ≡ Err refusal }
-    ensures may { S.is_honest store.new → IfOk result (λ answered. MayChange (S.contents store.old) answered.change) }
+) -> Result<Worked, Stop>
+    ensures comes { S.is_honest store.new → OfThere (S.contents store.old) name.now (λ db. Comes (done_of db) result
+        (documents_written caller.now (message_of request.now) db)) }
+    ensures may { S.is_honest store.new → OfThere (S.contents store.old) name.now (λ db. IfOk result (λ worked. MayBeMade worked.planned.changes db)) }
+    ensures own { IfOk result (λ worked. worked.planned.database ≡ name.now) }
     ensures ends { IfErr result (Ends S.Store store.old store.new) }
     ensures reads { OnlyReads S.Store store.old store.new }
 {
-    let name = entered(alloc, store, Action::WriteDocument, caller, &request.path)?;
     without_parameters(request)?;
-    let asked = asked(body(alloc, request)?)?;
-    written(alloc, store, &name, asked)
-}
-
-/// What a body asks to be written.
-fn asked(value: Json) -> Result<BulkAsked, Stop>
-    ensures ok { IfOk result (λ asked. bulk_in (view value) ≡ Some (bulk_asked asked)) }
-    ensures refused { (refusal : _) → result ≡ Err (Stop.Refused refusal) → (bulk_in (view value) ≡ None) × (refusal ≡ Refusal.Body) }
-    ensures ready { result ≢ Err Stop.NoRoom }
-    ensures working { result ≢ Err Stop.Failed }
-{
-    match bulk_in(value) {
-        Some(asked) => Ok(asked),
-        None => Err(Stop::Refused(Refusal::Body)),
-    }
+    let value = body(alloc, request)?;
+    let Some(asked) = bulk_in(value) else {
+        return Err(Stop::Refused(Refusal::Body));
+    };
+    write_bulk(alloc, store, caller, name, asked)
 }
 
 /// What a body asks to be written, where it is an object of `docs` and `new_edits` alone.
@@ -124,32 +113,39 @@ fn list_of(value: Json) -> Option<Vec<Json>>
 }
 
 /// What the documents come to.
-#[tactic(auto, using(crate::proofs::Changed::writes_made))]
-fn written<S: Store>(
+fn write_bulk<S: Store>(
     alloc: Global,
     store: &mut S,
+    caller: &Caller,
     name: &DbName,
     asked: BulkAsked,
-) -> Result<Answered, Stop>
-    requires there { S.is_honest store.old → is_some (map.get (S.contents store.old) name.now) ≡ true }
-    ensures ok { S.is_honest store.new → IfOk result (λ answered.
-        bulk_written (S.contents store.old) name.now (bulk_asked asked) (map.get (S.contents store.old) name.now) ≡ Ok (outcome_of (S.contents store.old) answered)) }
-    ensures refused { S.is_honest store.new → (refusal : _) → result ≡ Err (Stop.Refused refusal)
-        → bulk_written (S.contents store.old) name.now (bulk_asked asked) (map.get (S.contents store.old) name.now) ≡ Err refusal }
-    ensures may { S.is_honest store.new → IfOk result (λ answered. MayChange (S.contents store.old) answered.change) }
+) -> Result<Worked, Stop>
+    ensures comes { S.is_honest store.new → OfThere (S.contents store.old) name.now (λ db. Comes (done_of db) result
+        (bulk_written caller.now (bulk_asked asked) db)) }
+    ensures may { S.is_honest store.new → OfThere (S.contents store.old) name.now (λ db. IfOk result (λ worked. MayBeMade worked.planned.changes db)) }
+    ensures own { IfOk result (λ worked. worked.planned.database ≡ name.now) }
     ensures ends { IfErr result (Ends S.Store store.old store.new) }
     ensures reads { OnlyReads S.Store store.old store.new }
 {
-    let plan = match bulk(alloc, store, name, asked.documents, asked.new_edits) {
-        Ok(plan) => plan,
+    let planned = match bulk(alloc, store, name, asked.documents, asked.new_edits) {
+        Ok(planned) => planned,
         Err(WriteFault::Store(fault)) => return Err(Stop::from(fault)),
         Err(WriteFault::Memory) => return Err(Stop::NoRoom),
         Err(_) => unreachable!(),
     };
-    let value = bulk_reply(alloc, asked.new_edits, &plan.results)?;
-    Ok(Answered {
+    let Planned {
+        database,
+        changes,
+        results,
+    } = planned;
+    let value = bulk_reply(alloc, caller, asked.new_edits, results)?;
+    Ok(Worked {
         status: 201,
         value,
-        change: Some(Change::Write(plan.planned)),
+        planned: Planned {
+            database,
+            changes,
+            results: Vec::new(alloc),
+        },
     })
 }

@@ -4,105 +4,125 @@ ghost use Rattle.std.specs.Prelude.{◌≡◌, IfOk, OnOk, option_map, string_by
 ghost use Rattle.couch_json.specs.Value.{put};
 ghost use Rattle.couch_json.specs.View.{members_view, view};
 ghost use Rattle.write.specs.BulkResults.{told_of};
-ghost use Rattle.node.specs.Bulk.{bulk_reply, edit_listed, failed_members, failure_listed, failures_listed, made_members, revision_or_null, text_or_null};
+ghost use Rattle.node.specs.Bulk.{bulk_reply, edit_listed, failed_members, failure_listed, failures_listed, known_members, made_members, text_or_null};
 
 use crate::members::put_text;
 use crate::refusal::refusal_of_edit;
+use auth::Caller;
 use couch_json::{Got, Json, put_member};
 use std::alloc::Global;
 use std::collections::BTreeMap;
 use tree::Rev;
-use write::{BulkResult, WriteFault};
+use write::{DocumentResult, Outcome, WriteFault};
 
-/// The reply: of new edits an element for each, of replicated documents one for each that was refused.
-pub(crate) fn bulk_reply(alloc: Global, new_edits: bool, results: &[BulkResult]) -> Got<Json>
-    ensures { IfOk result (λ value. view value ≡ bulk_reply new_edits (map told_of results.now)) }
+/// Makes the reply: of new edits an element for each, of replicated documents one for each that was
+/// refused.
+pub(crate) fn bulk_reply(
+    alloc: Global,
+    caller: &Caller,
+    new_edits: bool,
+    results: Vec<DocumentResult>,
+) -> Got<Json>
+    ensures { IfOk result (λ value. view value ≡ bulk_reply caller.now new_edits (map told_of results.items)) }
 {
     if new_edits {
-        return Ok(Json::Array(edits_listed(alloc, results)?));
+        return Ok(Json::Array(edits_listed(alloc, caller, results)?));
     }
-    Ok(Json::Array(failures_listed(alloc, results)?))
+    Ok(Json::Array(failures_listed(alloc, caller, results)?))
 }
 
 /// An element for each edit, in order.
-fn edits_listed(alloc: Global, results: &[BulkResult]) -> Got<Vec<Json>>
-    ensures { IfOk result (λ values. map view values.items ≡ map edit_listed (map told_of results.now)) }
+fn edits_listed(alloc: Global, caller: &Caller, results: Vec<DocumentResult>) -> Got<Vec<Json>>
+    ensures { IfOk result (λ values. map view values.items ≡ map (edit_listed caller.now) (map told_of results.items)) }
 {
     let mut values = Vec::with_capacity(alloc, results.len())?;
     for told in results {
-        values.push(edit_listed(alloc, told)?)?;
+        values.push(edit_listed(alloc, caller, told)?)?;
     }
     Ok(values)
 }
 
 /// An element for each document that was refused, in order.
-fn failures_listed(alloc: Global, results: &[BulkResult]) -> Got<Vec<Json>>
-    ensures { IfOk result (λ values. map view values.items ≡ failures_listed (map told_of results.now)) }
+fn failures_listed(alloc: Global, caller: &Caller, results: Vec<DocumentResult>) -> Got<Vec<Json>>
+    ensures { IfOk result (λ values. map view values.items ≡ failures_listed caller.now (map told_of results.items)) }
 {
     let mut values = Vec::new(alloc);
     for told in results {
-        if let Err(fault) = &told.outcome {
-            values.push(failure_listed(alloc, told, fault)?)?;
+        let DocumentResult { id, rev, outcome } = told;
+        if let Outcome::Refused(fault) = outcome {
+            values.push(failure_listed(alloc, caller, &id, &rev, fault)?)?;
         }
     }
     Ok(values)
 }
 
 /// What is said of a new edit.
-fn edit_listed(alloc: Global, told: &BulkResult) -> Got<Json>
-    ensures { IfOk result (λ value. view value ≡ edit_listed (told_of told.now)) }
+fn edit_listed(alloc: Global, caller: &Caller, told: DocumentResult) -> Got<Json>
+    ensures { IfOk result (λ value. view value ≡ edit_listed caller.now (told_of told)) }
 {
-    let members = match &told.outcome {
-        Ok(rev) => made_members(alloc, &told.id, rev)?,
-        Err(fault) => failed_members(alloc, &told.id, fault)?,
+    let DocumentResult {
+        id,
+        rev: _,
+        outcome,
+    } = told;
+    let members = match outcome {
+        Outcome::Made(rev) => made_members(alloc, &id, &rev)?,
+        Outcome::Known => known_members(alloc, &id)?,
+        Outcome::Refused(fault) => failed_members(alloc, caller, &id, fault)?,
     };
     Ok(Json::Object(members))
 }
 
 /// What is said of a replicated document that was refused.
-fn failure_listed(alloc: Global, told: &BulkResult, fault: &WriteFault) -> Got<Json>
-    ensures { IfOk result (λ value. view value ≡ failure_listed (told_of told.now) fault.now) }
+fn failure_listed(
+    alloc: Global,
+    caller: &Caller,
+    id: &Option<String>,
+    rev: &Option<String>,
+    fault: WriteFault,
+) -> Got<Json>
+    ensures { IfOk result (λ value. view value ≡ failure_listed caller.now (option_map string_bytes id.now) (option_map string_bytes rev.now) fault) }
 {
-    let mut members = failed_members(alloc, &told.id, fault)?;
-    put_text_or_null(alloc, &mut members, "rev", &told.rev)?;
+    let mut members = failed_members(alloc, caller, id, fault)?;
+    put_text_or_null(alloc, &mut members, "rev", rev)?;
     Ok(Json::Object(members))
 }
 
-/// Of an edit that was made: its id and the new revision.
-fn made_members(
+/// Says of an edit that was made its id and the new revision.
+pub(crate) fn made_members(
     alloc: Global,
     id: &Option<String>,
-    rev: &Option<Rev>,
+    rev: &Rev,
 ) -> Got<BTreeMap<String, Json>>
     ensures { IfOk result (λ members. members_view members.entries ≡ made_members (option_map string_bytes id.now) rev.now) }
+{
+    let mut members = known_members(alloc, id)?;
+    put_member(alloc, &mut members, "rev", Json::Text(rev.text(alloc)?))?;
+    Ok(members)
+}
+
+/// Of a document that is there: its id.
+fn known_members(alloc: Global, id: &Option<String>) -> Got<BTreeMap<String, Json>>
+    ensures { IfOk result (λ members. members_view members.entries ≡ known_members (option_map string_bytes id.now)) }
 {
     let mut members = BTreeMap::new(alloc);
     put_text_or_null(alloc, &mut members, "id", id)?;
     put_member(alloc, &mut members, "ok", Json::Truth(true))?;
-    put_member(alloc, &mut members, "rev", revision_or_null(alloc, rev)?)?;
     Ok(members)
 }
 
 /// Of a document that was refused: its id, and why.
 fn failed_members(
     alloc: Global,
+    caller: &Caller,
     id: &Option<String>,
-    fault: &WriteFault,
+    fault: WriteFault,
 ) -> Got<BTreeMap<String, Json>>
-    ensures { IfOk result (λ members. members_view members.entries ≡ failed_members (option_map string_bytes id.now) fault.now) }
+    ensures { IfOk result (λ members. members_view members.entries ≡ failed_members caller.now (option_map string_bytes id.now) fault) }
 {
-    let mut members = refusal_of_edit(fault).members(alloc)?;
+    let mut members = refusal_of_edit(caller, fault).members(alloc)?;
     put_text_or_null(alloc, &mut members, "id", id)?;
     Ok(members)
-}
-
-fn revision_or_null(alloc: Global, rev: &Option<Rev>) -> Got<Json>
-    ensures { IfOk result (λ value. view value ≡ revision_or_null rev.now) }
-{
-    match rev {
-        Some(rev) => Ok(Json::Text(rev.text(alloc)?)),
-        None => Ok(Json::Null),
-    }
 }
 
 /// Puts a text at a name into the members of an object, or null.

@@ -1,21 +1,26 @@
 //! A document's page: `GET`, `PUT` and `DELETE /{db}/{id}` (CouchDB manual, api/document/common).
 
-ghost use Rattle.std.specs.Prelude.{◌≡◌, ◌≢◌, ◌∷◌, [], IfOk, IfErr, Ok, Err, Some, None, false};
+ghost use Rattle.std.specs.Prelude.{◌≡◌, IfOk, IfErr, Some, false, option_map};
+ghost use Rattle.std.specs.FinMap as map;
 ghost use Rattle.couch_http.specs.Message.{message_of};
 ghost use Rattle.couch_json.specs.View.{view};
 ghost use Rattle.read.specs.Answers.{Answers};
 ghost use Rattle.store.specs.Calls.{OnlyReads};
 ghost use Rattle.tree.specs.DocumentId.{is_design_id, is_local_id};
-ghost use Rattle.write.specs.Admission.{edit_in};
-ghost use Rattle.node.specs.Answer.{deletion, document_deleted, document_read, document_written, edit_asked, edited, read_in, shown, written};
-ghost use Rattle.node.specs.Answered.{MayChange, outcome_of};
+ghost use Rattle.write.specs.Admission.{admission};
+ghost use Rattle.write.specs.BulkResults.{IsMadeOutcome, OfFirst};
+ghost use Rattle.write.specs.Planning.{MayBeMade};
+ghost use Rattle.node.specs.Bulk.{made_members};
+ghost use Rattle.couch_json.specs.Value.{object};
+ghost use Rattle.node.specs.Answered.{done_of};
 ghost use Rattle.node.specs.Causes.{Ends};
-ghost use Rattle.node.specs.Queried.{query_of};
+ghost use Rattle.node.specs.Coming.{Comes, OfThere, Says};
+ghost use Rattle.node.specs.Queried.{asked_of, query_of};
+ghost use Rattle.node.specs.Works.{deletion, document_deleted, document_read, document_written, edit_asked, edited, found, read_by};
 
-use crate::answered::{Answered, Change};
+use crate::answered::Worked;
 use crate::asking::body;
-use crate::entering::entered;
-use crate::members::put_text;
+use crate::bulk_reply::made_members;
 use crate::path::document_id;
 use crate::query::{Asked, DocumentQuery, document_query, revision_query};
 use crate::refusal::{Refusal, refusal_of_edit};
@@ -23,68 +28,56 @@ use crate::stop::Stop;
 use auth::Caller;
 use couch_http::Request;
 use couch_json::{Got, Json, put_member};
-use policy::Action;
 use read::{ReadFault, get, open_revs};
 use std::alloc::Global;
 use std::collections::BTreeMap;
 use store::{DbName, Store};
 use tree::{DocId, Rev};
-use write::{WriteFault, edit};
+use write::{DocumentResult, Outcome, WriteFault, edit};
 
 /// Reads a document.
 pub(crate) fn read_document<S: Store>(
     alloc: Global,
     store: &mut S,
-    caller: &Caller,
+    name: &DbName,
     request: &Request,
-) -> Result<Answered, Stop>
-    ensures ok { S.is_honest store.new → IfOk result (λ answered.
-        document_read caller.now (S.contents store.old) (message_of request.now) ≡ Ok (outcome_of (S.contents store.old) answered)) }
-    ensures refused { S.is_honest store.new → (refusal : _) → result ≡ Err (Stop.Refused refusal)
-        → document_read caller.now (S.contents store.old) (message_of request.now) ≡ Err refusal }
-    ensures may { S.is_honest store.new → IfOk result (λ answered. MayChange (S.contents store.old) answered.change) }
+) -> Result<Json, Stop>
+    ensures comes { S.is_honest store.new → OfThere (S.contents store.old) name.now (λ db. Comes view result
+        (document_read (message_of request.now) db)) }
     ensures ends { IfErr result (Ends S.Store store.old store.new) }
     ensures reads { OnlyReads S.Store store.old store.new }
 {
-    let name = entered(alloc, store, Action::Read, caller, &request.path)?;
     let id = document_id(alloc, &request.path)?;
     let query = document_query(alloc, request)?;
-    shown(alloc, store, &name, &id, &query)
+    find(alloc, store, name, &id, &query)
 }
 
 /// What the reader of a document is shown.
-fn shown<S: Store>(
+fn find<S: Store>(
     alloc: Global,
     store: &mut S,
     name: &DbName,
     id: &DocId,
     query: &DocumentQuery,
-) -> Result<Answered, Stop>
-    ensures ok { S.is_honest store.new → IfOk result (λ answered.
-        shown (S.contents store.old) (read_in (S.contents store.old) name.now id.now (query_of query.now)) ≡ Ok (outcome_of (S.contents store.old) answered)) }
-    ensures refused { S.is_honest store.new → (refusal : _) → result ≡ Err (Stop.Refused refusal)
-        → shown (S.contents store.old) (read_in (S.contents store.old) name.now id.now (query_of query.now)) ≡ Err refusal }
-    ensures may { S.is_honest store.new → IfOk result (λ answered. MayChange (S.contents store.old) answered.change) }
+) -> Result<Json, Stop>
+    ensures comes { S.is_honest store.new → OfThere (S.contents store.old) name.now (λ db. Comes view result
+        (found (read_by id.now (query_of query.now).revs (query_of query.now).asked db))) }
     ensures ends { IfErr result (Ends S.Store store.old store.new) }
     ensures reads { OnlyReads S.Store store.old store.new }
 {
-    let value = read_in(alloc, store, name, id, query)?;
-    Ok(Answered {
-        status: 200,
-        value,
-        change: None,
-    })
+    Ok(read_by(alloc, store, name, id, query)?)
 }
 
 /// What reading a document gives, by what is asked.
-fn read_in<S: Store>(
+fn read_by<S: Store>(
     alloc: Global,
     store: &mut S,
     name: &DbName,
     id: &DocId,
     query: &DocumentQuery,
 ) -> Result<Json, ReadFault>
-    ensures answer { Answers S.Store store.old store.new (read_in (S.contents store.old) name.now id.now (query_of query.now)) result }
+    ensures answer { Answers S.Store store.old store.new
+        (option_map (read_by id.now (query_of query.now).revs (query_of query.now).asked) (map.get (S.contents store.old) name.now)) result }
     ensures reads { OnlyReads S.Store store.old store.new }
 {
     match &query.asked {
@@ -107,20 +100,19 @@ pub(crate) fn write_document<S: Store>(
     alloc: Global,
     store: &mut S,
     caller: &Caller,
+    name: &DbName,
     request: &Request,
-) -> Result<Answered, Stop>
-    ensures ok { S.is_honest store.new → IfOk result (λ answered.
-        document_written caller.now (S.contents store.old) (message_of request.now) ≡ Ok (outcome_of (S.contents store.old) answered)) }
-    ensures refused { S.is_honest store.new → (refusal : _) → result ≡ Err (Stop.Refused refusal)
-        → document_written caller.now (S.contents store.old) (message_of request.now) ≡ Err refusal }
-    ensures may { S.is_honest store.new → IfOk result (λ answered. MayChange (S.contents store.old) answered.change) }
+) -> Result<Worked, Stop>
+    ensures comes { S.is_honest store.new → OfThere (S.contents store.old) name.now (λ db. Comes (done_of db) result
+        (document_written caller.now (message_of request.now) db)) }
+    ensures may { S.is_honest store.new → OfThere (S.contents store.old) name.now (λ db. IfOk result (λ worked. MayBeMade worked.planned.changes db)) }
+    ensures own { IfOk result (λ worked. worked.planned.database ≡ name.now) }
     ensures ends { IfErr result (Ends S.Store store.old store.new) }
     ensures reads { OnlyReads S.Store store.old store.new }
 {
-    let name = entered(alloc, store, Action::WriteDocument, caller, &request.path)?;
     let (id, rev) = edit_asked(alloc, request)?;
     let document = body(alloc, request)?;
-    written(alloc, store, &name, &id, rev, document, 201)
+    edit_document(alloc, store, caller, name, &id, rev, document, 201)
 }
 
 /// Deletes a document on one of its branches, but for the change of the store itself.
@@ -128,31 +120,28 @@ pub(crate) fn delete_document<S: Store>(
     alloc: Global,
     store: &mut S,
     caller: &Caller,
+    name: &DbName,
     request: &Request,
-) -> Result<Answered, Stop>
-    ensures ok { S.is_honest store.new → IfOk result (λ answered.
-        document_deleted caller.now (S.contents store.old) (message_of request.now) ≡ Ok (outcome_of (S.contents store.old) answered)) }
-    ensures refused { S.is_honest store.new → (refusal : _) → result ≡ Err (Stop.Refused refusal)
-        → document_deleted caller.now (S.contents store.old) (message_of request.now) ≡ Err refusal }
-    ensures may { S.is_honest store.new → IfOk result (λ answered. MayChange (S.contents store.old) answered.change) }
+) -> Result<Worked, Stop>
+    ensures comes { S.is_honest store.new → OfThere (S.contents store.old) name.now (λ db. Comes (done_of db) result
+        (document_deleted caller.now (message_of request.now) db)) }
+    ensures may { S.is_honest store.new → OfThere (S.contents store.old) name.now (λ db. IfOk result (λ worked. MayBeMade worked.planned.changes db)) }
+    ensures own { IfOk result (λ worked. worked.planned.database ≡ name.now) }
     ensures ends { IfErr result (Ends S.Store store.old store.new) }
     ensures reads { OnlyReads S.Store store.old store.new }
 {
-    let name = entered(alloc, store, Action::WriteDocument, caller, &request.path)?;
     let (id, rev) = edit_asked(alloc, request)?;
-    if rev.is_none() {
+    let Some(rev) = rev else {
         return Err(Stop::Refused(Refusal::Conflict));
-    }
+    };
     let document = deletion(alloc)?;
-    written(alloc, store, &name, &id, rev, document, 200)
+    edit_document(alloc, store, caller, name, &id, Some(rev), document, 200)
 }
 
 /// The document that is edited, and the revision that the query names, if any.
 fn edit_asked(alloc: Global, request: &Request) -> Result<(DocId, Option<Rev>), Stop>
-    ensures ok { IfOk result (λ asked. edit_asked (message_of request.now) ≡ Ok asked) }
+    ensures says { Says (λ asked. asked) result (edit_asked (message_of request.now)) }
     ensures plain { IfOk result (λ asked. (is_design_id asked.0 ≡ false) × (is_local_id asked.0 ≡ false)) }
-    ensures refused { (refusal : _) → result ≡ Err (Stop.Refused refusal) → edit_asked (message_of request.now) ≡ Err refusal }
-    ensures working { result ≢ Err Stop.Failed }
 {
     let id = document_id(alloc, &request.path)?;
     let rev = revision_query(alloc, request)?;
@@ -169,47 +158,58 @@ fn deletion(alloc: Global) -> Got<Json>
 }
 
 /// What the edit of a document comes to.
-#[tactic(auto, using(crate::proofs::Changed::writes_made))]
-fn written<S: Store>(
+fn edit_document<S: Store>(
     alloc: Global,
     store: &mut S,
+    caller: &Caller,
     name: &DbName,
     id: &DocId,
     rev: Option<Rev>,
     document: Json,
     status: u16,
-) -> Result<Answered, Stop>
+) -> Result<Worked, Stop>
     requires design { is_design_id id.now ≡ false }
     requires local { is_local_id id.now ≡ false }
-    ensures ok { S.is_honest store.new → IfOk result (λ answered.
-        written status (S.contents store.old) name.now id.now (edit_in (S.contents store.old) name.now id.now rev (view document)) ≡ Ok (outcome_of (S.contents store.old) answered)) }
-    ensures refused { S.is_honest store.new → (refusal : _) → result ≡ Err (Stop.Refused refusal)
-        → written status (S.contents store.old) name.now id.now (edit_in (S.contents store.old) name.now id.now rev (view document)) ≡ Err refusal }
-    ensures may { S.is_honest store.new → IfOk result (λ answered. MayChange (S.contents store.old) answered.change) }
+    ensures comes { S.is_honest store.new → OfThere (S.contents store.old) name.now (λ db. Comes (done_of db) result
+        (edited caller.now status id.now (admission db id.now rev (view document)))) }
+    ensures may { S.is_honest store.new → OfThere (S.contents store.old) name.now (λ db. IfOk result (λ worked. MayBeMade worked.planned.changes db)) }
+    ensures own { IfOk result (λ worked. worked.planned.database ≡ name.now) }
     ensures ends { IfErr result (Ends S.Store store.old store.new) }
     ensures reads { OnlyReads S.Store store.old store.new }
 {
-    let edited = match edit(alloc, store, name, id, rev, document) {
-        Ok(edited) => edited,
+    let planned = match edit(alloc, store, name, id, rev, document) {
+        Ok(planned) => planned,
         Err(WriteFault::Memory) => return Err(Stop::NoRoom),
         Err(WriteFault::Store(fault)) => return Err(Stop::from(fault)),
-        Err(fault) => return Err(Stop::Refused(refusal_of_edit(&fault))),
+        Err(fault) => return Err(Stop::Refused(refusal_of_edit(caller, fault))),
     };
-    let value = edit_reply(alloc, &edited.id, &edited.rev)?;
-    Ok(Answered {
+    let rev = made_revision(&planned.results);
+    let value = edit_reply(alloc, id, &rev)?;
+    Ok(Worked {
         status,
         value,
-        change: Some(Change::Write(edited.planned)),
+        planned,
     })
+}
+
+/// The revision that the first of the results makes.
+fn made_revision(results: &[DocumentResult]) -> Rev
+    requires { OfFirst IsMadeOutcome results.now }
+    ensures { OfFirst (λ outcome. outcome ≡ Outcome.Made result) results.now }
+{
+    let Some(first) = results.first() else {
+        unreachable!()
+    };
+    match &first.outcome {
+        Outcome::Made(rev) => *rev,
+        _ => unreachable!(),
+    }
 }
 
 /// The reply to an edit: the id and the new revision.
 fn edit_reply(alloc: Global, id: &DocId, rev: &Rev) -> Got<Json>
-    ensures { IfOk result (λ value. view value ≡ edited id.now (Some rev.now ∷ [])) }
+    ensures { IfOk result (λ value. view value ≡ object (made_members (Some id.now) rev.now)) }
 {
-    let mut members = BTreeMap::new(alloc);
-    put_text(alloc, &mut members, "id", id.as_str())?;
-    put_member(alloc, &mut members, "ok", Json::Truth(true))?;
-    put_member(alloc, &mut members, "rev", Json::Text(rev.text(alloc)?))?;
-    Ok(Json::Object(members))
+    let id = String::from_str(alloc, id.as_str())?;
+    Ok(Json::Object(made_members(alloc, &Some(id), rev)?))
 }

@@ -1,50 +1,48 @@
 //! The way of a request through a node, from its headers to its reply.
 
-ghost use Rattle.std.specs.Prelude.{◌≡◌, ◌≢◌, ◌⊎◌, IfOk, IfErr, OnOk, Ok, Err, Some, None};
+ghost use Rattle.std.specs.Prelude.{◌≡◌, ◌≢◌, ◌⊎◌, IfOk, IfErr, OnOk, Err};
 ghost use Rattle.couch_http.specs.Message.{message_of};
 ghost use Rattle.couch_http.specs.Reply.{fixed_reply, reply_of};
 ghost use Rattle.couch_http.specs.declared.fixed.Fixed.TheVariants.{NoRoom};
 ghost use Rattle.couch_json.specs.Canonical.{canonical};
+ghost use Rattle.couch_json.specs.Lawful.{IsLawful};
 ghost use Rattle.couch_json.specs.View.{view};
 ghost use Rattle.store.specs.Calls.{ChangesWhole, GoesOn, OnlyReads};
-ghost use Rattle.node.specs.Answer.{answer, judged, served};
+ghost use Rattle.node.specs.Answer.{answer, judged, served, with_change};
 ghost use Rattle.node.specs.Asking.{method_of};
-ghost use Rattle.node.specs.Answered.{MayChange, MayChangeBy, changed, changed_by, outcome_of};
+ghost use Rattle.node.specs.Answered.{MayChange, MayChangeBy, change_by, change_of, outcome_of};
 ghost use Rattle.node.specs.Refusals.{refusal_value, status_of};
 ghost use Rattle.node.specs.Causes.{Ends, EndsBefore, HasCause, stop_of_change};
+ghost use Rattle.node.specs.Coming.{Comes};
 ghost use Rattle.node.specs.Step.{IsDone, IsStep};
 
 use crate::answered::{Answered, Change};
 use crate::asking::caller;
-use crate::bulk::write_documents;
-use crate::databases::{create_database, list_databases, read_database, remove_database};
-use crate::document::{delete_document, read_document, write_document};
+use crate::databases::{create_database, list_databases, remove_database};
 use crate::method::{RequestMethod, method_of};
 use crate::page::Page;
 use crate::refusal::Refusal;
 use crate::routes::Routes;
-use crate::security::{read_security, write_security};
 use crate::stop::Stop;
-use crate::welcome::welcomed;
+use crate::welcome::tell_welcome;
+use crate::working::{Reading, Work, Writing, do_work};
 use auth::{Auth, Caller};
-use couch_http::{Fixed, Request, Response};
+use couch_http::{Fixed, HttpFault, Request, Response};
 use couch_json::{Got, Json, NoMemory};
 use std::alloc::Global;
 use store::{DbName, Store, StoreFault};
 use write::{Planned, WriteFault, apply};
 
 /// What a request comes to, but for the change of the store itself.
-fn judged<S: Store>(
+fn judge<S: Store>(
     alloc: Global,
     store: &mut S,
     auth: &Auth,
     routes: &Routes,
     request: &Request,
 ) -> Result<Answered, Stop>
-    ensures ok { S.is_honest store.new → IfOk result (λ answered.
-        judged auth.now (S.contents store.old) (message_of request.now) ≡ Ok (outcome_of (S.contents store.old) answered)) }
-    ensures refused { S.is_honest store.new → (refusal : _) → result ≡ Err (Stop.Refused refusal)
-        → judged auth.now (S.contents store.old) (message_of request.now) ≡ Err refusal }
+    ensures comes { S.is_honest store.new → Comes (outcome_of (S.contents store.old)) result
+        (judged auth.now (S.contents store.old) (message_of request.now)) }
     ensures may { S.is_honest store.new → IfOk result (λ answered. MayChange (S.contents store.old) answered.change) }
     ensures ends { IfErr result (Ends S.Store store.old store.new) }
     ensures reads { OnlyReads S.Store store.old store.new }
@@ -53,46 +51,85 @@ fn judged<S: Store>(
     let Some(page) = routes.page(&request.path) else {
         return Err(Stop::Refused(Refusal::Path));
     };
-    served(alloc, store, page, &caller, request)
+    serve(alloc, store, page, &caller, request)
 }
 
 /// What a page has for the method of a request.
-fn served<S: Store>(
+fn serve<S: Store>(
     alloc: Global,
     store: &mut S,
     page: Page,
     caller: &Caller,
     request: &Request,
 ) -> Result<Answered, Stop>
-    ensures ok { S.is_honest store.new → IfOk result (λ answered.
-        served page (method_of request.now.method) caller.now (S.contents store.old) (message_of request.now) ≡ Ok (outcome_of (S.contents store.old) answered)) }
-    ensures refused { S.is_honest store.new → (refusal : _) → result ≡ Err (Stop.Refused refusal)
-        → served page (method_of request.now.method) caller.now (S.contents store.old) (message_of request.now) ≡ Err refusal }
+    ensures comes { S.is_honest store.new → Comes (outcome_of (S.contents store.old)) result
+        (served page (method_of request.now.method) caller.now (S.contents store.old) (message_of request.now)) }
     ensures may { S.is_honest store.new → IfOk result (λ answered. MayChange (S.contents store.old) answered.change) }
     ensures ends { IfErr result (Ends S.Store store.old store.new) }
     ensures reads { OnlyReads S.Store store.old store.new }
 {
     match (page, method_of(request.method.as_str())) {
-        (Page::Welcome, Some(RequestMethod::Get)) => Ok(welcomed(alloc, request)?),
-        (Page::AllDatabases, Some(RequestMethod::Get)) => list_databases(
-            alloc, store, caller, request,
-        ),
-        (Page::Database, Some(RequestMethod::Get)) => read_database(alloc, store, caller, request),
-        (Page::Database, Some(RequestMethod::Put)) => create_database(
-            alloc, store, caller, request,
-        ),
-        (Page::Database, Some(RequestMethod::Delete)) => remove_database(
-            alloc, store, caller, request,
-        ),
-        (Page::Security, Some(RequestMethod::Get)) => read_security(alloc, store, caller, request),
-        (Page::Security, Some(RequestMethod::Put)) => write_security(alloc, store, caller, request),
-        (Page::BulkDocuments, Some(RequestMethod::Post)) => write_documents(
-            alloc, store, caller, request,
-        ),
-        (Page::Document, Some(RequestMethod::Get)) => read_document(alloc, store, caller, request),
-        (Page::Document, Some(RequestMethod::Put)) => write_document(alloc, store, caller, request),
+        (Page::Welcome, Some(RequestMethod::Get)) => {
+            let value = tell_welcome(alloc, request)?;
+            Ok(Answered {
+                status: 200,
+                value,
+                change: None,
+            })
+        }
+        (Page::AllDatabases, Some(RequestMethod::Get)) => {
+            list_databases(alloc, store, caller, request)
+        }
+        (Page::Database, Some(RequestMethod::Put)) => {
+            create_database(alloc, store, caller, request)
+        }
+        (Page::Database, Some(RequestMethod::Delete)) => {
+            remove_database(alloc, store, caller, request)
+        }
+        (Page::Database, Some(RequestMethod::Get)) => {
+            do_work(alloc, store, caller, Work::Read(Reading::Database), request)
+        }
+        (Page::Security, Some(RequestMethod::Get)) => {
+            do_work(alloc, store, caller, Work::Read(Reading::Security), request)
+        }
+        (Page::Security, Some(RequestMethod::Put)) => {
+            do_work(
+                alloc,
+                store,
+                caller,
+                Work::Write(Writing::Security),
+                request,
+            )
+        }
+        (Page::BulkDocuments, Some(RequestMethod::Post)) => {
+            do_work(
+                alloc,
+                store,
+                caller,
+                Work::Write(Writing::Documents),
+                request,
+            )
+        }
+        (Page::Document, Some(RequestMethod::Get)) => {
+            do_work(alloc, store, caller, Work::Read(Reading::Document), request)
+        }
+        (Page::Document, Some(RequestMethod::Put)) => {
+            do_work(
+                alloc,
+                store,
+                caller,
+                Work::Write(Writing::Document),
+                request,
+            )
+        }
         (Page::Document, Some(RequestMethod::Delete)) => {
-            delete_document(alloc, store, caller, request)
+            do_work(
+                alloc,
+                store,
+                caller,
+                Work::Write(Writing::Deletion),
+                request,
+            )
         }
         _ => Err(Stop::Refused(Refusal::Method)),
     }
@@ -100,16 +137,16 @@ fn served<S: Store>(
 
 /// The reply to what a request comes to, and the change made: the reply is made whole before the
 /// store changes.
-fn finished<S: Store>(
+fn finish<S: Store>(
     alloc: Global,
     store: &mut S,
     answered: Answered,
     last: bool,
 ) -> Result<Response, Stop>
     requires { S.is_honest store.old → MayChange (S.contents store.old) answered.change }
-    ensures ok { S.is_honest store.new → IfOk result (λ reply. IsDone (outcome_of (S.contents store.old) answered) last reply (S.contents store.new)) }
+    ensures ok { S.is_honest store.new → IfOk result (λ reply. IsDone (outcome_of (S.contents store.old) answered) last (S.contents store.old) reply (S.contents store.new)) }
     ensures unrefused { (refusal : _) → result ≢ Err (Stop.Refused refusal) }
-    ensures ends { IfErr result (EndsBefore S.Store store.old store.new (changed (S.contents store.old) answered.change)) }
+    ensures ends { IfErr result (EndsBefore S.Store store.old store.new (change_of (S.contents store.old) answered.change)) }
     ensures changes { ChangesWhole S.Store store.old store.new result }
 {
     let reply = made(alloc, answered.status, &answered.value, last)?;
@@ -119,20 +156,22 @@ fn finished<S: Store>(
 
 /// The reply of a status and a value.
 fn made(alloc: Global, status: u16, value: &Json, last: bool) -> Got<Response>
-    ensures { IfOk result (λ reply. reply ≡ reply_of status (canonical (view value.now)) last) }
+    ensures reply { IfOk result (λ reply. reply ≡ reply_of status (canonical (view value.now)) last) }
+    ensures lawful { OnOk result (IsLawful (view value.now)) }
 {
     match Response::made(alloc, status, value, last) {
         Ok(reply) => Ok(reply),
-        Err(_) => Err(NoMemory),
+        Err(HttpFault::Memory) => Err(NoMemory),
+        Err(_) => unreachable!(),
     }
 }
 
 /// Makes the change, if there is one: the only step of a request that changes the store.
 fn change<S: Store>(store: &mut S, change: Option<Change>) -> Result<(), Stop>
     requires { S.is_honest store.old → MayChange (S.contents store.old) change }
-    ensures ok { S.is_honest store.new → OnOk result (S.contents store.new ≡ changed (S.contents store.old) change) }
+    ensures ok { S.is_honest store.new → OnOk result (S.contents store.new ≡ with_change (change_of (S.contents store.old) change) (S.contents store.old)) }
     ensures unrefused { (refusal : _) → result ≢ Err (Stop.Refused refusal) }
-    ensures ends { IfErr result (EndsBefore S.Store store.old store.new (changed (S.contents store.old) change)) }
+    ensures ends { IfErr result (EndsBefore S.Store store.old store.new (change_of (S.contents store.old) change)) }
     ensures changes { ChangesWhole S.Store store.old store.new result }
 {
     match change {
@@ -144,12 +183,11 @@ fn change<S: Store>(store: &mut S, change: Option<Change>) -> Result<(), Stop>
 }
 
 /// Makes a new database.
-#[tactic(auto, using(crate::proofs::Faults::number_lacking))]
 fn create<S: Store>(store: &mut S, name: &DbName) -> Result<(), Stop>
     requires { S.is_honest store.old → MayChangeBy (S.contents store.old) (Change.Create name.now) }
-    ensures ok { S.is_honest store.new → OnOk result (S.contents store.new ≡ changed_by (S.contents store.old) (Change.Create name.now)) }
+    ensures ok { S.is_honest store.new → OnOk result (S.contents store.new ≡ with_change (change_by (S.contents store.old) (Change.Create name.now)) (S.contents store.old)) }
     ensures unrefused { (refusal : _) → result ≢ Err (Stop.Refused refusal) }
-    ensures ends { IfErr result (EndsBefore S.Store store.old store.new (changed_by (S.contents store.old) (Change.Create name.now))) }
+    ensures ends { IfErr result (EndsBefore S.Store store.old store.new (change_by (S.contents store.old) (Change.Create name.now))) }
     ensures changes { ChangesWhole S.Store store.old store.new result }
 {
     match store.create(name) {
@@ -162,9 +200,9 @@ fn create<S: Store>(store: &mut S, name: &DbName) -> Result<(), Stop>
 /// Removes a database with all that it holds.
 fn remove<S: Store>(store: &mut S, name: &DbName) -> Result<(), Stop>
     requires { S.is_honest store.old → MayChangeBy (S.contents store.old) (Change.Remove name.now) }
-    ensures ok { S.is_honest store.new → OnOk result (S.contents store.new ≡ changed_by (S.contents store.old) (Change.Remove name.now)) }
+    ensures ok { S.is_honest store.new → OnOk result (S.contents store.new ≡ with_change (change_by (S.contents store.old) (Change.Remove name.now)) (S.contents store.old)) }
     ensures unrefused { (refusal : _) → result ≢ Err (Stop.Refused refusal) }
-    ensures ends { IfErr result (EndsBefore S.Store store.old store.new (changed_by (S.contents store.old) (Change.Remove name.now))) }
+    ensures ends { IfErr result (EndsBefore S.Store store.old store.new (change_by (S.contents store.old) (Change.Remove name.now))) }
     ensures changes { ChangesWhole S.Store store.old store.new result }
 {
     match store.remove(name) {
@@ -178,9 +216,9 @@ fn remove<S: Store>(store: &mut S, name: &DbName) -> Result<(), Stop>
 #[tactic(auto, using(crate::proofs::Faults::unrefused_change))]
 fn write<S: Store>(store: &mut S, planned: Planned) -> Result<(), Stop>
     requires { S.is_honest store.old → MayChangeBy (S.contents store.old) (Change.Write planned) }
-    ensures ok { S.is_honest store.new → OnOk result (S.contents store.new ≡ changed_by (S.contents store.old) (Change.Write planned)) }
+    ensures ok { S.is_honest store.new → OnOk result (S.contents store.new ≡ with_change (change_by (S.contents store.old) (Change.Write planned)) (S.contents store.old)) }
     ensures unrefused { (refusal : _) → result ≢ Err (Stop.Refused refusal) }
-    ensures ends { IfErr result (EndsBefore S.Store store.old store.new (changed_by (S.contents store.old) (Change.Write planned))) }
+    ensures ends { IfErr result (EndsBefore S.Store store.old store.new (change_by (S.contents store.old) (Change.Write planned))) }
     ensures changes { ChangesWhole S.Store store.old store.new result }
 {
     match apply(store, planned) {
@@ -200,7 +238,7 @@ fn unmade(fault: &WriteFault) -> Stop
 }
 
 /// The reply to a request, where nothing refuses it and nothing fails.
-fn replied<S: Store>(
+fn reply<S: Store>(
     alloc: Global,
     store: &mut S,
     auth: &Auth,
@@ -208,19 +246,20 @@ fn replied<S: Store>(
     request: &Request,
 ) -> Result<Response, Stop>
     ensures ok { S.is_honest store.new → IfOk result (λ reply. IsDone (answer auth.now (S.contents store.old) (message_of request.now))
-        request.now.last reply (S.contents store.new)) }
+        request.now.last (S.contents store.old) reply (S.contents store.new)) }
     ensures refused { S.is_honest store.new → (refusal : _) → result ≡ Err (Stop.Refused refusal)
         → judged auth.now (S.contents store.old) (message_of request.now) ≡ Err refusal }
-    ensures ends { IfErr result (EndsBefore S.Store store.old store.new (answer auth.now (S.contents store.old) (message_of request.now)).after) }
+    ensures ends { IfErr result (EndsBefore S.Store store.old store.new (answer auth.now (S.contents store.old) (message_of request.now)).change) }
     ensures changes { ChangesWhole S.Store store.old store.new result }
 {
-    let answered = judged(alloc, store, auth, routes, request)?;
-    finished(alloc, store, answered, request.last)
+    let answered = judge(alloc, store, auth, routes, request)?;
+    finish(alloc, store, answered, request.last)
 }
 
 /// The reply to a refused request, or where memory runs out the fixed one.
 fn refusal_reply(alloc: Global, refusal: &Refusal, last: bool) -> Response
-    ensures { (result ≡ reply_of (status_of refusal.now) (canonical (refusal_value refusal.now)) last) ⊎ (result ≡ fixed_reply (NoRoom last)) }
+    ensures { ((result ≡ reply_of (status_of refusal.now) (canonical (refusal_value refusal.now)) last) × IsLawful (refusal_value refusal.now))
+        ⊎ (result ≡ fixed_reply (NoRoom last)) }
 {
     match refusal_made(alloc, refusal, last) {
         Ok(reply) => reply,
@@ -229,14 +268,15 @@ fn refusal_reply(alloc: Global, refusal: &Refusal, last: bool) -> Response
 }
 
 fn refusal_made(alloc: Global, refusal: &Refusal, last: bool) -> Got<Response>
-    ensures { IfOk result (λ reply. reply ≡ reply_of (status_of refusal.now) (canonical (refusal_value refusal.now)) last) }
+    ensures reply { IfOk result (λ reply. reply ≡ reply_of (status_of refusal.now) (canonical (refusal_value refusal.now)) last) }
+    ensures lawful { OnOk result (IsLawful (refusal_value refusal.now)) }
 {
     let value = refusal.value(alloc)?;
     made(alloc, refusal.status(), &value, last)
 }
 
-/// The reply to a request, whatever becomes of it.
-pub(crate) fn handled<S: Store>(
+/// Replies to a request, whatever becomes of it.
+pub(crate) fn handle<S: Store>(
     alloc: Global,
     store: &mut S,
     auth: &Auth,
@@ -244,10 +284,10 @@ pub(crate) fn handled<S: Store>(
     request: &Request,
 ) -> Response
     ensures step { S.is_honest store.new → IsStep auth.now (S.contents store.old) (message_of request.now)
-        (HasCause S.Store store.old store.new (answer auth.now (S.contents store.old) (message_of request.now)).after) result (S.contents store.new) }
+        (HasCause S.Store store.old store.new) result (S.contents store.new) }
     ensures onward { GoesOn S.Store store.old store.new }
 {
-    match replied(alloc, store, auth, routes, request) {
+    match reply(alloc, store, auth, routes, request) {
         Ok(reply) => reply,
         Err(Stop::Refused(refusal)) => refusal_reply(alloc, &refusal, request.last),
         Err(Stop::Failed) => Response::fixed(Fixed::Store { last: request.last }),

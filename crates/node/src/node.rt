@@ -1,4 +1,4 @@
-use crate::handling::handled;
+use crate::handling::handle;
 use crate::routes::Routes;
 use auth::Auth;
 use couch_http::{Request, Response};
@@ -29,7 +29,6 @@ impl<S: Store + Drop> Node<S> {
     ghost use Rattle.std.specs.Prelude.{◌≡◌};
     ghost use Rattle.couch_http.specs.Message.{message_of};
     ghost use Rattle.store.specs.Calls.{GoesOn};
-    ghost use Rattle.node.specs.Answer.{answer};
     ghost use Rattle.node.specs.Causes.{HasCause};
     ghost use Rattle.node.specs.Step.{IsStep};
 
@@ -52,12 +51,11 @@ impl<S: Store + Drop> Node<S> {
     /// databases are as they were.
     pub fn handle(&mut self, request: &Request) -> Response
         ensures step { S.is_honest self.new.store → IsStep self.old.configuration (S.contents self.old.store) (message_of request.now)
-            (HasCause S.Store self.old.store self.new.store (answer self.old.configuration (S.contents self.old.store) (message_of request.now)).after)
-            result (S.contents self.new.store) }
+            (HasCause S.Store self.old.store self.new.store) result (S.contents self.new.store) }
         ensures configuration { self.new.configuration ≡ self.old.configuration }
         ensures onward { GoesOn S.Store self.old.store self.new.store }
     {
-        handled(
+        handle(
             self.alloc,
             &mut self.store,
             &self.auth,

@@ -1,8 +1,10 @@
 //! The parts of a request's path, and what a part says once its escapes are read (RFC 3986, sections 2.1 and 3.3).
 
-ghost use Rattle.std.specs.Prelude.{◌≡◌, ◌≢◌, IfOk, Ok, Err, Some, None, false, option_map, option_copied, string_bytes};
+ghost use Rattle.std.specs.Prelude.{◌≡◌, IfOk, false, option_map, option_copied, string_bytes};
 ghost use Rattle.tree.specs.DocumentId.{is_design_id, is_local_id};
+ghost use Rattle.node.specs.Coming.{Says};
 ghost use Rattle.node.specs.Paths.{database_name_in, decoded, decoded_at, document_id_in, part_at, text_if};
+ghost use Rattle.node.specs.Work.{there_or};
 ghost use Rattle.std.specs.Str.{is_utf8};
 
 use crate::refusal::Refusal;
@@ -14,12 +16,9 @@ use std::str;
 use store::{DbName, NameFault};
 use tree::{DocId, IdFault};
 
-/// The name of the database that a path leads into.
+/// Reads the name of the database that a path leads into.
 pub(crate) fn database_name(alloc: Global, path: &str) -> Result<DbName, Stop>
-    ensures ok { IfOk result (λ name. database_name_in path.now ≡ Some name) }
-    ensures refused { (refusal : _) → result ≡ Err (Stop.Refused refusal)
-        → (database_name_in path.now ≡ None) × (refusal ≡ Refusal.DatabaseName) }
-    ensures working { result ≢ Err Stop.Failed }
+    ensures { Says (λ name. name) result (there_or Refusal.DatabaseName (database_name_in path.now)) }
 {
     let Some(text) = decoded_part(alloc, path, 1)? else {
         return Err(Stop::Refused(Refusal::DatabaseName));
@@ -31,13 +30,11 @@ pub(crate) fn database_name(alloc: Global, path: &str) -> Result<DbName, Stop>
     }
 }
 
-/// The id of the document that a path leads to. Design documents and local ones are not served yet.
+/// Reads the id of the document that a path leads to. Design documents and local ones are not served
+/// yet.
 pub(crate) fn document_id(alloc: Global, path: &str) -> Result<DocId, Stop>
-    ensures ok { IfOk result (λ id. document_id_in path.now ≡ Some id) }
+    ensures says { Says (λ id. id) result (there_or Refusal.Id (document_id_in path.now)) }
     ensures plain { IfOk result (λ id. (is_design_id id ≡ false) × (is_local_id id ≡ false)) }
-    ensures refused { (refusal : _) → result ≡ Err (Stop.Refused refusal)
-        → (document_id_in path.now ≡ None) × (refusal ≡ Refusal.Id) }
-    ensures working { result ≢ Err Stop.Failed }
 {
     let Some(text) = decoded_part(alloc, path, 2)? else {
         return Err(Stop::Refused(Refusal::Id));
@@ -47,10 +44,7 @@ pub(crate) fn document_id(alloc: Global, path: &str) -> Result<DocId, Stop>
         Err(IdFault::Shape) => return Err(Stop::Refused(Refusal::Id)),
         Err(IdFault::Memory) => return Err(Stop::NoRoom),
     };
-    if id.is_design() {
-        return Err(Stop::Refused(Refusal::Id));
-    }
-    if id.is_local() {
+    if id.is_design() || id.is_local() {
         return Err(Stop::Refused(Refusal::Id));
     }
     Ok(id)

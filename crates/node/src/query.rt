@@ -1,17 +1,18 @@
 //! What the query of a document's page asks for (CouchDB manual, api/document/common).
 
-ghost use Rattle.std.specs.Prelude.{◌≡◌, ◌≢◌, IfOk, Err, Some, None, option_copied};
+ghost use Rattle.std.specs.Prelude.{◌≡◌, IfOk, option_copied, option_map};
 ghost use Rattle.couch_http.specs.Message.{message_of};
 ghost use Rattle.couch_json.specs.View.{items_view, view};
+ghost use Rattle.node.specs.Coming.{Says};
 ghost use Rattle.node.specs.Queried.{asked_of, query_of, texts_of};
-ghost use Rattle.node.specs.Queries.{asked_by, asked_of_document, document_query, open_revisions, query_by, revision_by, revision_in, revision_query, revisions_in, revisions_listed};
-ghost use Rattle.tree.specs.Revision.{revision_read};
+ghost use Rattle.node.specs.Queries.{asked_by, asked_of_document, document_query, open_revisions, query_by, revision_asked, revision_by, revision_in, revision_query, revisions, revisions_in, revisions_listed};
+ghost use Rattle.node.specs.Work.{there_or};
 
-use crate::parameters::{flag, only_named, parameters, sole_value};
+use crate::parameters::{are_named, flag, parameters, sole_value};
 use crate::refusal::Refusal;
 use crate::stop::Stop;
 use couch_http::Request;
-use couch_json::{Json, JsonFault, read};
+use couch_json::{Got, Json, JsonFault, NoMemory, read};
 use std::alloc::Global;
 use tree::Rev;
 
@@ -37,42 +38,35 @@ pub(crate) enum Asked {
     Revisions(Vec<Rev>),
 }
 
-/// What a document's reader asks for.
+/// Reads what a document's reader asks for.
 pub(crate) fn document_query(alloc: Global, request: &Request) -> Result<DocumentQuery, Stop>
-    ensures ok { IfOk result (λ query. document_query (message_of request.now).query ≡ Some (query_of query)) }
-    ensures refused { (refusal : _) → result ≡ Err (Stop.Refused refusal)
-        → (document_query (message_of request.now).query ≡ None) × (refusal ≡ Refusal.Query) }
-    ensures working { result ≢ Err Stop.Failed }
+    ensures { Says query_of result (there_or Refusal.Query (document_query (message_of request.now).query)) }
 {
     let parameters = parameters(alloc, &request.query)?;
-    asked_of_document(alloc, &parameters)
+    match asked_of_document(alloc, &parameters)? {
+        Some(query) => Ok(query),
+        None => Err(Stop::Refused(Refusal::Query)),
+    }
 }
 
 /// What the parameters ask for.
 #[tactic(auto, using(crate::proofs::Listed::asked_by_values))]
-fn asked_of_document(alloc: Global, parameters: &[(String, String)]) -> Result<DocumentQuery, Stop>
-    ensures ok { IfOk result (λ query. asked_of_document (texts_of parameters.now) ≡ Some (query_of query)) }
-    ensures refused { (refusal : _) → result ≡ Err (Stop.Refused refusal)
-        → (asked_of_document (texts_of parameters.now) ≡ None) × (refusal ≡ Refusal.Query) }
-    ensures working { result ≢ Err Stop.Failed }
+fn asked_of_document(alloc: Global, parameters: &[(String, String)]) -> Got<Option<DocumentQuery>>
+    ensures { IfOk result (λ query. option_map query_of query ≡ asked_of_document (texts_of parameters.now)) }
 {
-    only_named(parameters, &["rev", "revs", "open_revs"])?;
-    let rev = sole_value(parameters, "rev")?;
-    let open_revs = sole_value(parameters, "open_revs")?;
-    let revs = sole_value(parameters, "revs")?;
+    if !are_named(parameters, &["rev", "revs", "open_revs"]) {
+        return Ok(None);
+    }
+    let Some(rev) = sole_value(parameters, "rev") else {
+        return Ok(None);
+    };
+    let Some(open_revs) = sole_value(parameters, "open_revs") else {
+        return Ok(None);
+    };
+    let Some(revs) = sole_value(parameters, "revs") else {
+        return Ok(None);
+    };
     query_by(alloc, rev, open_revs, revs)
-}
-
-/// The revision that a document's writer names, if any.
-pub(crate) fn revision_query(alloc: Global, request: &Request) -> Result<Option<Rev>, Stop>
-    ensures ok { IfOk result (λ rev. revision_query (message_of request.now).query ≡ Some rev) }
-    ensures refused { (refusal : _) → result ≡ Err (Stop.Refused refusal)
-        → (revision_query (message_of request.now).query ≡ None) × (refusal ≡ Refusal.Query) }
-    ensures working { result ≢ Err Stop.Failed }
-{
-    let parameters = parameters(alloc, &request.query)?;
-    only_named(&parameters, &["rev"])?;
-    revision(sole_value(&parameters, "rev")?)
 }
 
 /// What the three parameters ask for together.
@@ -81,108 +75,110 @@ fn query_by(
     rev: Option<&str>,
     open_revs: Option<&str>,
     revs: Option<&str>,
-) -> Result<DocumentQuery, Stop>
-    ensures ok { IfOk result (λ query. query_by (option_copied rev.entry) (option_copied open_revs.entry) (option_copied revs.entry) ≡ Some (query_of query)) }
-    ensures refused { (refusal : _) → result ≡ Err (Stop.Refused refusal)
-        → (query_by (option_copied rev.entry) (option_copied open_revs.entry) (option_copied revs.entry) ≡ None) × (refusal ≡ Refusal.Query) }
-    ensures working { result ≢ Err Stop.Failed }
+) -> Got<Option<DocumentQuery>>
+    ensures { IfOk result (λ query. option_map query_of query ≡ query_by (option_copied rev.entry) (option_copied open_revs.entry) (option_copied revs.entry)) }
 {
-    let asked = asked_by(alloc, rev, open_revs)?;
-    let revs = flag(revs)?;
-    Ok(DocumentQuery { asked, revs })
+    let Some(asked) = asked_by(alloc, rev, open_revs)? else {
+        return Ok(None);
+    };
+    match flag(revs) {
+        Some(revs) => Ok(Some(DocumentQuery { asked, revs })),
+        None => Ok(None),
+    }
 }
 
 /// Which revisions `rev` and `open_revs` ask for.
-fn asked_by(alloc: Global, rev: Option<&str>, open_revs: Option<&str>) -> Result<Asked, Stop>
-    ensures ok { IfOk result (λ asked. asked_by (option_copied rev.entry) (option_copied open_revs.entry) ≡ Some (asked_of asked)) }
-    ensures refused { (refusal : _) → result ≡ Err (Stop.Refused refusal)
-        → (asked_by (option_copied rev.entry) (option_copied open_revs.entry) ≡ None) × (refusal ≡ Refusal.Query) }
-    ensures working { result ≢ Err Stop.Failed }
+fn asked_by(alloc: Global, rev: Option<&str>, open_revs: Option<&str>) -> Got<Option<Asked>>
+    ensures { IfOk result (λ asked. option_map asked_of asked ≡ asked_by (option_copied rev.entry) (option_copied open_revs.entry)) }
 {
     match (rev, open_revs) {
-        (None, None) => Ok(Asked::Winner),
-        (Some(rev), None) => Ok(Asked::Revision(spelled(rev)?)),
+        (None, None) => Ok(Some(Asked::Winner)),
+        (Some(rev), None) => match Rev::parse(rev.as_bytes()) {
+            Some(rev) => Ok(Some(Asked::Revision(rev))),
+            None => Ok(None),
+        },
         (None, Some(open_revs)) => opened(alloc, open_revs),
-        (Some(_), Some(_)) => Err(Stop::Refused(Refusal::Query)),
-    }
-}
-
-/// The revision that a parameter spells, if there is one.
-fn revision(value: Option<&str>) -> Result<Option<Rev>, Stop>
-    ensures ok { IfOk result (λ rev. revision_by (option_copied value.entry) ≡ Some rev) }
-    ensures refused { (refusal : _) → result ≡ Err (Stop.Refused refusal) → (revision_by (option_copied value.entry) ≡ None) × (refusal ≡ Refusal.Query) }
-    ensures working { result ≢ Err Stop.Failed }
-{
-    match value {
-        None => Ok(None),
-        Some(value) => Ok(Some(spelled(value)?)),
-    }
-}
-
-/// The revision that a text spells.
-fn spelled(text: &str) -> Result<Rev, Stop>
-    ensures ok { IfOk result (λ rev. revision_read text.now ≡ Some rev) }
-    ensures refused { (refusal : _) → result ≡ Err (Stop.Refused refusal) → (revision_read text.now ≡ None) × (refusal ≡ Refusal.Query) }
-    ensures ready { result ≢ Err Stop.NoRoom }
-    ensures working { result ≢ Err Stop.Failed }
-{
-    match Rev::parse(text.as_bytes()) {
-        Some(rev) => Ok(rev),
-        None => Err(Stop::Refused(Refusal::Query)),
+        (Some(_), Some(_)) => Ok(None),
     }
 }
 
 /// The open revisions that are asked for: `all`, or a JSON list of revisions.
-fn opened(alloc: Global, value: &str) -> Result<Asked, Stop>
-    ensures ok { IfOk result (λ asked. open_revisions value.now ≡ Some (asked_of asked)) }
-    ensures refused { (refusal : _) → result ≡ Err (Stop.Refused refusal) → (open_revisions value.now ≡ None) × (refusal ≡ Refusal.Query) }
-    ensures working { result ≢ Err Stop.Failed }
+fn opened(alloc: Global, value: &str) -> Got<Option<Asked>>
+    ensures { IfOk result (λ asked. option_map asked_of asked ≡ open_revisions value.now) }
 {
     if value == "all" {
-        return Ok(Asked::Leaves);
+        return Ok(Some(Asked::Leaves));
     }
     match read(alloc, value.as_bytes()) {
-        Ok(value) => Ok(Asked::Revisions(listed(alloc, &value)?)),
-        Err(JsonFault::Memory) => Err(Stop::NoRoom),
-        Err(_) => Err(Stop::Refused(Refusal::Query)),
+        Ok(value) => listed(alloc, &value),
+        Err(JsonFault::Memory) => Err(NoMemory),
+        Err(_) => Ok(None),
     }
 }
 
 /// The revisions that a list spells.
-fn listed(alloc: Global, value: &Json) -> Result<Vec<Rev>, Stop>
-    ensures ok { IfOk result (λ revs. revisions_listed (view value.now) ≡ Some revs.items) }
-    ensures refused { (refusal : _) → result ≡ Err (Stop.Refused refusal) → (revisions_listed (view value.now) ≡ None) × (refusal ≡ Refusal.Query) }
-    ensures working { result ≢ Err Stop.Failed }
+fn listed(alloc: Global, value: &Json) -> Got<Option<Asked>>
+    ensures { IfOk result (λ asked. option_map asked_of asked ≡ option_map revisions (revisions_listed (view value.now))) }
 {
-    match value.items() {
-        Some(items) => spelled_by(alloc, items),
-        None => Err(Stop::Refused(Refusal::Query)),
+    let Some(items) = value.items() else {
+        return Ok(None);
+    };
+    match spelled_by(alloc, items)? {
+        Some(revs) => Ok(Some(Asked::Revisions(revs))),
+        None => Ok(None),
     }
 }
 
 /// The revisions that elements spell, in order.
 #[tactic(auto, using(crate::proofs::Listed::revisions_go_on))]
-fn spelled_by(alloc: Global, items: &[Json]) -> Result<Vec<Rev>, Stop>
-    ensures ok { IfOk result (λ revs. revisions_in (items_view items.now) ≡ Some revs.items) }
-    ensures refused { (refusal : _) → result ≡ Err (Stop.Refused refusal) → (revisions_in (items_view items.now) ≡ None) × (refusal ≡ Refusal.Query) }
-    ensures working { result ≢ Err Stop.Failed }
+fn spelled_by(alloc: Global, items: &[Json]) -> Got<Option<Vec<Rev>>>
+    ensures { IfOk result (λ revs. option_map (λ rs. rs.items) revs ≡ revisions_in (items_view items.now)) }
 {
     let mut revs = Vec::with_capacity(alloc, items.len())?;
     for item in items {
-        revs.push(element(item)?)?;
+        let Some(rev) = revision_in(item) else {
+            return Ok(None);
+        };
+        revs.push(rev)?;
     }
-    Ok(revs)
+    Ok(Some(revs))
 }
 
-/// The revision that an element spells.
-fn element(value: &Json) -> Result<Rev, Stop>
-    ensures ok { IfOk result (λ rev. revision_in (view value.now) ≡ Some rev) }
-    ensures refused { (refusal : _) → result ≡ Err (Stop.Refused refusal) → (revision_in (view value.now) ≡ None) × (refusal ≡ Refusal.Query) }
-    ensures ready { result ≢ Err Stop.NoRoom }
-    ensures working { result ≢ Err Stop.Failed }
+/// The revision that a value spells.
+fn revision_in(value: &Json) -> Option<Rev>
+    ensures { result ≡ revision_in (view value.now) }
 {
-    match value.text() {
-        Some(text) => spelled(text),
+    Rev::parse(value.text()?.as_bytes())
+}
+
+/// Reads the revision that a document's writer names, if any.
+pub(crate) fn revision_query(alloc: Global, request: &Request) -> Result<Option<Rev>, Stop>
+    ensures { Says (λ rev. rev) result (there_or Refusal.Query (revision_query (message_of request.now).query)) }
+{
+    let parameters = parameters(alloc, &request.query)?;
+    match revision_asked(&parameters) {
+        Some(rev) => Ok(rev),
         None => Err(Stop::Refused(Refusal::Query)),
     }
+}
+
+/// The revision that the parameters name, if any.
+fn revision_asked(parameters: &[(String, String)]) -> Option<Option<Rev>>
+    ensures { result ≡ revision_asked (texts_of parameters.now) }
+{
+    if !are_named(parameters, &["rev"]) {
+        return None;
+    }
+    revision_by(sole_value(parameters, "rev")?)
+}
+
+/// The revision that a parameter spells, if there is one.
+fn revision_by(value: Option<&str>) -> Option<Option<Rev>>
+    ensures { result ≡ revision_by (option_copied value.entry) }
+{
+    let Some(value) = value else {
+        return Some(None);
+    };
+    let rev = Rev::parse(value.as_bytes())?;
+    Some(Some(rev))
 }

@@ -2,7 +2,9 @@ ghost use Rattle.std.specs.Prelude.{◌≡◌, IfOk, option_copied};
 ghost use Rattle.couch_json.specs.View.{members_view, view};
 ghost use Rattle.node.specs.Refusals.{error_of, name_of_rule, reason_of, reason_of_rule, refusal_members, refusal_of_edit, refusal_value, rule_of, status_of};
 
+use crate::asking::denied;
 use crate::members::put_text;
+use auth::Caller;
 use couch_json::{Got, Json};
 use policy::Rule;
 use std::alloc::Global;
@@ -156,15 +158,16 @@ impl Refusal {
     }
 }
 
-/// The refusal of a document that is not written.
-pub(crate) fn refusal_of_edit(fault: &WriteFault) -> Refusal
-    ensures { result ≡ refusal_of_edit fault.now }
+/// Tells what a document that is not written is refused for.
+pub(crate) fn refusal_of_edit(caller: &Caller, fault: WriteFault) -> Refusal
+    ensures { result ≡ refusal_of_edit caller.now fault }
 {
     match fault {
         WriteFault::BadDocument => Refusal::BadDocument,
+        WriteFault::Denied(rule) => denied(caller, rule),
         WriteFault::BadHistory => Refusal::BadHistory,
         WriteFault::Generation => Refusal::Generation,
-        _ => Refusal::Conflict,
+        WriteFault::Conflict | WriteFault::Store(_) | WriteFault::Memory => Refusal::Conflict,
     }
 }
 

@@ -1,15 +1,15 @@
 //! The server's own page: `GET /` (CouchDB manual, api/server/common).
 
-ghost use Rattle.std.specs.Prelude.{◌≡◌, ◌≢◌, OnOk, IfOk, Err, None, true, false};
+ghost use Rattle.std.specs.Prelude.{◌≡◌, IfOk, Ok};
 ghost use Rattle.couch_http.specs.Message.{message_of};
 ghost use Rattle.couch_json.specs.View.{view};
 ghost use Rattle.node.specs.Answer.{welcome};
-ghost use Rattle.node.specs.Asking.{lacks_parameters};
+ghost use Rattle.node.specs.Coming.{Says};
+ghost use Rattle.node.specs.Work.{next};
+ghost use Rattle.node.specs.Works.{plain};
 
-use crate::answered::Answered;
 use crate::asking::without_parameters;
 use crate::members::put_text;
-use crate::refusal::Refusal;
 use crate::stop::Stop;
 use couch_http::Request;
 use couch_json::{Got, Json};
@@ -17,20 +17,11 @@ use std::alloc::Global;
 use std::collections::BTreeMap;
 
 /// Says who answers here.
-pub(crate) fn welcomed(alloc: Global, request: &Request) -> Result<Answered, Stop>
-    ensures ok { IfOk result (λ answered. (answered.status ≡ 200) × (view answered.value ≡ welcome) × (answered.change ≡ None)) }
-    ensures plain { OnOk result (lacks_parameters (message_of request.now).query ≡ true) }
-    ensures refused { (refusal : _) → result ≡ Err (Stop.Refused refusal)
-        → (lacks_parameters (message_of request.now).query ≡ false) × (refusal ≡ Refusal.Query) }
-    ensures working { result ≢ Err Stop.Failed }
+pub(crate) fn tell_welcome(alloc: Global, request: &Request) -> Result<Json, Stop>
+    ensures { Says view result (next (plain (message_of request.now)) (λ _. Ok welcome)) }
 {
     without_parameters(request)?;
-    let value = welcome(alloc)?;
-    Ok(Answered {
-        status: 200,
-        value,
-        change: None,
-    })
+    Ok(welcome(alloc)?)
 }
 
 fn welcome(alloc: Global) -> Got<Json>

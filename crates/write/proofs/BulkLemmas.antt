@@ -1,5 +1,5 @@
 -- Histories as functions of ids, and what a map of them holds.
-use Rattle.std.proofs.Common.{◌≡◌, ℕ, Bool, true, false, cond, List, [], ◌∷◌, ◌++◌, Result, Ok, Err, IfOk, IfErr, OnErr, ◌≢◌, option_map, Option, Some, None, refl, ap, sym, ◌∙◌}
+use Rattle.std.proofs.Common.{◌≡◌, ℕ, Bool, true, false, cond, List, Ok, option_map, Option, Some, None, refl, ap, sym, ◌∙◌}
 use Rattle.std.specs.BTreeMap.{BTreeMap, get}
 use Rattle.std.specs.Ordering.{is_eq, nat_cmp}
 use Rattle.std.specs.Cmp.Lexicographic.{slice_cmp}
@@ -14,9 +14,7 @@ use Rattle.store.specs.Writing.{addition_of, written_in}
 use Rattle.store.specs.declared.write.Write.{Write}
 use Rattle.write.specs.Admission.{with_taken}
 use Rattle.write.specs.Bulk.{Histories, after, judged, with_write_in}
-use Rattle.write.specs.BulkResults.{IsHeld, brought, held_or, seen_in, with_history}
-use Rattle.write.specs.declared.fault.WriteFault.{WriteFault}
-use Rattle.write.specs.declared.fault.WriteFault.TheVariants.{Memory}
+use Rattle.write.specs.BulkResults.{brought, held_or, seen_in, with_history}
 use Rattle.write.proofs.Names.{judged-named}
 
 or_cond : (b : Bool) (stored h : HistoryContent) (o : Option HistoryContent) → held_or stored (cond b (Some h) o) ≡ cond b h (held_or stored o)

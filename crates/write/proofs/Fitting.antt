@@ -6,7 +6,7 @@ use Rattle.couch_json.specs.Value.{Value}
 use Rattle.tree.specs.Revision.{Revision}
 use Rattle.tree.specs.NextRevision.{next_revision, number_before}
 use Rattle.tree.specs.Write.{Write, AreWhole, EndsWith, IsBehind, IsKnown, IsLawful as AreWritten, IsParent, IsPathEnd, StandsIn, counts_down, is_whole}
-use Rattle.tree.specs.History.{HistoryContent, chain, content_of, held_of, is_deleted, is_head_known, is_known, is_leaf, keeps_parents, line, placement, winner}
+use Rattle.tree.specs.History.{HistoryContent, chain, content_of, held_of, is_deleted, is_known, is_leaf, keeps_parents, line, placement, winner}
 use Rattle.tree.specs.declared.entry.Entry.{Entry}
 use Rattle.tree.specs.declared.placement.Placed.TheVariants.{Added, Known}
 use Rattle.tree.specs.declared.placement.TreeFault.TheVariants.{BadPath, OtherParent}

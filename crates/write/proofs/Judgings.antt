@@ -1,6 +1,6 @@
 -- Documents that are judged one after another: what is seen, written and told after each.
-use Rattle.std.proofs.Common.{◌≡◌, ◌≢◌, ℕ, Bool, true, false, cond, List, [], ◌∷◌, ◌++◌, map, Option, Some, None, option_map, Result, Ok, Err, IfOk, IfErr, OnErr, refl, ap, sym, ◌∙◌, subst, append_assoc, append-nil}
-use Rattle.std.specs.Prelude.{codes, is_some, string_bytes}
+use Rattle.std.proofs.Common.{◌≡◌, ◌≢◌, ℕ, Bool, false, List, [], ◌∷◌, ◌++◌, Option, Some, None, option_map, Result, Ok, Err, IfOk, IfErr, OnErr, refl, ap, sym, ◌∙◌, subst, append_assoc, append-nil}
+use Rattle.std.specs.Prelude.{codes, is_some}
 use Rattle.std.specs.BTreeMap.{BTreeMap, get}
 use Rattle.std.specs.Option.{option_to_list}
 use Rattle.std.specs.Ordering.{nat_cmp}
@@ -14,11 +14,10 @@ use Rattle.store.specs.declared.write.Write.{Write}
 use Rattle.store.proofs.Contents.{with_all-append, writings_in-append}
 use Rattle.write.specs.Admission.{with_taken}
 use Rattle.write.specs.Bulk.{DocumentOutcome, Histories, Told, after, all_told, judged, judged_by, outcome_in, outcome_told, outcomes, put_before, told, writes_in}
-use Rattle.write.specs.BulkResults.{brought, held_or, seen_in, told_of, with_history}
+use Rattle.write.specs.BulkResults.{brought, held_or, seen_in, with_history}
 use Rattle.write.specs.Document.{id_in, member_text}
 use Rattle.write.specs.declared.fault.WriteFault.{WriteFault}
 use Rattle.write.specs.declared.fault.WriteFault.TheVariants.{Memory}
-use Rattle.write.specs.declared.planned.DocumentResult.{DocumentResult}
 use Rattle.write.specs.declared.planned.Outcome.{Outcome}
 use Rattle.write.proofs.Acceptances.{after_is, db_after}
 use Rattle.write.proofs.BulkLemmas.{judged_seen, load_seen, seen_after, seen_still}

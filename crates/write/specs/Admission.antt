@@ -1,6 +1,6 @@
 -- What becomes of a write of a document: a bad document, a bad history, a conflict, no further generation, or the write that is appended.
 -- CouchDB manual, api/document/common (`PUT` and `DELETE /{db}/{docid}`: 409 where the revision is not the one to follow), api/database/bulk-api (`new_edits`) and replication/conflicts.
-use Rattle.std.specs.Prelude.{ℕ, ◌==◌, Bool, if◌then◌else◌, List, [], ◌∷◌, Option, Some, None, option_map, option_and_then, Result, Ok, Err}
+use Rattle.std.specs.Prelude.{ℕ, ◌==◌, Bool, if◌then◌else◌, List, ◌∷◌, Option, Some, None, option_map, option_and_then, Result, Ok, Err}
 use Rattle.std.specs.Ordering.{eq_by_cmp}
 use Rattle.couch_json.specs.Value.{Value}
 use Rattle.tree.specs.Revision.{Revision, greatest_number, revision_cmp}

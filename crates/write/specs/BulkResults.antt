@@ -1,6 +1,6 @@
 -- What the code keeps while it judges several documents, and what its results tell, in the words of `Bulk`.
 -- This crate's own: it ties structs of the code to the definition.
-use Rattle.std.specs.Prelude.{ℕ, List, [], ◌∷◌, if◌then◌else◌, Option, Some, None, option_map, string_bytes, bytes_eq, is_some, true, IsTrue, ◌≡◌, ◌≢◌, ⊤}
+use Rattle.std.specs.Prelude.{ℕ, List, [], ◌∷◌, if◌then◌else◌, Option, Some, None, option_map, string_bytes, bytes_eq, is_some, true, ◌≡◌, ⊤}
 use Rattle.std.specs.BTreeMap.{BTreeMap, get}
 use Rattle.std.specs.Ordering.{nat_cmp}
 use Rattle.std.specs.Cmp.Lexicographic.{slice_cmp}

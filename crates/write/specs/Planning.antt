@@ -24,6 +24,11 @@ abbrev pub changed : Changes → Database → Database
 changed (Writes ws) db = with_all db (writings_in db (additions ws.items))
 changed (Security s) db = with_security db s
 
+-- the changes are writes
+abbrev pub AreWrites : Changes → Type 0
+AreWrites (Writes ws) = ⊤
+AreWrites (Security s) = ⊥
+
 -- the changes may be made in this database
 abbrev pub MayBeMade : Changes → Database → Type 0
 MayBeMade (Writes ws) db = AreAcceptable db (writings_in db (additions ws.items))

@@ -12,7 +12,7 @@ ghost use Rattle.write.specs.Admission.{with_taken};
 ghost use Rattle.write.specs.Bulk.{Histories, after, all_told, judged as judged_lem, outcome_in, outcomes, put_before, told as told_lem, writes_in};
 ghost use Rattle.write.specs.BulkResults.{IsHeld, IsOwnOutcome, brought, seen_in, told_of};
 ghost use Rattle.write.specs.Document.{id_in as id_in_lem};
-ghost use Rattle.write.specs.Planning.{Plans};
+ghost use Rattle.write.specs.Planning.{AreWrites, Plans};
 ghost use Rattle.write.specs.Refusing.{IsDecided, Refuses};
 
 use crate::admission::admit_edit;
@@ -45,6 +45,7 @@ pub fn bulk<S: Store>(
     ensures there { S.is_honest store.new → IsDecided result → is_some (map.get (S.contents store.old) db.now) ≡ true }
     ensures plan { S.is_honest store.new → IfOk result (λ planned. IfThere (map.get (S.contents store.old) db.now) (λ d.
         Plans d (list_map view documents.items) (outcomes new_edits (history_at d) (list_map view documents.items)) planned)) }
+    ensures appends { IfOk result (λ planned. AreWrites planned.changes) }
     ensures own { IfOk result (λ planned. All (λ r. IsOwnOutcome r.outcome) planned.results.items) }
     ensures database { IfOk result (λ planned. planned.database ≡ db.now) }
     ensures only { IfErr result (λ fault. fault ≢ WriteFault.Memory → ((cause : _) → fault ≢ WriteFault.Store cause) → ⊥) }

@@ -1,4 +1,5 @@
-use Rattle.std.proofs.Common.{◌≡◌, ◌++◌, map, drop}
+use Rattle.std.proofs.Common.{◌≡◌, ◌++◌, map}
+use Rattle.std.specs.Vec.Iter.{into_iter_items}
 use Rattle.couch_json.specs.View.{view}
 use Rattle.write.specs.BulkResults.{told_of}
 use Rattle.node.specs.Bulk.{edit_listed}
@@ -7,4 +8,4 @@ use Rattle.node.proofs.bulk_reply.edits_listed.Given as goal
 -- the elements so far and those to come are those of all edits
 abbrev pub invariant-loop-told : goal.invariant-loop-told
 invariant-loop-told l =
-    map view l.values.items ++ map edit_listed (map told_of (drop l.told-index l.results)) ≡ map edit_listed (map told_of l.results)
+    map view l.values.items ++ map (edit_listed l.caller) (map told_of (into_iter_items l.told-iterator)) ≡ map (edit_listed l.caller) (map told_of l.fn.results.items)

@@ -1,4 +1,4 @@
-use Rattle.std.proofs.Common.{◌≡◌, ◌∷◌, ◌∙◌, [], All, ap, map, rules, arith, subst, sym}
+use Rattle.std.proofs.Common.{◌≡◌, ◌∷◌, ◌∙◌, [], ap, map, rules, arith}
 use Rattle.std.proofs.lemmas.Grind.{common_steps}
 use Rattle.std.proofs.lemmas.List.{map-append}
 use Rattle.std.proofs.lemmas.List.Elements.{All-push}
@@ -37,7 +37,7 @@ loop-document-preserved g c =
           (c.in_ok-load.ensures.ok honest d (ap (λ (x : Contents). finite.get x c.args.db.now) (l.invariant.reads.same before) ∙ there))
           c.in_ok-judge_one.ensures.told c.in_ok-judge_one.ensures.histories c.in_ok-judge_one.ensures.writes
           (ap (map told_of) c.in_ok-push.ensures.items ∙ map-append told_of l.results.items (c.in_ok-judge_one.field-0 ∷ []));
-      own = subst (All (λ (r : DocumentResult). IsOwnOutcome r.outcome)) (sym c.in_ok-push.ensures.items)
+      own = rw c.in_ok-push.ensures.items
           (All-push (λ (r : DocumentResult). IsOwnOutcome r.outcome) l.results.items c.in_ok-judge_one.field-0 l.invariant.own c.in_ok-judge_one.ensures.own);
       reads = reads_then g.S.Store c.args.store.now l.store c.load.new.store l.invariant.reads c.in_ok-load.ensures.reads;
     }

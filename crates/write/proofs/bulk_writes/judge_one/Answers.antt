@@ -1,8 +1,8 @@
-use Rattle.std.proofs.Common.{◌∙◌, ap, rules, subst, sym}
+use Rattle.std.proofs.Common.{◌∙◌, ap, sym}
 use Rattle.couch_json.specs.View.{view}
-use Rattle.write.specs.Bulk.{Histories, after, outcome_told}
-use Rattle.write.specs.BulkResults.{IsOwnOutcome, seen_in}
-use Rattle.write.proofs.Judgings.{none_pushed, pushed, told_brought, told_is}
+use Rattle.write.specs.Bulk.{after, outcome_told}
+use Rattle.write.specs.BulkResults.{seen_in}
+use Rattle.write.proofs.Judgings.{pushed, told_brought, told_is}
 use Rattle.write.proofs.bulk_writes.judge_one.Goals as goal
 
 pub returns-in_ok-append-in-Ok-clause-told : goal.returns-in_ok-append-in-Ok-clause-told

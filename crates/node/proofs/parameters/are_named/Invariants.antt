@@ -1,7 +1,7 @@
 use Rattle.std.proofs.Common.{◌≡◌, drop, map}
 use Rattle.node.specs.Queried.{texts_of}
 use Rattle.node.specs.Queries.{are_named}
-use Rattle.node.proofs.parameters.only_named.Given as goal
+use Rattle.node.proofs.parameters.are_named.Given as goal
 
 abbrev pub invariant-loop-name : goal.invariant-loop-name
 invariant-loop-name l =

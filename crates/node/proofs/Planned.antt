@@ -1,0 +1,79 @@
+-- What is planned for a database has the effect that the definition says.
+use Rattle.std.proofs.Common.{◌≡◌, ◌≢◌, refl, ℕ, List, [], ◌∷◌, Option, Some, None, Result, Ok, Err, ap, subst, sym, ◌∙◌, map}
+use Rattle.auth.specs.Callers.{Identity}
+use Rattle.couch_json.specs.Value.{Value, object}
+use Rattle.store.specs.Contents.{IfThere}
+use Rattle.store.specs.Database.{Database, DocumentWrite, history_at}
+use Rattle.store.specs.Writing.{additions, writings_in}
+use Rattle.store.specs.declared.fault.StoreFault.{StoreFault}
+use Rattle.tree.specs.Revision.{Revision}
+use Rattle.write.specs.Bulk.{Told, all_told, as_outcome, outcome_told, outcomes, told, writes_alone}
+use Rattle.write.specs.BulkResults.{OfFirst, told_of}
+use Rattle.write.specs.Planning.{AreWrites, Plans, planned_writes}
+use Rattle.write.specs.Refusing.{IsOwn}
+use Rattle.write.specs.declared.fault.WriteFault.{WriteFault}
+use Rattle.write.specs.declared.fault.WriteFault.TheVariants as write
+use Rattle.write.specs.declared.planned.Changes.{Changes}
+use Rattle.write.specs.declared.planned.Changes.TheVariants.{Writes, Security}
+use Rattle.write.specs.declared.planned.DocumentResult.{DocumentResult}
+use Rattle.write.specs.declared.planned.Outcome.{Outcome}
+use Rattle.write.specs.declared.planned.Outcome.TheVariants.{Made}
+use Rattle.write.specs.declared.planned.Planned.{Planned}
+use Rattle.node.specs.Answered.{effect_of}
+use Rattle.node.specs.Bulk.{Bulk, bulk_reply, edit_members, made_members}
+use Rattle.node.specs.Work.{appended}
+use Rattle.node.specs.Works.{bulk_written, edited}
+
+-- what holds where there is a database holds of it
+pub of_there : (o : Option Database) (db : Database) (fact : Database → Type 0) → o ≡ Some db → IfThere o fact → fact db
+of_there None db fact e h = absurd cc
+of_there (Some d) db fact e h = subst (λ (x : Database). fact x) (let same : d ≡ db = cc in same) h
+
+-- a fault of another cause than memory and the store is the document's own
+pub own_fault : (fault : WriteFault) → fault ≢ write.Memory → ((cause : StoreFault) → fault ≢ write.Store cause) → IsOwn fault
+own_fault write.BadDocument memory store = tt
+own_fault (write.Denied rule) memory store = tt
+own_fault write.BadHistory memory store = tt
+own_fault write.Conflict memory store = tt
+own_fault write.Generation memory store = tt
+own_fault (write.Store cause) memory store = absurd (store cause refl)
+own_fault write.Memory memory store = absurd (memory refl)
+
+-- ---- an edit
+
+first_told : (items : List DocumentResult) (t : Told) (rev : Revision) → map told_of items ≡ t ∷ [] → OfFirst (λ o. o ≡ Made rev) items → t.outcome ≡ Made rev
+first_told [] t rev e h = absurd h
+first_told (r ∷ rs) t rev e h = let same : told_of r ≡ t = cc in ap (λ (x : Told). x.outcome) (sym same) ∙ h
+
+effect_alone : (changes : Changes) (db : Database) (w : DocumentWrite) → writes_alone (Ok (Some w)) ≡ Ok (planned_writes db changes) → appended (w ∷ []) ≡ effect_of changes db
+effect_alone (Writes ws) db w e = let same : w ∷ [] ≡ writings_in db (additions ws.items) = cc in ap appended same
+effect_alone (Security v) db w e = absurd (let same : w ∷ [] ≡ [] = cc in cc)
+
+-- an edit comes to what is planned
+pub edit_comes : (caller : Identity) (status : ℕ) (id : List ℕ) (db : Database) (document : Value) (r : Result DocumentWrite WriteFault) (planned : Planned) (rev : Revision) (value : Value)
+    → writes_alone (as_outcome r) ≡ Ok (planned_writes db planned.changes) → Plans db (document ∷ []) (as_outcome r ∷ []) planned
+    → OfFirst (λ o. o ≡ Made rev) planned.results.items → value ≡ object (made_members (Some id) rev)
+    → edited caller status id r ≡ Ok (record { status = status; value = value; effect = effect_of planned.changes db })
+edit_comes caller status id db document (Err fault) planned rev value alone plans first made = absurd cc
+edit_comes caller status id db document (Ok w) planned rev value alone plans first made =
+    let o : outcome_told (Ok (Some w)) ≡ Made rev = first_told planned.results.items (told document (Ok (Some w))) rev plans.results first in
+    let v : object (edit_members caller (Some id) (outcome_told (Ok (Some w)))) ≡ value = ap (λ (x : Outcome). object (edit_members caller (Some id) x)) o ∙ sym made in
+    let e : appended (w ∷ []) ≡ effect_of planned.changes db = effect_alone planned.changes db w alone in
+    λ i. Ok (record { status = status; value = v i; effect = e i })
+
+-- ---- several documents
+
+effect_written : (changes : Changes) (db : Database) (ws : List DocumentWrite) → AreWrites changes → planned_writes db changes ≡ ws → appended ws ≡ effect_of changes db
+effect_written (Writes vs) db ws are e = ap appended (sym e)
+effect_written (Security v) db ws are e = absurd are
+
+-- several documents come to what is planned
+pub bulk_comes : (caller : Identity) (bulk : Bulk) (db : Database) (value : Value) (planned : Planned)
+    → Plans db bulk.documents (outcomes bulk.new_edits (history_at db) bulk.documents) planned → AreWrites planned.changes
+    → value ≡ bulk_reply caller bulk.new_edits (map told_of planned.results.items)
+    → bulk_written caller bulk db ≡ Ok (record { status = 201; value = value; effect = effect_of planned.changes db })
+bulk_comes caller bulk db value planned plans are made =
+    let os = outcomes bulk.new_edits (history_at db) bulk.documents in
+    let v : bulk_reply caller bulk.new_edits (all_told bulk.documents os) ≡ value = ap (bulk_reply caller bulk.new_edits) (sym plans.results) ∙ sym made in
+    let e = effect_written planned.changes db _ are plans.writes in
+    λ i. Ok (record { status = 201; value = v i; effect = e i })

@@ -1,0 +1,243 @@
+-- What holds of what each request asks, and so of its answer.
+use Rattle.std.proofs.Common.{◌≡◌, ◌≢◌, ℕ, List, [], ◌∷◌, Bool, true, false, cond, Option, Some, None, Result, Ok, Err, ◌⊎◌, inl, inr, refl, ap, ◌∙◌, subst, is_none}
+use Rattle.std.specs.Prelude.{⊤}
+use Rattle.std.specs.FinMap.{get}
+use Rattle.auth.specs.Callers.{Configuration, Identity}
+use Rattle.couch_http.specs.Message.{Message}
+use Rattle.couch_json.specs.Value.{Value}
+use Rattle.policy.specs.Security.{is_security}
+use Rattle.policy.specs.Verdict.{verdict}
+use Rattle.policy.specs.declared.action.Action.{Action}
+use Rattle.policy.specs.declared.action.Action.TheVariants.{Read, WriteSecurity, WriteDocument}
+use Rattle.store.specs.Contents.{AreAcceptable, Contents}
+use Rattle.store.specs.Database.{Database, DocumentWrite}
+use Rattle.store.specs.Lawful.{IsLawful}
+use Rattle.write.specs.Planning.{secured as secured_value}
+use Rattle.write.specs.declared.fault.WriteFault.{WriteFault}
+use Rattle.write.specs.Admission.{admission}
+use Rattle.write.proofs.Acceptances.{all_acceptable, edit_acceptable}
+use Rattle.tree.specs.Revision.{Revision}
+use Rattle.node.specs.Asking.{asking, body_of, method_of}
+use Rattle.node.specs.Bulk.{bulk_in}
+use Rattle.node.specs.Routing.{page_of}
+use Rattle.write.specs.declared.fault.WriteFault.TheVariants.{BadDocument}
+use Rattle.node.specs.Answer.{Change, Outcome, Task, administering, allowed, change_at, created, creation, entered, governing, inside, judged, kept, listed, naming, outcome_in, performed, removal, removed, served, task_of, told, welcome, worked, working}
+use Rattle.node.specs.Effects.{Fits}
+use Rattle.node.specs.Paths.{database_name_in}
+use Rattle.node.specs.Work.{Done, Effect, Work, appended, next, nothing, reading, secured, shown, there_or, true_or}
+use Rattle.node.specs.Works.{database_read, document_deleted, document_read, document_written, documents_written, deletion, done, edit_asked, bulk_written, edited, plain, security_read, security_set, security_written}
+use Rattle.node.specs.declared.method.RequestMethod.{RequestMethod}
+use Rattle.node.specs.declared.method.RequestMethod.TheVariants.{Get, Put, Post, Delete}
+use Rattle.node.specs.declared.page.Page.{Page}
+use Rattle.node.specs.declared.page.Page.TheVariants.{Welcome, AllDatabases, Database as DatabasePage, Security, BulkDocuments, Document}
+use Rattle.node.specs.declared.refusal.Refusal.{Refusal}
+use Rattle.node.specs.declared.refusal.Refusal.TheVariants.{Body, Conflict, DatabaseName, NoDatabase, Exists, Path}
+
+-- ---- one step after another
+
+-- what came of two steps came of the second, after the first
+pub record Went {A B : Type 0} (r : Result A Refusal) (go : A → Result B Refusal) (b : B) : Type 0 where
+  pub first : A
+  pub was : r ≡ Ok first
+  pub then : go first ≡ Ok b
+
+pub went : {A B : Type 0} (r : Result A Refusal) (go : A → Result B Refusal) (b : B) → next r go ≡ Ok b → Went r go b
+went (Ok a) go b e = record { first = a; was = refl; then = e }
+went (Err refusal) go b e = absurd cc
+
+pub next_same : {A B : Type 0} (r : Result A Refusal) (f g : A → Result B Refusal) → ((a : A) → r ≡ Ok a → f a ≡ g a) → next r f ≡ next r g
+next_same (Ok a) f g agree = agree a refl
+next_same (Err refusal) f g agree = refl
+
+abbrev well : {A : Type 0} → A → Result A Refusal
+well a = Ok a
+
+same : {A : Type 0} (a b : A) → well a ≡ well b → a ≡ b
+same a b e = cc
+
+named : {A : Type 0} (r : Refusal) (o : Option A) (a : A) → there_or r o ≡ Ok a → o ≡ Some a
+named r None a e = absurd cc
+named r (Some b) a e = cc
+
+absent : {A : Type 0} (r : Refusal) (o : Option A) → true_or r (is_none o) ≡ Ok tt → o ≡ None
+absent r None e = refl
+absent r (Some a) e = absurd cc
+
+-- ---- work in a database
+
+-- what work comes to is told as a success, and its effect fits a lawful database
+pub record IsSound (db : Database) (d : Done) : Type 0 where
+  pub status : (d.status ≡ 200) ⊎ (d.status ≡ 201)
+  pub fits : IsLawful db → Fits d.effect db
+
+abbrev pub AreSound : Work → Type 0
+AreSound work = (db : Database) (d : Done) → work db ≡ Ok d → IsSound db d
+
+sound_reading : (read : Database → Result Value Refusal) → AreSound (reading read)
+sound_reading read db d e =
+    let k = went (read db) (λ value. Ok (shown value)) d e in
+    subst (λ (x : Done). IsSound db x) (same {A = Done} _ d k.then) (record { status = inl refl; fits = λ lawful. tt })
+
+sound_security : (m : Message) → AreSound (security_written m)
+sound_security m db d e =
+    let k = went (plain m) (λ _. next (body_of m) (λ value. security_set (secured_value value))) d e in
+    let l = went (body_of m) (λ value. security_set (secured_value value)) d k.then in
+    by l.first (is_security l.first) refl l.then
+  where
+    by : (v : Value) (b : Bool) → is_security v ≡ b → security_set (secured_value v) ≡ Ok d → IsSound db d
+    by v true is h =
+        let P : Bool → Type 0 = λ b. security_set (cond b (Ok v) (Err BadDocument)) ≡ Ok d in
+        subst (λ (x : Done). IsSound db x) (same {A = Done} (record { status = 200; value = done; effect = secured v }) d (subst P is h)) (record { status = inl refl; fits = λ lawful. is })
+    by v false is h =
+        let P : Bool → Type 0 = λ b. security_set (cond b (Ok v) (Err BadDocument)) ≡ Ok d in
+        absurd (let k : Err Body ≡ well d = subst P is h in cc)
+
+sound_edited : (caller : Identity) (status : ℕ) (id : List ℕ) (db : Database) (r : Result DocumentWrite WriteFault) (d : Done) → (status ≡ 200) ⊎ (status ≡ 201)
+    → ((w : DocumentWrite) → r ≡ Ok w → IsLawful db → AreAcceptable db (w ∷ [])) → edited caller status id r ≡ Ok d → IsSound db d
+sound_edited caller status id db (Ok w) d good ok e = subst (λ (x : Done). IsSound db x) (same {A = Done} _ d e) (record { status = good; fits = λ lawful. ok w refl lawful })
+sound_edited caller status id db (Err fault) d good ok e = absurd cc
+
+edit_fits : (db : Database) (id : List ℕ) (query : Option Revision) (document : Value) (w : DocumentWrite) → admission db id query document ≡ Ok w → IsLawful db
+    → AreAcceptable db (w ∷ [])
+edit_fits db id query document w e lawful = (edit_acceptable db id query document w lawful e, tt)
+
+sound_document : (caller : Identity) (m : Message) → AreSound (document_written caller m)
+sound_document caller m db d e =
+    let k = went (edit_asked m) (λ asked. next (body_of m) (λ document. edited caller 201 asked.0 (admission db asked.0 asked.1 document))) d e in
+    let l = went (body_of m) (λ document. edited caller 201 k.first.0 (admission db k.first.0 k.first.1 document)) d k.then in
+    sound_edited caller 201 k.first.0 db (admission db k.first.0 k.first.1 l.first) d (inr refl) (λ w. edit_fits db k.first.0 k.first.1 l.first w) l.then
+
+sound_deletion : (caller : Identity) (m : Message) → AreSound (document_deleted caller m)
+sound_deletion caller m db d e =
+    let k = went (edit_asked m) (λ asked. next (there_or Conflict asked.1) (λ rev. edited caller 200 asked.0 (admission db asked.0 (Some rev) deletion))) d e in
+    let l = went (there_or Conflict k.first.1) (λ rev. edited caller 200 k.first.0 (admission db k.first.0 (Some rev) deletion)) d k.then in
+    sound_edited caller 200 k.first.0 db (admission db k.first.0 (Some l.first) deletion) d (inl refl) (λ w. edit_fits db k.first.0 (Some l.first) deletion w) l.then
+
+sound_documents : (caller : Identity) (m : Message) → AreSound (documents_written caller m)
+sound_documents caller m db d e =
+    let k = went (plain m) (λ _. next (body_of m) (λ value. next (there_or Body (bulk_in value)) (λ bulk. bulk_written caller bulk db))) d e in
+    let l = went (body_of m) (λ value. next (there_or Body (bulk_in value)) (λ bulk. bulk_written caller bulk db)) d k.then in
+    let b = went (there_or Body (bulk_in l.first)) (λ bulk. bulk_written caller bulk db) d l.then in
+    subst (λ (x : Done). IsSound db x) (same {A = Done} _ d b.then) (record { status = inr refl; fits = λ lawful. all_acceptable b.first.new_edits db b.first.documents lawful })
+
+-- ---- what is asked
+
+-- what is asked is asked of the database that the path leads into, and is sound work; or of all databases, on their page alone
+abbrev pub IsGood : Page → Message → Task → Type 0
+IsGood page m (told value) = ⊤
+IsGood page m listed = page ≡ AllDatabases
+IsGood page m (created name asked) = database_name_in m.path ≡ Some name
+IsGood page m (removed name asked) = database_name_in m.path ≡ Some name
+IsGood page m (worked action name work) = (database_name_in m.path ≡ Some name) × AreSound work
+
+good_work : (page : Page) (action : Action) (m : Message) (w : List ℕ → Work) (task : Task) → ((name : List ℕ) → AreSound (w name)) → working action m w ≡ Ok task → IsGood page m task
+good_work page action m w task sound e =
+    let k = went (naming m) (λ name. Ok (worked action name (w name))) task e in
+    subst (λ (x : Task). IsGood page m x) (same {A = Task} _ task k.then) (named DatabaseName (database_name_in m.path) k.first k.was, sound k.first)
+
+good_created : (page : Page) (caller : Identity) (m : Message) (asked : Result (Unit {0}) Refusal) (task : Task) → governing caller m (λ name. created name asked) ≡ Ok task → IsGood page m task
+good_created page caller m asked task e =
+    let k = went (naming m) (λ name. next (administering caller) (λ _. Ok (created name asked))) task e in
+    let l = went (administering caller) (λ _. Ok (created k.first asked)) task k.then in
+    subst (λ (x : Task). IsGood page m x) (same {A = Task} _ task l.then) (named DatabaseName (database_name_in m.path) k.first k.was)
+
+good_removed : (page : Page) (caller : Identity) (m : Message) (asked : Result (Unit {0}) Refusal) (task : Task) → governing caller m (λ name. removed name asked) ≡ Ok task → IsGood page m task
+good_removed page caller m asked task e =
+    let k = went (naming m) (λ name. next (administering caller) (λ _. Ok (removed name asked))) task e in
+    let l = went (administering caller) (λ _. Ok (removed k.first asked)) task k.then in
+    subst (λ (x : Task). IsGood page m x) (same {A = Task} _ task l.then) (named DatabaseName (database_name_in m.path) k.first k.was)
+
+good_welcome : (m : Message) (task : Task) → next (plain m) (λ _. Ok (told welcome)) ≡ Ok task → IsGood Welcome m task
+good_welcome m task e = let k = went (plain m) (λ _. Ok (told welcome)) task e in subst (λ (x : Task). IsGood Welcome m x) (same {A = Task} _ task k.then) tt
+
+good_list : (caller : Identity) (m : Message) (task : Task) → next (administering caller) (λ _. next (plain m) (λ _. Ok listed)) ≡ Ok task → IsGood AllDatabases m task
+good_list caller m task e =
+    let k = went (administering caller) (λ _. next (plain m) (λ _. Ok listed)) task e in
+    let l = went (plain m) (λ _. Ok listed) task k.then in
+    subst (λ (x : Task). IsGood AllDatabases m x) (same {A = Task} _ task l.then) refl
+
+pub good : (page : Page) (method : Option RequestMethod) (caller : Identity) (m : Message) (task : Task) → task_of page method caller m ≡ Ok task → IsGood page m task
+good Welcome (Some Get) caller m task e = good_welcome m task e
+good AllDatabases (Some Get) caller m task e = good_list caller m task e
+good DatabasePage (Some Get) caller m task e = good_work DatabasePage Read m (λ name. reading (database_read m name)) task (λ name. sound_reading (database_read m name)) e
+good DatabasePage (Some Put) caller m task e = good_created DatabasePage caller m (plain m) task e
+good DatabasePage (Some Delete) caller m task e = good_removed DatabasePage caller m (plain m) task e
+good Security (Some Get) caller m task e = good_work Security Read m (λ name. reading (security_read m)) task (λ name. sound_reading (security_read m)) e
+good Security (Some Put) caller m task e = good_work Security WriteSecurity m (λ name. security_written m) task (λ name. sound_security m) e
+good BulkDocuments (Some Post) caller m task e = good_work BulkDocuments WriteDocument m (λ name. documents_written caller m) task (λ name. sound_documents caller m) e
+good Document (Some Get) caller m task e = good_work Document Read m (λ name. reading (document_read m)) task (λ name. sound_reading (document_read m)) e
+good Document (Some Put) caller m task e = good_work Document WriteDocument m (λ name. document_written caller m) task (λ name. sound_document caller m) e
+good Document (Some Delete) caller m task e = good_work Document WriteDocument m (λ name. document_deleted caller m) task (λ name. sound_deletion caller m) e
+good page method caller m task e = absurd cc
+
+-- ---- what comes of it
+
+-- the change is one of the database that the path leads into: of a new one where there is none, or with an effect that fits
+abbrev pub IsMade : Contents → Message → Change → Type 0
+IsMade a m kept = ⊤
+IsMade a m (creation name) = (database_name_in m.path ≡ Some name) × (get a name ≡ None)
+IsMade a m (removal name) = database_name_in m.path ≡ Some name
+IsMade a m (inside name effect) = (database_name_in m.path ≡ Some name) × ((db : Database) × (get a name ≡ Some db) × (IsLawful db → Fits effect db))
+
+pub record IsRight (a : Contents) (m : Message) (o : Outcome) : Type 0 where
+  pub status : (o.status ≡ 200) ⊎ (o.status ≡ 201)
+  pub made : IsMade a m o.change
+
+made_at : (a : Contents) (m : Message) (name : List ℕ) (db : Database) (effect : Effect) → database_name_in m.path ≡ Some name → get a name ≡ Some db → (IsLawful db → Fits effect db)
+    → IsMade a m (change_at name effect)
+made_at a m name db nothing own there fits = tt
+made_at a m name db (appended ws) own there fits = (own, (db, there, fits))
+made_at a m name db (secured v) own there fits = (own, (db, there, fits))
+
+there : (caller : Identity) (action : Action) (o : Option Database) (db : Database) → entered caller action o ≡ Ok db → o ≡ Some db
+there caller action None db e = absurd cc
+there caller action (Some d) db e = let k = went (allowed caller (verdict action caller d.security)) (λ _. Ok d) db e in ap Some (same d db k.then)
+
+pub right : (page : Page) (caller : Identity) (a : Contents) (m : Message) (task : Task) (o : Outcome) → IsGood page m task → performed caller a task ≡ Ok o → IsRight a m o
+right page caller a m (told value) o ok e = subst (λ (x : Outcome). IsRight a m x) (same {A = Outcome} _ o e) (record { status = inl refl; made = tt })
+right page caller a m listed o ok e = subst (λ (x : Outcome). IsRight a m x) (same {A = Outcome} _ o e) (record { status = inl refl; made = tt })
+right page caller a m (created name asked) o ok e =
+    let made : Outcome = record { status = 201; value = done; change = creation name } in
+    let k = went (true_or Exists (is_none (get a name))) (λ _. next asked (λ _. Ok made)) o e in
+    let l = went asked (λ _. Ok made) o k.then in
+    subst (λ (x : Outcome). IsRight a m x) (same {A = Outcome} _ o l.then) (record { status = inr refl; made = (ok, absent Exists (get a name) k.was) })
+right page caller a m (removed name asked) o ok e =
+    let made : Outcome = record { status = 200; value = done; change = removal name } in
+    let k = went (there_or NoDatabase (get a name)) (λ _. next asked (λ _. Ok made)) o e in
+    let l = went asked (λ _. Ok made) o k.then in
+    subst (λ (x : Outcome). IsRight a m x) (same {A = Outcome} _ o l.then) (record { status = inl refl; made = ok })
+right page caller a m (worked action name work) o ok e =
+    let k = went (entered caller action (get a name)) (λ db. next (work db) (λ d. Ok (outcome_in name d))) o e in
+    let l = went (work k.first) (λ d. Ok (outcome_in name d)) o k.then in
+    let sound = ok.1 k.first l.first l.was in
+    subst (λ (x : Outcome). IsRight a m x) (same {A = Outcome} _ o l.then)
+    (record { status = sound.status; made = made_at a m name k.first l.first.effect ok.0 (there caller action (get a name) k.first k.was) sound.fits })
+
+pub judged_right : (c : Configuration) (a : Contents) (m : Message) (o : Outcome) → judged c a m ≡ Ok o → IsRight a m o
+judged_right c a m o e =
+    let k = went (asking c m) (λ caller. next (there_or Path (page_of m.path)) (λ page. served page (method_of m.method) caller a m)) o e in
+    let l = went (there_or Path (page_of m.path)) (λ page. served page (method_of m.method) k.first a m) o k.then in
+    let t = went (task_of l.first (method_of m.method) k.first m) (λ task. performed k.first a task) o l.then in
+    right l.first k.first a m t.first o (good l.first (method_of m.method) k.first m t.first t.was) t.then
+
+-- ---- what depends on what
+
+-- what is asked is answered alike by two states that agree on the database of the path
+alike : (page : Page) (caller : Identity) (a b : Contents) (m : Message) (task : Task) → IsGood page m task → page ≢ AllDatabases
+    → ((name : List ℕ) → database_name_in m.path ≡ Some name → get a name ≡ get b name) → performed caller a task ≡ performed caller b task
+alike page caller a b m (told value) ok single agree = refl
+alike page caller a b m listed ok single agree = absurd (single ok)
+alike page caller a b m (created name asked) ok single agree =
+    ap (λ (o : Option Database). next (true_or Exists (is_none o)) (λ _. next asked (λ _. Ok (let x : Outcome = record { status = 201; value = done; change = creation name } in x)))) (agree name ok)
+alike page caller a b m (removed name asked) ok single agree =
+    ap (λ (o : Option Database). next (there_or NoDatabase o) (λ _. next asked (λ _. Ok (let x : Outcome = record { status = 200; value = done; change = removal name } in x)))) (agree name ok)
+alike page caller a b m (worked action name work) ok single agree =
+    ap (λ (o : Option Database). next (entered caller action o) (λ db. next (work db) (λ d. Ok (outcome_in name d)))) (agree name ok.0)
+
+pub judged_alike : (c : Configuration) (a b : Contents) (m : Message) → page_of m.path ≢ Some AllDatabases
+    → ((name : List ℕ) → database_name_in m.path ≡ Some name → get a name ≡ get b name) → judged c a m ≡ judged c b m
+judged_alike c a b m single agree =
+    next_same (asking c m) _ _ (λ caller is.
+    next_same (there_or Path (page_of m.path)) _ _ (λ page at.
+    next_same (task_of page (method_of m.method) caller m) _ _ (λ task asked.
+    alike page caller a b m task (good page (method_of m.method) caller m task asked) (λ all. single (named Path (page_of m.path) page at ∙ ap Some all)) agree)))

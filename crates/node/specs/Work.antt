@@ -1,0 +1,54 @@
+-- What a request does in one database: its status, its value, and its effect there; and how steps that may be refused follow one another.
+-- This server's own: what is asked of a database depends on that database alone.
+use Rattle.std.specs.Prelude.{ℕ, Bool, true, false, List, Option, Some, None, Result, Ok, Err}
+use Rattle.couch_json.specs.Value.{Value}
+use Rattle.store.specs.Contents.{with_security}
+use Rattle.store.specs.Database.{Database, DocumentWrite, with_all}
+use Rattle.node.specs.declared.refusal.Refusal.{Refusal}
+
+-- what comes next, where nothing was refused so far
+abbrev pub next : {A B : Type 0} → Result A Refusal → (A → Result B Refusal) → Result B Refusal
+next (Ok a) go = go a
+next (Err refusal) go = Err refusal
+
+-- what is there, or a refusal
+abbrev pub there_or : {A : Type 0} → Refusal → Option A → Result A Refusal
+there_or refusal None = Err refusal
+there_or refusal (Some a) = Ok a
+
+-- it holds, or a refusal
+abbrev pub true_or : Refusal → Bool → Result (Unit {0}) Refusal
+true_or refusal true = Ok tt
+true_or refusal false = Err refusal
+
+-- what is done to a database
+pub data Effect : Type 0 where
+  nothing : Effect
+  -- these writes are appended
+  appended : List DocumentWrite → Effect
+  -- this is its security object from now on
+  secured : Value → Effect
+
+-- the database afterwards
+abbrev pub with_effect : Effect → Database → Database
+with_effect nothing db = db
+with_effect (appended ws) db = with_all db ws
+with_effect (secured security) db = with_security db security
+
+-- what a request comes to in a database
+pub record Done : Type 0 where
+  pub status : ℕ
+  pub value : Value
+  pub effect : Effect
+
+-- what a request asks of a database: what it comes to there, or a refusal
+abbrev pub Work : Type 0
+Work = Database → Result Done Refusal
+
+-- a value that is read
+abbrev pub shown : Value → Done
+shown value = record { status = 200; value = value; effect = nothing }
+
+-- work that only reads
+abbrev pub reading : (Database → Result Value Refusal) → Work
+reading read = λ db. next (read db) (λ value. Ok (shown value))

@@ -1,0 +1,111 @@
+-- What each request does in its database, by the database alone.
+-- CouchDB manual, api/database/common, api/database/security, api/database/bulk-api and api/document/common; the order of refusals is this server's own.
+use Rattle.std.specs.Prelude.{ℕ, List, [], ◌∷◌, Bool, true, Option, Some, None, Result, Ok, Err, codes}
+use Rattle.auth.specs.Callers.{Identity}
+use Rattle.couch_http.specs.Message.{Message}
+use Rattle.couch_json.specs.Value.{Value, truth, object, no_members, put}
+use Rattle.read.specs.Information.{information}
+use Rattle.read.specs.OpenRevisions.{open_revisions}
+use Rattle.read.specs.Shown.{document_at}
+use Rattle.read.specs.declared.fault.ReadFault.{ReadFault}
+use Rattle.read.specs.declared.fault.ReadFault.TheVariants as read
+use Rattle.store.specs.Database.{Database, DocumentWrite, history_at}
+use Rattle.tree.specs.Revision.{Revision}
+use Rattle.write.specs.Admission.{admission}
+use Rattle.write.specs.Bulk.{DocumentOutcome, all_told, outcome_told, outcomes, writes_in}
+use Rattle.write.specs.Planning.{secured as secured_value}
+use Rattle.write.specs.declared.fault.WriteFault.{WriteFault}
+use Rattle.node.specs.Asking.{body_of, lacks_parameters}
+use Rattle.node.specs.Bulk.{Bulk, bulk_in, bulk_reply, edit_members}
+use Rattle.node.specs.Paths.{document_id_in}
+use Rattle.node.specs.Queries.{Asked, winner, revision, leaves, revisions, document_query, revision_query}
+use Rattle.node.specs.Refusals.{refusal_of_edit}
+use Rattle.node.specs.Work.{Done, Work, appended, next, secured, there_or, true_or}
+use Rattle.node.specs.declared.refusal.Refusal.{Refusal}
+use Rattle.node.specs.declared.refusal.Refusal.TheVariants.{Id, Query, Body, Conflict, Missing, Deleted}
+
+-- a request without parameters
+abbrev pub plain : Message → Result (Unit {0}) Refusal
+plain m = true_or Query (lacks_parameters m.query)
+
+-- ---- the database itself
+
+-- what the database of this name says of itself
+abbrev pub database_read : Message → List ℕ → Database → Result Value Refusal
+database_read m name db = next (plain m) (λ _. Ok (information name db))
+
+-- its security object
+abbrev pub security_read : Message → Database → Result Value Refusal
+security_read m db = next (plain m) (λ _. Ok db.security)
+
+-- what a change replies that has nothing more to say
+abbrev pub done : Value
+done = object (put (codes "ok") (truth true) no_members)
+
+-- a value is refused as a security object because it is none, and for no other cause
+abbrev pub security_set : Result Value WriteFault → Result Done Refusal
+security_set (Ok security) = Ok (record { status = 200; value = done; effect = secured security })
+security_set (Err fault) = Err Body
+
+abbrev pub security_written : Message → Work
+security_written m db = next (plain m) (λ _. next (body_of m) (λ value. security_set (secured_value value)))
+
+-- ---- reading a document
+
+-- what reading a document gives, by which revisions are asked for, and whether with the revisions before each
+abbrev pub read_by : List ℕ → Bool → Asked → Database → Result Value ReadFault
+read_by id revs winner db = document_at db id None revs
+read_by id revs (revision r) db = document_at db id (Some r) revs
+read_by id revs leaves db = Ok (open_revisions id (history_at db id) None revs)
+read_by id revs (revisions rs) db = Ok (open_revisions id (history_at db id) (Some rs) revs)
+
+-- a reader is told of a document that it is deleted, or missing, and nothing else
+abbrev pub found : Result Value ReadFault → Result Value Refusal
+found (Ok document) = Ok document
+found (Err read.Deleted) = Err Deleted
+found (Err fault) = Err Missing
+
+abbrev pub document_read : Message → Database → Result Value Refusal
+document_read m db =
+    next (there_or Id (document_id_in m.path)) (λ id.
+    next (there_or Query (document_query m.query)) (λ query. found (read_by id query.revs query.asked db)))
+
+-- ---- writing a document
+
+-- what an edit comes to, whose reply has this status where it is accepted: the reply says of the document of this id what became of it
+abbrev pub edited : Identity → ℕ → List ℕ → Result DocumentWrite WriteFault → Result Done Refusal
+edited caller status id (Ok w) =
+    Ok (record { status = status; value = object (edit_members caller (Some id) (outcome_told (Ok (Some w)))); effect = appended (w ∷ []) })
+edited caller status id (Err fault) = Err (refusal_of_edit caller fault)
+
+-- the id of the document that is edited, and the revision that the query names, if any
+abbrev pub edit_asked : Message → Result (List ℕ × Option Revision) Refusal
+edit_asked m = next (there_or Id (document_id_in m.path)) (λ id. next (there_or Query (revision_query m.query)) (λ rev. Ok (id, rev)))
+
+abbrev pub document_written : Identity → Message → Work
+document_written caller m db =
+    next (edit_asked m) (λ asked. next (body_of m) (λ document. edited caller 201 asked.0 (admission db asked.0 asked.1 document)))
+
+-- the document that an edit which deletes has
+abbrev pub deletion : Value
+deletion = object (put (codes "_deleted") (truth true) no_members)
+
+-- a deletion has to name the revision that it deletes
+abbrev pub document_deleted : Identity → Message → Work
+document_deleted caller m db =
+    next (edit_asked m) (λ asked.
+    next (there_or Conflict asked.1) (λ rev. edited caller 200 asked.0 (admission db asked.0 (Some rev) deletion)))
+
+-- ---- writing several documents
+
+-- each document has its own outcome; what one is refused for refuses no other
+abbrev pub bulk_done : Identity → Bulk → List DocumentOutcome → Done
+bulk_done caller bulk os =
+    record { status = 201; value = bulk_reply caller bulk.new_edits (all_told bulk.documents os); effect = appended (writes_in os) }
+
+abbrev pub bulk_written : Identity → Bulk → Work
+bulk_written caller bulk db = Ok (bulk_done caller bulk (outcomes bulk.new_edits (history_at db) bulk.documents))
+
+abbrev pub documents_written : Identity → Message → Work
+documents_written caller m db =
+    next (plain m) (λ _. next (body_of m) (λ value. next (there_or Body (bulk_in value)) (λ bulk. bulk_written caller bulk db)))

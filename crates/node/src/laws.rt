@@ -1,0 +1,55 @@
+//! What follows from the definitions alone. Each function has an empty body: its contract is the law.
+
+ghost use Rattle.std.specs.Prelude.{◌≡◌, ◌≢◌, ◌≤◌, ℕ, List, Some};
+ghost use Rattle.std.specs.FinMap.{get};
+ghost use Rattle.auth.specs.Callers.{Configuration};
+ghost use Rattle.couch_http.specs.Message.{Message};
+ghost use Rattle.store.specs.Contents.{Contents};
+ghost use Rattle.store.specs.Database.{Database};
+ghost use Rattle.store.specs.Lawful.{AreLawful};
+ghost use Rattle.node.specs.Answer.{answer, removal, with_change};
+ghost use Rattle.node.specs.Effects.{IsLaterThan, IsOfAll};
+ghost use Rattle.node.specs.Paths.{database_name_in};
+ghost use Rattle.node.specs.Runs.{AreServed, IsRun, Stepped, Steps, end_of, messages_of};
+
+/// No answer has a status that stands for a failure; one from 400 on changes nothing.
+#[tactic(auto, using(crate::proofs::Steps::answer_served, crate::proofs::Steps::refused_changes_nothing))]
+pub fn answers_have_statuses()
+    ensures served { (c : Configuration) (databases : Contents) (m : Message)
+        → ((answer c databases m).status ≢ 500) × ((answer c databases m).status ≢ 503) }
+    ensures refused { (c : Configuration) (databases : Contents) (m : Message) → 400 ≤ (answer c databases m).status
+        → with_change (answer c databases m).change databases ≡ databases }
+{}
+
+/// A request reads and changes the database that its path names, and no other: where two states
+/// agree on that database, all requests but the one that lists all databases are answered alike, and
+/// the databases of other names stay.
+#[tactic(auto, using(crate::proofs::Steps::answer_alike, crate::proofs::Steps::answer_others))]
+pub fn answers_are_of_one_database()
+    ensures reads { (c : Configuration) (a b : Contents) (m : Message) → ¬ (IsOfAll m)
+        → ((name : List ℕ) → database_name_in m.path ≡ Some name → get a name ≡ get b name) → answer c a m ≡ answer c b m }
+    ensures changes { (c : Configuration) (a : Contents) (m : Message) (other : List ℕ) → database_name_in m.path ≢ Some other
+        → get (with_change (answer c a m).change a) other ≡ get a other }
+{}
+
+/// Each request that doesn't remove a database leaves it as it is, or makes it a later one.
+#[tactic(auto, using(crate::proofs::Steps::answer_later))]
+pub fn answers_make_later_databases()
+    ensures { (c : Configuration) (a : Contents) (m : Message) (name : List ℕ) (db : Database) → (answer c a m).change ≢ removal name
+        → get a name ≡ Some db → IsLaterThan db (get (with_change (answer c a m).change a) name) }
+{}
+
+/// Lawful databases stay lawful, at each answer and so in each run.
+pub fn answers_keep_databases_lawful()
+    ensures answers { (c : Configuration) (a : Contents) (m : Message) → AreLawful a → AreLawful (with_change (answer c a m).change a) }
+    ensures runs { (c : Configuration) (before : Contents) (ss : List (Stepped Contents)) → IsRun (Steps c) before ss → AreLawful before
+        → AreLawful (end_of before ss) }
+{}
+
+/// Two runs of the same requests from the same databases in which all were served have the same
+/// replies, and the same databases after each step.
+#[tactic(auto, using(crate::proofs::Steps::one_run))]
+pub fn served_runs_are_determined()
+    ensures { (c : Configuration) (before : Contents) (ss ts : List (Stepped Contents)) → IsRun (Steps c) before ss → IsRun (Steps c) before ts
+        → AreServed ss → AreServed ts → messages_of ss ≡ messages_of ts → ss ≡ ts }
+{}

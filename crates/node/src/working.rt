@@ -1,0 +1,194 @@
+//! Work in one database: it is entered once, and what is asked of it depends on it alone.
+
+ghost use Rattle.std.specs.Prelude.{◌≡◌, IfOk, IfErr, Ok, Some};
+ghost use Rattle.std.specs.FinMap as map;
+ghost use Rattle.couch_http.specs.Message.{message_of};
+ghost use Rattle.couch_json.specs.View.{view};
+ghost use Rattle.store.specs.Calls.{OnlyReads};
+ghost use Rattle.write.specs.Planning.{MayBeMade};
+ghost use Rattle.node.specs.Answer.{entered, outcome_in, performed, working};
+ghost use Rattle.node.specs.Answered.{MayChange, action_of, done_of, outcome_of, reading_of, work_of, writing_of};
+ghost use Rattle.node.specs.Causes.{Ends};
+ghost use Rattle.node.specs.Coming.{Comes, OfThere};
+ghost use Rattle.node.specs.Work.{next};
+
+use crate::answered::{Answered, Change, Worked};
+use crate::asking::denied;
+use crate::bulk::write_documents;
+use crate::databases::read_database;
+use crate::document::{delete_document, read_document, write_document};
+use crate::path::database_name;
+use crate::security::{read_security, write_security};
+use crate::stop::Stop;
+use auth::Caller;
+use couch_http::Request;
+use couch_json::Json;
+use policy::{Action, refusal};
+use std::alloc::Global;
+use store::{DbName, Store};
+
+/// What is asked of a database.
+#[derive(Clone, Copy, Debug)]
+pub(crate) enum Work {
+    /// Something that only reads.
+    Read(Reading),
+    /// Something that changes it.
+    Write(Writing),
+}
+
+/// What is read of a database.
+#[derive(Clone, Copy, Debug)]
+pub(crate) enum Reading {
+    /// What it says of itself.
+    Database,
+    /// Its security object.
+    Security,
+    /// A document.
+    Document,
+}
+
+/// What is written to a database.
+#[derive(Clone, Copy, Debug)]
+pub(crate) enum Writing {
+    /// Its security object.
+    Security,
+    /// Several documents.
+    Documents,
+    /// A document.
+    Document,
+    /// A document's deletion.
+    Deletion,
+}
+
+/// The action that the policy of the database is asked for.
+fn action_of(work: Work) -> Action
+    ensures { result ≡ action_of work }
+{
+    match work {
+        Work::Read(_) => Action::Read,
+        Work::Write(Writing::Security) => Action::WriteSecurity,
+        Work::Write(Writing::Documents | Writing::Document | Writing::Deletion) => {
+            Action::WriteDocument
+        }
+    }
+}
+
+/// Does work in the database that the path leads into, where there is one and its policy lets the
+/// caller do this; but for the change of the store itself.
+pub(crate) fn do_work<S: Store>(
+    alloc: Global,
+    store: &mut S,
+    caller: &Caller,
+    work: Work,
+    request: &Request,
+) -> Result<Answered, Stop>
+    ensures comes { S.is_honest store.new → Comes (outcome_of (S.contents store.old)) result
+        (next (working (action_of work) (message_of request.now) (work_of work caller.now (message_of request.now))) (performed caller.now (S.contents store.old))) }
+    ensures may { S.is_honest store.new → IfOk result (λ answered. MayChange (S.contents store.old) answered.change) }
+    ensures ends { IfErr result (Ends S.Store store.old store.new) }
+    ensures reads { OnlyReads S.Store store.old store.new }
+{
+    let name = database_name(alloc, &request.path)?;
+    match enter(store, action_of(work), caller, &name) {
+        Ok(()) => perform(alloc, store, caller, &name, work, request),
+        Err(stop) => Err(stop),
+    }
+}
+
+/// Asks the policy of a database.
+fn enter<S: Store>(
+    store: &mut S,
+    action: Action,
+    caller: &Caller,
+    name: &DbName,
+) -> Result<(), Stop>
+    ensures comes { S.is_honest store.new → Comes (λ _. map.get (S.contents store.old) name.now) result
+        (next (entered caller.now action (map.get (S.contents store.old) name.now)) (λ db. Ok (Some db))) }
+    ensures ends { IfErr result (Ends S.Store store.old store.new) }
+    ensures reads { OnlyReads S.Store store.old store.new }
+{
+    let security = store.security(name)?;
+    match refusal(action, caller, &security) {
+        Some(rule) => Err(Stop::Refused(denied(caller, rule))),
+        None => Ok(()),
+    }
+}
+
+/// Does work in a database that is there.
+fn perform<S: Store>(
+    alloc: Global,
+    store: &mut S,
+    caller: &Caller,
+    name: &DbName,
+    work: Work,
+    request: &Request,
+) -> Result<Answered, Stop>
+    ensures comes { S.is_honest store.new → OfThere (S.contents store.old) name.now (λ db. Comes (outcome_of (S.contents store.old)) result
+        (next (work_of work caller.now (message_of request.now) name.now db) (λ d. Ok (outcome_in name.now d)))) }
+    ensures may { S.is_honest store.new → OfThere (S.contents store.old) name.now (λ db. IfOk result (λ answered. MayChange (S.contents store.old) answered.change)) }
+    ensures ends { IfErr result (Ends S.Store store.old store.new) }
+    ensures reads { OnlyReads S.Store store.old store.new }
+{
+    match work {
+        Work::Read(reading) => {
+            let value = read(alloc, store, name, reading, request)?;
+            Ok(Answered {
+                status: 200,
+                value,
+                change: None,
+            })
+        }
+        Work::Write(writing) => match write(alloc, store, caller, name, writing, request) {
+            Ok(worked) => Ok(Answered {
+                status: worked.status,
+                value: worked.value,
+                change: Some(Change::Write(worked.planned)),
+            }),
+            Err(stop) => Err(stop),
+        },
+    }
+}
+
+/// Reads something of a database.
+fn read<S: Store>(
+    alloc: Global,
+    store: &mut S,
+    name: &DbName,
+    reading: Reading,
+    request: &Request,
+) -> Result<Json, Stop>
+    ensures comes { S.is_honest store.new → OfThere (S.contents store.old) name.now (λ db. Comes view result
+        (reading_of reading (message_of request.now) name.now db)) }
+    ensures ends { IfErr result (Ends S.Store store.old store.new) }
+    ensures reads { OnlyReads S.Store store.old store.new }
+{
+    match reading {
+        Reading::Database => read_database(alloc, store, name, request),
+        Reading::Security => read_security(alloc, store, name, request),
+        Reading::Document => read_document(alloc, store, name, request),
+    }
+}
+
+/// Writes something to a database, but for the change of the store itself.
+fn write<S: Store>(
+    alloc: Global,
+    store: &mut S,
+    caller: &Caller,
+    name: &DbName,
+    writing: Writing,
+    request: &Request,
+) -> Result<Worked, Stop>
+    ensures comes { S.is_honest store.new → OfThere (S.contents store.old) name.now (λ db. Comes (done_of db) result
+        (writing_of writing caller.now (message_of request.now) db)) }
+    ensures may { S.is_honest store.new → OfThere (S.contents store.old) name.now (λ db. IfOk result (λ worked. MayBeMade worked.planned.changes db)) }
+    ensures own { IfOk result (λ worked. worked.planned.database ≡ name.now) }
+    ensures ends { IfErr result (Ends S.Store store.old store.new) }
+    ensures reads { OnlyReads S.Store store.old store.new }
+{
+    match writing {
+        Writing::Security => write_security(alloc, store, name, request),
+        Writing::Documents => write_documents(alloc, store, caller, name, request),
+        Writing::Document => write_document(alloc, store, caller, name, request),
+        Writing::Deletion => delete_document(alloc, store, caller, name, request),
+    }
+}
