@@ -4,10 +4,10 @@ ghost use Rattle.std.specs.Prelude.{◌≡◌, IfOk, OnOk, option_map, string_by
 ghost use Rattle.couch_json.specs.Value.{put};
 ghost use Rattle.couch_json.specs.View.{members_view, view};
 ghost use Rattle.write.specs.BulkResults.{told_of};
+ghost use Rattle.node.specs.Edits.{refusal_of_edit};
 ghost use Rattle.node.specs.Bulk.{bulk_reply, edit_listed, failed_members, failure_listed, failures_listed, known_members, made_members, text_or_null};
 
-use crate::members::put_text;
-use crate::refusal::refusal_of_edit;
+use api::{Refusal, denied, put_text};
 use auth::Caller;
 use couch_json::{Got, Json, put_member};
 use std::alloc::Global;
@@ -43,11 +43,7 @@ fn edits_listed(alloc: Global, caller: &Caller, results: Vec<DocumentResult>) ->
 }
 
 /// An element for each document that was refused, in order.
-fn failures_listed(
-    alloc: Global,
-    caller: &Caller,
-    results: Vec<DocumentResult>,
-) -> Got<Vec<Json>>
+fn failures_listed(alloc: Global, caller: &Caller, results: Vec<DocumentResult>) -> Got<Vec<Json>>
     ensures { IfOk result (λ values. map view values.items ≡ failures_listed caller.now (map told_of results.items)) }
 {
     let mut values = Vec::new(alloc);
@@ -64,7 +60,11 @@ fn failures_listed(
 fn edit_listed(alloc: Global, caller: &Caller, told: DocumentResult) -> Got<Json>
     ensures { IfOk result (λ value. view value ≡ edit_listed caller.now (told_of told)) }
 {
-    let DocumentResult { id, rev: _, outcome } = told;
+    let DocumentResult {
+        id,
+        rev: _,
+        outcome,
+    } = told;
     let members = match outcome {
         Outcome::Made(rev) => made_members(alloc, &id, &rev)?,
         Outcome::Known => known_members(alloc, &id)?,
@@ -123,6 +123,19 @@ fn failed_members(
     let mut members = refusal_of_edit(caller, fault).members(alloc)?;
     put_text_or_null(alloc, &mut members, "id", id)?;
     Ok(members)
+}
+
+/// Tells what a document that is not written is refused for.
+pub fn refusal_of_edit(caller: &Caller, fault: WriteFault) -> Refusal
+    ensures { result ≡ refusal_of_edit caller.now fault }
+{
+    match fault {
+        WriteFault::BadDocument => Refusal::BadDocument,
+        WriteFault::Denied(rule) => denied(caller, rule),
+        WriteFault::BadHistory => Refusal::BadHistory,
+        WriteFault::Generation => Refusal::Generation,
+        WriteFault::Conflict | WriteFault::Store(_) | WriteFault::Memory => Refusal::Conflict,
+    }
 }
 
 /// Puts a text at a name into the members of an object, or null.
