@@ -4,7 +4,6 @@ ghost use Rattle.std.specs.Prelude.{◌≡◌, ◌≢◌, [], Err, OnOk, map};
 ghost use Rattle.std.specs.Io.KnownBytes.{Appends, Keeps};
 ghost use Rattle.couch_http.specs.Cutting.{messages_of};
 ghost use Rattle.couch_http.specs.Message.{message_of};
-ghost use Rattle.node.specs.Step.{IsStep};
 ghost use Rattle.lab.specs.Playing.{Prints};
 ghost use Rattle.lab.specs.Printed.{reply_lines};
 ghost use Rattle.lab.specs.Replies.{IsAnswered, IsSent, databases_of, last_words, refusal_of};
@@ -16,7 +15,7 @@ use crate::printed::{print_closed, print_reply};
 use crate::server::Server;
 use couch_http::{Cut, Cutter, Ending, Fixed, HttpFault, Request, Response};
 use couch_json::Got;
-use node::Node;
+use node::{Node, handle_in_memory};
 use std::alloc::Global;
 use std::io::Write;
 use store::PlainStore;
@@ -145,18 +144,10 @@ fn answer_all<W: Write>(
     ensures faults { result ≢ Err LineFault.Line }
 {
     for request in requests {
-        let reply = handle(node, request);
+        let reply = handle_in_memory(node, request);
         print_reply(out, name, &reply)?;
     }
     Ok(())
-}
-
-/// Handles a request. A store in memory never fails, so the reply is no 500.
-fn handle(node: &mut Node<PlainStore>, request: &Request) -> Response
-    ensures step { IsStep node.old.configuration (databases_of node.old.store) (message_of request.now) (λ _. ⊥) result (databases_of node.new.store) }
-    ensures configuration { node.new.configuration ≡ node.old.configuration }
-{
-    node.handle(request)
 }
 
 /// Prints the fixed reply to a fault of a stream.

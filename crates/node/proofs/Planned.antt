@@ -1,6 +1,5 @@
 -- What is planned for a database has the effect that the definition says.
 use Rattle.std.proofs.Common.{◌≡◌, ◌≢◌, refl, ℕ, List, [], ◌∷◌, Option, Some, None, Result, Ok, Err, ap, subst, sym, ◌∙◌, map}
-use Rattle.std.specs.Prelude.{⊤}
 use Rattle.auth.specs.Callers.{Identity}
 use Rattle.couch_json.specs.Value.{Value, object}
 use Rattle.store.specs.Contents.{IfThere}
@@ -23,7 +22,6 @@ use Rattle.write.specs.declared.planned.Planned.{Planned}
 use Rattle.node.specs.Answered.{effect_of}
 use Rattle.api.specs.Bulk.{Bulk}
 use Rattle.node.specs.Bulk.{bulk_reply, edit_members, made_members}
-use Rattle.node.specs.Edits.{refusal_of_edit}
 use Rattle.node.specs.Work.{appended}
 use Rattle.node.specs.Works.{bulk_written, edited}
 

@@ -10,7 +10,7 @@ use Rattle.policy.specs.Verdict.{verdict}
 use Rattle.policy.specs.declared.action.Action.{Action}
 use Rattle.policy.specs.declared.action.Action.TheVariants.{Read, WriteSecurity, WriteDocument}
 use Rattle.store.specs.Contents.{AreAcceptable, Contents}
-use Rattle.store.specs.Database.{Database, DocumentWrite, history_at}
+use Rattle.store.specs.Database.{Database, DocumentWrite}
 use Rattle.store.specs.Lawful.{IsLawful}
 use Rattle.write.specs.Planning.{secured as secured_value}
 use Rattle.write.specs.declared.fault.WriteFault.{WriteFault}

@@ -1,4 +1,4 @@
-use Rattle.std.proofs.Common.{◌⊎◌, inl, inr, arith}
+use Rattle.std.proofs.Common.{inl, inr, arith}
 use Rattle.couch_http.specs.Message.{message_of}
 use Rattle.store.specs.contracts.plain_store.PlainStoreStore.TheImpl.{ghosts}
 use Rattle.store.specs.Causes.{HasFailed}
