@@ -12,11 +12,12 @@ use Rattle.write.specs.Admission.{admission}
 use Rattle.node.specs.Answer.{entered, naming, outcome_in, performed, worked, working}
 use Rattle.node.specs.Answered.{done_of, outcome_of}
 use Rattle.node.specs.Coming.{Comes}
-use Rattle.node.specs.Work.{Done, Work, next, there_or}
+use Rattle.node.specs.Work.{Done, Work}
+use Rattle.api.specs.Refusals.{next, there_or}
 use Rattle.node.specs.Works.{deletion, document_deleted, edit_asked, edited}
 use Rattle.node.specs.declared.answered.Worked.{Worked}
-use Rattle.node.specs.declared.refusal.Refusal.{Refusal}
-use Rattle.node.specs.declared.refusal.Refusal.TheVariants.{Conflict}
+use Rattle.api.specs.declared.refusal.Refusal.{Refusal}
+use Rattle.api.specs.declared.refusal.Refusal.TheVariants.{Conflict}
 use Rattle.node.specs.declared.stop.Stop.{Stop}
 use Rattle.node.specs.declared.stop.Stop.TheVariants.{Refused, Failed, NoRoom}
 

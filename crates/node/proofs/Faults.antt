@@ -20,7 +20,7 @@ use Rattle.node.specs.Answer.{Change, creation, inside, kept, removal, with_chan
 use Rattle.node.specs.Answered.{change_inside}
 use Rattle.node.specs.Causes.{Ends, EndsBefore, HasCause, LacksNumbers, stop_of_change}
 use Rattle.node.specs.Work.{appended, nothing, secured}
-use Rattle.node.specs.declared.refusal.Refusal.{Refusal}
+use Rattle.api.specs.declared.refusal.Refusal.{Refusal}
 use Rattle.node.specs.declared.stop.Stop.{Stop}
 use Rattle.node.specs.declared.stop.Stop.TheVariants.{Refused, Failed as Broken, NoRoom}
 

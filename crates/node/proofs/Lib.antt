@@ -1,6 +1,4 @@
 pub mod Faults
-pub mod Listed
-pub mod Elements
 pub mod Comings
 pub mod Planned
 pub mod Tasks

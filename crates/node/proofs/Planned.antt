@@ -20,7 +20,8 @@ use Rattle.write.specs.declared.planned.Outcome.{Outcome}
 use Rattle.write.specs.declared.planned.Outcome.TheVariants.{Made}
 use Rattle.write.specs.declared.planned.Planned.{Planned}
 use Rattle.node.specs.Answered.{effect_of}
-use Rattle.node.specs.Bulk.{Bulk, bulk_reply, edit_members, made_members}
+use Rattle.api.specs.Bulk.{Bulk}
+use Rattle.node.specs.Bulk.{bulk_reply, edit_members, made_members}
 use Rattle.node.specs.Work.{appended}
 use Rattle.node.specs.Works.{bulk_written, edited}
 

@@ -19,15 +19,15 @@ use Rattle.policy.specs.Security.{closed}
 use Rattle.node.specs.Answer.{Change, Outcome, answer, creation, inside, judged, kept, removal, settled, with_change, with_effect_at}
 use Rattle.node.specs.Causes.{HasCause, LacksNumbers}
 use Rattle.node.specs.Effects.{Fits, IsLaterThan}
-use Rattle.node.specs.Paths.{database_name_in}
-use Rattle.node.specs.Refusals.{status_of}
-use Rattle.node.specs.Routing.{page_of}
+use Rattle.api.specs.Paths.{database_name_in}
+use Rattle.api.specs.Refusals.{status_of}
+use Rattle.api.specs.Routing.{page_of}
 use Rattle.node.specs.Runs.{AreServed, IsRun, IsServed, Stepped, Steps, end_of, messages_of}
 use Rattle.node.specs.Step.{IsDone, IsStep, reply_to}
 use Rattle.node.specs.Work.{Effect, appended, nothing, secured, with_effect}
-use Rattle.node.specs.declared.page.Page.TheVariants.{AllDatabases}
-use Rattle.node.specs.declared.refusal.Refusal.{Refusal}
-use Rattle.node.specs.declared.refusal.Refusal.TheVariants.{Unauthorized, Forbidden, Path, Method, DatabaseName, NoDatabase, Exists, Id, Query, Syntax, Body, BadDocument, BadHistory, Conflict, Generation, Missing, Deleted}
+use Rattle.api.specs.declared.page.Page.TheVariants.{AllDatabases}
+use Rattle.api.specs.declared.refusal.Refusal.{Refusal}
+use Rattle.api.specs.declared.refusal.Refusal.TheVariants.{Unauthorized, Forbidden, Path, Method, DatabaseName, NoDatabase, Exists, Id, Query, Syntax, Body, BadDocument, BadHistory, Conflict, Generation, Missing, Deleted}
 use Rattle.node.proofs.Tasks.{IsMade, IsRight, judged_alike, judged_right}
 
 -- ---- statuses

@@ -17,21 +17,22 @@ use Rattle.write.specs.declared.fault.WriteFault.{WriteFault}
 use Rattle.write.specs.Admission.{admission}
 use Rattle.write.proofs.Acceptances.{all_acceptable, edit_acceptable}
 use Rattle.tree.specs.Revision.{Revision}
-use Rattle.node.specs.Asking.{asking, body_of, method_of}
-use Rattle.node.specs.Bulk.{bulk_in}
-use Rattle.node.specs.Routing.{page_of}
+use Rattle.api.specs.Asking.{asking, body_of, method_of, plain}
+use Rattle.api.specs.Bulk.{bulk_in}
+use Rattle.api.specs.Routing.{page_of}
 use Rattle.write.specs.declared.fault.WriteFault.TheVariants.{BadDocument}
 use Rattle.node.specs.Answer.{Change, Outcome, Task, administering, allowed, change_at, created, creation, entered, governing, inside, judged, kept, listed, naming, outcome_in, performed, removal, removed, served, task_of, told, welcome, worked, working}
 use Rattle.node.specs.Effects.{Fits}
-use Rattle.node.specs.Paths.{database_name_in}
-use Rattle.node.specs.Work.{Done, Effect, Work, appended, next, nothing, reading, secured, shown, there_or, true_or}
-use Rattle.node.specs.Works.{database_read, document_deleted, document_read, document_written, documents_written, deletion, done, edit_asked, bulk_written, edited, plain, security_read, security_set, security_written}
-use Rattle.node.specs.declared.method.RequestMethod.{RequestMethod}
-use Rattle.node.specs.declared.method.RequestMethod.TheVariants.{Get, Put, Post, Delete}
-use Rattle.node.specs.declared.page.Page.{Page}
-use Rattle.node.specs.declared.page.Page.TheVariants.{Welcome, AllDatabases, Database as DatabasePage, Security, BulkDocuments, Document}
-use Rattle.node.specs.declared.refusal.Refusal.{Refusal}
-use Rattle.node.specs.declared.refusal.Refusal.TheVariants.{Body, Conflict, DatabaseName, NoDatabase, Exists, Path}
+use Rattle.api.specs.Paths.{database_name_in}
+use Rattle.node.specs.Work.{Done, Effect, Work, appended, nothing, reading, secured, shown}
+use Rattle.api.specs.Refusals.{next, there_or, true_or}
+use Rattle.node.specs.Works.{database_read, document_deleted, document_read, document_written, documents_written, deletion, done, edit_asked, bulk_written, edited, security_read, security_set, security_written}
+use Rattle.api.specs.declared.method.RequestMethod.{RequestMethod}
+use Rattle.api.specs.declared.method.RequestMethod.TheVariants.{Get, Put, Post, Delete}
+use Rattle.api.specs.declared.page.Page.{Page}
+use Rattle.api.specs.declared.page.Page.TheVariants.{Welcome, AllDatabases, Database as DatabasePage, Security, BulkDocuments, Document}
+use Rattle.api.specs.declared.refusal.Refusal.{Refusal}
+use Rattle.api.specs.declared.refusal.Refusal.TheVariants.{Body, Conflict, DatabaseName, NoDatabase, Exists, Path}
 
 -- ---- one step after another
 

@@ -13,18 +13,18 @@ use Rattle.policy.specs.declared.action.Action.TheVariants.{Administer, Read, Wr
 use Rattle.policy.specs.declared.rule.Rule.{Rule}
 use Rattle.store.specs.Contents.{Contents, new_database}
 use Rattle.store.specs.Database.{Database}
-use Rattle.node.specs.Asking.{asking, denied, method_of}
-use Rattle.node.specs.Paths.{database_name_in}
-use Rattle.node.specs.Refusals.{refusal_value, status_of}
-use Rattle.node.specs.Routing.{page_of}
-use Rattle.node.specs.Work.{Done, Effect, Work, appended, next, nothing, reading, secured, there_or, true_or, with_effect}
-use Rattle.node.specs.Works.{database_read, document_deleted, document_read, document_written, documents_written, done, plain, security_read, security_written}
-use Rattle.node.specs.declared.method.RequestMethod.{RequestMethod}
-use Rattle.node.specs.declared.method.RequestMethod.TheVariants.{Get, Put, Post, Delete}
-use Rattle.node.specs.declared.page.Page.{Page}
-use Rattle.node.specs.declared.page.Page.TheVariants.{Welcome, AllDatabases, Database as DatabasePage, Security, BulkDocuments, Document}
-use Rattle.node.specs.declared.refusal.Refusal.{Refusal}
-use Rattle.node.specs.declared.refusal.Refusal.TheVariants.{Path, Method, DatabaseName, NoDatabase, Exists}
+use Rattle.api.specs.Asking.{asking, denied, method_of, plain}
+use Rattle.api.specs.Paths.{database_name_in}
+use Rattle.api.specs.Refusals.{refusal_value, status_of, next, there_or, true_or}
+use Rattle.api.specs.Routing.{page_of}
+use Rattle.node.specs.Work.{Done, Effect, Work, appended, nothing, reading, secured, with_effect}
+use Rattle.node.specs.Works.{database_read, document_deleted, document_read, document_written, documents_written, done, security_read, security_written}
+use Rattle.api.specs.declared.method.RequestMethod.{RequestMethod}
+use Rattle.api.specs.declared.method.RequestMethod.TheVariants.{Get, Put, Post, Delete}
+use Rattle.api.specs.declared.page.Page.{Page}
+use Rattle.api.specs.declared.page.Page.TheVariants.{Welcome, AllDatabases, Database as DatabasePage, Security, BulkDocuments, Document}
+use Rattle.api.specs.declared.refusal.Refusal.{Refusal}
+use Rattle.api.specs.declared.refusal.Refusal.TheVariants.{Path, Method, DatabaseName, NoDatabase, Exists}
 
 -- ---- what a request comes to
 

@@ -17,7 +17,7 @@ use Rattle.couch_json.specs.Value.{Value}
 use Rattle.node.specs.Answer as answer
 use Rattle.node.specs.Work.{Done, Effect, Work, appended, reading, secured}
 use Rattle.node.specs.Works.{database_read, document_deleted, document_read, document_written, documents_written, security_read, security_written}
-use Rattle.node.specs.declared.refusal.Refusal.{Refusal}
+use Rattle.api.specs.declared.refusal.Refusal.{Refusal}
 use Rattle.node.specs.declared.answered.Answered.{Answered}
 use Rattle.node.specs.declared.answered.Change.{Change}
 use Rattle.node.specs.declared.answered.Change.TheVariants.{Create, Remove, Write}

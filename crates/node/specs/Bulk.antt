@@ -1,51 +1,16 @@
--- What a request to write several documents asks for, and what its reply says of them.
--- CouchDB manual, api/database/bulk-api (`docs` and `new_edits`; `id`, `ok` and `rev`, or `error` and `reason`); that no other member is taken, and that the failure of a replicated document names the `rev` that was sent, are this server's own.
-use Rattle.std.specs.Prelude.{ℕ, Bool, true, false, if◌then◌else◌, List, [], ◌∷◌, map, Option, Some, None, option_map, option_and_then, codes}
+-- What the reply to several documents that are written together says of them.
+-- CouchDB manual, api/database/bulk-api (`id`, `ok` and `rev`, or `error` and `reason`); that the failure of a replicated document names the `rev` that was sent is this server's own.
+use Rattle.std.specs.Prelude.{ℕ, Bool, true, false, List, [], ◌∷◌, map, Option, Some, None, codes}
 use Rattle.auth.specs.Callers.{Identity}
-use Rattle.couch_json.specs.Parts.{has_only, items_in, truth_in}
-use Rattle.couch_json.specs.Value.{Value, null, truth, text, array, object, Items, no_items, item, Members, no_members, member_of, put}
+use Rattle.couch_json.specs.Value.{Value, null, truth, text, array, object, Members, no_members, put}
 use Rattle.couch_json.specs.View.{items_of}
 use Rattle.tree.specs.Revision.{Revision, text_of}
 use Rattle.write.specs.Bulk.{Told}
 use Rattle.write.specs.declared.fault.WriteFault.{WriteFault}
 use Rattle.write.specs.declared.planned.Outcome.{Outcome}
 use Rattle.write.specs.declared.planned.Outcome.TheVariants.{Made, Known, Refused}
-use Rattle.node.specs.Refusals.{refusal_members, refusal_of_edit}
-
--- ---- what is asked for
-
--- the documents that are to be written: as new edits, or as they stand, with the revisions that they come with
-pub record Bulk : Type 0 where
-  pub new_edits : Bool
-  pub documents : List Value
-
-abbrev pub elements : Items → List Value
-elements no_items = []
-elements (item v vs) = v ∷ elements vs
-
--- `docs`, which has to be a list
-abbrev pub documents_of : Value → Option (List Value)
-documents_of v = option_map (λ vs. elements vs) (items_in v)
-
-abbrev pub documents_in : Option Value → Option (List Value)
-documents_in v = option_and_then (λ docs. documents_of docs) v
-
--- `new_edits`, true or false, and true where it is not given
-abbrev pub new_edits_in : Option Value → Option Bool
-new_edits_in None = Some true
-new_edits_in (Some v) = truth_in v
-
-abbrev pub bulk_by : Option Bool → Option (List Value) → Option Bulk
-bulk_by None documents = None
-bulk_by (Some new_edits) None = None
-bulk_by (Some new_edits) (Some documents) = Some (record { new_edits = new_edits; documents = documents })
-
--- what a body asks for, where it is an object of this shape, with no other members
-abbrev pub bulk_in : Value → Option Bulk
-bulk_in v =
-    if has_only (codes "docs" ∷ codes "new_edits" ∷ []) v then bulk_by (new_edits_in (member_of v (codes "new_edits"))) (documents_in (member_of v (codes "docs"))) else None
-
--- ---- what the reply says
+use Rattle.api.specs.Refusals.{refusal_members}
+use Rattle.node.specs.Edits.{refusal_of_edit}
 
 abbrev pub text_or_null : Option (List ℕ) → Value
 text_or_null None = null

@@ -5,13 +5,15 @@ use Rattle.store.specs.Causes.{HasFailed}
 use Rattle.store.specs.declared.fault.StoreFault.{StoreFault}
 use Rattle.store.specs.declared.fault.StoreFault.TheVariants as store
 use Rattle.store.specs.declared.store.Store.{Ghosts}
+use Rattle.api.specs.declared.fault.RequestFault.{RequestFault}
+use Rattle.api.specs.declared.fault.RequestFault.TheVariants as request
 use Rattle.read.specs.declared.fault.ReadFault.{ReadFault}
 use Rattle.read.specs.declared.fault.ReadFault.TheVariants as read
 use Rattle.write.specs.declared.fault.WriteFault.{WriteFault}
 use Rattle.write.specs.declared.fault.WriteFault.TheVariants as write
 use Rattle.node.specs.Answer.{Change, creation, inside, kept, removal}
 use Rattle.node.specs.Work.{appended, nothing, secured}
-use Rattle.node.specs.declared.refusal.Refusal.TheVariants.{Deleted, Exists, Missing, NoDatabase, Query}
+use Rattle.api.specs.declared.refusal.Refusal.TheVariants.{Deleted, Exists, Missing, NoDatabase, Query}
 use Rattle.node.specs.declared.stop.Stop.{Stop}
 use Rattle.node.specs.declared.stop.Stop.TheVariants.{Refused, Failed, NoRoom}
 
@@ -39,6 +41,11 @@ abbrev pub EndsBefore : {S : Type 0} → Ghosts S → S → S → Change → Sto
 EndsBefore g old new change Failed = g.is_honest new → HasCause g old new change
 EndsBefore g old new change (Refused refusal) = ⊤
 EndsBefore g old new change NoRoom = ⊤
+
+-- how a request ends that is not read to its end
+abbrev pub stop_of_request : RequestFault → Stop
+stop_of_request (request.Refused refusal) = Refused refusal
+stop_of_request request.Memory = NoRoom
 
 -- how a request ends that the store refuses
 abbrev pub stop_of : StoreFault → Stop

@@ -4,7 +4,7 @@ use Rattle.std.specs.Prelude.{◌≡◌, ℕ, List, Some, Result, Ok, Err, ⊤}
 use Rattle.std.specs.FinMap.{get}
 use Rattle.store.specs.Contents.{Contents}
 use Rattle.store.specs.Database.{Database}
-use Rattle.node.specs.declared.refusal.Refusal.{Refusal}
+use Rattle.api.specs.declared.refusal.Refusal.{Refusal}
 use Rattle.node.specs.declared.stop.Stop.{Stop}
 use Rattle.node.specs.declared.stop.Stop.TheVariants.{Refused, Failed, NoRoom}
 
@@ -14,13 +14,6 @@ Comes shown (Ok a) defined = defined ≡ Ok (shown a)
 Comes shown (Err (Refused refusal)) defined = defined ≡ Err refusal
 Comes shown (Err Failed) defined = ⊤
 Comes shown (Err NoRoom) defined = ⊤
-
--- the same where no store is asked
-abbrev pub Says : {A B : Type 0} → (A → B) → Result A Stop → Result B Refusal → Type 0
-Says shown (Ok a) defined = defined ≡ Ok (shown a)
-Says shown (Err (Refused refusal)) defined = defined ≡ Err refusal
-Says shown (Err Failed) defined = ⊥
-Says shown (Err NoRoom) defined = ⊤
 
 -- a fact about the database of this name, where there is one
 abbrev pub OfThere : Contents → List ℕ → (Database → Type 0) → Type 0

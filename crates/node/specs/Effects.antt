@@ -11,9 +11,9 @@ use Rattle.policy.specs.declared.action.Action.{Action}
 use Rattle.policy.specs.declared.rule.Rule.{Rule}
 use Rattle.store.specs.Contents.{AreAcceptable, Contents}
 use Rattle.store.specs.Database.{Database, IsLater}
-use Rattle.node.specs.Paths.{database_name_in}
-use Rattle.node.specs.Routing.{page_of}
-use Rattle.node.specs.declared.page.Page.TheVariants.{AllDatabases}
+use Rattle.api.specs.Paths.{database_name_in}
+use Rattle.api.specs.Routing.{page_of}
+use Rattle.api.specs.declared.page.Page.TheVariants.{AllDatabases}
 use Rattle.node.specs.Work.{Effect, appended, nothing, secured}
 
 -- the effect may be had on this database: its writes may be appended, and its security object is one

@@ -1,11 +1,5 @@
-pub mod Paths
-pub mod Routing
-pub mod Asking
-pub mod Refusals
+pub mod Edits
 pub mod Bulk
-pub mod BulkAsked
-pub mod Queries
-pub mod Queried
 pub mod Work
 pub mod Works
 pub mod Answer

@@ -1,25 +1,11 @@
--- What a request does in one database: its status, its value, and its effect there; and how steps that may be refused follow one another.
+-- What a request does in one database: its status, its value, and its effect there.
 -- This server's own: what is asked of a database depends on that database alone.
-use Rattle.std.specs.Prelude.{ℕ, Bool, true, false, List, Option, Some, None, Result, Ok, Err}
+use Rattle.std.specs.Prelude.{ℕ, List, Result, Ok}
 use Rattle.couch_json.specs.Value.{Value}
 use Rattle.store.specs.Contents.{with_security}
 use Rattle.store.specs.Database.{Database, DocumentWrite, with_all}
-use Rattle.node.specs.declared.refusal.Refusal.{Refusal}
-
--- what comes next, where nothing was refused so far
-abbrev pub next : {A B : Type 0} → Result A Refusal → (A → Result B Refusal) → Result B Refusal
-next (Ok a) go = go a
-next (Err refusal) go = Err refusal
-
--- what is there, or a refusal
-abbrev pub there_or : {A : Type 0} → Refusal → Option A → Result A Refusal
-there_or refusal None = Err refusal
-there_or refusal (Some a) = Ok a
-
--- it holds, or a refusal
-abbrev pub true_or : Refusal → Bool → Result (Unit {0}) Refusal
-true_or refusal true = Ok tt
-true_or refusal false = Err refusal
+use Rattle.api.specs.Refusals.{next}
+use Rattle.api.specs.declared.refusal.Refusal.{Refusal}
 
 -- what is done to a database
 pub data Effect : Type 0 where

@@ -15,18 +15,16 @@ use Rattle.write.specs.Admission.{admission}
 use Rattle.write.specs.Bulk.{DocumentOutcome, all_told, outcome_told, outcomes, writes_in}
 use Rattle.write.specs.Planning.{secured as secured_value}
 use Rattle.write.specs.declared.fault.WriteFault.{WriteFault}
-use Rattle.node.specs.Asking.{body_of, lacks_parameters}
-use Rattle.node.specs.Bulk.{Bulk, bulk_in, bulk_reply, edit_members}
-use Rattle.node.specs.Paths.{document_id_in}
-use Rattle.node.specs.Queries.{Asked, winner, revision, leaves, revisions, document_query, revision_query}
-use Rattle.node.specs.Refusals.{refusal_of_edit}
-use Rattle.node.specs.Work.{Done, Work, appended, next, secured, there_or, true_or}
-use Rattle.node.specs.declared.refusal.Refusal.{Refusal}
-use Rattle.node.specs.declared.refusal.Refusal.TheVariants.{Id, Query, Body, Conflict, Missing, Deleted}
-
--- a request without parameters
-abbrev pub plain : Message → Result (Unit {0}) Refusal
-plain m = true_or Query (lacks_parameters m.query)
+use Rattle.api.specs.Asking.{body_of, plain}
+use Rattle.api.specs.Bulk.{Bulk, bulk_in}
+use Rattle.node.specs.Bulk.{bulk_reply, edit_members}
+use Rattle.api.specs.Paths.{document_id_in}
+use Rattle.api.specs.Queries.{Asked, winner, revision, leaves, revisions, document_query, revision_query}
+use Rattle.node.specs.Edits.{refusal_of_edit}
+use Rattle.node.specs.Work.{Done, Work, appended, secured}
+use Rattle.api.specs.Refusals.{next, there_or}
+use Rattle.api.specs.declared.refusal.Refusal.{Refusal}
+use Rattle.api.specs.declared.refusal.Refusal.TheVariants.{Id, Query, Body, Conflict, Missing, Deleted}
 
 -- ---- the database itself
 

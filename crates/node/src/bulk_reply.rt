@@ -4,10 +4,10 @@ ghost use Rattle.std.specs.Prelude.{◌≡◌, IfOk, OnOk, option_map, string_by
 ghost use Rattle.couch_json.specs.Value.{put};
 ghost use Rattle.couch_json.specs.View.{members_view, view};
 ghost use Rattle.write.specs.BulkResults.{told_of};
+ghost use Rattle.node.specs.Edits.{refusal_of_edit};
 ghost use Rattle.node.specs.Bulk.{bulk_reply, edit_listed, failed_members, failure_listed, failures_listed, known_members, made_members, text_or_null};
 
-use crate::members::put_text;
-use crate::refusal::refusal_of_edit;
+use api::{Refusal, denied, put_text};
 use auth::Caller;
 use couch_json::{Got, Json, put_member};
 use std::alloc::Global;
@@ -123,6 +123,19 @@ fn failed_members(
     let mut members = refusal_of_edit(caller, fault).members(alloc)?;
     put_text_or_null(alloc, &mut members, "id", id)?;
     Ok(members)
+}
+
+/// Tells what a document that is not written is refused for.
+pub fn refusal_of_edit(caller: &Caller, fault: WriteFault) -> Refusal
+    ensures { result ≡ refusal_of_edit caller.now fault }
+{
+    match fault {
+        WriteFault::BadDocument => Refusal::BadDocument,
+        WriteFault::Denied(rule) => denied(caller, rule),
+        WriteFault::BadHistory => Refusal::BadHistory,
+        WriteFault::Generation => Refusal::Generation,
+        WriteFault::Conflict | WriteFault::Store(_) | WriteFault::Memory => Refusal::Conflict,
+    }
 }
 
 /// Puts a text at a name into the members of an object, or null.

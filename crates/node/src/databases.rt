@@ -9,17 +9,15 @@ ghost use Rattle.store.specs.Calls.{OnlyReads};
 ghost use Rattle.node.specs.Answer.{administering, naming, served};
 ghost use Rattle.node.specs.Answered.{MayChange, outcome_of};
 ghost use Rattle.node.specs.Causes.{Ends};
-ghost use Rattle.node.specs.Coming.{Comes, OfThere, Says};
-ghost use Rattle.node.specs.Work.{next};
-ghost use Rattle.node.specs.Works.{database_read, done, plain};
+ghost use Rattle.node.specs.Coming.{Comes, OfThere};
+ghost use Rattle.api.specs.Saying.{Says};
+ghost use Rattle.api.specs.Refusals.{next};
+ghost use Rattle.node.specs.Works.{database_read, done};
+ghost use Rattle.api.specs.Asking.{plain};
 
 use crate::answered::{Answered, Change};
-use crate::asking::{denied, without_parameters};
-use crate::method::RequestMethod;
-use crate::page::Page;
-use crate::path::database_name;
-use crate::refusal::Refusal;
 use crate::stop::Stop;
+use api::{Page, Refusal, RequestFault, RequestMethod, database_name, denied, without_parameters};
 use auth::Caller;
 use couch_http::Request;
 use couch_json::{Got, Json, put_member};
@@ -122,7 +120,7 @@ pub(crate) fn remove_database<S: Store>(
 }
 
 /// The name of a database that the caller may create or remove.
-fn governed(alloc: Global, caller: &Caller, request: &Request) -> Result<DbName, Stop>
+fn governed(alloc: Global, caller: &Caller, request: &Request) -> Result<DbName, RequestFault>
     ensures { Says (λ name. name) result (next (naming (message_of request.now)) (λ name. next (administering caller.now) (λ _. Ok name))) }
 {
     let name = database_name(alloc, &request.path)?;
@@ -131,12 +129,12 @@ fn governed(alloc: Global, caller: &Caller, request: &Request) -> Result<DbName,
 }
 
 /// Refuses a caller who may not list, create or remove databases.
-fn administering(alloc: Global, caller: &Caller) -> Result<(), Stop>
+fn administering(alloc: Global, caller: &Caller) -> Result<(), RequestFault>
     ensures { Says (λ nothing. nothing) result (administering caller.now) }
 {
     let closed = Security::closed(alloc)?;
     match refusal(Action::Administer, caller, &closed) {
-        Some(rule) => Err(Stop::Refused(denied(caller, rule))),
+        Some(rule) => Err(RequestFault::Refused(denied(caller, rule))),
         None => Ok(()),
     }
 }

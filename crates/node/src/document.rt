@@ -14,17 +14,17 @@ ghost use Rattle.node.specs.Bulk.{made_members};
 ghost use Rattle.couch_json.specs.Value.{object};
 ghost use Rattle.node.specs.Answered.{done_of};
 ghost use Rattle.node.specs.Causes.{Ends};
-ghost use Rattle.node.specs.Coming.{Comes, OfThere, Says};
-ghost use Rattle.node.specs.Queried.{asked_of, query_of};
+ghost use Rattle.node.specs.Coming.{Comes, OfThere};
+ghost use Rattle.api.specs.Saying.{Says};
+ghost use Rattle.api.specs.Queried.{asked_of, query_of};
 ghost use Rattle.node.specs.Works.{deletion, document_deleted, document_read, document_written, edit_asked, edited, found, read_by};
 
 use crate::answered::Worked;
-use crate::asking::body;
-use crate::bulk_reply::made_members;
-use crate::path::document_id;
-use crate::query::{Asked, DocumentQuery, document_query, revision_query};
-use crate::refusal::{Refusal, refusal_of_edit};
+use crate::bulk_reply::{made_members, refusal_of_edit};
 use crate::stop::Stop;
+use api::{
+    Asked, DocumentQuery, Refusal, RequestFault, body, document_id, document_query, revision_query,
+};
 use auth::Caller;
 use couch_http::Request;
 use couch_json::{Got, Json, put_member};
@@ -139,7 +139,7 @@ pub(crate) fn delete_document<S: Store>(
 }
 
 /// The document that is edited, and the revision that the query names, if any.
-fn edit_asked(alloc: Global, request: &Request) -> Result<(DocId, Option<Rev>), Stop>
+fn edit_asked(alloc: Global, request: &Request) -> Result<(DocId, Option<Rev>), RequestFault>
     ensures says { Says (λ asked. asked) result (edit_asked (message_of request.now)) }
     ensures plain { IfOk result (λ asked. (is_design_id asked.0 ≡ false) × (is_local_id asked.0 ≡ false)) }
 {

@@ -9,7 +9,7 @@ ghost use Rattle.store.specs.Database.{Database};
 ghost use Rattle.store.specs.Lawful.{AreLawful};
 ghost use Rattle.node.specs.Answer.{answer, removal, with_change};
 ghost use Rattle.node.specs.Effects.{IsLaterThan, IsOfAll};
-ghost use Rattle.node.specs.Paths.{database_name_in};
+ghost use Rattle.api.specs.Paths.{database_name_in};
 ghost use Rattle.node.specs.Runs.{AreServed, IsRun, Stepped, Steps, end_of, messages_of};
 
 /// No answer has a status that stands for a failure; one from 400 on changes nothing.

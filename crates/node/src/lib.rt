@@ -2,28 +2,19 @@
 #![tactic(auto)]
 
 mod answered;
-mod asking;
 mod bulk;
 mod bulk_reply;
 mod databases;
 mod document;
 mod handling;
 pub mod laws;
-mod members;
 mod memory;
-mod method;
 mod node;
-mod page;
-mod parameters;
-mod path;
-mod query;
-mod refusal;
-mod routes;
 mod security;
 mod stop;
 mod welcome;
 mod working;
 
+pub use api::Routes;
 pub use memory::handle_in_memory;
 pub use node::Node;
-pub use routes::Routes;

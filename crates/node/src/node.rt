@@ -1,5 +1,5 @@
 use crate::handling::handle;
-use crate::routes::Routes;
+use api::Routes;
 use auth::Auth;
 use couch_http::{Request, Response};
 use std::alloc::Global;

@@ -11,10 +11,9 @@ ghost use Rattle.node.specs.Coming.{Comes, OfThere};
 ghost use Rattle.node.specs.Works.{security_read, security_set, security_written};
 
 use crate::answered::Worked;
-use crate::asking::{body, without_parameters};
 use crate::databases::done;
-use crate::refusal::Refusal;
 use crate::stop::Stop;
+use api::{Refusal, body, without_parameters};
 use couch_http::Request;
 use couch_json::Json;
 use std::alloc::Global;

@@ -1,7 +1,7 @@
 ghost use Rattle.std.specs.Prelude.{◌≡◌};
 ghost use Rattle.node.specs.declared.stop.Stop.TheVariants.{NoRoom};
 
-use crate::refusal::Refusal;
+use api::{Refusal, RequestFault};
 use couch_json::NoMemory;
 use read::ReadFault;
 use std::alloc::{AllocError, AllocFailed};
@@ -16,6 +16,19 @@ pub(crate) enum Stop {
     Failed,
     /// Memory ran out.
     NoRoom,
+}
+
+impl From<RequestFault> for Stop {
+    ghost use Rattle.node.specs.Causes.{stop_of_request};
+
+    ghost from_gives = { λ fault stop. stop ≡ stop_of_request fault };
+
+    fn from(fault: RequestFault) -> Stop {
+        match fault {
+            RequestFault::Refused(refusal) => Stop::Refused(refusal),
+            RequestFault::Memory => Stop::NoRoom,
+        }
+    }
 }
 
 impl From<StoreFault> for Stop {

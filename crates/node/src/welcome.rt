@@ -4,20 +4,18 @@ ghost use Rattle.std.specs.Prelude.{◌≡◌, IfOk, Ok};
 ghost use Rattle.couch_http.specs.Message.{message_of};
 ghost use Rattle.couch_json.specs.View.{view};
 ghost use Rattle.node.specs.Answer.{welcome};
-ghost use Rattle.node.specs.Coming.{Says};
-ghost use Rattle.node.specs.Work.{next};
-ghost use Rattle.node.specs.Works.{plain};
+ghost use Rattle.api.specs.Saying.{Says};
+ghost use Rattle.api.specs.Refusals.{next};
+ghost use Rattle.api.specs.Asking.{plain};
 
-use crate::asking::without_parameters;
-use crate::members::put_text;
-use crate::stop::Stop;
+use api::{RequestFault, put_text, without_parameters};
 use couch_http::Request;
 use couch_json::{Got, Json};
 use std::alloc::Global;
 use std::collections::BTreeMap;
 
 /// Says who answers here.
-pub(crate) fn tell_welcome(alloc: Global, request: &Request) -> Result<Json, Stop>
+pub(crate) fn tell_welcome(alloc: Global, request: &Request) -> Result<Json, RequestFault>
     ensures { Says view result (next (plain (message_of request.now)) (λ _. Ok welcome)) }
 {
     without_parameters(request)?;

@@ -10,16 +10,15 @@ ghost use Rattle.node.specs.Answer.{entered, outcome_in, performed, working};
 ghost use Rattle.node.specs.Answered.{MayChange, action_of, done_of, outcome_of, reading_of, work_of, writing_of};
 ghost use Rattle.node.specs.Causes.{Ends};
 ghost use Rattle.node.specs.Coming.{Comes, OfThere};
-ghost use Rattle.node.specs.Work.{next};
+ghost use Rattle.api.specs.Refusals.{next};
 
 use crate::answered::{Answered, Change, Worked};
-use crate::asking::denied;
 use crate::bulk::write_documents;
 use crate::databases::read_database;
 use crate::document::{delete_document, read_document, write_document};
-use crate::path::database_name;
 use crate::security::{read_security, write_security};
 use crate::stop::Stop;
+use api::{database_name, denied};
 use auth::Caller;
 use couch_http::Request;
 use couch_json::Json;

@@ -2,7 +2,7 @@ use Rattle.couch_json.specs.View.{view}
 use Rattle.store.specs.Database.{Database, history_at}
 use Rattle.write.specs.Bulk.{outcomes}
 use Rattle.write.specs.Planning.{Plans}
-use Rattle.node.specs.BulkAsked.{bulk_asked}
+use Rattle.api.specs.BulkAsked.{bulk_asked}
 use Rattle.node.proofs.Planned.{bulk_comes, of_there}
 use Rattle.node.proofs.bulk.write_bulk.Goals as goal
 

@@ -3,7 +3,7 @@ use Rattle.couch_http.specs.Message.{message_of}
 use Rattle.store.specs.Contents.{Contents}
 use Rattle.node.specs.Answer.{Outcome, answer, settled}
 use Rattle.node.specs.Answered.{change_of}
-use Rattle.node.specs.declared.refusal.Refusal.{Refusal}
+use Rattle.api.specs.declared.refusal.Refusal.{Refusal}
 use Rattle.node.proofs.Faults.{all_end_before}
 use Rattle.node.proofs.handling.reply.Goals as goal
 

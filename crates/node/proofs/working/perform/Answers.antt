@@ -3,7 +3,7 @@ use Rattle.couch_http.specs.Message.{message_of}
 use Rattle.node.specs.Answer.{outcome_in}
 use Rattle.node.specs.Answered.{outcome_of, work_of, writing_of}
 use Rattle.node.specs.Coming.{Comes}
-use Rattle.node.specs.Work.{next}
+use Rattle.api.specs.Refusals.{next}
 use Rattle.node.specs.declared.working.Work.{Work}
 use Rattle.node.proofs.Comings.{work_stops}
 use Rattle.node.proofs.working.perform.Goals as goal

@@ -1,0 +1,17 @@
+-- The revisions of a list that is read one element at a time, and what parameters ask for once each value is known.
+use Rattle.std.proofs.Common.{◌≡◌, ℕ, true, List, [], ◌∷◌, ◌++◌, Option, Some, None, option_map, refl, sym, ap, append_assoc, codes}
+use Rattle.tree.specs.Revision.{Revision}
+use Rattle.api.specs.Queries.{are_named, asked_of_document, query_by, sole_value}
+
+-- the next revision joins those before it
+pub revisions_go_on : (before : List Revision) (r : Revision) (rest : Option (List Revision))
+    → option_map (λ rs. before ++ rs) (option_map (λ rs. r ∷ rs) rest) ≡ option_map (λ rs. (before ++ r ∷ []) ++ rs) rest
+revisions_go_on before r None = refl
+revisions_go_on before r (Some rs) = ap Some (sym (append_assoc before (r ∷ []) rs))
+
+-- the parameters have no other names than the three, and these values
+pub asked_by_values : (parameters : List (List ℕ × List ℕ)) (rev open_revs revs : Option (List ℕ))
+    → are_named (codes "rev" ∷ codes "revs" ∷ codes "open_revs" ∷ []) parameters ≡ true
+    → sole_value (codes "rev") parameters ≡ Some rev → sole_value (codes "open_revs") parameters ≡ Some open_revs
+    → sole_value (codes "revs") parameters ≡ Some revs → asked_of_document parameters ≡ query_by rev open_revs revs
+asked_by_values parameters rev open_revs revs named is_rev is_open is_revs = rw named (rw is_rev (rw is_open (rw is_revs refl)))

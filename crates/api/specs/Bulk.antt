@@ -1,0 +1,36 @@
+-- What a request to write several documents together asks for.
+-- CouchDB manual, api/database/bulk-api (`docs` and `new_edits`); that no other member is taken is this server's own.
+use Rattle.std.specs.Prelude.{ℕ, Bool, true, false, if◌then◌else◌, List, [], ◌∷◌, Option, Some, None, option_map, option_and_then, codes}
+use Rattle.couch_json.specs.Parts.{has_only, items_in, truth_in}
+use Rattle.couch_json.specs.Value.{Value, Items, no_items, item, member_of}
+
+-- the documents that are to be written: as new edits, or as they stand, with the revisions that they come with
+pub record Bulk : Type 0 where
+  pub new_edits : Bool
+  pub documents : List Value
+
+abbrev pub elements : Items → List Value
+elements no_items = []
+elements (item v vs) = v ∷ elements vs
+
+-- `docs`, which has to be a list
+abbrev pub documents_of : Value → Option (List Value)
+documents_of v = option_map (λ vs. elements vs) (items_in v)
+
+abbrev pub documents_in : Option Value → Option (List Value)
+documents_in v = option_and_then (λ docs. documents_of docs) v
+
+-- `new_edits`, true or false, and true where it is not given
+abbrev pub new_edits_in : Option Value → Option Bool
+new_edits_in None = Some true
+new_edits_in (Some v) = truth_in v
+
+abbrev pub bulk_by : Option Bool → Option (List Value) → Option Bulk
+bulk_by None documents = None
+bulk_by (Some new_edits) None = None
+bulk_by (Some new_edits) (Some documents) = Some (record { new_edits = new_edits; documents = documents })
+
+-- what a body asks for, where it is an object of this shape, with no other members
+abbrev pub bulk_in : Value → Option Bulk
+bulk_in v =
+    if has_only (codes "docs" ∷ codes "new_edits" ∷ []) v then bulk_by (new_edits_in (member_of v (codes "new_edits"))) (documents_in (member_of v (codes "docs"))) else None

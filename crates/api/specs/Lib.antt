@@ -1,0 +1,9 @@
+pub mod Paths
+pub mod Routing
+pub mod Refusals
+pub mod Saying
+pub mod Asking
+pub mod Bulk
+pub mod BulkAsked
+pub mod Queries
+pub mod Queried

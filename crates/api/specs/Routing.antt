@@ -1,0 +1,45 @@
+-- Which page of the server a path leads to.
+-- CouchDB manual, api/server/common, api/database and api/document/common, for the paths; which of two routes a path takes is what matchit's own definition says.
+use Rattle.std.specs.Prelude.{ℕ, List, [], ◌∷◌, Option, option_map, Result, Ok, Err, codes}
+use Rattle.matchit.specs.Order.{placed}
+use Rattle.matchit.specs.Rows.{RowsOf}
+use Rattle.matchit.specs.Route.{Scan, parse_route}
+use Rattle.matchit.specs.Router.{RouteOf, route_from}
+use Rattle.matchit.specs.Seek.{first}
+use Rattle.matchit.specs.declared.error.InsertError.{InsertError}
+use Rattle.api.specs.declared.page.Page.{Page}
+use Rattle.api.specs.declared.page.Page.TheVariants.{Welcome, AllDatabases, Database, Security, BulkDocuments, Document}
+
+-- the routes of the server, each with its page
+abbrev pub routes : List (List ℕ × Page)
+routes =
+    (codes "/", Welcome)
+    ∷ (codes "/_all_dbs", AllDatabases)
+    ∷ (codes "/{db}", Database)
+    ∷ (codes "/{db}/", Database)
+    ∷ (codes "/{db}/_security", Security)
+    ∷ (codes "/{db}/_bulk_docs", BulkDocuments)
+    ∷ (codes "/{db}/{id}", Document)
+    ∷ []
+
+abbrev pub Table : Type 0
+Table = RowsOf (RouteOf Page)
+
+abbrev pub with_read : Result Scan InsertError → Page → Table → Table
+with_read (Ok s) page rows = placed (s.pattern, route_from s page) rows
+with_read (Err e) page rows = rows
+
+-- matchit's table with one route more
+abbrev pub with_route : List ℕ × Page → Table → Table
+with_route route rows = with_read (parse_route route.0) route.1 rows
+
+abbrev pub with_routes : List (List ℕ × Page) → Table → Table
+with_routes [] rows = rows
+with_routes (route ∷ rest) rows = with_routes rest (with_route route rows)
+
+unfoldable pub table : Table
+table = with_routes routes []
+
+-- the page that a path leads to
+abbrev pub page_of : List ℕ → Option Page
+page_of path = option_map (λ route. route.value) (first table path)

@@ -1,0 +1,72 @@
+//! What a request to write several documents together asks for (CouchDB manual, api/database/bulk-api).
+
+ghost use Rattle.std.specs.Prelude.{◌≡◌, option_map, map as list_map, codes};
+ghost use Rattle.couch_json.specs.Value.{member_at, member_of};
+ghost use Rattle.couch_json.specs.View.{members_view, view};
+ghost use Rattle.api.specs.Bulk.{bulk_in, documents_in, documents_of, new_edits_in};
+ghost use Rattle.api.specs.BulkAsked.{bulk_asked};
+
+use couch_json::Json;
+use std::collections::BTreeMap;
+
+/// Documents that are to be written together.
+#[derive(Drop)]
+pub struct BulkAsked {
+    /// Whether as new edits, and not with the revisions that they come with.
+    pub new_edits: bool,
+    /// The documents, in order.
+    pub documents: Vec<Json>,
+}
+
+/// Reads what a body asks to be written, where it is an object of `docs` and `new_edits` alone.
+pub fn bulk_in(value: Json) -> Option<BulkAsked>
+    ensures { option_map bulk_asked result ≡ bulk_in (view value) }
+{
+    if !value.has_only(&["docs", "new_edits"]) {
+        return None;
+    }
+    let new_edits = new_edits_in(value.member("new_edits"))?;
+    let documents = documents_in(value)?;
+    Some(BulkAsked {
+        new_edits,
+        documents,
+    })
+}
+
+/// What `new_edits` says, true where it is not given; `None` where it is neither true nor false.
+fn new_edits_in(value: Option<&Json>) -> Option<bool>
+    ensures { result ≡ new_edits_in (option_map (λ v. view v.now) value.entry) }
+{
+    match value {
+        Some(value) => value.truth(),
+        None => Some(true),
+    }
+}
+
+/// The list that `docs` is; `None` where it is not given or is no list.
+fn documents_in(value: Json) -> Option<Vec<Json>>
+    ensures { option_map (λ documents. list_map view documents.items) result ≡ documents_in (member_of (view value) (codes "docs")) }
+{
+    let Json::Object(members) = value else {
+        return None;
+    };
+    list_of(taken(members, "docs")?)
+}
+
+/// The value at a name, taken out of the members of an object.
+fn taken(members: BTreeMap<String, Json>, name: &str) -> Option<Json>
+    ensures { option_map view result ≡ member_at name.now (members_view members.entries) }
+{
+    let mut members = members;
+    members.remove(name)
+}
+
+/// The elements, where the value is a list.
+fn list_of(value: Json) -> Option<Vec<Json>>
+    ensures { option_map (λ elements. list_map view elements.items) result ≡ documents_of (view value) }
+{
+    match value {
+        Json::Array(elements) => Some(elements),
+        _ => None,
+    }
+}

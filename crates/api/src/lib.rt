@@ -1,0 +1,25 @@
+//! The HTTP API: which page a path leads to, who asks, with which parameters and body, and what a refusal says.
+#![tactic(auto)]
+
+mod asking;
+mod bulk;
+mod fault;
+mod members;
+mod method;
+mod page;
+mod parameters;
+mod path;
+mod query;
+mod refusal;
+mod routes;
+
+pub use asking::{body, caller, denied, without_parameters};
+pub use bulk::{BulkAsked, bulk_in};
+pub use fault::RequestFault;
+pub use members::put_text;
+pub use method::{RequestMethod, method_of};
+pub use page::Page;
+pub use path::{database_name, document_id};
+pub use query::{Asked, DocumentQuery, document_query, revision_query};
+pub use refusal::Refusal;
+pub use routes::Routes;

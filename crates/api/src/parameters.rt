@@ -1,0 +1,90 @@
+//! The parameters of a query (URL Standard, section 5.1).
+
+ghost use Rattle.std.specs.Prelude.{◌≡◌, IfOk, bytes_eq, map, option_map, option_copied, string_bytes};
+ghost use Rattle.api.specs.Queried.{texts_of};
+ghost use Rattle.api.specs.Queries.{are_named, flag, parameter_of, parameters_in, sole_value};
+ghost use Rattle.form_urlencoded.specs.Form.{raw_pairs};
+ghost use Rattle.std.specs.List.{list_any};
+
+use std::alloc::{AllocError, Global};
+
+/// The parameters of a query, each a name and a value.
+pub(crate) fn parameters(
+    alloc: Global,
+    query: &Option<String>,
+) -> Result<Vec<(String, String)>, AllocError>
+    ensures { IfOk result (λ parameters. texts_of parameters.items ≡ parameters_in (option_map string_bytes query.now)) }
+{
+    match query {
+        None => Ok(Vec::new(alloc)),
+        Some(query) => decoded(alloc, query.as_bytes()),
+    }
+}
+
+/// The names and values of a form.
+fn decoded(alloc: Global, form: &[u8]) -> Result<Vec<(String, String)>, AllocError>
+    ensures { IfOk result (λ parameters. texts_of parameters.items ≡ map parameter_of (raw_pairs form.now)) }
+{
+    let mut parameters = Vec::new(alloc);
+    for pair in form_urlencoded::parse(alloc, form).into_owned() {
+        parameters.push(pair?)?;
+    }
+    Ok(parameters)
+}
+
+/// Tells whether no parameter has another name than these.
+pub(crate) fn are_named(parameters: &[(String, String)], names: &[&str]) -> bool
+    ensures { result ≡ are_named (map (λ name. name.now) names.now) (texts_of parameters.now) }
+{
+    for (name, _value) in parameters {
+        if !is_among(name.as_str(), names) {
+            return false;
+        }
+    }
+    true
+}
+
+/// Whether the name is one of these.
+fn is_among(name: &str, names: &[&str]) -> bool
+    ensures { result ≡ list_any (λ known. bytes_eq known name.now) (map (λ known. known.now) names.now) }
+{
+    for known in names {
+        if *known == name {
+            return true;
+        }
+    }
+    false
+}
+
+/// Finds the value of the parameter of this name, or that there is none. `None` where the name stands
+/// twice.
+pub(crate) fn sole_value<'a>(
+    parameters: &'a [(String, String)],
+    name: &str,
+) -> Option<Option<&'a str>>
+    ensures { option_map option_copied result ≡ sole_value name.now (texts_of parameters.now) }
+{
+    let mut found = None;
+    for (known, value) in parameters {
+        if known.as_str() == name {
+            if found.is_some() {
+                return None;
+            }
+            found = Some(value.as_str());
+        }
+    }
+    Some(found)
+}
+
+/// Reads whether a flag is set; it is not where there is no parameter. `None` where it is neither
+/// `true` nor `false`.
+pub(crate) fn flag(value: Option<&str>) -> Option<bool>
+    ensures { result ≡ flag (option_copied value.entry) }
+{
+    match value {
+        None => Some(false),
+        Some("true") => Some(true),
+        Some("false") => Some(false),
+        Some(_) => None,
+    }
+}

@@ -1,0 +1,90 @@
+//! The parts of a request's path, and what a part says once its escapes are read (RFC 3986, sections 2.1 and 3.3).
+
+ghost use Rattle.std.specs.Prelude.{◌≡◌, IfOk, false, option_map, option_copied, string_bytes};
+ghost use Rattle.tree.specs.DocumentId.{is_design_id, is_local_id};
+ghost use Rattle.api.specs.Saying.{Says};
+ghost use Rattle.api.specs.Paths.{database_name_in, decoded, decoded_at, document_id_in, part_at, text_if};
+ghost use Rattle.api.specs.Refusals.{there_or};
+ghost use Rattle.std.specs.Str.{is_utf8};
+
+use crate::fault::RequestFault;
+use crate::refusal::Refusal;
+use couch_json::Got;
+use percent_encoding::percent_decode;
+use std::alloc::Global;
+use std::str;
+use store::{DbName, NameFault};
+use tree::{DocId, IdFault};
+
+/// Reads the name of the database that a path leads into.
+pub fn database_name(alloc: Global, path: &str) -> Result<DbName, RequestFault>
+    ensures { Says (λ name. name) result (there_or Refusal.DatabaseName (database_name_in path.now)) }
+{
+    let Some(text) = decoded_part(alloc, path, 1)? else {
+        return Err(RequestFault::Refused(Refusal::DatabaseName));
+    };
+    match DbName::new(alloc, text.as_str()) {
+        Ok(name) => Ok(name),
+        Err(NameFault::Shape) => Err(RequestFault::Refused(Refusal::DatabaseName)),
+        Err(NameFault::Memory) => Err(RequestFault::Memory),
+    }
+}
+
+/// Reads the id of the document that a path leads to. Design documents and local ones are not served
+/// yet.
+pub fn document_id(alloc: Global, path: &str) -> Result<DocId, RequestFault>
+    ensures says { Says (λ id. id) result (there_or Refusal.Id (document_id_in path.now)) }
+    ensures plain { IfOk result (λ id. (is_design_id id ≡ false) × (is_local_id id ≡ false)) }
+{
+    let Some(text) = decoded_part(alloc, path, 2)? else {
+        return Err(RequestFault::Refused(Refusal::Id));
+    };
+    let id = match DocId::new(alloc, text.as_str()) {
+        Ok(id) => id,
+        Err(IdFault::Shape) => return Err(RequestFault::Refused(Refusal::Id)),
+        Err(IdFault::Memory) => return Err(RequestFault::Memory),
+    };
+    if id.is_design() || id.is_local() {
+        return Err(RequestFault::Refused(Refusal::Id));
+    }
+    Ok(id)
+}
+
+/// The text that the part of a path at a place stands for, where it is UTF-8.
+fn decoded_part(alloc: Global, path: &str, place: usize) -> Got<Option<String>>
+    ensures { IfOk result (λ text. option_map string_bytes text ≡ decoded_at place path.now) }
+{
+    match part(path.as_bytes(), place) {
+        Some(part) => decoded(alloc, part),
+        None => Ok(None),
+    }
+}
+
+/// What stands between the slashes of a path, at a place counted from 0.
+fn part(path: &[u8], place: usize) -> Option<&[u8]>
+    ensures { option_copied result ≡ part_at place path.now }
+{
+    path.split(|byte| *byte == b'/').nth(place)
+}
+
+/// The text that a part of a path stands for, where it is UTF-8.
+fn decoded(alloc: Global, part: &[u8]) -> Got<Option<String>>
+    ensures { IfOk result (λ text. option_map string_bytes text ≡ decoded part.now) }
+{
+    let mut bytes = Vec::new(alloc);
+    percent_decode(part).append_to(&mut bytes)?;
+    match text(&bytes) {
+        Some(text) => Ok(Some(String::from_str(alloc, text)?)),
+        None => Ok(None),
+    }
+}
+
+/// The bytes as a text, where they are UTF-8.
+fn text(bytes: &[u8]) -> Option<&str>
+    ensures { option_copied result ≡ text_if (is_utf8 bytes.now) bytes.now }
+{
+    match str::from_utf8(bytes) {
+        Ok(text) => Some(text),
+        Err(_) => None,
+    }
+}

@@ -1,0 +1,184 @@
+//! What the query of a document's page asks for (CouchDB manual, api/document/common).
+
+ghost use Rattle.std.specs.Prelude.{◌≡◌, IfOk, option_copied, option_map};
+ghost use Rattle.couch_http.specs.Message.{message_of};
+ghost use Rattle.couch_json.specs.View.{items_view, view};
+ghost use Rattle.api.specs.Saying.{Says};
+ghost use Rattle.api.specs.Queried.{asked_of, query_of, texts_of};
+ghost use Rattle.api.specs.Queries.{asked_by, asked_of_document, document_query, open_revisions, query_by, revision_asked, revision_by, revision_in, revision_query, revisions, revisions_in, revisions_listed};
+ghost use Rattle.api.specs.Refusals.{there_or};
+
+use crate::fault::RequestFault;
+use crate::parameters::{are_named, flag, parameters, sole_value};
+use crate::refusal::Refusal;
+use couch_http::Request;
+use couch_json::{Got, Json, JsonFault, NoMemory, read};
+use std::alloc::Global;
+use tree::Rev;
+
+/// What is asked of a document.
+#[derive(Drop)]
+pub struct DocumentQuery {
+    /// Which revisions.
+    pub asked: Asked,
+    /// Whether with the revisions before each.
+    pub revs: bool,
+}
+
+/// Which revisions of a document are asked for.
+#[derive(Drop)]
+pub enum Asked {
+    /// The winner.
+    Winner,
+    /// This revision.
+    Revision(Rev),
+    /// All leaves.
+    Leaves,
+    /// These revisions, in order.
+    Revisions(Vec<Rev>),
+}
+
+/// Reads what a document's reader asks for.
+pub fn document_query(alloc: Global, request: &Request) -> Result<DocumentQuery, RequestFault>
+    ensures { Says query_of result (there_or Refusal.Query (document_query (message_of request.now).query)) }
+{
+    let parameters = parameters(alloc, &request.query)?;
+    match asked_of_document(alloc, &parameters)? {
+        Some(query) => Ok(query),
+        None => Err(RequestFault::Refused(Refusal::Query)),
+    }
+}
+
+/// What the parameters ask for.
+#[tactic(auto, using(crate::proofs::Listed::asked_by_values))]
+fn asked_of_document(alloc: Global, parameters: &[(String, String)]) -> Got<Option<DocumentQuery>>
+    ensures { IfOk result (λ query. option_map query_of query ≡ asked_of_document (texts_of parameters.now)) }
+{
+    if !are_named(parameters, &["rev", "revs", "open_revs"]) {
+        return Ok(None);
+    }
+    let Some(rev) = sole_value(parameters, "rev") else {
+        return Ok(None);
+    };
+    let Some(open_revs) = sole_value(parameters, "open_revs") else {
+        return Ok(None);
+    };
+    let Some(revs) = sole_value(parameters, "revs") else {
+        return Ok(None);
+    };
+    query_by(alloc, rev, open_revs, revs)
+}
+
+/// What the three parameters ask for together.
+fn query_by(
+    alloc: Global,
+    rev: Option<&str>,
+    open_revs: Option<&str>,
+    revs: Option<&str>,
+) -> Got<Option<DocumentQuery>>
+    ensures { IfOk result (λ query. option_map query_of query ≡ query_by (option_copied rev.entry) (option_copied open_revs.entry) (option_copied revs.entry)) }
+{
+    let Some(asked) = asked_by(alloc, rev, open_revs)? else {
+        return Ok(None);
+    };
+    match flag(revs) {
+        Some(revs) => Ok(Some(DocumentQuery { asked, revs })),
+        None => Ok(None),
+    }
+}
+
+/// Which revisions `rev` and `open_revs` ask for.
+fn asked_by(alloc: Global, rev: Option<&str>, open_revs: Option<&str>) -> Got<Option<Asked>>
+    ensures { IfOk result (λ asked. option_map asked_of asked ≡ asked_by (option_copied rev.entry) (option_copied open_revs.entry)) }
+{
+    match (rev, open_revs) {
+        (None, None) => Ok(Some(Asked::Winner)),
+        (Some(rev), None) => match Rev::parse(rev.as_bytes()) {
+            Some(rev) => Ok(Some(Asked::Revision(rev))),
+            None => Ok(None),
+        },
+        (None, Some(open_revs)) => opened(alloc, open_revs),
+        (Some(_), Some(_)) => Ok(None),
+    }
+}
+
+/// The open revisions that are asked for: `all`, or a JSON list of revisions.
+fn opened(alloc: Global, value: &str) -> Got<Option<Asked>>
+    ensures { IfOk result (λ asked. option_map asked_of asked ≡ open_revisions value.now) }
+{
+    if value == "all" {
+        return Ok(Some(Asked::Leaves));
+    }
+    match read(alloc, value.as_bytes()) {
+        Ok(value) => listed(alloc, &value),
+        Err(JsonFault::Memory) => Err(NoMemory),
+        Err(_) => Ok(None),
+    }
+}
+
+/// The revisions that a list spells.
+fn listed(alloc: Global, value: &Json) -> Got<Option<Asked>>
+    ensures { IfOk result (λ asked. option_map asked_of asked ≡ option_map revisions (revisions_listed (view value.now))) }
+{
+    let Some(items) = value.items() else {
+        return Ok(None);
+    };
+    match spelled_by(alloc, items)? {
+        Some(revs) => Ok(Some(Asked::Revisions(revs))),
+        None => Ok(None),
+    }
+}
+
+/// The revisions that elements spell, in order.
+#[tactic(auto, using(crate::proofs::Listed::revisions_go_on))]
+fn spelled_by(alloc: Global, items: &[Json]) -> Got<Option<Vec<Rev>>>
+    ensures { IfOk result (λ revs. option_map (λ rs. rs.items) revs ≡ revisions_in (items_view items.now)) }
+{
+    let mut revs = Vec::with_capacity(alloc, items.len())?;
+    for item in items {
+        let Some(rev) = revision_in(item) else {
+            return Ok(None);
+        };
+        revs.push(rev)?;
+    }
+    Ok(Some(revs))
+}
+
+/// The revision that a value spells.
+fn revision_in(value: &Json) -> Option<Rev>
+    ensures { result ≡ revision_in (view value.now) }
+{
+    Rev::parse(value.text()?.as_bytes())
+}
+
+/// Reads the revision that a document's writer names, if any.
+pub fn revision_query(alloc: Global, request: &Request) -> Result<Option<Rev>, RequestFault>
+    ensures { Says (λ rev. rev) result (there_or Refusal.Query (revision_query (message_of request.now).query)) }
+{
+    let parameters = parameters(alloc, &request.query)?;
+    match revision_asked(&parameters) {
+        Some(rev) => Ok(rev),
+        None => Err(RequestFault::Refused(Refusal::Query)),
+    }
+}
+
+/// The revision that the parameters name, if any.
+fn revision_asked(parameters: &[(String, String)]) -> Option<Option<Rev>>
+    ensures { result ≡ revision_asked (texts_of parameters.now) }
+{
+    if !are_named(parameters, &["rev"]) {
+        return None;
+    }
+    revision_by(sole_value(parameters, "rev")?)
+}
+
+/// The revision that a parameter spells, if there is one.
+fn revision_by(value: Option<&str>) -> Option<Option<Rev>>
+    ensures { result ≡ revision_by (option_copied value.entry) }
+{
+    let Some(value) = value else {
+        return Some(None);
+    };
+    let rev = Rev::parse(value.as_bytes())?;
+    Some(Some(rev))
+}

@@ -1,0 +1,19 @@
+-- What the write of a document is refused for.
+-- CouchDB manual, api/basics; that no definition refuses it for another cause is this server's own.
+use Rattle.auth.specs.Callers.{Identity}
+use Rattle.write.specs.declared.fault.WriteFault.{WriteFault}
+use Rattle.write.specs.declared.fault.WriteFault.TheVariants as write
+use Rattle.api.specs.Asking.{denied}
+use Rattle.api.specs.declared.refusal.Refusal.{Refusal}
+use Rattle.api.specs.declared.refusal.Refusal.TheVariants.{BadDocument, BadHistory, Conflict, Generation}
+
+-- What the write of a document is refused for: as a bad document, by a rule, for its history, as a conflict, or for want of a further
+-- generation. No definition refuses it for the store's sake or for want of memory.
+abbrev pub refusal_of_edit : Identity → WriteFault → Refusal
+refusal_of_edit caller write.BadDocument = BadDocument
+refusal_of_edit caller (write.Denied rule) = denied caller rule
+refusal_of_edit caller write.BadHistory = BadHistory
+refusal_of_edit caller write.Conflict = Conflict
+refusal_of_edit caller write.Generation = Generation
+refusal_of_edit caller (write.Store fault) = Conflict
+refusal_of_edit caller write.Memory = Conflict
