@@ -1,6 +1,6 @@
 -- What a request to write several documents together asks for.
 -- CouchDB manual, api/database/bulk-api (`docs` and `new_edits`); that no other member is taken is this server's own.
-use Rattle.std.specs.Prelude.{ℕ, Bool, true, false, if◌then◌else◌, List, [], ◌∷◌, Option, Some, None, option_map, option_and_then, codes}
+use Rattle.std.specs.Prelude.{Bool, true, if◌then◌else◌, List, [], ◌∷◌, Option, Some, None, option_map, option_and_then, codes}
 use Rattle.couch_json.specs.Parts.{has_only, items_in, truth_in}
 use Rattle.couch_json.specs.Value.{Value, Items, no_items, item, member_of}
 

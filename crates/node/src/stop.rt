@@ -4,7 +4,6 @@ ghost use Rattle.node.specs.declared.stop.Stop.TheVariants.{NoRoom};
 use api::{Refusal, RequestFault};
 use couch_json::NoMemory;
 use read::ReadFault;
-use std::alloc::{AllocError, AllocFailed};
 use store::StoreFault;
 
 /// Why the work on a request ended before its reply was made. The store is as it was.
@@ -66,22 +65,6 @@ impl From<NoMemory> for Stop {
     ghost from_gives = { λ _ stop. stop ≡ NoRoom };
 
     fn from(_no_memory: NoMemory) -> Stop {
-        Stop::NoRoom
-    }
-}
-
-impl From<AllocError> for Stop {
-    ghost from_gives = { λ _ stop. stop ≡ NoRoom };
-
-    fn from(_error: AllocError) -> Stop {
-        Stop::NoRoom
-    }
-}
-
-impl<T: Drop> From<AllocFailed<T>> for Stop {
-    ghost from_gives = { λ _ stop. stop ≡ NoRoom };
-
-    fn from(_failed: AllocFailed<T>) -> Stop {
         Stop::NoRoom
     }
 }
