@@ -342,6 +342,35 @@ winner_of_others h l = ap (λ (rs : List Revision). slice_get (rs ++ leaves_mark
 pub live_winner : (h : HistoryContent) → is_live h ≡ true → (r : Revision) × (winner h ≡ Some r) × (is_deleted (held_of h r) ≡ false)
 live_winner h l = let x = live_first h l in (x.0, x.3, (marked_leaf h false x.0 x.1).marked)
 
+-- some leaf is not deleted
+pub live_leaf : (h : HistoryContent) → IsTrue (is_live h) ↔ ((r : Revision) × IsTrue (is_leaf h r) × (is_deleted (held_of h r) ≡ false))
+live_leaf h = (there, back)
+  where
+    there : is_live h ≡ true → (r : Revision) × IsTrue (is_leaf h r) × (is_deleted (held_of h r) ≡ false)
+    there l = let x = live_first h l in let m = marked_leaf h false x.0 x.1 in (x.0, m.leaf, m.marked)
+
+    back : (r : Revision) × IsTrue (is_leaf h r) × (is_deleted (held_of h r) ≡ false) → is_live h ≡ true
+    back x = by (is_live h) refl
+      where
+        stands : StandsIn (leaves_marked false h) x.0
+        stands = subst (λ b. StandsIn (leaves_marked b h) x.0) x.2 (leaf_marked h x.0 x.1)
+
+        by : (b : Bool) → is_live h ≡ b → is_live h ≡ true
+        by true l = l
+        by false l = absurd (subst (λ (rs : List Revision). StandsIn rs x.0) (none_live h l) stands)
+
+first_stands : (rs : List Revision) (r : Revision) → slice_get rs 0 ≡ Some r → StandsIn rs r
+first_stands [] r e = cc
+first_stands (x ∷ rs) r e = inl (inside x r e)
+
+-- the winner is deleted just where each leaf is
+pub winner_mark : (h : HistoryContent) (r : Revision) → winner h ≡ Some r → is_live h ≡ not (is_deleted (held_of h r))
+winner_mark h r e = by (is_live h) refl
+  where
+    by : (b : Bool) → is_live h ≡ b → is_live h ≡ not (is_deleted (held_of h r))
+    by true l = l ∙ ap not (sym (marked_leaf h false r (first_stands (leaves_marked false h) r (winner_of_live h l ∙ e))).marked)
+    by false l = l ∙ ap not (sym (marked_leaf h true r (first_stands (leaves_marked true h) r (winner_of_others h l ∙ e))).marked)
+
 -- ---- what the leaves depend on
 
 only_order : (h : HistoryContent) (xs ys : List Revision) → AreBestFirst h xs → AreBestFirst h ys → ((r : Revision) → StandsIn xs r → StandsIn ys r) → ((r : Revision) → StandsIn ys r → StandsIn xs r) → xs ≡ ys
