@@ -40,7 +40,7 @@ insert_entry-put (x ∷ es) r e = by (insert_entry-put es r e) (revision_cmp r x
 
 -- ---- what came in is taken back
 
-not_found : (r : Revision) (x : Node) (es : List Node) → find revision_cmp r (x ∷ es) ≡ None → (is_eq (revision_cmp r x.0) ≡ false) × (find revision_cmp r es ≡ None)
+pub not_found : (r : Revision) (x : Node) (es : List Node) → find revision_cmp r (x ∷ es) ≡ None → (is_eq (revision_cmp r x.0) ≡ false) × (find revision_cmp r es ≡ None)
 not_found r x es = by (is_eq (revision_cmp r x.0)) refl
   where
     by : (b : Bool) → is_eq (revision_cmp r x.0) ≡ b → cond b (Some x.1) (find revision_cmp r es) ≡ None → (is_eq (revision_cmp r x.0) ≡ false) × (find revision_cmp r es ≡ None)

@@ -1,6 +1,6 @@
 -- A history kept as its nodes in order: look-ups and writes by the nodes are those of the content.
 use Rattle.std.proofs.Common.{◌≡◌, ℕ, zero, suc, ◌+◌, ◌-◌, ◌<◌, Bool, true, false, cond, length, List, [], ◌∷◌, ◌++◌, map, Option, Some, None, refl, sym, ap, subst, ◌∙◌, arith, append_assoc, append-nil}
-use Rattle.std.specs.Prelude.{IsTrue, is_some, option_and_then, filter, reverse, slice_get}
+use Rattle.std.specs.Prelude.{IsTrue, is_some, option_and_then, filter, reverse}
 use Rattle.std.proofs.lemmas.List.{reverse-append}
 use Rattle.std.specs.Cmp.{IsTotalOrder, on_total, then_total, nat_cmp_total}
 use Rattle.std.specs.Cmp.Lexicographic.{lists_total}
@@ -60,16 +60,6 @@ leaf_passed mark nodes s t x e is = leaves_left mark nodes s t x e ∙ ap (λ b.
 
 pub other_passed : (mark : Bool) (nodes s t : List Node) (x : Node) → s ≡ t ++ x ∷ [] → is_leaf_in mark nodes x ≡ false → leaves_among mark nodes s ≡ leaves_among mark nodes t
 other_passed mark nodes s t x e is = leaves_left mark nodes s t x e ∙ ap (λ b. map (λ e. e.0) (cond b (x ∷ filter (is_leaf_in mark nodes) (reverse t)) (filter (is_leaf_in mark nodes) (reverse t)))) is
-
--- ---- the first of a list
-
-pub first_in_front : {X : Type 0} (xs ys : List X) (x : X) → Some x ≡ slice_get xs 0 → Some x ≡ slice_get (xs ++ ys) 0
-first_in_front [] ys x e = cc
-first_in_front (y ∷ xs) ys x e = e
-
-pub first_behind : {X : Type 0} (xs ys : List X) (o : Option X) → None ≡ slice_get xs 0 → o ≡ slice_get ys 0 → o ≡ slice_get (xs ++ ys) 0
-first_behind [] ys o e f = f
-first_behind (y ∷ xs) ys o e f = cc
 
 -- ---- lines and writes
 

@@ -11,7 +11,7 @@ use Rattle.std.specs.FinMap.{find, get, entries, entries_sorted, get-entries, is
 use Rattle.std.specs.FinMap.Entries.{below_all}
 use Rattle.tree.specs.Revision.{Revision, revision_cmp}
 use Rattle.tree.specs.Write.{Write, StandsIn, IsLawful}
-use Rattle.tree.specs.History.{HistoryContent, is_known, parent_of, held_of, is_deleted, names, has_child, is_leaf, is_marked, is_leaf_in, leaves_marked, leaves, winner, IsBetter, BeatsAll, AreBestFirst, LooksAlike, content_of, Shows}
+use Rattle.tree.specs.History.{HistoryContent, is_known, parent_of, held_of, is_deleted, names, has_child, is_leaf, is_live, is_marked, is_leaf_in, leaves_marked, leaves, winner, IsBetter, BeatsAll, AreBestFirst, LooksAlike, content_of, Shows}
 use Rattle.tree.specs.declared.entry.Held.{Held}
 use Rattle.tree.specs.declared.entry.Entry.{Entry}
 use Rattle.tree.proofs.Kept.{Node, revision_cmp_total, true_from_T}
@@ -310,6 +310,66 @@ best_of h (r ∷ rs) b are =
 
 pub winner_is_best : (h : HistoryContent) → MatchOption (winner h) ((r : Revision) → IsTrue (is_leaf h r) → ⊥) (λ r. IsTrue (is_leaf h r) × ((s : Revision) → IsTrue (is_leaf h s) → (s ≡ r) ⊎ IsBetter h r s))
 winner_is_best h = best_of h (leaves h) (best_first h) (leaves_are h)
+
+-- ---- the winner by the marks
+
+-- the first of what stands here, before others
+first_of : (rs ys : List Revision) (r : Revision) → StandsIn rs r → (x : Revision) × StandsIn rs x × (slice_get rs 0 ≡ Some x) × (slice_get (rs ++ ys) 0 ≡ Some x)
+first_of [] ys r i = elim i [ ]
+first_of (x ∷ rs) ys r i = (x, inl refl, refl, refl)
+
+nothing : (rs : List Revision) → ((r : Revision) → StandsIn rs r → ⊥) → rs ≡ []
+nothing [] k = refl
+nothing (r ∷ rs) k = absurd (k r (inl refl))
+
+live_first : (h : HistoryContent) → is_live h ≡ true → (x : Revision) × StandsIn (leaves_marked false h) x × (slice_get (leaves_marked false h) 0 ≡ Some x) × (winner h ≡ Some x)
+live_first h l =
+    let x = passing (is_leaf_in false (entries h)) (entries h) l in
+    first_of (leaves_marked false h) (leaves_marked true h) x.0.0 (mapped_in (is_leaf_in false (entries h)) (reverse (entries h)) x.0 (in_reverse (entries h) x.0 x.1) x.2)
+
+none_live : (h : HistoryContent) → is_live h ≡ false → leaves_marked false h ≡ []
+none_live h l = nothing (leaves_marked false h) (λ r i.
+    let x = mapped (is_leaf_in false (entries h)) (reverse (entries h)) r i in
+    false≢true (sym l ∙ some_passes (is_leaf_in false (entries h)) (entries h) x.0 (from_reverse (entries h) x.0 x.1) x.2))
+
+pub winner_of_live : (h : HistoryContent) → is_live h ≡ true → slice_get (leaves_marked false h) 0 ≡ winner h
+winner_of_live h l = let x = live_first h l in x.2 ∙ sym x.3
+
+pub winner_of_others : (h : HistoryContent) → is_live h ≡ false → slice_get (leaves_marked true h) 0 ≡ winner h
+winner_of_others h l = ap (λ (rs : List Revision). slice_get (rs ++ leaves_marked true h) 0) (sym (none_live h l))
+
+-- the winner of a live history is not deleted
+pub live_winner : (h : HistoryContent) → is_live h ≡ true → (r : Revision) × (winner h ≡ Some r) × (is_deleted (held_of h r) ≡ false)
+live_winner h l = let x = live_first h l in (x.0, x.3, (marked_leaf h false x.0 x.1).marked)
+
+-- some leaf is not deleted
+pub live_leaf : (h : HistoryContent) → IsTrue (is_live h) ↔ ((r : Revision) × IsTrue (is_leaf h r) × (is_deleted (held_of h r) ≡ false))
+live_leaf h = (there, back)
+  where
+    there : is_live h ≡ true → (r : Revision) × IsTrue (is_leaf h r) × (is_deleted (held_of h r) ≡ false)
+    there l = let x = live_first h l in let m = marked_leaf h false x.0 x.1 in (x.0, m.leaf, m.marked)
+
+    back : (r : Revision) × IsTrue (is_leaf h r) × (is_deleted (held_of h r) ≡ false) → is_live h ≡ true
+    back x = by (is_live h) refl
+      where
+        stands : StandsIn (leaves_marked false h) x.0
+        stands = subst (λ b. StandsIn (leaves_marked b h) x.0) x.2 (leaf_marked h x.0 x.1)
+
+        by : (b : Bool) → is_live h ≡ b → is_live h ≡ true
+        by true l = l
+        by false l = absurd (subst (λ (rs : List Revision). StandsIn rs x.0) (none_live h l) stands)
+
+first_stands : (rs : List Revision) (r : Revision) → slice_get rs 0 ≡ Some r → StandsIn rs r
+first_stands [] r e = cc
+first_stands (x ∷ rs) r e = inl (inside x r e)
+
+-- the winner is deleted just where each leaf is
+pub winner_mark : (h : HistoryContent) (r : Revision) → winner h ≡ Some r → is_live h ≡ not (is_deleted (held_of h r))
+winner_mark h r e = by (is_live h) refl
+  where
+    by : (b : Bool) → is_live h ≡ b → is_live h ≡ not (is_deleted (held_of h r))
+    by true l = l ∙ ap not (sym (marked_leaf h false r (first_stands (leaves_marked false h) r (winner_of_live h l ∙ e))).marked)
+    by false l = l ∙ ap not (sym (marked_leaf h true r (first_stands (leaves_marked true h) r (winner_of_others h l ∙ e))).marked)
 
 -- ---- what the leaves depend on
 

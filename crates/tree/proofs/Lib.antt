@@ -7,6 +7,7 @@ pub mod Insertions
 pub mod Kept
 pub mod LawfulContents
 pub mod Leaves
+pub mod Live
 pub mod MadeRevision
 pub mod RevisionText
 pub mod Revisions

@@ -66,6 +66,10 @@ leaves_in mark nodes = map (λ e. e.0) (filter (is_leaf_in mark nodes) (reverse 
 abbrev pub leaves_marked : Bool → HistoryContent → List Revision
 leaves_marked mark h = leaves_in mark (entries h)
 
+-- some leaf is not deleted
+abbrev pub is_live : HistoryContent → Bool
+is_live h = list_any (is_leaf_in false (entries h)) (entries h)
+
 -- all leaves, best first: those that are not deleted stand before those that are, and greater revisions before lesser
 abbrev pub leaves : HistoryContent → List Revision
 leaves h = leaves_marked false h ++ leaves_marked true h

@@ -2,7 +2,7 @@ ghost use Rattle.std.specs.Prelude.{◌≡◌, ◌≢◌, ◌++◌, Option, Some
 ghost use Rattle.std.specs.FinMap as map;
 ghost use Rattle.couch_json.specs.View.{view};
 ghost use Rattle.tree.specs.Write.{counts_down, head, is_whole};
-ghost use Rattle.tree.specs.History.{GoesOn, agrees, behind, chain, has_child, held_of, is_head_known, is_known, is_leaf, is_leaf_in, keeps_parents, leaves, leaves_marked, line, placement, row_of, winner, with_new, with_write};
+ghost use Rattle.tree.specs.History.{GoesOn, agrees, behind, chain, has_child, held_of, is_head_known, is_known, is_leaf, is_leaf_in, is_live, keeps_parents, leaves, leaves_marked, line, placement, row_of, winner, with_new, with_write};
 
 use crate::body::Body;
 use crate::entry::{Entry, Held};
@@ -26,6 +26,8 @@ pub struct History {
     nodes: BTreeMap<Rev, Entry>,
     /// Those that some known revision has as its parent.
     parents: BTreeSet<Rev>,
+    /// How many leaves are not deleted.
+    live: usize,
 }
 
 impl Model for History {
@@ -40,7 +42,7 @@ impl Model for History {
 
     ghost view = { λ h. map.from_sorted h.nodes.entries };
 
-    ghost invariant = { λ h. AreKept h.nodes.entries h.parents.keys };
+    ghost invariant = { λ h. AreKept h.nodes.entries h.parents.keys h.live };
 }
 
 impl History {
@@ -52,6 +54,7 @@ impl History {
             alloc,
             nodes: BTreeMap::new(alloc),
             parents: BTreeSet::new(alloc),
+            live: 0,
         }
     }
 
@@ -112,6 +115,7 @@ impl History {
             alloc,
             &mut self.nodes,
             &mut self.parents,
+            &mut self.live,
             path,
             parent,
             held,
@@ -148,10 +152,18 @@ impl History {
     pub fn winner(&self) -> Option<&Rev>
         ensures { option_copied result ≡ winner self.now }
     {
-        match self.best_leaf(false) {
-            Some(rev) => Some(rev),
-            None => self.best_leaf(true),
+        if self.is_live() {
+            self.best_leaf(false)
+        } else {
+            self.best_leaf(true)
         }
+    }
+
+    /// Whether some leaf is not deleted; it looks at no node.
+    pub fn is_live(&self) -> bool
+        ensures { result ≡ is_live self.now }
+    {
+        self.live > 0
     }
 
     /// All leaves, the winner first, and so on in the order by which it is picked.
@@ -223,7 +235,13 @@ impl History {
         ensures ok { OnOk result (self.new ≡ with_new self.old rev entry) }
         ensures err { OnErr result (self.new ≡ self.old) }
     {
-        drop(nodes::put_new(&mut self.nodes, &mut self.parents, rev, entry)?);
+        drop(nodes::put_new(
+            &mut self.nodes,
+            &mut self.parents,
+            &mut self.live,
+            rev,
+            entry,
+        )?);
         Ok(())
     }
 

@@ -1,11 +1,11 @@
 //! What follows from the definitions alone. Each function has an empty body: its contract is the law.
 
-ghost use Rattle.std.specs.Prelude.{◌≡◌, ◌≢◌, ◌⊎◌, ◌↔◌, ℕ, false, List, [], ◌∷◌, ◌++◌, Option, Some, Ok, Err, IsTrue, MatchOption, is_some};
+ghost use Rattle.std.specs.Prelude.{◌≡◌, ◌≢◌, ◌⊎◌, ◌↔◌, ℕ, false, not, List, [], ◌∷◌, ◌++◌, Option, Some, Ok, Err, IsTrue, MatchOption, is_some};
 ghost use Rattle.std.specs.FinMap.{find, get};
 ghost use Rattle.std.specs.FinMap as map;
 ghost use Rattle.tree.specs.Revision.{Revision, is_revision, revision_cmp, revision_read, text_of};
 ghost use Rattle.tree.specs.Write.{Write, IsKnown, IsLawful, IsParent, IsPathEnd, StandsIn};
-ghost use Rattle.tree.specs.History.{HistoryContent, AreBestFirst, IsBetter, IsRooted, LooksAlike, Shows, behind, chain, content_of, entry_after, held_of, inserted, is_known, is_leaf, leaves, parent_of, placement, winner, with_entries, with_write};
+ghost use Rattle.tree.specs.History.{HistoryContent, AreBestFirst, IsBetter, IsRooted, LooksAlike, Shows, behind, chain, content_of, entry_after, held_of, inserted, is_deleted, is_known, is_leaf, is_live, leaves, parent_of, placement, winner, with_entries, with_write};
 ghost use Rattle.tree.specs.Convergence.{AreConsistent, BringOne, HaveSame, merged};
 ghost use Rattle.tree.specs.declared.entry.Entry.{Entry};
 ghost use Rattle.tree.specs.declared.placement.Placed.{Placed};
@@ -105,6 +105,12 @@ pub fn winner_is_best()
     ensures { (h : HistoryContent)
         → MatchOption (winner h) ((r : Revision) → IsTrue (is_leaf h r) → ⊥)
         (λ r. IsTrue (is_leaf h r) × ((s : Revision) → IsTrue (is_leaf h s) → (s ≡ r) ⊎ IsBetter h r s)) }
+{}
+
+/// A history is live where some leaf is not deleted; just then its winner is not deleted.
+pub fn live_winner()
+    ensures leaf { (h : HistoryContent) → IsTrue (is_live h) ↔ ((r : Revision) × IsTrue (is_leaf h r) × (is_deleted (held_of h r) ≡ false)) }
+    ensures winner { (h : HistoryContent) (r : Revision) → winner h ≡ Some r → is_live h ≡ not (is_deleted (held_of h r)) }
 {}
 
 /// Leaves and winner depend on the known revisions, their parents and the marks of the leaves

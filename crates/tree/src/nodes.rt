@@ -1,9 +1,10 @@
-//! The revisions of a history with their entries, and beside them those that are parents.
+//! The revisions of a history with their entries, beside them those that are parents, and how many
+//! leaves are not deleted.
 
-ghost use Rattle.std.specs.Prelude.{◌≡◌, ◌+◌, ◌<◌, ◌≤◌, ◌++◌, Some, IfOk, OnOk, OnErr, IsTrue, vec_capacity, vec_len};
+ghost use Rattle.std.specs.Prelude.{◌≡◌, ◌+◌, ◌<◌, ◌≤◌, ◌^◌, ◌++◌, Some, IfOk, OnOk, OnErr, IsTrue, vec_capacity, vec_len};
 ghost use Rattle.std.specs.FinMap.{is_sorted};
 ghost use Rattle.tree.specs.Revision.{revision_cmp};
-ghost use Rattle.tree.specs.Nodes.{AreParents, entries_before, listed, next_of, nodes_before, nodes_with, nodes_with_new, parents_before, parents_with, parents_without};
+ghost use Rattle.tree.specs.Nodes.{AreParents, entries_before, listed, next_of, is_live_at, is_live_new, live_in, new_parent, nodes_before, nodes_with, nodes_with_new, parents_before, parents_with, parents_without, tally};
 
 use crate::entry::{Entry, Held};
 use crate::revision::Rev;
@@ -26,17 +27,21 @@ pub(crate) fn put_path(
     alloc: Global,
     nodes: &mut BTreeMap<Rev, Entry>,
     parents: &mut BTreeSet<Rev>,
+    live: &mut usize,
     path: &[Rev],
     parent: Option<Rev>,
     held: Held,
 ) -> Got<()>
     requires sorted { IsTrue (is_sorted revision_cmp nodes.old.entries) }
     requires parents { AreParents parents.old.keys nodes.old.entries }
+    requires live { live.old ≡ live_in nodes.old.entries }
     ensures ok { OnOk result (nodes.new.entries ≡ nodes_with nodes.old.entries (entries_before (Some held) path.now parent)) }
     ensures sorted { IsTrue (is_sorted revision_cmp nodes.new.entries) }
     ensures parents { AreParents parents.new.keys nodes.new.entries }
+    ensures live { live.new ≡ live_in nodes.new.entries }
     ensures err { OnErr result (nodes.new.entries ≡ nodes.old.entries) }
 {
+    let live_before = *live;
     let mut insertions = Vec::with_capacity(alloc, path.len())?;
     let mut held = Some(held);
     for (i, rev) in path.iter().enumerate() {
@@ -44,8 +49,9 @@ pub(crate) fn put_path(
             parent: find_next(&path[i + 1..], &parent),
             held: held.take(),
         };
-        let Ok(insertion) = put_new(nodes, parents, *rev, entry) else {
+        let Ok(insertion) = put_new(nodes, parents, live, *rev, entry) else {
             take_back(nodes, parents, insertions);
+            *live = live_before;
             return Err(NoMemory);
         };
         note(&mut insertions, insertion);
@@ -80,14 +86,17 @@ fn note(insertions: &mut Vec<Insertion>, insertion: Option<Insertion>)
 pub(crate) fn put_new(
     nodes: &mut BTreeMap<Rev, Entry>,
     parents: &mut BTreeSet<Rev>,
+    live: &mut usize,
     rev: Rev,
     entry: Entry,
 ) -> Got<Option<Insertion>>
     requires sorted { IsTrue (is_sorted revision_cmp nodes.old.entries) }
     requires parents { AreParents parents.old.keys nodes.old.entries }
+    requires live { live.old ≡ live_in nodes.old.entries }
     ensures ok { OnOk result (nodes.new.entries ≡ nodes_with_new nodes.old.entries rev entry) }
     ensures sorted { IsTrue (is_sorted revision_cmp nodes.new.entries) }
     ensures parents { AreParents parents.new.keys nodes.new.entries }
+    ensures live { live.new ≡ live_in nodes.new.entries }
     ensures nodes_back { IfOk result (λ insertion. nodes_before nodes.new.entries (listed insertion) ≡ nodes.old.entries) }
     ensures parents_back { IfOk result (λ insertion. parents_before parents.new.keys (listed insertion) ≡ parents.old.keys) }
     ensures err { OnErr result ((nodes.new.entries ≡ nodes.old.entries) × (parents.new.keys ≡ parents.old.keys)) }
@@ -96,8 +105,15 @@ pub(crate) fn put_new(
         return Ok(None);
     }
     let parent = put_parent(parents, entry.parent)?;
+    let gained = is_live_new(parents, &rev, &entry);
+    let lost = is_live_at(nodes, &parent);
+    prove!(*live <= nodes.len());
+    let live_after = move_count(*live, gained, lost);
     match nodes.insert(rev, entry) {
-        Ok(_old) => Ok(Some(Insertion { rev, parent })),
+        Ok(_old) => {
+            *live = live_after;
+            Ok(Some(Insertion { rev, parent }))
+        }
         Err(_failed) => {
             take_parent(parents, parent);
             Err(NoMemory)
@@ -105,9 +121,40 @@ pub(crate) fn put_new(
     }
 }
 
+/// Whether a new node is a leaf that is not deleted, beside these parents.
+fn is_live_new(parents: &BTreeSet<Rev>, rev: &Rev, entry: &Entry) -> bool
+    ensures { result ≡ is_live_new parents.now.keys rev.now entry.now }
+{
+    entry.is_marked(false) && !parents.contains(rev)
+}
+
+/// Whether the revision is a node that is not deleted.
+fn is_live_at(nodes: &BTreeMap<Rev, Entry>, rev: &Option<Rev>) -> bool
+    ensures { result ≡ is_live_at nodes.now.entries rev.now }
+{
+    let Some(rev) = rev else {
+        return false;
+    };
+    match nodes.get(rev) {
+        Some(entry) => entry.is_marked(false),
+        None => false,
+    }
+}
+
+/// Counts one more, or one less, or both.
+fn move_count(count: usize, gained: bool, lost: bool) -> usize
+    requires small { count < 2 ^ 63 }
+    requires enough { tally lost ≤ tally gained + count }
+    ensures { result + tally lost ≡ tally gained + count }
+{
+    let more = if gained { count + 1 } else { count };
+    if lost { more - 1 } else { more }
+}
+
 /// Takes in a parent, and answers it where it was none yet.
 fn put_parent(parents: &mut BTreeSet<Rev>, parent: Option<Rev>) -> Got<Option<Rev>>
     ensures ok { OnOk result (parents.new.keys ≡ parents_with parents.old.keys parent) }
+    ensures new { IfOk result (λ new. new ≡ new_parent parents.old.keys parent) }
     ensures undone { IfOk result (λ new. parents_without parents.new.keys new ≡ parents.old.keys) }
     ensures err { OnErr result (parents.new.keys ≡ parents.old.keys) }
 {

@@ -91,12 +91,10 @@ fn base(history: &History, rev: Option<Rev>) -> Option<Option<Rev>>
 fn extended(history: &History) -> Option<Option<Rev>>
     ensures { result ≡ extended_lem history.now (winner history.now) }
 {
-    let Some(winner) = history.winner() else {
-        return Some(None);
-    };
-    match history.body(winner) {
-        Some((true, _body)) => Some(Some(*winner)),
-        _ => None,
+    if history.is_live() {
+        None
+    } else {
+        Some(history.winner().copied())
     }
 }
 

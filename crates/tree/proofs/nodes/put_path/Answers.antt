@@ -11,6 +11,7 @@ loop-i-preserved c =
     record {
       sorted = c.put_new.ensures.sorted;
       parents = c.put_new.ensures.parents;
+      live = c.put_new.ensures.live;
       few = let a = inv.few in let b = c.note.ensures.len in omega arith;
       room = let a = inv.room in let b = c.note.ensures.capacity in omega arith;
       rest = path_step _ _ c.args.path.now c.args.parent c.loop-i.i c.index-path-i.result _ _ _ _ _ c.loop-i-test.true c.index-path-i.is (c.find_next.ensures ∙ ap (λ p. next_of p c.args.parent) (take_rest c.args.path.now (c.loop-i.i + 1))) c.take.ensures.value c.take.ensures.after c.in-Ok.ensures.ok inv.rest;
