@@ -2,6 +2,7 @@
 #![tactic(auto)]
 
 mod change_list;
+mod differences;
 mod document;
 mod fault;
 mod information;
@@ -12,6 +13,7 @@ mod path;
 mod shown;
 
 pub use change_list::changes;
+pub use differences::{AskedRevisions, revs_diff};
 pub use document::get;
 pub use fault::ReadFault;
 pub use information::info;
