@@ -1,6 +1,6 @@
 use Rattle.std.proofs.Common.{◌≡◌, [], map, drop}
 use Rattle.api.specs.Routing.{with_routes}
-use Rattle.api.proofs.routes.routed.Given as goal
+use Rattle.api.proofs.routes.build_router.Given as goal
 
 abbrev pub invariant-loop-text : goal.invariant-loop-text
 invariant-loop-text l =

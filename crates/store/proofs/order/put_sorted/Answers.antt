@@ -1,6 +1,6 @@
 use Rattle.std.proofs.Common.{set, sym, ap, ◌∙◌}
 use Rattle.store.proofs.Orders.{put_at, put_in}
-use Rattle.store.proofs.order.put.Goals as goal
+use Rattle.store.proofs.order.put_sorted.Goals as goal
 
 pub returns-in-Ok : goal.returns-in-Ok
 returns-in-Ok g c =

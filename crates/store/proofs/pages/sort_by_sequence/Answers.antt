@@ -2,11 +2,11 @@ use Rattle.std.proofs.Common.{◌≡◌, length, map, sym, ap, ◌∙◌, rules}
 use Rattle.store.specs.Pages.{put_in_sequence}
 use Rattle.store.specs.Paging.{sequence_rows}
 use Rattle.store.proofs.Pagings.{keyed, no_length, one_put, seconds-keyed}
-use Rattle.store.proofs.pages.in_sequence.Goals as goal
+use Rattle.store.proofs.pages.sort_by_sequence.Goals as goal
 
 pub loop-row-preserved : goal.loop-row-preserved
 loop-row-preserved c =
-    one_put c.loop-row.rows.items c.pop.new.self.items c.in-Some.row c.loop-row.ordered.items c.put.new.entries.items c.in-Some.ensures.items c.in_ok-put.ensures.ok
+    one_put c.loop-row.rows.items c.pop.new.self.items c.in-Some.row c.loop-row.ordered.items c.put_sorted.new.entries.items c.in-Some.ensures.items c.in_ok-put.ensures.ok
     ∙ c.loop-row.invariant
 
 pub returns : goal.returns

@@ -3,7 +3,7 @@ use Rattle.form_urlencoded.specs.Form.{raw_pairs}
 use Rattle.form_urlencoded.specs.Parse.{owned_pairs_left}
 use Rattle.api.specs.Queried.{texts_of}
 use Rattle.api.specs.Queries.{parameter_of}
-use Rattle.api.proofs.parameters.decoded.Given as goal
+use Rattle.api.proofs.parameters.decode_form.Given as goal
 
 abbrev pub invariant-loop-pair : goal.invariant-loop-pair
 invariant-loop-pair l =

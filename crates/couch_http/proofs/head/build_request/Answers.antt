@@ -5,7 +5,7 @@ use Rattle.httparse.specs.Spans.{span_bytes}
 use Rattle.couch_http.specs.Message.{header_field}
 use Rattle.couch_http.specs.Fields.{has_transfer_encoding, request_length, asks_close, path_of, query_of}
 use Rattle.couch_http.proofs.HeadLemmas.{with_body-announced}
-use Rattle.couch_http.proofs.head.announced.Goals as goal
+use Rattle.couch_http.proofs.head.build_request.Goals as goal
 
 pub returns : goal.returns
 returns c =

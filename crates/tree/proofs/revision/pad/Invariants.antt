@@ -1,5 +1,5 @@
 use Rattle.std.proofs.Common.{◌≡◌, ◌-◌, ◌++◌, take, replicate}
-use Rattle.tree.proofs.revision.padded.Given as goal
+use Rattle.tree.proofs.revision.pad.Given as goal
 
 -- the bytes so far, and zeros
 abbrev pub invariant-loop-i : goal.invariant-loop-i

@@ -1,7 +1,7 @@
 use Rattle.std.proofs.Common.{◌∙◌, ap}
 use Rattle.auth.specs.Roles.{without_trailing_blanks}
 use Rattle.auth.proofs.TrimLemmas.{trim_start_is, trim_end_is}
-use Rattle.auth.proofs.roles.trimmed.Goals as goal
+use Rattle.auth.proofs.roles.trim_blanks.Goals as goal
 
 pub returns : goal.returns
 returns c =

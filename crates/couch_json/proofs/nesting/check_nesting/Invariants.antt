@@ -1,7 +1,7 @@
 use Rattle.std.proofs.Common.{◌≡◌, ◌≤◌, drop, nat_lt}
 use Rattle.std.specs.List.{list_any}
 use Rattle.couch_json.specs.Nesting.{open_counts, max_open, nests_too_deep}
-use Rattle.couch_json.proofs.nesting.nests_too_deep.Given as goal
+use Rattle.couch_json.proofs.nesting.check_nesting.Given as goal
 
 abbrev pub invariant-loop-byte : goal.invariant-loop-byte
 invariant-loop-byte l = record {
