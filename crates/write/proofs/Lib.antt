@@ -8,3 +8,4 @@ pub mod BulkLemmas
 pub mod Judgings
 pub mod Plannings
 pub mod Settlings
+pub mod DesignRows

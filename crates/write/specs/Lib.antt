@@ -5,3 +5,5 @@ pub mod Bulk
 pub mod BulkResults
 pub mod Planning
 pub mod Settling
+pub mod Terms
+pub mod TermsRead
