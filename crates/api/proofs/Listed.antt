@@ -1,6 +1,7 @@
 -- The revisions of a list that is read one element at a time, and what parameters ask for once each value is known.
 use Rattle.std.proofs.Common.{◌≡◌, ℕ, true, List, [], ◌∷◌, ◌++◌, Option, Some, None, option_map, refl, sym, ap, append_assoc, codes}
 use Rattle.tree.specs.Revision.{Revision}
+use Rattle.read.specs.Differences.{RevisionsOf}
 use Rattle.api.specs.Queries.{are_named, asked_of_document, query_by, sole_value}
 
 -- the next revision joins those before it
@@ -8,6 +9,12 @@ pub revisions_go_on : (before : List Revision) (r : Revision) (rest : Option (Li
     → option_map (λ rs. before ++ rs) (option_map (λ rs. r ∷ rs) rest) ≡ option_map (λ rs. (before ++ r ∷ []) ++ rs) rest
 revisions_go_on before r None = refl
 revisions_go_on before r (Some rs) = ap Some (sym (append_assoc before (r ∷ []) rs))
+
+-- the next list joins those before it
+pub lists_go_on : (before : List RevisionsOf) (a : RevisionsOf) (rest : Option (List RevisionsOf))
+    → option_map (λ rs. before ++ rs) (option_map (λ rs. a ∷ rs) rest) ≡ option_map (λ rs. (before ++ a ∷ []) ++ rs) rest
+lists_go_on before a None = refl
+lists_go_on before a (Some rs) = ap Some (sym (append_assoc before (a ∷ []) rs))
 
 -- the parameters have no other names than the three, and these values
 pub asked_by_values : (parameters : List (List ℕ × List ℕ)) (rev open_revs revs : Option (List ℕ))
