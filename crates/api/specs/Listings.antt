@@ -1,7 +1,7 @@
 -- What the queries of a listing by id and of the changes ask for, and which revisions a request asks about.
 -- CouchDB manual, api/database/bulk-api (`startkey`, `endkey`, `inclusive_end`, `descending`, `skip`, `limit`), api/database/changes (`since`, `limit`, `style`) and api/database/misc (`_revs_diff`); that keys are JSON strings, and the greatest number, are this server's own.
 use Rattle.std.specs.Prelude.{ℕ, Bool, true, false, ◌&&◌, if◌then◌else◌, List, [], ◌∷◌, length, nat_le, Option, Some, None, option_map, option_and_then, Result, Ok, Err, bytes_eq, codes, unwrap_or}
-use Rattle.std.specs.Str.Ascii.{all_ascii_digits}
+use Rattle.std.specs.Str.{all_ascii_digits}
 use Rattle.std.specs.Str.Parse.{digits_value}
 use Rattle.couch_json.specs.Parts.{members_in, text_in}
 use Rattle.couch_json.specs.Reading.{reading}

@@ -1,7 +1,7 @@
 //! What the queries of listings ask for (CouchDB manual, api/database/bulk-api and api/database/changes).
 
 ghost use Rattle.std.specs.Prelude.{◌≡◌, IfOk, Some, codes, option_map};
-ghost use Rattle.std.specs.Str.Ascii.{all_ascii_digits};
+ghost use Rattle.std.specs.Str.{all_ascii_digits};
 ghost use Rattle.couch_http.specs.Message.{message_of};
 ghost use Rattle.api.specs.Saying.{Says};
 ghost use Rattle.api.specs.Queried.{texts_of};
