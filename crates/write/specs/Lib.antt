@@ -1,6 +1,8 @@
 pub mod Refusing
 pub mod Document
+pub mod Terms
 pub mod Admission
+pub mod Denials
 pub mod Bulk
 pub mod BulkResults
 pub mod Planning
