@@ -23,12 +23,12 @@ abbrev pub text_if : Bool → List ℕ → Option (List ℕ)
 text_if good text = if good then Some text else None
 
 -- the text that a part stands for, where it is UTF-8
-abbrev pub decoded : List ℕ → Option (List ℕ)
-decoded part = text_if (is_utf8 (percent_decode part)) (percent_decode part)
+abbrev pub decoded_text : List ℕ → Option (List ℕ)
+decoded_text part = text_if (is_utf8 (percent_decode part)) (percent_decode part)
 
 -- the text that the part at this place stands for
 abbrev pub decoded_at : ℕ → List ℕ → Option (List ℕ)
-decoded_at place path = option_and_then (λ part. decoded part) (part_at place path)
+decoded_at place path = option_and_then (λ part. decoded_text part) (part_at place path)
 
 abbrev pub name_if : List ℕ → Option (List ℕ)
 name_if text = text_if (is_database_name text) text

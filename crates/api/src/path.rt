@@ -3,7 +3,7 @@
 ghost use Rattle.std.specs.Prelude.{◌≡◌, IfOk, false, option_map, option_copied, string_bytes};
 ghost use Rattle.tree.specs.DocumentId.{is_design_id, is_local_id};
 ghost use Rattle.api.specs.Saying.{Says};
-ghost use Rattle.api.specs.Paths.{database_name_in, decoded, decoded_at, document_id_in, part_at, text_if};
+ghost use Rattle.api.specs.Paths.{database_name_in, decoded_text, decoded_at, document_id_in, part_at, text_if};
 ghost use Rattle.api.specs.Refusals.{there_or};
 ghost use Rattle.std.specs.Str.{is_utf8};
 
@@ -55,7 +55,7 @@ fn decoded_part(alloc: Global, path: &str, place: usize) -> Got<Option<String>>
     ensures { IfOk result (λ text. option_map string_bytes text ≡ decoded_at place path.now) }
 {
     match part(path.as_bytes(), place) {
-        Some(part) => decoded(alloc, part),
+        Some(part) => decode_part(alloc, part),
         None => Ok(None),
     }
 }
@@ -68,8 +68,8 @@ fn part(path: &[u8], place: usize) -> Option<&[u8]>
 }
 
 /// The text that a part of a path stands for, where it is UTF-8.
-fn decoded(alloc: Global, part: &[u8]) -> Got<Option<String>>
-    ensures { IfOk result (λ text. option_map string_bytes text ≡ decoded part.now) }
+fn decode_part(alloc: Global, part: &[u8]) -> Got<Option<String>>
+    ensures { IfOk result (λ text. option_map string_bytes text ≡ decoded_text part.now) }
 {
     let mut bytes = Vec::new(alloc);
     percent_decode(part).append_to(&mut bytes)?;

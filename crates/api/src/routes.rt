@@ -39,7 +39,7 @@ impl Routes {
     /// Makes the router. Want of memory is its one refusal.
     #[tactic(auto, unfolding(crate::specs::Routing::table))]
     pub fn new(alloc: Global) -> Got<Routes> {
-        let router = routed(alloc, &ROUTES)?;
+        let router = build_router(alloc, &ROUTES)?;
         Ok(Routes { router })
     }
 
@@ -55,7 +55,7 @@ impl Routes {
 }
 
 /// A router with these routes.
-fn routed(alloc: Global, routes: &[(&str, Page)]) -> Got<Router<Page>>
+fn build_router(alloc: Global, routes: &[(&str, Page)]) -> Got<Router<Page>>
     ensures { IfOk result (λ router. router ≡ with_routes (map (λ r. (r.0.now, r.1)) routes.now) []) }
 {
     let mut router = Router::new(alloc);

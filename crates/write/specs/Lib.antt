@@ -7,3 +7,5 @@ pub mod Bulk
 pub mod BulkResults
 pub mod Planning
 pub mod Settling
+pub mod Terms
+pub mod TermsRead
