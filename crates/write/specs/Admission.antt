@@ -1,7 +1,6 @@
 -- What becomes of a write of a document, on the terms of its database: a bad document, a denial, a conflict or a bad history, no further generation, or the write that is appended.
 -- CouchDB manual, api/document/common (`PUT` and `DELETE /{db}/{docid}`: 409 where the revision is not the one to follow), api/database/bulk-api (`new_edits`), replication/conflicts and ddocs/ddocs ("Validate Document Update Functions"); the order of the refusals is this server's own.
-use Rattle.std.specs.Prelude.{ℕ, ◌==◌, Bool, not, ◌&&◌, if◌then◌else◌, List, [], ◌∷◌, length, Option, Some, None, option_map, option_and_then, Result, Ok, Err}
-use Rattle.std.specs.Option.{option_or}
+use Rattle.std.specs.Prelude.{ℕ, ◌==◌, Bool, false, if◌then◌else◌, List, [], ◌∷◌, find, is_some, length, Option, Some, None, option_map, option_and_then, Result, Ok, Err}
 use Rattle.std.specs.Ordering.{eq_by_cmp}
 use Rattle.couch_json.specs.Value.{Value}
 use Rattle.tree.specs.DocumentId.{is_design_id}
@@ -32,27 +31,24 @@ write_at id path sent = record { id = id; write = record { path = path; deleted 
 -- ---- denials
 
 -- the document that is written, as the update rules see it
-abbrev pub new_document : List ℕ → Sent → NewDocument
-new_document id sent = record { id = id; deleted = sent.deleted; body = sent.body }
+abbrev pub document_of : List ℕ → Sent → NewDocument
+document_of id sent = record { id = id; deleted = sent.deleted; body = sent.body }
 
--- a revision of the document, as they see it, where its body is held
-abbrev pub old_document : List ℕ → HistoryContent → Revision → Option OldDocument
-old_document id h r = option_map (λ d. record { id = id; rev = r; deleted = d.deleted; body = d.body }) (held_of h r)
-
--- the first of these revisions whose body is held
-abbrev pub nearest_document : List ℕ → HistoryContent → List Revision → Option OldDocument
-nearest_document id h [] = None
-nearest_document id h (r ∷ rs) = option_or (old_document id h r) (nearest_document id h rs)
+-- a revision of the document, as they see it, where there is one and its body is held
+abbrev pub document_at : List ℕ → HistoryContent → Option Revision → Option OldDocument
+document_at id h rev = option_and_then (λ r. option_map (λ d. record { id = id; rev = r; deleted = d.deleted; body = d.body }) (held_of h r)) rev
 
 -- the rule by which the caller may not write this document, whatever it says: he has to be an admin of the database for a design
 -- document
 abbrev pub design_refusal : Terms → List ℕ → Option Rule
 design_refusal terms id = if is_design_id id then verdict WriteDesign terms.caller terms.security else None
 
--- the first update rule that does not hold of the document that is written and the one before it; design documents are subject to none
-abbrev pub rule_refusal : Terms → NewDocument → Option OldDocument → Option Rule
-rule_refusal terms new old =
-    if is_design_id new.id then None else update_verdict terms.rules (argument new old terms.caller terms.name terms.security)
+-- the first update rule that does not hold of the document that is written and of this revision of it; a design document is subject
+-- to none
+abbrev pub rule_refusal : Terms → List ℕ → HistoryContent → Sent → Option Revision → Option Rule
+rule_refusal terms id h sent rev =
+    if is_design_id id then None
+    else update_verdict terms.rules (argument (document_of id sent) (document_at id h rev) terms.caller terms.name terms.security)
 
 -- the outcome where no rule refuses, else the denial
 abbrev pub unless_denied : {A : Type 0} → Option Rule → Result A WriteFault → Result A WriteFault
@@ -85,31 +81,32 @@ abbrev pub base : HistoryContent → Option Revision → Option (Option Revision
 base h None = extended_leaf h (winner h)
 base h (Some r) = if is_leaf h r then Some (Some r) else None
 
--- the document that an edit follows, as the update rules see it
-abbrev pub base_document : List ℕ → HistoryContent → Option Revision → Option OldDocument
-base_document id h parent = option_and_then (λ r. old_document id h r) parent
+-- the revision that an edit makes which follows this one, or none before it; no revision follows one of the greatest number
+abbrev pub revision_after : Sent → Option Revision → Option Revision
+revision_after sent parent =
+    if number_before parent == greatest_number then None else Some (next_revision parent sent.deleted sent.body)
 
--- the write of a body, with its mark of deletion, as the next revision after a known one, or as a first one
-abbrev pub next_write : List ℕ → HistoryContent → Bool → Value → Option Revision → DocumentWrite
-next_write id h deleted body parent =
-    record { id = id; write = record { path = next_revision parent deleted body ∷ behind h parent; deleted = deleted; body = body } }
+abbrev pub is_known_if_any : HistoryContent → Option Revision → Bool
+is_known_if_any h None = false
+is_known_if_any h (Some r) = is_known h r
 
--- no revision follows one of the greatest number
-abbrev pub is_last : Option Revision → Bool
-is_last parent = number_before parent == greatest_number
+-- the path of an edit that makes this revision after another one
+abbrev pub edit_path : HistoryContent → Option Revision → Revision → List Revision
+edit_path h parent r = r ∷ behind h parent
 
--- the revision that the edit makes is known already; after the greatest number it makes none
-abbrev pub is_repeated : HistoryContent → Sent → Option Revision → Bool
-is_repeated h sent parent = not (is_last parent) && is_known h (next_revision parent sent.deleted sent.body)
+abbrev pub appended_edit : List ℕ → HistoryContent → Sent → Option Revision → Option Revision → Result DocumentWrite WriteFault
+appended_edit id h sent parent None = Err Generation
+appended_edit id h sent parent (Some r) = Ok (write_at id (edit_path h parent r) sent)
 
-abbrev pub appended_edit : List ℕ → HistoryContent → Sent → Option Revision → Result DocumentWrite WriteFault
-appended_edit id h sent parent = if is_last parent then Err Generation else Ok (next_write id h sent.deleted sent.body parent)
+-- what becomes of an edit that follows one revision and makes another: a conflict where that is known, a denial where an update rule
+-- does not hold, no further generation where there is none to make, or the write
+abbrev pub edit_making : Terms → List ℕ → HistoryContent → Sent → Option Revision → Option Revision → Result DocumentWrite WriteFault
+edit_making terms id h sent parent next =
+    if is_known_if_any h next then Err Conflict
+    else unless_denied (rule_refusal terms id h sent parent) (appended_edit id h sent parent next)
 
--- what becomes of an edit that follows this revision: a conflict, a denial, no further generation, or the write
 abbrev pub next_edit : Terms → List ℕ → HistoryContent → Sent → Option Revision → Result DocumentWrite WriteFault
-next_edit terms id h sent parent =
-    if is_repeated h sent parent then Err Conflict
-    else unless_denied (rule_refusal terms (new_document id sent) (base_document id h parent)) (appended_edit id h sent parent)
+next_edit terms id h sent parent = edit_making terms id h sent parent (revision_after sent parent)
 
 abbrev pub edit_after : Terms → List ℕ → HistoryContent → Sent → Option (Option Revision) → Result DocumentWrite WriteFault
 edit_after terms id h sent None = Err Conflict
@@ -138,6 +135,10 @@ abbrev pub ancestors : List Revision → List Revision
 ancestors [] = []
 ancestors (r ∷ rs) = rs
 
+-- the first of these revisions whose body is held
+abbrev pub nearest_held : HistoryContent → List Revision → Option Revision
+nearest_held h rs = find (λ r. is_some (held_of h r)) rs
+
 -- where the history has a place for a path that says how many revisions it has: with fewer, or more, it is not whole
 abbrev pub ancestry_placement : HistoryContent → ℕ × List Revision → Result Placed TreeFault
 ancestry_placement h (start, path) = if start == length path then placement h path else Err BadPath
@@ -147,7 +148,7 @@ abbrev pub placement_outcome : Terms → List ℕ → HistoryContent → Sent �
 placement_outcome terms id h sent path (Err fault) = Err BadHistory
 placement_outcome terms id h sent path (Ok Known) = Ok None
 placement_outcome terms id h sent path (Ok Added) =
-    unless_denied (rule_refusal terms (new_document id sent) (nearest_document id h (ancestors path))) (Ok (Some (write_at id path sent)))
+    unless_denied (rule_refusal terms id h sent (nearest_held h (ancestors path))) (Ok (Some (write_at id path sent)))
 
 abbrev pub ancestry_outcome : Terms → List ℕ → HistoryContent → Sent → Option (ℕ × List Revision) → Result (Option DocumentWrite) WriteFault
 ancestry_outcome terms id h sent None = Err BadDocument
