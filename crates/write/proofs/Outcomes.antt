@@ -63,8 +63,8 @@ pub record IsEdit (id : List ℕ) (h : HistoryContent) (query : Option Revision)
   pub unknown : is_known h rev ≡ false
   pub is : v ≡ write_at id (edit_path h parent rev) sent
 
-same_write : (w v : DocumentWrite) → Ok w ≡ Ok v → v ≡ w
-same_write w v e = cc
+same_write : (w v : DocumentWrite) (r : Result DocumentWrite WriteFault) → r ≡ Ok w → r ≡ Ok v → v ≡ w
+same_write w v r is e = cc
 
 made : (terms : Terms) (id : List ℕ) (h : HistoryContent) (query : Option Revision) (document : Value) (sent : Sent) (parent next : Option Revision) (v : DocumentWrite)
     → edit_of id query document ≡ Some sent → base h sent.rev ≡ Some parent → revision_after sent parent ≡ next
@@ -85,7 +85,7 @@ made terms id h query document sent parent (Some r) v says follows makes e = by 
       follows = follows;
       makes = makes;
       unknown = k;
-      is = same_write (write_at id (edit_path h parent r) sent) v
+      is = same_write (write_at id (edit_path h parent r) sent) v _ refl
           (undenied (rule_refusal terms id h sent parent) (Ok (write_at id (edit_path h parent r) sent)) v e);
     }
 
@@ -119,6 +119,7 @@ made_denied terms id h sent parent (Some r) rule e = by (is_known h r) e
     of_rule : (rule_refusal terms id h sent parent ≡ Some rule) ⊎ (appended_edit id h sent parent (Some r) ≡ Err (Denied rule)) → IsUpdateDenial terms id h sent parent rule
     of_rule (inl k) = update_denial terms id h sent parent rule k
     of_rule (inr k) = absurd cc
+
     by : (known : Bool)
         → cond known (Err Conflict) (unless_denied (rule_refusal terms id h sent parent) (appended_edit id h sent parent (Some r))) ≡ Err (Denied rule)
         → IsUpdateDenial terms id h sent parent rule

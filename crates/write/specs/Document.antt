@@ -158,12 +158,20 @@ is_newest start (r ∷ path) (Some s) = (s.number == start) && bytes_eq s.hash r
 abbrev pub ancestry_of : Option Revision → ℕ × List Revision → Option (ℕ × List Revision)
 ancestry_of rev (start, path) = if is_newest start path rev then Some (start, path) else None
 
-abbrev pub ancestry_by : Option Value → Option Revision → Option (ℕ × List Revision)
-ancestry_by None rev = option_map (λ r. (1, r ∷ [])) rev
-ancestry_by (Some v) rev = option_and_then (λ said. ancestry_of rev said) (revisions_in v)
+-- a revision that comes alone is the whole history
+abbrev pub ancestry_alone : Revision → ℕ × List Revision
+ancestry_alone r = (1, r ∷ [])
+
+abbrev pub ancestry_by : Option (Option (ℕ × List Revision)) → Option Revision → Option (ℕ × List Revision)
+ancestry_by None rev = option_map ancestry_alone rev
+ancestry_by (Some said) rev = option_and_then (ancestry_of rev) said
+
+-- what `_revisions` says, where it is given
+abbrev pub given_revisions : Value → Option (Option (ℕ × List Revision))
+given_revisions document = option_map revisions_in (member_of document (codes "_revisions"))
 
 -- The history of a replicated document that names this revision: how many revisions it has, as the document says, and its revisions,
 -- newest first. It is that of `_revisions`, or the one revision; without both, or where they say different things, there is none,
 -- and it is a bad document.
 abbrev pub ancestry_in : Value → Option Revision → Option (ℕ × List Revision)
-ancestry_in document rev = ancestry_by (member_of document (codes "_revisions")) rev
+ancestry_in document rev = ancestry_by (given_revisions document) rev

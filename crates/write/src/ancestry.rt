@@ -1,37 +1,48 @@
 //! The history that a replicated document comes with: `_revisions`, or its one revision.
 
-ghost use Rattle.std.specs.Prelude.{◌≡◌, ◌∷◌, [], IfOk, option_map, option_and_then};
+ghost use Rattle.std.specs.Prelude.{◌≡◌, IfOk, option_map, option_and_then};
 ghost use Rattle.couch_json.specs.Parts.{text_in};
 ghost use Rattle.couch_json.specs.View.{view, items_view};
 ghost use Rattle.tree.specs.Revision.{Revision, revision_of};
-ghost use Rattle.write.specs.Document.{ancestry_in, ancestry_of, is_newest, natural, number_if, path_of, revisions_in, start_in};
+ghost use Rattle.write.specs.Document.{ancestry_alone, ancestry_by, ancestry_of, given_revisions, is_newest, natural, number_if, path_of, revisions_in, start_in};
 
 use couch_json::{Got, Json};
 use std::alloc::Global;
 use tree::Rev;
 
-/// Reads the history of a replicated document that names this revision: how many revisions it has,
-/// as the document says, and its revisions, newest first. `None` where the document comes without
-/// one, or says different things of it.
-pub(crate) fn read_ancestry(
-    alloc: Global,
-    document: &Json,
-    rev: Option<Rev>,
-) -> Got<Option<(u32, Vec<Rev>)>>
-    ensures { IfOk result (λ ancestry. option_map (λ a. (a.0, a.1.items)) ancestry ≡ ancestry_in (view document.now) rev) }
+/// The history that a document says it has: how many revisions, and these, newest first.
+pub(crate) type Ancestry = (u32, Vec<Rev>);
+
+/// Reads what `_revisions` says, where it is given: `Some(None)` where it is not of its form.
+pub(crate) fn read_given(alloc: Global, document: &Json) -> Got<Option<Option<Ancestry>>>
+    ensures { IfOk result (λ given. option_map (λ said. option_map (λ a. (a.0, a.1.items)) said) given ≡ given_revisions (view document.now)) }
 {
-    let Some(value) = document.member("_revisions") else {
-        return make_alone(alloc, rev);
-    };
-    match read_revisions(alloc, value)? {
-        Some((start, path)) => Ok(match_newest(start, path, rev)),
+    match document.member("_revisions") {
+        Some(value) => Ok(Some(read_revisions(alloc, value)?)),
         None => Ok(None),
     }
 }
 
+/// Finds the history of a replicated document that names this revision: what `_revisions` says, or
+/// the revision alone. `None` where the document comes without one, or says different things of it.
+pub(crate) fn find_ancestry(
+    alloc: Global,
+    given: Option<Option<Ancestry>>,
+    rev: Option<Rev>,
+) -> Got<Option<Ancestry>>
+    ensures { IfOk result (λ ancestry. option_map (λ a. (a.0, a.1.items)) ancestry
+        ≡ ancestry_by (option_map (λ said. option_map (λ a. (a.0, a.1.items)) said) given) rev) }
+{
+    match given {
+        Some(Some((start, path))) => Ok(match_newest(start, path, rev)),
+        Some(None) => Ok(None),
+        None => make_alone(alloc, rev),
+    }
+}
+
 /// Makes the history of a revision that comes alone.
-fn make_alone(alloc: Global, rev: Option<Rev>) -> Got<Option<(u32, Vec<Rev>)>>
-    ensures { IfOk result (λ ancestry. option_map (λ a. (a.0, a.1.items)) ancestry ≡ option_map (λ r. (1, r ∷ [])) rev) }
+fn make_alone(alloc: Global, rev: Option<Rev>) -> Got<Option<Ancestry>>
+    ensures { IfOk result (λ ancestry. option_map (λ a. (a.0, a.1.items)) ancestry ≡ option_map ancestry_alone rev) }
 {
     let Some(rev) = rev else {
         return Ok(None);
@@ -42,7 +53,7 @@ fn make_alone(alloc: Global, rev: Option<Rev>) -> Got<Option<(u32, Vec<Rev>)>>
 }
 
 /// Keeps the history whose newest revision is the one that the document names, if it names one.
-fn match_newest(start: u32, path: Vec<Rev>, rev: Option<Rev>) -> Option<(u32, Vec<Rev>)>
+fn match_newest(start: u32, path: Vec<Rev>, rev: Option<Rev>) -> Option<Ancestry>
     ensures { option_map (λ a. (a.0, a.1.items)) result ≡ ancestry_of rev (start, path.items) }
 {
     if is_newest(start, &path, rev) {
@@ -64,7 +75,7 @@ fn is_newest(start: u32, path: &[Rev], rev: Option<Rev>) -> bool
 }
 
 /// Reads what `_revisions` says; `None` where it is not of its form.
-fn read_revisions(alloc: Global, value: &Json) -> Got<Option<(u32, Vec<Rev>)>>
+fn read_revisions(alloc: Global, value: &Json) -> Got<Option<Ancestry>>
     ensures { IfOk result (λ said. option_map (λ a. (a.0, a.1.items)) said ≡ revisions_in (view value.now)) }
 {
     if !value.has_only(&["start", "ids"]) {

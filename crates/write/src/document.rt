@@ -40,7 +40,7 @@ pub(crate) fn read_document(alloc: Global, id: &DocId, document: Json) -> Got<Op
 
 /// Reads the revision and the mark of deletion that a document says; `None` where its id is another
 /// one or one of them is not of its form.
-pub(crate) fn read_words(id: &DocId, document: &Json) -> Option<(Option<Rev>, bool)>
+fn read_words(id: &DocId, document: &Json) -> Option<(Option<Rev>, bool)>
     ensures { result ≡ words_in id.now (view document.now) }
 {
     if !fits_id(id, document.member("_id")) {
@@ -53,7 +53,7 @@ pub(crate) fn read_words(id: &DocId, document: &Json) -> Option<(Option<Rev>, bo
 
 /// Reads the body of a document with this id; `None` where it is no object, has special members that
 /// no document has, nests too deep, or is not the body that a design document may have.
-pub(crate) fn read_body(alloc: Global, id: &DocId, document: Json) -> Got<Option<Json>>
+fn read_body(alloc: Global, id: &DocId, document: Json) -> Got<Option<Json>>
     ensures { IfOk result (λ body. option_map view body ≡ body_for id.now (view document)) }
 {
     let Some(body) = strip(document) else {

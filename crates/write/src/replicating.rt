@@ -15,9 +15,9 @@ ghost use Rattle.write.specs.Refusing.{IsDecided, IsOwn, Refuses};
 ghost use Rattle.write.specs.Terms.{terms_in};
 ghost use Rattle.write.specs.TermsRead.{terms_of};
 
-use crate::ancestry::read_ancestry;
+use crate::ancestry::{find_ancestry, read_given};
 use crate::denial::{find_design_refusal, find_nearest_held, find_rule_refusal};
-use crate::document::{Sent, read_body, read_words};
+use crate::document::{Sent, read_document};
 use crate::fault::WriteFault;
 use crate::planned::Planned;
 use crate::planning::{plan_alone, read_label};
@@ -26,7 +26,7 @@ use auth::Caller;
 use couch_json::Json;
 use std::alloc::Global;
 use store::{DbName, Store, Write};
-use tree::{Body, DocId, History, Placed, Rev, TreeFault};
+use tree::{DocId, History, Placed, Rev, TreeFault};
 
 /// Plans what becomes of a replicated document, which is no local one. It reads the store and changes
 /// nothing.
@@ -83,29 +83,17 @@ pub(crate) fn admit_replicated(
     ensures fault { IfErr result (λ fault. fault ≢ WriteFault.Memory → replicated_outcome (terms_of terms.now) id.now history.now (view document) ≡ Err fault) }
     ensures others { IfErr result (λ fault. (fault ≢ WriteFault.Conflict) × (fault ≢ WriteFault.Generation) × ((cause : _) → fault ≢ WriteFault.Store cause)) }
 {
-    let Some((rev, deleted)) = read_words(id, &document) else {
+    let given = read_given(alloc, &document)?;
+    let Some(sent) = read_document(alloc, id, document)? else {
         return Err(WriteFault::BadDocument);
     };
-    let ancestry = read_ancestry(alloc, &document, rev)?;
-    let Some(body) = read_body(alloc, id, document)? else {
-        return Err(WriteFault::BadDocument);
-    };
-    let Some((start, path)) = ancestry else {
+    let Some((start, path)) = find_ancestry(alloc, given, sent.rev)? else {
         return Err(WriteFault::BadDocument);
     };
     if let Some(rule) = find_design_refusal(terms, id) {
         return Err(WriteFault::Denied(rule));
     }
-    let body = Body::new(body);
-    place(
-        alloc,
-        terms,
-        history,
-        id,
-        Sent { rev, deleted, body },
-        start,
-        path,
-    )
+    place(alloc, terms, history, id, sent, start, path)
 }
 
 /// Writes what is sent where the history has a place for this path as that of a new revision; nothing
