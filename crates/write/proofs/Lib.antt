@@ -10,3 +10,4 @@ pub mod BulkLemmas
 pub mod Judgings
 pub mod Plannings
 pub mod Settlings
+pub mod DesignRows

@@ -1,18 +1,23 @@
 //! The terms on which a caller writes.
 
-ghost use Rattle.std.specs.Prelude.{◌≡◌, ◌≢◌, true, IfOk, IfErr, None, is_some};
+ghost use Rattle.std.specs.Prelude.{◌≡◌, ◌≢◌, true, IfOk, IfErr, None, OnOk, Some, flat_map, is_some};
 ghost use Rattle.std.specs.FinMap as map;
 ghost use Rattle.store.specs.Calls.{OnlyReads};
 ghost use Rattle.store.specs.Contents.{IfThere};
+ghost use Rattle.store.specs.Database.{Database};
+ghost use Rattle.tree.specs.DocumentId.{is_design_id};
+ghost use Rattle.policy.specs.UpdateRules.{rules_of, with_rules};
 ghost use Rattle.write.specs.Refusing.{IsDecided, Refuses};
-ghost use Rattle.write.specs.Terms.{terms_in};
-ghost use Rattle.write.specs.TermsRead.{terms_of};
+ghost use Rattle.write.specs.Terms.{as_design_document, live_body, rules_in, terms_in};
+ghost use Rattle.write.specs.TermsRead.{IsDesignRange, document_at, terms_of};
 
 use crate::fault::WriteFault;
 use auth::Caller;
+use couch_json::Got;
 use policy::{RuleSet, Security};
 use std::alloc::Global;
-use store::{DbName, IdRange, Store};
+use store::{DbName, IdRange, IdRow, Store};
+use tree::{DocId, History};
 
 /// The terms on which a caller writes into a database, as a request finds it.
 #[derive(Drop)]
@@ -51,4 +56,87 @@ pub fn read_terms<'a, S: Store>(
         security,
         rules,
     })
+}
+
+/// Reads the update rules of a database.
+fn read_rules<S: Store>(alloc: Global, store: &mut S, db: &DbName) -> Result<RuleSet, WriteFault>
+    ensures rules { S.is_honest store.new → IfOk result (λ rules. IfThere (map.get (S.contents store.old) db.now) (λ d. rules ≡ rules_in d)) }
+    ensures only { IfErr result (λ fault. fault ≢ WriteFault.Memory → ((cause : _) → fault ≢ WriteFault.Store cause) → ⊥) }
+    ensures passed { IfErr result (Refuses S.Store store.old store.new (map.get (S.contents store.old) db.now ≡ None) ⊥) }
+    ensures reads { OnlyReads S.Store store.old store.new }
+{
+    let range = design_range(alloc)?;
+    let page = store.page_by_id(db, &range)?;
+    take_rules(alloc, store, db, &page.rows)
+}
+
+/// Builds a range by id in which all design documents are.
+fn design_range(alloc: Global) -> Got<IdRange>
+    ensures { IfOk result IsDesignRange }
+{
+    Ok(IdRange {
+        start: Some(String::from_str(alloc, "_design/")?),
+        end: Some(String::from_str(alloc, "_design0")?),
+        inclusive_end: false,
+        descending: false,
+        skip: 0,
+        limit: None,
+        counted: false,
+    })
+}
+
+/// Takes the rules of those of the rows that are design documents.
+fn take_rules<S: Store>(
+    alloc: Global,
+    store: &mut S,
+    db: &DbName,
+    rows: &[IdRow],
+) -> Result<RuleSet, WriteFault>
+    ensures rules { S.is_honest store.new → IfOk result (λ rules. (d : Database) → map.get (S.contents store.old) db.now ≡ Some d
+        → rules ≡ rules_of (flat_map (λ r. document_at d r.id) rows.now)) }
+    ensures only { IfErr result (λ fault. fault ≢ WriteFault.Memory → ((cause : _) → fault ≢ WriteFault.Store cause) → ⊥) }
+    ensures passed { IfErr result (Refuses S.Store store.old store.new (map.get (S.contents store.old) db.now ≡ None) ⊥) }
+    ensures reads { OnlyReads S.Store store.old store.new }
+{
+    let mut rules = RuleSet::new(alloc);
+    for row in rows {
+        take_rule(store, db, &row.id, &mut rules)?;
+    }
+    Ok(rules)
+}
+
+/// Takes in the rule of a document, if it is a design document and declares one.
+fn take_rule<S: Store>(
+    store: &mut S,
+    db: &DbName,
+    id: &DocId,
+    rules: &mut RuleSet,
+) -> Result<(), WriteFault>
+    ensures rules { S.is_honest store.new → OnOk result ((d : Database) → map.get (S.contents store.old) db.now ≡ Some d
+        → rules.new ≡ with_rules rules.old (document_at d id.now)) }
+    ensures only { IfErr result (λ fault. fault ≢ WriteFault.Memory → ((cause : _) → fault ≢ WriteFault.Store cause) → ⊥) }
+    ensures passed { IfErr result (Refuses S.Store store.old store.new (map.get (S.contents store.old) db.now ≡ None) ⊥) }
+    ensures reads { OnlyReads S.Store store.old store.new }
+{
+    if !id.is_design() {
+        return Ok(());
+    }
+    let history = store.history(db, id)?;
+    put_rule(rules, id, &history)?;
+    Ok(())
+}
+
+/// Puts in the rule of a design document with this history, if its winner is not deleted and
+/// declares one.
+fn put_rule(rules: &mut RuleSet, id: &DocId, history: &History) -> Got<()>
+    requires { is_design_id id.now ≡ true }
+    ensures ok { OnOk result (rules.new ≡ with_rules rules.old (as_design_document id.now (live_body history.now))) }
+{
+    let Some(rev) = history.winner() else {
+        return Ok(());
+    };
+    match history.body(rev) {
+        Some((false, body)) => rules.put(id, body),
+        _ => Ok(()),
+    }
 }

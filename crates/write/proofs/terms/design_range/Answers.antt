@@ -1,0 +1,13 @@
+-- The range has all design documents.
+use Rattle.std.proofs.Common.{Some, option_map, refl, ap}
+use Rattle.std.specs.Prelude.{string_bytes}
+use Rattle.write.proofs.DesignRows.{design_within}
+use Rattle.write.proofs.terms.design_range.Goals as goal
+
+pub returns : goal.returns
+returns c = record {
+  whole = refl;
+  from_the_first = refl;
+  ascending = refl;
+  within = λ id h. design_within _ _ id (ap Some c.in_ok-from_str.ensures.ok) (ap Some c.in_ok-from_str-2.ensures.ok) h;
+}
