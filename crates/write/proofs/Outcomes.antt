@@ -1,5 +1,5 @@
 -- What is known of a write that was accepted, and of one that was denied.
-use Rattle.std.proofs.Common.{◌≡◌, ◌⊎◌, ◌==◌, ℕ, Bool, true, false, cond, List, length, Option, Some, None, option_and_then, Result, Ok, Err, refl, ap, sym, subst, ◌∙◌, inl, inr}
+use Rattle.std.proofs.Common.{◌≡◌, ◌⊎◌, ◌==◌, ℕ, Bool, true, false, cond, List, length, Option, Some, None, option_and_then, Result, Ok, Err, refl, inl, inr}
 use Rattle.couch_json.specs.Value.{Value}
 use Rattle.policy.specs.Argument.{argument}
 use Rattle.policy.specs.UpdateRules.{update_verdict}
@@ -14,8 +14,7 @@ use Rattle.tree.specs.declared.placement.Placed.TheVariants.{Added, Known}
 use Rattle.tree.specs.declared.placement.TreeFault.{TreeFault}
 use Rattle.tree.specs.declared.placement.TreeFault.TheVariants.{BadPath}
 use Rattle.store.specs.Database.{DocumentWrite}
-use Rattle.write.specs.Admission.{ancestors, ancestry_outcome, ancestry_placement, appended_edit, base, design_refusal, document_at, document_of, edit_after, edit_by, edit_making, edit_of, edit_outcome, edit_path, is_known_if_any, nearest_held, placement_outcome, replicated_by, replicated_outcome, revision_after, rule_refusal, unless_denied, write_at}
-use Rattle.write.specs.Bulk.{as_outcome}
+use Rattle.write.specs.Admission.{ancestors, ancestry_outcome, ancestry_placement, appended_edit, base, design_refusal, held_document, document_of, edit_after, edit_by, edit_making, edit_of, edit_outcome, edit_path, nearest_held, placement_outcome, replicated_by, replicated_outcome, revision_after, rule_refusal, unless_denied, write_at}
 use Rattle.write.specs.Denials.{EditIsDueTo, IsDesignDenial, IsDueTo, IsUpdateDenial, ReplicationIsDueTo}
 use Rattle.write.specs.Document.{ancestry_in, sent_in}
 use Rattle.write.specs.Terms.{Terms}
@@ -45,7 +44,7 @@ update_denial : (terms : Terms) (id : List ℕ) (h : HistoryContent) (sent : Sen
 update_denial terms id h sent rev rule e = by (is_design_id id) refl e
   where
     by : (b : Bool) → is_design_id id ≡ b
-        → cond b None (update_verdict terms.rules (argument (document_of id sent) (document_at id h rev) terms.caller terms.name terms.security)) ≡ Some rule
+        → cond b None (update_verdict terms.rules (argument (document_of id sent) (held_document id h rev) terms.caller terms.name terms.security)) ≡ Some rule
         → IsUpdateDenial terms id h sent rev rule
     by true d k = absurd cc
     by false d k = record { other = d; first = k }

@@ -1,5 +1,5 @@
 -- Replicated documents are known afterwards, or refused.
-use Rattle.std.proofs.Common.{◌≡◌, ℕ, Bool, true, false, cond, List, [], ◌∷◌, Option, Some, None, Result, Ok, Err, refl, ap, ◌∙◌, subst, sym, inl}
+use Rattle.std.proofs.Common.{◌≡◌, ℕ, Bool, true, false, cond, List, [], ◌∷◌, Option, Some, None, Ok, Err, refl, ap, ◌∙◌, subst, sym, inl}
 use Rattle.std.specs.Prelude.{IsTrue, is_some}
 use Rattle.std.specs.FinMap.{find}
 use Rattle.std.proofs.lemmas.Slice.Eq.{bytes_eq-Decides}
@@ -10,7 +10,6 @@ use Rattle.tree.specs.History.{HistoryContent, is_known, placement, with_write, 
 use Rattle.tree.specs.declared.entry.Entry.{Entry}
 use Rattle.tree.specs.declared.placement.Placed.{Placed}
 use Rattle.tree.specs.declared.placement.Placed.TheVariants.{Added, Known}
-use Rattle.tree.specs.declared.placement.TreeFault.{TreeFault}
 use Rattle.tree.specs.declared.placement.TreeFault.TheVariants.{BadPath, OtherParent}
 use Rattle.tree.proofs.Contents.{entry_kept, or, write_shows}
 use Rattle.tree.proofs.Shown.{stands_found}

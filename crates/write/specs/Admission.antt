@@ -35,8 +35,8 @@ abbrev pub document_of : List ℕ → Sent → NewDocument
 document_of id sent = record { id = id; deleted = sent.deleted; body = sent.body }
 
 -- a revision of the document, as they see it, where there is one and its body is held
-abbrev pub document_at : List ℕ → HistoryContent → Option Revision → Option OldDocument
-document_at id h rev = option_and_then (λ r. option_map (λ d. record { id = id; rev = r; deleted = d.deleted; body = d.body }) (held_of h r)) rev
+abbrev pub held_document : List ℕ → HistoryContent → Option Revision → Option OldDocument
+held_document id h rev = option_and_then (λ r. option_map (λ d. record { id = id; rev = r; deleted = d.deleted; body = d.body }) (held_of h r)) rev
 
 -- the rule by which the caller may not write this document, whatever it says: he has to be an admin of the database for a design
 -- document
@@ -48,7 +48,7 @@ design_refusal terms id = if is_design_id id then verdict WriteDesign terms.call
 abbrev pub rule_refusal : Terms → List ℕ → HistoryContent → Sent → Option Revision → Option Rule
 rule_refusal terms id h sent rev =
     if is_design_id id then None
-    else update_verdict terms.rules (argument (document_of id sent) (document_at id h rev) terms.caller terms.name terms.security)
+    else update_verdict terms.rules (argument (document_of id sent) (held_document id h rev) terms.caller terms.name terms.security)
 
 -- the outcome where no rule refuses, else the denial
 abbrev pub unless_denied : {A : Type 0} → Option Rule → Result A WriteFault → Result A WriteFault

@@ -10,7 +10,7 @@ use Rattle.policy.specs.declared.rule.Rule.{Rule}
 use Rattle.tree.specs.DocumentId.{is_design_id}
 use Rattle.tree.specs.History.{HistoryContent}
 use Rattle.tree.specs.Revision.{Revision}
-use Rattle.write.specs.Admission.{ancestors, base, document_at, document_of, edit_of, nearest_held}
+use Rattle.write.specs.Admission.{ancestors, base, held_document, document_of, edit_of, nearest_held}
 use Rattle.write.specs.Document.{ancestry_in, sent_in}
 use Rattle.write.specs.Terms.{Terms}
 use Rattle.write.specs.declared.document.Sent.{Sent}
@@ -23,7 +23,7 @@ pub record IsDesignDenial (terms : Terms) (id : List ℕ) (rule : Rule) : Type 0
 -- it is none, and this is the first update rule that does not hold of it and of this revision
 pub record IsUpdateDenial (terms : Terms) (id : List ℕ) (h : HistoryContent) (sent : Sent) (rev : Option Revision) (rule : Rule) : Type 0 where
   pub other : is_design_id id ≡ false
-  pub first : update_verdict terms.rules (argument (document_of id sent) (document_at id h rev) terms.caller terms.name terms.security) ≡ Some rule
+  pub first : update_verdict terms.rules (argument (document_of id sent) (held_document id h rev) terms.caller terms.name terms.security) ≡ Some rule
 
 -- what was sent is denied by this rule, on its own or beside the revision before it
 abbrev pub IsDueTo : Terms → List ℕ → HistoryContent → Sent → Option Revision → Rule → Type 0

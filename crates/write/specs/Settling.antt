@@ -1,6 +1,6 @@
 -- What several documents leave: the histories after all of them, and that what was replicated is known there or was refused.
 -- CouchDB manual, replication/protocol ("Upload Batch of Changed Documents": `_bulk_docs` with `new_edits` false, whose reply tells what was not written); the words are this server's own.
-use Rattle.std.specs.Prelude.{◌≡◌, ℕ, List, [], ◌∷◌, Option, Some, None, option_and_then, Result, Ok, Err, IsTrue, ⊤}
+use Rattle.std.specs.Prelude.{◌≡◌, ℕ, List, [], ◌∷◌, Option, Some, option_and_then, Ok, Err, IsTrue, ⊤}
 use Rattle.couch_json.specs.Value.{Value}
 use Rattle.tree.specs.Revision.{Revision}
 use Rattle.tree.specs.Write.{head}

@@ -5,7 +5,7 @@ ghost use Rattle.couch_json.specs.View.{view};
 ghost use Rattle.tree.specs.History.{held_of};
 ghost use Rattle.policy.specs.Argument.{old_document};
 ghost use Rattle.policy.specs.UpdateRules.{update_verdict};
-ghost use Rattle.write.specs.Admission.{ancestors, design_refusal, document_at, nearest_held, rule_refusal};
+ghost use Rattle.write.specs.Admission.{ancestors, design_refusal, held_document, nearest_held, rule_refusal};
 ghost use Rattle.write.specs.TermsRead.{terms_of};
 
 use crate::document::Sent;
@@ -63,7 +63,7 @@ fn judge_argument(alloc: Global, terms: &Terms, argument: &Json) -> Got<Option<R
 
 /// Shows a revision of the document as it is, where there is one and its body is held.
 fn show_old(alloc: Global, history: &History, id: &DocId, rev: Option<Rev>) -> Got<Option<Json>>
-    ensures { IfOk result (λ old. option_map view old ≡ option_map old_document (document_at id.now history.now rev)) }
+    ensures { IfOk result (λ old. option_map view old ≡ option_map old_document (held_document id.now history.now rev)) }
 {
     let Some(rev) = rev else {
         return Ok(None);

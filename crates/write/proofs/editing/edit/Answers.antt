@@ -9,7 +9,7 @@ use Rattle.write.specs.Terms.{terms_in}
 use Rattle.write.specs.TermsRead.{terms_of}
 use Rattle.write.proofs.Acceptances.{acceptable_in, edit_alone_acceptable}
 use Rattle.write.proofs.Names.{edit-named}
-use Rattle.write.proofs.Plannings.{one_made, one_plan, one_refused}
+use Rattle.write.proofs.Plannings.{one_made, one_plan}
 use Rattle.write.proofs.editing.edit.Goals as goal
 
 pub returns-clause-ok : goal.returns-clause-ok
