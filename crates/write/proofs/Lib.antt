@@ -2,6 +2,8 @@ pub mod Bodies
 pub mod Extending
 pub mod Fitting
 pub mod Acceptances
+pub mod Outcomes
+pub mod Unruled
 pub mod Names
 pub mod Paths
 pub mod BulkLemmas

@@ -5,6 +5,7 @@ mod admission;
 mod ancestry;
 mod applying;
 mod bulk_writes;
+mod denial;
 mod document;
 mod editing;
 mod fault;

@@ -1,7 +1,7 @@
 use Rattle.std.proofs.Common.{◌≡◌, ◌++◌, drop, option_map}
 use Rattle.couch_json.specs.View.{items_view}
 use Rattle.write.specs.Document.{path_of}
-use Rattle.write.proofs.ancestry.path_of.Given as goal
+use Rattle.write.proofs.ancestry.read_path.Given as goal
 
 abbrev pub invariant-loop-i : goal.invariant-loop-i
 invariant-loop-i l =

@@ -1,6 +1,6 @@
 use Rattle.std.proofs.Common.{◌∙◌, ◌-◌, ap, length, sym}
 use Rattle.write.proofs.Paths.{ends, goes_on, revision_from}
-use Rattle.write.proofs.ancestry.path_of.Goals as goal
+use Rattle.write.proofs.ancestry.read_path.Goals as goal
 
 pub returns-in_default : goal.returns-in_default
 returns-in_default c =
