@@ -1,7 +1,8 @@
 -- What the queries of a listing by id and of the changes ask for, and which revisions a request asks about.
 -- CouchDB manual, api/database/bulk-api (`startkey`, `endkey`, `inclusive_end`, `descending`, `skip`, `limit`), api/database/changes (`since`, `limit`, `style`) and api/database/misc (`_revs_diff`); that keys are JSON strings, and the greatest number, are this server's own.
 use Rattle.std.specs.Prelude.{ℕ, Bool, true, false, ◌&&◌, if◌then◌else◌, List, [], ◌∷◌, length, nat_le, Option, Some, None, option_map, option_and_then, Result, Ok, Err, bytes_eq, codes, unwrap_or}
-use Rattle.std.specs.Str.{all_ascii_digits}
+use Rattle.std.specs.Char.{is_ascii_digit}
+use Rattle.std.specs.List.{list_all}
 use Rattle.std.specs.Str.Parse.{digits_value}
 use Rattle.couch_json.specs.Parts.{members_in, text_in}
 use Rattle.couch_json.specs.Reading.{reading}
@@ -21,7 +22,7 @@ greatest_count = 9223372036854775807
 
 -- 1 to 19 decimal digits
 abbrev pub is_count_text : List ℕ → Bool
-is_count_text text = nat_le 1 (length text) && nat_le (length text) 19 && all_ascii_digits text
+is_count_text text = nat_le 1 (length text) && nat_le (length text) 19 && list_all is_ascii_digit text
 
 -- the number that they write, where it is not too great
 abbrev pub count_in : List ℕ → Option ℕ

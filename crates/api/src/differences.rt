@@ -23,7 +23,6 @@ pub fn differences_in(alloc: Global, value: &Json) -> Got<Option<Vec<AskedRevisi
 }
 
 /// Reads the lists of revisions of an object, in order.
-#[tactic(auto, using(crate::proofs::Listed::lists_go_on))]
 fn revisions_of(alloc: Global, members: &BTreeMap<String, Json>) -> Got<Option<Vec<AskedRevisions>>>
     ensures { IfOk result (λ asked. option_map (λ all. all_asked all.items) asked ≡ revisions_of_members (members_view members.now.entries)) }
 {

@@ -1,7 +1,8 @@
 //! What the queries of listings ask for (CouchDB manual, api/database/bulk-api and api/database/changes).
 
 ghost use Rattle.std.specs.Prelude.{◌≡◌, IfOk, Some, codes, option_map};
-ghost use Rattle.std.specs.Str.{all_ascii_digits};
+ghost use Rattle.std.specs.Char.{is_ascii_digit};
+ghost use Rattle.std.specs.List.{list_all};
 ghost use Rattle.couch_http.specs.Message.{message_of};
 ghost use Rattle.api.specs.Saying.{Says};
 ghost use Rattle.api.specs.Queried.{texts_of};
@@ -138,7 +139,7 @@ fn is_count(text: &str) -> bool
 
 /// Tells whether all bytes are digits.
 fn are_digits(bytes: &[u8]) -> bool
-    ensures { result ≡ all_ascii_digits bytes.now }
+    ensures { result ≡ list_all is_ascii_digit bytes.now }
 {
     bytes.iter().all(|byte| byte.is_ascii_digit())
 }
