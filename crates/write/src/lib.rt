@@ -14,6 +14,7 @@ mod planned;
 mod planning;
 mod replicating;
 mod securing;
+mod terms;
 
 pub use applying::apply;
 pub use bulk_writes::bulk;
@@ -22,3 +23,4 @@ pub use fault::WriteFault;
 pub use planned::{Changes, DocumentResult, Outcome, Planned};
 pub use replicating::replicated;
 pub use securing::put_security;
+pub use terms::{Terms, read_terms};
