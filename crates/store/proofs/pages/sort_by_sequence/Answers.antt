@@ -6,7 +6,7 @@ use Rattle.store.proofs.pages.sort_by_sequence.Goals as goal
 
 pub loop-row-preserved : goal.loop-row-preserved
 loop-row-preserved c =
-    one_put c.loop-row.rows.items c.pop.new.self.items c.in-Some.row c.loop-row.ordered.items c.put_sorted.new.entries.items c.in-Some.ensures.items c.in_ok-put.ensures.ok
+    one_put c.loop-row.rows.items c.pop.new.self.items c.in-Some.row c.loop-row.ordered.items c.put_sorted.new.entries.items c.in-Some.ensures.items c.in_ok-put_sorted.ensures.ok
     ∙ c.loop-row.invariant
 
 pub returns : goal.returns
