@@ -8,7 +8,7 @@ use Rattle.couch_http.specs.Message.{Message}
 use Rattle.couch_json.specs.Value.{Value}
 use Rattle.couch_json.specs.Reading.{reading}
 use Rattle.couch_json.specs.declared.fault.JsonFault.{JsonFault}
-use Rattle.policy.specs.Security.{closed}
+use Rattle.policy.specs.Security.{closed_security}
 use Rattle.policy.specs.Verdict.{verdict}
 use Rattle.policy.specs.declared.action.Action.{Action}
 use Rattle.policy.specs.declared.action.Action.TheVariants.{Administer, Read, WriteSecurity, WriteDocument}
@@ -95,7 +95,7 @@ fair_permission a m caller (Some rule) due e h = rightly rule (sym (same_refusal
 
 fair_administration : (a : Contents) (m : Message) (caller : Identity) → AreFair a m caller (administration caller)
 fair_administration a m caller =
-    fair_permission a m caller (verdict Administer caller closed) (λ rule first. inl (record { action = Administer; security = closed; asked = inl refl; first = first }))
+    fair_permission a m caller (verdict Administer caller closed_security) (λ rule first. inl (record { action = Administer; security = closed_security; asked = inl refl; first = first }))
 
 -- ---- work in a database
 

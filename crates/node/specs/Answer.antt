@@ -6,7 +6,7 @@ use Rattle.auth.specs.Callers.{Identity, Configuration}
 use Rattle.couch_http.specs.Message.{Message}
 use Rattle.couch_json.specs.Value.{Value, text, array, object, no_members, put}
 use Rattle.couch_json.specs.View.{items_of}
-use Rattle.policy.specs.Security.{closed}
+use Rattle.policy.specs.Security.{closed_security}
 use Rattle.policy.specs.Verdict.{verdict}
 use Rattle.policy.specs.declared.action.Action.{Action}
 use Rattle.policy.specs.declared.action.Action.TheVariants.{Administer, Read, WriteSecurity, WriteDocument}
@@ -92,7 +92,7 @@ permission caller (Some rule) = Err (denial caller rule)
 
 -- the caller may list, create and remove databases; no security object is asked
 abbrev pub administration : Identity → Result (Unit {0}) Refusal
-administration caller = permission caller (verdict Administer caller closed)
+administration caller = permission caller (verdict Administer caller closed_security)
 
 -- the name of the database that the path leads into
 abbrev pub database_name_of : Message → Result (List ℕ) Refusal

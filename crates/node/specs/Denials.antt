@@ -6,7 +6,7 @@ use Rattle.auth.specs.Callers.{Configuration, Identity, caller_of}
 use Rattle.auth.specs.declared.auth_fault.AuthFault.{AuthFault}
 use Rattle.couch_http.specs.Message.{Message}
 use Rattle.couch_json.specs.Value.{Value}
-use Rattle.policy.specs.Security.{closed}
+use Rattle.policy.specs.Security.{closed_security}
 use Rattle.policy.specs.Verdict.{verdict}
 use Rattle.policy.specs.declared.action.Action.{Action}
 use Rattle.policy.specs.declared.rule.Rule.{Rule}
@@ -45,7 +45,7 @@ rule_denied_by Deleted = None
 -- the security object that is asked: that of the database that the path leads into, or, of who administers the server, the closed one
 abbrev pub IsAsked : Contents → Message → Value → Type 0
 IsAsked databases m security =
-    (security ≡ closed)
+    (security ≡ closed_security)
     ⊎ ((name : List ℕ) × (db : Database) × (database_name_in m.path ≡ Some name) × (get databases name ≡ Some db) × (security ≡ db.security))
 
 -- the rule is that of the first condition that this caller doesn't meet, for some action

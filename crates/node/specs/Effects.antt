@@ -5,7 +5,7 @@ use Rattle.std.specs.FinMap.{get}
 use Rattle.auth.specs.Callers.{Identity}
 use Rattle.couch_http.specs.Message.{Message}
 use Rattle.couch_json.specs.Value.{Value}
-use Rattle.policy.specs.Security.{closed, is_security}
+use Rattle.policy.specs.Security.{is_security}
 use Rattle.policy.specs.Verdict.{verdict}
 use Rattle.policy.specs.declared.action.Action.{Action}
 use Rattle.policy.specs.declared.rule.Rule.{Rule}

@@ -1,8 +1,9 @@
 -- What an update rule is asked of: the new document, the old one, the security object, and who writes where.
 -- CouchDB manual, ddocs/ddocs, "Validate Document Update Functions" (newDoc, oldDoc, userCtx, secObj), and json-structure, "User Context Object".
-use Rattle.std.specs.Prelude.{ℕ, Bool, List, [], ◌∷◌, codes, Option, Some, None, option_map}
+use Rattle.std.specs.Prelude.{ℕ, Bool, List, codes, map, Option, Some, None, option_map}
 use Rattle.auth.specs.Callers.{Identity}
-use Rattle.couch_json.specs.Value.{Value, null, text, array, object, Items, no_items, item, no_members, member, put}
+use Rattle.couch_json.specs.Value.{Value, null, text, array, object, no_members, member, put}
+use Rattle.couch_json.specs.View.{items_of}
 use Rattle.tree.specs.Revision.{Revision}
 use Rattle.tree.specs.ShownDocument.{members_in, shown_document, with_mark}
 
@@ -31,11 +32,6 @@ abbrev pub value_or_null : Option Value → Value
 value_or_null None = null
 value_or_null (Some v) = v
 
--- a list of texts
-abbrev pub texts : List (List ℕ) → Items
-texts [] = no_items
-texts (t ∷ ts) = item (text t) (texts ts)
-
 -- a caller's name; an anonymous caller has null
 abbrev pub name_value : Option (List ℕ) → Value
 name_value name = value_or_null (option_map (λ t. text t) name)
@@ -44,7 +40,7 @@ name_value name = value_or_null (option_map (λ t. text t) name)
 abbrev pub user_context : Identity → List ℕ → Value
 user_context caller database =
     object (member (codes "db") (text database) (member (codes "name") (name_value caller.name)
-    (member (codes "roles") (array (texts caller.roles)) no_members)))
+    (member (codes "roles") (array (items_of (map text caller.roles))) no_members)))
 
 -- the argument of these documents, each a value already
 abbrev pub argument_with : Value → Option Value → Identity → List ℕ → Value → Value

@@ -18,9 +18,13 @@ abbrev pub are_paths : Items → Bool
 are_paths no_items = true
 are_paths (item v vs) = is_path v && are_paths vs
 
+-- how many fields an index may have
+abbrev pub is_field_count : ℕ → Bool
+is_field_count n = nat_le 1 n && nat_le n 8
+
 -- the fields of an index: 1 to 8 paths; one of them may stand there twice
 abbrev pub are_fields : Items → Bool
-are_fields vs = nat_le 1 (items_length vs) && nat_le (items_length vs) 8 && are_paths vs
+are_fields vs = is_field_count (items_length vs) && are_paths vs
 
 abbrev pub is_field_list : Value → Bool
 is_field_list v = is_there_and are_fields (items_in v)

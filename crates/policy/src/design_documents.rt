@@ -2,7 +2,7 @@
 
 ghost use Rattle.std.specs.Prelude.{◌≡◌, IfOk, option_map};
 ghost use Rattle.couch_json.specs.View.{view, items_view, members_view};
-ghost use Rattle.policy.specs.DesignDocuments.{are_fields, are_indexes, are_paths, is_design_body, is_field_list, is_index, is_index_name, is_index_object, is_path, is_selector};
+ghost use Rattle.policy.specs.DesignDocuments.{are_fields, are_indexes, are_paths, is_design_body, is_field_count, is_field_list, is_index, is_index_name, is_index_object, is_path, is_selector};
 ghost use Rattle.policy.specs.Security.{is_absent_or};
 
 use couch_json::{FieldPath, Got, Json, NoMemory, PathFault};
@@ -86,13 +86,20 @@ fn is_index(alloc: Global, value: &Json) -> Got<bool>
     }
 }
 
+#[tactic(auto, using(crate::proofs::Fields::items_length_of_view))]
 fn are_fields(alloc: Global, fields: &[Json]) -> Got<bool>
     ensures { IfOk result (λ good. good ≡ are_fields (items_view fields.now)) }
 {
-    if fields.is_empty() || fields.len() > 8 {
+    if !is_field_count(fields.len()) {
         return Ok(false);
     }
     are_paths(alloc, fields)
+}
+
+fn is_field_count(count: usize) -> bool
+    ensures { result ≡ is_field_count count }
+{
+    1 <= count && count <= 8
 }
 
 fn are_paths(alloc: Global, fields: &[Json]) -> Got<bool>

@@ -1,8 +1,7 @@
-ghost use Rattle.std.specs.Prelude.{◌≡◌, List, ℕ, IfOk, None, OnErr, OnOk, map as list_map, option_copied};
+ghost use Rattle.std.specs.Prelude.{◌≡◌, IfOk, OnErr, OnOk, map as each, nat_eq, option_copied};
 ghost use Rattle.std.specs.FinMap as map;
-ghost use Rattle.couch_json.specs.Value.{Value};
 ghost use Rattle.couch_json.specs.View.{view};
-ghost use Rattle.policy.specs.UpdateRules.{holds as holds_lem, rules_of, selector_in, update_refusal, with_rule};
+ghost use Rattle.policy.specs.UpdateRules.{holds, rules_of, selector_in, update_refusal, with_rule};
 
 use couch_json::{Got, Json, NoMemory};
 use selector::{Selector, SelectorFault};
@@ -52,7 +51,7 @@ impl RuleSet {
     /// Collects the rules of design documents, each given by its id and its body. Of documents that
     /// have one id the last that declares a rule counts.
     pub fn of(alloc: Global, documents: &[(DocId, Json)]) -> Got<RuleSet>
-        ensures { IfOk result (λ rules. rules ≡ rules_of (list_map (λ d. (d.0, view d.1)) documents.now)) }
+        ensures { IfOk result (λ rules. rules ≡ rules_of (each (λ d. (d.0, view d.1)) documents.now)) }
     {
         let mut rules = RuleSet::new(alloc);
         for (id, body) in documents {
@@ -80,7 +79,7 @@ impl RuleSet {
     pub fn is_empty(&self) -> bool
         ensures { result ≡ nat_eq (map.len self.now) 0 }
     {
-        self.rules.is_empty()
+        self.rules.len() == 0
     }
 
     /// Returns the design document whose rule refuses the argument, the first in the order of ids,
@@ -89,7 +88,7 @@ impl RuleSet {
         ensures { option_copied result ≡ update_refusal self.now (view argument.now) }
     {
         for (id, rule) in self.rules.iter() {
-            if !holds(rule, argument) {
+            if !is_met(rule, argument) {
                 return Some(id);
             }
         }
@@ -109,8 +108,8 @@ fn parse_rule(alloc: Global, value: &Json) -> Got<Option<Selector>>
 }
 
 /// Tells whether a rule holds of an argument.
-fn holds(rule: &Option<Selector>, argument: &Json) -> bool
-    ensures { result ≡ holds_lem rule.now (view argument.now) }
+fn is_met(rule: &Option<Selector>, argument: &Json) -> bool
+    ensures { result ≡ holds rule.now (view argument.now) }
 {
     match rule {
         Some(selector) => selector.matches(argument),

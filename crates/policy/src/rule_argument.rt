@@ -1,9 +1,10 @@
 //! What update rules are asked of.
 
 ghost use Rattle.std.specs.Prelude.{◌≡◌, IfOk, map, option_map, string_bytes};
-ghost use Rattle.couch_json.specs.View.{view, items_view, members_view};
+ghost use Rattle.couch_json.specs.Value.{text};
+ghost use Rattle.couch_json.specs.View.{view, members_view};
 ghost use Rattle.tree.specs.ShownDocument.{members_in};
-ghost use Rattle.policy.specs.Argument.{argument_with, name_value, new_document, texts, user_context};
+ghost use Rattle.policy.specs.Argument.{argument_with, name_value, new_document, user_context};
 
 use crate::security::Security;
 use auth::Caller;
@@ -35,7 +36,12 @@ pub fn argument(
     put_member(alloc, &mut members, "newDoc", new)?;
     put_member(alloc, &mut members, "oldDoc", old)?;
     put_member(alloc, &mut members, "secObj", security.value().copy(alloc)?)?;
-    put_member(alloc, &mut members, "userCtx", user_context(alloc, caller, db)?)?;
+    put_member(
+        alloc,
+        &mut members,
+        "userCtx",
+        build_user_context(alloc, caller, db)?,
+    )?;
     Ok(Json::Object(members))
 }
 
@@ -65,19 +71,24 @@ fn copy_members(alloc: Global, body: &Json) -> Got<BTreeMap<String, Json>>
 }
 
 /// Tells who writes, and where: an object with `db`, `name` and `roles`.
-fn user_context(alloc: Global, caller: &Caller, db: &str) -> Got<Json>
+fn build_user_context(alloc: Global, caller: &Caller, db: &str) -> Got<Json>
     ensures { IfOk result (λ value. view value ≡ user_context caller.now db.now) }
 {
     let db = String::from_str(alloc, db)?;
     let mut members = BTreeMap::new(alloc);
     put_member(alloc, &mut members, "db", Json::Text(db))?;
-    put_member(alloc, &mut members, "name", name_value(alloc, caller)?)?;
-    put_member(alloc, &mut members, "roles", Json::Array(texts(alloc, caller.roles())?))?;
+    put_member(alloc, &mut members, "name", build_name(alloc, caller)?)?;
+    put_member(
+        alloc,
+        &mut members,
+        "roles",
+        Json::Array(copy_texts(alloc, caller.roles())?),
+    )?;
     Ok(Json::Object(members))
 }
 
 /// Tells a caller's name, null for an anonymous one.
-fn name_value(alloc: Global, caller: &Caller) -> Got<Json>
+fn build_name(alloc: Global, caller: &Caller) -> Got<Json>
     ensures { IfOk result (λ value. view value ≡ name_value caller.now.name) }
 {
     match caller.name() {
@@ -87,12 +98,12 @@ fn name_value(alloc: Global, caller: &Caller) -> Got<Json>
 }
 
 /// Copies texts as values.
-fn texts(alloc: Global, texts: &[String]) -> Got<Vec<Json>>
-    ensures { IfOk result (λ items. items_view items.items ≡ texts_lem (map string_bytes texts.now)) }
+fn copy_texts(alloc: Global, names: &[String]) -> Got<Vec<Json>>
+    ensures { IfOk result (λ items. map view items.items ≡ map text (map string_bytes names.now)) }
 {
-    let mut items = Vec::with_capacity(alloc, texts.len())?;
-    for text in texts {
-        items.push(Json::Text(String::from_str(alloc, text.as_str())?))?;
+    let mut items = Vec::with_capacity(alloc, names.len())?;
+    for name in names {
+        items.push(Json::Text(String::from_str(alloc, name.as_str())?))?;
     }
     Ok(items)
 }
