@@ -115,10 +115,10 @@ task_of DatabasePage (Some Put) caller m = admin_task caller m (λ name. created
 task_of DatabasePage (Some Delete) caller m = admin_task caller m (λ name. removed name (plain m))
 task_of Security (Some Get) caller m = work_task Read m (λ name. read_work (security_read m))
 task_of Security (Some Put) caller m = work_task WriteSecurity m (λ name. security_written m)
-task_of BulkDocuments (Some Post) caller m = work_task WriteDocument m (λ name. documents_written caller m)
+task_of BulkDocuments (Some Post) caller m = work_task WriteDocument m (λ name. documents_written caller m name)
 task_of Document (Some Get) caller m = work_task Read m (λ name. read_work (document_read m))
-task_of Document (Some Put) caller m = work_task WriteDocument m (λ name. document_written caller m)
-task_of Document (Some Delete) caller m = work_task WriteDocument m (λ name. document_deleted caller m)
+task_of Document (Some Put) caller m = work_task WriteDocument m (λ name. document_written caller m name)
+task_of Document (Some Delete) caller m = work_task WriteDocument m (λ name. document_deleted caller m name)
 task_of page method caller m = Err Method
 
 -- ---- what comes of it

@@ -37,15 +37,15 @@ reading_of read.Database m name = database_read m name
 reading_of read.Security m name = security_read m
 reading_of read.Document m name = document_read m
 
-abbrev pub writing_of : Writing → Identity → Message → Work
-writing_of write.Security caller m = security_written m
-writing_of write.Documents caller m = documents_written caller m
-writing_of write.Document caller m = document_written caller m
-writing_of write.Deletion caller m = document_deleted caller m
+abbrev pub writing_of : Writing → Identity → Message → List ℕ → Work
+writing_of write.Security caller m name = security_written m
+writing_of write.Documents caller m name = documents_written caller m name
+writing_of write.Document caller m name = document_written caller m name
+writing_of write.Deletion caller m name = document_deleted caller m name
 
 abbrev pub work_of : WorkAsked → Identity → Message → List ℕ → Work
 work_of (asked.Read r) caller m name = read_work (reading_of r m name)
-work_of (asked.Write w) caller m name = writing_of w caller m
+work_of (asked.Write w) caller m name = writing_of w caller m name
 
 abbrev pub action_of_writing : Writing → Action
 action_of_writing write.Security = WriteSecurity

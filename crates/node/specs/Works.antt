@@ -13,7 +13,8 @@ use Rattle.store.specs.Database.{Database, DocumentWrite, history_at}
 use Rattle.tree.specs.Revision.{Revision}
 use Rattle.write.specs.Admission.{admission}
 use Rattle.write.specs.Bulk.{DocumentOutcome, all_told, outcome_told, outcomes, writes_in}
-use Rattle.write.specs.Planning.{secured as secured_value}
+use Rattle.write.specs.Planning.{security_outcome}
+use Rattle.write.specs.Terms.{terms_in}
 use Rattle.write.specs.declared.fault.WriteFault.{WriteFault}
 use Rattle.api.specs.Asking.{body_of, plain}
 use Rattle.api.specs.Bulk.{Bulk, bulk_in}
@@ -46,7 +47,7 @@ security_set (Ok security) = Ok (record { status = 200; value = done; effect = s
 security_set (Err fault) = Err Body
 
 abbrev pub security_written : Message → Work
-security_written m db = next (plain m) (λ _. next (body_of m) (λ value. security_set (secured_value value)))
+security_written m db = next (plain m) (λ _. next (body_of m) (λ value. security_set (security_outcome value)))
 
 -- ---- reading a document
 
@@ -80,19 +81,23 @@ edit_done caller status id (Err fault) = Err (refusal_of_edit caller fault)
 abbrev pub edit_asked : Message → Result (List ℕ × Option Revision) Refusal
 edit_asked m = next (there_or Id (document_id_in m.path)) (λ id. next (there_or Query (revision_query m.query)) (λ rev. Ok (id, rev)))
 
-abbrev pub document_written : Identity → Message → Work
-document_written caller m db =
-    next (edit_asked m) (λ asked. next (body_of m) (λ document. edit_done caller 201 asked.0 (admission db asked.0 asked.1 document)))
+-- what the edit of a document comes to in the database of this name, on the terms for this caller
+abbrev pub edit_in : Identity → ℕ → List ℕ → Database → List ℕ → Option Revision → Value → Result Done Refusal
+edit_in caller status name db id rev document = edit_done caller status id (admission (terms_in caller name db) db id rev document)
+
+abbrev pub document_written : Identity → Message → List ℕ → Work
+document_written caller m name db =
+    next (edit_asked m) (λ asked. next (body_of m) (λ document. edit_in caller 201 name db asked.0 asked.1 document))
 
 -- the document that an edit which deletes has
 abbrev pub deletion : Value
 deletion = object (put (codes "_deleted") (truth true) no_members)
 
 -- a deletion has to name the revision that it deletes
-abbrev pub document_deleted : Identity → Message → Work
-document_deleted caller m db =
+abbrev pub document_deleted : Identity → Message → List ℕ → Work
+document_deleted caller m name db =
     next (edit_asked m) (λ asked.
-    next (there_or Conflict asked.1) (λ rev. edit_done caller 200 asked.0 (admission db asked.0 (Some rev) deletion)))
+    next (there_or Conflict asked.1) (λ rev. edit_in caller 200 name db asked.0 (Some rev) deletion))
 
 -- ---- writing several documents
 
@@ -101,9 +106,9 @@ abbrev pub bulk_done : Identity → Bulk → List DocumentOutcome → Done
 bulk_done caller bulk os =
     record { status = 201; value = bulk_reply caller bulk.new_edits (all_told bulk.documents os); effect = appended (writes_in os) }
 
-abbrev pub bulk_written : Identity → Bulk → Work
-bulk_written caller bulk db = Ok (bulk_done caller bulk (outcomes bulk.new_edits (history_at db) bulk.documents))
+abbrev pub bulk_written : Identity → Bulk → List ℕ → Work
+bulk_written caller bulk name db = Ok (bulk_done caller bulk (outcomes (terms_in caller name db) bulk.new_edits (history_at db) bulk.documents))
 
-abbrev pub documents_written : Identity → Message → Work
-documents_written caller m db =
-    next (plain m) (λ _. next (body_of m) (λ value. next (there_or Body (bulk_in value)) (λ bulk. bulk_written caller bulk db)))
+abbrev pub documents_written : Identity → Message → List ℕ → Work
+documents_written caller m name db =
+    next (plain m) (λ _. next (body_of m) (λ value. next (there_or Body (bulk_in value)) (λ bulk. bulk_written caller bulk name db)))

@@ -178,7 +178,7 @@ fn write<S: Store>(
     request: &Request,
 ) -> Result<Worked, Stop>
     ensures comes { S.is_honest store.new → OfThere (S.contents store.old) name.now (λ db. Comes (done_of db) result
-        (writing_of writing caller.now (message_of request.now) db)) }
+        (writing_of writing caller.now (message_of request.now) name.now db)) }
     ensures may { S.is_honest store.new → OfThere (S.contents store.old) name.now (λ db. IfOk result (λ worked. MayBeMade worked.planned.changes db)) }
     ensures own { IfOk result (λ worked. worked.planned.database ≡ name.now) }
     ensures ends { IfErr result (Ends S.Store store.old store.new) }
