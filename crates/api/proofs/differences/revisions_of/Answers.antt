@@ -16,7 +16,8 @@ loop-id-preserved c =
     let l = c.loop-id in
     let first : members_view l.id-iterator ≡ member (string_bytes c.in-Some.id.now) (view c.in-Some.value.now) (members_view c.next.new.self) = search rules in
     let listed : revisions_listed (view c.in-Some.value.now) ≡ Some c.in-Some-2.revs.items = search rules in
+    let named : string_bytes c.in_ok-id.id ≡ string_bytes c.in-Some.id.now = search rules in
     let added : AskedRevisions = record { id = c.in_ok-id.id; revs = c.in-Some-2.revs } in
     let more = ap all_asked c.in_ok-push.ensures.items ∙ map-append asked_of l.asked.items (added ∷ []) in
     list_taken (all_asked l.asked.items) (all_asked c.push.new.self.items) (members_view l.id-iterator) (members_view c.next.new.self) (string_bytes c.in-Some.id.now) (view c.in-Some.value.now)
-    c.in-Some-2.revs.items _ first listed (rw c.in_ok-id.ensures.ok at more) l.invariant
+    c.in-Some-2.revs.items _ first listed (rw named at more) l.invariant
