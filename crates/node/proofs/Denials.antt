@@ -25,7 +25,7 @@ use Rattle.write.specs.Planning.{security_outcome}
 use Rattle.write.specs.Terms.{Terms, terms_in}
 use Rattle.write.specs.declared.fault.WriteFault.{WriteFault}
 use Rattle.write.specs.declared.fault.WriteFault.TheVariants as write
-use Rattle.write.proofs.DenialLemmas.{edit_denied}
+use Rattle.write.proofs.Outcomes.{edit_denied}
 use Rattle.api.specs.Asking.{asker, body_of, denial, identity_or_refusal, method_of, pair_of, plain, value_or_refusal}
 use Rattle.api.specs.Bulk.{bulk_in}
 use Rattle.api.specs.Paths.{database_name_in, document_id_in}
@@ -77,7 +77,7 @@ fair_true a m caller d false none = fair_other a m caller d none
 fair_next : {A B : Type 0} (a : Contents) (m : Message) (caller : Identity) (r : Result A Refusal) (go : A → Result B Refusal)
     → AreFair a m caller r → ((x : A) → r ≡ Ok x → AreFair a m caller (go x)) → AreFair a m caller (next r go)
 fair_next a m caller (Ok x) go first then = then x refl
-fair_next a m caller (Err d) go first then e h = first e (ap ill (same_refusal d e h))
+fair_next a m caller (Err d) go first then = λ e h. first e (ap ill (same_refusal d e h))
 
 fair_value : (a : Contents) (m : Message) (caller : Identity) (r : Result Value JsonFault) → AreFair a m caller (value_or_refusal r)
 fair_value a m caller (Ok v) = fair_ok a m caller v
@@ -91,7 +91,7 @@ fair_plain a m caller = fair_true a m caller Query _ refl
 
 fair_permission : (a : Contents) (m : Message) (caller : Identity) (o : Option Rule) → ((rule : Rule) → o ≡ Some rule → IsDue a m caller rule) → AreFair a m caller (permission caller o)
 fair_permission a m caller None due = fair_ok a m caller tt
-fair_permission a m caller (Some rule) due e h = rightly rule (sym (same_refusal (denial caller rule) e h)) (due rule refl)
+fair_permission a m caller (Some rule) due = λ e h. rightly rule (sym (same_refusal (denial caller rule) e h)) (due rule refl)
 
 fair_administration : (a : Contents) (m : Message) (caller : Identity) → AreFair a m caller (administration caller)
 fair_administration a m caller =
@@ -261,7 +261,7 @@ fair_entry a m caller action name None own is = fair_other a m caller NoDatabase
 fair_entry a m caller action name (Some db) own is =
     fair_next a m caller (permission caller (verdict action caller db.security)) _
     (fair_permission a m caller (verdict action caller db.security)
-    (λ rule first. inl (record { action = action; security = db.security; asked = inr (name, (db, (own, (is, refl)))); first = first })))
+    (λ rule first. inl (record { action = action; security = db.security; asked = inr (name, db, own, is, refl); first = first })))
     (λ u allowed. fair_ok a m caller db)
 
 fair_outcome : (a : Contents) (m : Message) (caller : Identity) (task : Task) → IsFairTask a m caller task → AreFair a m caller (task_outcome caller a task)
@@ -294,10 +294,10 @@ rule_of_denial caller rule = by caller.name refl
 
 told_rule : (c : Configuration) (a : Contents) (m : Message) (caller : Identity) (e : Refusal) (rule : Rule) → asker c m ≡ Ok caller → rule_denied_by e ≡ Some rule → IsFair a m caller e → IsDenied c a m e rule
 told_rule c a m caller e rule is denies (other none) = absurd (let k : None ≡ Some rule = sym none ∙ denies in cc)
-told_rule c a m caller e rule is denies (rightly first told due) =
-    let k : Some first ≡ Some rule = sym (rule_of_denial caller first) ∙ ap rule_denied_by (sym told) ∙ denies in
+told_rule c a m caller e rule is denies (rightly first said due) =
+    let k : Some first ≡ Some rule = sym (rule_of_denial caller first) ∙ ap rule_denied_by (sym said) ∙ denies in
     let same_rule : first ≡ rule = cc in
-    inr (subst (λ (x : Rule). IsToldRule c a m e x) same_rule (record { caller = caller; known = is; due = due; told = told }))
+    inr (subst (λ (x : Rule). IsToldRule c a m e x) same_rule (record { caller = caller; known = is; due = due; told = said }))
 
 unvouched : (c : Configuration) (m : Message) (r : Result Identity AuthFault) (e : Refusal) → caller_of (map pair_of m.headers) c.secret c.admins ≡ r → identity_or_refusal r ≡ Err e → IsUnvouched c m e
 unvouched c m (Ok caller) e is h = absurd cc

@@ -1,6 +1,6 @@
 //! What follows from the definitions alone. Each function has an empty body: its contract is the law.
 
-ghost use Rattle.std.specs.Prelude.{◌≡◌, ◌≢◌, ◌≤◌, ℕ, List, None, Some, Err, is_none};
+ghost use Rattle.std.specs.Prelude.{◌≡◌, ◌≢◌, ◌≤◌, ℕ, List, None, Some, Err, is_none, if◌then◌else◌};
 ghost use Rattle.std.specs.FinMap.{get};
 ghost use Rattle.auth.specs.Callers.{Configuration, Identity};
 ghost use Rattle.couch_http.specs.Message.{Message};
