@@ -28,6 +28,7 @@ use Rattle.write.specs.declared.fault.WriteFault.TheVariants as write
 use Rattle.write.proofs.Outcomes.{edit_denied}
 use Rattle.api.specs.Asking.{asker, body_of, denial, identity_or_refusal, method_of, pair_of, plain, value_or_refusal}
 use Rattle.api.specs.Bulk.{bulk_in}
+use Rattle.api.specs.Listings.{changes_query, differences_in, listing_query}
 use Rattle.api.specs.Paths.{database_name_in, document_id_in}
 use Rattle.api.specs.Queries.{document_query, revision_query}
 use Rattle.api.specs.Refusals.{name_of_rule, next, rule_of, status_of, there_or, true_or}
@@ -35,14 +36,14 @@ use Rattle.api.specs.Routing.{page_of}
 use Rattle.api.specs.declared.method.RequestMethod.{RequestMethod}
 use Rattle.api.specs.declared.method.RequestMethod.TheVariants.{Get, Put, Post, Delete}
 use Rattle.api.specs.declared.page.Page.{Page}
-use Rattle.api.specs.declared.page.Page.TheVariants.{Welcome, AllDatabases, Database as DatabasePage, Security, BulkDocuments, Document}
+use Rattle.api.specs.declared.page.Page.TheVariants.{Welcome, AllDatabases, Database as DatabasePage, Security, BulkDocuments, AllDocuments, Changes, Differences, Document}
 use Rattle.api.specs.declared.refusal.Refusal.{Refusal}
 use Rattle.api.specs.declared.refusal.Refusal.TheVariants.{Unauthorized, Forbidden, Path, Method, DatabaseName, NoDatabase, Exists, Id, Query, Syntax, Body, BadDocument, BadHistory, Conflict, Generation, Missing, Deleted}
 use Rattle.node.specs.Answer.{Outcome, Task, administration, permission, created, entry, admin_task, judgement, listed, database_name_of, outcome_in, task_outcome, removed, page_outcome, task_of, told, worked, work_task}
 use Rattle.node.proofs.Tasks.{named, same, there, went}
 use Rattle.node.specs.Denials.{IsAsked, IsByEdit, IsByPolicy, IsDenied, IsDue, IsToldRule, IsUnvouched, rule_denied_by}
 use Rattle.node.specs.Work.{Done, Work, read_work}
-use Rattle.node.specs.Works.{database_read, document_deleted, document_read, document_written, documents_written, deletion, edit_asked, edit_done, edit_in, found, read_by, security_read, security_set, security_written}
+use Rattle.node.specs.Works.{change_list, database_read, difference_list, document_deleted, document_list, document_read, document_written, documents_written, deletion, edit_asked, edit_done, edit_in, found, read_by, security_read, security_set, security_written}
 
 -- ---- refusals of steps
 
@@ -125,6 +126,18 @@ fair_document a m caller db =
     (λ id is. fair_next a m caller (there_or Query (document_query m.query)) _ (fair_there a m caller Query (document_query m.query) refl)
     (λ query asked. fair_found a m caller (read_by id query.revs query.asked db)))
 
+fair_listing : (a : Contents) (m : Message) (caller : Identity) (db : Database) → AreFair a m caller (document_list m db)
+fair_listing a m caller db = fair_next a m caller (there_or Query (listing_query m.query)) _ (fair_there a m caller Query (listing_query m.query) refl) (λ range asked. fair_ok a m caller _)
+
+fair_changes : (a : Contents) (m : Message) (caller : Identity) (db : Database) → AreFair a m caller (change_list m db)
+fair_changes a m caller db = fair_next a m caller (there_or Query (changes_query m.query)) _ (fair_there a m caller Query (changes_query m.query) refl) (λ range asked. fair_ok a m caller _)
+
+fair_differences : (a : Contents) (m : Message) (caller : Identity) (db : Database) → AreFair a m caller (difference_list m db)
+fair_differences a m caller db =
+    fair_next a m caller (plain m) _ (fair_plain a m caller)
+    (λ u is. fair_next a m caller (body_of m) _ (fair_body a m caller)
+    (λ v said. fair_next a m caller (there_or Body (differences_in v)) _ (fair_there a m caller Body (differences_in v) refl) (λ asked were. fair_ok a m caller _)))
+
 fair_set : (a : Contents) (m : Message) (caller : Identity) (r : Result Value WriteFault) → AreFair a m caller (security_set r)
 fair_set a m caller (Ok v) = fair_ok a m caller _
 fair_set a m caller (Err fault) = fair_other a m caller Body refl
@@ -165,8 +178,17 @@ edit_due : (a : Contents) (m : Message) (caller : Identity) (name : List ℕ) (d
     → IsIn a m name db → edit_asked m ≡ Ok asked → (body_of m ≡ Ok document) ⊎ (document ≡ deletion)
     → admission (terms_in caller name db) db asked.0 query document ≡ Err (write.Denied rule) → IsDue a m caller rule
 edit_due a m caller name db asked query document rule place leads says denied = inr (record {
-    name = name; db = db; id = asked.0; query = query; document = document; own = place.own; there = place.there; leads = asked_leads m asked leads; says = says;
-    due = edit_denied (terms_in caller name db) asked.0 (history_at db asked.0) query document rule denied })
+  name = name;
+  db = db;
+  id = asked.0;
+  query = query;
+  document = document;
+  own = place.own;
+  there = place.there;
+  leads = asked_leads m asked leads;
+  says = says;
+  due = edit_denied (terms_in caller name db) asked.0 (history_at db asked.0) query document rule denied;
+})
 
 fair_writing : (a : Contents) (m : Message) (caller : Identity) (name : List ℕ) (db : Database) → IsIn a m name db → AreFair a m caller (document_written caller m name db)
 fair_writing a m caller name db place =
@@ -222,6 +244,9 @@ fair_task a DatabasePage (Some Delete) caller m task e = fair_admin a m caller (
 fair_task a Security (Some Get) caller m task e = fair_work a m caller Read (λ name. read_work (security_read m)) task (λ name db place. fair_read a m caller (security_read m) db (fair_security a m caller db)) e
 fair_task a Security (Some Put) caller m task e = fair_work a m caller WriteSecurity (λ name. security_written m) task (λ name db place. fair_securing a m caller db) e
 fair_task a BulkDocuments (Some Post) caller m task e = fair_work a m caller WriteDocument (λ name. documents_written caller m name) task (λ name db place. fair_documents a m caller name db) e
+fair_task a AllDocuments (Some Get) caller m task e = fair_work a m caller Read (λ name. read_work (document_list m)) task (λ name db place. fair_read a m caller (document_list m) db (fair_listing a m caller db)) e
+fair_task a Changes (Some Get) caller m task e = fair_work a m caller Read (λ name. read_work (change_list m)) task (λ name db place. fair_read a m caller (change_list m) db (fair_changes a m caller db)) e
+fair_task a Differences (Some Post) caller m task e = fair_work a m caller Read (λ name. read_work (difference_list m)) task (λ name db place. fair_read a m caller (difference_list m) db (fair_differences a m caller db)) e
 fair_task a Document (Some Get) caller m task e = fair_work a m caller Read (λ name. read_work (document_read m)) task (λ name db place. fair_read a m caller (document_read m) db (fair_document a m caller db)) e
 fair_task a Document (Some Put) caller m task e = fair_work a m caller WriteDocument (λ name. document_written caller m name) task (λ name db place. fair_writing a m caller name db place) e
 fair_task a Document (Some Delete) caller m task e = fair_work a m caller WriteDocument (λ name. document_deleted caller m name) task (λ name db place. fair_deleting a m caller name db place) e
@@ -248,6 +273,9 @@ fair_page a DatabasePage (Some Delete) caller m = fair_admin_asked a m caller _
 fair_page a Security (Some Get) caller m = fair_work_asked a m caller Read _
 fair_page a Security (Some Put) caller m = fair_work_asked a m caller WriteSecurity _
 fair_page a BulkDocuments (Some Post) caller m = fair_work_asked a m caller WriteDocument _
+fair_page a AllDocuments (Some Get) caller m = fair_work_asked a m caller Read _
+fair_page a Changes (Some Get) caller m = fair_work_asked a m caller Read _
+fair_page a Differences (Some Post) caller m = fair_work_asked a m caller Read _
 fair_page a Document (Some Get) caller m = fair_work_asked a m caller Read _
 fair_page a Document (Some Put) caller m = fair_work_asked a m caller WriteDocument _
 fair_page a Document (Some Delete) caller m = fair_work_asked a m caller WriteDocument _

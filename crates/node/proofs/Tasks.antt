@@ -27,11 +27,11 @@ use Rattle.node.specs.Effects.{Fits}
 use Rattle.api.specs.Paths.{database_name_in}
 use Rattle.node.specs.Work.{Done, Effect, Work, appended, nothing, read_work, secured, value_done}
 use Rattle.api.specs.Refusals.{next, there_or, true_or}
-use Rattle.node.specs.Works.{database_read, document_deleted, document_read, document_written, documents_written, deletion, done, edit_asked, bulk_written, edit_done, edit_in, security_read, security_set, security_written}
+use Rattle.node.specs.Works.{change_list, database_read, difference_list, document_deleted, document_list, document_read, document_written, documents_written, deletion, done, edit_asked, bulk_written, edit_done, edit_in, security_read, security_set, security_written}
 use Rattle.api.specs.declared.method.RequestMethod.{RequestMethod}
 use Rattle.api.specs.declared.method.RequestMethod.TheVariants.{Get, Put, Post, Delete}
 use Rattle.api.specs.declared.page.Page.{Page}
-use Rattle.api.specs.declared.page.Page.TheVariants.{Welcome, AllDatabases, Database as DatabasePage, Security, BulkDocuments, Document}
+use Rattle.api.specs.declared.page.Page.TheVariants.{Welcome, AllDatabases, Database as DatabasePage, Security, BulkDocuments, AllDocuments, Changes, Differences, Document}
 use Rattle.api.specs.declared.refusal.Refusal.{Refusal}
 use Rattle.api.specs.declared.refusal.Refusal.TheVariants.{Body, Conflict, DatabaseName, NoDatabase, Exists, Path}
 
@@ -169,6 +169,9 @@ good DatabasePage (Some Delete) caller m task e = good_removed DatabasePage call
 good Security (Some Get) caller m task e = good_work Security Read m (λ name. read_work (security_read m)) task (λ name. sound_reading (security_read m)) e
 good Security (Some Put) caller m task e = good_work Security WriteSecurity m (λ name. security_written m) task (λ name. sound_security m) e
 good BulkDocuments (Some Post) caller m task e = good_work BulkDocuments WriteDocument m (λ name. documents_written caller m name) task (λ name. sound_documents caller m name) e
+good AllDocuments (Some Get) caller m task e = good_work AllDocuments Read m (λ name. read_work (document_list m)) task (λ name. sound_reading (document_list m)) e
+good Changes (Some Get) caller m task e = good_work Changes Read m (λ name. read_work (change_list m)) task (λ name. sound_reading (change_list m)) e
+good Differences (Some Post) caller m task e = good_work Differences Read m (λ name. read_work (difference_list m)) task (λ name. sound_reading (difference_list m)) e
 good Document (Some Get) caller m task e = good_work Document Read m (λ name. read_work (document_read m)) task (λ name. sound_reading (document_read m)) e
 good Document (Some Put) caller m task e = good_work Document WriteDocument m (λ name. document_written caller m name) task (λ name. sound_document caller m name) e
 good Document (Some Delete) caller m task e = good_work Document WriteDocument m (λ name. document_deleted caller m name) task (λ name. sound_deletion caller m name) e

@@ -16,7 +16,7 @@ use Rattle.write.specs.declared.planned.Changes.TheVariants.{Writes, Security as
 use Rattle.couch_json.specs.Value.{Value}
 use Rattle.node.specs.Answer as answer
 use Rattle.node.specs.Work.{Done, Effect, Work, appended, read_work, secured}
-use Rattle.node.specs.Works.{database_read, document_deleted, document_read, document_written, documents_written, security_read, security_written}
+use Rattle.node.specs.Works.{change_list, database_read, difference_list, document_deleted, document_list, document_read, document_written, documents_written, security_read, security_written}
 use Rattle.api.specs.declared.refusal.Refusal.{Refusal}
 use Rattle.node.specs.declared.answered.Answered.{Answered}
 use Rattle.node.specs.declared.answered.Change.{Change}
@@ -36,6 +36,9 @@ abbrev pub reading_of : Reading → Message → List ℕ → Database → Result
 reading_of read.Database m name = database_read m name
 reading_of read.Security m name = security_read m
 reading_of read.Document m name = document_read m
+reading_of read.Documents m name = document_list m
+reading_of read.Changes m name = change_list m
+reading_of read.Differences m name = difference_list m
 
 abbrev pub writing_of : Writing → Identity → Message → List ℕ → Work
 writing_of write.Security caller m name = security_written m

@@ -4,7 +4,10 @@ use Rattle.std.specs.Prelude.{ℕ, List, [], ◌∷◌, Bool, true, Option, Some
 use Rattle.auth.specs.Callers.{Identity}
 use Rattle.couch_http.specs.Message.{Message}
 use Rattle.couch_json.specs.Value.{Value, truth, object, no_members, put}
+use Rattle.read.specs.Changes.{changes_in}
+use Rattle.read.specs.Differences.{revision_differences}
 use Rattle.read.specs.Information.{information}
+use Rattle.read.specs.Listing.{document_listing}
 use Rattle.read.specs.OpenRevisions.{open_revisions}
 use Rattle.read.specs.Shown.{document_at}
 use Rattle.read.specs.declared.fault.ReadFault.{ReadFault}
@@ -19,6 +22,7 @@ use Rattle.write.specs.declared.fault.WriteFault.{WriteFault}
 use Rattle.api.specs.Asking.{body_of, plain}
 use Rattle.api.specs.Bulk.{Bulk, bulk_in}
 use Rattle.node.specs.Bulk.{bulk_reply, edit_members}
+use Rattle.api.specs.Listings.{changes_query, differences_in, listing_query}
 use Rattle.api.specs.Paths.{document_id_in}
 use Rattle.api.specs.Queries.{Asked, winner, revision, leaves, revisions, document_query, revision_query}
 use Rattle.node.specs.Edits.{refusal_of_edit}
@@ -68,6 +72,21 @@ abbrev pub document_read : Message → Database → Result Value Refusal
 document_read m db =
     next (there_or Id (document_id_in m.path)) (λ id.
     next (there_or Query (document_query m.query)) (λ query. found (read_by id query.revs query.asked db)))
+
+-- ---- lists
+
+-- the documents by id, in the range that the query asks for
+abbrev pub document_list : Message → Database → Result Value Refusal
+document_list m db = next (there_or Query (listing_query m.query)) (λ range. Ok (document_listing range db))
+
+-- the documents that changed, by sequence
+abbrev pub change_list : Message → Database → Result Value Refusal
+change_list m db = next (there_or Query (changes_query m.query)) (λ range. Ok (changes_in range db))
+
+-- of the revisions that the body asks about, those that are not known
+abbrev pub difference_list : Message → Database → Result Value Refusal
+difference_list m db =
+    next (plain m) (λ _. next (body_of m) (λ value. next (there_or Body (differences_in value)) (λ asked. Ok (revision_differences asked db))))
 
 -- ---- writing a document
 

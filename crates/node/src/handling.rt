@@ -106,6 +106,27 @@ fn serve<S: Store>(
                 request,
             )
         }
+        (Page::AllDocuments, Some(RequestMethod::Get)) => {
+            do_work(
+                alloc,
+                store,
+                caller,
+                Work::Read(Reading::Documents),
+                request,
+            )
+        }
+        (Page::Changes, Some(RequestMethod::Get)) => {
+            do_work(alloc, store, caller, Work::Read(Reading::Changes), request)
+        }
+        (Page::Differences, Some(RequestMethod::Post)) => {
+            do_work(
+                alloc,
+                store,
+                caller,
+                Work::Read(Reading::Differences),
+                request,
+            )
+        }
         (Page::Document, Some(RequestMethod::Get)) => {
             do_work(alloc, store, caller, Work::Read(Reading::Document), request)
         }

@@ -16,6 +16,7 @@ use crate::answered::{Answered, Change, Worked};
 use crate::bulk::write_documents;
 use crate::databases::read_database;
 use crate::document::{delete_document, read_document, write_document};
+use crate::lists::{list_changes, list_documents, tell_differences};
 use crate::security::{read_security, write_security};
 use crate::stop::Stop;
 use api::{database_name, deny};
@@ -44,6 +45,12 @@ pub(crate) enum Reading {
     Security,
     /// A document.
     Document,
+    /// Its documents, by id.
+    Documents,
+    /// Its documents, by the sequence of their latest write.
+    Changes,
+    /// Which revisions it doesn't know.
+    Differences,
 }
 
 /// What is written to a database.
@@ -165,6 +172,9 @@ fn read<S: Store>(
         Reading::Database => read_database(alloc, store, name, request),
         Reading::Security => read_security(alloc, store, name, request),
         Reading::Document => read_document(alloc, store, name, request),
+        Reading::Documents => list_documents(alloc, store, name, request),
+        Reading::Changes => list_changes(alloc, store, name, request),
+        Reading::Differences => tell_differences(alloc, store, name, request),
     }
 }
 
