@@ -14,9 +14,9 @@ use Rattle.tree.specs.declared.placement.Placed.TheVariants.{Added, Known}
 use Rattle.tree.specs.declared.placement.TreeFault.{TreeFault}
 use Rattle.tree.specs.declared.placement.TreeFault.TheVariants.{BadPath}
 use Rattle.store.specs.Database.{DocumentWrite}
-use Rattle.write.specs.Admission.{ancestors, ancestry_outcome, ancestry_placement, appended_edit, base, design_refusal, held_document, document_of, edit_after, edit_by, edit_making, edit_of, edit_outcome, edit_path, nearest_held, placement_outcome, replicated_by, replicated_outcome, revision_after, rule_refusal, unless_denied, write_at}
+use Rattle.write.specs.Admission.{ancestors, ancestry_outcome, ancestry_placement, appended_edit, base, design_refusal, held_document, document_of, edit_after, edit_by, edit_with_revision, edit_of, edit_outcome, edit_path, nearest_held, placement_outcome, replicated_by, replicated_outcome, revision_after, rule_refusal, unless_denied, write_at}
 use Rattle.write.specs.Denials.{EditIsDueTo, IsDesignDenial, IsDueTo, IsUpdateDenial, ReplicationIsDueTo}
-use Rattle.write.specs.Document.{ancestry_in, sent_in}
+use Rattle.write.specs.Document.{Ancestry, ancestry_in, sent_in}
 use Rattle.write.specs.Terms.{Terms}
 use Rattle.write.specs.declared.document.Sent.{Sent}
 use Rattle.write.specs.declared.fault.WriteFault.{WriteFault}
@@ -67,7 +67,7 @@ same_write w v r is e = cc
 
 made : (terms : Terms) (id : List ℕ) (h : HistoryContent) (query : Option Revision) (document : Value) (sent : Sent) (parent next : Option Revision) (v : DocumentWrite)
     → edit_of id query document ≡ Some sent → base h sent.rev ≡ Some parent → revision_after sent parent ≡ next
-    → edit_making terms id h sent parent next ≡ Ok v → IsEdit id h query document v
+    → edit_with_revision terms id h sent parent next ≡ Ok v → IsEdit id h query document v
 made terms id h query document sent parent None v says follows makes e =
     let none : Err Generation ≡ Ok v = undenied (rule_refusal terms id h sent parent) (Err Generation) v e in absurd cc
 made terms id h query document sent parent (Some r) v says follows makes e = by (is_known h r) refl e
@@ -107,7 +107,7 @@ edit_accepted terms id h query document v e = by_edit terms id h query document 
 -- ---- denied edits
 
 made_denied : (terms : Terms) (id : List ℕ) (h : HistoryContent) (sent : Sent) (parent next : Option Revision) (rule : Rule)
-    → edit_making terms id h sent parent next ≡ Err (Denied rule) → IsUpdateDenial terms id h sent parent rule
+    → edit_with_revision terms id h sent parent next ≡ Err (Denied rule) → IsUpdateDenial terms id h sent parent rule
 made_denied terms id h sent parent None rule e = by (denied_by (rule_refusal terms id h sent parent) (Err Generation) rule e)
   where
     by : (rule_refusal terms id h sent parent ≡ Some rule) ⊎ (appended_edit id h sent parent None ≡ Err (Denied rule)) → IsUpdateDenial terms id h sent parent rule
@@ -155,42 +155,40 @@ IsTaken id h sent path (Some v) = (placement h path ≡ Ok Added) × (v ≡ writ
 -- what became of a replicated document that was accepted
 pub record IsReplicated (id : List ℕ) (h : HistoryContent) (document : Value) (w : Option DocumentWrite) : Type 0 where
   pub sent : Sent
-  pub start : ℕ
-  pub path : List Revision
+  pub ancestry : Ancestry
   pub says : sent_in id document ≡ Some sent
-  pub leads : ancestry_in document sent.rev ≡ Some (start, path)
-  pub taken : IsTaken id h sent path w
+  pub leads : ancestry_in document sent.rev ≡ Some ancestry
+  pub taken : IsTaken id h sent ancestry.path w
 
-whole_placed : (h : HistoryContent) (start : ℕ) (path : List Revision) (placed : Placed) → ancestry_placement h (start, path) ≡ Ok placed → placement h path ≡ Ok placed
-whole_placed h start path placed e = by (start == length path) e
+whole_placed : (h : HistoryContent) (ancestry : Ancestry) (placed : Placed) → ancestry_placement h ancestry ≡ Ok placed → placement h ancestry.path ≡ Ok placed
+whole_placed h ancestry placed e = by (ancestry.start == length ancestry.path) e
   where
-    by : (b : Bool) → cond b (placement h path) (Err BadPath) ≡ Ok placed → placement h path ≡ Ok placed
+    by : (b : Bool) → cond b (placement h ancestry.path) (Err BadPath) ≡ Ok placed → placement h ancestry.path ≡ Ok placed
     by true k = k
     by false k = absurd cc
 
-taken_by : (terms : Terms) (id : List ℕ) (h : HistoryContent) (sent : Sent) (start : ℕ) (path : List Revision) (placed : Result Placed TreeFault) (w : Option DocumentWrite)
-    → ancestry_placement h (start, path) ≡ placed → placement_outcome terms id h sent path placed ≡ Ok w → IsTaken id h sent path w
-taken_by terms id h sent start path (Err fault) w is e = absurd cc
-taken_by terms id h sent start path (Ok Known) None is e = whole_placed h start path Known is
-taken_by terms id h sent start path (Ok Known) (Some v) is e = absurd cc
-taken_by terms id h sent start path (Ok Added) None is e =
-    let none : Ok (Some (write_at id path sent)) ≡ Ok None = undenied (rule_refusal terms id h sent (nearest_held h (ancestors path))) (Ok (Some (write_at id path sent))) None e in absurd cc
-taken_by terms id h sent start path (Ok Added) (Some v) is e =
-    let same : Ok (Some (write_at id path sent)) ≡ Ok (Some v) =
-    undenied (rule_refusal terms id h sent (nearest_held h (ancestors path))) (Ok (Some (write_at id path sent))) (Some v) e in (whole_placed h start path Added is, cc)
+taken_by : (terms : Terms) (id : List ℕ) (h : HistoryContent) (sent : Sent) (ancestry : Ancestry) (placed : Result Placed TreeFault) (w : Option DocumentWrite)
+    → ancestry_placement h ancestry ≡ placed → placement_outcome terms id h sent ancestry.path placed ≡ Ok w → IsTaken id h sent ancestry.path w
+taken_by terms id h sent ancestry (Err fault) w is e = absurd cc
+taken_by terms id h sent ancestry (Ok Known) None is e = whole_placed h ancestry Known is
+taken_by terms id h sent ancestry (Ok Known) (Some v) is e = absurd cc
+taken_by terms id h sent ancestry (Ok Added) None is e =
+    let none : Ok (Some (write_at id ancestry.path sent)) ≡ Ok None = undenied (rule_refusal terms id h sent (nearest_held h (ancestors ancestry.path))) (Ok (Some (write_at id ancestry.path sent))) None e in absurd cc
+taken_by terms id h sent ancestry (Ok Added) (Some v) is e =
+    let same : Ok (Some (write_at id ancestry.path sent)) ≡ Ok (Some v) =
+    undenied (rule_refusal terms id h sent (nearest_held h (ancestors ancestry.path))) (Ok (Some (write_at id ancestry.path sent))) (Some v) e in (whole_placed h ancestry Added is, cc)
 
-by_ancestry : (terms : Terms) (id : List ℕ) (h : HistoryContent) (document : Value) (sent : Sent) (ancestry : Option (ℕ × List Revision)) (w : Option DocumentWrite)
+by_ancestry : (terms : Terms) (id : List ℕ) (h : HistoryContent) (document : Value) (sent : Sent) (ancestry : Option Ancestry) (w : Option DocumentWrite)
     → sent_in id document ≡ Some sent → ancestry_in document sent.rev ≡ ancestry → ancestry_outcome terms id h sent ancestry ≡ Ok w → IsReplicated id h document w
 by_ancestry terms id h document sent None w says leads e = absurd cc
-by_ancestry terms id h document sent (Some (start, path)) w says leads e =
+by_ancestry terms id h document sent (Some ancestry) w says leads e =
     record {
       sent = sent;
-      start = start;
-      path = path;
+      ancestry = ancestry;
       says = says;
       leads = leads;
-      taken = taken_by terms id h sent start path (ancestry_placement h (start, path)) w refl
-          (undenied (design_refusal terms id) (placement_outcome terms id h sent path (ancestry_placement h (start, path))) w e);
+      taken = taken_by terms id h sent ancestry (ancestry_placement h ancestry) w refl
+          (undenied (design_refusal terms id) (placement_outcome terms id h sent ancestry.path (ancestry_placement h ancestry)) w e);
     }
 
 by_sent : (terms : Terms) (id : List ℕ) (h : HistoryContent) (document : Value) (sent : Option Sent) (w : Option DocumentWrite)
@@ -216,23 +214,23 @@ placed_denied terms id h sent path (Ok Added) rule e =
     by (inl k) = update_denial terms id h sent (nearest_held h (ancestors path)) rule k
     by (inr k) = absurd cc
 
-ancestry_denied : (terms : Terms) (id : List ℕ) (h : HistoryContent) (document : Value) (sent : Sent) (ancestry : Option (ℕ × List Revision)) (rule : Rule)
+ancestry_denied : (terms : Terms) (id : List ℕ) (h : HistoryContent) (document : Value) (sent : Sent) (ancestry : Option Ancestry) (rule : Rule)
     → sent_in id document ≡ Some sent → ancestry_in document sent.rev ≡ ancestry → ancestry_outcome terms id h sent ancestry ≡ Err (Denied rule)
     → ReplicationIsDueTo terms id h document rule
 ancestry_denied terms id h document sent None rule says leads e = absurd cc
-ancestry_denied terms id h document sent (Some (start, path)) rule says leads e =
+ancestry_denied terms id h document sent (Some ancestry) rule says leads e =
     record {
       sent = sent;
-      ancestry = (start, path);
+      ancestry = ancestry;
       says = says;
       leads = leads;
-      due = by (denied_by (design_refusal terms id) (placement_outcome terms id h sent path (ancestry_placement h (start, path))) rule e);
+      due = by (denied_by (design_refusal terms id) (placement_outcome terms id h sent ancestry.path (ancestry_placement h ancestry)) rule e);
     }
   where
-    by : (design_refusal terms id ≡ Some rule) ⊎ (placement_outcome terms id h sent path (ancestry_placement h (start, path)) ≡ Err (Denied rule))
-        → IsDueTo terms id h sent (nearest_held h (ancestors path)) rule
+    by : (design_refusal terms id ≡ Some rule) ⊎ (placement_outcome terms id h sent ancestry.path (ancestry_placement h ancestry) ≡ Err (Denied rule))
+        → IsDueTo terms id h sent (nearest_held h (ancestors ancestry.path)) rule
     by (inl k) = inl (design_denial terms id rule k)
-    by (inr k) = inr (placed_denied terms id h sent path (ancestry_placement h (start, path)) rule k)
+    by (inr k) = inr (placed_denied terms id h sent ancestry.path (ancestry_placement h ancestry) rule k)
 
 sent_denied : (terms : Terms) (id : List ℕ) (h : HistoryContent) (document : Value) (sent : Option Sent) (rule : Rule)
     → sent_in id document ≡ sent → replicated_by terms id h document sent ≡ Err (Denied rule) → ReplicationIsDueTo terms id h document rule

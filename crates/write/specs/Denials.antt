@@ -11,7 +11,7 @@ use Rattle.tree.specs.DocumentId.{is_design_id}
 use Rattle.tree.specs.History.{HistoryContent}
 use Rattle.tree.specs.Revision.{Revision}
 use Rattle.write.specs.Admission.{ancestors, base, held_document, document_of, edit_of, nearest_held}
-use Rattle.write.specs.Document.{ancestry_in, sent_in}
+use Rattle.write.specs.Document.{Ancestry, ancestry_in, sent_in}
 use Rattle.write.specs.Terms.{Terms}
 use Rattle.write.specs.declared.document.Sent.{Sent}
 
@@ -38,7 +38,7 @@ pub record EditIsDueTo (terms : Terms) (id : List ℕ) (h : HistoryContent) (que
 -- the replicated document is, beside the nearest revision behind it whose body is held
 pub record ReplicationIsDueTo (terms : Terms) (id : List ℕ) (h : HistoryContent) (document : Value) (rule : Rule) : Type 0 where
   pub sent : Sent
-  pub ancestry : ℕ × List Revision
+  pub ancestry : Ancestry
   pub says : sent_in id document ≡ Some sent
   pub leads : ancestry_in document sent.rev ≡ Some ancestry
-  pub due : IsDueTo terms id h sent (nearest_held h (ancestors ancestry.1)) rule
+  pub due : IsDueTo terms id h sent (nearest_held h (ancestors ancestry.path)) rule
