@@ -1,6 +1,6 @@
--- Why a write is denied: the rule that is named is the first that refuses it.
+-- Why a write is denied: the rule that is named is the first that refuses it. And what holds where a write is not: no rule refuses it.
 -- CouchDB manual, api/database/security and ddocs/ddocs ("Validate Document Update Functions"); that a denial names its rule is this server's own.
-use Rattle.std.specs.Prelude.{◌≡◌, ◌⊎◌, ℕ, false, true, List, Option, Some, option_and_then}
+use Rattle.std.specs.Prelude.{◌≡◌, ◌⊎◌, ℕ, false, true, List, Option, Some, None, option_and_then}
 use Rattle.couch_json.specs.Value.{Value}
 use Rattle.policy.specs.Argument.{argument}
 use Rattle.policy.specs.UpdateRules.{update_verdict}
@@ -42,3 +42,23 @@ pub record ReplicationIsDueTo (terms : Terms) (id : List ℕ) (h : HistoryConten
   pub says : sent_in id document ≡ Some sent
   pub leads : ancestry_in document sent.rev ≡ Some ancestry
   pub due : IsDueTo terms id h sent (nearest_held h (ancestors ancestry.path)) rule
+
+-- what was sent may be written: a design document by this caller, another one by each update rule
+pub record HasLeave (terms : Terms) (id : List ℕ) (h : HistoryContent) (sent : Sent) (rev : Option Revision) : Type 0 where
+  pub design : is_design_id id ≡ true → verdict WriteDesign terms.caller terms.security ≡ None
+  pub updates : is_design_id id ≡ false
+      → update_verdict terms.rules (argument (document_of id sent) (held_document id h rev) terms.caller terms.name terms.security) ≡ None
+
+-- the edit has leave, beside the leaf that it follows
+pub record EditHasLeave (terms : Terms) (id : List ℕ) (h : HistoryContent) (query : Option Revision) (document : Value) : Type 0 where
+  pub sent : Sent
+  pub says : edit_of id query document ≡ Some sent
+  pub leave : HasLeave terms id h sent (option_and_then (λ parent. parent) (base h sent.rev))
+
+-- the replicated document has, beside the nearest revision behind it whose body is held
+pub record ReplicationHasLeave (terms : Terms) (id : List ℕ) (h : HistoryContent) (document : Value) : Type 0 where
+  pub sent : Sent
+  pub ancestry : Ancestry
+  pub says : sent_in id document ≡ Some sent
+  pub leads : ancestry_in document sent.rev ≡ Some ancestry
+  pub leave : HasLeave terms id h sent (nearest_held h (ancestors ancestry.path))
