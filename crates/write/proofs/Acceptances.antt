@@ -64,8 +64,8 @@ edit_body : (query : Option Revision) (sent : Option Sent) (s : Sent) → ((t : 
 edit_body query None s are_bodies e = absurd cc
 edit_body query (Some t) s are_bodies e = rw (renamed_body (named_revision query t.rev) t s e) (are_bodies t refl)
 
-edit_fits : (id : List ℕ) (h : HistoryContent) (query : Option Revision) (document : Value) (v : DocumentWrite) → IsMade h → IsEdit id h query document v → Fits id h v
-edit_fits id h query document v made k =
+edit_fits : (terms : Terms) (id : List ℕ) (h : HistoryContent) (query : Option Revision) (document : Value) (v : DocumentWrite) → IsMade h → IsEdit terms id h query document v → Fits id h v
+edit_fits terms id h query document v made k =
     let next : k.rev ≡ next_revision k.parent k.sent.deleted k.sent.body = next_of k.sent k.parent k.rev k.makes in
     let placed : placement h (edit_path h k.parent k.rev) ≡ Ok Added =
     ap (λ r. placement h (edit_path h k.parent r)) next
@@ -75,8 +75,8 @@ edit_fits id h query document v made k =
 
 -- ---- replicated writes
 
-replicated_fits : (id : List ℕ) (h : HistoryContent) (document : Value) (v : DocumentWrite) → IsReplicated id h document (Some v) → Fits id h v
-replicated_fits id h document v k =
+replicated_fits : (terms : Terms) (id : List ℕ) (h : HistoryContent) (document : Value) (v : DocumentWrite) → IsReplicated terms id h document (Some v) → Fits id h v
+replicated_fits terms id h document v k =
     subst (Fits id h) (sym k.taken.1) (record { named = refl; placed = k.taken.0; body = sent_in-Some id document k.sent k.says })
 
 -- ---- several documents
@@ -84,8 +84,8 @@ replicated_fits id h document v k =
 judged_fits : (terms : Terms) (new_edits : Bool) (id : List ℕ) (h : HistoryContent) (document : Value) (v : DocumentWrite)
     → IsMade h → document_outcome terms new_edits id h document ≡ Ok (Some v) → Fits id h v
 judged_fits terms true id h document v made e =
-    edit_fits id h None document v made (edit_accepted terms id h None document v (as_outcome-Some (edit_outcome terms id h None document) v e))
-judged_fits terms false id h document v made e = replicated_fits id h document v (replicated_accepted terms id h document (Some v) e)
+    edit_fits terms id h None document v made (edit_accepted terms id h None document v (as_outcome-Some (edit_outcome terms id h None document) v e))
+judged_fits terms false id h document v made e = replicated_fits terms id h document v (replicated_accepted terms id h document (Some v) e)
 
 acceptable : (db : Database) (id : List ℕ) (w : DocumentWrite) → Fits id (history_at db id) w → IsAcceptable db w
 acceptable db id w f = record { placed = ap (λ k. placement (history_at db k) w.write.path) f.named ∙ f.placed; body = f.body.object; shallow = f.body.shallow }
@@ -93,11 +93,11 @@ acceptable db id w f = record { placed = ap (λ k. placement (history_at db k) w
 pub edit_acceptable : (terms : Terms) (db : Database) (id : List ℕ) (query : Option Revision) (document : Value) (w : DocumentWrite)
     → IsLawful db → admission terms db id query document ≡ Ok w → IsAcceptable db w
 edit_acceptable terms db id query document w lawful e =
-    acceptable db id w (edit_fits id (history_at db id) query document w (made_at db id lawful) (edit_accepted terms id (history_at db id) query document w e))
+    acceptable db id w (edit_fits terms id (history_at db id) query document w (made_at db id lawful) (edit_accepted terms id (history_at db id) query document w e))
 
 pub replicated_acceptable : (terms : Terms) (db : Database) (id : List ℕ) (document : Value) (w : DocumentWrite) → replication terms db id document ≡ Ok (Some w) → IsAcceptable db w
 replicated_acceptable terms db id document w e =
-    acceptable db id w (replicated_fits id (history_at db id) document w (replicated_accepted terms id (history_at db id) document (Some w) e))
+    acceptable db id w (replicated_fits terms id (history_at db id) document w (replicated_accepted terms id (history_at db id) document (Some w) e))
 
 by_id-acceptable : (terms : Terms) (new_edits : Bool) (db : Database) (document : Value) (id : Option (List ℕ)) (w : DocumentWrite)
     → IsLawful db → outcome_by_id terms new_edits (history_at db) document id ≡ Ok (Some w) → IsAcceptable db w

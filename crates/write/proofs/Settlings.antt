@@ -64,9 +64,9 @@ head_known false false true e = refl
 head_known false false false e = absurd cc
 
 -- the outcome of a document that was replicated
-settled : (histories : Histories) (id : List ℕ) (document : Value) (w : Option DocumentWrite) (k : IsReplicated id (histories id) document w) (r : Revision) (rest : List Revision)
-    → id_in document ≡ Some id → k.path ≡ r ∷ rest → IsTrue (is_known (after histories (Ok w) id) r) → IsKnownIn (after histories (Ok w)) document
-settled histories id document w k r rest named is known =
+settled : (terms : Terms) (histories : Histories) (id : List ℕ) (document : Value) (w : Option DocumentWrite) (k : IsReplicated terms id (histories id) document w) (r : Revision) (rest : List Revision)
+    → id_in document ≡ Some id → k.ancestry.path ≡ r ∷ rest → IsTrue (is_known (after histories (Ok w) id) r) → IsKnownIn (after histories (Ok w)) document
+settled terms histories id document w k r rest named is known =
     record {
       id = id;
       rev = r;
@@ -80,23 +80,23 @@ not_empty : (h : HistoryContent) (path : List Revision) (placed : Placed) → pl
 not_empty h [] placed e = absurd cc
 not_empty h (r ∷ rest) placed e = (r, rest, refl)
 
-outcome_settled : (histories : Histories) (id : List ℕ) (document : Value) (w : Option DocumentWrite) → id_in document ≡ Some id
-    → IsReplicated id (histories id) document w → IsKnownIn (after histories (Ok w)) document
-outcome_settled histories id document (Some v) named k =
-    let front = not_empty (histories id) k.path Added k.taken.0 in
+outcome_settled : (terms : Terms) (histories : Histories) (id : List ℕ) (document : Value) (w : Option DocumentWrite) → id_in document ≡ Some id
+    → IsReplicated terms id (histories id) document w → IsKnownIn (after histories (Ok w)) document
+outcome_settled terms histories id document (Some v) named k =
+    let front = not_empty (histories id) k.ancestry.path Added k.taken.0 in
     let own : is_of id v ≡ true = (bytes_eq-Decides v.id id).1 (ap (λ (x : DocumentWrite). x.id) k.taken.1) in
-    settled histories id document (Some v) k front.0 front.1 named front.2
+    settled terms histories id document (Some v) k front.0 front.1 named front.2
     (subst (λ b. IsTrue (is_known (cond b (with_write (histories id) v.write) (histories id)) front.0)) (sym own)
     (newest_known (histories id) v.write front.0 front.1 (ap (λ (x : DocumentWrite). x.write.path) k.taken.1 ∙ front.2)))
-outcome_settled histories id document None named k =
-    let front = not_empty (histories id) k.path Known k.taken in
-    settled histories id document None k front.0 front.1 named front.2
+outcome_settled terms histories id document None named k =
+    let front = not_empty (histories id) k.ancestry.path Known k.taken in
+    settled terms histories id document None k front.0 front.1 named front.2
     (head_known _ _ (is_known (histories id) front.0) (ap (placement (histories id)) (sym front.2) ∙ k.taken))
 
 result_settled : (terms : Terms) (histories : Histories) (id : List ℕ) (document : Value) (o : DocumentOutcome) → id_in document ≡ Some id
     → replicated_outcome terms id (histories id) document ≡ o → IsKnownOrRefused (after histories o) document o
 result_settled terms histories id document (Err fault) named e = tt
-result_settled terms histories id document (Ok w) named e = outcome_settled histories id document w named (replicated_accepted terms id (histories id) document w e)
+result_settled terms histories id document (Ok w) named e = outcome_settled terms histories id document w named (replicated_accepted terms id (histories id) document w e)
 
 id_settled : (terms : Terms) (histories : Histories) (document : Value) (id : Option (List ℕ)) → id_in document ≡ id
     → IsKnownOrRefused (after histories (outcome_by_id terms false histories document id)) document (outcome_by_id terms false histories document id)

@@ -18,7 +18,7 @@ use Rattle.policy.specs.Verdict.{verdict}
 use Rattle.policy.specs.declared.action.Action.TheVariants.{WriteDesign}
 use Rattle.policy.specs.declared.rule.Rule.{Rule}
 use Rattle.store.specs.Database.{Database, DocumentWrite, history_at}
-use Rattle.write.specs.Document.{ancestry_in, sent_in}
+use Rattle.write.specs.Document.{Ancestry, ancestry_in, sent_in}
 use Rattle.write.specs.Terms.{Terms}
 use Rattle.write.specs.declared.document.Sent.{Sent}
 use Rattle.write.specs.declared.fault.WriteFault.{WriteFault}
@@ -100,13 +100,13 @@ appended_edit id h sent parent (Some r) = Ok (write_at id (edit_path h parent r)
 
 -- what becomes of an edit that follows one revision and makes another: a conflict where that is known, a denial where an update rule
 -- does not hold, no further generation where there is none to make, or the write
-abbrev pub edit_making : Terms → List ℕ → HistoryContent → Sent → Option Revision → Option Revision → Result DocumentWrite WriteFault
-edit_making terms id h sent parent next =
+abbrev pub edit_with_revision : Terms → List ℕ → HistoryContent → Sent → Option Revision → Option Revision → Result DocumentWrite WriteFault
+edit_with_revision terms id h sent parent next =
     if is_known_if_any h next then Err Conflict
     else unless_denied (rule_refusal terms id h sent parent) (appended_edit id h sent parent next)
 
 abbrev pub next_edit : Terms → List ℕ → HistoryContent → Sent → Option Revision → Result DocumentWrite WriteFault
-next_edit terms id h sent parent = edit_making terms id h sent parent (revision_after sent parent)
+next_edit terms id h sent parent = edit_with_revision terms id h sent parent (revision_after sent parent)
 
 abbrev pub edit_after : Terms → List ℕ → HistoryContent → Sent → Option (Option Revision) → Result DocumentWrite WriteFault
 edit_after terms id h sent None = Err Conflict
@@ -139,9 +139,9 @@ ancestors (r ∷ rs) = rs
 abbrev pub nearest_held : HistoryContent → List Revision → Option Revision
 nearest_held h rs = find (λ r. is_some (held_of h r)) rs
 
--- where the history has a place for a path that says how many revisions it has: with fewer, or more, it is not whole
-abbrev pub ancestry_placement : HistoryContent → ℕ × List Revision → Result Placed TreeFault
-ancestry_placement h (start, path) = if start == length path then placement h path else Err BadPath
+-- where the history has a place for the path of an ancestry: with fewer revisions than it says, or more, it is not whole
+abbrev pub ancestry_placement : HistoryContent → Ancestry → Result Placed TreeFault
+ancestry_placement h ancestry = if ancestry.start == length ancestry.path then placement h ancestry.path else Err BadPath
 
 -- a replicated write whose revision is new is appended where no update rule refuses it; where its revision is known nothing changes
 abbrev pub placement_outcome : Terms → List ℕ → HistoryContent → Sent → List Revision → Result Placed TreeFault → Result (Option DocumentWrite) WriteFault
@@ -150,10 +150,10 @@ placement_outcome terms id h sent path (Ok Known) = Ok None
 placement_outcome terms id h sent path (Ok Added) =
     unless_denied (rule_refusal terms id h sent (nearest_held h (ancestors path))) (Ok (Some (write_at id path sent)))
 
-abbrev pub ancestry_outcome : Terms → List ℕ → HistoryContent → Sent → Option (ℕ × List Revision) → Result (Option DocumentWrite) WriteFault
+abbrev pub ancestry_outcome : Terms → List ℕ → HistoryContent → Sent → Option Ancestry → Result (Option DocumentWrite) WriteFault
 ancestry_outcome terms id h sent None = Err BadDocument
-ancestry_outcome terms id h sent (Some (start, path)) =
-    unless_denied (design_refusal terms id) (placement_outcome terms id h sent path (ancestry_placement h (start, path)))
+ancestry_outcome terms id h sent (Some ancestry) =
+    unless_denied (design_refusal terms id) (placement_outcome terms id h sent ancestry.path (ancestry_placement h ancestry))
 
 abbrev pub replicated_by : Terms → List ℕ → HistoryContent → Value → Option Sent → Result (Option DocumentWrite) WriteFault
 replicated_by terms id h document None = Err BadDocument

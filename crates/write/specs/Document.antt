@@ -142,11 +142,17 @@ start_in v = option_and_then (λ n. number_if n) (option_and_then (λ m. natural
 abbrev pub ids_in : Value → Option (List Revision)
 ids_in v = option_and_then (λ vs. path_of vs) (option_and_then (λ m. items_in m) (member_of v (codes "ids")))
 
-abbrev pub revisions_if : Bool → Value → Option (ℕ × List Revision)
-revisions_if good v = if good then option_and_then (λ start. option_map (λ path. (start, path)) (ids_in v)) (start_in v) else None
+-- what a document says of its history: how many revisions it has, and these, newest first
+pub record Ancestry : Type 0 where
+  pub start : ℕ
+  pub path : List Revision
 
--- what `_revisions` says: `start` and `ids`, newest first, and nothing else
-abbrev pub revisions_in : Value → Option (ℕ × List Revision)
+abbrev pub revisions_if : Bool → Value → Option Ancestry
+revisions_if good v =
+    if good then option_and_then (λ start. option_map (λ path. record { start = start; path = path }) (ids_in v)) (start_in v) else None
+
+-- what `_revisions` says: `start` and `ids`, and nothing else
+abbrev pub revisions_in : Value → Option Ancestry
 revisions_in v = revisions_if (has_only (codes "start" ∷ codes "ids" ∷ []) v) v
 
 -- the newest revision is `start` with the first of `ids`; a document that names its revision too names this one
@@ -155,23 +161,22 @@ is_newest start [] rev = false
 is_newest start (r ∷ path) None = true
 is_newest start (r ∷ path) (Some s) = (s.number == start) && bytes_eq s.hash r.hash
 
-abbrev pub ancestry_of : Option Revision → ℕ × List Revision → Option (ℕ × List Revision)
-ancestry_of rev (start, path) = if is_newest start path rev then Some (start, path) else None
+abbrev pub ancestry_if_newest : Option Revision → Ancestry → Option Ancestry
+ancestry_if_newest rev said = if is_newest said.start said.path rev then Some said else None
 
 -- a revision that comes alone is the whole history
-abbrev pub ancestry_alone : Revision → ℕ × List Revision
-ancestry_alone r = (1, r ∷ [])
+abbrev pub ancestry_alone : Revision → Ancestry
+ancestry_alone r = record { start = 1; path = r ∷ [] }
 
-abbrev pub ancestry_by : Option (Option (ℕ × List Revision)) → Option Revision → Option (ℕ × List Revision)
+abbrev pub ancestry_by : Option (Option Ancestry) → Option Revision → Option Ancestry
 ancestry_by None rev = option_map ancestry_alone rev
-ancestry_by (Some said) rev = option_and_then (ancestry_of rev) said
+ancestry_by (Some said) rev = option_and_then (ancestry_if_newest rev) said
 
 -- what `_revisions` says, where it is given
-abbrev pub given_revisions : Value → Option (Option (ℕ × List Revision))
+abbrev pub given_revisions : Value → Option (Option Ancestry)
 given_revisions document = option_map revisions_in (member_of document (codes "_revisions"))
 
--- The history of a replicated document that names this revision: how many revisions it has, as the document says, and its revisions,
--- newest first. It is that of `_revisions`, or the one revision; without both, or where they say different things, there is none,
--- and it is a bad document.
-abbrev pub ancestry_in : Value → Option Revision → Option (ℕ × List Revision)
+-- The history of a replicated document that names this revision: that of `_revisions`, or the one revision. Without both, or where
+-- they say different things, there is none, and it is a bad document.
+abbrev pub ancestry_in : Value → Option Revision → Option Ancestry
 ancestry_in document rev = ancestry_by (given_revisions document) rev

@@ -16,7 +16,7 @@ after_all histories (o ∷ os) = after_all (after histories o) os
 -- the revision that a replicated document with this id brings: the newest of its history
 abbrev pub revision_brought : List ℕ → Value → Option Revision
 revision_brought id document =
-    option_and_then (λ sent. option_and_then (λ ancestry. head ancestry.1) (ancestry_in document sent.rev)) (sent_in id document)
+    option_and_then (λ sent. option_and_then (λ ancestry. head ancestry.path) (ancestry_in document sent.rev)) (sent_in id document)
 
 -- the document has an id and brings a revision, and the document of this id has that revision
 pub record IsKnownIn (histories : Histories) (document : Value) : Type 0 where

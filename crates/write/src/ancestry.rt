@@ -4,18 +4,25 @@ ghost use Rattle.std.specs.Prelude.{◌≡◌, IfOk, option_map, option_and_then
 ghost use Rattle.couch_json.specs.Parts.{text_in};
 ghost use Rattle.couch_json.specs.View.{view, items_view};
 ghost use Rattle.tree.specs.Revision.{Revision, revision_of};
-ghost use Rattle.write.specs.Document.{ancestry_alone, ancestry_by, ancestry_of, given_revisions, is_newest, natural, number_if, path_of, revisions_in, start_in};
+ghost use Rattle.write.specs.AncestryRead.{ancestry_of};
+ghost use Rattle.write.specs.Document.{ancestry_alone, ancestry_by, ancestry_if_newest, given_revisions, is_newest, natural, number_if, path_of, revisions_in, start_in};
 
 use couch_json::{Got, Json};
 use std::alloc::Global;
 use tree::Rev;
 
-/// The history that a document says it has: how many revisions, and these, newest first.
-pub(crate) type Ancestry = (u32, Vec<Rev>);
+/// What a document says of its history.
+#[derive(Drop)]
+pub(crate) struct Ancestry {
+    /// How many revisions it has.
+    pub(crate) start: u32,
+    /// Its revisions, newest first.
+    pub(crate) path: Vec<Rev>,
+}
 
 /// Reads what `_revisions` says, where it is given: `Some(None)` where it is not of its form.
 pub(crate) fn read_given(alloc: Global, document: &Json) -> Got<Option<Option<Ancestry>>>
-    ensures { IfOk result (λ given. option_map (λ said. option_map (λ a. (a.0, a.1.items)) said) given ≡ given_revisions (view document.now)) }
+    ensures { IfOk result (λ given. option_map (λ said. option_map ancestry_of said) given ≡ given_revisions (view document.now)) }
 {
     match document.member("_revisions") {
         Some(value) => Ok(Some(read_revisions(alloc, value)?)),
@@ -30,11 +37,11 @@ pub(crate) fn find_ancestry(
     given: Option<Option<Ancestry>>,
     rev: Option<Rev>,
 ) -> Got<Option<Ancestry>>
-    ensures { IfOk result (λ ancestry. option_map (λ a. (a.0, a.1.items)) ancestry
-        ≡ ancestry_by (option_map (λ said. option_map (λ a. (a.0, a.1.items)) said) given) rev) }
+    ensures { IfOk result (λ ancestry. option_map ancestry_of ancestry
+        ≡ ancestry_by (option_map (λ said. option_map ancestry_of said) given) rev) }
 {
     match given {
-        Some(Some((start, path))) => Ok(match_newest(start, path, rev)),
+        Some(Some(said)) => Ok(match_newest(said, rev)),
         Some(None) => Ok(None),
         None => make_alone(alloc, rev),
     }
@@ -42,28 +49,29 @@ pub(crate) fn find_ancestry(
 
 /// Makes the history of a revision that comes alone.
 fn make_alone(alloc: Global, rev: Option<Rev>) -> Got<Option<Ancestry>>
-    ensures { IfOk result (λ ancestry. option_map (λ a. (a.0, a.1.items)) ancestry ≡ option_map ancestry_alone rev) }
+    ensures { IfOk result (λ ancestry. option_map ancestry_of ancestry ≡ option_map ancestry_alone rev) }
 {
     let Some(rev) = rev else {
         return Ok(None);
     };
     let mut path = Vec::with_capacity(alloc, 1)?;
     path.push(rev)?;
-    Ok(Some((1, path)))
+    Ok(Some(Ancestry { start: 1, path }))
 }
 
 /// Keeps the history whose newest revision is the one that the document names, if it names one.
-fn match_newest(start: u32, path: Vec<Rev>, rev: Option<Rev>) -> Option<Ancestry>
-    ensures { option_map (λ a. (a.0, a.1.items)) result ≡ ancestry_of rev (start, path.items) }
+fn match_newest(said: Ancestry, rev: Option<Rev>) -> Option<Ancestry>
+    ensures { option_map ancestry_of result ≡ ancestry_if_newest rev (ancestry_of said) }
 {
-    if is_newest(start, &path, rev) {
-        Some((start, path))
+    if is_newest(said.start, &said.path, rev) {
+        Some(said)
     } else {
         None
     }
 }
 
-/// Tells whether the document's revision, if it names one, has this number and the first hash of the path.
+/// Tells whether the document's revision, if it names one, has this number and the first hash of the
+/// path.
 fn is_newest(start: u32, path: &[Rev], rev: Option<Rev>) -> bool
     ensures { result ≡ is_newest start path.now rev }
 {
@@ -76,7 +84,7 @@ fn is_newest(start: u32, path: &[Rev], rev: Option<Rev>) -> bool
 
 /// Reads what `_revisions` says; `None` where it is not of its form.
 fn read_revisions(alloc: Global, value: &Json) -> Got<Option<Ancestry>>
-    ensures { IfOk result (λ said. option_map (λ a. (a.0, a.1.items)) said ≡ revisions_in (view value.now)) }
+    ensures { IfOk result (λ said. option_map ancestry_of said ≡ revisions_in (view value.now)) }
 {
     if !value.has_only(&["start", "ids"]) {
         return Ok(None);
@@ -88,7 +96,7 @@ fn read_revisions(alloc: Global, value: &Json) -> Got<Option<Ancestry>>
         return Ok(None);
     };
     match read_path(alloc, ids)? {
-        Some(path) => Ok(Some((start, path))),
+        Some(path) => Ok(Some(Ancestry { start, path })),
         None => Ok(None),
     }
 }

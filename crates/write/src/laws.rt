@@ -13,7 +13,7 @@ ghost use Rattle.store.specs.Database.{Database, DocumentWrite, history_at, with
 ghost use Rattle.store.specs.Lawful.{IsLawful};
 ghost use Rattle.write.specs.Admission.{admission, base, edit_path, replication};
 ghost use Rattle.write.specs.Bulk.{Histories, DocumentOutcome, outcome_in, outcomes, writes_in};
-ghost use Rattle.write.specs.Denials.{EditIsDueTo, ReplicationIsDueTo};
+ghost use Rattle.write.specs.Denials.{EditHasLeave, EditIsDueTo, ReplicationHasLeave, ReplicationIsDueTo};
 ghost use Rattle.write.specs.Settling.{AreKnownOrRefused, after_all};
 ghost use Rattle.write.specs.Terms.{Terms};
 ghost use Rattle.write.specs.declared.fault.WriteFault.TheVariants.{Denied};
@@ -66,6 +66,15 @@ pub fn denials_name_the_first_refusing_rule()
         → admission terms db id query document ≡ Err (Denied rule) → EditIsDueTo terms id (history_at db id) query document rule }
     ensures replicated { (terms : Terms) (db : Database) (id : List ℕ) (document : Value) (rule : Rule)
         → replication terms db id document ≡ Err (Denied rule) → ReplicationIsDueTo terms id (history_at db id) document rule }
+{}
+
+/// A write that is appended is refused by no rule: a design document's caller may write it, and of
+/// another document each update rule of the terms holds.
+pub fn appended_writes_have_leave()
+    ensures edited { (terms : Terms) (db : Database) (id : List ℕ) (query : Option Revision) (document : Value) (w : DocumentWrite)
+        → admission terms db id query document ≡ Ok w → EditHasLeave terms id (history_at db id) query document }
+    ensures replicated { (terms : Terms) (db : Database) (id : List ℕ) (document : Value) (w : DocumentWrite)
+        → replication terms db id document ≡ Ok (Some w) → ReplicationHasLeave terms id (history_at db id) document }
 {}
 
 /// A denied document changes nothing: those behind it have the outcomes that they have without it,

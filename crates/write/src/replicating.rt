@@ -8,6 +8,7 @@ ghost use Rattle.store.specs.Calls.{OnlyReads};
 ghost use Rattle.store.specs.Contents.{IfThere};
 ghost use Rattle.store.specs.Writing.{addition_of, written_in};
 ghost use Rattle.write.specs.Admission.{ancestry_placement, placement_outcome, replicated_outcome, replication};
+ghost use Rattle.write.specs.AncestryRead.{ancestry_of};
 ghost use Rattle.write.specs.Bulk.{writes_alone};
 ghost use Rattle.write.specs.BulkResults.{IsUnrefused, OfFirst};
 ghost use Rattle.write.specs.Planning.{Plans, planned_writes};
@@ -15,7 +16,7 @@ ghost use Rattle.write.specs.Refusing.{IsDecided, IsOwn, Refuses};
 ghost use Rattle.write.specs.Terms.{terms_in};
 ghost use Rattle.write.specs.TermsRead.{terms_of};
 
-use crate::ancestry::{find_ancestry, read_given};
+use crate::ancestry::{Ancestry, find_ancestry, read_given};
 use crate::denial::{find_design_refusal, find_nearest_held, find_rule_refusal};
 use crate::document::{Sent, read_document};
 use crate::fault::WriteFault;
@@ -26,7 +27,7 @@ use auth::Caller;
 use couch_json::Json;
 use std::alloc::Global;
 use store::{DbName, Store, Write};
-use tree::{DocId, History, Placed, Rev, TreeFault};
+use tree::{DocId, History, Placed, TreeFault};
 
 /// Plans what becomes of a replicated document, which is no local one. It reads the store and changes
 /// nothing.
@@ -87,13 +88,13 @@ pub(crate) fn admit_replicated(
     let Some(sent) = read_document(alloc, id, document)? else {
         return Err(WriteFault::BadDocument);
     };
-    let Some((start, path)) = find_ancestry(alloc, given, sent.rev)? else {
+    let Some(ancestry) = find_ancestry(alloc, given, sent.rev)? else {
         return Err(WriteFault::BadDocument);
     };
     if let Some(rule) = find_design_refusal(terms, id) {
         return Err(WriteFault::Denied(rule));
     }
-    place(alloc, terms, history, id, sent, start, path)
+    place(alloc, terms, history, id, sent, ancestry)
 }
 
 /// Writes what is sent where the history has a place for this path as that of a new revision; nothing
@@ -104,40 +105,39 @@ fn place(
     history: &History,
     id: &DocId,
     sent: Sent,
-    start: u32,
-    path: Vec<Rev>,
+    ancestry: Ancestry,
 ) -> Result<Option<Write>, WriteFault>
-    ensures ok { IfOk result (λ write. placement_outcome (terms_of terms.now) id.now history.now sent path.items (ancestry_placement history.now (start, path.items))
+    ensures ok { IfOk result (λ write. placement_outcome (terms_of terms.now) id.now history.now sent ancestry.path.items (ancestry_placement history.now (ancestry_of ancestry))
         ≡ Ok (option_map (λ w. written_in history.now (addition_of w)) write)) }
     ensures headed { IfOk result (λ write. IfSome write (λ w. 0 < length w.path.items)) }
     ensures fault { IfErr result (λ fault. fault ≢ WriteFault.Memory
-        → placement_outcome (terms_of terms.now) id.now history.now sent path.items (ancestry_placement history.now (start, path.items)) ≡ Err fault) }
+        → placement_outcome (terms_of terms.now) id.now history.now sent ancestry.path.items (ancestry_placement history.now (ancestry_of ancestry)) ≡ Err fault) }
     ensures others { IfErr result (λ fault. (fault ≢ WriteFault.Conflict) × (fault ≢ WriteFault.Generation) × ((cause : _) → fault ≢ WriteFault.Store cause)) }
 {
-    match find_place(history, start, &path) {
+    match find_place(history, &ancestry) {
         Ok(Placed::Added) => {}
         Ok(Placed::Known) => return Ok(None),
         Err(_) => return Err(WriteFault::BadHistory),
     }
-    let old = find_nearest_held(history, &path);
+    let old = find_nearest_held(history, &ancestry.path);
     if let Some(rule) = find_rule_refusal(alloc, terms, history, id, &sent, old)? {
         return Err(WriteFault::Denied(rule));
     }
     Ok(Some(Write {
         id: id.copy(alloc)?,
-        path,
+        path: ancestry.path,
         parent: None,
         deleted: sent.deleted,
         body: sent.body.into_json(),
     }))
 }
 
-/// Finds the place that the history has for a path that says how many revisions it has.
-fn find_place(history: &History, start: u32, path: &[Rev]) -> Result<Placed, TreeFault>
-    ensures { result ≡ ancestry_placement history.now (start, path.now) }
+/// Finds the place that the history has for this path, if it has as many revisions as it says.
+fn find_place(history: &History, ancestry: &Ancestry) -> Result<Placed, TreeFault>
+    ensures { result ≡ ancestry_placement history.now (ancestry_of ancestry.now) }
 {
-    if start as usize != path.len() {
+    if ancestry.start as usize != ancestry.path.len() {
         return Err(TreeFault::BadPath);
     }
-    history.placement(path)
+    history.placement(&ancestry.path)
 }
