@@ -1,7 +1,7 @@
 -- The rows of the range of design documents give the design documents of the database, and rules are taken in row by row.
-use Rattle.std.proofs.Common.{◌≡◌, ◌⊎◌, ℕ, suc, ◌+◌, ◌<◌, arith, get_or, length, Bool, true, false, not, ◌||◌, cond, drop, nat_cmp, nat_eq, nat_lt, List, [], ◌∷◌, ◌++◌, Option, Some, None, option_map, Result, Ok, Err, eqb-true, refl, sym, ap, subst, ◌∙◌, inl, inr, append-nil, append_assoc}
+use Rattle.std.proofs.Common.{◌≡◌, ℕ, suc, ◌+◌, ◌<◌, arith, get_or, length, Bool, true, false, not, ◌||◌, cond, drop, nat_eq, List, [], ◌∷◌, ◌++◌, Option, Some, None, option_map, Result, Ok, Err, eqb-true, refl, sym, ap, subst, ◌∙◌, inl, inr}
 use Rattle.std.proofs.Math.Seq.{drop-cons}
-use Rattle.std.specs.Prelude.{IfOk, codes, filter, flat_map, option_and_then, string_bytes}
+use Rattle.std.specs.Prelude.{IfOk, codes, filter, flat_map, option_and_then}
 use Rattle.std.specs.List.{starts_with}
 use Rattle.std.specs.Cmp.{first_so, second_so}
 use Rattle.std.specs.FinMap as finite
@@ -10,12 +10,12 @@ use Rattle.auth.specs.Callers.{Identity}
 use Rattle.couch_json.specs.Value.{Value}
 use Rattle.policy.specs.UpdateRules.{Rules, rules_of, with_rule, with_rules}
 use Rattle.tree.specs.DocumentId.{is_design_id}
-use Rattle.tree.specs.History.{HistoryContent, held_of}
+use Rattle.tree.specs.History.{held_of}
 use Rattle.tree.specs.Revision.{Revision}
 use Rattle.tree.specs.declared.entry.Held.{Held}
 use Rattle.tree.proofs.Kept.{true_from_T}
 use Rattle.store.specs.Contents.{IfThere}
-use Rattle.store.specs.Database.{Database, Document, history_at, history_in}
+use Rattle.store.specs.Database.{Database, history_in}
 use Rattle.store.specs.Pages.{IdPage, in_direction, is_after_end_of, is_before_start_of, is_within, live_rev, live_rows, page_of_ids, rows_within, up_to_limit, with_row}
 use Rattle.store.specs.declared.page.IdRange.{IdRange}
 use Rattle.store.specs.declared.page.IdRow.{IdRow}

@@ -1,6 +1,6 @@
 -- The terms on which a caller writes into a database: who writes where, and the rules that the database has as the request finds it.
 -- CouchDB manual, ddocs/ddocs, "Validate Document Update Functions"; that the winner of a design document decides, and that the terms stay for a whole request, is this server's own.
-use Rattle.std.specs.Prelude.{ℕ, List, [], ◌∷◌, Option, Some, None, option_and_then, option_map, if◌then◌else◌}
+use Rattle.std.specs.Prelude.{ℕ, List, [], Option, option_and_then, option_map, if◌then◌else◌}
 use Rattle.std.specs.List.{flat_map}
 use Rattle.std.specs.Option.{option_to_list}
 use Rattle.std.specs.FinMap.{entries}

@@ -1,6 +1,5 @@
 -- The range has all design documents.
-use Rattle.std.proofs.Common.{Some, option_map, refl, ap}
-use Rattle.std.specs.Prelude.{string_bytes}
+use Rattle.std.proofs.Common.{Some, refl, ap}
 use Rattle.write.proofs.DesignRows.{design_within}
 use Rattle.write.proofs.terms.design_range.Goals as goal
 

@@ -1,6 +1,5 @@
 -- The rows of the range give the rules.
-use Rattle.std.proofs.Common.{ap, ◌∙◌}
-use Rattle.std.specs.Prelude.{IfOk}
+use Rattle.std.proofs.Common.{ap}
 use Rattle.std.specs.FinMap as finite
 use Rattle.store.specs.Contents.{Contents}
 use Rattle.store.specs.Paging.{id_page_of}
