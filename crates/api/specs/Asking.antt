@@ -21,13 +21,13 @@ abbrev pub pair_of : HeaderField → List ℕ × List ℕ
 pair_of h = (h.name, h.value)
 
 -- a caller whom the headers make nobody is refused as an anonymous one
-abbrev pub known : Result Identity AuthFault → Result Identity Refusal
-known (Ok caller) = Ok caller
-known (Err fault) = Err (Unauthorized ProxyToken)
+abbrev pub identity_or_refusal : Result Identity AuthFault → Result Identity Refusal
+identity_or_refusal (Ok caller) = Ok caller
+identity_or_refusal (Err fault) = Err (Unauthorized ProxyToken)
 
 -- who asks, or a refusal
-abbrev pub asking : Configuration → Message → Result Identity Refusal
-asking c m = known (caller_of (map pair_of m.headers) c.secret c.admins)
+abbrev pub asker : Configuration → Message → Result Identity Refusal
+asker c m = identity_or_refusal (caller_of (map pair_of m.headers) c.secret c.admins)
 
 -- the refusal of a caller by a rule
 abbrev pub denied_to : Option (List ℕ) → Rule → Refusal
@@ -35,8 +35,8 @@ denied_to None rule = Unauthorized rule
 denied_to (Some name) rule = Forbidden rule
 
 -- an anonymous caller could become another one, a caller with a name could not
-abbrev pub denied : Identity → Rule → Refusal
-denied caller rule = denied_to caller.name rule
+abbrev pub denial : Identity → Rule → Refusal
+denial caller rule = denied_to caller.name rule
 
 -- the method of this name, where some page has it
 abbrev pub method_of : List ℕ → Option RequestMethod

@@ -1,10 +1,10 @@
 -- The parts of a path, and what a part says once its escapes are read.
 -- RFC 3986, sections 2.1 and 3.3 (escapes, segments); CouchDB manual, api/basics (names in paths are escaped).
-use Rattle.std.specs.Prelude.{ℕ, ◌==◌, Bool, ◌&&◌, not, List, Option, Some, None, option_and_then, if◌then◌else◌, slice_get}
+use Rattle.std.specs.Prelude.{ℕ, ◌==◌, Bool, ◌&&◌, not, List, ◌∷◌, ◌++◌, Option, Some, None, option_map, option_and_then, if◌then◌else◌, slice_get}
 use Rattle.std.specs.List.{slice_split}
 use Rattle.std.specs.Str.{is_utf8}
 use Rattle.percent_encoding.specs.Percent.{percent_decode}
-use Rattle.tree.specs.DocumentId.{is_document_id, is_design_id, is_local_id}
+use Rattle.tree.specs.DocumentId.{is_document_id, is_local_id}
 use Rattle.store.specs.DatabaseName.{is_database_name}
 
 -- the byte of a slash
@@ -23,12 +23,12 @@ abbrev pub text_if : Bool → List ℕ → Option (List ℕ)
 text_if good text = if good then Some text else None
 
 -- the text that a part stands for, where it is UTF-8
-abbrev pub decoded : List ℕ → Option (List ℕ)
-decoded part = text_if (is_utf8 (percent_decode part)) (percent_decode part)
+abbrev pub decoded_text : List ℕ → Option (List ℕ)
+decoded_text part = text_if (is_utf8 (percent_decode part)) (percent_decode part)
 
 -- the text that the part at this place stands for
 abbrev pub decoded_at : ℕ → List ℕ → Option (List ℕ)
-decoded_at place path = option_and_then (λ part. decoded part) (part_at place path)
+decoded_at place path = option_and_then (λ part. decoded_text part) (part_at place path)
 
 abbrev pub name_if : List ℕ → Option (List ℕ)
 name_if text = text_if (is_database_name text) text
@@ -37,13 +37,25 @@ name_if text = text_if (is_database_name text) text
 abbrev pub database_name_in : List ℕ → Option (List ℕ)
 database_name_in path = option_and_then (λ text. name_if text) (decoded_at 1 path)
 
--- an id of a document that is served: no design document, and no local one
+-- an id of a document that is served: no local one
 abbrev pub is_served_id : List ℕ → Bool
-is_served_id text = is_document_id text && not (is_design_id text) && not (is_local_id text)
+is_served_id text = is_document_id text && not (is_local_id text)
 
 abbrev pub id_if : List ℕ → Option (List ℕ)
 id_if text = text_if (is_served_id text) text
 
+-- two texts with a slash between them, as in the id of a design document
+abbrev pub joined_by_slash : Option (List ℕ) → Option (List ℕ) → Option (List ℕ)
+joined_by_slash first second = option_and_then (λ a. option_map (λ b. a ++ slash ∷ b) second) first
+
+-- what stands behind the database's name: one part, or two with a slash between them
+abbrev pub id_text_by : Option (List ℕ) → List ℕ → Option (List ℕ)
+id_text_by None path = decoded_at 2 path
+id_text_by (Some part) path = joined_by_slash (decoded_at 2 path) (decoded_at 3 path)
+
+abbrev pub id_text_in : List ℕ → Option (List ℕ)
+id_text_in path = id_text_by (part_at 3 path) path
+
 -- the id of the document that a path leads to, where it is one
 abbrev pub document_id_in : List ℕ → Option (List ℕ)
-document_id_in path = option_and_then (λ text. id_if text) (decoded_at 2 path)
+document_id_in path = option_and_then (λ text. id_if text) (id_text_in path)

@@ -19,6 +19,7 @@ routes =
     ∷ (codes "/{db}/", Database)
     ∷ (codes "/{db}/_security", Security)
     ∷ (codes "/{db}/_bulk_docs", BulkDocuments)
+    ∷ (codes "/{db}/_design/{name}", Document)
     ∷ (codes "/{db}/{id}", Document)
     ∷ []
 

@@ -3,7 +3,7 @@
 ghost use Rattle.std.specs.Prelude.{◌≡◌, IfOk, map, option_map, string_bytes};
 ghost use Rattle.couch_json.specs.View.{view};
 ghost use Rattle.couch_http.specs.Message.{header_field, message_of};
-ghost use Rattle.api.specs.Asking.{asking, body_of, denied, lacks_parameters, pair_of};
+ghost use Rattle.api.specs.Asking.{asker, body_of, denial, lacks_parameters, pair_of};
 ghost use Rattle.api.specs.Saying.{Says};
 ghost use Rattle.api.specs.Asking.{plain};
 
@@ -17,7 +17,7 @@ use std::alloc::Global;
 
 /// Tells who asks, by the proxy's headers.
 pub fn caller(alloc: Global, auth: &Auth, request: &Request) -> Result<Caller, RequestFault>
-    ensures { Says (λ caller. caller) result (asking auth.now (message_of request.now)) }
+    ensures { Says (λ caller. caller) result (asker auth.now (message_of request.now)) }
 {
     let headers = pairs(alloc, &request.headers)?;
     match auth.caller(&headers) {
@@ -41,8 +41,8 @@ fn pairs<'a>(alloc: Global, headers: &'a [Header]) -> Got<Vec<(&'a [u8], &'a [u8
 }
 
 /// Tells how a rule refuses this caller.
-pub fn denied(caller: &Caller, rule: Rule) -> Refusal
-    ensures { result ≡ denied caller.now rule }
+pub fn deny(caller: &Caller, rule: Rule) -> Refusal
+    ensures { result ≡ denial caller.now rule }
 {
     match caller.name() {
         None => Refusal::Unauthorized(rule),

@@ -50,11 +50,11 @@ fn documents_in(value: Json) -> Option<Vec<Json>>
     let Json::Object(members) = value else {
         return None;
     };
-    list_of(taken(members, "docs")?)
+    list_of(take_member(members, "docs")?)
 }
 
 /// The value at a name, taken out of the members of an object.
-fn taken(members: BTreeMap<String, Json>, name: &str) -> Option<Json>
+fn take_member(members: BTreeMap<String, Json>, name: &str) -> Option<Json>
     ensures { option_map view result ≡ member_at name.now (members_view members.entries) }
 {
     let mut members = members;

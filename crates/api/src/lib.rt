@@ -13,7 +13,7 @@ mod query;
 mod refusal;
 mod routes;
 
-pub use asking::{body, caller, denied, without_parameters};
+pub use asking::{body, caller, deny, without_parameters};
 pub use bulk::{BulkAsked, bulk_in};
 pub use fault::RequestFault;
 pub use members::put_text;

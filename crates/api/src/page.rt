@@ -11,6 +11,6 @@ pub enum Page {
     Security,
     /// `/{db}/_bulk_docs`: documents of a database that are written together.
     BulkDocuments,
-    /// `/{db}/{id}`: a document.
+    /// `/{db}/{id}` and `/{db}/_design/{name}`: a document.
     Document,
 }

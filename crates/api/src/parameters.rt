@@ -17,12 +17,12 @@ pub(crate) fn parameters(
 {
     match query {
         None => Ok(Vec::new(alloc)),
-        Some(query) => decoded(alloc, query.as_bytes()),
+        Some(query) => decode_form(alloc, query.as_bytes()),
     }
 }
 
 /// The names and values of a form.
-fn decoded(alloc: Global, form: &[u8]) -> Result<Vec<(String, String)>, AllocError>
+fn decode_form(alloc: Global, form: &[u8]) -> Result<Vec<(String, String)>, AllocError>
     ensures { IfOk result (λ parameters. texts_of parameters.items ≡ map parameter_of (raw_pairs form.now)) }
 {
     let mut parameters = Vec::new(alloc);

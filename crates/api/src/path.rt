@@ -1,9 +1,9 @@
 //! The parts of a request's path, and what a part says once its escapes are read (RFC 3986, sections 2.1 and 3.3).
 
-ghost use Rattle.std.specs.Prelude.{◌≡◌, IfOk, false, option_map, option_copied, string_bytes};
-ghost use Rattle.tree.specs.DocumentId.{is_design_id, is_local_id};
+ghost use Rattle.std.specs.Prelude.{◌≡◌, ◌++◌, ◌∷◌, IfOk, false, option_map, option_copied, string_bytes};
+ghost use Rattle.tree.specs.DocumentId.{is_local_id};
 ghost use Rattle.api.specs.Saying.{Says};
-ghost use Rattle.api.specs.Paths.{database_name_in, decoded, decoded_at, document_id_in, part_at, text_if};
+ghost use Rattle.api.specs.Paths.{database_name_in, decoded_text, decoded_at, document_id_in, id_text_in, part_at, slash, text_if};
 ghost use Rattle.api.specs.Refusals.{there_or};
 ghost use Rattle.std.specs.Str.{is_utf8};
 
@@ -30,13 +30,12 @@ pub fn database_name(alloc: Global, path: &str) -> Result<DbName, RequestFault>
     }
 }
 
-/// Reads the id of the document that a path leads to. Design documents and local ones are not served
-/// yet.
+/// Reads the id of the document that a path leads to. Local documents are not served yet.
 pub fn document_id(alloc: Global, path: &str) -> Result<DocId, RequestFault>
     ensures says { Says (λ id. id) result (there_or Refusal.Id (document_id_in path.now)) }
-    ensures plain { IfOk result (λ id. (is_design_id id ≡ false) × (is_local_id id ≡ false)) }
+    ensures plain { IfOk result (λ id. is_local_id id ≡ false) }
 {
-    let Some(text) = decoded_part(alloc, path, 2)? else {
+    let Some(text) = id_text(alloc, path)? else {
         return Err(RequestFault::Refused(Refusal::Id));
     };
     let id = match DocId::new(alloc, text.as_str()) {
@@ -44,32 +43,59 @@ pub fn document_id(alloc: Global, path: &str) -> Result<DocId, RequestFault>
         Err(IdFault::Shape) => return Err(RequestFault::Refused(Refusal::Id)),
         Err(IdFault::Memory) => return Err(RequestFault::Memory),
     };
-    if id.is_design() || id.is_local() {
+    if id.is_local() {
         return Err(RequestFault::Refused(Refusal::Id));
     }
     Ok(id)
 }
 
-/// The text that the part of a path at a place stands for, where it is UTF-8.
-fn decoded_part(alloc: Global, path: &str, place: usize) -> Got<Option<String>>
-    ensures { IfOk result (λ text. option_map string_bytes text ≡ decoded_at place path.now) }
+/// Reads the text that names a document: what stands behind the database's name, one part of the
+/// path, or two with a slash between them.
+fn id_text(alloc: Global, path: &str) -> Got<Option<String>>
+    ensures { IfOk result (λ text. option_map string_bytes text ≡ id_text_in path.now) }
 {
-    match part(path.as_bytes(), place) {
-        Some(part) => decoded(alloc, part),
+    let Some(first) = decoded_part(alloc, path, 2)? else {
+        return Ok(None);
+    };
+    if part(path.as_bytes(), 3).is_none() {
+        return Ok(Some(first));
+    }
+    match decoded_part(alloc, path, 3)? {
+        Some(second) => Ok(Some(join(first, &second)?)),
         None => Ok(None),
     }
 }
 
-/// What stands between the slashes of a path, at a place counted from 0.
+/// Joins two texts by a slash.
+fn join(first: String, second: &str) -> Got<String>
+    ensures { IfOk result (λ text. string_bytes text ≡ string_bytes first ++ slash ∷ second.now) }
+{
+    let mut text = first;
+    text.push('/')?;
+    text.push_str(second)?;
+    Ok(text)
+}
+
+/// Reads the text that the part of a path at a place stands for, where it is UTF-8.
+fn decoded_part(alloc: Global, path: &str, place: usize) -> Got<Option<String>>
+    ensures { IfOk result (λ text. option_map string_bytes text ≡ decoded_at place path.now) }
+{
+    match part(path.as_bytes(), place) {
+        Some(part) => decode_part(alloc, part),
+        None => Ok(None),
+    }
+}
+
+/// Finds what stands between the slashes of a path, at a place counted from 0.
 fn part(path: &[u8], place: usize) -> Option<&[u8]>
     ensures { option_copied result ≡ part_at place path.now }
 {
     path.split(|byte| *byte == b'/').nth(place)
 }
 
-/// The text that a part of a path stands for, where it is UTF-8.
-fn decoded(alloc: Global, part: &[u8]) -> Got<Option<String>>
-    ensures { IfOk result (λ text. option_map string_bytes text ≡ decoded part.now) }
+/// Reads the text that a part of a path stands for, where it is UTF-8.
+fn decode_part(alloc: Global, part: &[u8]) -> Got<Option<String>>
+    ensures { IfOk result (λ text. option_map string_bytes text ≡ decoded_text part.now) }
 {
     let mut bytes = Vec::new(alloc);
     percent_decode(part).append_to(&mut bytes)?;
@@ -79,7 +105,7 @@ fn decoded(alloc: Global, part: &[u8]) -> Got<Option<String>>
     }
 }
 
-/// The bytes as a text, where they are UTF-8.
+/// Reads the bytes as a text, where they are UTF-8.
 fn text(bytes: &[u8]) -> Option<&str>
     ensures { option_copied result ≡ text_if (is_utf8 bytes.now) bytes.now }
 {

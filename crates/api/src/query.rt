@@ -97,27 +97,27 @@ fn asked_by(alloc: Global, rev: Option<&str>, open_revs: Option<&str>) -> Got<Op
             Some(rev) => Ok(Some(Asked::Revision(rev))),
             None => Ok(None),
         },
-        (None, Some(open_revs)) => opened(alloc, open_revs),
+        (None, Some(open_revs)) => read_open_revisions(alloc, open_revs),
         (Some(_), Some(_)) => Ok(None),
     }
 }
 
 /// The open revisions that are asked for: `all`, or a JSON list of revisions.
-fn opened(alloc: Global, value: &str) -> Got<Option<Asked>>
+fn read_open_revisions(alloc: Global, value: &str) -> Got<Option<Asked>>
     ensures { IfOk result (λ asked. option_map asked_of asked ≡ open_revisions value.now) }
 {
     if value == "all" {
         return Ok(Some(Asked::Leaves));
     }
     match read(alloc, value.as_bytes()) {
-        Ok(value) => listed(alloc, &value),
+        Ok(value) => read_revisions(alloc, &value),
         Err(JsonFault::Memory) => Err(NoMemory),
         Err(_) => Ok(None),
     }
 }
 
 /// The revisions that a list spells.
-fn listed(alloc: Global, value: &Json) -> Got<Option<Asked>>
+fn read_revisions(alloc: Global, value: &Json) -> Got<Option<Asked>>
     ensures { IfOk result (λ asked. option_map asked_of asked ≡ option_map revisions (revisions_listed (view value.now))) }
 {
     let Some(items) = value.items() else {

@@ -8,13 +8,14 @@ use std::alloc::Global;
 use std::marker::Model;
 
 /// The paths that the server has, each with its page.
-const ROUTES: [(&str, Page); 7] = [
+const ROUTES: [(&str, Page); 8] = [
     ("/", Page::Welcome),
     ("/_all_dbs", Page::AllDatabases),
     ("/{db}", Page::Database),
     ("/{db}/", Page::Database),
     ("/{db}/_security", Page::Security),
     ("/{db}/_bulk_docs", Page::BulkDocuments),
+    ("/{db}/_design/{name}", Page::Document),
     ("/{db}/{id}", Page::Document),
 ];
 
@@ -39,7 +40,7 @@ impl Routes {
     /// Makes the router. Want of memory is its one refusal.
     #[tactic(auto, unfolding(crate::specs::Routing::table))]
     pub fn new(alloc: Global) -> Got<Routes> {
-        let router = routed(alloc, &ROUTES)?;
+        let router = build_router(alloc, &ROUTES)?;
         Ok(Routes { router })
     }
 
@@ -54,8 +55,8 @@ impl Routes {
     }
 }
 
-/// A router with these routes.
-fn routed(alloc: Global, routes: &[(&str, Page)]) -> Got<Router<Page>>
+/// Builds a router with these routes.
+fn build_router(alloc: Global, routes: &[(&str, Page)]) -> Got<Router<Page>>
     ensures { IfOk result (λ router. router ≡ with_routes (map (λ r. (r.0.now, r.1)) routes.now) []) }
 {
     let mut router = Router::new(alloc);

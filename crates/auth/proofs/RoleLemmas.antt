@@ -3,11 +3,11 @@ use Rattle.std.proofs.Common.{◌≡◌, ℕ, ◌==◌, Bool, true, false, not, 
 use Rattle.std.specs.List.{filter}
 use Rattle.std.proofs.lemmas.List.{map-append}
 use Rattle.std.proofs.lemmas.List.Elements.{filter-append}
-use Rattle.auth.specs.Roles.{trimmed}
+use Rattle.auth.specs.Roles.{without_blanks}
 
 -- the roles of some pieces: what they are when trimmed, without what is empty
 abbrev pub roles_of_pieces : List (List ℕ) → List (List ℕ)
-roles_of_pieces pieces = filter (λ role. not (length role == 0)) (map trimmed pieces)
+roles_of_pieces pieces = filter (λ role. not (length role == 0)) (map without_blanks pieces)
 
 append_empty : (xs : List (List ℕ)) → xs ≡ xs ++ []
 append_empty [] = refl
@@ -17,10 +17,10 @@ added : (is_empty : Bool) (before : List (List ℕ)) (role : List ℕ) → cond 
 added true before role = append_empty before
 added false before role = refl
 
-pub roles_of_pieces-push : (pieces : List (List ℕ)) (piece role : List ℕ) (before after : List (List ℕ)) → before ≡ roles_of_pieces pieces → role ≡ trimmed piece → after ≡ cond (length role == 0) before (before ++ role ∷ []) → after ≡ roles_of_pieces (pieces ++ piece ∷ [])
+pub roles_of_pieces-push : (pieces : List (List ℕ)) (piece role : List ℕ) (before after : List (List ℕ)) → before ≡ roles_of_pieces pieces → role ≡ without_blanks piece → after ≡ cond (length role == 0) before (before ++ role ∷ []) → after ≡ roles_of_pieces (pieces ++ piece ∷ [])
 roles_of_pieces-push pieces piece role before after so_far is pushed =
     let one = λ (r : List ℕ). cond (not (length r == 0)) (r ∷ []) [] in
-    let parts = ap (filter (λ r. not (length r == 0))) (map-append trimmed pieces (piece ∷ []))
-    ∙ filter-append (λ r. not (length r == 0)) (map trimmed pieces) (trimmed piece ∷ []) in
+    let parts = ap (filter (λ r. not (length r == 0))) (map-append without_blanks pieces (piece ∷ []))
+    ∙ filter-append (λ r. not (length r == 0)) (map without_blanks pieces) (without_blanks piece ∷ []) in
     pushed ∙ (added (length role == 0) before role ∙ (ap (λ b. b ++ one role) so_far
     ∙ (ap (λ r. roles_of_pieces pieces ++ one r) is ∙ sym parts)))

@@ -17,12 +17,12 @@ abbrev pub without_trailing_blanks : List ℕ → List ℕ
 without_trailing_blanks bs = reverse (without_leading_blanks (reverse bs))
 
 -- the text without the spaces and tabs at either end
-abbrev pub trimmed : List ℕ → List ℕ
-trimmed bs = without_trailing_blanks (without_leading_blanks bs)
+abbrev pub without_blanks : List ℕ → List ℕ
+without_blanks bs = without_trailing_blanks (without_leading_blanks bs)
 
 -- the roles of a header: what stands between its commas (byte 44), trimmed, without what is empty
 abbrev pub roles_in : List ℕ → List (List ℕ)
-roles_in value = filter (λ role. not (length role == 0)) (map trimmed (slice_split (λ b. b == 44) value))
+roles_in value = filter (λ role. not (length role == 0)) (map without_blanks (slice_split (λ b. b == 44) value))
 
 -- the role of server admins
 abbrev pub admin_role : List ℕ

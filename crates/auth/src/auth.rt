@@ -112,7 +112,7 @@ impl Auth {
             name.as_str(),
             self.admins.as_slice(),
         )?;
-        Ok(Caller::named(name, roles))
+        Ok(Caller::with_roles(name, roles))
     }
 
     /// Whether the name isn't empty and a token came that is the name's, byte by byte.

@@ -53,7 +53,7 @@ impl Caller {
     }
 
     /// The user of this name with these roles.
-    pub(crate) fn named(name: String, roles: Vec<String>) -> Caller
+    pub(crate) fn with_roles(name: String, roles: Vec<String>) -> Caller
         ensures { result ≡ record { name = Some (string_bytes name); roles = map string_bytes roles.items } }
     {
         Caller {

@@ -1,5 +1,5 @@
 ghost use Rattle.std.specs.Prelude.{◌≡◌, ◌==◌, [], ◌∷◌, ◌++◌, length, map, if◌then◌else◌, IfOk, OnOk, string_bytes};
-ghost use Rattle.auth.specs.Roles.{trimmed, roles_in, is_among, roles_of};
+ghost use Rattle.auth.specs.Roles.{without_blanks, roles_in, is_among, roles_of};
 
 use couch_json::Got;
 use std::alloc::Global;
@@ -14,7 +14,7 @@ pub(crate) fn roles_in(alloc: Global, value: &str) -> Got<Vec<String>>
 {
     let mut roles = Vec::new(alloc);
     for piece in value.split(',') {
-        push_role(alloc, &mut roles, trimmed(piece))?;
+        push_role(alloc, &mut roles, trim_blanks(piece))?;
     }
     Ok(roles)
 }
@@ -31,8 +31,8 @@ fn push_role(alloc: Global, roles: &mut Vec<String>, role: &str) -> Got<()>
 }
 
 /// The text without the spaces and tabs at either end.
-fn trimmed(text: &str) -> &str
-    ensures { result.now ≡ trimmed text.now }
+fn trim_blanks(text: &str) -> &str
+    ensures { result.now ≡ without_blanks text.now }
 {
     let front = text.trim_start_matches([' ', '\t']);
     front.trim_end_matches([' ', '\t'])

@@ -13,7 +13,7 @@ use Rattle.couch_http.specs.declared.fault.HttpFault.TheVariants.{Encoding, TooL
 use Rattle.couch_http.specs.Message.{HeaderField, Message}
 use Rattle.couch_http.specs.Fields.{has_transfer_encoding, request_length}
 use Rattle.couch_http.specs.Head.{HeadScan, within, complete, scan_from, head_scan}
-use Rattle.couch_http.specs.Stream.{Front, waits, broken, whole, head_limit, Begins, AtScan, ReadsHead, is_too_large, field_of, announced, with_body, with_length, after_head, front_of}
+use Rattle.couch_http.specs.Stream.{Front, waits, broken, whole, head_limit, Begins, AtScan, ReadsHead, is_too_large, field_of, announced_request, with_body, with_length, after_head, front_of}
 use Rattle.couch_http.specs.Places.{EndsAt}
 use Rattle.couch_http.proofs.ScanLemmas.{scan-append_complete, scan-append_within, scan_front}
 use Rattle.couch_http.proofs.BeginLemmas.{Begins_shorter, after_head_shorter}
@@ -47,12 +47,12 @@ head_arrives : (m : Message) (rest method target : List ℕ) (minor : ℕ) (head
 head_arrives m rest method target minor headers after piece w e = by_test (has_transfer_encoding headers) w e
   where
     by_test : (t : Bool)
-        → waits ≡ cond t (broken Encoding) (with_length (announced method target minor headers) (request_length headers) after)
+        → waits ≡ cond t (broken Encoding) (with_length (announced_request method target minor headers) (request_length headers) after)
         → whole m rest
-        ≡ cond t (broken Encoding) (with_length (announced method target minor headers) (request_length headers) (after ++ piece))
+        ≡ cond t (broken Encoding) (with_length (announced_request method target minor headers) (request_length headers) (after ++ piece))
         → length rest < length piece
     by_test true w e = cc
-    by_test false w e = length_arrives m (announced method target minor headers) (request_length headers) after piece rest w e
+    by_test false w e = length_arrives m (announced_request method target minor headers) (request_length headers) after piece rest w e
 
 reads_arrive : (head after piece : List ℕ) (m : Message) (rest : List ℕ) → ReadsHead head after waits
     → ReadsHead head (after ++ piece) (whole m rest) → length rest < length piece

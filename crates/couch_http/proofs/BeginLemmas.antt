@@ -11,7 +11,7 @@ use Rattle.couch_http.specs.declared.fault.HttpFault.TheVariants.{Encoding, TooL
 use Rattle.couch_http.specs.Message.{HeaderField, Message}
 use Rattle.couch_http.specs.Fields.{has_transfer_encoding, request_length}
 use Rattle.couch_http.specs.Head.{HeadScan, within, complete, scan_from, head_scan}
-use Rattle.couch_http.specs.Stream.{Front, waits, broken, whole, head_limit, Begins, AtHead, AtScan, ReadsHead, is_too_large, unfinished_head, field_of, announced, with_body, with_length, after_head}
+use Rattle.couch_http.specs.Stream.{Front, waits, broken, whole, head_limit, Begins, AtHead, AtScan, ReadsHead, is_too_large, unfinished_head, field_of, announced_request, with_body, with_length, after_head}
 use Rattle.couch_http.proofs.ScanLemmas.{scan-append_complete, scan-append_within, scan_front}
 
 -- a stream whose head is whole
@@ -87,10 +87,10 @@ pub after_head_shorter : (m : Message) (rest method target : List ℕ) (minor : 
 after_head_shorter m rest method target minor headers after e = by_test (has_transfer_encoding headers) e
   where
     by_test : (t : Bool)
-        → whole m rest ≡ cond t (broken Encoding) (with_length (announced method target minor headers) (request_length headers) after)
+        → whole m rest ≡ cond t (broken Encoding) (with_length (announced_request method target minor headers) (request_length headers) after)
         → length rest ≤ length after
     by_test true e = cc
-    by_test false e = whole_shorter m (announced method target minor headers) rest after (request_length headers) e
+    by_test false e = whole_shorter m (announced_request method target minor headers) rest after (request_length headers) e
 
 pub Begins_shorter : (bytes : List ℕ) (m : Message) (rest : List ℕ) → Begins bytes (whole m rest) → length rest < length bytes
 unfolding Begins

@@ -6,7 +6,7 @@ use Rattle.couch_http.specs.declared.scan.Line.TheVariants.{Empty}
 use Rattle.couch_http.specs.Message.{Message}
 use Rattle.couch_http.specs.Stream.{waits, broken, whole, Begins, StreamEnd, unfinished, ended, faulty, Cuts}
 use Rattle.couch_http.specs.Front.{head_limit}
-use Rattle.couch_http.specs.Pieces.{joined, CutInPieces, GoesOn}
+use Rattle.couch_http.specs.Pieces.{bytes_of_pieces, CutInPieces, GoesOn}
 use Rattle.couch_http.proofs.BeginLemmas.{Begins-waits}
 use Rattle.couch_http.proofs.StreamLaws.{Begins_unique, Begins-append_whole, Begins-append_broken}
 
@@ -106,7 +106,7 @@ Cuts-unfinished bytes (m ∷ ms) rest (r, begins, next) = by_last m.last next (C
 
 -- cut in pieces, a stream holds what it holds as a whole
 pub CutInPieces-whole : (pieces : List (List ℕ)) (left : List ℕ) (ms : List Message) (end : StreamEnd) → Begins left waits
-    → CutInPieces left pieces ms end → Cuts (left ++ joined pieces) ms end
+    → CutInPieces left pieces ms end → Cuts (left ++ bytes_of_pieces pieces) ms end
 CutInPieces-whole [] left ms end begins (none, same) =
     rw (append-nil, none, same) (begins, refl)
 CutInPieces-whole (piece ∷ pieces) left ms end begins (first, middle, cuts, on) =
@@ -115,14 +115,14 @@ CutInPieces-whole (piece ∷ pieces) left ms end begins (first, middle, cuts, on
     by_middle : (e : StreamEnd) → Cuts (left ++ piece) first e
         → GoesOn e (λ after others. CutInPieces after pieces others end) first ms end
         → ((after : List ℕ) (others : List Message) → Begins after waits → CutInPieces after pieces others end
-        → Cuts (after ++ joined pieces) others end)
-        → Cuts (left ++ piece ++ joined pieces) ms end
+        → Cuts (after ++ bytes_of_pieces pieces) others end)
+        → Cuts (left ++ piece ++ bytes_of_pieces pieces) ms end
     by_middle (unfinished after) cuts (others, then, same) again =
-        rw same (Cuts-append (left ++ piece) (joined pieces) first others after end cuts
+        rw same (Cuts-append (left ++ piece) (bytes_of_pieces pieces) first others after end cuts
         (again after others (Cuts-unfinished (left ++ piece) first after cuts) then))
-    by_middle ended cuts (same, e) again = rw (same, e) (Cuts-append_ended (left ++ piece) (joined pieces) first cuts)
+    by_middle ended cuts (same, e) again = rw (same, e) (Cuts-append_ended (left ++ piece) (bytes_of_pieces pieces) first cuts)
     by_middle (faulty fault) cuts (same, e) again =
-        rw (same, e) (Cuts-append_faulty (left ++ piece) (joined pieces) first fault cuts)
+        rw (same, e) (Cuts-append_faulty (left ++ piece) (bytes_of_pieces pieces) first fault cuts)
 
 -- nothing has come of the first request
 pub Begins-nothing : Begins [] waits

@@ -10,7 +10,7 @@ use Rattle.couch_http.specs.Cutting.{Answers, CutsTo, HasStreamFault, messages_o
 use Rattle.couch_http.specs.Fields.{body_limit, length_of, request_length, has_transfer_encoding, values_of}
 use Rattle.couch_http.specs.Head.{HeadScan, within, complete, head_scan}
 use Rattle.couch_http.specs.Message.{HeaderField, Message}
-use Rattle.couch_http.specs.Stream.{Front, waits, broken, whole, head_limit, with_length, announced, after_head, field_of, ReadsHead, AtScan, is_too_large, Begins, ended, faulty, Cuts, IsStreamFault}
+use Rattle.couch_http.specs.Stream.{Front, waits, broken, whole, head_limit, with_length, announced_request, after_head, field_of, ReadsHead, AtScan, is_too_large, Begins, ended, faulty, Cuts, IsStreamFault}
 
 -- a front that isn't broken by the fault of a call
 abbrev IsSound : Front Message → Type 0
@@ -49,7 +49,7 @@ head_sound false m size rest h = with_length_sound m size rest h
 
 after_head_sound : (method target : List ℕ) (minor : ℕ) (headers : List HeaderField) (rest : List ℕ) → IsSound (after_head method target minor headers rest)
 after_head_sound method target minor headers rest =
-    head_sound (has_transfer_encoding headers) (announced method target minor headers) (request_length headers) rest
+    head_sound (has_transfer_encoding headers) (announced_request method target minor headers) (request_length headers) rest
     (length_sound body_limit (Ok 0) tt (values_of (codes "Content-Length") headers))
 
 reads_sound : (head rest : List ℕ) (front : Front Message) → ReadsHead head rest front → IsSound front

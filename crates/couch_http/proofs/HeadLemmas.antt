@@ -11,11 +11,11 @@ use Rattle.httparse.specs.Spans.{span_bytes, header_bytes, name_and_value, IsReq
 use Rattle.couch_http.specs.Beginning.{field_at}
 use Rattle.couch_http.specs.Message.{HeaderField, Message}
 use Rattle.couch_http.specs.Fields.{has_transfer_encoding, request_length}
-use Rattle.couch_http.specs.Stream.{announced, with_body, after_head, field_of, front_of}
+use Rattle.couch_http.specs.Stream.{announced_request, with_body, after_head, field_of, front_of}
 
 -- the request that is announced awaits its body
 pub with_body-announced : (method target : List ℕ) (minor : ℕ) (headers : List HeaderField) (m : Message) (size : ℕ)
-    → has_transfer_encoding headers ≡ false → request_length headers ≡ Ok size → m ≡ announced method target minor headers
+    → has_transfer_encoding headers ≡ false → request_length headers ≡ Ok size → m ≡ announced_request method target minor headers
     → (rest : List ℕ) → with_body m size rest ≡ after_head method target minor headers rest
 with_body-announced method target minor headers m size plain length same rest = rw (same, plain, length) refl
 

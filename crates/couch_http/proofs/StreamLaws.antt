@@ -12,7 +12,7 @@ use Rattle.couch_http.specs.declared.fault.HttpFault.TheVariants.{Encoding, TooL
 use Rattle.couch_http.specs.Message.{HeaderField, Message}
 use Rattle.couch_http.specs.Fields.{has_transfer_encoding, request_length}
 use Rattle.couch_http.specs.Head.{HeadScan, within, complete, scan_from, head_scan}
-use Rattle.couch_http.specs.Stream.{Front, waits, broken, whole, head_limit, Begins, AtScan, ReadsHead, is_too_large, field_of, announced, with_body, with_length, after_head, front_of}
+use Rattle.couch_http.specs.Stream.{Front, waits, broken, whole, head_limit, Begins, AtScan, ReadsHead, is_too_large, field_of, announced_request, with_body, with_length, after_head, front_of}
 use Rattle.couch_http.proofs.ScanLemmas.{scan-append_complete, scan-append_within, scan_front}
 
 -- ---- one way
@@ -68,11 +68,11 @@ head_append : (m : Message) (rest method target : List ℕ) (minor : ℕ) (heade
 head_append m rest method target minor headers after more e = by_test (has_transfer_encoding headers) e
   where
     by_test : (t : Bool)
-        → whole m rest ≡ cond t (broken Encoding) (with_length (announced method target minor headers) (request_length headers) after)
+        → whole m rest ≡ cond t (broken Encoding) (with_length (announced_request method target minor headers) (request_length headers) after)
         → whole m (rest ++ more)
-        ≡ cond t (broken Encoding) (with_length (announced method target minor headers) (request_length headers) (after ++ more))
+        ≡ cond t (broken Encoding) (with_length (announced_request method target minor headers) (request_length headers) (after ++ more))
     by_test true e = cc
-    by_test false e = length_append m (announced method target minor headers) (request_length headers) rest after more e
+    by_test false e = length_append m (announced_request method target minor headers) (request_length headers) rest after more e
 
 pub Begins-append_whole : (bytes more : List ℕ) (m : Message) (rest : List ℕ) → Begins bytes (whole m rest)
     → Begins (bytes ++ more) (whole m (rest ++ more))
@@ -118,11 +118,11 @@ head_fault : (f : HttpFault) (method target : List ℕ) (minor : ℕ) (headers :
 head_fault f method target minor headers after more e = by_test (has_transfer_encoding headers) e
   where
     by_test : (t : Bool)
-        → broken f ≡ cond t (broken Encoding) (with_length (announced method target minor headers) (request_length headers) after)
+        → broken f ≡ cond t (broken Encoding) (with_length (announced_request method target minor headers) (request_length headers) after)
         → broken f
-        ≡ cond t (broken Encoding) (with_length (announced method target minor headers) (request_length headers) (after ++ more))
+        ≡ cond t (broken Encoding) (with_length (announced_request method target minor headers) (request_length headers) (after ++ more))
     by_test true e = e
-    by_test false e = length_fault f (announced method target minor headers) (request_length headers) after more e
+    by_test false e = length_fault f (announced_request method target minor headers) (request_length headers) after more e
 
 -- a stream without a head that is as long as a head may be stays too large
 still_long : (bytes more : List ℕ) (n : ℕ) (line : Line) (f : HttpFault) → head_scan bytes ≡ within n line

@@ -4,7 +4,7 @@ use Rattle.std.specs.Prelude.{◌≡◌, ℕ, ◌<◌, ◌↔◌, List, [], ◌+
 use Rattle.couch_http.specs.Message.{Message}
 use Rattle.couch_http.specs.Head.{IsHead, head_scan, complete}
 use Rattle.couch_http.specs.Stream.{waits, Begins, StreamEnd, unfinished, ended, faulty, Cuts, IsStreamFault}
-use Rattle.couch_http.specs.Pieces.{joined, CutInPieces}
+use Rattle.couch_http.specs.Pieces.{bytes_of_pieces, CutInPieces}
 use Rattle.couch_http.specs.Places.{EndsAt}
 use Rattle.couch_http.specs.declared.fault.HttpFault.{HttpFault}
 
@@ -30,7 +30,7 @@ StaysEnded =
 -- two ways to cut a stream into pieces give the same requests and the same end
 abbrev pub PiecesDoNotMatter : Type 0
 PiecesDoNotMatter =
-    (pieces others : List (List ℕ)) (messages also : List Message) (end other : StreamEnd) → joined pieces ≡ joined others
+    (pieces others : List (List ℕ)) (messages also : List Message) (end other : StreamEnd) → bytes_of_pieces pieces ≡ bytes_of_pieces others
     → CutInPieces [] pieces messages end → CutInPieces [] others also other → (messages ≡ also) × (end ≡ other)
 
 -- the front of a stream that a search for the end of a head passes is a head, and there is no other

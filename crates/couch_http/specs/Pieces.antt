@@ -6,8 +6,8 @@ use Rattle.couch_http.specs.Message.{Message}
 use Rattle.couch_http.specs.Stream.{StreamEnd, unfinished, ended, faulty, Cuts}
 
 -- the bytes of all the pieces
-abbrev pub joined : List (List ℕ) → List ℕ
-joined pieces = flat_map (λ piece. piece) pieces
+abbrev pub bytes_of_pieces : List (List ℕ) → List ℕ
+bytes_of_pieces pieces = flat_map (λ piece. piece) pieces
 
 -- after a piece that gave the first of the requests; Next says what the later pieces give behind what was left
 abbrev pub GoesOn : StreamEnd → (List ℕ → List Message → Type 0) → List Message → List Message → StreamEnd → Type 0

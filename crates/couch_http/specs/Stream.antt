@@ -27,8 +27,8 @@ abbrev pub with_length : Message → Result ℕ HttpFault → List ℕ → Front
 with_length m size rest = with_content_length (λ body. record m { body = body }) size rest
 
 -- the request that a head announces, without its body
-abbrev pub announced : List ℕ → List ℕ → ℕ → List HeaderField → Message
-announced method target minor headers = record {
+abbrev pub announced_request : List ℕ → List ℕ → ℕ → List HeaderField → Message
+announced_request method target minor headers = record {
   method = method;
   path = path_of target;
   query = query_of target;
@@ -41,7 +41,7 @@ announced method target minor headers = record {
 abbrev pub after_head : List ℕ → List ℕ → ℕ → List HeaderField → List ℕ → Front Message
 after_head method target minor headers rest =
     if has_transfer_encoding headers then broken Encoding
-    else with_length (announced method target minor headers) (request_length headers) rest
+    else with_length (announced_request method target minor headers) (request_length headers) rest
 
 abbrev pub front_of : RequestHead → List ℕ → Front Message
 front_of h rest = after_head h.method h.target h.minor (map field_of h.fields) rest

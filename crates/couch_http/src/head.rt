@@ -38,7 +38,7 @@ pub fn read_head(alloc: Global, head: &[u8]) -> Got<HeadRead>
 {
     let mut spans = [EMPTY_HEADER_SPAN; HEADER_LIMIT];
     match find_parts(head, &mut spans) {
-        Some(found) => announced(alloc, head, found, &spans[..found.headers]),
+        Some(found) => build_request(alloc, head, found, &spans[..found.headers]),
         None => Ok(HeadRead::Broken(HttpFault::Syntax)),
     }
 }
@@ -63,7 +63,7 @@ fn find_parts(head: &[u8], spans: &mut [HeaderSpan]) -> Option<RequestSpans>
 }
 
 /// The request whose parts were found in its head.
-fn announced(alloc: Global, head: &[u8], found: RequestSpans, spans: &[HeaderSpan]) -> Got<HeadRead>
+fn build_request(alloc: Global, head: &[u8], found: RequestSpans, spans: &[HeaderSpan]) -> Got<HeadRead>
     requires method { IsWithin (length head.now) found.method }
     requires path { IsWithin (length head.now) found.path }
     requires headers { All (IsHeaderWithin (length head.now)) spans.now }

@@ -81,18 +81,18 @@ impl Response {
         ensures { result ≡ fixed_reply fixed }
     {
         match fixed {
-            Fixed::Syntax => Response::standing(400, 99, fixed_texts::SYNTAX),
-            Fixed::Encoding => Response::standing(501, 103, fixed_texts::ENCODING),
-            Fixed::TooLarge => Response::standing(413, 105, fixed_texts::TOO_LARGE),
-            Fixed::Store { last: false } => Response::standing(500, 90, fixed_texts::STORE),
-            Fixed::Store { last: true } => Response::standing(500, 109, fixed_texts::STORE_LAST),
-            Fixed::NoRoom { last: false } => Response::standing(503, 88, fixed_texts::NO_ROOM),
-            Fixed::NoRoom { last: true } => Response::standing(503, 107, fixed_texts::NO_ROOM_LAST),
+            Fixed::Syntax => Response::from_text(400, 99, fixed_texts::SYNTAX),
+            Fixed::Encoding => Response::from_text(501, 103, fixed_texts::ENCODING),
+            Fixed::TooLarge => Response::from_text(413, 105, fixed_texts::TOO_LARGE),
+            Fixed::Store { last: false } => Response::from_text(500, 90, fixed_texts::STORE),
+            Fixed::Store { last: true } => Response::from_text(500, 109, fixed_texts::STORE_LAST),
+            Fixed::NoRoom { last: false } => Response::from_text(503, 88, fixed_texts::NO_ROOM),
+            Fixed::NoRoom { last: true } => Response::from_text(503, 107, fixed_texts::NO_ROOM_LAST),
         }
     }
 
     /// A reply whose text stands already, with its head in the first bytes.
-    fn standing(status: u16, head_len: usize, text: &'static str) -> Response
+    fn from_text(status: u16, head_len: usize, text: &'static str) -> Response
         requires { head_len ≤ length text.now }
         ensures { result ≡ record { status = status; body = drop head_len text.now; bytes = text.now } }
     {

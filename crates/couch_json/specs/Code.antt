@@ -16,10 +16,10 @@ back (gnum n) = gnil
 back (gcons a b) = b
 
 -- 1 where there is a pair
-abbrev paired : Gv → ℕ
-paired gnil = 0
-paired (gnum n) = 0
-paired (gcons a b) = 1
+abbrev pair_count : Gv → ℕ
+pair_count gnil = 0
+pair_count (gnum n) = 0
+pair_count (gcons a b) = 1
 
 abbrev mutual
   pub value_numbers : Value → Gv
@@ -51,13 +51,13 @@ mutual
   pub same_items : (vs ws : Items) → items_numbers vs ≡ items_numbers ws → vs ≡ ws
   same_items no_items no_items p = λ i. no_items
   same_items (item v vs) (item w ws) p = λ i. item (same_value v w (ap front p) i) (same_items vs ws (ap back p) i)
-  same_items vs ws p = absurd (omega (arith, ap paired p))
+  same_items vs ws p = absurd (omega (arith, ap pair_count p))
 
   pub same_members : (ms ns : Members) → members_numbers ms ≡ members_numbers ns → ms ≡ ns
   same_members no_members no_members p = λ i. no_members
   same_members (member a v ms) (member b w ns) p =
       λ i. member ((coded_list coded_ℕ).inj a b (ap front p) i) (same_value v w (ap (λ g. front (back g)) p) i) (same_members ms ns (ap (λ g. back (back g)) p) i)
-  same_members ms ns p = absurd (omega (arith, ap paired p))
+  same_members ms ns p = absurd (omega (arith, ap pair_count p))
 
 abbrev pub value_code : Coded Value
 value_code = record { code = value_numbers; inj = same_value }

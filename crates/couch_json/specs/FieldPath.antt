@@ -59,9 +59,9 @@ abbrev pub is_field_path : List ℕ → Bool
 is_field_path path = nat_le 1 (length path) && nat_le (length path) 256 && are_filled (names_in path)
 
 -- the value that the names lead to, from object to object
-abbrev pub reached : List (List ℕ) → Value → Option Value
-reached [] v = Some v
-reached (name ∷ names) v = option_and_then (reached names) (member_of v name)
+abbrev pub value_along : List (List ℕ) → Value → Option Value
+value_along [] v = Some v
+value_along (name ∷ names) v = option_and_then (value_along names) (member_of v name)
 
 abbrev pub value_at : List ℕ → Value → Option Value
-value_at path v = reached (names_in path) v
+value_at path v = value_along (names_in path) v

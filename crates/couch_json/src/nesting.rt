@@ -1,5 +1,5 @@
 ghost use Rattle.std.specs.Prelude.{◌≡◌, ◌≤◌};
-ghost use Rattle.couch_json.specs.Nesting.{place_after, open_after, nests_too_deep as nests_too_deep_lem};
+ghost use Rattle.couch_json.specs.Nesting.{place_after, open_after, nests_too_deep};
 
 /// The most brackets and braces that a text may have open at once.
 const MAX_OPEN: u8 = 110;
@@ -13,8 +13,8 @@ enum Place {
 }
 
 /// Whether more than 110 brackets and braces are ever open, outside of strings.
-pub(crate) fn nests_too_deep(bytes: &[u8]) -> bool
-    ensures { result ≡ nests_too_deep_lem bytes.now }
+pub(crate) fn check_nesting(bytes: &[u8]) -> bool
+    ensures { result ≡ nests_too_deep bytes.now }
 {
     let mut place = Place::Outside;
     let mut open_count = 0;

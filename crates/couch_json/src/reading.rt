@@ -5,7 +5,7 @@ ghost use Rattle.couch_json.specs.View.{view};
 
 use crate::converting::convert;
 use crate::fault::JsonFault;
-use crate::nesting::nests_too_deep;
+use crate::nesting::check_nesting;
 use crate::value::Json;
 use serde_json::Value;
 use serde_json::error::Category;
@@ -24,7 +24,7 @@ pub fn read(alloc: Global, bytes: &[u8]) -> Result<Json, JsonFault>
     ensures value { IfOk result (λ v. reading bytes.now ≡ Ok (view v)) }
     ensures fault { IfErr result (λ e. e ≢ JsonFault.Memory → reading bytes.now ≡ Err e) }
 {
-    if nests_too_deep(bytes) {
+    if check_nesting(bytes) {
         return Err(JsonFault::Depth);
     }
     convert(alloc, parse(alloc, bytes)?)

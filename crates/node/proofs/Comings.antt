@@ -9,12 +9,12 @@ use Rattle.store.specs.Contents.{Contents}
 use Rattle.store.specs.Database.{Database}
 use Rattle.tree.specs.Revision.{Revision}
 use Rattle.write.specs.Admission.{admission}
-use Rattle.node.specs.Answer.{entered, naming, outcome_in, performed, worked, working}
+use Rattle.node.specs.Answer.{entry, database_name_of, outcome_in, task_outcome, worked, work_task}
 use Rattle.node.specs.Answered.{done_of, outcome_of}
 use Rattle.node.specs.Coming.{Comes}
 use Rattle.node.specs.Work.{Done, Work}
 use Rattle.api.specs.Refusals.{next, there_or}
-use Rattle.node.specs.Works.{deletion, document_deleted, edit_asked, edited}
+use Rattle.node.specs.Works.{deletion, document_deleted, edit_asked, edit_done}
 use Rattle.node.specs.declared.answered.Worked.{Worked}
 use Rattle.api.specs.declared.refusal.Refusal.{Refusal}
 use Rattle.api.specs.declared.refusal.Refusal.TheVariants.{Conflict}
@@ -33,21 +33,21 @@ refused_on (Ok a) f refusal go h = absurd cc
 refused_on (Err other) f refusal go h = let same : other ≡ refusal = cc in ap Err same
 
 -- a database that is not entered is not worked in
-pub entry_stops : (databases : Contents) (caller : Identity) (chosen action : Action) (m : Message) (work : List ℕ → Work) (name : List ℕ) (stop : Stop) → chosen ≡ action → naming m ≡ Ok name
-    → Comes (λ (u : Unit {0}). get databases name) (Err stop) (next (entered caller chosen (get databases name)) (λ db. Ok (Some db)))
-    → Comes (outcome_of databases) (Err stop) (next (working action m work) (performed caller databases))
+pub entry_stops : (databases : Contents) (caller : Identity) (chosen action : Action) (m : Message) (work : List ℕ → Work) (name : List ℕ) (stop : Stop) → chosen ≡ action → database_name_of m ≡ Ok name
+    → Comes (λ (u : Unit {0}). get databases name) (Err stop) (next (entry caller chosen (get databases name)) (λ db. Ok (Some db)))
+    → Comes (outcome_of databases) (Err stop) (next (work_task action m work) (task_outcome caller databases))
 entry_stops databases caller chosen action m work name (Refused refusal) for own h =
-    ap (λ (r : Result (List ℕ) Refusal). next (next r (λ n. Ok (worked action n (work n)))) (performed caller databases)) own
-    ∙ refused_on (entered caller action (get databases name)) Some refusal (λ db. next (work name db) (λ d. Ok (outcome_in name d)))
-    (ap (λ (x : Action). next (entered caller x (get databases name)) (λ db. Ok (Some db))) (sym for) ∙ h)
+    ap (λ (r : Result (List ℕ) Refusal). next (next r (λ n. Ok (worked action n (work n)))) (task_outcome caller databases)) own
+    ∙ refused_on (entry caller action (get databases name)) Some refusal (λ db. next (work name db) (λ d. Ok (outcome_in name d)))
+    (ap (λ (x : Action). next (entry caller x (get databases name)) (λ db. Ok (Some db))) (sym for) ∙ h)
 entry_stops databases caller chosen action m work name Failed for own h = tt
 entry_stops databases caller chosen action m work name NoRoom for own h = tt
 
 -- a deletion that names a revision is its edit
 pub deletion_comes : (caller : Identity) (m : Message) (db : Database) (asked : List ℕ × Option Revision) (rev : Revision) (document : Value) (result : Result Worked Stop)
-    → edit_asked m ≡ Ok asked → asked.1 ≡ Some rev → document ≡ deletion → Comes (done_of db) result (edited caller 200 asked.0 (admission db asked.0 (Some rev) document))
+    → edit_asked m ≡ Ok asked → asked.1 ≡ Some rev → document ≡ deletion → Comes (done_of db) result (edit_done caller 200 asked.0 (admission db asked.0 (Some rev) document))
     → Comes (done_of db) result (document_deleted caller m db)
 deletion_comes caller m db asked rev document result own named made h =
-    subst (λ (r : Result (List ℕ × Option Revision) Refusal). Comes (done_of db) result (next r (λ a. next (there_or Conflict a.1) (λ s. edited caller 200 a.0 (admission db a.0 (Some s) deletion))))) (sym own)
-    (subst (λ (o : Option Revision). Comes (done_of db) result (next (there_or Conflict o) (λ s. edited caller 200 asked.0 (admission db asked.0 (Some s) deletion)))) (sym named)
-    (subst (λ (v : Value). Comes (done_of db) result (edited caller 200 asked.0 (admission db asked.0 (Some rev) v))) made h))
+    subst (λ (r : Result (List ℕ × Option Revision) Refusal). Comes (done_of db) result (next r (λ a. next (there_or Conflict a.1) (λ s. edit_done caller 200 a.0 (admission db a.0 (Some s) deletion))))) (sym own)
+    (subst (λ (o : Option Revision). Comes (done_of db) result (next (there_or Conflict o) (λ s. edit_done caller 200 asked.0 (admission db asked.0 (Some s) deletion)))) (sym named)
+    (subst (λ (v : Value). Comes (done_of db) result (edit_done caller 200 asked.0 (admission db asked.0 (Some rev) v))) made h))

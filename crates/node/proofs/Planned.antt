@@ -23,7 +23,7 @@ use Rattle.node.specs.Answered.{effect_of}
 use Rattle.api.specs.Bulk.{Bulk}
 use Rattle.node.specs.Bulk.{bulk_reply, edit_members, made_members}
 use Rattle.node.specs.Work.{appended}
-use Rattle.node.specs.Works.{bulk_written, edited}
+use Rattle.node.specs.Works.{bulk_written, edit_done}
 
 -- what holds where there is a database holds of it
 pub of_there : (o : Option Database) (db : Database) (fact : Database → Type 0) → o ≡ Some db → IfThere o fact → fact db
@@ -54,7 +54,7 @@ effect_alone (Security v) db w e = absurd (let same : w ∷ [] ≡ [] = cc in cc
 pub edit_comes : (caller : Identity) (status : ℕ) (id : List ℕ) (db : Database) (document : Value) (r : Result DocumentWrite WriteFault) (planned : Planned) (rev : Revision) (value : Value)
     → writes_alone (as_outcome r) ≡ Ok (planned_writes db planned.changes) → Plans db (document ∷ []) (as_outcome r ∷ []) planned
     → OfFirst (λ o. o ≡ Made rev) planned.results.items → value ≡ object (made_members (Some id) rev)
-    → edited caller status id r ≡ Ok (record { status = status; value = value; effect = effect_of planned.changes db })
+    → edit_done caller status id r ≡ Ok (record { status = status; value = value; effect = effect_of planned.changes db })
 edit_comes caller status id db document (Err fault) planned rev value alone plans first made = absurd cc
 edit_comes caller status id db document (Ok w) planned rev value alone plans first made =
     let o : outcome_told (Ok (Some w)) ≡ Made rev = first_told planned.results.items (told document (Ok (Some w))) rev plans.results first in

@@ -16,7 +16,7 @@ use Rattle.store.specs.Lawful.{AreLawful, IsLawful}
 use Rattle.store.proofs.Laters.{later_by_all, later_itself}
 use Rattle.store.proofs.Lawfuls.{lawful_by_all, lawful_empty, lawful_insert, lawful_remove, lawful_secured}
 use Rattle.policy.specs.Security.{closed}
-use Rattle.node.specs.Answer.{Change, Outcome, answer, creation, inside, judged, kept, removal, settled, with_change, with_effect_at}
+use Rattle.node.specs.Answer.{Change, Outcome, answer, creation, inside, judgement, kept, removal, settlement, with_change, with_effect_at}
 use Rattle.node.specs.Causes.{HasCause, LacksNumbers}
 use Rattle.node.specs.Effects.{Fits, IsLaterThan}
 use Rattle.api.specs.Paths.{database_name_in}
@@ -60,12 +60,12 @@ data Answered (a : Contents) (m : Message) (o : Outcome) : Type 0 where
   accepted : IsRight a m o → Answered a m o
   declined : o.change ≡ kept → o.status ≤ 412 → Answered a m o
 
-settled_answered : (c : Configuration) (a : Contents) (m : Message) (r : Result Outcome Refusal) → judged c a m ≡ r → Answered a m (settled r)
+settled_answered : (c : Configuration) (a : Contents) (m : Message) (r : Result Outcome Refusal) → judgement c a m ≡ r → Answered a m (settlement r)
 settled_answered c a m (Ok o) e = accepted (judged_right c a m o e)
 settled_answered c a m (Err refusal) e = declined refl (refusal_status refusal)
 
 answered : (c : Configuration) (a : Contents) (m : Message) → Answered a m (answer c a m)
-answered c a m = settled_answered c a m (judged c a m) refl
+answered c a m = settled_answered c a m (judgement c a m) refl
 
 status_at : (a : Contents) (m : Message) (o : Outcome) → Answered a m o → o.status ≤ 412
 status_at a m o (accepted right) = omega (arith, good_status o.status right.status)
@@ -142,7 +142,7 @@ answer_others c a m other not_own = change_others a m (answer c a m).change othe
 -- states that agree on the database of the path are answered alike
 pub answer_alike : (c : Configuration) (a b : Contents) (m : Message) → page_of m.path ≢ Some AllDatabases
     → ((name : List ℕ) → database_name_in m.path ≡ Some name → get a name ≡ get b name) → answer c a m ≡ answer c b m
-answer_alike c a b m single same = ap settled (judged_alike c a b m single same)
+answer_alike c a b m single same = ap settlement (judged_alike c a b m single same)
 
 -- ---- later databases
 

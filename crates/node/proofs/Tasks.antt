@@ -17,16 +17,16 @@ use Rattle.write.specs.declared.fault.WriteFault.{WriteFault}
 use Rattle.write.specs.Admission.{admission}
 use Rattle.write.proofs.Acceptances.{all_acceptable, edit_acceptable}
 use Rattle.tree.specs.Revision.{Revision}
-use Rattle.api.specs.Asking.{asking, body_of, method_of, plain}
+use Rattle.api.specs.Asking.{asker, body_of, method_of, plain}
 use Rattle.api.specs.Bulk.{bulk_in}
 use Rattle.api.specs.Routing.{page_of}
 use Rattle.write.specs.declared.fault.WriteFault.TheVariants.{BadDocument}
-use Rattle.node.specs.Answer.{Change, Outcome, Task, administering, allowed, change_at, created, creation, entered, governing, inside, judged, kept, listed, naming, outcome_in, performed, removal, removed, served, task_of, told, welcome, worked, working}
+use Rattle.node.specs.Answer.{Change, Outcome, Task, administration, permission, change_at, created, creation, entry, admin_task, inside, judgement, kept, listed, database_name_of, outcome_in, task_outcome, removal, removed, page_outcome, task_of, told, welcome, worked, work_task}
 use Rattle.node.specs.Effects.{Fits}
 use Rattle.api.specs.Paths.{database_name_in}
-use Rattle.node.specs.Work.{Done, Effect, Work, appended, nothing, reading, secured, shown}
+use Rattle.node.specs.Work.{Done, Effect, Work, appended, nothing, read_work, secured, value_done}
 use Rattle.api.specs.Refusals.{next, there_or, true_or}
-use Rattle.node.specs.Works.{database_read, document_deleted, document_read, document_written, documents_written, deletion, done, edit_asked, bulk_written, edited, security_read, security_set, security_written}
+use Rattle.node.specs.Works.{database_read, document_deleted, document_read, document_written, documents_written, deletion, done, edit_asked, bulk_written, edit_done, security_read, security_set, security_written}
 use Rattle.api.specs.declared.method.RequestMethod.{RequestMethod}
 use Rattle.api.specs.declared.method.RequestMethod.TheVariants.{Get, Put, Post, Delete}
 use Rattle.api.specs.declared.page.Page.{Page}
@@ -74,9 +74,9 @@ pub record IsSound (db : Database) (d : Done) : Type 0 where
 abbrev pub AreSound : Work → Type 0
 AreSound work = (db : Database) (d : Done) → work db ≡ Ok d → IsSound db d
 
-sound_reading : (read : Database → Result Value Refusal) → AreSound (reading read)
+sound_reading : (read : Database → Result Value Refusal) → AreSound (read_work read)
 sound_reading read db d e =
-    let k = went (read db) (λ value. Ok (shown value)) d e in
+    let k = went (read db) (λ value. Ok (value_done value)) d e in
     subst (λ (x : Done). IsSound db x) (same {A = Done} _ d k.then) (record { status = inl refl; fits = λ lawful. tt })
 
 sound_security : (m : Message) → AreSound (security_written m)
@@ -94,7 +94,7 @@ sound_security m db d e =
         absurd (let k : Err Body ≡ well d = subst P is h in cc)
 
 sound_edited : (caller : Identity) (status : ℕ) (id : List ℕ) (db : Database) (r : Result DocumentWrite WriteFault) (d : Done) → (status ≡ 200) ⊎ (status ≡ 201)
-    → ((w : DocumentWrite) → r ≡ Ok w → IsLawful db → AreAcceptable db (w ∷ [])) → edited caller status id r ≡ Ok d → IsSound db d
+    → ((w : DocumentWrite) → r ≡ Ok w → IsLawful db → AreAcceptable db (w ∷ [])) → edit_done caller status id r ≡ Ok d → IsSound db d
 sound_edited caller status id db (Ok w) d good ok e = subst (λ (x : Done). IsSound db x) (same {A = Done} _ d e) (record { status = good; fits = λ lawful. ok w refl lawful })
 sound_edited caller status id db (Err fault) d good ok e = absurd cc
 
@@ -104,14 +104,14 @@ edit_fits db id query document w e lawful = (edit_acceptable db id query documen
 
 sound_document : (caller : Identity) (m : Message) → AreSound (document_written caller m)
 sound_document caller m db d e =
-    let k = went (edit_asked m) (λ asked. next (body_of m) (λ document. edited caller 201 asked.0 (admission db asked.0 asked.1 document))) d e in
-    let l = went (body_of m) (λ document. edited caller 201 k.first.0 (admission db k.first.0 k.first.1 document)) d k.then in
+    let k = went (edit_asked m) (λ asked. next (body_of m) (λ document. edit_done caller 201 asked.0 (admission db asked.0 asked.1 document))) d e in
+    let l = went (body_of m) (λ document. edit_done caller 201 k.first.0 (admission db k.first.0 k.first.1 document)) d k.then in
     sound_edited caller 201 k.first.0 db (admission db k.first.0 k.first.1 l.first) d (inr refl) (λ w. edit_fits db k.first.0 k.first.1 l.first w) l.then
 
 sound_deletion : (caller : Identity) (m : Message) → AreSound (document_deleted caller m)
 sound_deletion caller m db d e =
-    let k = went (edit_asked m) (λ asked. next (there_or Conflict asked.1) (λ rev. edited caller 200 asked.0 (admission db asked.0 (Some rev) deletion))) d e in
-    let l = went (there_or Conflict k.first.1) (λ rev. edited caller 200 k.first.0 (admission db k.first.0 (Some rev) deletion)) d k.then in
+    let k = went (edit_asked m) (λ asked. next (there_or Conflict asked.1) (λ rev. edit_done caller 200 asked.0 (admission db asked.0 (Some rev) deletion))) d e in
+    let l = went (there_or Conflict k.first.1) (λ rev. edit_done caller 200 k.first.0 (admission db k.first.0 (Some rev) deletion)) d k.then in
     sound_edited caller 200 k.first.0 db (admission db k.first.0 (Some l.first) deletion) d (inl refl) (λ w. edit_fits db k.first.0 (Some l.first) deletion w) l.then
 
 sound_documents : (caller : Identity) (m : Message) → AreSound (documents_written caller m)
@@ -131,42 +131,42 @@ IsGood page m (created name asked) = database_name_in m.path ≡ Some name
 IsGood page m (removed name asked) = database_name_in m.path ≡ Some name
 IsGood page m (worked action name work) = (database_name_in m.path ≡ Some name) × AreSound work
 
-good_work : (page : Page) (action : Action) (m : Message) (w : List ℕ → Work) (task : Task) → ((name : List ℕ) → AreSound (w name)) → working action m w ≡ Ok task → IsGood page m task
+good_work : (page : Page) (action : Action) (m : Message) (w : List ℕ → Work) (task : Task) → ((name : List ℕ) → AreSound (w name)) → work_task action m w ≡ Ok task → IsGood page m task
 good_work page action m w task sound e =
-    let k = went (naming m) (λ name. Ok (worked action name (w name))) task e in
+    let k = went (database_name_of m) (λ name. Ok (worked action name (w name))) task e in
     subst (λ (x : Task). IsGood page m x) (same {A = Task} _ task k.then) (named DatabaseName (database_name_in m.path) k.first k.was, sound k.first)
 
-good_created : (page : Page) (caller : Identity) (m : Message) (asked : Result (Unit {0}) Refusal) (task : Task) → governing caller m (λ name. created name asked) ≡ Ok task → IsGood page m task
+good_created : (page : Page) (caller : Identity) (m : Message) (asked : Result (Unit {0}) Refusal) (task : Task) → admin_task caller m (λ name. created name asked) ≡ Ok task → IsGood page m task
 good_created page caller m asked task e =
-    let k = went (naming m) (λ name. next (administering caller) (λ _. Ok (created name asked))) task e in
-    let l = went (administering caller) (λ _. Ok (created k.first asked)) task k.then in
+    let k = went (database_name_of m) (λ name. next (administration caller) (λ _. Ok (created name asked))) task e in
+    let l = went (administration caller) (λ _. Ok (created k.first asked)) task k.then in
     subst (λ (x : Task). IsGood page m x) (same {A = Task} _ task l.then) (named DatabaseName (database_name_in m.path) k.first k.was)
 
-good_removed : (page : Page) (caller : Identity) (m : Message) (asked : Result (Unit {0}) Refusal) (task : Task) → governing caller m (λ name. removed name asked) ≡ Ok task → IsGood page m task
+good_removed : (page : Page) (caller : Identity) (m : Message) (asked : Result (Unit {0}) Refusal) (task : Task) → admin_task caller m (λ name. removed name asked) ≡ Ok task → IsGood page m task
 good_removed page caller m asked task e =
-    let k = went (naming m) (λ name. next (administering caller) (λ _. Ok (removed name asked))) task e in
-    let l = went (administering caller) (λ _. Ok (removed k.first asked)) task k.then in
+    let k = went (database_name_of m) (λ name. next (administration caller) (λ _. Ok (removed name asked))) task e in
+    let l = went (administration caller) (λ _. Ok (removed k.first asked)) task k.then in
     subst (λ (x : Task). IsGood page m x) (same {A = Task} _ task l.then) (named DatabaseName (database_name_in m.path) k.first k.was)
 
 good_welcome : (m : Message) (task : Task) → next (plain m) (λ _. Ok (told welcome)) ≡ Ok task → IsGood Welcome m task
 good_welcome m task e = let k = went (plain m) (λ _. Ok (told welcome)) task e in subst (λ (x : Task). IsGood Welcome m x) (same {A = Task} _ task k.then) tt
 
-good_list : (caller : Identity) (m : Message) (task : Task) → next (administering caller) (λ _. next (plain m) (λ _. Ok listed)) ≡ Ok task → IsGood AllDatabases m task
+good_list : (caller : Identity) (m : Message) (task : Task) → next (administration caller) (λ _. next (plain m) (λ _. Ok listed)) ≡ Ok task → IsGood AllDatabases m task
 good_list caller m task e =
-    let k = went (administering caller) (λ _. next (plain m) (λ _. Ok listed)) task e in
+    let k = went (administration caller) (λ _. next (plain m) (λ _. Ok listed)) task e in
     let l = went (plain m) (λ _. Ok listed) task k.then in
     subst (λ (x : Task). IsGood AllDatabases m x) (same {A = Task} _ task l.then) refl
 
 pub good : (page : Page) (method : Option RequestMethod) (caller : Identity) (m : Message) (task : Task) → task_of page method caller m ≡ Ok task → IsGood page m task
 good Welcome (Some Get) caller m task e = good_welcome m task e
 good AllDatabases (Some Get) caller m task e = good_list caller m task e
-good DatabasePage (Some Get) caller m task e = good_work DatabasePage Read m (λ name. reading (database_read m name)) task (λ name. sound_reading (database_read m name)) e
+good DatabasePage (Some Get) caller m task e = good_work DatabasePage Read m (λ name. read_work (database_read m name)) task (λ name. sound_reading (database_read m name)) e
 good DatabasePage (Some Put) caller m task e = good_created DatabasePage caller m (plain m) task e
 good DatabasePage (Some Delete) caller m task e = good_removed DatabasePage caller m (plain m) task e
-good Security (Some Get) caller m task e = good_work Security Read m (λ name. reading (security_read m)) task (λ name. sound_reading (security_read m)) e
+good Security (Some Get) caller m task e = good_work Security Read m (λ name. read_work (security_read m)) task (λ name. sound_reading (security_read m)) e
 good Security (Some Put) caller m task e = good_work Security WriteSecurity m (λ name. security_written m) task (λ name. sound_security m) e
 good BulkDocuments (Some Post) caller m task e = good_work BulkDocuments WriteDocument m (λ name. documents_written caller m) task (λ name. sound_documents caller m) e
-good Document (Some Get) caller m task e = good_work Document Read m (λ name. reading (document_read m)) task (λ name. sound_reading (document_read m)) e
+good Document (Some Get) caller m task e = good_work Document Read m (λ name. read_work (document_read m)) task (λ name. sound_reading (document_read m)) e
 good Document (Some Put) caller m task e = good_work Document WriteDocument m (λ name. document_written caller m) task (λ name. sound_document caller m) e
 good Document (Some Delete) caller m task e = good_work Document WriteDocument m (λ name. document_deleted caller m) task (λ name. sound_deletion caller m) e
 good page method caller m task e = absurd cc
@@ -190,11 +190,11 @@ made_at a m name db nothing own there fits = tt
 made_at a m name db (appended ws) own there fits = (own, (db, there, fits))
 made_at a m name db (secured v) own there fits = (own, (db, there, fits))
 
-there : (caller : Identity) (action : Action) (o : Option Database) (db : Database) → entered caller action o ≡ Ok db → o ≡ Some db
+there : (caller : Identity) (action : Action) (o : Option Database) (db : Database) → entry caller action o ≡ Ok db → o ≡ Some db
 there caller action None db e = absurd cc
-there caller action (Some d) db e = let k = went (allowed caller (verdict action caller d.security)) (λ _. Ok d) db e in ap Some (same d db k.then)
+there caller action (Some d) db e = let k = went (permission caller (verdict action caller d.security)) (λ _. Ok d) db e in ap Some (same d db k.then)
 
-pub right : (page : Page) (caller : Identity) (a : Contents) (m : Message) (task : Task) (o : Outcome) → IsGood page m task → performed caller a task ≡ Ok o → IsRight a m o
+pub right : (page : Page) (caller : Identity) (a : Contents) (m : Message) (task : Task) (o : Outcome) → IsGood page m task → task_outcome caller a task ≡ Ok o → IsRight a m o
 right page caller a m (told value) o ok e = subst (λ (x : Outcome). IsRight a m x) (same {A = Outcome} _ o e) (record { status = inl refl; made = tt })
 right page caller a m listed o ok e = subst (λ (x : Outcome). IsRight a m x) (same {A = Outcome} _ o e) (record { status = inl refl; made = tt })
 right page caller a m (created name asked) o ok e =
@@ -208,24 +208,24 @@ right page caller a m (removed name asked) o ok e =
     let l = went asked (λ _. Ok made) o k.then in
     subst (λ (x : Outcome). IsRight a m x) (same {A = Outcome} _ o l.then) (record { status = inl refl; made = ok })
 right page caller a m (worked action name work) o ok e =
-    let k = went (entered caller action (get a name)) (λ db. next (work db) (λ d. Ok (outcome_in name d))) o e in
+    let k = went (entry caller action (get a name)) (λ db. next (work db) (λ d. Ok (outcome_in name d))) o e in
     let l = went (work k.first) (λ d. Ok (outcome_in name d)) o k.then in
     let sound = ok.1 k.first l.first l.was in
     subst (λ (x : Outcome). IsRight a m x) (same {A = Outcome} _ o l.then)
     (record { status = sound.status; made = made_at a m name k.first l.first.effect ok.0 (there caller action (get a name) k.first k.was) sound.fits })
 
-pub judged_right : (c : Configuration) (a : Contents) (m : Message) (o : Outcome) → judged c a m ≡ Ok o → IsRight a m o
+pub judged_right : (c : Configuration) (a : Contents) (m : Message) (o : Outcome) → judgement c a m ≡ Ok o → IsRight a m o
 judged_right c a m o e =
-    let k = went (asking c m) (λ caller. next (there_or Path (page_of m.path)) (λ page. served page (method_of m.method) caller a m)) o e in
-    let l = went (there_or Path (page_of m.path)) (λ page. served page (method_of m.method) k.first a m) o k.then in
-    let t = went (task_of l.first (method_of m.method) k.first m) (λ task. performed k.first a task) o l.then in
+    let k = went (asker c m) (λ caller. next (there_or Path (page_of m.path)) (λ page. page_outcome page (method_of m.method) caller a m)) o e in
+    let l = went (there_or Path (page_of m.path)) (λ page. page_outcome page (method_of m.method) k.first a m) o k.then in
+    let t = went (task_of l.first (method_of m.method) k.first m) (λ task. task_outcome k.first a task) o l.then in
     right l.first k.first a m t.first o (good l.first (method_of m.method) k.first m t.first t.was) t.then
 
 -- ---- what depends on what
 
 -- what is asked is answered alike by two states that agree on the database of the path
 alike : (page : Page) (caller : Identity) (a b : Contents) (m : Message) (task : Task) → IsGood page m task → page ≢ AllDatabases
-    → ((name : List ℕ) → database_name_in m.path ≡ Some name → get a name ≡ get b name) → performed caller a task ≡ performed caller b task
+    → ((name : List ℕ) → database_name_in m.path ≡ Some name → get a name ≡ get b name) → task_outcome caller a task ≡ task_outcome caller b task
 alike page caller a b m (told value) ok single agree = refl
 alike page caller a b m listed ok single agree = absurd (single ok)
 alike page caller a b m (created name asked) ok single agree =
@@ -233,12 +233,12 @@ alike page caller a b m (created name asked) ok single agree =
 alike page caller a b m (removed name asked) ok single agree =
     ap (λ (o : Option Database). next (there_or NoDatabase o) (λ _. next asked (λ _. Ok (let x : Outcome = record { status = 200; value = done; change = removal name } in x)))) (agree name ok)
 alike page caller a b m (worked action name work) ok single agree =
-    ap (λ (o : Option Database). next (entered caller action o) (λ db. next (work db) (λ d. Ok (outcome_in name d)))) (agree name ok.0)
+    ap (λ (o : Option Database). next (entry caller action o) (λ db. next (work db) (λ d. Ok (outcome_in name d)))) (agree name ok.0)
 
 pub judged_alike : (c : Configuration) (a b : Contents) (m : Message) → page_of m.path ≢ Some AllDatabases
-    → ((name : List ℕ) → database_name_in m.path ≡ Some name → get a name ≡ get b name) → judged c a m ≡ judged c b m
+    → ((name : List ℕ) → database_name_in m.path ≡ Some name → get a name ≡ get b name) → judgement c a m ≡ judgement c b m
 judged_alike c a b m single agree =
-    next_same (asking c m) _ _ (λ caller is.
+    next_same (asker c m) _ _ (λ caller is.
     next_same (there_or Path (page_of m.path)) _ _ (λ page at.
     next_same (task_of page (method_of m.method) caller m) _ _ (λ task asked.
     alike page caller a b m task (good page (method_of m.method) caller m task asked) (λ all. single (named Path (page_of m.path) page at ∙ ap Some all)) agree)))

@@ -13,11 +13,11 @@ use Rattle.policy.specs.declared.action.Action.TheVariants.{Administer, Read, Wr
 use Rattle.policy.specs.declared.rule.Rule.{Rule}
 use Rattle.store.specs.Contents.{Contents, new_database}
 use Rattle.store.specs.Database.{Database}
-use Rattle.api.specs.Asking.{asking, denied, method_of, plain}
+use Rattle.api.specs.Asking.{asker, denial, method_of, plain}
 use Rattle.api.specs.Paths.{database_name_in}
 use Rattle.api.specs.Refusals.{refusal_value, status_of, next, there_or, true_or}
 use Rattle.api.specs.Routing.{page_of}
-use Rattle.node.specs.Work.{Done, Effect, Work, appended, nothing, reading, secured, with_effect}
+use Rattle.node.specs.Work.{Done, Effect, Work, appended, nothing, read_work, secured, with_effect}
 use Rattle.node.specs.Works.{database_read, document_deleted, document_read, document_written, documents_written, done, security_read, security_written}
 use Rattle.api.specs.declared.method.RequestMethod.{RequestMethod}
 use Rattle.api.specs.declared.method.RequestMethod.TheVariants.{Get, Put, Post, Delete}
@@ -86,82 +86,82 @@ abbrev pub welcome : Value
 welcome = object (put (codes "version") (text (codes "3-profile")) (put (codes "couchdb") (text (codes "Welcome")) no_members))
 
 -- no rule refuses
-abbrev pub allowed : Identity → Option Rule → Result (Unit {0}) Refusal
-allowed caller None = Ok tt
-allowed caller (Some rule) = Err (denied caller rule)
+abbrev pub permission : Identity → Option Rule → Result (Unit {0}) Refusal
+permission caller None = Ok tt
+permission caller (Some rule) = Err (denial caller rule)
 
 -- the caller may list, create and remove databases; no security object is asked
-abbrev pub administering : Identity → Result (Unit {0}) Refusal
-administering caller = allowed caller (verdict Administer caller closed)
+abbrev pub administration : Identity → Result (Unit {0}) Refusal
+administration caller = permission caller (verdict Administer caller closed)
 
 -- the name of the database that the path leads into
-abbrev pub naming : Message → Result (List ℕ) Refusal
-naming m = there_or DatabaseName (database_name_in m.path)
+abbrev pub database_name_of : Message → Result (List ℕ) Refusal
+database_name_of m = there_or DatabaseName (database_name_in m.path)
 
 -- what is asked of the database that the path leads into
-abbrev pub working : Action → Message → (List ℕ → Work) → Result Task Refusal
-working action m work = next (naming m) (λ name. Ok (worked action name (work name)))
+abbrev pub work_task : Action → Message → (List ℕ → Work) → Result Task Refusal
+work_task action m work = next (database_name_of m) (λ name. Ok (worked action name (work name)))
 
 -- what is asked of a server admin about that database as a whole
-abbrev pub governing : Identity → Message → (List ℕ → Task) → Result Task Refusal
-governing caller m task = next (naming m) (λ name. next (administering caller) (λ _. Ok (task name)))
+abbrev pub admin_task : Identity → Message → (List ℕ → Task) → Result Task Refusal
+admin_task caller m task = next (database_name_of m) (λ name. next (administration caller) (λ _. Ok (task name)))
 
 -- what each page has for a method
 abbrev pub task_of : Page → Option RequestMethod → Identity → Message → Result Task Refusal
 task_of Welcome (Some Get) caller m = next (plain m) (λ _. Ok (told welcome))
-task_of AllDatabases (Some Get) caller m = next (administering caller) (λ _. next (plain m) (λ _. Ok listed))
-task_of DatabasePage (Some Get) caller m = working Read m (λ name. reading (database_read m name))
-task_of DatabasePage (Some Put) caller m = governing caller m (λ name. created name (plain m))
-task_of DatabasePage (Some Delete) caller m = governing caller m (λ name. removed name (plain m))
-task_of Security (Some Get) caller m = working Read m (λ name. reading (security_read m))
-task_of Security (Some Put) caller m = working WriteSecurity m (λ name. security_written m)
-task_of BulkDocuments (Some Post) caller m = working WriteDocument m (λ name. documents_written caller m)
-task_of Document (Some Get) caller m = working Read m (λ name. reading (document_read m))
-task_of Document (Some Put) caller m = working WriteDocument m (λ name. document_written caller m)
-task_of Document (Some Delete) caller m = working WriteDocument m (λ name. document_deleted caller m)
+task_of AllDatabases (Some Get) caller m = next (administration caller) (λ _. next (plain m) (λ _. Ok listed))
+task_of DatabasePage (Some Get) caller m = work_task Read m (λ name. read_work (database_read m name))
+task_of DatabasePage (Some Put) caller m = admin_task caller m (λ name. created name (plain m))
+task_of DatabasePage (Some Delete) caller m = admin_task caller m (λ name. removed name (plain m))
+task_of Security (Some Get) caller m = work_task Read m (λ name. read_work (security_read m))
+task_of Security (Some Put) caller m = work_task WriteSecurity m (λ name. security_written m)
+task_of BulkDocuments (Some Post) caller m = work_task WriteDocument m (λ name. documents_written caller m)
+task_of Document (Some Get) caller m = work_task Read m (λ name. read_work (document_read m))
+task_of Document (Some Put) caller m = work_task WriteDocument m (λ name. document_written caller m)
+task_of Document (Some Delete) caller m = work_task WriteDocument m (λ name. document_deleted caller m)
 task_of page method caller m = Err Method
 
 -- ---- what comes of it
 
 -- the database, where there is one and its policy lets the caller do this
-abbrev pub entered : Identity → Action → Option Database → Result Database Refusal
-entered caller action None = Err NoDatabase
-entered caller action (Some db) = next (allowed caller (verdict action caller db.security)) (λ _. Ok db)
+abbrev pub entry : Identity → Action → Option Database → Result Database Refusal
+entry caller action None = Err NoDatabase
+entry caller action (Some db) = next (permission caller (verdict action caller db.security)) (λ _. Ok db)
 
 -- the names of the databases, in byte order
 abbrev pub names_of : Contents → Value
 names_of databases = array (items_of (map text (keys databases)))
 
-abbrev pub performed : Identity → Contents → Task → Result Outcome Refusal
-performed caller databases (told value) = Ok (reply value)
-performed caller databases listed = Ok (reply (names_of databases))
-performed caller databases (created name asked) =
+abbrev pub task_outcome : Identity → Contents → Task → Result Outcome Refusal
+task_outcome caller databases (told value) = Ok (reply value)
+task_outcome caller databases listed = Ok (reply (names_of databases))
+task_outcome caller databases (created name asked) =
     next (true_or Exists (is_none (get databases name))) (λ _.
     next asked (λ _. Ok (record { status = 201; value = done; change = creation name })))
-performed caller databases (removed name asked) =
+task_outcome caller databases (removed name asked) =
     next (there_or NoDatabase (get databases name)) (λ _.
     next asked (λ _. Ok (record { status = 200; value = done; change = removal name })))
-performed caller databases (worked action name work) =
-    next (entered caller action (get databases name)) (λ db. next (work db) (λ d. Ok (outcome_in name d)))
+task_outcome caller databases (worked action name work) =
+    next (entry caller action (get databases name)) (λ db. next (work db) (λ d. Ok (outcome_in name d)))
 
 -- ---- all requests
 
-abbrev pub served : Page → Option RequestMethod → Identity → Contents → Message → Result Outcome Refusal
-served page method caller databases m = next (task_of page method caller m) (λ task. performed caller databases task)
+abbrev pub page_outcome : Page → Option RequestMethod → Identity → Contents → Message → Result Outcome Refusal
+page_outcome page method caller databases m = next (task_of page method caller m) (λ task. task_outcome caller databases task)
 
 -- what a request comes to, or the first refusal, in this order: the caller's token, the path, the method, the database's name, the right to
 -- list, create or remove databases, the database's absence, its policy, the document's id, the query, the body, and what the edit is
 -- refused for
-abbrev pub judged : Configuration → Contents → Message → Result Outcome Refusal
-judged c databases m =
-    next (asking c m) (λ caller.
-    next (there_or Path (page_of m.path)) (λ page. served page (method_of m.method) caller databases m))
+abbrev pub judgement : Configuration → Contents → Message → Result Outcome Refusal
+judgement c databases m =
+    next (asker c m) (λ caller.
+    next (there_or Path (page_of m.path)) (λ page. page_outcome page (method_of m.method) caller databases m))
 
 -- a refusal changes nothing
-abbrev pub settled : Result Outcome Refusal → Outcome
-settled (Ok outcome) = outcome
-settled (Err refusal) = record { status = status_of refusal; value = refusal_value refusal; change = kept }
+abbrev pub settlement : Result Outcome Refusal → Outcome
+settlement (Ok outcome) = outcome
+settlement (Err refusal) = record { status = status_of refusal; value = refusal_value refusal; change = kept }
 
 -- the answer to a request
 abbrev pub answer : Configuration → Contents → Message → Outcome
-answer c databases m = settled (judged c databases m)
+answer c databases m = settlement (judgement c databases m)

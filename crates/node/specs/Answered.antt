@@ -15,7 +15,7 @@ use Rattle.write.specs.declared.planned.Changes.{Changes}
 use Rattle.write.specs.declared.planned.Changes.TheVariants.{Writes, Security as SecurityObject}
 use Rattle.couch_json.specs.Value.{Value}
 use Rattle.node.specs.Answer as answer
-use Rattle.node.specs.Work.{Done, Effect, Work, appended, reading, secured}
+use Rattle.node.specs.Work.{Done, Effect, Work, appended, read_work, secured}
 use Rattle.node.specs.Works.{database_read, document_deleted, document_read, document_written, documents_written, security_read, security_written}
 use Rattle.api.specs.declared.refusal.Refusal.{Refusal}
 use Rattle.node.specs.declared.answered.Answered.{Answered}
@@ -44,7 +44,7 @@ writing_of write.Document caller m = document_written caller m
 writing_of write.Deletion caller m = document_deleted caller m
 
 abbrev pub work_of : WorkAsked → Identity → Message → List ℕ → Work
-work_of (asked.Read r) caller m name = reading (reading_of r m name)
+work_of (asked.Read r) caller m name = read_work (reading_of r m name)
 work_of (asked.Write w) caller m name = writing_of w caller m
 
 abbrev pub action_of_writing : Writing → Action

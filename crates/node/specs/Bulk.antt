@@ -52,10 +52,10 @@ failures_listed caller [] = []
 failures_listed caller (told ∷ rest) = if_failed caller told told.outcome (failures_listed caller rest)
 
 -- an element for each new edit, in order; of replicated documents those that were refused alone
-abbrev pub listed : Identity → Bool → List Told → List Value
-listed caller true all = map (edit_listed caller) all
-listed caller false all = failures_listed caller all
+abbrev pub element_list : Identity → Bool → List Told → List Value
+element_list caller true all = map (edit_listed caller) all
+element_list caller false all = failures_listed caller all
 
 -- what the reply to this caller says of all of them
 abbrev pub bulk_reply : Identity → Bool → List Told → Value
-bulk_reply caller new_edits all = array (items_of (listed caller new_edits all))
+bulk_reply caller new_edits all = array (items_of (element_list caller new_edits all))

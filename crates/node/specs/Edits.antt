@@ -3,7 +3,7 @@
 use Rattle.auth.specs.Callers.{Identity}
 use Rattle.write.specs.declared.fault.WriteFault.{WriteFault}
 use Rattle.write.specs.declared.fault.WriteFault.TheVariants as write
-use Rattle.api.specs.Asking.{denied}
+use Rattle.api.specs.Asking.{denial}
 use Rattle.api.specs.declared.refusal.Refusal.{Refusal}
 use Rattle.api.specs.declared.refusal.Refusal.TheVariants.{BadDocument, BadHistory, Conflict, Generation}
 
@@ -11,7 +11,7 @@ use Rattle.api.specs.declared.refusal.Refusal.TheVariants.{BadDocument, BadHisto
 -- generation. No definition refuses it for the store's sake or for want of memory.
 abbrev pub refusal_of_edit : Identity → WriteFault → Refusal
 refusal_of_edit caller write.BadDocument = BadDocument
-refusal_of_edit caller (write.Denied rule) = denied caller rule
+refusal_of_edit caller (write.Denied rule) = denial caller rule
 refusal_of_edit caller write.BadHistory = BadHistory
 refusal_of_edit caller write.Conflict = Conflict
 refusal_of_edit caller write.Generation = Generation

@@ -32,9 +32,9 @@ abbrev pub Work : Type 0
 Work = Database → Result Done Refusal
 
 -- a value that is read
-abbrev pub shown : Value → Done
-shown value = record { status = 200; value = value; effect = nothing }
+abbrev pub value_done : Value → Done
+value_done value = record { status = 200; value = value; effect = nothing }
 
 -- work that only reads
-abbrev pub reading : (Database → Result Value Refusal) → Work
-reading read = λ db. next (read db) (λ value. Ok (shown value))
+abbrev pub read_work : (Database → Result Value Refusal) → Work
+read_work read = λ db. next (read db) (λ value. Ok (value_done value))

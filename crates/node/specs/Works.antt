@@ -71,10 +71,10 @@ document_read m db =
 -- ---- writing a document
 
 -- what an edit comes to, whose reply has this status where it is accepted: the reply says of the document of this id what became of it
-abbrev pub edited : Identity → ℕ → List ℕ → Result DocumentWrite WriteFault → Result Done Refusal
-edited caller status id (Ok w) =
+abbrev pub edit_done : Identity → ℕ → List ℕ → Result DocumentWrite WriteFault → Result Done Refusal
+edit_done caller status id (Ok w) =
     Ok (record { status = status; value = object (edit_members caller (Some id) (outcome_told (Ok (Some w)))); effect = appended (w ∷ []) })
-edited caller status id (Err fault) = Err (refusal_of_edit caller fault)
+edit_done caller status id (Err fault) = Err (refusal_of_edit caller fault)
 
 -- the id of the document that is edited, and the revision that the query names, if any
 abbrev pub edit_asked : Message → Result (List ℕ × Option Revision) Refusal
@@ -82,7 +82,7 @@ edit_asked m = next (there_or Id (document_id_in m.path)) (λ id. next (there_or
 
 abbrev pub document_written : Identity → Message → Work
 document_written caller m db =
-    next (edit_asked m) (λ asked. next (body_of m) (λ document. edited caller 201 asked.0 (admission db asked.0 asked.1 document)))
+    next (edit_asked m) (λ asked. next (body_of m) (λ document. edit_done caller 201 asked.0 (admission db asked.0 asked.1 document)))
 
 -- the document that an edit which deletes has
 abbrev pub deletion : Value
@@ -92,7 +92,7 @@ deletion = object (put (codes "_deleted") (truth true) no_members)
 abbrev pub document_deleted : Identity → Message → Work
 document_deleted caller m db =
     next (edit_asked m) (λ asked.
-    next (there_or Conflict asked.1) (λ rev. edited caller 200 asked.0 (admission db asked.0 (Some rev) deletion)))
+    next (there_or Conflict asked.1) (λ rev. edit_done caller 200 asked.0 (admission db asked.0 (Some rev) deletion)))
 
 -- ---- writing several documents
 

@@ -7,7 +7,7 @@ ghost use Rattle.write.specs.BulkResults.{told_of};
 ghost use Rattle.node.specs.Edits.{refusal_of_edit};
 ghost use Rattle.node.specs.Bulk.{bulk_reply, edit_listed, failed_members, failure_listed, failures_listed, known_members, made_members, text_or_null};
 
-use api::{Refusal, denied, put_text};
+use api::{Refusal, deny, put_text};
 use auth::Caller;
 use couch_json::{Got, Json, put_member};
 use std::alloc::Global;
@@ -131,7 +131,7 @@ pub fn refusal_of_edit(caller: &Caller, fault: WriteFault) -> Refusal
 {
     match fault {
         WriteFault::BadDocument => Refusal::BadDocument,
-        WriteFault::Denied(rule) => denied(caller, rule),
+        WriteFault::Denied(rule) => deny(caller, rule),
         WriteFault::BadHistory => Refusal::BadHistory,
         WriteFault::Generation => Refusal::Generation,
         WriteFault::Conflict | WriteFault::Store(_) | WriteFault::Memory => Refusal::Conflict,

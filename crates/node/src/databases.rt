@@ -6,7 +6,7 @@ ghost use Rattle.couch_http.specs.Message.{message_of};
 ghost use Rattle.couch_json.specs.Value.{array, text};
 ghost use Rattle.couch_json.specs.View.{items_of, view};
 ghost use Rattle.store.specs.Calls.{OnlyReads};
-ghost use Rattle.node.specs.Answer.{administering, naming, served};
+ghost use Rattle.node.specs.Answer.{administration, database_name_of, page_outcome};
 ghost use Rattle.node.specs.Answered.{MayChange, outcome_of};
 ghost use Rattle.node.specs.Causes.{Ends};
 ghost use Rattle.node.specs.Coming.{Comes, OfThere};
@@ -17,7 +17,7 @@ ghost use Rattle.api.specs.Asking.{plain};
 
 use crate::answered::{Answered, Change};
 use crate::stop::Stop;
-use api::{Page, Refusal, RequestFault, RequestMethod, database_name, denied, without_parameters};
+use api::{Page, Refusal, RequestFault, RequestMethod, database_name, deny, without_parameters};
 use auth::Caller;
 use couch_http::Request;
 use couch_json::{Got, Json, put_member};
@@ -51,15 +51,15 @@ pub(crate) fn list_databases<S: Store>(
     request: &Request,
 ) -> Result<Answered, Stop>
     ensures comes { S.is_honest store.new → Comes (outcome_of (S.contents store.old)) result
-        (served Page.AllDatabases (Some RequestMethod.Get) caller.now (S.contents store.old) (message_of request.now)) }
+        (page_outcome Page.AllDatabases (Some RequestMethod.Get) caller.now (S.contents store.old) (message_of request.now)) }
     ensures may { S.is_honest store.new → IfOk result (λ answered. MayChange (S.contents store.old) answered.change) }
     ensures ends { IfErr result (Ends S.Store store.old store.new) }
     ensures reads { OnlyReads S.Store store.old store.new }
 {
-    administering(alloc, caller)?;
+    require_server_admin(alloc, caller)?;
     without_parameters(request)?;
     let names = store.names()?;
-    let value = listed(alloc, &names)?;
+    let value = list_names(alloc, &names)?;
     Ok(Answered {
         status: 200,
         value,
@@ -75,12 +75,12 @@ pub(crate) fn create_database<S: Store>(
     request: &Request,
 ) -> Result<Answered, Stop>
     ensures comes { S.is_honest store.new → Comes (outcome_of (S.contents store.old)) result
-        (served Page.Database (Some RequestMethod.Put) caller.now (S.contents store.old) (message_of request.now)) }
+        (page_outcome Page.Database (Some RequestMethod.Put) caller.now (S.contents store.old) (message_of request.now)) }
     ensures may { S.is_honest store.new → IfOk result (λ answered. MayChange (S.contents store.old) answered.change) }
     ensures ends { IfErr result (Ends S.Store store.old store.new) }
     ensures reads { OnlyReads S.Store store.old store.new }
 {
-    let name = governed(alloc, caller, request)?;
+    let name = name_to_govern(alloc, caller, request)?;
     if is_there(store, &name)? {
         return Err(Stop::Refused(Refusal::Exists));
     }
@@ -101,12 +101,12 @@ pub(crate) fn remove_database<S: Store>(
     request: &Request,
 ) -> Result<Answered, Stop>
     ensures comes { S.is_honest store.new → Comes (outcome_of (S.contents store.old)) result
-        (served Page.Database (Some RequestMethod.Delete) caller.now (S.contents store.old) (message_of request.now)) }
+        (page_outcome Page.Database (Some RequestMethod.Delete) caller.now (S.contents store.old) (message_of request.now)) }
     ensures may { S.is_honest store.new → IfOk result (λ answered. MayChange (S.contents store.old) answered.change) }
     ensures ends { IfErr result (Ends S.Store store.old store.new) }
     ensures reads { OnlyReads S.Store store.old store.new }
 {
-    let name = governed(alloc, caller, request)?;
+    let name = name_to_govern(alloc, caller, request)?;
     if !is_there(store, &name)? {
         return Err(Stop::Refused(Refusal::NoDatabase));
     }
@@ -120,21 +120,21 @@ pub(crate) fn remove_database<S: Store>(
 }
 
 /// The name of a database that the caller may create or remove.
-fn governed(alloc: Global, caller: &Caller, request: &Request) -> Result<DbName, RequestFault>
-    ensures { Says (λ name. name) result (next (naming (message_of request.now)) (λ name. next (administering caller.now) (λ _. Ok name))) }
+fn name_to_govern(alloc: Global, caller: &Caller, request: &Request) -> Result<DbName, RequestFault>
+    ensures { Says (λ name. name) result (next (database_name_of (message_of request.now)) (λ name. next (administration caller.now) (λ _. Ok name))) }
 {
     let name = database_name(alloc, &request.path)?;
-    administering(alloc, caller)?;
+    require_server_admin(alloc, caller)?;
     Ok(name)
 }
 
 /// Refuses a caller who may not list, create or remove databases.
-fn administering(alloc: Global, caller: &Caller) -> Result<(), RequestFault>
-    ensures { Says (λ nothing. nothing) result (administering caller.now) }
+fn require_server_admin(alloc: Global, caller: &Caller) -> Result<(), RequestFault>
+    ensures { Says (λ nothing. nothing) result (administration caller.now) }
 {
     let closed = Security::closed(alloc)?;
     match refusal(Action::Administer, caller, &closed) {
-        Some(rule) => Err(RequestFault::Refused(denied(caller, rule))),
+        Some(rule) => Err(RequestFault::Refused(deny(caller, rule))),
         None => Ok(()),
     }
 }
@@ -154,7 +154,7 @@ fn is_there<S: Store>(store: &mut S, name: &DbName) -> Result<bool, Stop>
 }
 
 /// A list of names.
-fn listed(alloc: Global, names: &[DbName]) -> Got<Json>
+fn list_names(alloc: Global, names: &[DbName]) -> Got<Json>
     ensures { IfOk result (λ value. view value ≡ array (items_of (list_map text names.now))) }
 {
     let mut values = Vec::with_capacity(alloc, names.len())?;

@@ -17,7 +17,7 @@ ghost use Rattle.node.specs.Causes.{Ends};
 ghost use Rattle.node.specs.Coming.{Comes, OfThere};
 ghost use Rattle.api.specs.Saying.{Says};
 ghost use Rattle.api.specs.Queried.{asked_of, query_of};
-ghost use Rattle.node.specs.Works.{deletion, document_deleted, document_read, document_written, edit_asked, edited, found, read_by};
+ghost use Rattle.node.specs.Works.{deletion, document_deleted, document_read, document_written, edit_asked, edit_done, found, read_by};
 
 use crate::answered::Worked;
 use crate::bulk_reply::{made_members, refusal_of_edit};
@@ -171,7 +171,7 @@ fn edit_document<S: Store>(
     requires design { is_design_id id.now ≡ false }
     requires local { is_local_id id.now ≡ false }
     ensures comes { S.is_honest store.new → OfThere (S.contents store.old) name.now (λ db. Comes (done_of db) result
-        (edited caller.now status id.now (admission db id.now rev (view document)))) }
+        (edit_done caller.now status id.now (admission db id.now rev (view document)))) }
     ensures may { S.is_honest store.new → OfThere (S.contents store.old) name.now (λ db. IfOk result (λ worked. MayBeMade worked.planned.changes db)) }
     ensures own { IfOk result (λ worked. worked.planned.database ≡ name.now) }
     ensures ends { IfErr result (Ends S.Store store.old store.new) }

@@ -8,7 +8,7 @@ ghost use Rattle.couch_json.specs.Canonical.{canonical};
 ghost use Rattle.couch_json.specs.Lawful.{IsLawful};
 ghost use Rattle.couch_json.specs.View.{view};
 ghost use Rattle.store.specs.Calls.{ChangesWhole, GoesOn, OnlyReads};
-ghost use Rattle.node.specs.Answer.{answer, judged, served, with_change};
+ghost use Rattle.node.specs.Answer.{answer, judgement, page_outcome, with_change};
 ghost use Rattle.api.specs.Asking.{method_of};
 ghost use Rattle.node.specs.Answered.{MayChange, MayChangeBy, change_by, change_of, outcome_of};
 ghost use Rattle.api.specs.Refusals.{refusal_value, status_of};
@@ -38,7 +38,7 @@ fn judge<S: Store>(
     request: &Request,
 ) -> Result<Answered, Stop>
     ensures comes { S.is_honest store.new → Comes (outcome_of (S.contents store.old)) result
-        (judged auth.now (S.contents store.old) (message_of request.now)) }
+        (judgement auth.now (S.contents store.old) (message_of request.now)) }
     ensures may { S.is_honest store.new → IfOk result (λ answered. MayChange (S.contents store.old) answered.change) }
     ensures ends { IfErr result (Ends S.Store store.old store.new) }
     ensures reads { OnlyReads S.Store store.old store.new }
@@ -59,7 +59,7 @@ fn serve<S: Store>(
     request: &Request,
 ) -> Result<Answered, Stop>
     ensures comes { S.is_honest store.new → Comes (outcome_of (S.contents store.old)) result
-        (served page (method_of request.now.method) caller.now (S.contents store.old) (message_of request.now)) }
+        (page_outcome page (method_of request.now.method) caller.now (S.contents store.old) (message_of request.now)) }
     ensures may { S.is_honest store.new → IfOk result (λ answered. MayChange (S.contents store.old) answered.change) }
     ensures ends { IfErr result (Ends S.Store store.old store.new) }
     ensures reads { OnlyReads S.Store store.old store.new }
@@ -145,13 +145,13 @@ fn finish<S: Store>(
     ensures ends { IfErr result (EndsBefore S.Store store.old store.new (change_of (S.contents store.old) answered.change)) }
     ensures changes { ChangesWhole S.Store store.old store.new result }
 {
-    let reply = made(alloc, answered.status, &answered.value, last)?;
+    let reply = build_response(alloc, answered.status, &answered.value, last)?;
     change(store, answered.change)?;
     Ok(reply)
 }
 
 /// The reply of a status and a value.
-fn made(alloc: Global, status: u16, value: &Json, last: bool) -> Got<Response>
+fn build_response(alloc: Global, status: u16, value: &Json, last: bool) -> Got<Response>
     ensures reply { IfOk result (λ reply. reply ≡ reply_of status (canonical (view value.now)) last) }
     ensures lawful { OnOk result (IsLawful (view value.now)) }
 {
@@ -219,12 +219,12 @@ fn write<S: Store>(store: &mut S, planned: Planned) -> Result<(), Stop>
 {
     match apply(store, planned) {
         Ok(()) => Ok(()),
-        Err(fault) => Err(unmade(&fault)),
+        Err(fault) => Err(stop_after(&fault)),
     }
 }
 
 /// How a request ends whose change was not made.
-fn unmade(fault: &WriteFault) -> Stop
+fn stop_after(fault: &WriteFault) -> Stop
     ensures { result ≡ stop_of_change fault.now }
 {
     match fault {
@@ -244,7 +244,7 @@ fn reply<S: Store>(
     ensures ok { S.is_honest store.new → IfOk result (λ reply. IsDone (answer auth.now (S.contents store.old) (message_of request.now))
         request.now.last (S.contents store.old) reply (S.contents store.new)) }
     ensures refused { S.is_honest store.new → (refusal : _) → result ≡ Err (Stop.Refused refusal)
-        → judged auth.now (S.contents store.old) (message_of request.now) ≡ Err refusal }
+        → judgement auth.now (S.contents store.old) (message_of request.now) ≡ Err refusal }
     ensures ends { IfErr result (EndsBefore S.Store store.old store.new (answer auth.now (S.contents store.old) (message_of request.now)).change) }
     ensures changes { ChangesWhole S.Store store.old store.new result }
 {
@@ -268,7 +268,7 @@ fn refusal_made(alloc: Global, refusal: &Refusal, last: bool) -> Got<Response>
     ensures lawful { OnOk result (IsLawful (refusal_value refusal.now)) }
 {
     let value = refusal.value(alloc)?;
-    made(alloc, refusal.status(), &value, last)
+    build_response(alloc, refusal.status(), &value, last)
 }
 
 /// Replies to a request, whatever becomes of it.

@@ -6,7 +6,7 @@ ghost use Rattle.couch_http.specs.Message.{message_of};
 ghost use Rattle.couch_json.specs.View.{view};
 ghost use Rattle.store.specs.Calls.{OnlyReads};
 ghost use Rattle.write.specs.Planning.{MayBeMade};
-ghost use Rattle.node.specs.Answer.{entered, outcome_in, performed, working};
+ghost use Rattle.node.specs.Answer.{entry, outcome_in, task_outcome, work_task};
 ghost use Rattle.node.specs.Answered.{MayChange, action_of, done_of, outcome_of, reading_of, work_of, writing_of};
 ghost use Rattle.node.specs.Causes.{Ends};
 ghost use Rattle.node.specs.Coming.{Comes, OfThere};
@@ -18,7 +18,7 @@ use crate::databases::read_database;
 use crate::document::{delete_document, read_document, write_document};
 use crate::security::{read_security, write_security};
 use crate::stop::Stop;
-use api::{database_name, denied};
+use api::{database_name, deny};
 use auth::Caller;
 use couch_http::Request;
 use couch_json::Json;
@@ -82,7 +82,7 @@ pub(crate) fn do_work<S: Store>(
     request: &Request,
 ) -> Result<Answered, Stop>
     ensures comes { S.is_honest store.new → Comes (outcome_of (S.contents store.old)) result
-        (next (working (action_of work) (message_of request.now) (work_of work caller.now (message_of request.now))) (performed caller.now (S.contents store.old))) }
+        (next (work_task (action_of work) (message_of request.now) (work_of work caller.now (message_of request.now))) (task_outcome caller.now (S.contents store.old))) }
     ensures may { S.is_honest store.new → IfOk result (λ answered. MayChange (S.contents store.old) answered.change) }
     ensures ends { IfErr result (Ends S.Store store.old store.new) }
     ensures reads { OnlyReads S.Store store.old store.new }
@@ -102,13 +102,13 @@ fn enter<S: Store>(
     name: &DbName,
 ) -> Result<(), Stop>
     ensures comes { S.is_honest store.new → Comes (λ _. map.get (S.contents store.old) name.now) result
-        (next (entered caller.now action (map.get (S.contents store.old) name.now)) (λ db. Ok (Some db))) }
+        (next (entry caller.now action (map.get (S.contents store.old) name.now)) (λ db. Ok (Some db))) }
     ensures ends { IfErr result (Ends S.Store store.old store.new) }
     ensures reads { OnlyReads S.Store store.old store.new }
 {
     let security = store.security(name)?;
     match refusal(action, caller, &security) {
-        Some(rule) => Err(Stop::Refused(denied(caller, rule))),
+        Some(rule) => Err(Stop::Refused(deny(caller, rule))),
         None => Ok(()),
     }
 }

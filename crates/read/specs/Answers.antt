@@ -12,9 +12,9 @@ use Rattle.read.specs.declared.fault.ReadFault.{ReadFault}
 use Rattle.read.specs.declared.fault.ReadFault.TheVariants.{Missing, Deleted, BadQuery, Store, Memory}
 
 -- the store's fault as it is passed on: want of memory is one cause, wherever it comes from
-abbrev pub passed : StoreFault → ReadFault
-passed store.Memory = Memory
-passed fault = Store fault
+abbrev pub fault_of_store : StoreFault → ReadFault
+fault_of_store store.Memory = Memory
+fault_of_store fault = Store fault
 
 -- when the store refuses a reader: there is no such database, and so nothing defined, or a fault that has a cause
 abbrev pub Refuses : {S : Type 0} → Ghosts S → S → S → Option (Result Value ReadFault) → StoreFault → Type 0

@@ -8,7 +8,7 @@ use Rattle.tree.specs.Revision.{Revision, text_of}
 use Rattle.tree.specs.History.{HistoryContent, leaves}
 use Rattle.store.specs.Contents.{Contents}
 use Rattle.store.specs.Database.{history_at}
-use Rattle.read.specs.Shown.{shown}
+use Rattle.read.specs.Shown.{shown_document}
 
 abbrev pub element : Revision → Option Value → Value
 element r None = object (member (codes "missing") (text (text_of r)) no_members)
@@ -16,7 +16,7 @@ element r (Some document) = object (member (codes "ok") document no_members)
 
 -- what is said of one revision
 abbrev pub open_revision : List ℕ → HistoryContent → Bool → Revision → Value
-open_revision id h revs r = element r (shown id h r revs)
+open_revision id h revs r = element r (shown_document id h r revs)
 
 -- the revisions that are asked for, and all leaves, best first, where none are named
 abbrev pub asked_revisions : HistoryContent → Option (List Revision) → List Revision

@@ -13,8 +13,8 @@ use Rattle.read.specs.declared.fault.ReadFault.{ReadFault}
 use Rattle.read.specs.declared.fault.ReadFault.TheVariants.{Missing, Deleted}
 
 -- the document that a revision is shown as, deleted or not, with its path where that is asked for; nothing where no body is held of it
-abbrev pub shown : List ℕ → HistoryContent → Revision → Bool → Option Value
-shown id h r revs = option_map (λ held. object (with_revisions revs h r (shown_members id r held))) (held_of h r)
+abbrev pub shown_document : List ℕ → HistoryContent → Revision → Bool → Option Value
+shown_document id h r revs = option_map (λ held. object (with_revisions revs h r (shown_members id r held))) (held_of h r)
 
 -- missing where there is nothing to be shown
 abbrev pub found : Option Value → Result Value ReadFault
@@ -23,13 +23,13 @@ found (Some document) = Ok document
 
 abbrev pub winning_document : List ℕ → HistoryContent → Option Revision → Bool → Result Value ReadFault
 winning_document id h None revs = Err Missing
-winning_document id h (Some r) revs = if is_deleted (held_of h r) then Err Deleted else found (shown id h r revs)
+winning_document id h (Some r) revs = if is_deleted (held_of h r) then Err Deleted else found (shown_document id h r revs)
 
 -- What reading a document of this history gives. Of the revision that is asked for: the document as shown, and missing where no body
 -- is held of it. Where none is asked for, of the winner: deleted where it is, and missing where nothing was ever written.
 abbrev pub document_by : List ℕ → HistoryContent → Option Revision → Bool → Result Value ReadFault
 document_by id h None revs = winning_document id h (winner h) revs
-document_by id h (Some r) revs = found (shown id h r revs)
+document_by id h (Some r) revs = found (shown_document id h r revs)
 
 -- what reading the document of this id gives
 abbrev pub document_at : Database → List ℕ → Option Revision → Bool → Result Value ReadFault

@@ -2,10 +2,10 @@ ghost use Rattle.std.specs.Prelude.{◌≡◌, None, option_copied};
 ghost use Rattle.store.specs.Calls.{OnlyReads};
 ghost use Rattle.tree.specs.History.{held_of, is_deleted};
 ghost use Rattle.read.specs.Answers.{Answers, Shows};
-ghost use Rattle.read.specs.Shown.{document_by, document_in, found, shown as shown_lem};
+ghost use Rattle.read.specs.Shown.{document_by, document_in, found, shown_document};
 
 use crate::fault::ReadFault;
-use crate::shown::shown;
+use crate::shown::show;
 use couch_json::Json;
 use std::alloc::Global;
 use store::{DbName, Store};
@@ -72,9 +72,9 @@ pub(crate) fn document(
     rev: &Rev,
     revs: bool,
 ) -> Result<Json, ReadFault>
-    ensures { Shows (found (shown_lem id.now history.now rev.now revs)) result }
+    ensures { Shows (found (shown_document id.now history.now rev.now revs)) result }
 {
-    match shown(alloc, history, id, rev, revs)? {
+    match show(alloc, history, id, rev, revs)? {
         Some(document) => Ok(document),
         None => Err(ReadFault::Missing),
     }

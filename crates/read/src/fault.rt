@@ -27,9 +27,9 @@ pub enum ReadFault {
 }
 
 impl From<StoreFault> for ReadFault {
-    ghost use Rattle.read.specs.Answers.{passed};
+    ghost use Rattle.read.specs.Answers.{fault_of_store};
 
-    ghost from_gives = { λ fault given. given ≡ passed fault };
+    ghost from_gives = { λ fault given. given ≡ fault_of_store fault };
 
     fn from(fault: StoreFault) -> ReadFault {
         match fault {

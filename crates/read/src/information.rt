@@ -4,7 +4,7 @@ ghost use Rattle.couch_json.specs.Value.{whole};
 ghost use Rattle.couch_json.specs.View.{view};
 ghost use Rattle.store.specs.Calls.{OnlyReads};
 ghost use Rattle.read.specs.Answers.{Answers};
-ghost use Rattle.read.specs.Information.{information as information_lem, information_by};
+ghost use Rattle.read.specs.Information.{information, information_by};
 
 use crate::fault::ReadFault;
 use couch_json::{Got, Json, Number, put_member};
@@ -19,7 +19,7 @@ use store::{DbName, DocumentCounts, SeqRange, Store};
 /// want of memory and faults of the store refuse. Nothing changes. See the CouchDB manual,
 /// api/database/common.
 pub fn info<S: Store>(alloc: Global, store: &mut S, db: &DbName) -> Result<Json, ReadFault>
-    ensures answer { Answers S.Store store.old store.new (option_map (λ d. Ok (information_lem db.now d)) (map.get (S.contents store.old) db.now)) result }
+    ensures answer { Answers S.Store store.old store.new (option_map (λ d. Ok (information db.now d)) (map.get (S.contents store.old) db.now)) result }
     ensures only { IfErr result (λ fault. fault ≢ ReadFault.Memory → ((cause : _) → fault ≢ ReadFault.Store cause) → ⊥) }
     ensures reads { OnlyReads S.Store store.old store.new }
 {
@@ -31,12 +31,12 @@ pub fn info<S: Store>(alloc: Global, store: &mut S, db: &DbName) -> Result<Json,
     };
     let page = store.page_by_seq(db, &range)?;
     match page.counts {
-        Some(counts) => Ok(information(alloc, db, counts, page.sequence)?),
+        Some(counts) => Ok(build_information(alloc, db, counts, page.sequence)?),
         None => unreachable!(),
     }
 }
 
-fn information(alloc: Global, db: &DbName, counts: DocumentCounts, sequence: u64) -> Got<Json>
+fn build_information(alloc: Global, db: &DbName, counts: DocumentCounts, sequence: u64) -> Got<Json>
     requires documents { counts.documents < 2 ^ 63 }
     requires deleted { counts.deleted < 2 ^ 63 }
     requires sequence { sequence < 2 ^ 63 }

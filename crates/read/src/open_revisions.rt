@@ -3,10 +3,10 @@ ghost use Rattle.couch_json.specs.Value.{member, no_members, object};
 ghost use Rattle.couch_json.specs.View.{view};
 ghost use Rattle.store.specs.Calls.{OnlyReads};
 ghost use Rattle.read.specs.Answers.{Answers};
-ghost use Rattle.read.specs.OpenRevisions.{element as element_lem, open_revision as open_revision_lem, open_revisions as open_revisions_lem, open_revisions_in};
+ghost use Rattle.read.specs.OpenRevisions.{element, open_revision, open_revisions, open_revisions_in};
 
 use crate::fault::ReadFault;
-use crate::shown::shown;
+use crate::shown::show;
 use couch_json::{Got, Json, put_member};
 use std::alloc::Global;
 use std::collections::BTreeMap;
@@ -35,11 +35,11 @@ pub fn open_revs<S: Store>(
     ensures reads { OnlyReads S.Store store.old store.new }
 {
     let history = store.history(db, id)?;
-    Ok(open_revisions(alloc, &history, id, asked, revs)?)
+    Ok(build_open_revisions(alloc, &history, id, asked, revs)?)
 }
 
 /// What a history shows of the revisions that are asked for, or of its leaves.
-pub(crate) fn open_revisions(
+pub(crate) fn build_open_revisions(
     alloc: Global,
     history: &History,
     id: &DocId,
@@ -47,7 +47,7 @@ pub(crate) fn open_revisions(
     revs: bool,
 ) -> Got<Json>
     ensures { IfOk result (λ value. view value
-        ≡ open_revisions_lem id.now history.now (option_copied asked.entry) revs) }
+        ≡ open_revisions id.now history.now (option_copied asked.entry) revs) }
 {
     let elements = match asked {
         Some(asked) => elements(alloc, history, id, asked, revs)?,
@@ -63,33 +63,33 @@ fn elements(
     asked: &[Rev],
     revs: bool,
 ) -> Got<Vec<Json>>
-    ensures { IfOk result (λ elements. each view elements.items ≡ each (open_revision_lem id.now history.now revs) asked.now) }
+    ensures { IfOk result (λ elements. each view elements.items ≡ each (open_revision id.now history.now revs) asked.now) }
 {
     let mut elements = Vec::with_capacity(alloc, asked.len())?;
     for rev in asked {
-        elements.push(open_revision(alloc, history, id, rev, revs)?)?;
+        elements.push(build_open_revision(alloc, history, id, rev, revs)?)?;
     }
     Ok(elements)
 }
 
 /// What is said of one revision.
-fn open_revision(alloc: Global, history: &History, id: &DocId, rev: &Rev, revs: bool) -> Got<Json>
-    ensures { IfOk result (λ value. view value ≡ open_revision_lem id.now history.now revs rev.now) }
+fn build_open_revision(alloc: Global, history: &History, id: &DocId, rev: &Rev, revs: bool) -> Got<Json>
+    ensures { IfOk result (λ value. view value ≡ open_revision id.now history.now revs rev.now) }
 {
-    element(alloc, rev, shown(alloc, history, id, rev, revs)?)
+    build_element(alloc, rev, show(alloc, history, id, rev, revs)?)
 }
 
-fn element(alloc: Global, rev: &Rev, document: Option<Json>) -> Got<Json>
-    ensures { IfOk result (λ value. view value ≡ element_lem rev.now (option_map view document)) }
+fn build_element(alloc: Global, rev: &Rev, document: Option<Json>) -> Got<Json>
+    ensures { IfOk result (λ value. view value ≡ element rev.now (option_map view document)) }
 {
     match document {
-        Some(document) => labelled(alloc, "ok", document),
-        None => labelled(alloc, "missing", Json::Text(rev.text(alloc)?)),
+        Some(document) => label(alloc, "ok", document),
+        None => label(alloc, "missing", Json::Text(rev.text(alloc)?)),
     }
 }
 
 /// An object of one member.
-fn labelled(alloc: Global, label: &str, value: Json) -> Got<Json>
+fn label(alloc: Global, label: &str, value: Json) -> Got<Json>
     ensures { IfOk result (λ labelled. view labelled ≡ object (member label.now (view value) no_members)) }
 {
     let mut members = BTreeMap::new(alloc);

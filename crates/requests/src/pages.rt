@@ -18,6 +18,7 @@ pub struct Pages {
 }
 
 impl Pages {
+    /// Makes a player of pages of documentation.
     pub fn new(alloc: Global) -> Pages {
         Pages {
             alloc,

@@ -16,6 +16,7 @@ pub struct Requests {
 }
 
 impl Requests {
+    /// Makes a player of requests.
     pub fn new(alloc: Global) -> Requests {
         Requests {
             alloc,

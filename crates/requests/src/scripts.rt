@@ -13,6 +13,7 @@ pub struct Scripts {
 }
 
 impl Scripts {
+    /// Makes a player of scripts.
     pub fn new(alloc: Global) -> Scripts {
         Scripts {
             alloc,

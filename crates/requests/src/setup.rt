@@ -32,6 +32,7 @@ pub struct Setup {
 }
 
 impl Setup {
+    /// Makes a setup without users, secrets or nodes.
     pub fn new(alloc: Global) -> Setup {
         Setup {
             alloc,

@@ -34,11 +34,11 @@ fn is_condition_true(condition: &Condition, current: Option<&Json>) -> bool
         (is_true v) (truths v) (option_map (λ v. view v.now) current.entry) }
 {
     match condition {
-        Condition::Field(field, selector) => is_true(selector, reached(field, current)),
+        Condition::Field(field, selector) => is_true(selector, follow_path(field, current)),
         Condition::FieldIs(field, value) => is_met(
             ValueOperator::IsEqual,
             &value.json,
-            reached(field, current),
+            follow_path(field, current),
         ),
         Condition::Exists(true) => current.is_some(),
         Condition::Exists(false) => current.is_none(),
@@ -59,7 +59,7 @@ fn is_condition_true(condition: &Condition, current: Option<&Json>) -> bool
 }
 
 /// What the field's path reaches in the current value.
-fn reached<'a>(field: &Field, current: Option<&'a Json>) -> Option<&'a Json>
+fn follow_path<'a>(field: &Field, current: Option<&'a Json>) -> Option<&'a Json>
     ensures { option_map (λ v. view v.now) result
         ≡ option_and_then (value_at field.now.path) (option_map (λ v. view v.now) current.entry) }
 {

@@ -6,7 +6,7 @@ use Rattle.std.specs.Ordering.{eq_by_cmp}
 use Rattle.std.specs.FinMap.{find, put}
 use Rattle.std.specs.FinMap.Entries.{by_order}
 use Rattle.std.proofs.lemmas.List.Elements.{All-cons}
-use Rattle.store.specs.Pages.{limited}
+use Rattle.store.specs.Pages.{up_to_limit}
 use Rattle.store.proofs.Listings.{In}
 
 pub in_map : {X Y : Type 0} (f : X → Y) (xs : List X) (x : X) → In xs x → In (map f xs) (f x)
@@ -47,7 +47,7 @@ from_take (suc n) [] x i = absurd i
 from_take (suc n) (y ∷ ys) x (inl e) = inl e
 from_take (suc n) (y ∷ ys) x (inr i) = inr (from_take n ys x i)
 
-pub from_limited : {X : Type 0} (limit : Option ℕ) (xs : List X) (x : X) → In (limited limit xs) x → In xs x
+pub from_limited : {X : Type 0} (limit : Option ℕ) (xs : List X) (x : X) → In (up_to_limit limit xs) x → In xs x
 from_limited None xs x i = i
 from_limited (Some n) xs x i = from_take n xs x i
 

@@ -11,7 +11,7 @@ use Rattle.std.specs.FinMap.{is_sorted}
 use Rattle.tree.specs.Revision.{Revision}
 use Rattle.tree.proofs.Kept.{true_from_T}
 use Rattle.store.specs.Database.{Database}
-use Rattle.store.specs.Pages.{IsIdRowOf, comes_before, directed, is_within, live_rev, live_rows, page_by_id, with_row}
+use Rattle.store.specs.Pages.{IsIdRowOf, comes_before, in_direction, is_within, live_rev, live_rows, page_of_ids, with_row}
 use Rattle.store.specs.declared.page.IdRange.{IdRange}
 use Rattle.store.specs.declared.page.IdRow.{IdRow}
 use Rattle.store.proofs.Among.{all_in, from_filter, from_limited, in_filter}
@@ -80,11 +80,11 @@ in_reverse [] x i = i
 in_reverse (y ∷ xs) x (inl i) = subst (λ zs. In zs x) (sym (reverse-cons y xs)) (in_append (reverse xs) y x (inl i))
 in_reverse (y ∷ xs) x (inr i) = subst (λ zs. In zs x) (sym (reverse-cons y xs)) (in_append (reverse xs) y x (inr (in_reverse xs x i)))
 
-from_directed : (descending : Bool) (rs : List IdRow) (r : IdRow) → In (directed descending rs) r → In rs r
+from_directed : (descending : Bool) (rs : List IdRow) (r : IdRow) → In (in_direction descending rs) r → In rs r
 from_directed true rs r i = from_reverse rs r i
 from_directed false rs r i = i
 
-in_directed : (descending : Bool) (rs : List IdRow) (r : IdRow) → In rs r → In (directed descending rs) r
+in_directed : (descending : Bool) (rs : List IdRow) (r : IdRow) → In rs r → In (in_direction descending rs) r
 in_directed true rs r i = in_reverse rs r i
 in_directed false rs r i = i
 
@@ -95,20 +95,20 @@ from_drop (suc n) (y ∷ xs) x i = inr (from_drop n xs x i)
 
 -- ---- both ways
 
-pub id_row_from : (range : IdRange) (db : Database) (r : IdRow) → In (page_by_id range db).rows r → IsIdRowOf range db r
+pub id_row_from : (range : IdRange) (db : Database) (r : IdRow) → In (page_of_ids range db).rows r → IsIdRowOf range db r
 id_row_from range db r i =
     let es = finite.entries db.documents in
-    let within = from_filter (λ (q : IdRow). is_within range q.id) (directed range.descending (live_rows es)) r (from_drop range.skip _ r (from_limited range.limit _ r i)) in
+    let within = from_filter (λ (q : IdRow). is_within range q.id) (in_direction range.descending (live_rows es)) r (from_drop range.skip _ r (from_limited range.limit _ r i)) in
     let k = from_live es r (from_directed range.descending (live_rows es) r within.0) in
     let there = finite.get-entries db.documents k.entry.0 ∙ in_found es k.entry (true_from_T _ (finite.entries_sorted db.documents)) k.among in
     record { document = k.entry.1; there = ap (finite.get db.documents) (sym k.key) ∙ there; live = k.live; within = within.1 }
 
-pub id_row_there : (range : IdRange) (db : Database) (r : IdRow) → range.limit ≡ None → range.skip ≡ 0 → IsIdRowOf range db r → In (page_by_id range db).rows r
+pub id_row_there : (range : IdRange) (db : Database) (r : IdRow) → range.limit ≡ None → range.skip ≡ 0 → IsIdRowOf range db r → In (page_of_ids range db).rows r
 id_row_there range db r none no_skip h =
     let es = finite.entries db.documents in
     let i = found_in es r.id h.document (sym (finite.get-entries db.documents r.id) ∙ h.there) in
     let live = in_directed range.descending (live_rows es) r (in_live es (r.id, h.document) r.rev i h.live) in
-    let within = in_filter (λ (q : IdRow). is_within range q.id) (directed range.descending (live_rows es)) r live h.within in
+    let within = in_filter (λ (q : IdRow). is_within range q.id) (in_direction range.descending (live_rows es)) r live h.within in
     rw (none, no_skip) within
 
 -- ---- in order
@@ -139,13 +139,13 @@ pairs_reverse R xs h = λ i j d lt within.
 pairs_weaker : {X : Type 0} (R S : X → X → Type 0) (xs : List X) → ((a b : X) → R a b → S a b) → AllPairs R xs → AllPairs S xs
 pairs_weaker R S xs k h = λ i j d lt within. k _ _ (h i j d lt within)
 
-directed_ascends : (descending : Bool) (rs : List IdRow) → AllPairs (λ (a b : IdRow). slice_cmp nat_cmp a.id b.id ≡ Less) rs → AllPairs (λ (a b : IdRow). comes_before descending a.id b.id ≡ true) (directed descending rs)
+directed_ascends : (descending : Bool) (rs : List IdRow) → AllPairs (λ (a b : IdRow). slice_cmp nat_cmp a.id b.id ≡ Less) rs → AllPairs (λ (a b : IdRow). comes_before descending a.id b.id ≡ true) (in_direction descending rs)
 directed_ascends true rs h =
     pairs_reverse (λ (a b : IdRow). comes_before true a.id b.id ≡ true) rs
     (pairs_weaker (λ (a b : IdRow). slice_cmp nat_cmp a.id b.id ≡ Less) (λ (a b : IdRow). comes_before true b.id a.id ≡ true) rs (λ a b e. ap is_lt e) h)
 directed_ascends false rs h = pairs_weaker (λ (a b : IdRow). slice_cmp nat_cmp a.id b.id ≡ Less) (λ (a b : IdRow). comes_before false a.id b.id ≡ true) rs (λ a b e. ap is_lt e) h
 
-pub id_page_ascends : (range : IdRange) (db : Database) → AllPairs (λ (a b : IdRow). comes_before range.descending a.id b.id ≡ true) (page_by_id range db).rows
+pub id_page_ascends : (range : IdRange) (db : Database) → AllPairs (λ (a b : IdRow). comes_before range.descending a.id b.id ≡ true) (page_of_ids range db).rows
 id_page_ascends range db =
     let es = finite.entries db.documents in
     pairs_limited (λ (a b : IdRow). comes_before range.descending a.id b.id ≡ true) range.limit _

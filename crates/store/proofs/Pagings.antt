@@ -13,9 +13,9 @@ use Rattle.std.specs.FinMap.{put}
 use Rattle.std.specs.FinMap.Entries.{by_order}
 use Rattle.store.specs.Database.{Database, Document, DocumentWrite, history_at, history_in, with_one, with_all, empty_database}
 use Rattle.std.specs.List.{count_by}
-use Rattle.store.specs.Pages.{document_counts, directed, if_counted, id_page, is_before_start, is_within, live_rows, rows_within, page_by_id, SequenceRow, in_sequence, last_sequence, limited, page_by_sequence, page_with, put_in_sequence, rows_after, rows_of}
+use Rattle.store.specs.Pages.{document_counts, in_direction, if_counted, id_page, is_before_start, is_within, live_rows, rows_within, page_of_ids, SequenceRow, in_sequence, last_sequence, up_to_limit, page_by_sequence, page_with, put_in_sequence, rows_after, rows_of}
 use Rattle.store.specs.Paging.{sequence_row_of, sequence_rows}
-use Rattle.store.specs.Plain.{content, gathered, gathered_after, spot_from, value_in, with_addition, with_write_at}
+use Rattle.store.specs.Plain.{content, document_entries, gathered_after, spot_from, value_in, with_addition, with_write_at}
 use Rattle.store.specs.Writing.{Addition, addition_of, additions, written_at, writings_in}
 use Rattle.store.specs.declared.page.DocumentCounts.{DocumentCounts}
 use Rattle.store.specs.declared.page.IdRange.{IdRange}
@@ -65,21 +65,21 @@ gathered_entry db a =
 
 -- a write goes into the document that stands at a place
 pub written_there : (sequence : ℕ) (a : Addition) (es : List (List ℕ × PlainDocument)) (at : ℕ) (e : List ℕ × PlainDocument) (d : PlainDocument) → spot_from (slice_cmp nat_cmp) 0 a.id es ≡ Ok at → e ≡ get_or es at e
-    → d ≡ record { sequence = sequence; history = with_addition e.1.history a } → gathered (set es at (e.0, d)) ≡ with_write_at sequence (gathered es) a
+    → d ≡ record { sequence = sequence; history = with_addition e.1.history a } → document_entries (set es at (e.0, d)) ≡ with_write_at sequence (document_entries es) a
 written_there sequence a es at e d place is made =
     let R = slice_cmp nat_cmp in
     let old = value_in-seen R document a.id es ∙ ap (option_map document) (value_at R a.id e es at place ∙ ap (λ f. Some f.1) (sym is)) in
-    ap (λ f. gathered (set es at (f.0, d))) is ∙ ap gathered (sym (put_at R a.id d e es at place)) ∙ put-seen R document a.id d es
-    ∙ ap (λ x. put R a.id (document x) (gathered es)) made ∙ ap (λ o. put R a.id (record { sequence = sequence; history = with_addition (history_in o) a }) (gathered es)) (sym old)
+    ap (λ f. document_entries (set es at (f.0, d))) is ∙ ap document_entries (sym (put_at R a.id d e es at place)) ∙ put-seen R document a.id d es
+    ∙ ap (λ x. put R a.id (document x) (document_entries es)) made ∙ ap (λ o. put R a.id (record { sequence = sequence; history = with_addition (history_in o) a }) (document_entries es)) (sym old)
 
 -- a write makes a document, which goes in at a place
 pub written_new : (sequence : ℕ) (a : Addition) (es : List (List ℕ × PlainDocument)) (at : ℕ) (d : PlainDocument) → spot_from (slice_cmp nat_cmp) 0 a.id es ≡ Err at
-    → d ≡ record { sequence = sequence; history = with_addition finite.empty a } → gathered (take at es ++ (a.id, d) ∷ drop at es) ≡ with_write_at sequence (gathered es) a
+    → d ≡ record { sequence = sequence; history = with_addition finite.empty a } → document_entries (take at es ++ (a.id, d) ∷ drop at es) ≡ with_write_at sequence (document_entries es) a
 written_new sequence a es at d place made =
     let R = slice_cmp nat_cmp in
     let old = value_in-seen R document a.id es ∙ ap (option_map document) (no_value R a.id d es at place) in
-    ap gathered (sym (put_in R a.id d es at place)) ∙ put-seen R document a.id d es
-    ∙ ap (λ x. put R a.id (document x) (gathered es)) made ∙ ap (λ o. put R a.id (record { sequence = sequence; history = with_addition (history_in o) a }) (gathered es)) (sym old)
+    ap document_entries (sym (put_in R a.id d es at place)) ∙ put-seen R document a.id d es
+    ∙ ap (λ x. put R a.id (document x) (document_entries es)) made ∙ ap (λ o. put R a.id (record { sequence = sequence; history = with_addition (history_in o) a }) (document_entries es)) (sym old)
 
 entries-with_all : (all : List Addition) (db : Database) → finite.entries (with_all db (writings_in db all)).documents ≡ gathered_after db.length (finite.entries db.documents) all
 entries-with_all [] db = refl
@@ -113,7 +113,7 @@ entries-content d =
 pub page_by_sequence-content : (range : SeqRange) (d : PlainDatabase) → page_by_sequence range (content d) ≡ page_with range (length d.writes.items) (gathered_after 0 [] (additions d.writes.items))
 page_by_sequence-content range d = ap₂ (page_with range) (length-content d) (entries-content d)
 
-pub page_by_id-content : (range : IdRange) (d : PlainDatabase) → page_by_id range (content d) ≡ id_page range (live_rows (gathered_after 0 [] (additions d.writes.items)))
+pub page_by_id-content : (range : IdRange) (d : PlainDatabase) → page_of_ids range (content d) ≡ id_page range (live_rows (gathered_after 0 [] (additions d.writes.items)))
 page_by_id-content range d = ap (λ es. id_page range (live_rows es)) (entries-content d)
 
 -- ---- rows in the order of their sequences
@@ -151,12 +151,12 @@ sequence_rows-filter since (r ∷ rs) = kept (nat_lt since r.sequence) r (filter
 
 -- ---- the page
 
-pub length-gathered : (es : List (List ℕ × PlainDocument)) → length es ≡ length (gathered es)
+pub length-gathered : (es : List (List ℕ × PlainDocument)) → length es ≡ length (document_entries es)
 length-gathered [] = refl
 length-gathered (e ∷ es) = ap suc (length-gathered es)
 
 pub page_made : (range : SeqRange) (n last : ℕ) (counts : Option DocumentCounts) (all : List SeqRow) (cut : List SequenceRow) (es : List (List ℕ × Document))
-    → sequence_rows all ≡ rows_of range.all_leaves es → cut ≡ limited range.limit (filter (λ r. nat_lt range.since r.sequence) (in_sequence (sequence_rows all)))
+    → sequence_rows all ≡ rows_of range.all_leaves es → cut ≡ up_to_limit range.limit (filter (λ r. nat_lt range.since r.sequence) (in_sequence (sequence_rows all)))
     → last ≡ last_sequence (min range.since n) cut → counts ≡ if_counted range.counted (document_counts es)
     → record { rows = cut; last = last; sequence = n; counts = counts } ≡ page_with range n es
 page_made range n last counts all cut es is made at count =
@@ -168,18 +168,18 @@ pub smaller : (a b : ℕ) → ord_min nat_cmp a b ≡ min a b
 smaller a b = grind (arith, nat_tests)
 
 pub id_page_made : (range : IdRange) (before skipped total : ℕ) (counts : Option RowCounts) (all within cut rs : List IdRow) → all ≡ rs → before ≡ count_by (λ r. is_before_start range r.id) all
-    → within ≡ rows_within range all → skipped ≡ min range.skip (length within) → cut ≡ limited range.limit (drop skipped within) → total ≡ length all
+    → within ≡ rows_within range all → skipped ≡ min range.skip (length within) → cut ≡ up_to_limit range.limit (drop skipped within) → total ≡ length all
     → counts ≡ if_counted range.counted (record { offset = before + skipped; total = total })
     → record { rows = cut; counts = counts } ≡ id_page range rs
 id_page_made range before skipped total counts all within cut rs is count made least at sum told =
     let counted = count ∙ ap (count_by (λ r. is_before_start range r.id)) is in
     let rows = made ∙ ap (rows_within range) is in
     let left = least ∙ ap (λ ws. min range.skip (length ws)) rows in
-    let page = at ∙ ap (λ n. limited range.limit (drop n within)) least ∙ ap (limited range.limit) (drop_min range.skip within) ∙ ap (λ ws. limited range.limit (drop range.skip ws)) rows in
+    let page = at ∙ ap (λ n. up_to_limit range.limit (drop n within)) least ∙ ap (up_to_limit range.limit) (drop_min range.skip within) ∙ ap (λ ws. up_to_limit range.limit (drop range.skip ws)) rows in
     let summed = sum ∙ ap length is in
     λ i. record { rows = page i; counts = (told ∙ (λ j. if_counted range.counted (record { offset = counted j + left j; total = summed j }))) i }
 
-pub sequence_rows-limited : (limit : Option ℕ) (rs : List SeqRow) → sequence_rows (limited limit rs) ≡ limited limit (sequence_rows rs)
+pub sequence_rows-limited : (limit : Option ℕ) (rs : List SeqRow) → sequence_rows (up_to_limit limit rs) ≡ up_to_limit limit (sequence_rows rs)
 sequence_rows-limited None rs = refl
 sequence_rows-limited (Some n) rs = sym (take-map sequence_row_of n rs)
 
@@ -196,11 +196,11 @@ apart p q h (x ∷ xs) = by (p x) (q x) (h x) (apart p q h xs)
     by false true k le = omega (arith, le)
     by false false k le = omega (arith, le)
 
-count-directed : (descending : Bool) (p : IdRow → Bool) (rs : List IdRow) → count_by p (directed descending rs) ≡ count_by p rs
+count-directed : (descending : Bool) (p : IdRow → Bool) (rs : List IdRow) → count_by p (in_direction descending rs) ≡ count_by p rs
 count-directed true p rs = sum_by-IsPermutation (λ r. cond (p r) 1 0) rs (reverse rs) (IsPermutation-reverse rs)
 count-directed false p rs = refl
 
-length-directed : (descending : Bool) (rs : List IdRow) → length (directed descending rs) ≡ length rs
+length-directed : (descending : Bool) (rs : List IdRow) → length (in_direction descending rs) ≡ length rs
 length-directed true rs = length-reverse rs
 length-directed false rs = refl
 
@@ -210,7 +210,7 @@ before_not_within range id h = rw h refl
 -- the rows before the range and those of the range are not more than there are
 pub counted_within : (range : IdRange) (rs : List IdRow) → count_by (λ r. is_before_start range r.id) rs + length (rows_within range rs) ≤ length rs
 counted_within range rs =
-    let ds = directed range.descending rs in
+    let ds = in_direction range.descending rs in
     let p = λ (r : IdRow). is_before_start range r.id in
     let before = length-filter p ds ∙ count-directed range.descending p rs in
     omega (arith, before, apart p (λ r. is_within range r.id) (λ r. before_not_within range r.id) ds, length-directed range.descending rs)

@@ -12,17 +12,17 @@ use Rattle.std.specs.FinMap.{find, slice_cmp-IsAntisymmetric, nat_cmp-IsAntisymm
 use Rattle.std.specs.FinMap.Entries.{where_key, find-where_key}
 use Rattle.store.specs.Database.{Database}
 use Rattle.store.specs.declared.plain.PlainDatabase.{PlainDatabase}
-use Rattle.store.specs.Plain.{Named, content, listed, contents_of, place_from, keys_put}
+use Rattle.store.specs.Plain.{Named, content, database_entries, contents_of, place_from, keys_put}
 use Rattle.store.proofs.Orders.{same_keys_put}
 
 abbrev eq : List ℕ → List ℕ → Bool
 eq = eq_by_cmp (slice_cmp nat_cmp)
 
 abbrev lookup : List ℕ → List Named → Option Database
-lookup name es = find (slice_cmp nat_cmp) name (listed es)
+lookup name es = find (slice_cmp nat_cmp) name (database_entries es)
 
 pub get-contents_of : (es : List Named) (name : List ℕ) → map.get (contents_of es) name ≡ lookup name es
-get-contents_of es name = map.get-from_entries nat_list_cmp_total (listed es) name
+get-contents_of es name = map.get-from_entries nat_list_cmp_total (database_entries es) name
 
 -- ---- the first place of a name
 
@@ -128,28 +128,28 @@ changed_at es at name e d change place is made =
     ∙ ap Some (ap (map.insert (contents_of es) name) (sym made) ∙ sym (contents_of-set es at name d first) ∙ ap (λ n. contents_of (set es at (n, d))) named)
 
 -- a database of the same content changes nothing
-pub unchanged_at : (es : List Named) (at : ℕ) (e : Named) (d : PlainDatabase) → e ≡ get_or es at e → content d ≡ content e.1 → listed (set es at (e.0, d)) ≡ listed es
+pub unchanged_at : (es : List Named) (at : ℕ) (e : Named) (d : PlainDatabase) → e ≡ get_or es at e → content d ≡ content e.1 → database_entries (set es at (e.0, d)) ≡ database_entries es
 unchanged_at [] at e d is same = refl
-unchanged_at (f ∷ es) zero e d is same = ap (λ c. (e.0, c) ∷ listed es) same ∙ ap (λ g. (g.0, content g.1) ∷ listed es) is
+unchanged_at (f ∷ es) zero e d is same = ap (λ c. (e.0, c) ∷ database_entries es) same ∙ ap (λ g. (g.0, content g.1) ∷ database_entries es) is
 unchanged_at (f ∷ es) (suc at) e d is same = ap (λ r. (f.0, content f.1) ∷ r) (unchanged_at es at e d is same)
 
-listed-push : (es : List Named) (e : Named) → listed (es ++ e ∷ []) ≡ listed es ++ (e.0, content e.1) ∷ []
+listed-push : (es : List Named) (e : Named) → database_entries (es ++ e ∷ []) ≡ database_entries es ++ (e.0, content e.1) ∷ []
 listed-push [] e = refl
 listed-push (f ∷ es) e = ap (λ r. (f.0, content f.1) ∷ r) (listed-push es e)
 
 -- a new name at the end
 pub contents_of-push : (es : List Named) (name : List ℕ) (d : PlainDatabase) → map.get (contents_of es) name ≡ None → contents_of (es ++ (name, d) ∷ []) ≡ map.insert (contents_of es) name (content d)
 contents_of-push es name d none =
-    ap map.from_entries (listed-push es (name, d)) ∙ map.from_entries_push nat_list_cmp_total exact (listed es) name (content d) (sym (get-contents_of es name) ∙ none)
+    ap map.from_entries (listed-push es (name, d)) ∙ map.from_entries_push nat_list_cmp_total exact (database_entries es) name (content d) (sym (get-contents_of es name) ∙ none)
 
 -- ---- a name taken out
 
-kept : (p : List ℕ → Bool) (e : Named) (es : List Named) (b : Bool) → listed (filter (λ f. p f.0) es) ≡ where_key (slice_cmp nat_cmp) p (listed es)
-    → listed (cond b (e ∷ filter (λ f. p f.0) es) (filter (λ f. p f.0) es)) ≡ cond b ((e.0, content e.1) ∷ where_key (slice_cmp nat_cmp) p (listed es)) (where_key (slice_cmp nat_cmp) p (listed es))
+kept : (p : List ℕ → Bool) (e : Named) (es : List Named) (b : Bool) → database_entries (filter (λ f. p f.0) es) ≡ where_key (slice_cmp nat_cmp) p (database_entries es)
+    → database_entries (cond b (e ∷ filter (λ f. p f.0) es) (filter (λ f. p f.0) es)) ≡ cond b ((e.0, content e.1) ∷ where_key (slice_cmp nat_cmp) p (database_entries es)) (where_key (slice_cmp nat_cmp) p (database_entries es))
 kept p e es true h = ap (λ r. (e.0, content e.1) ∷ r) h
 kept p e es false h = h
 
-listed-filter : (p : List ℕ → Bool) (es : List Named) → listed (filter (λ e. p e.0) es) ≡ where_key (slice_cmp nat_cmp) p (listed es)
+listed-filter : (p : List ℕ → Bool) (es : List Named) → database_entries (filter (λ e. p e.0) es) ≡ where_key (slice_cmp nat_cmp) p (database_entries es)
 listed-filter p [] = refl
 listed-filter p (e ∷ es) = kept p e es (p e.0) (listed-filter p es)
 
@@ -162,7 +162,7 @@ contents_of-without es name =
     let p = λ (k : List ℕ). not (eq name k) in
     map.same_map nat_list_cmp_total exact _ _
     (λ q. get-contents_of (filter (λ e. not (eq name e.0)) es) q ∙ ap (find (slice_cmp nat_cmp) q) (listed-filter p es)
-    ∙ find-where_key (slice_cmp nat_cmp) p q (λ x t. ap p (sym (exact q x t))) (listed es)
+    ∙ find-where_key (slice_cmp nat_cmp) p q (λ x t. ap p (sym (exact q x t))) (database_entries es)
     ∙ turned (eq name q) (lookup q es)
     ∙ ap (λ b. cond b None (lookup q es)) ((eq_by_cmp_equiv nat_list_cmp_total).symm name q)
     ∙ sym (map.get-remove nat_list_cmp_total (contents_of es) name q ∙ ap (cond (eq q name) None) (get-contents_of es q)))

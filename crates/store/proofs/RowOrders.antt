@@ -9,7 +9,7 @@ use Rattle.std.specs.FinMap.{entries, is_sorted, put}
 use Rattle.std.specs.FinMap.Entries.{below_all, by_order}
 use Rattle.tree.proofs.SortedEntries.{less}
 use Rattle.store.specs.Database.{Database}
-use Rattle.store.specs.Pages.{SequenceRow, in_sequence, limited, page_by_sequence, put_in_sequence, rows_of}
+use Rattle.store.specs.Pages.{SequenceRow, in_sequence, up_to_limit, page_by_sequence, put_in_sequence, rows_of}
 use Rattle.store.specs.declared.page.SeqRange.{SeqRange}
 use Rattle.store.proofs.Among.{all_in, from_map}
 use Rattle.store.proofs.Listings.{In, ascending}
@@ -63,7 +63,7 @@ pairs_take R n xs h = λ i j d lt within.
     let b : get_or (take n xs) j d ≡ get_or xs j d = get_or-take n xs j d (omega arith) in
     rw (a, b) (h i j d lt (omega arith))
 
-pub pairs_limited : {X : Type 0} (R : X → X → Type 0) (limit : Option ℕ) (xs : List X) → AllPairs R xs → AllPairs R (limited limit xs)
+pub pairs_limited : {X : Type 0} (R : X → X → Type 0) (limit : Option ℕ) (xs : List X) → AllPairs R xs → AllPairs R (up_to_limit limit xs)
 pairs_limited R None xs h = h
 pairs_limited R (Some n) xs h = pairs_take R n xs h
 

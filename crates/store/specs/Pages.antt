@@ -66,9 +66,9 @@ abbrev pub in_sequence : List SequenceRow → List SequenceRow
 in_sequence rs = map (λ e. e.1) (put_in_sequence rs [])
 
 -- no limit means all
-abbrev pub limited : {A : Type 0} → Option ℕ → List A → List A
-limited None rs = rs
-limited (Some n) rs = take n rs
+abbrev pub up_to_limit : {A : Type 0} → Option ℕ → List A → List A
+up_to_limit None rs = rs
+up_to_limit (Some n) rs = take n rs
 
 -- the sequence of the last row; without rows the smaller of what was asked for and the database's sequence
 abbrev pub last_sequence : ℕ → List SequenceRow → ℕ
@@ -77,7 +77,7 @@ last_sequence otherwise (r ∷ rs) = last_sequence r.sequence rs
 
 -- the rows after a sequence, up to the limit
 abbrev pub rows_after : SeqRange → List SequenceRow → List SequenceRow
-rows_after range rs = limited range.limit (filter (λ r. nat_lt range.since r.sequence) (in_sequence rs))
+rows_after range rs = up_to_limit range.limit (filter (λ r. nat_lt range.since r.sequence) (in_sequence rs))
 
 -- how many of the documents have a winner that is deleted, and how many have not
 abbrev pub gone_count : List (List ℕ × Document) → ℕ
@@ -156,12 +156,12 @@ is_after_end range id = is_after_end_of range.descending range.inclusive_end (op
 abbrev pub is_within : IdRange → List ℕ → Bool
 is_within range id = not (is_before_start range id || is_after_end range id)
 
-abbrev pub directed : Bool → List IdRow → List IdRow
-directed descending rs = if descending then reverse rs else rs
+abbrev pub in_direction : Bool → List IdRow → List IdRow
+in_direction descending rs = if descending then reverse rs else rs
 
 -- the rows of the range, in its direction
 abbrev pub rows_within : IdRange → List IdRow → List IdRow
-rows_within range rs = filter (λ r. is_within range r.id) (directed range.descending rs)
+rows_within range rs = filter (λ r. is_within range r.id) (in_direction range.descending rs)
 
 abbrev pub row_counts : IdRange → List IdRow → RowCounts
 row_counts range rs =
@@ -172,11 +172,11 @@ row_counts range rs =
 
 abbrev pub id_page : IdRange → List IdRow → IdPage
 id_page range rs =
-    record { rows = limited range.limit (drop range.skip (rows_within range rs)); counts = if_counted range.counted (row_counts range rs) }
+    record { rows = up_to_limit range.limit (drop range.skip (rows_within range rs)); counts = if_counted range.counted (row_counts range rs) }
 
 -- the page of this database
-abbrev pub page_by_id : IdRange → Database → IdPage
-page_by_id range db = id_page range (live_rows (entries db.documents))
+abbrev pub page_of_ids : IdRange → Database → IdPage
+page_of_ids range db = id_page range (live_rows (entries db.documents))
 
 -- the row is that of a document of the range whose winner is not deleted
 pub record IsIdRowOf (range : IdRange) (db : Database) (r : IdRow) : Type 0 where

@@ -19,15 +19,15 @@ Named = List ℕ × PlainDatabase
 abbrev pub content : PlainDatabase → Database
 content d = with_all (empty_database d.security) (writings_in (empty_database d.security) (additions d.writes.items))
 
-abbrev pub listed : List Named → List (List ℕ × Database)
-listed es = map (λ e. (e.0, content e.1)) es
+abbrev pub database_entries : List Named → List (List ℕ × Database)
+database_entries es = map (λ e. (e.0, content e.1)) es
 
 abbrev pub contents_of : List Named → Contents
-contents_of es = from_entries (listed es)
+contents_of es = from_entries (database_entries es)
 
 -- the database of this name
 abbrev pub found : List Named → List ℕ → Option Database
-found es name = find (slice_cmp nat_cmp) name (listed es)
+found es name = find (slice_cmp nat_cmp) name (database_entries es)
 
 -- the first place, counted on from n, at which a database of this name stands
 abbrev pub place_from : ℕ → List ℕ → List Named → Option ℕ
@@ -59,11 +59,11 @@ keys_put R [] among = among
 keys_put R (e ∷ es) among = put R e.0 tt (keys_put R es among)
 
 -- the documents gathered so far, by id
-abbrev pub stored : List ℕ × PlainDocument → List ℕ × Document
-stored e = (e.0, record { sequence = e.1.sequence; history = e.1.history })
+abbrev pub document_entry : List ℕ × PlainDocument → List ℕ × Document
+document_entry e = (e.0, record { sequence = e.1.sequence; history = e.1.history })
 
-abbrev pub gathered : List (List ℕ × PlainDocument) → List (List ℕ × Document)
-gathered es = map stored es
+abbrev pub document_entries : List (List ℕ × PlainDocument) → List (List ℕ × Document)
+document_entries es = map document_entry es
 
 -- one more write gathered, and each of them, after n that were
 abbrev pub with_write_at : ℕ → List (List ℕ × Document) → Addition → List (List ℕ × Document)

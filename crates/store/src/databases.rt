@@ -8,7 +8,7 @@ ghost use Rattle.std.specs.Ordering.{nat_cmp, eq_by_cmp};
 ghost use Rattle.std.specs.Cmp.Lexicographic.{slice_cmp};
 
 use crate::database_name::DbName;
-use crate::order::put;
+use crate::order::put_sorted;
 use crate::plain::{Databases, PlainDatabase};
 use crate::replay::copies;
 use crate::write::Write;
@@ -99,7 +99,7 @@ pub(crate) fn names_of(alloc: Global, databases: &Databases) -> Got<Vec<DbName>>
 {
     let mut names = Vec::new(alloc);
     for at in (0..databases.len()).rev() {
-        put(&mut names, databases[at].0.copy(alloc)?, ())?;
+        put_sorted(&mut names, databases[at].0.copy(alloc)?, ())?;
     }
     Ok(first_parts(alloc, names)?)
 }

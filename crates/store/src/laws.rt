@@ -9,7 +9,7 @@ ghost use Rattle.tree.specs.declared.entry.Held.{Held};
 ghost use Rattle.store.specs.Contents.{AreAcceptable, IsAcceptable, with_security};
 ghost use Rattle.store.specs.Database.{Database, Document, DocumentWrite, HasSequences, IsContentOf, IsLater, Log, empty_database, with_all, with_one, with_write_logged};
 ghost use Rattle.store.specs.Lawful.{IsBody, IsLawful};
-ghost use Rattle.store.specs.Pages.{IsIdRowOf, IsRowOf, SequenceRow, comes_before, is_within, live_rev, page_by_id, page_by_sequence, row_of};
+ghost use Rattle.store.specs.Pages.{IsIdRowOf, IsRowOf, SequenceRow, comes_before, is_within, live_rev, page_of_ids, page_by_sequence, row_of};
 ghost use Rattle.store.specs.Writing.{Addition, writings_in};
 ghost use Rattle.store.specs.declared.page.IdRange.{IdRange};
 ghost use Rattle.store.specs.declared.page.IdRow.{IdRow};
@@ -87,7 +87,7 @@ pub fn rows_by_sequence()
 /// whose winner is not deleted, and where nothing is skipped and without a limit each such document
 /// has its row.
 pub fn rows_by_id()
-    ensures ascending { (range : IdRange) (db : Database) → AllPairs (λ a b. comes_before range.descending a.id b.id ≡ true) (page_by_id range db).rows }
-    ensures there { (range : IdRange) (db : Database) (r : IdRow) → Contains (page_by_id range db).rows r → IsIdRowOf range db r }
-    ensures whole { (range : IdRange) (db : Database) (r : IdRow) → range.limit ≡ None → range.skip ≡ 0 → IsIdRowOf range db r → Contains (page_by_id range db).rows r }
+    ensures ascending { (range : IdRange) (db : Database) → AllPairs (λ a b. comes_before range.descending a.id b.id ≡ true) (page_of_ids range db).rows }
+    ensures there { (range : IdRange) (db : Database) (r : IdRow) → Contains (page_of_ids range db).rows r → IsIdRowOf range db r }
+    ensures whole { (range : IdRange) (db : Database) (r : IdRow) → range.limit ≡ None → range.skip ≡ 0 → IsIdRowOf range db r → Contains (page_of_ids range db).rows r }
 {}

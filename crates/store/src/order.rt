@@ -1,8 +1,8 @@
 //! Lists of entries in the order of their keys, and lists that are cut, as the plain store builds them.
 
 ghost use Rattle.std.specs.Prelude.{◌≡◌, ◌<◌, ◌≤◌, IfOk, IfErr, OnOk, length};
-ghost use Rattle.std.specs.FinMap.{put as put_lem};
-ghost use Rattle.store.specs.Pages.{limited as limited_lem};
+ghost use Rattle.std.specs.FinMap.{put};
+ghost use Rattle.store.specs.Pages.{up_to_limit};
 ghost use Rattle.store.specs.Plain.{spot_from};
 
 use couch_json::Got;
@@ -25,8 +25,8 @@ pub(crate) fn spot<K: Ord, V>(entries: &Vec<(K, V)>, key: &K) -> Result<usize, u
 }
 
 /// Puts a value at a key: in the place of the one that was there, or before the first greater key.
-pub(crate) fn put<K: Ord + Drop, V: Drop>(entries: &mut Vec<(K, V)>, key: K, value: V) -> Got<()>
-    ensures ok { OnOk result (entries.new.items ≡ put_lem K.cmp key value entries.old.items) }
+pub(crate) fn put_sorted<K: Ord + Drop, V: Drop>(entries: &mut Vec<(K, V)>, key: K, value: V) -> Got<()>
+    ensures ok { OnOk result (entries.new.items ≡ put K.cmp key value entries.old.items) }
 {
     match spot(entries, &key) {
         Ok(at) => entries[at].1 = value,
@@ -36,8 +36,8 @@ pub(crate) fn put<K: Ord + Drop, V: Drop>(entries: &mut Vec<(K, V)>, key: K, val
 }
 
 /// The first of the rows, up to the limit.
-pub(crate) fn limited<T: Drop>(rows: Vec<T>, limit: Option<u64>) -> Vec<T>
-    ensures { result.items ≡ limited_lem limit rows.items }
+pub(crate) fn cut_to_limit<T: Drop>(rows: Vec<T>, limit: Option<u64>) -> Vec<T>
+    ensures { result.items ≡ up_to_limit limit rows.items }
 {
     let mut rows = rows;
     if let Some(limit) = limit {

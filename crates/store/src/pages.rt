@@ -2,12 +2,12 @@
 
 ghost use Rattle.std.specs.Prelude.{◌≡◌, ◌≤◌, [], IfOk, IfSome, OnOk, filter, length, map as list_map, nat_lt};
 ghost use Rattle.std.specs.FinMap as map;
-ghost use Rattle.store.specs.Pages.{document_counts, gone_count, if_counted, in_sequence as in_sequence_lem, is_gone as is_gone_lem, last_sequence as last_sequence_lem, limited as limited_lem, page_with, row_of as row_of_lem, rows_of as rows_of_lem, shown_revs as shown_revs_lem};
+ghost use Rattle.store.specs.Pages.{document_counts, gone_count, if_counted, in_sequence, is_gone, last_sequence, up_to_limit, page_with, row_of, rows_of, shown_revs};
 ghost use Rattle.store.specs.Paging.{IsBounded, sequence_page_of, sequence_row_of, sequence_rows};
-ghost use Rattle.store.specs.Plain.{gathered, gathered_after, stored, with_addition, with_write_at};
+ghost use Rattle.store.specs.Plain.{document_entries, gathered_after, document_entry, with_addition, with_write_at};
 ghost use Rattle.store.specs.Writing.{addition_of, additions};
 
-use crate::order::{limited, put, spot};
+use crate::order::{cut_to_limit, put_sorted, spot};
 use crate::page::{DocumentCounts, PageBySeq, SeqRange, SeqRow};
 use crate::plain::{Documents, PlainDocument};
 use crate::write::Write;
@@ -22,10 +22,10 @@ pub(crate) fn page_by_seq(alloc: Global, writes: &Vec<Write>, range: &SeqRange) 
     ensures bounded { IfOk result (IsBounded range.now) }
 {
     let documents = documents_of(alloc, writes)?;
-    let rows = rows_of(alloc, &documents, range.all_leaves)?;
+    let rows = build_rows(alloc, &documents, range.all_leaves)?;
     let sequence = writes.len() as u64;
-    let rows = rows_after(in_sequence(alloc, rows)?, range);
-    let last_seq = last_sequence(min(range.since, sequence), &rows);
+    let rows = rows_after(sort_by_sequence(alloc, rows)?, range);
+    let last_seq = find_last_sequence(min(range.since, sequence), &rows);
     Ok(PageBySeq {
         rows,
         last_seq,
@@ -36,7 +36,7 @@ pub(crate) fn page_by_seq(alloc: Global, writes: &Vec<Write>, range: &SeqRange) 
 
 /// Counts the documents, where that is asked for.
 fn counts_of(documents: &Documents, counted: bool) -> Option<DocumentCounts>
-    ensures counts { result ≡ if_counted counted (document_counts (gathered documents.now.items)) }
+    ensures counts { result ≡ if_counted counted (document_counts (document_entries documents.now.items)) }
     ensures within { IfSome result (λ counts. (counts.documents ≤ length documents.now.items) × (counts.deleted ≤ length documents.now.items)) }
 {
     if !counted {
@@ -51,7 +51,7 @@ fn counts_of(documents: &Documents, counted: bool) -> Option<DocumentCounts>
 
 /// The documents that the writes made, in the order of their ids.
 pub(crate) fn documents_of(alloc: Global, writes: &Vec<Write>) -> Got<Documents>
-    ensures { IfOk result (λ documents. gathered documents.items ≡ gathered_after 0 [] (additions writes.now.items)) }
+    ensures { IfOk result (λ documents. document_entries documents.items ≡ gathered_after 0 [] (additions writes.now.items)) }
 {
     let mut documents = Vec::new(alloc);
     for (at, write) in writes.iter().enumerate() {
@@ -62,7 +62,7 @@ pub(crate) fn documents_of(alloc: Global, writes: &Vec<Write>) -> Got<Documents>
 
 /// Takes in the write that has this sequence.
 fn take_in(alloc: Global, documents: &mut Documents, sequence: u64, write: &Write) -> Got<()>
-    ensures ok { OnOk result (gathered documents.new.items ≡ with_write_at sequence (gathered documents.old.items) (addition_of write.now)) }
+    ensures ok { OnOk result (document_entries documents.new.items ≡ with_write_at sequence (document_entries documents.old.items) (addition_of write.now)) }
 {
     match spot(documents, &write.id) {
         Ok(at) => write_to(&mut documents[at].1, sequence, write)?,
@@ -98,33 +98,33 @@ fn make_document(alloc: Global, sequence: u64, write: &Write) -> Got<PlainDocume
 }
 
 /// A row for each document.
-fn rows_of(alloc: Global, documents: &Documents, all_leaves: bool) -> Got<Vec<SeqRow>>
-    ensures { IfOk result (λ rows. sequence_rows rows.items ≡ rows_of_lem all_leaves (gathered documents.now.items)) }
+fn build_rows(alloc: Global, documents: &Documents, all_leaves: bool) -> Got<Vec<SeqRow>>
+    ensures { IfOk result (λ rows. sequence_rows rows.items ≡ rows_of all_leaves (document_entries documents.now.items)) }
 {
     let mut rows = Vec::with_capacity(alloc, documents.len())?;
     for document in documents {
-        rows.push(row_of(alloc, document, all_leaves)?)?;
+        rows.push(build_row(alloc, document, all_leaves)?)?;
     }
     Ok(rows)
 }
 
-fn row_of(alloc: Global, document: &(DocId, PlainDocument), all_leaves: bool) -> Got<SeqRow>
-    ensures { IfOk result (λ row. sequence_row_of row ≡ row_of_lem all_leaves (stored document.now)) }
+fn build_row(alloc: Global, document: &(DocId, PlainDocument), all_leaves: bool) -> Got<SeqRow>
+    ensures { IfOk result (λ row. sequence_row_of row ≡ row_of all_leaves (document_entry document.now)) }
 {
     let (id, document) = document;
     let id = id.copy(alloc)?;
-    let revs = shown_revs(alloc, &document.history, all_leaves)?;
+    let revs = list_revs(alloc, &document.history, all_leaves)?;
     Ok(SeqRow {
         sequence: document.sequence,
         id,
         revs,
-        deleted: is_gone(&document.history),
+        deleted: has_deleted_winner(&document.history),
     })
 }
 
 /// All leaves, best first, or the winner alone.
-fn shown_revs(alloc: Global, history: &History, all_leaves: bool) -> Got<Vec<Rev>>
-    ensures { IfOk result (λ revs. revs.items ≡ shown_revs_lem all_leaves history.now) }
+fn list_revs(alloc: Global, history: &History, all_leaves: bool) -> Got<Vec<Rev>>
+    ensures { IfOk result (λ revs. revs.items ≡ shown_revs all_leaves history.now) }
 {
     if all_leaves {
         return history.leaves();
@@ -137,8 +137,8 @@ fn shown_revs(alloc: Global, history: &History, all_leaves: bool) -> Got<Vec<Rev
 }
 
 /// Whether the winner is deleted.
-fn is_gone(history: &History) -> bool
-    ensures { result ≡ is_gone_lem history.now }
+fn has_deleted_winner(history: &History) -> bool
+    ensures { result ≡ is_gone history.now }
 {
     let Some(winner) = history.winner() else {
         return false;
@@ -151,12 +151,12 @@ fn is_gone(history: &History) -> bool
 
 /// How many documents have a winner that is deleted.
 fn count_deleted(documents: &Documents) -> u64
-    ensures count { result ≡ gone_count (gathered documents.now.items) }
+    ensures count { result ≡ gone_count (document_entries documents.now.items) }
     ensures within { result ≤ length documents.now.items }
 {
     let mut count = 0;
     for document in documents {
-        if is_gone(&document.1.history) {
+        if has_deleted_winner(&document.1.history) {
             count += 1;
         }
     }
@@ -164,13 +164,13 @@ fn count_deleted(documents: &Documents) -> u64
 }
 
 /// The same rows, ascending by sequence.
-fn in_sequence(alloc: Global, rows: Vec<SeqRow>) -> Got<Vec<SeqRow>>
-    ensures { IfOk result (λ ordered. sequence_rows ordered.items ≡ in_sequence_lem (sequence_rows rows.items)) }
+fn sort_by_sequence(alloc: Global, rows: Vec<SeqRow>) -> Got<Vec<SeqRow>>
+    ensures { IfOk result (λ ordered. sequence_rows ordered.items ≡ in_sequence (sequence_rows rows.items)) }
 {
     let mut rows = rows;
     let mut ordered = Vec::new(alloc);
     while let Some(row) = rows.pop() {
-        put(&mut ordered, row.sequence, row)?;
+        put_sorted(&mut ordered, row.sequence, row)?;
     }
     Ok(second_parts(alloc, ordered)?)
 }
@@ -183,15 +183,15 @@ fn second_parts(alloc: Global, ordered: Vec<(u64, SeqRow)>) -> Got<Vec<SeqRow>>
 
 /// The rows after a sequence, up to the limit.
 fn rows_after(rows: Vec<SeqRow>, range: &SeqRange) -> Vec<SeqRow>
-    ensures { sequence_rows result.items ≡ limited_lem range.now.limit (filter (λ r. nat_lt range.now.since r.sequence) (sequence_rows rows.items)) }
+    ensures { sequence_rows result.items ≡ up_to_limit range.now.limit (filter (λ r. nat_lt range.now.since r.sequence) (sequence_rows rows.items)) }
 {
     let mut rows = rows;
     rows.retain(|row| range.since < row.sequence);
-    limited(rows, range.limit)
+    cut_to_limit(rows, range.limit)
 }
 
-fn last_sequence(otherwise: u64, rows: &Vec<SeqRow>) -> u64
-    ensures { result ≡ last_sequence_lem otherwise (sequence_rows rows.now.items) }
+fn find_last_sequence(otherwise: u64, rows: &Vec<SeqRow>) -> u64
+    ensures { result ≡ last_sequence otherwise (sequence_rows rows.now.items) }
 {
     let mut last = otherwise;
     for row in rows {

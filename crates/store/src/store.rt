@@ -5,7 +5,7 @@ ghost use Rattle.store.specs.Contents.{Contents, AreAcceptable, IfThere, new_dat
 ghost use Rattle.store.specs.Database.{DocumentWrite, history_at, with_all};
 ghost use Rattle.store.specs.Lawful.{AreLawful};
 ghost use Rattle.store.specs.Leaving.{Answers, ChangesWhole, OnlyReads};
-ghost use Rattle.store.specs.Pages.{page_by_id as page_by_id_lem, page_by_sequence};
+ghost use Rattle.store.specs.Pages.{page_of_ids, page_by_sequence};
 ghost use Rattle.store.specs.Paging.{IsBounded, IsCounted, id_page_of, sequence_page_of};
 ghost use Rattle.store.specs.Writing.{additions, writings_in};
 
@@ -93,7 +93,7 @@ pub trait Store {
     /// counts where those are asked for. `NoDatabase` comes exactly where there is none of this name.
     fn page_by_id(&mut self, name: &DbName, range: &IdRange) -> Result<PageById, StoreFault>
         ensures answer { Answers is_honest fault_count self.old self.new id_page_of
-            (option_map (λ db. page_by_id_lem range.now db) (map.get (contents self.old) name.now)) result }
+            (option_map (λ db. page_of_ids range.now db) (map.get (contents self.old) name.now)) result }
         ensures counted { IfOk result (IsCounted range.now) }
         ensures reads { OnlyReads contents is_honest is_clean fault_count lacks_room lacks_number self.old self.new };
 

@@ -6,7 +6,7 @@ use Rattle.std.proofs.lemmas.List.Elements.{Contains-append_left, Contains-appen
 use Rattle.tree.specs.Revision.{Revision}
 use Rattle.tree.specs.Write.{Write, is_whole, head, held_by, StandsIn, IsBehind, IsKnown, IsParent, IsBrought, AreWhole, IsLawful}
 use Rattle.tree.specs.History.{HistoryContent, LooksAlike, is_known, parent_of, held_of, is_deleted, is_leaf, is_head_known, keeps_parents, leaves, winner, placement, content_of}
-use Rattle.tree.specs.Convergence.{AreConsistent, BringOne, HaveSame, as_judged, merged, with_offered}
+use Rattle.tree.specs.Convergence.{AreConsistent, BringOne, HaveSame, as_judged, replica_of, with_offered}
 use Rattle.tree.specs.declared.entry.Held.{Held}
 use Rattle.tree.specs.declared.placement.Placed.TheVariants.{Added, Known}
 use Rattle.tree.specs.declared.placement.TreeFault.{TreeFault}
@@ -186,7 +186,7 @@ record HasAll (all : List Write) (h : HistoryContent) : Type 0 where
   known : (r : Revision) → IsKnown all r → IsKnown list r
   parent : (r p : Revision) → IsParent all r p → IsParent list r p
 
-merged_has : (ws vs : List Write) → AreConsistent ws → HaveSame ws vs → HasAll ws (merged vs)
+merged_has : (ws vs : List Write) → AreConsistent ws → HaveSame ws vs → HasAll ws (replica_of vs)
 merged_has ws vs fit same =
     let came = all_came_in ws fit [] vs lawful_nil (λ w c. absurd (none w c)) (λ w c. (same w).1 c) in
     record {
@@ -245,31 +245,31 @@ alike all fit h k a b = record { known = known; parents = parents; marks = marks
 
 -- ---- the laws
 
-merged_alike : (ws vs : List Write) → AreConsistent ws → HaveSame ws vs → LooksAlike (merged ws) (merged vs)
-merged_alike ws vs fit same = alike ws fit (merged ws) (merged vs) (merged_has ws ws fit (itself ws)) (merged_has ws vs fit same)
+merged_alike : (ws vs : List Write) → AreConsistent ws → HaveSame ws vs → LooksAlike (replica_of ws) (replica_of vs)
+merged_alike ws vs fit same = alike ws fit (replica_of ws) (replica_of vs) (merged_has ws ws fit (itself ws)) (merged_has ws vs fit same)
 
-pub leaves_converge : (ws vs : List Write) → AreConsistent ws → HaveSame ws vs → leaves (merged ws) ≡ leaves (merged vs)
-leaves_converge ws vs fit same = leaves_same (merged ws) (merged vs) (merged_alike ws vs fit same)
+pub leaves_converge : (ws vs : List Write) → AreConsistent ws → HaveSame ws vs → leaves (replica_of ws) ≡ leaves (replica_of vs)
+leaves_converge ws vs fit same = leaves_same (replica_of ws) (replica_of vs) (merged_alike ws vs fit same)
 
-pub winner_converges : (ws vs : List Write) → AreConsistent ws → HaveSame ws vs → winner (merged ws) ≡ winner (merged vs)
-winner_converges ws vs fit same = winner_same (merged ws) (merged vs) (merged_alike ws vs fit same)
+pub winner_converges : (ws vs : List Write) → AreConsistent ws → HaveSame ws vs → winner (replica_of ws) ≡ winner (replica_of vs)
+winner_converges ws vs fit same = winner_same (replica_of ws) (replica_of vs) (merged_alike ws vs fit same)
 
-pub leaves_held_same : (ws vs : List Write) (r : Revision) → AreConsistent ws → HaveSame ws vs → BringOne ws r → IsTrue (is_leaf (merged ws) r) → held_of (merged ws) r ≡ held_of (merged vs) r
+pub leaves_held_same : (ws vs : List Write) (r : Revision) → AreConsistent ws → HaveSame ws vs → BringOne ws r → IsTrue (is_leaf (replica_of ws) r) → held_of (replica_of ws) r ≡ held_of (replica_of vs) r
 leaves_held_same ws vs r fit same one l =
     let a = merged_has ws ws fit (itself ws) in
     let b = merged_has ws vs fit same in
     let looks = merged_alike ws vs fit same in
-    let d = held_by_leaf ws (merged ws) a r l in
-    let e = held_by_leaf ws (merged vs) b r (leaf_alike (merged ws) (merged vs) looks.known looks.parents r l) in
+    let d = held_by_leaf ws (replica_of ws) a r l in
+    let e = held_by_leaf ws (replica_of vs) b r (leaf_alike (replica_of ws) (replica_of vs) looks.known looks.parents r l) in
     d.1 ∙ ap Some (one d.0 e.0 d.2 e.2) ∙ sym e.1
 
-pub merged_known : (ws : List Write) (r : Revision) → AreConsistent ws → IsTrue (is_known (merged ws) r) ↔ IsKnown ws r
-merged_known ws r fit = known_of ws (merged ws) (merged_has ws ws fit (itself ws)) r
+pub merged_known : (ws : List Write) (r : Revision) → AreConsistent ws → IsTrue (is_known (replica_of ws) r) ↔ IsKnown ws r
+merged_known ws r fit = known_of ws (replica_of ws) (merged_has ws ws fit (itself ws)) r
 
-pub merged_parents : (ws : List Write) (r p : Revision) → AreConsistent ws → (parent_of (merged ws) r ≡ Some p) ↔ IsParent ws r p
-merged_parents ws r p fit = parent_is_of ws (merged ws) (merged_has ws ws fit (itself ws)) r p
+pub merged_parents : (ws : List Write) (r p : Revision) → AreConsistent ws → (parent_of (replica_of ws) r ≡ Some p) ↔ IsParent ws r p
+merged_parents ws r p fit = parent_is_of ws (replica_of ws) (merged_has ws ws fit (itself ws)) r p
 
-pub none_refused : (ws : List Write) (w : Write) (fault : TreeFault) → AreConsistent (ws ++ w ∷ []) → ¬ (placement (merged ws) w.path ≡ Err fault)
+pub none_refused : (ws : List Write) (w : Write) (fault : TreeFault) → AreConsistent (ws ++ w ∷ []) → ¬ (placement (replica_of ws) w.path ≡ Err fault)
 none_refused ws w fault fit e = by (is_head_known (content_of came.list) w.path) refl (sym (ap (λ h. placement h w.path) came.content) ∙ e)
   where
     came : CameIn (ws ++ w ∷ []) [] ws
@@ -302,5 +302,5 @@ lawful_offered before (w ∷ ws) lawful =
     ap (λ h. with_offered h ws) (ap (λ p. as_judged p (content_of before) w) added ∙ sym (one_more_write before w))
     ∙ lawful_offered (before ++ w ∷ []) ws longer ∙ ap content_of split
 
-pub merged_lawful : (ws : List Write) → IsLawful ws → merged ws ≡ content_of ws
+pub merged_lawful : (ws : List Write) → IsLawful ws → replica_of ws ≡ content_of ws
 merged_lawful ws lawful = lawful_offered [] ws lawful

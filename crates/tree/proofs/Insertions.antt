@@ -14,7 +14,7 @@ use Rattle.std.specs.FinMap.{find, put}
 use Rattle.std.specs.FinMap.Entries.{by_order}
 use Rattle.tree.specs.Revision.{Revision, revision_cmp}
 use Rattle.tree.specs.History.{is_parent_in, names}
-use Rattle.tree.specs.Nodes.{AreParents, entries_before, listed, next_of, nodes_before, nodes_with, nodes_with_new, parents_before, parents_with, parents_without}
+use Rattle.tree.specs.Nodes.{AreParents, entries_before, insertion_list, next_of, nodes_before, nodes_with, nodes_with_new, parents_before, parents_with, parents_without}
 use Rattle.tree.specs.declared.entry.Held.{Held}
 use Rattle.tree.specs.declared.entry.Entry.{Entry}
 use Rattle.tree.specs.declared.nodes.Insertion.{Insertion}
@@ -102,11 +102,11 @@ pub parents_less : (ks ls : List Revision) (all rest : List Insertion) (i : Inse
     → ls ≡ parents_without ks i.parent → parents_before ks all ≡ start → parents_before ls rest ≡ start
 parents_less ks ls all rest i start split is all_back = ap (λ xs. parents_before xs rest) is ∙ sym (parents_before-append ks rest i) ∙ ap (parents_before ks) (sym split) ∙ all_back
 
-pub nodes_back_more : (new old start : List Node) (is : List Insertion) (o : Option Insertion) → nodes_before new (listed o) ≡ old → nodes_before old is ≡ start → nodes_before new (is ++ listed o) ≡ start
+pub nodes_back_more : (new old start : List Node) (is : List Insertion) (o : Option Insertion) → nodes_before new (insertion_list o) ≡ old → nodes_before old is ≡ start → nodes_before new (is ++ insertion_list o) ≡ start
 nodes_back_more new old start is None e h = ap (nodes_before new) (append-nil is) ∙ ap (λ xs. nodes_before xs is) e ∙ h
 nodes_back_more new old start is (Some i) e h = nodes_before-append new is i ∙ ap (λ xs. nodes_before xs is) e ∙ h
 
-pub parents_back_more : (new old start : List Revision) (is : List Insertion) (o : Option Insertion) → parents_before new (listed o) ≡ old → parents_before old is ≡ start → parents_before new (is ++ listed o) ≡ start
+pub parents_back_more : (new old start : List Revision) (is : List Insertion) (o : Option Insertion) → parents_before new (insertion_list o) ≡ old → parents_before old is ≡ start → parents_before new (is ++ insertion_list o) ≡ start
 parents_back_more new old start is None e h = ap (parents_before new) (append-nil is) ∙ ap (λ xs. parents_before xs is) e ∙ h
 parents_back_more new old start is (Some i) e h = parents_before-append new is i ∙ ap (λ xs. parents_before xs is) e ∙ h
 

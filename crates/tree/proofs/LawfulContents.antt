@@ -4,7 +4,7 @@ use Rattle.std.specs.Prelude.{is_some, option_and_then}
 use Rattle.std.specs.FinMap.{get, same_map}
 use Rattle.tree.specs.Revision.{Revision}
 use Rattle.tree.specs.Write.{Write, counts_down, head, held_by, StandsIn, IsBehind, EndsWith, IsKnown, IsParent, IsBrought, IsPathEnd, AreWhole, IsLawful}
-use Rattle.tree.specs.History.{HistoryContent, is_known, parent_of, held_of, content_of, Shows, IsRooted, agrees, keeps_parents, is_head_known, placement, inserted, with_write, line, onward, chain, behind}
+use Rattle.tree.specs.History.{HistoryContent, is_known, parent_of, held_of, content_of, Shows, IsRooted, agrees, keeps_parents, is_head_known, placement, content_after, with_write, line, onward, chain, behind}
 use Rattle.tree.specs.declared.entry.Held.{Held}
 use Rattle.tree.specs.declared.entry.Entry.{Entry}
 use Rattle.tree.specs.declared.placement.Placed.{Placed}
@@ -53,7 +53,7 @@ all_known h (s ∷ path) r root k known (inr i) = all_known h path r root (parts
         let up : e.0.parent ≡ Some t = same_parent_is e.0.parent (Some t) (ap (λ (o : Option Entry). agrees o (Some t)) (sym e.1) ∙ a) in
         root.parents_known s t (ap (option_and_then (λ (x : Entry). x.parent)) e.1 ∙ up)
 
-pub path_known : (ws : List Write) (w : Write) → IsLawful ws → (p : Placed) (r : Revision) → placement (content_of ws) w.path ≡ Ok p → StandsIn w.path r → is_known (inserted (content_of ws) w) r ≡ true
+pub path_known : (ws : List Write) (w : Write) → IsLawful ws → (p : Placed) (r : Revision) → placement (content_of ws) w.path ≡ Ok p → StandsIn w.path r → is_known (content_after (content_of ws) w) r ≡ true
 path_known ws w lawful p r placed i = by (is_head_known (content_of ws) w.path) refl
   where
     by : (b : Bool) → is_head_known (content_of ws) w.path ≡ b → is_known (cond b (content_of ws) (with_write (content_of ws) w)) r ≡ true

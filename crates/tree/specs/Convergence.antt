@@ -23,8 +23,8 @@ with_offered h [] = h
 with_offered h (w ∷ ws) = with_offered (as_judged (placement h w.path) h w) ws
 
 -- what a replica has that was new, and was offered these writes in this order
-abbrev pub merged : List Write → HistoryContent
-merged ws = with_offered empty ws
+abbrev pub replica_of : List Write → HistoryContent
+replica_of ws = with_offered empty ws
 
 -- The writes fit together, as those of one document do, on whatever replicas they were made: paths are
 -- whole, no revision has two parents, and the writes of one revision agree whether it deletes the

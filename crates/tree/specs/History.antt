@@ -184,8 +184,8 @@ placement h path =
     else Ok Added
 
 -- the content after a write that was judged
-abbrev pub inserted : HistoryContent → Write → HistoryContent
-inserted h w = if is_head_known h w.path then h else with_write h w
+abbrev pub content_after : HistoryContent → Write → HistoryContent
+content_after h w = if is_head_known h w.path then h else with_write h w
 
 -- what stands behind the old content, with this write at its end, is lawful and stands behind the new
 abbrev pub GoesOn : HistoryContent → Write → HistoryContent → Type 0

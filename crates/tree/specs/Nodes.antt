@@ -81,9 +81,9 @@ is_live_at nodes None = false
 is_live_at nodes (Some r) = is_live_entry (find revision_cmp r nodes)
 
 -- what came in, if anything did
-abbrev pub listed : Option Insertion → List Insertion
-listed None = []
-listed (Some i) = i ∷ []
+abbrev pub insertion_list : Option Insertion → List Insertion
+insertion_list None = []
+insertion_list (Some i) = i ∷ []
 
 -- the nodes before these came in, the last of them taken back first
 abbrev pub nodes_before : List (Revision × Entry) → List Insertion → List (Revision × Entry)

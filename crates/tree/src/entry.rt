@@ -25,6 +25,7 @@ pub struct Entry {
 }
 
 impl Held {
+    /// Makes an equal one of its own.
     pub fn copy(&self, alloc: Global) -> Got<Held>
         ensures { IfOk result (λ held. held ≡ self.now) }
     {
@@ -36,6 +37,7 @@ impl Held {
 }
 
 impl Entry {
+    /// Makes an equal one of its own.
     pub fn copy(&self, alloc: Global) -> Got<Entry>
         ensures { IfOk result (λ entry. entry ≡ self.now) }
     {

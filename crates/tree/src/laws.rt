@@ -5,8 +5,8 @@ ghost use Rattle.std.specs.FinMap.{find, get};
 ghost use Rattle.std.specs.FinMap as map;
 ghost use Rattle.tree.specs.Revision.{Revision, is_revision, revision_cmp, revision_read, text_of};
 ghost use Rattle.tree.specs.Write.{Write, IsKnown, IsLawful, IsParent, IsPathEnd, StandsIn};
-ghost use Rattle.tree.specs.History.{HistoryContent, AreBestFirst, IsBetter, IsRooted, LooksAlike, Shows, behind, chain, content_of, entry_after, held_of, inserted, is_deleted, is_known, is_leaf, is_live, leaves, parent_of, placement, winner, with_entries, with_write};
-ghost use Rattle.tree.specs.Convergence.{AreConsistent, BringOne, HaveSame, merged};
+ghost use Rattle.tree.specs.History.{HistoryContent, AreBestFirst, IsBetter, IsRooted, LooksAlike, Shows, behind, chain, content_of, entry_after, held_of, content_after, is_deleted, is_known, is_leaf, is_live, leaves, parent_of, placement, winner, with_entries, with_write};
+ghost use Rattle.tree.specs.Convergence.{AreConsistent, BringOne, HaveSame, replica_of};
 ghost use Rattle.tree.specs.declared.entry.Entry.{Entry};
 ghost use Rattle.tree.specs.declared.placement.Placed.{Placed};
 ghost use Rattle.tree.specs.declared.placement.TreeFault.{TreeFault};
@@ -55,7 +55,7 @@ pub fn rows_make_the_history()
 /// After a write that was added or known, its whole path is known.
 pub fn path_known()
     ensures { (ws : List Write) (w : Write) (p : Placed) (r : Revision) → IsLawful ws
-        → placement (content_of ws) w.path ≡ Ok p → StandsIn w.path r → IsTrue (is_known (inserted (content_of ws) w) r) }
+        → placement (content_of ws) w.path ≡ Ok p → StandsIn w.path r → IsTrue (is_known (content_after (content_of ws) w) r) }
 {}
 
 /// Parents are known, numbers go down by one from child to parent, and roots have number 1.
@@ -127,22 +127,22 @@ pub fn leaves_same()
 /// same of it. Of a revision that is no leaf they may hold different things: one that was first known
 /// from the path of a later revision stays without its body.
 pub fn replicas_converge()
-    ensures leaves { (ws vs : List Write) → AreConsistent ws → HaveSame ws vs → leaves (merged ws) ≡ leaves (merged vs) }
-    ensures winner { (ws vs : List Write) → AreConsistent ws → HaveSame ws vs → winner (merged ws) ≡ winner (merged vs) }
+    ensures leaves { (ws vs : List Write) → AreConsistent ws → HaveSame ws vs → leaves (replica_of ws) ≡ leaves (replica_of vs) }
+    ensures winner { (ws vs : List Write) → AreConsistent ws → HaveSame ws vs → winner (replica_of ws) ≡ winner (replica_of vs) }
     ensures held { (ws vs : List Write) (r : Revision) → AreConsistent ws → HaveSame ws vs → BringOne ws r
-        → IsTrue (is_leaf (merged ws) r) → held_of (merged ws) r ≡ held_of (merged vs) r }
+        → IsTrue (is_leaf (replica_of ws) r) → held_of (replica_of ws) r ≡ held_of (replica_of vs) r }
 {}
 
 /// Of writes that fit together none is refused, and all revisions of their paths are known, with the
 /// parents that the paths give them, and nothing else.
 pub fn merged_has_all_writes()
-    ensures fit { (ws : List Write) (w : Write) (fault : TreeFault) → AreConsistent (ws ++ w ∷ []) → placement (merged ws) w.path ≢ Err fault }
-    ensures known { (ws : List Write) (r : Revision) → AreConsistent ws → IsTrue (is_known (merged ws) r) ↔ IsKnown ws r }
-    ensures parents { (ws : List Write) (r p : Revision) → AreConsistent ws → (parent_of (merged ws) r ≡ Some p) ↔ IsParent ws r p }
+    ensures fit { (ws : List Write) (w : Write) (fault : TreeFault) → AreConsistent (ws ++ w ∷ []) → placement (replica_of ws) w.path ≢ Err fault }
+    ensures known { (ws : List Write) (r : Revision) → AreConsistent ws → IsTrue (is_known (replica_of ws) r) ↔ IsKnown ws r }
+    ensures parents { (ws : List Write) (r p : Revision) → AreConsistent ws → (parent_of (replica_of ws) r ≡ Some p) ↔ IsParent ws r p }
 {}
 
 /// A lawful list fits together, and what is offered its writes has their content.
 pub fn lawful_writes_merge()
     ensures fit { (ws : List Write) → IsLawful ws → AreConsistent ws }
-    ensures content { (ws : List Write) → IsLawful ws → merged ws ≡ content_of ws }
+    ensures content { (ws : List Write) → IsLawful ws → replica_of ws ≡ content_of ws }
 {}

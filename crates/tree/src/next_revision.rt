@@ -51,12 +51,12 @@ pub fn next_rev(
     ensures generation { IsErrOf result RevFault.Generation ↔ (number_before (option_copied parent.entry) ≡ greatest_number) }
 {
     match parent {
-        Some(rev) => following(alloc, rev, deleted, body),
-        None => Ok(named(alloc, 0, "", deleted, body)?),
+        Some(rev) => next_after(alloc, rev, deleted, body),
+        None => Ok(hash_revision(alloc, 0, "", deleted, body)?),
     }
 }
 
-fn following(alloc: Global, parent: &Rev, deleted: bool, body: &Json) -> Result<Rev, RevFault>
+fn next_after(alloc: Global, parent: &Rev, deleted: bool, body: &Json) -> Result<Rev, RevFault>
     ensures ok { IfOk result (λ r. r ≡ next_revision (Some parent.now) deleted (view body.now)) }
     ensures generation { IsErrOf result RevFault.Generation ↔ (parent.now.number ≡ greatest_number) }
 {
@@ -64,18 +64,18 @@ fn following(alloc: Global, parent: &Rev, deleted: bool, body: &Json) -> Result<
     if number == 2_147_483_647 {
         return Err(RevFault::Generation);
     }
-    Ok(named(alloc, number, parent.hash(), deleted, body)?)
+    Ok(hash_revision(alloc, number, parent.hash(), deleted, body)?)
 }
 
 /// The revision that an edit makes after a number and a hash.
-fn named(alloc: Global, number: u32, hash: &str, deleted: bool, body: &Json) -> Got<Rev>
+fn hash_revision(alloc: Global, number: u32, hash: &str, deleted: bool, body: &Json) -> Got<Rev>
     requires bounded { number < greatest_number }
     requires plain { IsTrue (list_all is_ascii_alphanumeric hash.now) }
     ensures { IfOk result (λ r. r
         ≡ record { number = number + 1; hash = encode_lower (md5 (canonical (edit_after number hash.now deleted (view body.now)))) }) }
 {
     let text = edit_text(alloc, number, hash, deleted, body)?;
-    Ok(Rev::made(number + 1, &digest(text.as_bytes())))
+    Ok(Rev::from_parts(number + 1, &digest(text.as_bytes())))
 }
 
 fn edit_text(alloc: Global, number: u32, hash: &str, deleted: bool, body: &Json) -> Got<String>

@@ -4,7 +4,7 @@
 ghost use Rattle.std.specs.Prelude.{◌≡◌, ◌+◌, ◌<◌, ◌≤◌, ◌^◌, ◌++◌, Some, IfOk, OnOk, OnErr, IsTrue, vec_capacity, vec_len};
 ghost use Rattle.std.specs.FinMap.{is_sorted};
 ghost use Rattle.tree.specs.Revision.{revision_cmp};
-ghost use Rattle.tree.specs.Nodes.{AreParents, entries_before, listed, next_of, is_live_at, is_live_new, live_in, new_parent, nodes_before, nodes_with, nodes_with_new, parents_before, parents_with, parents_without, tally};
+ghost use Rattle.tree.specs.Nodes.{AreParents, entries_before, insertion_list, next_of, is_live_at, is_live_new, live_in, new_parent, nodes_before, nodes_with, nodes_with_new, parents_before, parents_with, parents_without, tally};
 
 use crate::entry::{Entry, Held};
 use crate::revision::Rev;
@@ -72,7 +72,7 @@ fn find_next(path: &[Rev], parent: &Option<Rev>) -> Option<Rev>
 /// Keeps an insertion, if there was one, so that it can be taken back.
 fn note(insertions: &mut Vec<Insertion>, insertion: Option<Insertion>)
     requires { vec_len insertions.old < vec_capacity insertions.old }
-    ensures items { insertions.new.items ≡ insertions.old.items ++ listed insertion }
+    ensures items { insertions.new.items ≡ insertions.old.items ++ insertion_list insertion }
     ensures len { vec_len insertions.new ≤ vec_len insertions.old + 1 }
     ensures capacity { vec_capacity insertions.old ≤ vec_capacity insertions.new }
 {
@@ -97,8 +97,8 @@ pub(crate) fn put_new(
     ensures sorted { IsTrue (is_sorted revision_cmp nodes.new.entries) }
     ensures parents { AreParents parents.new.keys nodes.new.entries }
     ensures live { live.new ≡ live_in nodes.new.entries }
-    ensures nodes_back { IfOk result (λ insertion. nodes_before nodes.new.entries (listed insertion) ≡ nodes.old.entries) }
-    ensures parents_back { IfOk result (λ insertion. parents_before parents.new.keys (listed insertion) ≡ parents.old.keys) }
+    ensures nodes_back { IfOk result (λ insertion. nodes_before nodes.new.entries (insertion_list insertion) ≡ nodes.old.entries) }
+    ensures parents_back { IfOk result (λ insertion. parents_before parents.new.keys (insertion_list insertion) ≡ parents.old.keys) }
     ensures err { OnErr result ((nodes.new.entries ≡ nodes.old.entries) × (parents.new.keys ≡ parents.old.keys)) }
 {
     if nodes.contains_key(&rev) {

@@ -65,7 +65,7 @@ impl Rev {
         if !is_hash(hash.as_bytes()) {
             return None;
         }
-        Some(Rev::made(number, hash.as_bytes()))
+        Some(Rev::from_parts(number, hash.as_bytes()))
     }
 
     /// Its number, the count of edits that lead to it.
@@ -99,18 +99,18 @@ impl Rev {
         if !is_hash(hash) {
             return None;
         }
-        Some(Rev::made(number, hash))
+        Some(Rev::from_parts(number, hash))
     }
 
     /// The revision of a number and a hash.
-    pub(crate) fn made(number: u32, hash: &[u8]) -> Rev
+    pub(crate) fn from_parts(number: u32, hash: &[u8]) -> Rev
         requires { IsTrue (is_revision (record { number = number; hash = hash.now })) }
         ensures { result ≡ record { number = number; hash = hash.now } }
     {
         Rev {
             number,
             len: hash.len() as u8,
-            bytes: padded(hash),
+            bytes: pad(hash),
         }
     }
 
@@ -230,7 +230,7 @@ fn is_alphanumeric(bytes: &[u8]) -> bool
 }
 
 /// Up to 64 bytes, with zeros behind them.
-fn padded(hash: &[u8]) -> [u8; 64]
+fn pad(hash: &[u8]) -> [u8; 64]
     requires { length hash.now ≤ 64 }
     ensures { result ≡ hash.now ++ replicate (64 - length hash.now) 0 }
 {

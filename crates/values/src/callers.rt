@@ -13,6 +13,7 @@ pub struct Callers {
 }
 
 impl Callers {
+    /// Makes a player of rows about callers.
     pub fn new(alloc: Global) -> Callers {
         Callers {
             alloc,
@@ -46,7 +47,7 @@ impl Kind for Callers {
             headers.push(header_of(self.alloc, line)?)?;
         }
         match auth.caller(&headers) {
-            Ok(caller) => answer(self.alloc, shown(self.alloc, &caller)?.as_str()),
+            Ok(caller) => answer(self.alloc, show(self.alloc, &caller)?.as_str()),
             Err(AuthFault::Token) => answer(self.alloc, "Token"),
             Err(AuthFault::Repeated) => answer(self.alloc, "Repeated"),
             Err(AuthFault::Memory) => Err(RowsFault::Memory),
@@ -67,7 +68,7 @@ fn header_of(alloc: Global, line: &[u8]) -> Result<(Vec<u8>, Vec<u8>), RowsFault
 }
 
 /// Returns a caller as its name and its roles.
-fn shown(alloc: Global, caller: &Caller) -> Result<String, RowsFault> {
+fn show(alloc: Global, caller: &Caller) -> Result<String, RowsFault> {
     let Some(name) = caller.name() else {
         return Ok(String::from_str(alloc, "anonymous")?);
     };

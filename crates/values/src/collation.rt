@@ -12,6 +12,7 @@ pub struct Ascending {
 }
 
 impl Ascending {
+    /// Makes a player of rows about the order of values.
     pub fn new(alloc: Global) -> Ascending {
         Ascending {
             alloc,

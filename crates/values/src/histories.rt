@@ -16,6 +16,7 @@ pub struct Histories {
 }
 
 impl Histories {
+    /// Makes a player of rows about histories.
     pub fn new(alloc: Global) -> Histories {
         Histories {
             alloc,
@@ -59,13 +60,13 @@ impl Histories {
         if self.history.copy()?.leaves()?.as_slice() != leaves.as_slice() {
             return answer(self.alloc, "the copy has others");
         }
-        shown(self.alloc, &leaves)
+        show(self.alloc, &leaves)
     }
 
     /// Answers with the path of a revision.
     fn chain(&self, rev: &Rev) -> Result<Vec<u8>, RowsFault> {
         match self.history.chain(rev)? {
-            Some(path) => shown(self.alloc, &path),
+            Some(path) => show(self.alloc, &path),
             None => answer(self.alloc, "none"),
         }
     }
@@ -121,7 +122,7 @@ fn path_of(alloc: Global, text: &str) -> Result<Option<Vec<Rev>>, RowsFault> {
 }
 
 /// Returns revisions with blanks between them.
-fn shown(alloc: Global, revs: &[Rev]) -> Result<Vec<u8>, RowsFault> {
+fn show(alloc: Global, revs: &[Rev]) -> Result<Vec<u8>, RowsFault> {
     let mut text = String::new(alloc);
     for (place, rev) in revs.iter().enumerate() {
         if place > 0 {

@@ -13,7 +13,7 @@ pub struct Replies {
 
 impl Replies {
     /// Answers with the bytes of a reply that is made.
-    fn made(&self, status: &str, rest: &str) -> Result<Vec<u8>, RowsFault> {
+    fn build_reply(&self, status: &str, rest: &str) -> Result<Vec<u8>, RowsFault> {
         let Ok(status) = status.parse::<u16>() else {
             return answer(self.alloc, "no status");
         };
@@ -59,7 +59,7 @@ impl Kind for Replies {
     fn answer(&mut self, question: &[u8]) -> Result<Vec<u8>, RowsFault> {
         let (word, rest) = first_word(text_of(question));
         if word != "fixed" {
-            return self.made(word, rest);
+            return self.build_reply(word, rest);
         }
         match fixed_of(rest) {
             Some(fixed) => self.bytes(&Response::fixed(fixed)),

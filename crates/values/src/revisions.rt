@@ -15,6 +15,7 @@ pub struct Revisions {
 }
 
 impl Revisions {
+    /// Makes a player of rows about revisions.
     pub fn new(alloc: Global) -> Revisions {
         Revisions {
             alloc,

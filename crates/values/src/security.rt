@@ -15,6 +15,7 @@ pub struct Verdicts {
 }
 
 impl Verdicts {
+    /// Makes a player of rows about security objects.
     pub fn new(alloc: Global) -> Verdicts {
         Verdicts {
             alloc,

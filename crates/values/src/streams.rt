@@ -63,13 +63,13 @@ impl Streams {
     /// Plays the pieces and, where they are short, their bytes one by one.
     fn play_both(&self, pieces: &[Vec<u8>]) -> Result<String, RowsFault> {
         let flow = self.play(pieces)?;
-        let mut text = shown(self.alloc, &flow)?;
+        let mut text = show(self.alloc, &flow)?;
         let bytes = single_bytes(self.alloc, pieces)?;
         if bytes.len() > 0 {
             let slow = self.play(&bytes)?;
             if slow.requests.as_str() != flow.requests.as_str() || slow.ending != flow.ending {
                 text.push_str("\nbyte by byte:\n")?;
-                text.push_str(shown(self.alloc, &slow)?.as_str())?;
+                text.push_str(show(self.alloc, &slow)?.as_str())?;
             }
         }
         Ok(text)
@@ -122,7 +122,7 @@ fn put_body(alloc: Global, text: &mut String, body: &[u8]) -> Result<(), RowsFau
 }
 
 /// Returns what came of a stream as text.
-fn shown(alloc: Global, flow: &Flow) -> Result<String, RowsFault> {
+fn show(alloc: Global, flow: &Flow) -> Result<String, RowsFault> {
     let mut text = String::from_str(alloc, flow.requests.as_str())?;
     text.push_str(match flow.ending {
         Ending::Open => "open",

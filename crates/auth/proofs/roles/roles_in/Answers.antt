@@ -8,7 +8,7 @@ use Rattle.auth.proofs.roles.roles_in.Goals as goal
 pub loop-piece-preserved : goal.loop-piece-preserved
 loop-piece-preserved c =
     let now = λ (x : Bor (List ℕ)). x.now in
-    roles_of_pieces-push (map now c.loop-piece.yielded) c.in-Some.piece.now c.trimmed.result.now _ _ c.loop-piece.invariant c.trimmed.ensures c.in_ok-push_role.ensures
+    roles_of_pieces-push (map now c.loop-piece.yielded) c.in-Some.piece.now c.trim_blanks.result.now _ _ c.loop-piece.invariant c.trim_blanks.ensures c.in_ok-push_role.ensures
     ∙ ap roles_of_pieces (sym (map-append now c.loop-piece.yielded (c.in-Some.piece ∷ [])))
 
 pub returns : goal.returns

@@ -1,7 +1,7 @@
 use Rattle.std.proofs.Common.{Result, sym, ap, ◌∙◌}
 use Rattle.couch_http.specs.Message.{message_of}
 use Rattle.store.specs.Contents.{Contents}
-use Rattle.node.specs.Answer.{Outcome, answer, settled}
+use Rattle.node.specs.Answer.{Outcome, answer, settlement}
 use Rattle.node.specs.Answered.{change_of}
 use Rattle.api.specs.declared.refusal.Refusal.{Refusal}
 use Rattle.node.proofs.Faults.{all_end_before}
@@ -17,5 +17,5 @@ returns-clause-ends g c =
     let reads = c.in_ok-answered.ensures.reads in
     let onward = c.finish.ensures.changes.goes_on.honest in
     all_end_before g.S.Store old mid new (change_of (g.S.Store.contents mid) change) (answer c.args.auth.now before (message_of c.args.request.now)).change c.finish.result reads onward
-    (λ honest. ap (λ (x : Contents). change_of x change) (reads.same (onward honest)) ∙ sym (ap (λ (r : Result Outcome Refusal). (settled r).change) (c.in_ok-answered.ensures.comes (onward honest))))
+    (λ honest. ap (λ (x : Contents). change_of x change) (reads.same (onward honest)) ∙ sym (ap (λ (r : Result Outcome Refusal). (settlement r).change) (c.in_ok-answered.ensures.comes (onward honest))))
     c.finish.ensures.ends

@@ -17,5 +17,5 @@ returns-in-Err-clause-ends g c =
     let changes = c.args.planned.changes in
     let old = c.args.store.now in
     let new = c.apply.new.store in
-    subst (λ (stop : Stop). EndsBefore g.S.Store old new (change_inside name changes (get (g.S.Store.contents old) name)) stop) (sym c.unmade.ensures)
+    subst (λ (stop : Stop). EndsBefore g.S.Store old new (change_inside name changes (get (g.S.Store.contents old) name)) stop) (sym c.stop_after.ensures)
     (change_ends g.S.Store old new name changes c.in-Err.fault (λ honest. (c.requires (c.in-Err.ensures.changes.goes_on.honest honest)).1) c.in-Err.ensures.only c.in-Err.ensures.passed)

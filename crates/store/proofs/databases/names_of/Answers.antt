@@ -18,7 +18,7 @@ loop-at-preserved c =
     let back : c.loop-at.at - 1 + 1 ≡ c.loop-at.at = omega arith in
     let R = slice_cmp nat_cmp in
     let pushed = take_more es before e within ∙ ap (λ f. take before es ++ f ∷ []) (sym c.index.ensures) in
-    let here : put (slice_cmp nat_cmp) e.0 tt among ≡ c.put.new.entries.items = ap (λ n. put (slice_cmp nat_cmp) n tt among) (sym c.in_ok-copy.ensures) ∙ sym {A = List (List ℕ × ⊤)} c.in_ok-put.ensures.ok in
+    let here : put (slice_cmp nat_cmp) e.0 tt among ≡ c.put_sorted.new.entries.items = ap (λ n. put (slice_cmp nat_cmp) n tt among) (sym c.in_ok-copy.ensures) ∙ sym {A = List (List ℕ × ⊤)} c.in_ok-put_sorted.ensures.ok in
     ap (λ ns. keys_put R (take before es) ns) (sym here) ∙ sym (keys_put-push R (take before es) e among)
     ∙ ap (λ f. keys_put R f among) (sym pushed ∙ ap (λ n. take n es) back) ∙ c.loop-at.invariant
 

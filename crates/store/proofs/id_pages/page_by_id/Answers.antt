@@ -1,5 +1,5 @@
 use Rattle.std.proofs.Common.{◌≡◌, ◌+◌, ◌<◌, ◌≤◌, filter, length, min, is_some, ap, ◌∙◌, rules, arith}
-use Rattle.store.specs.Pages.{is_within, limited, live_rows}
+use Rattle.store.specs.Pages.{is_within, up_to_limit, live_rows}
 use Rattle.store.proofs.Pagings.{counted_within, counts_fit, id_page_made, is_counted, smaller}
 use Rattle.store.proofs.id_pages.page_by_id.Goals as goal
 
@@ -9,18 +9,18 @@ returns-clause-page c =
     let all = c.in_ok-rows.rows.items in
     let within = c.rows_within-rows.result.items in
     let rows = c.in_ok-rows.ensures ∙ ap live_rows c.in_ok-documents.ensures in
-    let made = c.rows_within-rows.ensures.rows ∙ ap (filter (λ r. is_within range r.id)) c.directed.ensures in
+    let made = c.rows_within-rows.ensures.rows ∙ ap (filter (λ r. is_within range r.id)) c.turn.ensures in
     let count : c.len.result ≡ length c.rows_within-rows.result.items = search rules in
     let least = c.min-skipped.ensures ∙ smaller range.skip c.len.result ∙ ap (min range.skip) count in
-    let cut = c.limited.ensures ∙ ap (limited range.limit) c.in_ok-rows-2.ensures.tail in
+    let cut = c.cut_to_limit.ensures ∙ ap (up_to_limit range.limit) c.in_ok-rows-2.ensures.tail in
     let total : c.len-total.result ≡ length c.in_ok-rows.rows.items = search rules in
-    id_page_made range c.count_before-before.result c.min-skipped.result c.len-total.result c.counts_if.result all within c.limited.result.items _ rows c.count_before-before.ensures.count made least cut total c.counts_if.ensures
+    id_page_made range c.count_before-before.result c.min-skipped.result c.len-total.result c.counts_if.result all within c.cut_to_limit.result.items _ rows c.count_before-before.ensures.count made least cut total c.counts_if.ensures
 
 pub returns-clause-counted : goal.returns-clause-counted
 returns-clause-counted c =
     let range = c.args.range.now in
     let rows = c.in_ok-rows.rows.items in
-    let made = c.rows_within-rows.ensures.rows ∙ ap (filter (λ r. is_within range r.id)) c.directed.ensures in
+    let made = c.rows_within-rows.ensures.rows ∙ ap (filter (λ r. is_within range r.id)) c.turn.ensures in
     let count : c.len.result ≡ length c.rows_within-rows.result.items = search rules in
     let least = c.min-skipped.ensures ∙ smaller range.skip c.len.result in
     let total : c.len-total.result ≡ length c.in_ok-rows.rows.items = search rules in

@@ -1,5 +1,5 @@
 use Rattle.std.proofs.Common.{◌∷◌, ◌++◌, drop, take, sym, ap, ◌∙◌}
-use Rattle.store.specs.Plain.{gathered}
+use Rattle.store.specs.Plain.{document_entries}
 use Rattle.store.specs.Writing.{addition_of}
 use Rattle.store.proofs.Pagings.{written_new, written_there}
 use Rattle.store.proofs.pages.take_in.Goals as goal
@@ -17,6 +17,6 @@ returns-in_ok-insert-in-Err c =
     let at = c.in-Err.at in
     let d = c.in_ok-document-in-Err.document in
     record {
-      ok = ap gathered (c.in_ok-insert-in-Err.ensures.items ∙ ap (λ id. take at es ++ (id, d) ∷ drop at es) c.in_ok-id-in-Err.ensures)
+      ok = ap document_entries (c.in_ok-insert-in-Err.ensures.items ∙ ap (λ id. take at es ++ (id, d) ∷ drop at es) c.in_ok-id-in-Err.ensures)
           ∙ written_new c.args.sequence (addition_of c.args.write.now) es at d (sym c.in-Err.ensures.spot) c.in_ok-document-in-Err.ensures;
     }

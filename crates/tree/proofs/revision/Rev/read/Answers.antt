@@ -3,7 +3,7 @@ use Rattle.std.proofs.Common.{sym, ◌∙◌}
 use Rattle.tree.proofs.RevisionText.{lawful_parts}
 use Rattle.tree.proofs.revision.Rev.read.Goals as goal
 
-pub made-requires : goal.made-requires
-made-requires c =
+pub from_parts-requires : goal.from_parts-requires
+from_parts-requires c =
     lawful_parts c.in_ok-digits.digits.now c.in_ok-digits.hash.now c.in_ok-number.number (sym c.number_read.ensures ∙ c.in_ok-number.was)
     (sym c.is_hash.ensures ∙ c.if-not-is_hash.false)
