@@ -1,5 +1,6 @@
 pub mod Connections
 pub mod Endings
+pub mod Arrival
 pub mod Answering
 pub mod Feeding
 pub mod Cutters

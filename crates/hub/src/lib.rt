@@ -6,6 +6,7 @@ mod connections;
 mod cutters;
 mod fault;
 mod hub;
+pub mod laws;
 mod replies;
 
 pub use connections::Connections;
