@@ -1,5 +1,5 @@
 -- What pieces bring to connections, by their rests and by their streams.
-use Rattle.std.proofs.Common.{◌≡◌, ◌≢◌, ◌∙◌, ◌⊎◌, inl, inr, ℕ, ◌==◌, Bool, true, false, cond, List, [], ◌∷◌, ◌++◌, map, Option, Some, None, is_some, append_assoc, append-nil, refl, sym, ap, subst, arith}
+use Rattle.std.proofs.Common.{◌≡◌, ◌≢◌, ◌∙◌, ◌⊎◌, inl, inr, ℕ, ◌==◌, Bool, true, false, cond, List, [], ◌∷◌, ◌++◌, map, Option, Some, None, append_assoc, append-nil, refl, sym, ap, subst, arith}
 use Rattle.std.specs.Prelude.{⊤}
 use Rattle.std.specs.Cmp.{nat_cmp_total}
 use Rattle.std.specs.FinMap.{FinMap, get, get-insert, get-remove, gets, insert, remove}
@@ -12,8 +12,7 @@ use Rattle.std.proofs.lemmas.Bool.Decides.{nat_tests}
 use Rattle.couch_http.proofs.CutLemmas.{Begins-nothing, Cuts-append, Cuts-append_ended, Cuts-append_faulty, Cuts_unique}
 use Rattle.couch_http.specs.Message.{Message}
 use Rattle.couch_http.specs.Stream.{Cuts, StreamEnd, unfinished, ended, faulty}
-use Rattle.couch_http.specs.declared.fault.HttpFault.{HttpFault}
-use Rattle.hub.specs.Arrival.{AreNew, Arrival, Arrives, ArrivesAt, Brings, BringsBehind, HasOneOrder, KeepsOrder, Piece, fault_at, fault_between, fault_on, request_on, stream_of}
+use Rattle.hub.specs.Arrival.{AreNew, Arrival, Arrives, ArrivesAt, Brings, BringsBehind, HasOneOrder, KeepsOrder, Piece, fault_at, fault_between, request_on, stream_of}
 use Rattle.hub.specs.Connections.{ConnectionTable, rest_on, was_opened, with_rest}
 use Rattle.hub.specs.Endings.{is_last, rest_of}
 

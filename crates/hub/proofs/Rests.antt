@@ -1,22 +1,20 @@
 -- The table of rests that cutters make, entry by entry.
-use Rattle.std.proofs.Common.{◌≡◌, ◌≢◌, ◌∙◌, ◌↔◌, ℕ, Bool, true, false, cond, List, [], ◌∷◌, map, Option, Some, None, option_map, is_some, unwrap_or, Result, Ok, Err, refl, sym, ap, subst, T}
+use Rattle.std.proofs.Common.{◌≡◌, ◌≢◌, ◌∙◌, ◌↔◌, ℕ, Bool, true, false, cond, List, [], ◌∷◌, map, Option, Some, None, option_map, is_some, unwrap_or, Result, Ok, Err, refl, sym, ap}
 use Rattle.std.specs.Prelude.{OnErr}
 use Rattle.std.specs.BTreeMap.{is_at}
 use Rattle.std.specs.Cmp.{eq_by_cmp_equiv, nat_cmp_total}
-use Rattle.std.specs.FinMap.{FinMap, find, from_entries, get, get-from_entries, get-insert, get-remove, insert, nat_cmp-IsAntisymmetric, remove, same_map}
-use Rattle.std.specs.List.{All}
-use Rattle.std.specs.Map.{lookup, remove_entry, set_value, values_of}
-use Rattle.std.specs.Option.{IfSome, IsSome}
+use Rattle.std.specs.FinMap.{find, get, get-from_entries, get-insert, get-remove, insert, nat_cmp-IsAntisymmetric, remove, same_map}
+use Rattle.std.specs.Map.{remove_entry, set_value}
+use Rattle.std.specs.Option.{IsSome}
 use Rattle.std.specs.Ordering.{eq_by_cmp, nat_cmp}
 use Rattle.std.proofs.lemmas.Map.{lookup-set_value}
-use Rattle.std.proofs.lemmas.Map.Entries.{All-lookup}
-use Rattle.std.proofs.lemmas.Map.Views.{All-map-remove_entry, All-values-insert_entry, All-values-set_value, IfSome-lookup_from_All}
+use Rattle.std.proofs.lemmas.Map.Views.{All-map-remove_entry, All-values-set_value}
 use Rattle.couch_http.specs.Stream.{StreamEnd, unfinished, ended, faulty}
 use Rattle.couch_http.specs.declared.cut.Cut.{Cut}
 use Rattle.couch_http.specs.declared.cut.Ending.{Ending}
 use Rattle.couch_http.specs.declared.cut.Ending.TheVariants.{Open, Last, Fault}
-use Rattle.hub.specs.Connections.{ConnectionTable, is_open, rest_on, was_opened, with_rest}
-use Rattle.hub.specs.Cutters.{AreOpen, Cutters, IsCut, IsCutAt, IsEnding, IsTakenAt, kept_at, rests_of, with_rest_at}
+use Rattle.hub.specs.Connections.{ConnectionTable, is_open, rest_on, was_opened}
+use Rattle.hub.specs.Cutters.{AreOpen, Cutters, IsCutAt, IsEnding, IsTakenAt, kept_at, rests_of, with_rest_at}
 use Rattle.hub.specs.Endings.{rest_of}
 
 -- what a kept rest is; each cutter of an open connection keeps one

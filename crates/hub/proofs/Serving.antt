@@ -37,7 +37,7 @@ told_push [] s = refl
 told_push (t ∷ ts) s = ap (λ rs. t.reply ∷ rs) (told_push ts s)
 
 pub serves_none : {S : Type 0} (g : Ghosts S) (c : Configuration) (before : S) → Serves g c before [] [] before
-serves_none g c before = record { steps = []; run = tt; asked = refl; told = refl; ends = refl }
+serves_none g c before = record { steps = []; run = tt; requests = refl; answers = refl; ends = refl }
 
 -- one more request
 serves_push : {S : Type 0} (g : Ghosts S) (c : Configuration) (before between after : S) (ms : List Message) (rs : List Reply) (m : Message) (r : Reply)
@@ -47,8 +47,8 @@ serves_push {S} g c before between after ms rs m r p next =
     record {
       steps = p.steps ++ s ∷ [];
       run = run_push (StoreSteps g c) before p.steps s p.run (subst (λ (x : S). StoreSteps g c x m r after) (sym p.ends) next);
-      asked = asked_push p.steps s ∙ ap (λ (xs : List Message). xs ++ m ∷ []) p.asked;
-      told = told_push p.steps s ∙ ap (λ (xs : List Reply). xs ++ r ∷ []) p.told;
+      requests = asked_push p.steps s ∙ ap (λ (xs : List Message). xs ++ m ∷ []) p.requests;
+      answers = told_push p.steps s ∙ ap (λ (xs : List Reply). xs ++ r ∷ []) p.answers;
       ends = end_push before p.steps s;
     }
 
@@ -75,25 +75,25 @@ refusal_is (Fault g) ended is = absurd is
 refusal_is (Fault g) (faulty f) is = ap (λ x. refusal_at (Fault x)) is
 
 last_is : (ending : Ending) (end : StreamEnd) → IsEnding ending end → (b : Bool) → (b ≡ true → ending ≢ Open) → (b ≡ false → ending ≡ Open) → b ≡ is_last end
-last_is Open (unfinished rest) is true yes no = absurd (yes refl refl)
-last_is Open (unfinished rest) is false yes no = refl
-last_is Open ended is b yes no = absurd is
-last_is Open (faulty f) is b yes no = absurd is
-last_is Last (unfinished rest) is b yes no = absurd is
-last_is Last ended is true yes no = refl
-last_is Last ended is false yes no = absurd (let e = no refl in cc)
-last_is Last (faulty f) is b yes no = absurd is
-last_is (Fault g) (unfinished rest) is b yes no = absurd is
-last_is (Fault g) ended is b yes no = absurd is
-last_is (Fault g) (faulty f) is true yes no = refl
-last_is (Fault g) (faulty f) is false yes no = absurd (let e = no refl in cc)
+last_is Open (unfinished rest) is true on off = absurd (on refl refl)
+last_is Open (unfinished rest) is false on off = refl
+last_is Open ended is b on off = absurd is
+last_is Open (faulty f) is b on off = absurd is
+last_is Last (unfinished rest) is b on off = absurd is
+last_is Last ended is true on off = refl
+last_is Last ended is false on off = absurd (let e = off refl in cc)
+last_is Last (faulty f) is b on off = absurd is
+last_is (Fault g) (unfinished rest) is b on off = absurd is
+last_is (Fault g) ended is b on off = absurd is
+last_is (Fault g) (faulty f) is true on off = refl
+last_is (Fault g) (faulty f) is false on off = absurd (let e = off refl in cc)
 
 -- a piece was cut, its requests answered, and the end of its stream too
 pub fed : {S : Type 0} (g : Ghosts S) (before after : Serving S) (old new : ConnectionTable) (conn : ℕ) (piece : List ℕ) (cut : Cut) (answers list : List Reply) (last : Bool)
     → IsCut old conn piece cut new → (g.is_honest after.store → Serves g before.configuration before.store (cutting.messages_of cut) answers after.store)
     → list ≡ answers ++ refusal_at cut.ending → (last ≡ true → cut.ending ≢ Open) → (last ≡ false → cut.ending ≡ Open)
     → IsFed g (record { node = before; connections = old }) conn piece list last (record { node = after; connections = new })
-fed g before after old new conn piece cut answers list last t serves added yes no =
+fed g before after old new conn piece cut answers list last t serves added on off =
     record {
       rest = t.rest;
       was = t.was;
@@ -104,5 +104,5 @@ fed g before after old new conn piece cut answers list last t serves added yes n
       replies = added ∙ ap (λ rs. answers ++ rs) (refusal_is cut.ending t.end t.ending);
       serves = serves;
       left = t.left;
-      ends = last_is cut.ending t.end t.ending last yes no;
+      ends = last_is cut.ending t.end t.ending last on off;
     }

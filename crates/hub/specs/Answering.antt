@@ -22,6 +22,6 @@ replies_of (s ∷ ss) = s.reply ∷ replies_of ss
 pub record Serves {S : Type 0} (g : Ghosts S) (c : Configuration) (before : S) (messages : List Message) (replies : List Reply) (after : S) : Type 0 where
   pub steps : List (Stepped S)
   pub run : IsRun (StoreSteps g c) before steps
-  pub asked : messages_of steps ≡ messages
-  pub told : replies_of steps ≡ replies
+  pub requests : messages_of steps ≡ messages
+  pub answers : replies_of steps ≡ replies
   pub ends : end_of before steps ≡ after

@@ -8,7 +8,6 @@ use Rattle.std.specs.BTreeMap.{is_at}
 use Rattle.std.specs.FinMap.{FinMap, from_entries, get, insert, remove}
 use Rattle.std.specs.Ordering.{nat_cmp}
 use Rattle.couch_http.specs.Cutting.{messages_of}
-use Rattle.couch_http.specs.Message.{Message}
 use Rattle.couch_http.specs.Stream.{Cuts, StreamEnd, unfinished, ended, faulty}
 use Rattle.couch_http.specs.declared.cut.Cut.{Cut}
 use Rattle.couch_http.specs.declared.cut.Ending.{Ending}

@@ -5,3 +5,4 @@ pub mod Answering
 pub mod Feeding
 pub mod Cutters
 pub mod Faults
+pub mod Codes

@@ -124,12 +124,7 @@ impl Connections {
     ///
     /// `Unknown` comes where the number was never given, `Closed` where the connection has ended, and
     /// `Memory` where a growth was refused.
-    fn cut(
-        &mut self,
-        conn: u64,
-        piece: &[u8],
-        room: &mut Vec<Response>,
-    ) -> Result<Cut, HubFault>
+    fn cut(&mut self, conn: u64, piece: &[u8], room: &mut Vec<Response>) -> Result<Cut, HubFault>
         ensures cut { IfOk result (λ cut. IsCut self.old conn piece.now cut self.new) }
         ensures fault { IfOk result (λ cut. HasStreamFault cut.ending) }
 
@@ -150,7 +145,7 @@ impl Connections {
     }
 
     /// Tells whether a connection was ever given this number.
-    fn was_opened(&self, conn: u64) -> bool
+    pub fn was_opened(&self, conn: u64) -> bool
         ensures { result ≡ was_opened self.now conn }
     {
         conn >= 1 && conn <= self.opened

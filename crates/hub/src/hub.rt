@@ -18,8 +18,11 @@ pub struct Hub<S: Store + Drop> {
 
 impl<S: Store + Drop> Model for Hub<S> {
     ghost use Rattle.hub.specs.Feeding.{HubState};
+    ghost use Rattle.hub.specs.Codes.{state_code};
 
     ghost Value = { HubState S };
+
+    ghost coded = { state_code S.code };
 
     ghost view = { λ h. record { node = h.node; connections = h.connections } };
 }

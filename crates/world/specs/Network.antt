@@ -22,9 +22,9 @@ abbrev pub AreHonest : {S : Type 0} → Ghosts S → List (Serving S) → Type 0
 AreHonest g nodes = All (λ n. g.is_honest n.store) nodes
 
 -- a node with the databases of its store
-abbrev pub shown : {S : Type 0} → Ghosts S → Serving S → Serving Contents
-shown g n = record { store = g.contents n.store; configuration = n.configuration }
+abbrev pub with_databases : {S : Type 0} → Ghosts S → Serving S → Serving Contents
+with_databases g n = record { store = g.contents n.store; configuration = n.configuration }
 
 -- the nodes with their databases
 abbrev pub databases_of : {S : Type 0} → Ghosts S → List (Serving S) → List (Serving Contents)
-databases_of g nodes = map (shown g) nodes
+databases_of g nodes = map (with_databases g) nodes

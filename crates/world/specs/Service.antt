@@ -12,7 +12,7 @@ use Rattle.hub.specs.Endings.{refusal_of}
 use Rattle.world.specs.Network.{home_of}
 
 -- a reply on a connection
-pub record Told : Type 0 where
+pub record SeenReply : Type 0 where
   pub conn : ℕ
   pub reply : Reply
 
@@ -29,18 +29,18 @@ pub record IsHandled {S : Type 0} (step : StepOf S) (old : List (Serving S)) (pl
   pub left : new ≡ slice_set old place (record node { store = after })
 
 -- a request is handled by the node of its connection; a fault of a stream has its fixed reply, and changes nothing
-abbrev pub IsAnswered : {S : Type 0} → StepOf S → List ℕ → List (Serving S) → Arrival → Told → List (Serving S) → Type 0
+abbrev pub IsAnswered : {S : Type 0} → StepOf S → List ℕ → List (Serving S) → Arrival → SeenReply → List (Serving S) → Type 0
 IsAnswered step homes old (request_on conn m) told new = (told.conn ≡ conn) × IsHandled step old (home_of homes conn) m told.reply new
 IsAnswered step homes old (fault_on conn fault) told new = (told.conn ≡ conn) × (refusal_of fault ≡ told.reply ∷ []) × (new ≡ old)
 
 -- each arrival has its reply, from the nodes as the one before left them
-abbrev pub IsService : {S : Type 0} → StepOf S → List ℕ → List (Serving S) → List Arrival → List Told → List (Serving S) → Type 0
+abbrev pub IsService : {S : Type 0} → StepOf S → List ℕ → List (Serving S) → List Arrival → List SeenReply → List (Serving S) → Type 0
 IsService step homes old [] [] new = new ≡ old
 IsService step homes old [] (t ∷ ts) new = ⊥
 IsService step homes old (a ∷ as) [] new = ⊥
 IsService {S} step homes old (a ∷ as) (t ∷ ts) new = (between : List (Serving S)) × IsAnswered step homes old a t between × IsService step homes between as ts new
 
 -- no reply stands for a fault of a store or for want of memory
-abbrev pub AreTold : List Told → Type 0
-AreTold [] = Unit {0}
-AreTold (t ∷ ts) = IsServed t.reply × AreTold ts
+abbrev pub AreAllServed : List SeenReply → Type 0
+AreAllServed [] = Unit {0}
+AreAllServed (t ∷ ts) = IsServed t.reply × AreAllServed ts

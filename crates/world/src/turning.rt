@@ -1,11 +1,10 @@
 //! One event at one node.
 
-ghost use Rattle.std.specs.Prelude.{◌≡◌, ◌≢◌, ◌<◌, ◌+◌, ◌++◌, ◌∷◌, [], false, true, length, vec_len, IfOk, IfErr, OnErr, OnOk, map};
-ghost use Rattle.couch_http.specs.Message.{Message};
-ghost use Rattle.hub.specs.Connections.{next_connection, was_opened, with_connection};
-ghost use Rattle.world.specs.Network.{AreHonest, Network, home_of};
+ghost use Rattle.std.specs.Prelude.{◌≡◌, ◌<◌, ◌++◌, ◌∷◌, ◌↔◌, [], None, false, true, vec_len, IfOk, IfErr, OnErr, OnOk, IsErrOf, map};
+ghost use Rattle.hub.specs.Connections.{next_connection, rest_on, was_opened, with_connection};
+ghost use Rattle.world.specs.Network.{AreHonest};
 ghost use Rattle.world.specs.Playing.{IsPlayed};
-ghost use Rattle.world.specs.Turning.{AreHomes, AreHonestBefore, IsTurn, told_of, told_on};
+ghost use Rattle.world.specs.Turning.{AreHomes, IsTurn, seen_reply, replies_on};
 
 use crate::event::Seen;
 use crate::fault::WorldFaultKind;
@@ -44,11 +43,12 @@ pub fn take_piece<S: Store + Drop>(
     requires { AreHomes nodes.old.items homes.now connections.old }
     ensures played { IfOk result (λ list. AreHonest S.Store nodes.new.items
         → IsPlayed S.Store (record { nodes = nodes.old.items; homes = homes.now; connections = connections.old }) (record { conn = conn; bytes = piece.now } ∷ [])
-        (told_on conn list.items) (record { nodes = nodes.new.items; homes = homes.now; connections = connections.new })) }
+        (replies_on conn list.items) (record { nodes = nodes.new.items; homes = homes.now; connections = connections.new })) }
     ensures homes { AreHomes nodes.new.items homes.now connections.new }
     ensures honest { AreHonest S.Store nodes.new.items → AreHonest S.Store nodes.old.items }
     ensures err { OnErr result ((connections.new ≡ connections.old) × (nodes.new.items ≡ nodes.old.items)) }
-    ensures unknown { IfErr result (λ kind. (kind ≡ WorldFaultKind.Unknown) ↔ (was_opened connections.old conn ≡ false)) }
+    ensures unknown { IfErr result (λ kind. kind ≡ WorldFaultKind.Unknown → was_opened connections.old conn ≡ false) }
+    ensures opened { connections.new.opened ≡ connections.old.opened }
     ensures known { OnOk result (was_opened connections.old conn ≡ true) }
 {
     if !connections.was_opened(conn) {
@@ -71,7 +71,8 @@ fn feed_node<S: Store + Drop>(
     piece: &[u8],
 ) -> Result<Replies, HubFault>
     requires { home < vec_len nodes.old }
-    ensures fed { IfOk result (λ replies. IsTurn S.Store nodes.old.items home connections.old conn piece.now replies.list.items nodes.new.items connections.new) }
+    ensures fed { IfOk result (λ replies. IsTurn S.Store nodes.old.items home connections.old conn piece.now replies.list.items replies.last
+        nodes.new.items connections.new) }
     ensures err { OnErr result ((connections.new ≡ connections.old) × (nodes.new.items ≡ nodes.old.items)) }
     ensures unknown { IsErrOf result HubFault.Unknown ↔ (was_opened connections.old conn ≡ false) }
     ensures closed { IsErrOf result HubFault.Closed ↔ ((was_opened connections.old conn ≡ true) × (rest_on connections.old conn ≡ None)) }
@@ -81,7 +82,7 @@ fn feed_node<S: Store + Drop>(
 
 /// Adds the replies on a connection to what is seen.
 pub fn add_seen(seen: &mut Vec<Seen>, conn: u64, list: Vec<Response>) -> Got<()>
-    ensures { OnOk result (map told_of seen.new.items ≡ map told_of seen.old.items ++ told_on conn list.items) }
+    ensures { OnOk result (map seen_reply seen.new.items ≡ map seen_reply seen.old.items ++ replies_on conn list.items) }
 {
     for response in list {
         seen.push(Seen::Replied { conn, response })?;

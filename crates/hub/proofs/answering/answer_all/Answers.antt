@@ -1,6 +1,6 @@
-use Rattle.std.proofs.Common.{◌∙◌, ap, arith, refl, sym}
-use Rattle.store.proofs.Calls.{goes_on_itself, goes_on_then}
-use Rattle.hub.proofs.Serving.{serves_more, serves_none}
+use Rattle.std.proofs.Common.{◌∙◌, arith}
+use Rattle.store.proofs.Calls.{goes_on_then}
+use Rattle.hub.proofs.Serving.{serves_more}
 use Rattle.hub.proofs.answering.answer_all.Goals as goal
 
 pub loop-request-preserved : goal.loop-request-preserved

@@ -1,0 +1,179 @@
+-- Requests that arrive one after another, and their replies.
+use Rattle.std.proofs.Common.{◌≡◌, ◌≢◌, ◌∙◌, ℕ, zero, suc, ◌<◌, Bool, true, false, List, [], ◌∷◌, ◌++◌, get_or, length, map, Option, Some, None, unwrap_or, ◌⊎◌, append_assoc, append-nil, refl, sym, ap, subst, inl, inr, arith}
+use Rattle.std.specs.Prelude.{slice_set}
+use Rattle.std.specs.List.{slice_get}
+use Rattle.std.proofs.lemmas.Bool.{cases_eq}
+use Rattle.std.proofs.lemmas.List.{get_or-set_other, get_or-set_same}
+use Rattle.std.proofs.lemmas.Option.{slice_get_within, unwrap_or-slice_get}
+use Rattle.auth.specs.Callers.{Configuration}
+use Rattle.couch_http.proofs.FaultLemmas.{Cuts_fault}
+use Rattle.couch_http.specs.Message.{Message}
+use Rattle.couch_http.specs.Reply.{Reply}
+use Rattle.couch_http.specs.Stream.{Cuts, IsStreamFault, StreamEnd, unfinished, ended, faulty}
+use Rattle.couch_http.specs.declared.fault.HttpFault.{HttpFault}
+use Rattle.couch_http.specs.declared.fault.HttpFault.TheVariants as fault
+use Rattle.store.specs.Calls.{GoesOn}
+use Rattle.store.specs.Contents.{Contents}
+use Rattle.store.specs.declared.store.Store.{Ghosts}
+use Rattle.node.specs.Runs.{IsRun, Stepped, Steps, end_of, messages_of}
+use Rattle.node.specs.Step.{IsStep, Serving}
+use Rattle.hub.specs.Answering.{Serves, StoreSteps, replies_of}
+use Rattle.hub.specs.Arrival.{Arrival, ArrivesAt, BringsBehind, Piece, fault_at, fault_on, request_on}
+use Rattle.hub.specs.Connections.{ConnectionTable, rest_on}
+use Rattle.hub.specs.Endings.{last_replies, refusal_of}
+use Rattle.hub.specs.Feeding.{IsFed}
+use Rattle.world.specs.Network.{AreHonest, Network, home_of, with_databases}
+use Rattle.world.specs.Playing.{IsPlayed, IsPlayedInOrder}
+use Rattle.world.specs.Service.{IsAnswered, IsHandled, IsService, StepOf, SeenReply}
+use Rattle.world.specs.Turning.{IsTurn, replies_on}
+
+-- ---- one node among others
+
+set_at : {A : Type 0} (xs : List A) (i : ℕ) (x y : A) → slice_get xs i ≡ Some x → slice_get (slice_set xs i y) i ≡ Some y
+set_at [] i x y e = absurd cc
+set_at (z ∷ xs) zero x y e = refl
+set_at (z ∷ xs) (suc i) x y e = set_at xs i x y e
+
+set_same : {A : Type 0} (xs : List A) (i : ℕ) (x : A) → slice_get xs i ≡ Some x → xs ≡ slice_set xs i x
+set_same [] i x e = refl
+set_same (z ∷ xs) zero x e = let same : z ≡ x = cc in ap (λ w. w ∷ xs) same
+set_same (z ∷ xs) (suc i) x e = ap (λ ws. z ∷ ws) (set_same xs i x e)
+
+set_twice : {A : Type 0} (xs : List A) (i : ℕ) (x y : A) → slice_set (slice_set xs i x) i y ≡ slice_set xs i y
+set_twice [] i x y = refl
+set_twice (z ∷ xs) zero x y = refl
+set_twice (z ∷ xs) (suc i) x y = ap (λ ws. z ∷ ws) (set_twice xs i x y)
+
+-- ---- services
+
+service_append : {S : Type 0} (step : StepOf S) (homes : List ℕ) (a b c : List (Serving S)) (as bs : List Arrival) (ss ts : List SeenReply) → IsService step homes a as ss b
+    → IsService step homes b bs ts c → IsService step homes a (as ++ bs) (ss ++ ts) c
+service_append step homes a b c [] bs [] ts p q = subst (λ x. IsService step homes x bs ts c) p q
+service_append step homes a b c [] bs (s ∷ ss) ts p q = absurd p
+service_append step homes a b c (x ∷ as) bs [] ts p q = absurd p
+service_append step homes a b c (x ∷ as) bs (s ∷ ss) ts p q = (p.0, p.1, service_append step homes p.0 b c as bs ss ts p.2 q)
+
+-- a run of one node
+service_run : {S : Type 0} (step : StepOf S) (homes : List ℕ) (conn : ℕ) (c : Configuration) (nodes : List (Serving S)) (before : S) (steps : List (Stepped S))
+    → slice_get nodes (home_of homes conn) ≡ Some (record { store = before; configuration = c }) → IsRun (step c) before steps
+    → IsService step homes nodes (map (request_on conn) (messages_of steps)) (replies_on conn (replies_of steps))
+      (slice_set nodes (home_of homes conn) (record { store = end_of before steps; configuration = c }))
+service_run step homes conn c nodes before [] there run = sym (set_same nodes (home_of homes conn) (record { store = before; configuration = c }) there)
+service_run {S} step homes conn c nodes before (s ∷ ss) there run =
+    let h = home_of homes conn in
+    let node : Serving S = record { store = before; configuration = c } in
+    let next : Serving S = record { store = s.after; configuration = c } in
+    let last : Serving S = record { store = end_of s.after ss; configuration = c } in
+    let rest = service_run step homes conn c (slice_set nodes h next) s.after ss (set_at nodes h node next there) run.1 in
+    (slice_set nodes h next, (refl, record { node = node; there = there; after = s.after; handled = run.0; left = refl }),
+    subst (λ (x : List (Serving S)). IsService step homes (slice_set nodes h next) (map (request_on conn) (messages_of ss)) (replies_on conn (replies_of ss)) x) (set_twice nodes h next last) rest)
+
+-- the fixed reply to a fault
+service_fault : {S : Type 0} (step : StepOf S) (homes : List ℕ) (conn : ℕ) (nodes : List (Serving S)) (f : HttpFault) → IsStreamFault f
+    → IsService step homes nodes (fault_on conn f ∷ []) (replies_on conn (refusal_of f)) nodes
+service_fault step homes conn nodes fault.Syntax is = (nodes, (refl, refl, refl), refl)
+service_fault step homes conn nodes fault.Encoding is = (nodes, (refl, refl, refl), refl)
+service_fault step homes conn nodes fault.TooLarge is = (nodes, (refl, refl, refl), refl)
+service_fault step homes conn nodes fault.Memory is = absurd is
+service_fault step homes conn nodes fault.Closed is = absurd is
+
+service_end : {S : Type 0} (step : StepOf S) (homes : List ℕ) (conn : ℕ) (nodes : List (Serving S)) (bytes : List ℕ) (ms : List Message) (end : StreamEnd) → Cuts bytes ms end
+    → IsService step homes nodes (fault_at conn end) (replies_on conn (last_replies end)) nodes
+service_end step homes conn nodes bytes ms (unfinished rest) cuts = refl
+service_end step homes conn nodes bytes ms ended cuts = refl
+service_end step homes conn nodes bytes ms (faulty f) cuts = service_fault step homes conn nodes f (Cuts_fault bytes ms f cuts)
+
+replies_on-append : (conn : ℕ) (xs ys : List Reply) → replies_on conn (xs ++ ys) ≡ replies_on conn xs ++ replies_on conn ys
+replies_on-append conn [] ys = refl
+replies_on-append conn (x ∷ xs) ys = ap (λ ts. record { conn = conn; reply = x } ∷ ts) (replies_on-append conn xs ys)
+
+-- requests that a node serves
+service_served : {S : Type 0} (g : Ghosts S) (homes : List ℕ) (conn : ℕ) (nodes : List (Serving S)) (node : Serving S) (after : S) (ms : List Message) (rs : List Reply)
+    → slice_get nodes (home_of homes conn) ≡ Some node → Serves g node.configuration node.store ms rs after
+    → IsService (StoreSteps g) homes nodes (map (request_on conn) ms) (replies_on conn rs) (slice_set nodes (home_of homes conn) (record node { store = after }))
+service_served {S} g homes conn nodes node after ms rs there p =
+    let run = service_run (StoreSteps g) homes conn node.configuration nodes node.store p.steps there p.run in
+    subst (λ (x : List Message). IsService (StoreSteps g) homes nodes (map (request_on conn) x) (replies_on conn rs) (slice_set nodes (home_of homes conn) (record node { store = after }))) p.requests
+    (subst (λ (x : List Reply). IsService (StoreSteps g) homes nodes (map (request_on conn) (messages_of p.steps)) (replies_on conn x)
+    (slice_set nodes (home_of homes conn) (record node { store = after }))) p.answers
+    (subst (λ (x : S). IsService (StoreSteps g) homes nodes (map (request_on conn) (messages_of p.steps)) (replies_on conn (replies_of p.steps))
+    (slice_set nodes (home_of homes conn) (record { store = x; configuration = node.configuration }))) p.ends run))
+
+-- ---- honesty
+
+pub honest_at : {S : Type 0} (g : Ghosts S) (nodes new : List (Serving S)) (h : ℕ) (node next : Serving S) → slice_get nodes h ≡ Some node → new ≡ slice_set nodes h next
+    → AreHonest g new → g.is_honest next.store
+honest_at {S} g nodes new h node next there left honest =
+    let inside : h < length nodes = slice_get_within nodes h node there in
+    let long : length new ≡ length nodes = ap length left ∙ length-set nodes h next in
+    let is : get_or new h next ≡ next = ap (λ xs. get_or xs h next) left ∙ get_or-set_same nodes h next next inside in
+    subst (λ (n : Serving S). g.is_honest n.store) is (honest h next (omega (arith, inside, long)))
+
+-- what is honest after a piece was so before it
+pub honest_before : {S : Type 0} (g : Ghosts S) (nodes new : List (Serving S)) (h : ℕ) (node next : Serving S) → slice_get nodes h ≡ Some node → new ≡ slice_set nodes h next
+    → GoesOn g node.store next.store → AreHonest g new → AreHonest g nodes
+honest_before {S} g nodes new h node next there left onward honest k d inside = by (cases_eq k h)
+  where
+    by : (k ≡ h) ⊎ (k ≢ h) → g.is_honest (get_or nodes k d).store
+    by (inl same) =
+        let is : get_or nodes k d ≡ node = sym (unwrap_or-slice_get nodes k d) ∙ ap (λ j. unwrap_or (slice_get nodes j) d) same ∙ ap (λ o. unwrap_or o d) there in
+        subst (λ (n : Serving S). g.is_honest n.store) (sym is) (onward.honest (honest_at g nodes new h node next there left honest))
+    by (inr apart) =
+        let is : get_or new k d ≡ get_or nodes k d = ap (λ xs. get_or xs k d) left ∙ get_or-set_other nodes h k next d apart in
+        let long : length new ≡ length nodes = ap length left ∙ length-set nodes h next in
+        subst (λ (n : Serving S). g.is_honest n.store) is (honest k d (omega (arith, inside, long)))
+
+-- ---- pieces
+
+-- a piece on a connection that had not ended
+pub played_fed : {S : Type 0} (g : Ghosts S) (nodes new : List (Serving S)) (homes : List ℕ) (before after : ConnectionTable) (conn : ℕ) (bytes : List ℕ) (list : List Reply) (last : Bool)
+    → IsTurn g nodes (home_of homes conn) before conn bytes list last new after → AreHonest g new
+    → IsPlayed g (record { nodes = nodes; homes = homes; connections = before }) (record { conn = conn; bytes = bytes } ∷ []) (replies_on conn list)
+      (record { nodes = new; homes = homes; connections = after })
+played_fed {S} g nodes new homes before after conn bytes list last t honest =
+    let f = t.fed in
+    let p : Piece = record { conn = conn; bytes = bytes } in
+    let arrivals = map (request_on conn) f.messages ++ fault_at conn f.end in
+    let own : g.is_honest t.next.store = honest_at g nodes new (home_of homes conn) t.node t.next t.there t.left honest in
+    let served = service_served g homes conn nodes t.node t.next.store f.messages f.answers t.there (f.serves own) in
+    let same : slice_set nodes (home_of homes conn) (record t.node { store = t.next.store }) ≡ new =
+    ap (λ (c : Configuration). slice_set nodes (home_of homes conn) (record { store = t.next.store; configuration = c })) (sym t.configuration) ∙ sym t.left in
+    let all = service_append (StoreSteps g) homes nodes new new (map (request_on conn) f.messages) (fault_at conn f.end) (replies_on conn f.answers) (replies_on conn (last_replies f.end))
+    (subst (λ (x : List (Serving S)). IsService (StoreSteps g) homes nodes (map (request_on conn) f.messages) (replies_on conn f.answers) x) same served)
+    (service_end (StoreSteps g) homes conn new (f.rest ++ bytes) f.messages f.end f.cuts) in
+    record {
+      arrivals = arrivals;
+      arrived = (arrivals, [], after, subst (λ (o : Option (List ℕ)). BringsBehind o before p arrivals after) (sym f.was) (f.messages, f.end, f.cuts, refl, f.left), (refl, refl), sym (append-nil arrivals));
+      served = subst (λ (ts : List SeenReply). IsService (StoreSteps g) homes nodes arrivals ts new) (sym (ap (replies_on conn) f.replies ∙ replies_on-append conn f.answers (last_replies f.end))) all;
+      homes = refl;
+    }
+
+-- a piece on a connection that had
+pub played_closed : {S : Type 0} (g : Ghosts S) (nodes : List (Serving S)) (homes : List ℕ) (table : ConnectionTable) (conn : ℕ) (bytes : List ℕ) → rest_on table conn ≡ None
+    → IsPlayed g (record { nodes = nodes; homes = homes; connections = table }) (record { conn = conn; bytes = bytes } ∷ []) [] (record { nodes = nodes; homes = homes; connections = table })
+played_closed g nodes homes table conn bytes ended =
+    let p : Piece = record { conn = conn; bytes = bytes } in
+    record {
+      arrivals = [];
+      arrived = ([], [], table, subst (λ (o : Option (List ℕ)). BringsBehind o table p [] table) (sym ended) (refl, refl), (refl, refl), refl);
+      served = refl;
+      homes = refl;
+    }
+
+arrives_append : (a b c : ConnectionTable) (ps qs : List Piece) (xs ys : List Arrival) → ArrivesAt a ps xs b → ArrivesAt b qs ys c → ArrivesAt a (ps ++ qs) (xs ++ ys) c
+arrives_append a b c [] qs xs ys p q = rw p.0 (subst (λ (t : ConnectionTable). ArrivesAt t qs ys c) p.1 q)
+arrives_append a b c (p ∷ ps) qs xs ys (first, others, between, here, later, order) q =
+    (first, others ++ ys, between, here, arrives_append between b c ps qs others ys later q, ap (λ zs. zs ++ ys) order ∙ append_assoc first others ys)
+
+pub played_none : {S : Type 0} (g : Ghosts S) (w : Network S) → IsPlayed g w [] [] w
+played_none g w = record { arrivals = []; arrived = (refl, refl); served = refl; homes = refl }
+
+pub played_then : {S : Type 0} (g : Ghosts S) (a b c : Network S) (ps qs : List Piece) (ss ts : List SeenReply) → IsPlayed g a ps ss b → IsPlayed g b qs ts c → IsPlayed g a (ps ++ qs) (ss ++ ts) c
+played_then g a b c ps qs ss ts p q =
+    record {
+      arrivals = p.arrivals ++ q.arrivals;
+      arrived = arrives_append a.connections b.connections c.connections ps qs p.arrivals q.arrivals p.arrived q.arrived;
+      served = service_append (StoreSteps g) a.homes a.nodes b.nodes c.nodes p.arrivals q.arrivals ss ts p.served
+      (subst (λ (h : List ℕ). IsService (StoreSteps g) h b.nodes q.arrivals ts c.nodes) p.homes q.served);
+      homes = q.homes ∙ p.homes;
+    }
