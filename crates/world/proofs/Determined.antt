@@ -41,16 +41,16 @@ answered_one homes old new other (request_on conn m) s t p q served and_served =
 answered_one homes old new other (fault_on conn f) s t p q served and_served =
     (same_reply s t (p.0 ∙ sym q.0) (let e : s.reply ∷ [] ≡ t.reply ∷ [] = sym p.1 ∙ q.1 in cc), p.2 ∙ sym q.2)
 
-service_one : (homes : List ℕ) (old new other : List (Serving Contents)) (as : List Arrival) (ss ts : List SeenReply) → IsService Steps homes old as ss new
-    → IsService Steps homes old as ts other → AreAllServed ss → AreAllServed ts → (ss ≡ ts) × (new ≡ other)
+service_one : (homes : List ℕ) (old new other : List (Serving Contents)) (ars : List Arrival) (ss ts : List SeenReply) → IsService Steps homes old ars ss new
+    → IsService Steps homes old ars ts other → AreAllServed ss → AreAllServed ts → (ss ≡ ts) × (new ≡ other)
 service_one homes old new other [] [] [] p q served and_served = (refl, p ∙ sym q)
 service_one homes old new other [] [] (t ∷ ts) p q served and_served = absurd q
 service_one homes old new other [] (s ∷ ss) ts p q served and_served = absurd p
-service_one homes old new other (a ∷ as) [] ts p q served and_served = absurd p
-service_one homes old new other (a ∷ as) (s ∷ ss) [] p q served and_served = absurd q
-service_one homes old new other (a ∷ as) (s ∷ ss) (t ∷ ts) p q served and_served =
+service_one homes old new other (a ∷ ars) [] ts p q served and_served = absurd p
+service_one homes old new other (a ∷ ars) (s ∷ ss) [] p q served and_served = absurd q
+service_one homes old new other (a ∷ ars) (s ∷ ss) (t ∷ ts) p q served and_served =
     let here = answered_one homes old p.0 q.0 a s t p.1 q.1 served.0 and_served.0 in
-    let later = service_one homes p.0 new other as ss ts p.2 (subst (λ (x : List (Serving Contents)). IsService Steps homes x as ts other) (sym here.1) q.2) served.1 and_served.1 in
+    let later = service_one homes p.0 new other ars ss ts p.2 (subst (λ (x : List (Serving Contents)). IsService Steps homes x ars ts other) (sym here.1) q.2) served.1 and_served.1 in
     (ap (λ (x : SeenReply). x ∷ ss) here.0 ∙ ap (λ (xs : List SeenReply). t ∷ xs) later.0, later.1)
 
 pub cut_alike : CuttingDoesNotMatter

@@ -1,6 +1,6 @@
 -- Requests that arrive one after another, and their replies.
-use Rattle.std.proofs.Common.{◌≡◌, ◌≢◌, ◌∙◌, ℕ, zero, suc, ◌<◌, Bool, true, false, List, [], ◌∷◌, ◌++◌, get_or, length, map, Option, Some, None, unwrap_or, ◌⊎◌, append_assoc, append-nil, refl, sym, ap, subst, inl, inr, arith}
-use Rattle.std.specs.Prelude.{slice_set}
+use Rattle.std.proofs.Common.{◌≡◌, ◌≢◌, ◌∙◌, ℕ, zero, suc, ◌<◌, Bool, true, false, List, [], ◌∷◌, ◌++◌, get_or, length, map, Option, Some, None, unwrap_or, ◌⊎◌, length-set, Result, Ok, Err, append_assoc, append-nil, refl, sym, ap, subst, inl, inr, arith}
+use Rattle.std.specs.Prelude.{IfOk, slice_set}
 use Rattle.std.specs.List.{slice_get}
 use Rattle.std.proofs.lemmas.Bool.{cases_eq}
 use Rattle.std.proofs.lemmas.List.{get_or-set_other, get_or-set_same}
@@ -17,12 +17,15 @@ use Rattle.store.specs.Contents.{Contents}
 use Rattle.store.specs.declared.store.Store.{Ghosts}
 use Rattle.node.specs.Runs.{IsRun, Stepped, Steps, end_of, messages_of}
 use Rattle.node.specs.Step.{IsStep, Serving}
+use Rattle.hub.proofs.Arrivals.{order_kept}
+use Rattle.hub.specs.declared.fault.HubFault.{HubFault}
+use Rattle.hub.specs.declared.replies.Replies.{Replies}
 use Rattle.hub.specs.Answering.{Serves, StoreSteps, replies_of}
-use Rattle.hub.specs.Arrival.{Arrival, ArrivesAt, BringsBehind, Piece, fault_at, fault_on, request_on}
+use Rattle.hub.specs.Arrival.{AreNew, Arrival, ArrivesAt, BringsBehind, Piece, fault_at, fault_on, request_on}
 use Rattle.hub.specs.Connections.{ConnectionTable, rest_on}
 use Rattle.hub.specs.Endings.{last_replies, refusal_of}
 use Rattle.hub.specs.Feeding.{IsFed}
-use Rattle.world.specs.Network.{AreHonest, Network, home_of, with_databases}
+use Rattle.world.specs.Network.{AreHonest, Network, databases_of, home_of, with_databases}
 use Rattle.world.specs.Playing.{IsPlayed, IsPlayedInOrder}
 use Rattle.world.specs.Service.{IsAnswered, IsHandled, IsService, StepOf, SeenReply}
 use Rattle.world.specs.Turning.{IsTurn, replies_on}
@@ -46,12 +49,12 @@ set_twice (z ∷ xs) (suc i) x y = ap (λ ws. z ∷ ws) (set_twice xs i x y)
 
 -- ---- services
 
-service_append : {S : Type 0} (step : StepOf S) (homes : List ℕ) (a b c : List (Serving S)) (as bs : List Arrival) (ss ts : List SeenReply) → IsService step homes a as ss b
-    → IsService step homes b bs ts c → IsService step homes a (as ++ bs) (ss ++ ts) c
+service_append : {S : Type 0} (step : StepOf S) (homes : List ℕ) (a b c : List (Serving S)) (ars bs : List Arrival) (ss ts : List SeenReply) → IsService step homes a ars ss b
+    → IsService step homes b bs ts c → IsService step homes a (ars ++ bs) (ss ++ ts) c
 service_append step homes a b c [] bs [] ts p q = subst (λ x. IsService step homes x bs ts c) p q
 service_append step homes a b c [] bs (s ∷ ss) ts p q = absurd p
-service_append step homes a b c (x ∷ as) bs [] ts p q = absurd p
-service_append step homes a b c (x ∷ as) bs (s ∷ ss) ts p q = (p.0, p.1, service_append step homes p.0 b c as bs ss ts p.2 q)
+service_append step homes a b c (x ∷ ars) bs [] ts p q = absurd p
+service_append step homes a b c (x ∷ ars) bs (s ∷ ss) ts p q = (p.0, p.1, service_append step homes p.0 b c ars bs ss ts p.2 q)
 
 -- a run of one node
 service_run : {S : Type 0} (step : StepOf S) (homes : List ℕ) (conn : ℕ) (c : Configuration) (nodes : List (Serving S)) (before : S) (steps : List (Stepped S))
@@ -151,11 +154,11 @@ played_fed {S} g nodes new homes before after conn bytes list last t honest =
 -- a piece on a connection that had
 pub played_closed : {S : Type 0} (g : Ghosts S) (nodes : List (Serving S)) (homes : List ℕ) (table : ConnectionTable) (conn : ℕ) (bytes : List ℕ) → rest_on table conn ≡ None
     → IsPlayed g (record { nodes = nodes; homes = homes; connections = table }) (record { conn = conn; bytes = bytes } ∷ []) [] (record { nodes = nodes; homes = homes; connections = table })
-played_closed g nodes homes table conn bytes ended =
+played_closed g nodes homes table conn bytes shut =
     let p : Piece = record { conn = conn; bytes = bytes } in
     record {
       arrivals = [];
-      arrived = ([], [], table, subst (λ (o : Option (List ℕ)). BringsBehind o table p [] table) (sym ended) (refl, refl), (refl, refl), refl);
+      arrived = ([], [], table, subst (λ (o : Option (List ℕ)). BringsBehind o table p [] table) (sym shut) (refl, refl), (refl, refl), refl);
       served = refl;
       homes = refl;
     }
@@ -177,3 +180,75 @@ played_then g a b c ps qs ss ts p q =
       (subst (λ (h : List ℕ). IsService (StoreSteps g) h b.nodes q.arrivals ts c.nodes) p.homes q.served);
       homes = q.homes ∙ p.homes;
     }
+
+-- the same where nothing has changed
+pub played_shut : {S : Type 0} (g : Ghosts S) (nodes new : List (Serving S)) (homes : List ℕ) (table after : ConnectionTable) (conn : ℕ) (bytes : List ℕ) (list : List Reply) → new ≡ nodes
+    → after ≡ table → list ≡ [] → rest_on table conn ≡ None
+    → IsPlayed g (record { nodes = nodes; homes = homes; connections = table }) (record { conn = conn; bytes = bytes } ∷ []) (replies_on conn list)
+      (record { nodes = new; homes = homes; connections = after })
+played_shut {S} g nodes new homes table after conn bytes list same kept none shut =
+    let p : Piece = record { conn = conn; bytes = bytes } in
+    let before : Network S = record { nodes = nodes; homes = homes; connections = table } in
+    subst (λ (xs : List Reply). IsPlayed g before (p ∷ []) (replies_on conn xs) (record { nodes = new; homes = homes; connections = after })) (sym none)
+    (subst (λ (t : ConnectionTable). IsPlayed g before (p ∷ []) [] (record { nodes = new; homes = homes; connections = t })) (sym kept)
+    (subst (λ (ns : List (Serving S)). IsPlayed g before (p ∷ []) [] (record { nodes = ns; homes = homes; connections = table })) (sym same)
+    (played_closed g nodes homes table conn bytes shut)))
+
+-- ---- one node of the program
+
+pub turn_ok : {S : Type 0} (g : Ghosts S) (old : List (Serving S)) (home : ℕ) (node next : Serving S) (before after : ConnectionTable) (conn : ℕ) (bytes : List ℕ) (r : Result Replies HubFault)
+    → slice_get old home ≡ Some node → next.configuration ≡ node.configuration → GoesOn g node.store next.store
+    → IfOk r (λ replies. IsFed g (record { node = node; connections = before }) conn bytes replies.list.items replies.last (record { node = next; connections = after }))
+    → IfOk r (λ replies. IsTurn g old home before conn bytes replies.list.items replies.last (slice_set old home next) after)
+turn_ok g old home node next before after conn bytes (Ok replies) there same onward fed =
+    record { node = node; there = there; next = next; fed = fed; configuration = same; onward = onward; left = refl }
+turn_ok g old home node next before after conn bytes (Err e) there same onward fed = tt
+
+-- ---- from new connections
+
+pub in_order : {S : Type 0} (g : Ghosts S) (old new : Network S) (pieces : List Piece) (seen : List SeenReply) → AreNew old.connections pieces → IsPlayed g old pieces seen new
+    → IsPlayedInOrder (StoreSteps g) old.homes old.nodes pieces seen new.nodes
+in_order g old new pieces seen fresh p =
+    record { arrivals = p.arrivals; arrive = order_kept old.connections new.connections pieces p.arrivals fresh p.arrived; served = p.served }
+
+-- ---- the databases alone
+
+step_shown : {S : Type 0} (g : Ghosts S) (c : Configuration) (before : S) (m : Message) (r : Reply) (after : S) → StoreSteps g c before m r after → Steps c (g.contents before) m r (g.contents after)
+step_shown g c before m r after (inl done) = inl done
+step_shown g c before m r after (inr (inl none)) = inr (inl none)
+step_shown g c before m r after (inr (inr failed)) = inr (inr (failed.0, failed.1, tt))
+
+pub get_map : {A B : Type 0} (f : A → B) (xs : List A) (i : ℕ) (x : A) → slice_get xs i ≡ Some x → slice_get (map f xs) i ≡ Some (f x)
+get_map f [] i x e = absurd cc
+get_map f (z ∷ xs) zero x e = let same : z ≡ x = cc in ap (λ w. Some (f w)) same
+get_map f (z ∷ xs) (suc i) x e = get_map f xs i x e
+
+set_map : {A B : Type 0} (f : A → B) (xs : List A) (i : ℕ) (x : A) → map f (slice_set xs i x) ≡ slice_set (map f xs) i (f x)
+set_map f [] i x = refl
+set_map f (z ∷ xs) zero x = refl
+set_map f (z ∷ xs) (suc i) x = ap (λ ws. f z ∷ ws) (set_map f xs i x)
+
+answered_shown : {S : Type 0} (g : Ghosts S) (homes : List ℕ) (old new : List (Serving S)) (a : Arrival) (t : SeenReply) → IsAnswered (StoreSteps g) homes old a t new
+    → IsAnswered Steps homes (databases_of g old) a t (databases_of g new)
+answered_shown {S} g homes old new (request_on conn m) t p =
+    let h = p.1 in
+    (p.0, record {
+      node = with_databases g h.node;
+      there = get_map (with_databases g) old (home_of homes conn) h.node h.there;
+      after = g.contents h.after;
+      handled = step_shown g h.node.configuration h.node.store m t.reply h.after h.handled;
+      left = ap (databases_of g) h.left ∙ set_map (with_databases g) old (home_of homes conn) (record h.node { store = h.after });
+    })
+answered_shown g homes old new (fault_on conn f) t p = (p.0, p.1, ap (databases_of g) p.2)
+
+service_shown : {S : Type 0} (g : Ghosts S) (homes : List ℕ) (old new : List (Serving S)) (xs : List Arrival) (ts : List SeenReply) → IsService (StoreSteps g) homes old xs ts new
+    → IsService Steps homes (databases_of g old) xs ts (databases_of g new)
+service_shown g homes old new [] [] p = ap (databases_of g) p
+service_shown g homes old new [] (t ∷ ts) p = absurd p
+service_shown g homes old new (x ∷ xs) [] p = absurd p
+service_shown g homes old new (x ∷ xs) (t ∷ ts) p =
+    (databases_of g p.0, answered_shown g homes old p.0 x t p.1, service_shown g homes p.0 new xs ts p.2)
+
+pub in_order_shown : {S : Type 0} (g : Ghosts S) (homes : List ℕ) (old new : List (Serving S)) (pieces : List Piece) (seen : List SeenReply)
+    → IsPlayedInOrder (StoreSteps g) homes old pieces seen new → IsPlayedInOrder Steps homes (databases_of g old) pieces seen (databases_of g new)
+in_order_shown g homes old new pieces seen p = record { arrivals = p.arrivals; arrive = p.arrive; served = service_shown g homes old new p.arrivals seen p.served }

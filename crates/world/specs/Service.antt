@@ -37,8 +37,8 @@ IsAnswered step homes old (fault_on conn fault) told new = (told.conn ≡ conn) 
 abbrev pub IsService : {S : Type 0} → StepOf S → List ℕ → List (Serving S) → List Arrival → List SeenReply → List (Serving S) → Type 0
 IsService step homes old [] [] new = new ≡ old
 IsService step homes old [] (t ∷ ts) new = ⊥
-IsService step homes old (a ∷ as) [] new = ⊥
-IsService {S} step homes old (a ∷ as) (t ∷ ts) new = (between : List (Serving S)) × IsAnswered step homes old a t between × IsService step homes between as ts new
+IsService step homes old (a ∷ ars) [] new = ⊥
+IsService {S} step homes old (a ∷ ars) (t ∷ ts) new = (between : List (Serving S)) × IsAnswered step homes old a t between × IsService step homes between ars ts new
 
 -- no reply stands for a fault of a store or for want of memory
 abbrev pub AreAllServed : List SeenReply → Type 0

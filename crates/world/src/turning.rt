@@ -4,9 +4,9 @@ ghost use Rattle.std.specs.Prelude.{◌≡◌, ◌<◌, ◌++◌, ◌∷◌, ◌
 ghost use Rattle.hub.specs.Connections.{next_connection, rest_on, was_opened, with_connection};
 ghost use Rattle.world.specs.Network.{AreHonest};
 ghost use Rattle.world.specs.Playing.{IsPlayed};
-ghost use Rattle.world.specs.Turning.{AreHomes, IsTurn, seen_reply, replies_on};
+ghost use Rattle.world.specs.Turning.{AreHomes, IsTurn, piece_of, replies_on, seen_reply};
 
-use crate::event::Seen;
+use crate::event::{Event, Seen};
 use crate::fault::WorldFaultKind;
 use couch_http::Response;
 use couch_json::Got;
@@ -25,7 +25,9 @@ pub fn open_home(
     ensures ok { OnOk result ((connections.new ≡ with_connection connections.old) × (homes.new.items ≡ homes.old.items ++ node ∷ [])) }
     ensures err { OnErr result ((connections.new ≡ connections.old) × (homes.new.items ≡ homes.old.items)) }
 {
-    homes.reserve(1)?;
+    if homes.reserve(1).is_err() {
+        return Err(HubFault::Memory);
+    }
     let conn = connections.open()?;
     homes.push_reserved(node);
     Ok(conn)
@@ -78,6 +80,15 @@ fn feed_node<S: Store + Drop>(
     ensures closed { IsErrOf result HubFault.Closed ↔ ((was_opened connections.old conn ≡ true) × (rest_on connections.old conn ≡ None)) }
 {
     connections.feed(&mut nodes[home], conn, piece)
+}
+
+/// The connection of a piece, and its bytes.
+pub fn parts_of(event: &Event) -> (u64, &[u8])
+    ensures { record { conn = result.0; bytes = result.1.now } ≡ piece_of event.now }
+{
+    match event {
+        Event::Piece { conn, bytes } => (*conn, bytes.as_slice()),
+    }
 }
 
 /// Adds the replies on a connection to what is seen.

@@ -1,6 +1,6 @@
 use crate::event::{Event, Seen};
 use crate::fault::{WorldFault, WorldFaultKind};
-use crate::turning::{add_seen, open_home, take_piece};
+use crate::turning::{add_seen, open_home, parts_of, take_piece};
 use couch_http::Response;
 use hub::{Connections, HubFault};
 use node::Node;
@@ -21,9 +21,11 @@ pub struct World<S: Store + Drop> {
 }
 
 impl<S: Store + Drop> Model for World<S> {
-    ghost use Rattle.world.specs.Network.{Network};
+    ghost use Rattle.world.specs.Network.{Network, network_code};
 
     ghost Value = { Network S };
+
+    ghost coded = { network_code S.code };
 
     ghost use Rattle.world.specs.Turning.{AreHomes};
 
@@ -127,10 +129,10 @@ impl<S: Store + Drop> World<S> {
     {
         let mut seen = Vec::new(self.alloc);
         for (place, event) in events.iter().enumerate() {
-            let Event::Piece { conn, bytes } = event;
-            match self.take(*conn, bytes) {
+            let (conn, bytes) = parts_of(event);
+            match self.take(conn, bytes) {
                 Ok(list) => {
-                    if add_seen(&mut seen, *conn, list).is_err() {
+                    if add_seen(&mut seen, conn, list).is_err() {
                         return Err(WorldFault {
                             kind: WorldFaultKind::Memory,
                             played: place + 1,
