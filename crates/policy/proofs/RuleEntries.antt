@@ -8,21 +8,18 @@ use Rattle.std.specs.BTreeMap.{insert_entry}
 use Rattle.std.specs.FinMap.{find, put, is_sorted, entries, from_sorted, entries-from_sorted, entries-insert, empty, empty_of_len, len, len-entries, same_entries_map, get, get-empty, get-insert, insert}
 use Rattle.std.specs.FinMap.Entries.{by_order, find_tied, is_sorted-put}
 use Rattle.std.proofs.Math.Dec.{T}
+use Rattle.tree.proofs.Kept.{true_from_T}
 use Rattle.couch_json.specs.Value.{Value, member_of}
 use Rattle.policy.specs.UpdateRules.{AreOnce, Rules, rule_in, rules_of, selector_in, with_declared, with_rule, with_rules}
 
-abbrev Entry : Type 0
+abbrev pub Entry : Type 0
 Entry = List ℕ × Option Value
 
-abbrev cmp : List ℕ → List ℕ → Ordering
+abbrev pub cmp : List ℕ → List ℕ → Ordering
 cmp = slice_cmp nat_cmp
 
 T_from_true : (b : Bool) → b ≡ true → T b
 T_from_true b e = subst T (sym e) tt
-
-true_from_T : (b : Bool) → T b → b ≡ true
-true_from_T true h = refl
-true_from_T false h = absurd h
 
 insert_entry-put : (es : List Entry) (id : List ℕ) (rule : Option Value) → insert_entry cmp es id rule ≡ put cmp id rule es
 insert_entry-put [] id rule = refl
@@ -74,7 +71,7 @@ get-with_declared rules id q None = by (eq_by_cmp cmp q id)
     by false = refl
 get-with_declared rules id q (Some rule) = get-insert nat_list_cmp_total rules id rule q
 
-equal : (o : Ordering) → is_eq o ≡ true → o ≡ Equal
+pub equal : (o : Ordering) → is_eq o ≡ true → o ≡ Equal
 equal Less t = absurd (T_from_true false t)
 equal Equal t = refl
 equal Greater t = absurd (T_from_true false t)

@@ -1,11 +1,12 @@
 -- The update rules of a database: what its design documents ask of every write, and the first of them that refuses one.
 -- CouchDB manual, ddocs/ddocs, "Validate Document Update Functions" (`validate_doc_update`); that a rule is a selector and no function, and that rules go by the bytes of their ids, is this server's own.
-use Rattle.std.specs.Prelude.{◌≡◌, ⊤, ℕ, Bool, false, List, [], ◌∷◌, codes, Option, Some, None, option_map, if◌then◌else◌}
+use Rattle.std.specs.Prelude.{◌≡◌, ⊤, ℕ, Bool, false, true, List, [], ◌∷◌, codes, Option, Some, None, option_map, if◌then◌else◌}
+use Rattle.std.specs.declared.cmp.Ordering.TheVariants.{Less}
 use Rattle.std.specs.Ordering.{nat_cmp}
 use Rattle.std.specs.Cmp.Lexicographic.{slice_cmp}
 use Rattle.std.specs.Coded.{Coded, coded_list, coded_option, coded_ℕ}
 use Rattle.std.specs.FinMap as map
-use Rattle.std.specs.FinMap.{FinMap, empty, entries, find, insert}
+use Rattle.std.specs.FinMap.{FinMap, empty, entries, find, get, insert}
 use Rattle.couch_json.specs.Code.{value_code}
 use Rattle.couch_json.specs.Value.{Value, member_of}
 use Rattle.selector.specs.Grammar.{first_fault}
@@ -76,3 +77,10 @@ update_refusal rules argument = first_broken (entries rules) argument
 -- the same as the rule that refuses
 abbrev pub update_verdict : Rules → Value → Option Rule
 update_verdict rules argument = option_map (λ id. Update id) (update_refusal rules argument)
+
+-- the rule of this id doesn't hold of the argument, and all rules of lesser ids do
+pub record IsFirstBroken (rules : Rules) (argument : Value) (id : List ℕ) : Type 0 where
+  pub rule : Option Value
+  pub there : get rules id ≡ Some rule
+  pub broken : holds rule argument ≡ false
+  pub first : (other : List ℕ) (r : Option Value) → get rules other ≡ Some r → slice_cmp nat_cmp other id ≡ Less → holds r argument ≡ true
