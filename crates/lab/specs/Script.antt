@@ -15,6 +15,8 @@ pub data ScriptLine : Type 0 where
   conn_line : List ℕ → List ℕ → ScriptLine
   -- a connection is sent these bytes
   send_line : List ℕ → List ℕ → ScriptLine
+  -- a connection is closed
+  close_line : List ℕ → ScriptLine
 
 -- `node A`, where this is `A`
 abbrev pub node_of : List ℕ → Option ScriptLine
@@ -32,6 +34,10 @@ conn_of node name = if is_node_name node && is_word name then Some (conn_line no
 abbrev pub send_of : List ℕ → List ℕ → Option ScriptLine
 send_of name text = if is_word name then option_map (λ piece. send_line name piece) (unescaped_text text) else None
 
+-- `close c`, where this is `c`
+abbrev pub close_of : List ℕ → Option ScriptLine
+close_of name = if is_word name then Some (close_line name) else None
+
 -- the line whose first word this is, with what stands behind it
 abbrev pub line_with : List ℕ → List ℕ → Option ScriptLine
 line_with word rest =
@@ -39,6 +45,7 @@ line_with word rest =
     else if bytes_eq word (codes "public") then option_and_then (λ p. public_of p.0 p.1) (parts_at_space rest)
     else if bytes_eq word (codes "conn") then option_and_then (λ p. conn_of p.0 p.1) (parts_at_space rest)
     else if bytes_eq word (codes "send") then option_and_then (λ p. send_of p.0 p.1) (parts_at_space rest)
+    else if bytes_eq word (codes "close") then close_of rest
     else None
 
 -- what the bytes of a line say, without its line feed, or none where they are no line of a script

@@ -3,6 +3,7 @@ use std::alloc::{AllocError, AllocFailed};
 use std::io;
 use store::StoreFault;
 use thiserror::Error;
+use world::{WorldFault, WorldFaultKind};
 
 /// Why the program ended early. What was printed before stands.
 ///
@@ -132,6 +133,15 @@ impl From<StoreFault> for LineFault {
             StoreFault::Memory => LineFault::Memory,
             StoreFault::Exists | StoreFault::NoDatabase => LineFault::Line,
             StoreFault::Failed | StoreFault::Damaged | StoreFault::Full => LineFault::File,
+        }
+    }
+}
+
+impl From<WorldFault> for LineFault {
+    fn from(fault: WorldFault) -> LineFault {
+        match fault.kind {
+            WorldFaultKind::Unknown => LineFault::Line,
+            WorldFaultKind::Memory => LineFault::Memory,
         }
     }
 }

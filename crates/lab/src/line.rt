@@ -3,7 +3,7 @@
 ghost use Rattle.std.specs.Prelude.{◌≡◌, IfOk, Some, None, option_map, option_and_then, if◌then◌else◌};
 ghost use Rattle.store.specs.DatabaseName.{is_database_name};
 ghost use Rattle.lab.specs.Words.{parts_at_space};
-ghost use Rattle.lab.specs.Script.{line_of, line_with, node_of, public_of, conn_of, send_of};
+ghost use Rattle.lab.specs.Script.{line_of, line_with, node_of, public_of, conn_of, send_of, close_of};
 ghost use Rattle.lab.specs.Lines.{said_by};
 
 use crate::escapes::unescape;
@@ -24,6 +24,8 @@ pub enum Line<'a> {
     Conn(&'a [u8], &'a [u8]),
     /// `send c TEXT`: connection c is sent the bytes that TEXT spells.
     Send(&'a [u8], Vec<u8>),
+    /// `close c`: connection c is closed.
+    Close(&'a [u8]),
 }
 
 /// Reads a line, without its line feed; `None` where the bytes are no line of a script.
@@ -54,6 +56,9 @@ fn read_with<'a>(alloc: Global, word: &[u8], rest: &'a [u8]) -> Got<Option<Line<
     }
     if word == b"send".as_slice() {
         return read_send(alloc, rest);
+    }
+    if word == b"close".as_slice() {
+        return Ok(read_close(rest));
     }
     Ok(None)
 }
@@ -104,6 +109,16 @@ fn read_send<'a>(alloc: Global, rest: &'a [u8]) -> Got<Option<Line<'a>>>
     match unescape(alloc, text)? {
         Some(piece) => Ok(Some(Line::Send(name, piece))),
         None => Ok(None),
+    }
+}
+
+fn read_close<'a>(name: &'a [u8]) -> Option<Line<'a>>
+    ensures { option_map said_by result ≡ close_of name.now }
+{
+    if is_word(name) {
+        Some(Line::Close(name))
+    } else {
+        None
     }
 }
 

@@ -125,7 +125,7 @@ fn lay(server: Server<'_>, layout: Layout, line: Line<'_>) -> Result<Stage, Line
             running.open(node, name)?;
             Ok(Stage::Running(running))
         }
-        Line::Send(_, _) => Err(LineFault::Line),
+        Line::Send(_, _) | Line::Close(_) => Err(LineFault::Line),
     }
 }
 
@@ -137,7 +137,8 @@ fn run<W: Write>(running: Running, line: Line<'_>, out: &mut W) -> Result<Stage,
     let mut running = running;
     match line {
         Line::Conn(node, name) => running.open(node, name)?,
-        Line::Send(name, piece) => running.send(name, piece.as_slice(), out)?,
+        Line::Send(name, piece) => running.send(name, piece, out)?,
+        Line::Close(name) => running.close(name)?,
         Line::Node(_) | Line::Public(_, _) => return Err(LineFault::Line),
     }
     Ok(Stage::Running(running))
