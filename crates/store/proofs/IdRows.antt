@@ -80,7 +80,7 @@ in_reverse [] x i = i
 in_reverse (y ∷ xs) x (inl i) = subst (λ zs. In zs x) (sym (reverse-cons y xs)) (in_append (reverse xs) y x (inl i))
 in_reverse (y ∷ xs) x (inr i) = subst (λ zs. In zs x) (sym (reverse-cons y xs)) (in_append (reverse xs) y x (inr (in_reverse xs x i)))
 
-from_directed : (descending : Bool) (rs : List IdRow) (r : IdRow) → In (in_direction descending rs) r → In rs r
+pub from_directed : (descending : Bool) (rs : List IdRow) (r : IdRow) → In (in_direction descending rs) r → In rs r
 from_directed true rs r i = from_reverse rs r i
 from_directed false rs r i = i
 

@@ -12,3 +12,4 @@ pub mod Bounds
 pub mod Calls
 pub mod RowOrders
 pub mod IdRows
+pub mod NoRows

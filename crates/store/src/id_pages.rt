@@ -1,7 +1,7 @@
 //! The pages by id of a plain store, made from its writes.
 
 ghost use Rattle.std.specs.Prelude.{◌≡◌, ◌≤◌, [], IfOk, filter, length, option_map, drop};
-ghost use Rattle.std.specs.List.{count_by};
+ghost use Rattle.std.specs.List.{count_by, list_any};
 ghost use Rattle.store.specs.Pages.{comes_before, in_direction, id_page, if_counted, is_after_end, is_before_start, is_within, live_rev, live_rows};
 ghost use Rattle.store.specs.Paging.{IsCounted, id_page_of};
 ghost use Rattle.store.specs.Plain.{document_entries, gathered_after};
@@ -17,8 +17,35 @@ use std::alloc::Global;
 use std::cmp::min;
 use tree::{DocId, History, Rev};
 
-/// The rows that the writes made, by id, cut by the range.
+/// Lists the rows that the writes made, by id, cut by the range. Where no write is of a document in the
+/// range, and nothing is counted, no document is gathered.
 pub(crate) fn page_by_id(alloc: Global, writes: &Vec<Write>, range: &IdRange) -> Got<PageById>
+    ensures page { IfOk result (λ page. id_page_of page ≡ id_page range.now (live_rows (gathered_after 0 [] (additions writes.now.items)))) }
+    ensures counted { IfOk result (IsCounted range.now) }
+{
+    if range.counted || has_fitting(writes, range) {
+        return gather_page(alloc, writes, range);
+    }
+    Ok(PageById {
+        rows: Vec::new(alloc),
+        counts: None,
+    })
+}
+
+/// Tells whether some write is of a document in the range.
+fn has_fitting(writes: &[Write], range: &IdRange) -> bool
+    ensures { result ≡ list_any (λ a. is_within range.now a.id) (additions writes.now) }
+{
+    for write in writes {
+        if fits(range, &write.id) {
+            return true;
+        }
+    }
+    false
+}
+
+/// Gathers the documents that the writes made, and lists those in the range.
+fn gather_page(alloc: Global, writes: &Vec<Write>, range: &IdRange) -> Got<PageById>
     ensures page { IfOk result (λ page. id_page_of page ≡ id_page range.now (live_rows (gathered_after 0 [] (additions writes.now.items)))) }
     ensures counted { IfOk result (IsCounted range.now) }
 {
