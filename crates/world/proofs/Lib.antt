@@ -1,3 +1,4 @@
 pub mod Services
 pub mod Determined
 pub mod Events
+pub mod Unfailing

@@ -1,5 +1,5 @@
 -- Requests that arrive one after another, and their replies.
-use Rattle.std.proofs.Common.{◌≡◌, ◌≢◌, ◌∙◌, ℕ, zero, suc, ◌<◌, Bool, true, false, List, [], ◌∷◌, ◌++◌, get_or, length, map, Option, Some, None, unwrap_or, ◌⊎◌, length-set, Result, Ok, Err, append_assoc, append-nil, refl, sym, ap, subst, inl, inr, arith}
+use Rattle.std.proofs.Common.{◌≡◌, ◌≢◌, ◌∙◌, ℕ, zero, suc, ◌<◌, Bool, List, [], ◌∷◌, ◌++◌, get_or, length, map, Option, Some, None, unwrap_or, ◌⊎◌, length-set, Result, Ok, Err, append_assoc, append-nil, refl, sym, ap, subst, inl, inr, arith}
 use Rattle.std.specs.Prelude.{IfOk, slice_set}
 use Rattle.std.specs.List.{slice_get}
 use Rattle.std.proofs.lemmas.Bool.{cases_eq}
@@ -13,10 +13,9 @@ use Rattle.couch_http.specs.Stream.{Cuts, IsStreamFault, StreamEnd, unfinished, 
 use Rattle.couch_http.specs.declared.fault.HttpFault.{HttpFault}
 use Rattle.couch_http.specs.declared.fault.HttpFault.TheVariants as fault
 use Rattle.store.specs.Calls.{GoesOn}
-use Rattle.store.specs.Contents.{Contents}
 use Rattle.store.specs.declared.store.Store.{Ghosts}
 use Rattle.node.specs.Runs.{IsRun, Stepped, Steps, end_of, messages_of}
-use Rattle.node.specs.Step.{IsStep, Serving}
+use Rattle.node.specs.Step.{Serving}
 use Rattle.hub.proofs.Arrivals.{order_kept}
 use Rattle.hub.specs.declared.fault.HubFault.{HubFault}
 use Rattle.hub.specs.declared.replies.Replies.{Replies}
@@ -27,7 +26,7 @@ use Rattle.hub.specs.Endings.{last_replies, refusal_of}
 use Rattle.hub.specs.Feeding.{IsFed}
 use Rattle.world.specs.Network.{AreHonest, Network, databases_of, home_of, with_databases}
 use Rattle.world.specs.Playing.{IsPlayed, IsPlayedInOrder}
-use Rattle.world.specs.Service.{IsAnswered, IsHandled, IsService, StepOf, SeenReply}
+use Rattle.world.specs.Service.{IsAnswered, IsService, StepOf, SeenReply}
 use Rattle.world.specs.Turning.{IsTurn, replies_on}
 
 -- ---- one node among others
@@ -60,16 +59,18 @@ service_append step homes a b c (x ∷ ars) bs (s ∷ ss) ts p q = (p.0, p.1, se
 service_run : {S : Type 0} (step : StepOf S) (homes : List ℕ) (conn : ℕ) (c : Configuration) (nodes : List (Serving S)) (before : S) (steps : List (Stepped S))
     → slice_get nodes (home_of homes conn) ≡ Some (record { store = before; configuration = c }) → IsRun (step c) before steps
     → IsService step homes nodes (map (request_on conn) (messages_of steps)) (replies_on conn (replies_of steps))
-      (slice_set nodes (home_of homes conn) (record { store = end_of before steps; configuration = c }))
+    (slice_set nodes (home_of homes conn) (record { store = end_of before steps; configuration = c }))
 service_run step homes conn c nodes before [] there run = sym (set_same nodes (home_of homes conn) (record { store = before; configuration = c }) there)
 service_run {S} step homes conn c nodes before (s ∷ ss) there run =
     let h = home_of homes conn in
     let node : Serving S = record { store = before; configuration = c } in
     let next : Serving S = record { store = s.after; configuration = c } in
     let last : Serving S = record { store = end_of s.after ss; configuration = c } in
-    let rest = service_run step homes conn c (slice_set nodes h next) s.after ss (set_at nodes h node next there) run.1 in
-    (slice_set nodes h next, (refl, record { node = node; there = there; after = s.after; handled = run.0; left = refl }),
-    subst (λ (x : List (Serving S)). IsService step homes (slice_set nodes h next) (map (request_on conn) (messages_of ss)) (replies_on conn (replies_of ss)) x) (set_twice nodes h next last) rest)
+    let rest = service_run step homes conn c (slice_set nodes h next) s.after ss (set_at nodes h node next there) run.1 in (
+      slice_set nodes h next,
+      (refl, record { node = node; there = there; after = s.after; handled = run.0; left = refl }),
+      subst (λ (x : List (Serving S)). IsService step homes (slice_set nodes h next) (map (request_on conn) (messages_of ss)) (replies_on conn (replies_of ss)) x) (set_twice nodes h next last) rest,
+    )
 
 -- the fixed reply to a fault
 service_fault : {S : Type 0} (step : StepOf S) (homes : List ℕ) (conn : ℕ) (nodes : List (Serving S)) (f : HttpFault) → IsStreamFault f
@@ -132,7 +133,7 @@ honest_before {S} g nodes new h node next there left onward honest k d inside = 
 pub played_fed : {S : Type 0} (g : Ghosts S) (nodes new : List (Serving S)) (homes : List ℕ) (before after : ConnectionTable) (conn : ℕ) (bytes : List ℕ) (list : List Reply) (last : Bool)
     → IsTurn g nodes (home_of homes conn) before conn bytes list last new after → AreHonest g new
     → IsPlayed g (record { nodes = nodes; homes = homes; connections = before }) (record { conn = conn; bytes = bytes } ∷ []) (replies_on conn list)
-      (record { nodes = new; homes = homes; connections = after })
+    (record { nodes = new; homes = homes; connections = after })
 played_fed {S} g nodes new homes before after conn bytes list last t honest =
     let f = t.fed in
     let p : Piece = record { conn = conn; bytes = bytes } in
@@ -177,7 +178,7 @@ played_then g a b c ps qs ss ts p q =
       arrivals = p.arrivals ++ q.arrivals;
       arrived = arrives_append a.connections b.connections c.connections ps qs p.arrivals q.arrivals p.arrived q.arrived;
       served = service_append (StoreSteps g) a.homes a.nodes b.nodes c.nodes p.arrivals q.arrivals ss ts p.served
-      (subst (λ (h : List ℕ). IsService (StoreSteps g) h b.nodes q.arrivals ts c.nodes) p.homes q.served);
+          (subst (λ (h : List ℕ). IsService (StoreSteps g) h b.nodes q.arrivals ts c.nodes) p.homes q.served);
       homes = q.homes ∙ p.homes;
     }
 
@@ -185,7 +186,7 @@ played_then g a b c ps qs ss ts p q =
 pub played_shut : {S : Type 0} (g : Ghosts S) (nodes new : List (Serving S)) (homes : List ℕ) (table after : ConnectionTable) (conn : ℕ) (bytes : List ℕ) (list : List Reply) → new ≡ nodes
     → after ≡ table → list ≡ [] → rest_on table conn ≡ None
     → IsPlayed g (record { nodes = nodes; homes = homes; connections = table }) (record { conn = conn; bytes = bytes } ∷ []) (replies_on conn list)
-      (record { nodes = new; homes = homes; connections = after })
+    (record { nodes = new; homes = homes; connections = after })
 played_shut {S} g nodes new homes table after conn bytes list same kept none shut =
     let p : Piece = record { conn = conn; bytes = bytes } in
     let before : Network S = record { nodes = nodes; homes = homes; connections = table } in
@@ -231,14 +232,16 @@ set_map f (z ∷ xs) (suc i) x = ap (λ ws. f z ∷ ws) (set_map f xs i x)
 answered_shown : {S : Type 0} (g : Ghosts S) (homes : List ℕ) (old new : List (Serving S)) (a : Arrival) (t : SeenReply) → IsAnswered (StoreSteps g) homes old a t new
     → IsAnswered Steps homes (databases_of g old) a t (databases_of g new)
 answered_shown {S} g homes old new (request_on conn m) t p =
-    let h = p.1 in
-    (p.0, record {
-      node = with_databases g h.node;
-      there = get_map (with_databases g) old (home_of homes conn) h.node h.there;
-      after = g.contents h.after;
-      handled = step_shown g h.node.configuration h.node.store m t.reply h.after h.handled;
-      left = ap (databases_of g) h.left ∙ set_map (with_databases g) old (home_of homes conn) (record h.node { store = h.after });
-    })
+    let h = p.1 in (
+      p.0,
+      record {
+        node = with_databases g h.node;
+        there = get_map (with_databases g) old (home_of homes conn) h.node h.there;
+        after = g.contents h.after;
+        handled = step_shown g h.node.configuration h.node.store m t.reply h.after h.handled;
+        left = ap (databases_of g) h.left ∙ set_map (with_databases g) old (home_of homes conn) (record h.node { store = h.after });
+      },
+    )
 answered_shown g homes old new (fault_on conn f) t p = (p.0, p.1, ap (databases_of g) p.2)
 
 service_shown : {S : Type 0} (g : Ghosts S) (homes : List ℕ) (old new : List (Serving S)) (xs : List Arrival) (ts : List SeenReply) → IsService (StoreSteps g) homes old xs ts new

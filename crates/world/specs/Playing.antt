@@ -2,7 +2,6 @@
 -- RFC 9112, section 9; that they come in one order is this project's own.
 use Rattle.std.specs.Prelude.{◌≡◌, ℕ, List, []}
 use Rattle.store.specs.declared.store.Store.{Ghosts}
-use Rattle.node.specs.Runs.{Steps}
 use Rattle.hub.specs.Answering.{StoreSteps}
 use Rattle.hub.specs.Arrival.{Arrival, Arrives, ArrivesAt, Piece}
 use Rattle.world.specs.Network.{Network}

@@ -1,6 +1,6 @@
 -- One piece at one node, in the words of `Playing`; for private clauses.
 -- This project's own.
-use Rattle.std.specs.Prelude.{◌≡◌, ◌<◌, ℕ, true, false, Bool, List, map, length, get_or, Option, Some, slice_set}
+use Rattle.std.specs.Prelude.{◌≡◌, ◌<◌, ℕ, true, false, Bool, List, map, length, Some, slice_set}
 use Rattle.std.specs.List.{All, slice_get}
 use Rattle.couch_http.specs.Reply.{Reply}
 use Rattle.store.specs.Calls.{GoesOn}
@@ -9,7 +9,6 @@ use Rattle.node.specs.Step.{Serving}
 use Rattle.hub.specs.Arrival.{Piece}
 use Rattle.hub.specs.Connections.{ConnectionTable, was_opened}
 use Rattle.hub.specs.Feeding.{IsFed}
-use Rattle.world.specs.Network.{Network}
 use Rattle.world.specs.Service.{SeenReply}
 use Rattle.world.specs.declared.event.Event.{Event}
 use Rattle.world.specs.declared.event.Event.TheVariants as event

@@ -4,9 +4,11 @@
 mod event;
 mod fault;
 pub mod laws;
+mod memory;
 mod turning;
 mod world;
 
 pub use event::{Event, Seen};
 pub use fault::{WorldFault, WorldFaultKind};
+pub use memory::play_in_memory;
 pub use world::World;

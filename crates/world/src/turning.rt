@@ -82,7 +82,7 @@ fn feed_node<S: Store + Drop>(
     connections.feed(&mut nodes[home], conn, piece)
 }
 
-/// The connection of a piece, and its bytes.
+/// Returns the connection of a piece, and its bytes.
 pub fn parts_of(event: &Event) -> (u64, &[u8])
     ensures { record { conn = result.0; bytes = result.1.now } ≡ piece_of event.now }
 {

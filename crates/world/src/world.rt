@@ -45,7 +45,7 @@ impl<S: Store + Drop> World<S> {
     ghost use Rattle.world.specs.Service.{SeenReply};
     ghost use Rattle.world.specs.Turning.{AreKnown, IsUnknownAt, piece_of, replies_on, seen_reply};
 
-    /// These nodes, numbered from 0, without connections. Takes no memory.
+    /// Makes a world of these nodes, numbered from 0, without connections. Takes no memory.
     pub fn new(alloc: Global, nodes: Vec<Node<S>>) -> World<S>
         ensures nodes { result.nodes ≡ nodes.items }
         ensures homes { result.homes ≡ [] }
@@ -81,10 +81,12 @@ impl<S: Store + Drop> World<S> {
         }
         match open_home(&mut self.connections, &mut self.homes, node) {
             Ok(conn) => Ok(conn),
-            Err(HubFault::Unknown | HubFault::Closed | HubFault::Memory | HubFault::Full) => Err(WorldFault {
-                kind: WorldFaultKind::Memory,
-                played: 0,
-            }),
+            Err(HubFault::Unknown | HubFault::Closed | HubFault::Memory | HubFault::Full) => Err(
+                WorldFault {
+                    kind: WorldFaultKind::Memory,
+                    played: 0,
+                },
+            ),
         }
     }
 
@@ -117,7 +119,7 @@ impl<S: Store + Drop> World<S> {
             → IsPlayedInOrder (StoreSteps S.Store) self.old.homes self.old.nodes (map piece_of events.now) (map seen_reply seen.items) self.new.nodes) }
         ensures databases { IfOk result (λ seen. AreNew self.old.connections (map piece_of events.now) → AreHonest S.Store self.new.nodes
             → IsPlayedInOrder Steps self.old.homes (databases_of S.Store self.old.nodes) (map piece_of events.now) (map seen_reply seen.items)
-              (databases_of S.Store self.new.nodes)) }
+            (databases_of S.Store self.new.nodes)) }
 
         // At a refusal the first events stand.
         ensures stands { IfErr result (λ fault. AreHonest S.Store self.new.nodes → (told : List SeenReply)
@@ -139,7 +141,10 @@ impl<S: Store + Drop> World<S> {
                         });
                     }
                 }
-                Err(kind) => return Err(WorldFault { kind, played: place }),
+                Err(kind) => return Err(WorldFault {
+                    kind,
+                    played: place,
+                }),
             }
         }
         Ok(seen)

@@ -8,9 +8,11 @@ use Rattle.world.proofs.world.World.play.Goals as goal
 pub returns-then-is_err-clause-stands : goal.returns-then-is_err-clause-stands
 returns-then-is_err-clause-stands g c = λ honest.
     let ss = map seen_reply c.loop-place.seen.items in
-    let ts = replies_on c.parts_of-conn.result.0 c.in-Ok.list.items in
-    (ss ++ ts, played_more g.S.Store c.args.self.now c.loop-place.self c.take.new.self c.args.events.now c.loop-place.place c.index-events-place.result c.loop-place-test.true c.index-events-place.is
-    (record { conn = c.parts_of-conn.result.0; bytes = c.parts_of-conn.result.1.now }) c.parts_of-conn.ensures ss ts (c.loop-place.invariant.played (c.in-Ok.ensures.honest honest)) (c.in-Ok.ensures.played honest))
+    let ts = replies_on c.parts_of-conn.result.0 c.in-Ok.list.items in (
+      ss ++ ts,
+      played_more g.S.Store c.args.self.now c.loop-place.self c.take.new.self c.args.events.now c.loop-place.place c.index-events-place.result c.loop-place-test.true c.index-events-place.is
+          (record { conn = c.parts_of-conn.result.0; bytes = c.parts_of-conn.result.1.now }) c.parts_of-conn.ensures ss ts (c.loop-place.invariant.played (c.in-Ok.ensures.honest honest)) (c.in-Ok.ensures.played honest),
+    )
 
 pub returns-in-Err-clause-stands : goal.returns-in-Err-clause-stands
 returns-in-Err-clause-stands g c = λ honest.
