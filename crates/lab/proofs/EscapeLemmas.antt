@@ -1,4 +1,4 @@
--- What is spelled so far, and what is left to spell.
+-- What is unescaped_text so far, and what is left to spell.
 use Rattle.std.proofs.Common.{ℕ, ◌≡◌, ◌++◌, List, [], ◌∷◌, Option, Some, None, option_map, refl, append_assoc}
 use Rattle.lab.specs.Escapes.{put}
 

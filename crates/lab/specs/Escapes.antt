@@ -23,17 +23,17 @@ put b rest = option_map (λ bytes. b ∷ bytes) rest
 
 abbrev mutual
   -- the bytes that a text spells, or none where a backslash in it begins no escape
-  pub spelled : List ℕ → Option (List ℕ)
-  spelled [] = Some []
-  spelled (b ∷ rest) = if is_backslash b then spelled_escape rest else put b (spelled rest)
+  pub unescaped_text : List ℕ → Option (List ℕ)
+  unescaped_text [] = Some []
+  unescaped_text (b ∷ rest) = if is_backslash b then text_behind_backslash rest else put b (unescaped_text rest)
 
   -- those after a backslash
-  pub spelled_escape : List ℕ → Option (List ℕ)
-  spelled_escape [] = None
-  spelled_escape (b ∷ rest) = if b == 120 then spelled_hex rest else option_and_then (λ byte. put byte (spelled rest)) (short_escape b)
+  pub text_behind_backslash : List ℕ → Option (List ℕ)
+  text_behind_backslash [] = None
+  text_behind_backslash (b ∷ rest) = if b == 120 then text_behind_x rest else option_and_then (λ byte. put byte (unescaped_text rest)) (short_escape b)
 
   -- those after `\x`
-  pub spelled_hex : List ℕ → Option (List ℕ)
-  spelled_hex [] = None
-  spelled_hex (high ∷ []) = None
-  spelled_hex (high ∷ low ∷ rest) = option_and_then (λ byte. put byte (spelled rest)) (hex_byte high low)
+  pub text_behind_x : List ℕ → Option (List ℕ)
+  text_behind_x [] = None
+  text_behind_x (high ∷ []) = None
+  text_behind_x (high ∷ low ∷ rest) = option_and_then (λ byte. put byte (unescaped_text rest)) (hex_byte high low)

@@ -2,8 +2,8 @@
 -- This project's own.
 use Rattle.std.specs.Prelude.{ℕ, ◌&&◌, List, codes, Option, Some, None, option_map, option_and_then, bytes_eq, if◌then◌else◌}
 use Rattle.store.specs.DatabaseName.{is_database_name}
-use Rattle.lab.specs.Words.{parted, is_word, is_node_name}
-use Rattle.lab.specs.Escapes.{spelled}
+use Rattle.lab.specs.Words.{parts_at_space, is_word, is_node_name}
+use Rattle.lab.specs.Escapes.{unescaped_text}
 
 -- what a line says
 pub data ScriptLine : Type 0 where
@@ -30,17 +30,17 @@ conn_of node name = if is_node_name node && is_word name then Some (conn_line no
 
 -- `send c TEXT`, where these are `c` and `TEXT`, which is the rest of the line and may be empty
 abbrev pub send_of : List ℕ → List ℕ → Option ScriptLine
-send_of name text = if is_word name then option_map (λ piece. send_line name piece) (spelled text) else None
+send_of name text = if is_word name then option_map (λ piece. send_line name piece) (unescaped_text text) else None
 
 -- the line whose first word this is, with what stands behind it
 abbrev pub line_with : List ℕ → List ℕ → Option ScriptLine
 line_with word rest =
     if bytes_eq word (codes "node") then node_of rest
-    else if bytes_eq word (codes "public") then option_and_then (λ p. public_of p.0 p.1) (parted rest)
-    else if bytes_eq word (codes "conn") then option_and_then (λ p. conn_of p.0 p.1) (parted rest)
-    else if bytes_eq word (codes "send") then option_and_then (λ p. send_of p.0 p.1) (parted rest)
+    else if bytes_eq word (codes "public") then option_and_then (λ p. public_of p.0 p.1) (parts_at_space rest)
+    else if bytes_eq word (codes "conn") then option_and_then (λ p. conn_of p.0 p.1) (parts_at_space rest)
+    else if bytes_eq word (codes "send") then option_and_then (λ p. send_of p.0 p.1) (parts_at_space rest)
     else None
 
 -- what the bytes of a line say, without its line feed, or none where they are no line of a script
 abbrev pub line_of : List ℕ → Option ScriptLine
-line_of bytes = option_and_then (λ p. line_with p.0 p.1) (parted bytes)
+line_of bytes = option_and_then (λ p. line_with p.0 p.1) (parts_at_space bytes)

@@ -7,8 +7,8 @@ abbrev pub is_space : ℕ → Bool
 is_space b = b == 32
 
 -- what stands before the first space, and what stands behind it
-abbrev pub parted : List ℕ → Option (List ℕ × List ℕ)
-parted bytes = option_map (λ n. (take n bytes, drop (n + 1) bytes)) (position_from is_space 0 bytes)
+abbrev pub parts_at_space : List ℕ → Option (List ℕ × List ℕ)
+parts_at_space bytes = option_map (λ n. (take n bytes, drop (n + 1) bytes)) (position_from is_space 0 bytes)
 
 -- a word: a nonempty run of bytes without a space
 abbrev pub is_word : List ℕ → Bool

@@ -1,7 +1,7 @@
 //! Texts with escapes.
 
 ghost use Rattle.std.specs.Prelude.{◌≡◌, ◌<◌, length, IfOk, IfSome, Option, option_map, option_and_then};
-ghost use Rattle.lab.specs.Escapes.{hex_byte, hex_digit, put, spelled};
+ghost use Rattle.lab.specs.Escapes.{hex_byte, hex_digit, put, unescaped_text};
 
 use couch_json::Got;
 use std::alloc::Global;
@@ -9,13 +9,13 @@ use std::alloc::Global;
 /// The bytes that a text spells, where `\r`, `\n`, `\\` and `\xHH`, with hexadecimal digits in
 /// either case, stand for one byte and each other byte for itself; `None` where a backslash begins
 /// no such escape.
-pub fn spelled(alloc: Global, text: &[u8]) -> Got<Option<Vec<u8>>>
-    ensures { IfOk result (λ piece. option_map (λ bytes. bytes.items) piece ≡ spelled text.now) }
+pub fn unescape(alloc: Global, text: &[u8]) -> Got<Option<Vec<u8>>>
+    ensures { IfOk result (λ piece. option_map (λ bytes. bytes.items) piece ≡ unescaped_text text.now) }
 {
     let mut bytes = Vec::new(alloc);
     let mut rest = text;
     while !rest.is_empty() {
-        let Some((byte, after)) = first_spelled(rest) else {
+        let Some((byte, after)) = unescape_first(rest) else {
             return Ok(None);
         };
         bytes.push(byte)?;
@@ -25,9 +25,9 @@ pub fn spelled(alloc: Global, text: &[u8]) -> Got<Option<Vec<u8>>>
 }
 
 /// The first byte that a text spells, and the text behind what spells it.
-fn first_spelled(text: &[u8]) -> Option<(u8, &[u8])>
+fn unescape_first(text: &[u8]) -> Option<(u8, &[u8])>
     requires { 0 < length text.now }
-    ensures first { spelled text.now ≡ option_and_then (λ p. put p.0 (spelled p.1.now)) result }
+    ensures first { unescaped_text text.now ≡ option_and_then (λ p. put p.0 (unescaped_text p.1.now)) result }
     ensures shorter { IfSome result (λ p. length p.1.now < length text.now) }
 {
     match text {

@@ -2,12 +2,12 @@
 
 ghost use Rattle.std.specs.Prelude.{◌≡◌, IfOk, Some, None, option_map, option_and_then, if◌then◌else◌};
 ghost use Rattle.store.specs.DatabaseName.{is_database_name};
-ghost use Rattle.lab.specs.Words.{parted};
+ghost use Rattle.lab.specs.Words.{parts_at_space};
 ghost use Rattle.lab.specs.Script.{line_of, line_with, node_of, public_of, conn_of, send_of};
 ghost use Rattle.lab.specs.Lines.{said_by};
 
-use crate::escapes::spelled;
-use crate::words::{is_node_name, is_word, parted};
+use crate::escapes::unescape;
+use crate::words::{is_node_name, is_word, split_at_space};
 use couch_json::{Got, NoMemory};
 use std::alloc::Global;
 use std::str;
@@ -33,7 +33,7 @@ pub enum Line<'a> {
 pub fn read_line<'a>(alloc: Global, bytes: &'a [u8]) -> Got<Option<Line<'a>>>
     ensures { IfOk result (λ line. option_map said_by line ≡ line_of bytes.now) }
 {
-    match parted(bytes) {
+    match split_at_space(bytes) {
         Some((word, rest)) => read_with(alloc, word, rest),
         None => Ok(None),
     }
@@ -69,9 +69,9 @@ fn read_node<'a>(name: &'a [u8]) -> Option<Line<'a>>
 }
 
 fn read_public<'a>(alloc: Global, rest: &'a [u8]) -> Got<Option<Line<'a>>>
-    ensures { IfOk result (λ line. option_map said_by line ≡ option_and_then (λ p. public_of p.0 p.1) (parted rest.now)) }
+    ensures { IfOk result (λ line. option_map said_by line ≡ option_and_then (λ p. public_of p.0 p.1) (parts_at_space rest.now)) }
 {
-    let Some((node, name)) = parted(rest) else {
+    let Some((node, name)) = split_at_space(rest) else {
         return Ok(None);
     };
     if !is_node_name(node) {
@@ -84,24 +84,24 @@ fn read_public<'a>(alloc: Global, rest: &'a [u8]) -> Got<Option<Line<'a>>>
 }
 
 fn read_conn<'a>(rest: &'a [u8]) -> Option<Line<'a>>
-    ensures { option_map said_by result ≡ option_and_then (λ p. conn_of p.0 p.1) (parted rest.now) }
+    ensures { option_map said_by result ≡ option_and_then (λ p. conn_of p.0 p.1) (parts_at_space rest.now) }
 {
-    match parted(rest) {
+    match split_at_space(rest) {
         Some((node, name)) if is_node_name(node) && is_word(name) => Some(Line::Conn(node, name)),
         _ => None,
     }
 }
 
 fn read_send<'a>(alloc: Global, rest: &'a [u8]) -> Got<Option<Line<'a>>>
-    ensures { IfOk result (λ line. option_map said_by line ≡ option_and_then (λ p. send_of p.0 p.1) (parted rest.now)) }
+    ensures { IfOk result (λ line. option_map said_by line ≡ option_and_then (λ p. send_of p.0 p.1) (parts_at_space rest.now)) }
 {
-    let Some((name, text)) = parted(rest) else {
+    let Some((name, text)) = split_at_space(rest) else {
         return Ok(None);
     };
     if !is_word(name) {
         return Ok(None);
     }
-    match spelled(alloc, text)? {
+    match unescape(alloc, text)? {
         Some(piece) => Ok(Some(Line::Send(name, piece))),
         None => Ok(None),
     }

@@ -2,11 +2,11 @@
 
 ghost use Rattle.std.specs.Prelude.{◌≡◌, ◌<◌, length, IfSome, option_map};
 ghost use Rattle.std.specs.List.{list_all, list_any, position_from};
-ghost use Rattle.lab.specs.Words.{parted, is_space, is_word, is_letter_or_digit, is_node_name};
+ghost use Rattle.lab.specs.Words.{parts_at_space, is_space, is_word, is_letter_or_digit, is_node_name};
 
 /// What stands before the first space, and what stands behind it.
-pub fn parted(bytes: &[u8]) -> Option<(&[u8], &[u8])>
-    ensures { option_map (λ p. (p.0.now, p.1.now)) result ≡ parted bytes.now }
+pub fn split_at_space(bytes: &[u8]) -> Option<(&[u8], &[u8])>
+    ensures { option_map (λ p. (p.0.now, p.1.now)) result ≡ parts_at_space bytes.now }
 {
     match space_in(bytes) {
         Some(place) => Some((&bytes[..place], &bytes[place + 1..])),

@@ -1,6 +1,6 @@
 -- Which bodies a design document may have: what it declares, a rule and indexes, is of its form.
 -- CouchDB manual, ddocs/ddocs (`validate_doc_update`) and api/database/find (fields of an index); that indexes are declared in the member `indexes`, and the limits, are this server's own.
-use Rattle.std.specs.Prelude.{ℕ, Bool, true, ◌&&◌, List, [], ◌∷◌, length, codes, nat_le, Option, is_some}
+use Rattle.std.specs.Prelude.{ℕ, Bool, true, ◌&&◌, List, [], ◌∷◌, length, codes, nat_le, is_some}
 use Rattle.couch_json.specs.FieldPath.{is_field_path}
 use Rattle.couch_json.specs.Parts.{has_only, is_there_and, items_in, members_in, text_in}
 use Rattle.couch_json.specs.Value.{Value, Items, no_items, item, Members, no_members, member, member_of}

@@ -16,7 +16,7 @@ use auth::Caller;
 use couch_json::Got;
 use policy::{RuleSet, Security};
 use std::alloc::Global;
-use store::{DbName, IdRange, IdRow, Store};
+use store::{DbName, IdRange, IdRow, RangeKey, Store};
 use tree::{DocId, History};
 
 /// The terms on which a caller writes into a database, as a request finds it.
@@ -74,9 +74,11 @@ fn read_rules<S: Store>(alloc: Global, store: &mut S, db: &DbName) -> Result<Rul
 fn design_range(alloc: Global) -> Got<IdRange>
     ensures { IfOk result IsDesignRange }
 {
+    let start = String::from_str(alloc, "_design/")?;
+    let end = String::from_str(alloc, "_design0")?;
     Ok(IdRange {
-        start: Some(String::from_str(alloc, "_design/")?),
-        end: Some(String::from_str(alloc, "_design0")?),
+        start: Some(RangeKey::new(start)),
+        end: Some(RangeKey::new(end)),
         inclusive_end: false,
         descending: false,
         skip: 0,

@@ -1,5 +1,4 @@
 use Rattle.std.proofs.Common.{◌≡◌, ◌++◌, drop, map, string_bytes}
-use Rattle.std.specs.Prelude.{IsTrue}
 use Rattle.couch_json.specs.Value.{text}
 use Rattle.couch_json.specs.View.{view}
 use Rattle.policy.proofs.rule_argument.copy_texts.Given as goal

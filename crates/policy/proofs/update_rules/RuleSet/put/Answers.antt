@@ -1,5 +1,5 @@
 -- What is put among the entries is put among the rules.
-use Rattle.std.proofs.Common.{sym, ap, ◌∙◌}
+use Rattle.std.proofs.Common.{ap, ◌∙◌}
 use Rattle.std.specs.FinMap.{insert}
 use Rattle.couch_json.specs.View.{view}
 use Rattle.policy.specs.UpdateRules.{Rules}

@@ -1,6 +1,5 @@
 -- The entries of the map are those of the rules.
 use Rattle.std.proofs.Common.{sym, ap, ◌∙◌}
-use Rattle.std.specs.FinMap.{entries}
 use Rattle.couch_json.specs.View.{view}
 use Rattle.policy.specs.UpdateRules.{Rules, first_broken, update_refusal}
 use Rattle.policy.proofs.RuleEntries.{entries_of}

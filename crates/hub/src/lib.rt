@@ -1,0 +1,15 @@
+//! The connections of one node: each brings requests in pieces of bytes, and each request has its reply.
+#![tactic(auto)]
+
+mod answering;
+mod connections;
+mod cutters;
+mod fault;
+mod hub;
+pub mod laws;
+mod replies;
+
+pub use connections::Connections;
+pub use fault::HubFault;
+pub use hub::Hub;
+pub use replies::Replies;

@@ -1,0 +1,5 @@
+pub mod Network
+pub mod Service
+pub mod Playing
+pub mod Turning
+pub mod Laws

@@ -1,0 +1,46 @@
+-- What nodes reply to requests that arrive one after another, each at the node of its connection.
+-- RFC 9112, section 9.3.2, for the order on a connection; between connections they are served as they arrive.
+use Rattle.std.specs.Prelude.{◌≡◌, ℕ, List, [], ◌∷◌, Some, slice_set}
+use Rattle.std.specs.List.{slice_get}
+use Rattle.auth.specs.Callers.{Configuration}
+use Rattle.couch_http.specs.Message.{Message}
+use Rattle.couch_http.specs.Reply.{Reply}
+use Rattle.node.specs.Step.{Serving}
+use Rattle.node.specs.Runs.{IsServed}
+use Rattle.hub.specs.Arrival.{Arrival, fault_on, request_on}
+use Rattle.hub.specs.Endings.{refusal_of}
+use Rattle.world.specs.Network.{home_of}
+
+-- a reply on a connection
+pub record SeenReply : Type 0 where
+  pub conn : ℕ
+  pub reply : Reply
+
+-- what a node may reply to a request, and the state of its store after it
+abbrev pub StepOf : Type 0 → Type 1
+StepOf S = Configuration → S → Message → Reply → S → Type 0
+
+-- the node of this number replies to a request, and the others stay as they are
+pub record IsHandled {S : Type 0} (step : StepOf S) (old : List (Serving S)) (place : ℕ) (m : Message) (reply : Reply) (new : List (Serving S)) : Type 0 where
+  pub node : Serving S
+  pub there : slice_get old place ≡ Some node
+  pub after : S
+  pub handled : step node.configuration node.store m reply after
+  pub left : new ≡ slice_set old place (record node { store = after })
+
+-- a request is handled by the node of its connection; a fault of a stream has its fixed reply, and changes nothing
+abbrev pub IsAnswered : {S : Type 0} → StepOf S → List ℕ → List (Serving S) → Arrival → SeenReply → List (Serving S) → Type 0
+IsAnswered step homes old (request_on conn m) told new = (told.conn ≡ conn) × IsHandled step old (home_of homes conn) m told.reply new
+IsAnswered step homes old (fault_on conn fault) told new = (told.conn ≡ conn) × (refusal_of fault ≡ told.reply ∷ []) × (new ≡ old)
+
+-- each arrival has its reply, from the nodes as the one before left them
+abbrev pub IsService : {S : Type 0} → StepOf S → List ℕ → List (Serving S) → List Arrival → List SeenReply → List (Serving S) → Type 0
+IsService step homes old [] [] new = new ≡ old
+IsService step homes old [] (t ∷ ts) new = ⊥
+IsService step homes old (a ∷ ars) [] new = ⊥
+IsService {S} step homes old (a ∷ ars) (t ∷ ts) new = (between : List (Serving S)) × IsAnswered step homes old a t between × IsService step homes between ars ts new
+
+-- no reply stands for a fault of a store or for want of memory
+abbrev pub AreAllServed : List SeenReply → Type 0
+AreAllServed [] = Unit {0}
+AreAllServed (t ∷ ts) = IsServed t.reply × AreAllServed ts
