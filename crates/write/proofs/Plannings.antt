@@ -1,5 +1,5 @@
 -- What a plan makes of its database, where there is one.
-use Rattle.std.proofs.Common.{◌≡◌, ℕ, List, [], ◌∷◌, map, Option, Some, None, option_map, Result, Ok, Err, refl, ap, sym, ◌∙◌, subst}
+use Rattle.std.proofs.Common.{◌≡◌, ℕ, List, [], ◌∷◌, map, Option, Some, None, option_map, Ok, refl, ap, sym, ◌∙◌, subst}
 use Rattle.std.specs.Prelude.{codes, string_bytes}
 use Rattle.couch_json.specs.Value.{Value}
 use Rattle.tree.specs.History.{HistoryContent}
@@ -12,7 +12,6 @@ use Rattle.write.specs.BulkResults.{told_as, told_of}
 use Rattle.write.specs.Document.{member_text}
 use Rattle.write.specs.Planning.{MayBeMade, Plans, database_after, planned_writes}
 use Rattle.write.specs.Terms.{Terms}
-use Rattle.write.specs.declared.fault.WriteFault.{WriteFault}
 use Rattle.write.specs.declared.planned.Planned.{Planned}
 use Rattle.write.specs.declared.planning.Label.{Label}
 use Rattle.write.proofs.BulkLemmas.{brought_at}
@@ -46,13 +45,6 @@ one_made None id h became terms own w planned same read e named writes = tt
 one_made (Some d) id h became terms own w planned same read e named writes =
     ap writes_alone (on_terms d id became terms (own d) same ∙ one_outcome d id h (became terms) w (is_history d id h (Some d) refl read) e named)
     ∙ ap Ok (sym (writes d))
-
-pub one_refused : {A : Type 0} (there : Option Database) (id : List ℕ) (h : HistoryContent) (became : Terms → HistoryContent → Result A WriteFault) (terms : Terms) (own : Database → Terms) (fault : WriteFault)
-    → IfThere there (λ d. terms ≡ own d) → option_map (λ db. history_at db id) there ≡ Some h → became terms h ≡ Err fault
-    → IfThere there (λ d. became (own d) (history_at d id) ≡ Err fault)
-one_refused None id h became terms own fault same read e = tt
-one_refused (Some d) id h became terms own fault same read e =
-    ap (λ (t : Terms). became t (history_at d id)) (sym same) ∙ ap (became terms) (sym (is_history d id h (Some d) refl read)) ∙ e
 
 pub one_plan : (there : Option Database) (id : List ℕ) (h : HistoryContent) (document : Value) (became : Terms → HistoryContent → DocumentOutcome) (terms : Terms) (own : Database → Terms) (w : Option Write) (label : Label) (planned : Planned)
     → IfThere there (λ d. terms ≡ own d)
