@@ -1,18 +1,13 @@
 -- Replies one after the other.
-use Rattle.std.proofs.Common.{ℕ, ◌≡◌, ◌∙◌, ◌+◌, ◌<◌, ◌++◌, List, [], ◌∷◌, Option, Some, None, ap, sym, subst, refl, append_assoc, append-nil, get_or, length, map, take, inl, inr, true, false}
+use Rattle.std.proofs.Common.{ℕ, ◌≡◌, ◌∙◌, ◌+◌, ◌<◌, ◌++◌, List, [], ◌∷◌, Option, Some, None, ap, sym, subst, refl, append_assoc, append-nil, get_or, length, map, take}
 use Rattle.std.proofs.lemmas.List.{map_more}
-use Rattle.std.specs.Prelude.{OnOk, Result, Ok, Err}
 use Rattle.std.specs.Io.KnownBytes.{Appends}
 use Rattle.couch_http.specs.Reply.{Reply}
-use Rattle.hub.specs.Connections.{is_open}
-use Rattle.store.specs.declared.store.Store.{Ghosts}
-use Rattle.world.specs.Network.{Network}
-use Rattle.world.specs.Playing.{IsPlayed}
 use Rattle.world.specs.Service.{SeenReply}
 use Rattle.world.specs.Turning.{seen_reply}
 use Rattle.world.specs.declared.event.Seen.{Seen}
 use Rattle.lab.specs.Printed.{reply_line, reply_lines}
-use Rattle.lab.specs.Replies.{IsSent, seen_lines}
+use Rattle.lab.specs.Replies.{seen_lines}
 
 pub Appends-then : (a b c : Option (List ℕ)) (xs ys : List ℕ) → Appends a b xs → Appends b c ys → Appends a c (xs ++ ys)
 Appends-then None b c xs ys p q = tt

@@ -60,20 +60,7 @@ fn play_file(alloc: Global, name: &str, text: &str, report: &mut Report) -> Resu
             &mut command_lines::CommandLines { alloc },
             report,
         ),
-        "cuts" => play(
-            alloc,
-            name,
-            text,
-            &mut scripts::Scripts::new(alloc, true),
-            report,
-        ),
-        "lab" => play(
-            alloc,
-            name,
-            text,
-            &mut scripts::Scripts::new(alloc, false),
-            report,
-        ),
+        "lab" => play(alloc, name, text, &mut scripts::Scripts::new(alloc), report),
         "pages" => play(alloc, name, text, &mut pages::Pages::new(alloc), report),
         "requests" => play(
             alloc,

@@ -18,7 +18,7 @@ pub fn play_in_memory(
 ) -> Result<Vec<Seen>, WorldFault>
     ensures databases { IfOk result (λ seen. AreNew world.old.connections (map piece_of events.now)
         → IsPlayedInOrder Steps world.old.homes (databases_of ⟦<PlainStore as Store>⟧ world.old.nodes) (map piece_of events.now)
-          (map seen_reply seen.items) (databases_of ⟦<PlainStore as Store>⟧ world.new.nodes)) }
+        (map seen_reply seen.items) (databases_of ⟦<PlainStore as Store>⟧ world.new.nodes)) }
     ensures unfailing { IfOk result (λ seen. AreUnfailing (map seen_reply seen.items)) }
 {
     world.play(events)
