@@ -6,4 +6,5 @@ pub mod Asking
 pub mod Bulk
 pub mod BulkAsked
 pub mod Queries
+pub mod Listings
 pub mod Queried

@@ -8,7 +8,7 @@ use Rattle.matchit.specs.Router.{RouteOf, route_from}
 use Rattle.matchit.specs.Seek.{first}
 use Rattle.matchit.specs.declared.error.InsertError.{InsertError}
 use Rattle.api.specs.declared.page.Page.{Page}
-use Rattle.api.specs.declared.page.Page.TheVariants.{Welcome, AllDatabases, Database, Security, BulkDocuments, Document}
+use Rattle.api.specs.declared.page.Page.TheVariants.{Welcome, AllDatabases, Database, Security, BulkDocuments, AllDocuments, Changes, Differences, Document}
 
 -- the routes of the server, each with its page
 abbrev pub routes : List (List ℕ × Page)
@@ -19,6 +19,9 @@ routes =
     ∷ (codes "/{db}/", Database)
     ∷ (codes "/{db}/_security", Security)
     ∷ (codes "/{db}/_bulk_docs", BulkDocuments)
+    ∷ (codes "/{db}/_all_docs", AllDocuments)
+    ∷ (codes "/{db}/_changes", Changes)
+    ∷ (codes "/{db}/_revs_diff", Differences)
     ∷ (codes "/{db}/_design/{name}", Document)
     ∷ (codes "/{db}/{id}", Document)
     ∷ []

@@ -3,7 +3,9 @@
 
 mod asking;
 mod bulk;
+mod differences;
 mod fault;
+mod listings;
 mod members;
 mod method;
 mod page;
@@ -15,7 +17,9 @@ mod routes;
 
 pub use asking::{body, caller, deny, without_parameters};
 pub use bulk::{BulkAsked, bulk_in};
+pub use differences::differences_in;
 pub use fault::RequestFault;
+pub use listings::{changes_query, listing_query};
 pub use members::put_text;
 pub use method::{RequestMethod, method_of};
 pub use page::Page;

@@ -11,6 +11,12 @@ pub enum Page {
     Security,
     /// `/{db}/_bulk_docs`: documents of a database that are written together.
     BulkDocuments,
+    /// `/{db}/_all_docs`: the documents of a database, by id.
+    AllDocuments,
+    /// `/{db}/_changes`: the documents of a database, by the sequence of their latest write.
+    Changes,
+    /// `/{db}/_revs_diff`: which revisions a database doesn't know.
+    Differences,
     /// `/{db}/{id}` and `/{db}/_design/{name}`: a document.
     Document,
 }

@@ -49,7 +49,7 @@ pub fn document_query(alloc: Global, request: &Request) -> Result<DocumentQuery,
     }
 }
 
-/// What the parameters ask for.
+/// Reads what the parameters ask for.
 #[tactic(auto, using(crate::proofs::Listed::asked_by_values))]
 fn asked_of_document(alloc: Global, parameters: &[(String, String)]) -> Got<Option<DocumentQuery>>
     ensures { IfOk result (λ query. option_map query_of query ≡ asked_of_document (texts_of parameters.now)) }
@@ -69,7 +69,7 @@ fn asked_of_document(alloc: Global, parameters: &[(String, String)]) -> Got<Opti
     query_by(alloc, rev, open_revs, revs)
 }
 
-/// What the three parameters ask for together.
+/// Reads what the three parameters ask for together.
 fn query_by(
     alloc: Global,
     rev: Option<&str>,
@@ -87,7 +87,7 @@ fn query_by(
     }
 }
 
-/// Which revisions `rev` and `open_revs` ask for.
+/// Reads which revisions `rev` and `open_revs` ask for.
 fn asked_by(alloc: Global, rev: Option<&str>, open_revs: Option<&str>) -> Got<Option<Asked>>
     ensures { IfOk result (λ asked. option_map asked_of asked ≡ asked_by (option_copied rev.entry) (option_copied open_revs.entry)) }
 {
@@ -102,7 +102,7 @@ fn asked_by(alloc: Global, rev: Option<&str>, open_revs: Option<&str>) -> Got<Op
     }
 }
 
-/// The open revisions that are asked for: `all`, or a JSON list of revisions.
+/// Reads the open revisions that are asked for: `all`, or a JSON list of revisions.
 fn read_open_revisions(alloc: Global, value: &str) -> Got<Option<Asked>>
     ensures { IfOk result (λ asked. option_map asked_of asked ≡ open_revisions value.now) }
 {
@@ -116,20 +116,27 @@ fn read_open_revisions(alloc: Global, value: &str) -> Got<Option<Asked>>
     }
 }
 
-/// The revisions that a list spells.
+/// Reads the revisions that a list spells.
 fn read_revisions(alloc: Global, value: &Json) -> Got<Option<Asked>>
     ensures { IfOk result (λ asked. option_map asked_of asked ≡ option_map revisions (revisions_listed (view value.now))) }
 {
-    let Some(items) = value.items() else {
-        return Ok(None);
-    };
-    match spelled_by(alloc, items)? {
+    match list_revisions(alloc, value)? {
         Some(revs) => Ok(Some(Asked::Revisions(revs))),
         None => Ok(None),
     }
 }
 
-/// The revisions that elements spell, in order.
+/// Reads the revisions that a list spells, in order; `None` where the value is no such list.
+pub(crate) fn list_revisions(alloc: Global, value: &Json) -> Got<Option<Vec<Rev>>>
+    ensures { IfOk result (λ revs. option_map (λ rs. rs.items) revs ≡ revisions_listed (view value.now)) }
+{
+    match value.items() {
+        Some(items) => spelled_by(alloc, items),
+        None => Ok(None),
+    }
+}
+
+/// Reads the revisions that elements spell, in order.
 #[tactic(auto, using(crate::proofs::Listed::revisions_go_on))]
 fn spelled_by(alloc: Global, items: &[Json]) -> Got<Option<Vec<Rev>>>
     ensures { IfOk result (λ revs. option_map (λ rs. rs.items) revs ≡ revisions_in (items_view items.now)) }
@@ -144,7 +151,7 @@ fn spelled_by(alloc: Global, items: &[Json]) -> Got<Option<Vec<Rev>>>
     Ok(Some(revs))
 }
 
-/// The revision that a value spells.
+/// Reads the revision that a value spells.
 fn revision_in(value: &Json) -> Option<Rev>
     ensures { result ≡ revision_in (view value.now) }
 {
@@ -162,7 +169,7 @@ pub fn revision_query(alloc: Global, request: &Request) -> Result<Option<Rev>, R
     }
 }
 
-/// The revision that the parameters name, if any.
+/// Reads the revision that the parameters name, if any.
 fn revision_asked(parameters: &[(String, String)]) -> Option<Option<Rev>>
     ensures { result ≡ revision_asked (texts_of parameters.now) }
 {
@@ -172,7 +179,7 @@ fn revision_asked(parameters: &[(String, String)]) -> Option<Option<Rev>>
     revision_by(sole_value(parameters, "rev")?)
 }
 
-/// The revision that a parameter spells, if there is one.
+/// Reads the revision that a parameter spells, if there is one.
 fn revision_by(value: Option<&str>) -> Option<Option<Rev>>
     ensures { result ≡ revision_by (option_copied value.entry) }
 {

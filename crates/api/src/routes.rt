@@ -8,13 +8,16 @@ use std::alloc::Global;
 use std::marker::Model;
 
 /// The paths that the server has, each with its page.
-const ROUTES: [(&str, Page); 8] = [
+const ROUTES: [(&str, Page); 11] = [
     ("/", Page::Welcome),
     ("/_all_dbs", Page::AllDatabases),
     ("/{db}", Page::Database),
     ("/{db}/", Page::Database),
     ("/{db}/_security", Page::Security),
     ("/{db}/_bulk_docs", Page::BulkDocuments),
+    ("/{db}/_all_docs", Page::AllDocuments),
+    ("/{db}/_changes", Page::Changes),
+    ("/{db}/_revs_diff", Page::Differences),
     ("/{db}/_design/{name}", Page::Document),
     ("/{db}/{id}", Page::Document),
 ];

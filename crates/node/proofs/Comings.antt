@@ -8,13 +8,12 @@ use Rattle.policy.specs.declared.action.Action.{Action}
 use Rattle.store.specs.Contents.{Contents}
 use Rattle.store.specs.Database.{Database}
 use Rattle.tree.specs.Revision.{Revision}
-use Rattle.write.specs.Admission.{admission}
 use Rattle.node.specs.Answer.{entry, database_name_of, outcome_in, task_outcome, worked, work_task}
 use Rattle.node.specs.Answered.{done_of, outcome_of}
 use Rattle.node.specs.Coming.{Comes}
 use Rattle.node.specs.Work.{Done, Work}
 use Rattle.api.specs.Refusals.{next, there_or}
-use Rattle.node.specs.Works.{deletion, document_deleted, edit_asked, edit_done}
+use Rattle.node.specs.Works.{deletion, document_deleted, edit_asked, edit_in}
 use Rattle.node.specs.declared.answered.Worked.{Worked}
 use Rattle.api.specs.declared.refusal.Refusal.{Refusal}
 use Rattle.api.specs.declared.refusal.Refusal.TheVariants.{Conflict}
@@ -44,10 +43,10 @@ entry_stops databases caller chosen action m work name Failed for own h = tt
 entry_stops databases caller chosen action m work name NoRoom for own h = tt
 
 -- a deletion that names a revision is its edit
-pub deletion_comes : (caller : Identity) (m : Message) (db : Database) (asked : List ℕ × Option Revision) (rev : Revision) (document : Value) (result : Result Worked Stop)
-    → edit_asked m ≡ Ok asked → asked.1 ≡ Some rev → document ≡ deletion → Comes (done_of db) result (edit_done caller 200 asked.0 (admission db asked.0 (Some rev) document))
-    → Comes (done_of db) result (document_deleted caller m db)
-deletion_comes caller m db asked rev document result own named made h =
-    subst (λ (r : Result (List ℕ × Option Revision) Refusal). Comes (done_of db) result (next r (λ a. next (there_or Conflict a.1) (λ s. edit_done caller 200 a.0 (admission db a.0 (Some s) deletion))))) (sym own)
-    (subst (λ (o : Option Revision). Comes (done_of db) result (next (there_or Conflict o) (λ s. edit_done caller 200 asked.0 (admission db asked.0 (Some s) deletion)))) (sym named)
-    (subst (λ (v : Value). Comes (done_of db) result (edit_done caller 200 asked.0 (admission db asked.0 (Some rev) v))) made h))
+pub deletion_comes : (caller : Identity) (m : Message) (name : List ℕ) (db : Database) (asked : List ℕ × Option Revision) (rev : Revision) (document : Value) (result : Result Worked Stop)
+    → edit_asked m ≡ Ok asked → asked.1 ≡ Some rev → document ≡ deletion → Comes (done_of db) result (edit_in caller 200 name db asked.0 (Some rev) document)
+    → Comes (done_of db) result (document_deleted caller m name db)
+deletion_comes caller m name db asked rev document result own named made h =
+    subst (λ (r : Result (List ℕ × Option Revision) Refusal). Comes (done_of db) result (next r (λ a. next (there_or Conflict a.1) (λ s. edit_in caller 200 name db a.0 (Some s) deletion)))) (sym own)
+    (subst (λ (o : Option Revision). Comes (done_of db) result (next (there_or Conflict o) (λ s. edit_in caller 200 name db asked.0 (Some s) deletion))) (sym named)
+    (subst (λ (v : Value). Comes (done_of db) result (edit_in caller 200 name db asked.0 (Some rev) v)) made h))

@@ -10,7 +10,7 @@ use Rattle.store.specs.Writing.{additions, writings_in}
 use Rattle.store.specs.declared.fault.StoreFault.{StoreFault}
 use Rattle.store.specs.declared.fault.StoreFault.TheVariants.{Memory, Failed, NoDatabase, Exists, Damaged, Full}
 use Rattle.store.specs.declared.store.Store.{Ghosts}
-use Rattle.write.specs.Planning.{LacksRoomFor, changed}
+use Rattle.write.specs.Planning.{LacksRoomFor, database_after}
 use Rattle.write.specs.Refusing.{Refuses}
 use Rattle.write.specs.declared.planned.Changes.{Changes}
 use Rattle.write.specs.declared.planned.Changes.TheVariants.{Writes, Security}
@@ -61,10 +61,10 @@ unrefused_change write.Memory refusal e = cc
 
 -- planned changes that are made are those that the definition says
 pub change_made : (databases after : Contents) (name : List ℕ) (changes : Changes) (o : Option Database) → get databases name ≡ o
-    → option_map (λ d. insert databases name (changed changes d)) o ≡ Some after → after ≡ with_change (change_inside name changes o) databases
+    → option_map (λ d. insert databases name (database_after changes d)) o ≡ Some after → after ≡ with_change (change_inside name changes o) databases
 change_made databases after name changes None is h = absurd cc
 change_made databases after name (Writes ws) (Some db) is h = let e : after ≡ insert databases name (with_all db (writings_in db (additions ws.items))) = cc in rw is e
-change_made databases after name (Security v) (Some db) is h = let e : after ≡ insert databases name (changed (Security v) db) = cc in rw is e
+change_made databases after name (Security v) (Some db) is h = let e : after ≡ insert databases name (database_after (Security v) db) = cc in rw is e
 
 -- ---- after calls that only read
 

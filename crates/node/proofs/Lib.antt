@@ -2,4 +2,5 @@ pub mod Faults
 pub mod Comings
 pub mod Planned
 pub mod Tasks
+pub mod Denials
 pub mod Steps

@@ -7,10 +7,11 @@ use Rattle.store.specs.Database.{Database, DocumentWrite, history_at}
 use Rattle.store.specs.Writing.{additions, writings_in}
 use Rattle.store.specs.declared.fault.StoreFault.{StoreFault}
 use Rattle.tree.specs.Revision.{Revision}
-use Rattle.write.specs.Bulk.{Told, all_told, as_outcome, outcome_told, outcomes, told, writes_alone}
+use Rattle.write.specs.Bulk.{Told, all_told, as_outcome, outcome_told, outcomes, result_told, writes_alone}
 use Rattle.write.specs.BulkResults.{OfFirst, told_of}
 use Rattle.write.specs.Planning.{AreWrites, Plans, planned_writes}
 use Rattle.write.specs.Refusing.{IsOwn}
+use Rattle.write.specs.Terms.{terms_in}
 use Rattle.write.specs.declared.fault.WriteFault.{WriteFault}
 use Rattle.write.specs.declared.fault.WriteFault.TheVariants as write
 use Rattle.write.specs.declared.planned.Changes.{Changes}
@@ -57,7 +58,7 @@ pub edit_comes : (caller : Identity) (status : ℕ) (id : List ℕ) (db : Databa
     → edit_done caller status id r ≡ Ok (record { status = status; value = value; effect = effect_of planned.changes db })
 edit_comes caller status id db document (Err fault) planned rev value alone plans first made = absurd cc
 edit_comes caller status id db document (Ok w) planned rev value alone plans first made =
-    let o : outcome_told (Ok (Some w)) ≡ Made rev = first_told planned.results.items (told document (Ok (Some w))) rev plans.results first in
+    let o : outcome_told (Ok (Some w)) ≡ Made rev = first_told planned.results.items (result_told document (Ok (Some w))) rev plans.results first in
     let v : object (edit_members caller (Some id) (outcome_told (Ok (Some w)))) ≡ value = ap (λ (x : Outcome). object (edit_members caller (Some id) x)) o ∙ sym made in
     let e : appended (w ∷ []) ≡ effect_of planned.changes db = effect_alone planned.changes db w alone in
     λ i. Ok (record { status = status; value = v i; effect = e i })
@@ -69,12 +70,12 @@ effect_written (Writes vs) db ws are e = ap appended (sym e)
 effect_written (Security v) db ws are e = absurd are
 
 -- several documents come to what is planned
-pub bulk_comes : (caller : Identity) (bulk : Bulk) (db : Database) (value : Value) (planned : Planned)
-    → Plans db bulk.documents (outcomes bulk.new_edits (history_at db) bulk.documents) planned → AreWrites planned.changes
+pub bulk_comes : (caller : Identity) (bulk : Bulk) (name : List ℕ) (db : Database) (value : Value) (planned : Planned)
+    → Plans db bulk.documents (outcomes (terms_in caller name db) bulk.new_edits (history_at db) bulk.documents) planned → AreWrites planned.changes
     → value ≡ bulk_reply caller bulk.new_edits (map told_of planned.results.items)
-    → bulk_written caller bulk db ≡ Ok (record { status = 201; value = value; effect = effect_of planned.changes db })
-bulk_comes caller bulk db value planned plans are made =
-    let os = outcomes bulk.new_edits (history_at db) bulk.documents in
+    → bulk_written caller bulk name db ≡ Ok (record { status = 201; value = value; effect = effect_of planned.changes db })
+bulk_comes caller bulk name db value planned plans are made =
+    let os = outcomes (terms_in caller name db) bulk.new_edits (history_at db) bulk.documents in
     let v : bulk_reply caller bulk.new_edits (all_told bulk.documents os) ≡ value = ap (bulk_reply caller bulk.new_edits) (sym plans.results) ∙ sym made in
     let e = effect_written planned.changes db _ are plans.writes in
     λ i. Ok (record { status = 201; value = v i; effect = e i })

@@ -15,7 +15,7 @@ use Rattle.store.specs.Database.{Database, DocumentWrite, IsLater}
 use Rattle.store.specs.Lawful.{AreLawful, IsLawful}
 use Rattle.store.proofs.Laters.{later_by_all, later_itself}
 use Rattle.store.proofs.Lawfuls.{lawful_by_all, lawful_empty, lawful_insert, lawful_remove, lawful_secured}
-use Rattle.policy.specs.Security.{closed}
+use Rattle.policy.specs.Security.{closed_security}
 use Rattle.node.specs.Answer.{Change, Outcome, answer, creation, inside, judgement, kept, removal, settlement, with_change, with_effect_at}
 use Rattle.node.specs.Causes.{HasCause, LacksNumbers}
 use Rattle.node.specs.Effects.{Fits, IsLaterThan}
@@ -97,7 +97,7 @@ effect_lawful (secured v) db lawful fits = lawful_secured db v lawful
 
 change_lawful : (a : Contents) (m : Message) (change : Change) → IsMade a m change → AreLawful a → AreLawful (with_change change a)
 change_lawful a m kept made lawful = lawful
-change_lawful a m (creation name) made lawful = lawful_insert a name new_database lawful (lawful_empty closed)
+change_lawful a m (creation name) made lawful = lawful_insert a name new_database lawful (lawful_empty closed_security)
 change_lawful a m (removal name) made lawful = lawful_remove a name lawful
 change_lawful a m (inside name effect) made lawful =
     let db = made.1.0 in

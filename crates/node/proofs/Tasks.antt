@@ -12,7 +12,8 @@ use Rattle.policy.specs.declared.action.Action.TheVariants.{Read, WriteSecurity,
 use Rattle.store.specs.Contents.{AreAcceptable, Contents}
 use Rattle.store.specs.Database.{Database, DocumentWrite}
 use Rattle.store.specs.Lawful.{IsLawful}
-use Rattle.write.specs.Planning.{secured as secured_value}
+use Rattle.write.specs.Planning.{security_outcome}
+use Rattle.write.specs.Terms.{Terms, terms_in}
 use Rattle.write.specs.declared.fault.WriteFault.{WriteFault}
 use Rattle.write.specs.Admission.{admission}
 use Rattle.write.proofs.Acceptances.{all_acceptable, edit_acceptable}
@@ -26,11 +27,11 @@ use Rattle.node.specs.Effects.{Fits}
 use Rattle.api.specs.Paths.{database_name_in}
 use Rattle.node.specs.Work.{Done, Effect, Work, appended, nothing, read_work, secured, value_done}
 use Rattle.api.specs.Refusals.{next, there_or, true_or}
-use Rattle.node.specs.Works.{database_read, document_deleted, document_read, document_written, documents_written, deletion, done, edit_asked, bulk_written, edit_done, security_read, security_set, security_written}
+use Rattle.node.specs.Works.{change_list, database_read, difference_list, document_deleted, document_list, document_read, document_written, documents_written, deletion, done, edit_asked, bulk_written, edit_done, edit_in, security_read, security_set, security_written}
 use Rattle.api.specs.declared.method.RequestMethod.{RequestMethod}
 use Rattle.api.specs.declared.method.RequestMethod.TheVariants.{Get, Put, Post, Delete}
 use Rattle.api.specs.declared.page.Page.{Page}
-use Rattle.api.specs.declared.page.Page.TheVariants.{Welcome, AllDatabases, Database as DatabasePage, Security, BulkDocuments, Document}
+use Rattle.api.specs.declared.page.Page.TheVariants.{Welcome, AllDatabases, Database as DatabasePage, Security, BulkDocuments, AllDocuments, Changes, Differences, Document}
 use Rattle.api.specs.declared.refusal.Refusal.{Refusal}
 use Rattle.api.specs.declared.refusal.Refusal.TheVariants.{Body, Conflict, DatabaseName, NoDatabase, Exists, Path}
 
@@ -50,13 +51,13 @@ pub next_same : {A B : Type 0} (r : Result A Refusal) (f g : A → Result B Refu
 next_same (Ok a) f g agree = agree a refl
 next_same (Err refusal) f g agree = refl
 
-abbrev well : {A : Type 0} → A → Result A Refusal
+abbrev pub well : {A : Type 0} → A → Result A Refusal
 well a = Ok a
 
-same : {A : Type 0} (a b : A) → well a ≡ well b → a ≡ b
+pub same : {A : Type 0} (a b : A) → well a ≡ well b → a ≡ b
 same a b e = cc
 
-named : {A : Type 0} (r : Refusal) (o : Option A) (a : A) → there_or r o ≡ Ok a → o ≡ Some a
+pub named : {A : Type 0} (r : Refusal) (o : Option A) (a : A) → there_or r o ≡ Ok a → o ≡ Some a
 named r None a e = absurd cc
 named r (Some b) a e = cc
 
@@ -81,11 +82,11 @@ sound_reading read db d e =
 
 sound_security : (m : Message) → AreSound (security_written m)
 sound_security m db d e =
-    let k = went (plain m) (λ _. next (body_of m) (λ value. security_set (secured_value value))) d e in
-    let l = went (body_of m) (λ value. security_set (secured_value value)) d k.then in
+    let k = went (plain m) (λ _. next (body_of m) (λ value. security_set (security_outcome value))) d e in
+    let l = went (body_of m) (λ value. security_set (security_outcome value)) d k.then in
     by l.first (is_security l.first) refl l.then
   where
-    by : (v : Value) (b : Bool) → is_security v ≡ b → security_set (secured_value v) ≡ Ok d → IsSound db d
+    by : (v : Value) (b : Bool) → is_security v ≡ b → security_set (security_outcome v) ≡ Ok d → IsSound db d
     by v true is h =
         let P : Bool → Type 0 = λ b. security_set (cond b (Ok v) (Err BadDocument)) ≡ Ok d in
         subst (λ (x : Done). IsSound db x) (same {A = Done} (record { status = 200; value = done; effect = secured v }) d (subst P is h)) (record { status = inl refl; fits = λ lawful. is })
@@ -98,28 +99,30 @@ sound_edited : (caller : Identity) (status : ℕ) (id : List ℕ) (db : Database
 sound_edited caller status id db (Ok w) d good ok e = subst (λ (x : Done). IsSound db x) (same {A = Done} _ d e) (record { status = good; fits = λ lawful. ok w refl lawful })
 sound_edited caller status id db (Err fault) d good ok e = absurd cc
 
-edit_fits : (db : Database) (id : List ℕ) (query : Option Revision) (document : Value) (w : DocumentWrite) → admission db id query document ≡ Ok w → IsLawful db
+edit_fits : (terms : Terms) (db : Database) (id : List ℕ) (query : Option Revision) (document : Value) (w : DocumentWrite) → admission terms db id query document ≡ Ok w → IsLawful db
     → AreAcceptable db (w ∷ [])
-edit_fits db id query document w e lawful = (edit_acceptable db id query document w lawful e, tt)
+edit_fits terms db id query document w e lawful = (edit_acceptable terms db id query document w lawful e, tt)
 
-sound_document : (caller : Identity) (m : Message) → AreSound (document_written caller m)
-sound_document caller m db d e =
-    let k = went (edit_asked m) (λ asked. next (body_of m) (λ document. edit_done caller 201 asked.0 (admission db asked.0 asked.1 document))) d e in
-    let l = went (body_of m) (λ document. edit_done caller 201 k.first.0 (admission db k.first.0 k.first.1 document)) d k.then in
-    sound_edited caller 201 k.first.0 db (admission db k.first.0 k.first.1 l.first) d (inr refl) (λ w. edit_fits db k.first.0 k.first.1 l.first w) l.then
+sound_document : (caller : Identity) (m : Message) (name : List ℕ) → AreSound (document_written caller m name)
+sound_document caller m name db d e =
+    let terms = terms_in caller name db in
+    let k = went (edit_asked m) (λ asked. next (body_of m) (λ document. edit_in caller 201 name db asked.0 asked.1 document)) d e in
+    let l = went (body_of m) (λ document. edit_in caller 201 name db k.first.0 k.first.1 document) d k.then in
+    sound_edited caller 201 k.first.0 db (admission terms db k.first.0 k.first.1 l.first) d (inr refl) (λ w. edit_fits terms db k.first.0 k.first.1 l.first w) l.then
 
-sound_deletion : (caller : Identity) (m : Message) → AreSound (document_deleted caller m)
-sound_deletion caller m db d e =
-    let k = went (edit_asked m) (λ asked. next (there_or Conflict asked.1) (λ rev. edit_done caller 200 asked.0 (admission db asked.0 (Some rev) deletion))) d e in
-    let l = went (there_or Conflict k.first.1) (λ rev. edit_done caller 200 k.first.0 (admission db k.first.0 (Some rev) deletion)) d k.then in
-    sound_edited caller 200 k.first.0 db (admission db k.first.0 (Some l.first) deletion) d (inl refl) (λ w. edit_fits db k.first.0 (Some l.first) deletion w) l.then
+sound_deletion : (caller : Identity) (m : Message) (name : List ℕ) → AreSound (document_deleted caller m name)
+sound_deletion caller m name db d e =
+    let terms = terms_in caller name db in
+    let k = went (edit_asked m) (λ asked. next (there_or Conflict asked.1) (λ rev. edit_in caller 200 name db asked.0 (Some rev) deletion)) d e in
+    let l = went (there_or Conflict k.first.1) (λ rev. edit_in caller 200 name db k.first.0 (Some rev) deletion) d k.then in
+    sound_edited caller 200 k.first.0 db (admission terms db k.first.0 (Some l.first) deletion) d (inl refl) (λ w. edit_fits terms db k.first.0 (Some l.first) deletion w) l.then
 
-sound_documents : (caller : Identity) (m : Message) → AreSound (documents_written caller m)
-sound_documents caller m db d e =
-    let k = went (plain m) (λ _. next (body_of m) (λ value. next (there_or Body (bulk_in value)) (λ bulk. bulk_written caller bulk db))) d e in
-    let l = went (body_of m) (λ value. next (there_or Body (bulk_in value)) (λ bulk. bulk_written caller bulk db)) d k.then in
-    let b = went (there_or Body (bulk_in l.first)) (λ bulk. bulk_written caller bulk db) d l.then in
-    subst (λ (x : Done). IsSound db x) (same {A = Done} _ d b.then) (record { status = inr refl; fits = λ lawful. all_acceptable b.first.new_edits db b.first.documents lawful })
+sound_documents : (caller : Identity) (m : Message) (name : List ℕ) → AreSound (documents_written caller m name)
+sound_documents caller m name db d e =
+    let k = went (plain m) (λ _. next (body_of m) (λ value. next (there_or Body (bulk_in value)) (λ bulk. bulk_written caller bulk name db))) d e in
+    let l = went (body_of m) (λ value. next (there_or Body (bulk_in value)) (λ bulk. bulk_written caller bulk name db)) d k.then in
+    let b = went (there_or Body (bulk_in l.first)) (λ bulk. bulk_written caller bulk name db) d l.then in
+    subst (λ (x : Done). IsSound db x) (same {A = Done} _ d b.then) (record { status = inr refl; fits = λ lawful. all_acceptable (terms_in caller name db) b.first.new_edits db b.first.documents lawful })
 
 -- ---- what is asked
 
@@ -165,10 +168,13 @@ good DatabasePage (Some Put) caller m task e = good_created DatabasePage caller 
 good DatabasePage (Some Delete) caller m task e = good_removed DatabasePage caller m (plain m) task e
 good Security (Some Get) caller m task e = good_work Security Read m (λ name. read_work (security_read m)) task (λ name. sound_reading (security_read m)) e
 good Security (Some Put) caller m task e = good_work Security WriteSecurity m (λ name. security_written m) task (λ name. sound_security m) e
-good BulkDocuments (Some Post) caller m task e = good_work BulkDocuments WriteDocument m (λ name. documents_written caller m) task (λ name. sound_documents caller m) e
+good BulkDocuments (Some Post) caller m task e = good_work BulkDocuments WriteDocument m (λ name. documents_written caller m name) task (λ name. sound_documents caller m name) e
+good AllDocuments (Some Get) caller m task e = good_work AllDocuments Read m (λ name. read_work (document_list m)) task (λ name. sound_reading (document_list m)) e
+good Changes (Some Get) caller m task e = good_work Changes Read m (λ name. read_work (change_list m)) task (λ name. sound_reading (change_list m)) e
+good Differences (Some Post) caller m task e = good_work Differences Read m (λ name. read_work (difference_list m)) task (λ name. sound_reading (difference_list m)) e
 good Document (Some Get) caller m task e = good_work Document Read m (λ name. read_work (document_read m)) task (λ name. sound_reading (document_read m)) e
-good Document (Some Put) caller m task e = good_work Document WriteDocument m (λ name. document_written caller m) task (λ name. sound_document caller m) e
-good Document (Some Delete) caller m task e = good_work Document WriteDocument m (λ name. document_deleted caller m) task (λ name. sound_deletion caller m) e
+good Document (Some Put) caller m task e = good_work Document WriteDocument m (λ name. document_written caller m name) task (λ name. sound_document caller m name) e
+good Document (Some Delete) caller m task e = good_work Document WriteDocument m (λ name. document_deleted caller m name) task (λ name. sound_deletion caller m name) e
 good page method caller m task e = absurd cc
 
 -- ---- what comes of it
@@ -190,7 +196,7 @@ made_at a m name db nothing own there fits = tt
 made_at a m name db (appended ws) own there fits = (own, (db, there, fits))
 made_at a m name db (secured v) own there fits = (own, (db, there, fits))
 
-there : (caller : Identity) (action : Action) (o : Option Database) (db : Database) → entry caller action o ≡ Ok db → o ≡ Some db
+pub there : (caller : Identity) (action : Action) (o : Option Database) (db : Database) → entry caller action o ≡ Ok db → o ≡ Some db
 there caller action None db e = absurd cc
 there caller action (Some d) db e = let k = went (permission caller (verdict action caller d.security)) (λ _. Ok d) db e in ap Some (same d db k.then)
 

@@ -6,7 +6,7 @@ use Rattle.auth.specs.Callers.{Identity, Configuration}
 use Rattle.couch_http.specs.Message.{Message}
 use Rattle.couch_json.specs.Value.{Value, text, array, object, no_members, put}
 use Rattle.couch_json.specs.View.{items_of}
-use Rattle.policy.specs.Security.{closed}
+use Rattle.policy.specs.Security.{closed_security}
 use Rattle.policy.specs.Verdict.{verdict}
 use Rattle.policy.specs.declared.action.Action.{Action}
 use Rattle.policy.specs.declared.action.Action.TheVariants.{Administer, Read, WriteSecurity, WriteDocument}
@@ -18,11 +18,11 @@ use Rattle.api.specs.Paths.{database_name_in}
 use Rattle.api.specs.Refusals.{refusal_value, status_of, next, there_or, true_or}
 use Rattle.api.specs.Routing.{page_of}
 use Rattle.node.specs.Work.{Done, Effect, Work, appended, nothing, read_work, secured, with_effect}
-use Rattle.node.specs.Works.{database_read, document_deleted, document_read, document_written, documents_written, done, security_read, security_written}
+use Rattle.node.specs.Works.{change_list, database_read, difference_list, document_deleted, document_list, document_read, document_written, documents_written, done, security_read, security_written}
 use Rattle.api.specs.declared.method.RequestMethod.{RequestMethod}
 use Rattle.api.specs.declared.method.RequestMethod.TheVariants.{Get, Put, Post, Delete}
 use Rattle.api.specs.declared.page.Page.{Page}
-use Rattle.api.specs.declared.page.Page.TheVariants.{Welcome, AllDatabases, Database as DatabasePage, Security, BulkDocuments, Document}
+use Rattle.api.specs.declared.page.Page.TheVariants.{Welcome, AllDatabases, Database as DatabasePage, Security, BulkDocuments, AllDocuments, Changes, Differences, Document}
 use Rattle.api.specs.declared.refusal.Refusal.{Refusal}
 use Rattle.api.specs.declared.refusal.Refusal.TheVariants.{Path, Method, DatabaseName, NoDatabase, Exists}
 
@@ -92,7 +92,7 @@ permission caller (Some rule) = Err (denial caller rule)
 
 -- the caller may list, create and remove databases; no security object is asked
 abbrev pub administration : Identity → Result (Unit {0}) Refusal
-administration caller = permission caller (verdict Administer caller closed)
+administration caller = permission caller (verdict Administer caller closed_security)
 
 -- the name of the database that the path leads into
 abbrev pub database_name_of : Message → Result (List ℕ) Refusal
@@ -115,10 +115,13 @@ task_of DatabasePage (Some Put) caller m = admin_task caller m (λ name. created
 task_of DatabasePage (Some Delete) caller m = admin_task caller m (λ name. removed name (plain m))
 task_of Security (Some Get) caller m = work_task Read m (λ name. read_work (security_read m))
 task_of Security (Some Put) caller m = work_task WriteSecurity m (λ name. security_written m)
-task_of BulkDocuments (Some Post) caller m = work_task WriteDocument m (λ name. documents_written caller m)
+task_of BulkDocuments (Some Post) caller m = work_task WriteDocument m (λ name. documents_written caller m name)
+task_of AllDocuments (Some Get) caller m = work_task Read m (λ name. read_work (document_list m))
+task_of Changes (Some Get) caller m = work_task Read m (λ name. read_work (change_list m))
+task_of Differences (Some Post) caller m = work_task Read m (λ name. read_work (difference_list m))
 task_of Document (Some Get) caller m = work_task Read m (λ name. read_work (document_read m))
-task_of Document (Some Put) caller m = work_task WriteDocument m (λ name. document_written caller m)
-task_of Document (Some Delete) caller m = work_task WriteDocument m (λ name. document_deleted caller m)
+task_of Document (Some Put) caller m = work_task WriteDocument m (λ name. document_written caller m name)
+task_of Document (Some Delete) caller m = work_task WriteDocument m (λ name. document_deleted caller m name)
 task_of page method caller m = Err Method
 
 -- ---- what comes of it

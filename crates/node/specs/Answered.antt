@@ -16,7 +16,7 @@ use Rattle.write.specs.declared.planned.Changes.TheVariants.{Writes, Security as
 use Rattle.couch_json.specs.Value.{Value}
 use Rattle.node.specs.Answer as answer
 use Rattle.node.specs.Work.{Done, Effect, Work, appended, read_work, secured}
-use Rattle.node.specs.Works.{database_read, document_deleted, document_read, document_written, documents_written, security_read, security_written}
+use Rattle.node.specs.Works.{change_list, database_read, difference_list, document_deleted, document_list, document_read, document_written, documents_written, security_read, security_written}
 use Rattle.api.specs.declared.refusal.Refusal.{Refusal}
 use Rattle.node.specs.declared.answered.Answered.{Answered}
 use Rattle.node.specs.declared.answered.Change.{Change}
@@ -36,16 +36,19 @@ abbrev pub reading_of : Reading → Message → List ℕ → Database → Result
 reading_of read.Database m name = database_read m name
 reading_of read.Security m name = security_read m
 reading_of read.Document m name = document_read m
+reading_of read.Documents m name = document_list m
+reading_of read.Changes m name = change_list m
+reading_of read.Differences m name = difference_list m
 
-abbrev pub writing_of : Writing → Identity → Message → Work
-writing_of write.Security caller m = security_written m
-writing_of write.Documents caller m = documents_written caller m
-writing_of write.Document caller m = document_written caller m
-writing_of write.Deletion caller m = document_deleted caller m
+abbrev pub writing_of : Writing → Identity → Message → List ℕ → Work
+writing_of write.Security caller m name = security_written m
+writing_of write.Documents caller m name = documents_written caller m name
+writing_of write.Document caller m name = document_written caller m name
+writing_of write.Deletion caller m name = document_deleted caller m name
 
 abbrev pub work_of : WorkAsked → Identity → Message → List ℕ → Work
 work_of (asked.Read r) caller m name = read_work (reading_of r m name)
-work_of (asked.Write w) caller m name = writing_of w caller m
+work_of (asked.Write w) caller m name = writing_of w caller m name
 
 abbrev pub action_of_writing : Writing → Action
 action_of_writing write.Security = WriteSecurity

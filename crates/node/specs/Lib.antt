@@ -8,4 +8,5 @@ pub mod Coming
 pub mod Causes
 pub mod Step
 pub mod Effects
+pub mod Denials
 pub mod Runs

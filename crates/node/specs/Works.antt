@@ -4,7 +4,10 @@ use Rattle.std.specs.Prelude.{ℕ, List, [], ◌∷◌, Bool, true, Option, Some
 use Rattle.auth.specs.Callers.{Identity}
 use Rattle.couch_http.specs.Message.{Message}
 use Rattle.couch_json.specs.Value.{Value, truth, object, no_members, put}
+use Rattle.read.specs.Changes.{changes_in}
+use Rattle.read.specs.Differences.{revision_differences}
 use Rattle.read.specs.Information.{information}
+use Rattle.read.specs.Listing.{document_listing}
 use Rattle.read.specs.OpenRevisions.{open_revisions}
 use Rattle.read.specs.Shown.{document_at}
 use Rattle.read.specs.declared.fault.ReadFault.{ReadFault}
@@ -13,11 +16,13 @@ use Rattle.store.specs.Database.{Database, DocumentWrite, history_at}
 use Rattle.tree.specs.Revision.{Revision}
 use Rattle.write.specs.Admission.{admission}
 use Rattle.write.specs.Bulk.{DocumentOutcome, all_told, outcome_told, outcomes, writes_in}
-use Rattle.write.specs.Planning.{secured as secured_value}
+use Rattle.write.specs.Planning.{security_outcome}
+use Rattle.write.specs.Terms.{terms_in}
 use Rattle.write.specs.declared.fault.WriteFault.{WriteFault}
 use Rattle.api.specs.Asking.{body_of, plain}
 use Rattle.api.specs.Bulk.{Bulk, bulk_in}
 use Rattle.node.specs.Bulk.{bulk_reply, edit_members}
+use Rattle.api.specs.Listings.{changes_query, differences_in, listing_query}
 use Rattle.api.specs.Paths.{document_id_in}
 use Rattle.api.specs.Queries.{Asked, winner, revision, leaves, revisions, document_query, revision_query}
 use Rattle.node.specs.Edits.{refusal_of_edit}
@@ -46,7 +51,7 @@ security_set (Ok security) = Ok (record { status = 200; value = done; effect = s
 security_set (Err fault) = Err Body
 
 abbrev pub security_written : Message → Work
-security_written m db = next (plain m) (λ _. next (body_of m) (λ value. security_set (secured_value value)))
+security_written m db = next (plain m) (λ _. next (body_of m) (λ value. security_set (security_outcome value)))
 
 -- ---- reading a document
 
@@ -68,6 +73,21 @@ document_read m db =
     next (there_or Id (document_id_in m.path)) (λ id.
     next (there_or Query (document_query m.query)) (λ query. found (read_by id query.revs query.asked db)))
 
+-- ---- lists
+
+-- the documents by id, in the range that the query asks for
+abbrev pub document_list : Message → Database → Result Value Refusal
+document_list m db = next (there_or Query (listing_query m.query)) (λ range. Ok (document_listing range db))
+
+-- the documents that changed, by sequence
+abbrev pub change_list : Message → Database → Result Value Refusal
+change_list m db = next (there_or Query (changes_query m.query)) (λ range. Ok (changes_in range db))
+
+-- of the revisions that the body asks about, those that are not known
+abbrev pub difference_list : Message → Database → Result Value Refusal
+difference_list m db =
+    next (plain m) (λ _. next (body_of m) (λ value. next (there_or Body (differences_in value)) (λ asked. Ok (revision_differences asked db))))
+
 -- ---- writing a document
 
 -- what an edit comes to, whose reply has this status where it is accepted: the reply says of the document of this id what became of it
@@ -80,19 +100,23 @@ edit_done caller status id (Err fault) = Err (refusal_of_edit caller fault)
 abbrev pub edit_asked : Message → Result (List ℕ × Option Revision) Refusal
 edit_asked m = next (there_or Id (document_id_in m.path)) (λ id. next (there_or Query (revision_query m.query)) (λ rev. Ok (id, rev)))
 
-abbrev pub document_written : Identity → Message → Work
-document_written caller m db =
-    next (edit_asked m) (λ asked. next (body_of m) (λ document. edit_done caller 201 asked.0 (admission db asked.0 asked.1 document)))
+-- what the edit of a document comes to in the database of this name, on the terms for this caller
+abbrev pub edit_in : Identity → ℕ → List ℕ → Database → List ℕ → Option Revision → Value → Result Done Refusal
+edit_in caller status name db id rev document = edit_done caller status id (admission (terms_in caller name db) db id rev document)
+
+abbrev pub document_written : Identity → Message → List ℕ → Work
+document_written caller m name db =
+    next (edit_asked m) (λ asked. next (body_of m) (λ document. edit_in caller 201 name db asked.0 asked.1 document))
 
 -- the document that an edit which deletes has
 abbrev pub deletion : Value
 deletion = object (put (codes "_deleted") (truth true) no_members)
 
 -- a deletion has to name the revision that it deletes
-abbrev pub document_deleted : Identity → Message → Work
-document_deleted caller m db =
+abbrev pub document_deleted : Identity → Message → List ℕ → Work
+document_deleted caller m name db =
     next (edit_asked m) (λ asked.
-    next (there_or Conflict asked.1) (λ rev. edit_done caller 200 asked.0 (admission db asked.0 (Some rev) deletion)))
+    next (there_or Conflict asked.1) (λ rev. edit_in caller 200 name db asked.0 (Some rev) deletion))
 
 -- ---- writing several documents
 
@@ -101,9 +125,9 @@ abbrev pub bulk_done : Identity → Bulk → List DocumentOutcome → Done
 bulk_done caller bulk os =
     record { status = 201; value = bulk_reply caller bulk.new_edits (all_told bulk.documents os); effect = appended (writes_in os) }
 
-abbrev pub bulk_written : Identity → Bulk → Work
-bulk_written caller bulk db = Ok (bulk_done caller bulk (outcomes bulk.new_edits (history_at db) bulk.documents))
+abbrev pub bulk_written : Identity → Bulk → List ℕ → Work
+bulk_written caller bulk name db = Ok (bulk_done caller bulk (outcomes (terms_in caller name db) bulk.new_edits (history_at db) bulk.documents))
 
-abbrev pub documents_written : Identity → Message → Work
-documents_written caller m db =
-    next (plain m) (λ _. next (body_of m) (λ value. next (there_or Body (bulk_in value)) (λ bulk. bulk_written caller bulk db)))
+abbrev pub documents_written : Identity → Message → List ℕ → Work
+documents_written caller m name db =
+    next (plain m) (λ _. next (body_of m) (λ value. next (there_or Body (bulk_in value)) (λ bulk. bulk_written caller bulk name db)))

@@ -29,7 +29,7 @@ pub(crate) fn write_documents<S: Store>(
     request: &Request,
 ) -> Result<Worked, Stop>
     ensures comes { S.is_honest store.new → OfThere (S.contents store.old) name.now (λ db. Comes (done_of db) result
-        (documents_written caller.now (message_of request.now) db)) }
+        (documents_written caller.now (message_of request.now) name.now db)) }
     ensures may { S.is_honest store.new → OfThere (S.contents store.old) name.now (λ db. IfOk result (λ worked. MayBeMade worked.planned.changes db)) }
     ensures own { IfOk result (λ worked. worked.planned.database ≡ name.now) }
     ensures ends { IfErr result (Ends S.Store store.old store.new) }
@@ -52,13 +52,13 @@ fn write_bulk<S: Store>(
     asked: BulkAsked,
 ) -> Result<Worked, Stop>
     ensures comes { S.is_honest store.new → OfThere (S.contents store.old) name.now (λ db. Comes (done_of db) result
-        (bulk_written caller.now (bulk_asked asked) db)) }
+        (bulk_written caller.now (bulk_asked asked) name.now db)) }
     ensures may { S.is_honest store.new → OfThere (S.contents store.old) name.now (λ db. IfOk result (λ worked. MayBeMade worked.planned.changes db)) }
     ensures own { IfOk result (λ worked. worked.planned.database ≡ name.now) }
     ensures ends { IfErr result (Ends S.Store store.old store.new) }
     ensures reads { OnlyReads S.Store store.old store.new }
 {
-    let planned = match bulk(alloc, store, name, asked.documents, asked.new_edits) {
+    let planned = match bulk(alloc, store, name, caller, asked.documents, asked.new_edits) {
         Ok(planned) => planned,
         Err(WriteFault::Store(fault)) => return Err(Stop::from(fault)),
         Err(WriteFault::Memory) => return Err(Stop::NoRoom),

@@ -6,8 +6,7 @@ ghost use Rattle.couch_http.specs.Message.{message_of};
 ghost use Rattle.couch_json.specs.View.{view};
 ghost use Rattle.read.specs.Answers.{Answers};
 ghost use Rattle.store.specs.Calls.{OnlyReads};
-ghost use Rattle.tree.specs.DocumentId.{is_design_id, is_local_id};
-ghost use Rattle.write.specs.Admission.{admission};
+ghost use Rattle.tree.specs.DocumentId.{is_local_id};
 ghost use Rattle.write.specs.BulkResults.{IsMadeOutcome, OfFirst};
 ghost use Rattle.write.specs.Planning.{MayBeMade};
 ghost use Rattle.node.specs.Bulk.{made_members};
@@ -17,7 +16,7 @@ ghost use Rattle.node.specs.Causes.{Ends};
 ghost use Rattle.node.specs.Coming.{Comes, OfThere};
 ghost use Rattle.api.specs.Saying.{Says};
 ghost use Rattle.api.specs.Queried.{asked_of, query_of};
-ghost use Rattle.node.specs.Works.{deletion, document_deleted, document_read, document_written, edit_asked, edit_done, found, read_by};
+ghost use Rattle.node.specs.Works.{deletion, document_deleted, document_read, document_written, edit_asked, edit_in, found, read_by};
 
 use crate::answered::Worked;
 use crate::bulk_reply::{made_members, refusal_of_edit};
@@ -104,7 +103,7 @@ pub(crate) fn write_document<S: Store>(
     request: &Request,
 ) -> Result<Worked, Stop>
     ensures comes { S.is_honest store.new → OfThere (S.contents store.old) name.now (λ db. Comes (done_of db) result
-        (document_written caller.now (message_of request.now) db)) }
+        (document_written caller.now (message_of request.now) name.now db)) }
     ensures may { S.is_honest store.new → OfThere (S.contents store.old) name.now (λ db. IfOk result (λ worked. MayBeMade worked.planned.changes db)) }
     ensures own { IfOk result (λ worked. worked.planned.database ≡ name.now) }
     ensures ends { IfErr result (Ends S.Store store.old store.new) }
@@ -124,7 +123,7 @@ pub(crate) fn delete_document<S: Store>(
     request: &Request,
 ) -> Result<Worked, Stop>
     ensures comes { S.is_honest store.new → OfThere (S.contents store.old) name.now (λ db. Comes (done_of db) result
-        (document_deleted caller.now (message_of request.now) db)) }
+        (document_deleted caller.now (message_of request.now) name.now db)) }
     ensures may { S.is_honest store.new → OfThere (S.contents store.old) name.now (λ db. IfOk result (λ worked. MayBeMade worked.planned.changes db)) }
     ensures own { IfOk result (λ worked. worked.planned.database ≡ name.now) }
     ensures ends { IfErr result (Ends S.Store store.old store.new) }
@@ -141,7 +140,7 @@ pub(crate) fn delete_document<S: Store>(
 /// The document that is edited, and the revision that the query names, if any.
 fn edit_asked(alloc: Global, request: &Request) -> Result<(DocId, Option<Rev>), RequestFault>
     ensures says { Says (λ asked. asked) result (edit_asked (message_of request.now)) }
-    ensures plain { IfOk result (λ asked. (is_design_id asked.0 ≡ false) × (is_local_id asked.0 ≡ false)) }
+    ensures plain { IfOk result (λ asked. is_local_id asked.0 ≡ false) }
 {
     let id = document_id(alloc, &request.path)?;
     let rev = revision_query(alloc, request)?;
@@ -168,16 +167,15 @@ fn edit_document<S: Store>(
     document: Json,
     status: u16,
 ) -> Result<Worked, Stop>
-    requires design { is_design_id id.now ≡ false }
     requires local { is_local_id id.now ≡ false }
     ensures comes { S.is_honest store.new → OfThere (S.contents store.old) name.now (λ db. Comes (done_of db) result
-        (edit_done caller.now status id.now (admission db id.now rev (view document)))) }
+        (edit_in caller.now status name.now db id.now rev (view document))) }
     ensures may { S.is_honest store.new → OfThere (S.contents store.old) name.now (λ db. IfOk result (λ worked. MayBeMade worked.planned.changes db)) }
     ensures own { IfOk result (λ worked. worked.planned.database ≡ name.now) }
     ensures ends { IfErr result (Ends S.Store store.old store.new) }
     ensures reads { OnlyReads S.Store store.old store.new }
 {
-    let planned = match edit(alloc, store, name, id, rev, document) {
+    let planned = match edit(alloc, store, name, caller, id, rev, document) {
         Ok(planned) => planned,
         Err(WriteFault::Memory) => return Err(Stop::NoRoom),
         Err(WriteFault::Store(fault)) => return Err(Stop::from(fault)),

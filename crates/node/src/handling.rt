@@ -20,7 +20,8 @@ use crate::answered::{Answered, Change};
 use crate::databases::{create_database, list_databases, remove_database};
 use crate::stop::Stop;
 use crate::welcome::tell_welcome;
-use crate::working::{Reading, Work, Writing, do_work};
+use crate::working::Work::{Read, Write};
+use crate::working::{Reading, Writing, do_work};
 use api::{Page, Refusal, RequestMethod, Routes, caller, method_of};
 use auth::{Auth, Caller};
 use couch_http::{Fixed, HttpFault, Request, Response};
@@ -83,49 +84,34 @@ fn serve<S: Store>(
             remove_database(alloc, store, caller, request)
         }
         (Page::Database, Some(RequestMethod::Get)) => {
-            do_work(alloc, store, caller, Work::Read(Reading::Database), request)
+            do_work(alloc, store, caller, Read(Reading::Database), request)
         }
         (Page::Security, Some(RequestMethod::Get)) => {
-            do_work(alloc, store, caller, Work::Read(Reading::Security), request)
+            do_work(alloc, store, caller, Read(Reading::Security), request)
         }
         (Page::Security, Some(RequestMethod::Put)) => {
-            do_work(
-                alloc,
-                store,
-                caller,
-                Work::Write(Writing::Security),
-                request,
-            )
+            do_work(alloc, store, caller, Write(Writing::Security), request)
         }
         (Page::BulkDocuments, Some(RequestMethod::Post)) => {
-            do_work(
-                alloc,
-                store,
-                caller,
-                Work::Write(Writing::Documents),
-                request,
-            )
+            do_work(alloc, store, caller, Write(Writing::Documents), request)
+        }
+        (Page::AllDocuments, Some(RequestMethod::Get)) => {
+            do_work(alloc, store, caller, Read(Reading::Documents), request)
+        }
+        (Page::Changes, Some(RequestMethod::Get)) => {
+            do_work(alloc, store, caller, Read(Reading::Changes), request)
+        }
+        (Page::Differences, Some(RequestMethod::Post)) => {
+            do_work(alloc, store, caller, Read(Reading::Differences), request)
         }
         (Page::Document, Some(RequestMethod::Get)) => {
-            do_work(alloc, store, caller, Work::Read(Reading::Document), request)
+            do_work(alloc, store, caller, Read(Reading::Document), request)
         }
         (Page::Document, Some(RequestMethod::Put)) => {
-            do_work(
-                alloc,
-                store,
-                caller,
-                Work::Write(Writing::Document),
-                request,
-            )
+            do_work(alloc, store, caller, Write(Writing::Document), request)
         }
         (Page::Document, Some(RequestMethod::Delete)) => {
-            do_work(
-                alloc,
-                store,
-                caller,
-                Work::Write(Writing::Deletion),
-                request,
-            )
+            do_work(alloc, store, caller, Write(Writing::Deletion), request)
         }
         _ => Err(Stop::Refused(Refusal::Method)),
     }

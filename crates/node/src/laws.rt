@@ -1,15 +1,20 @@
 //! What follows from the definitions alone. Each function has an empty body: its contract is the law.
 
-ghost use Rattle.std.specs.Prelude.{◌≡◌, ◌≢◌, ◌≤◌, ℕ, List, Some};
+ghost use Rattle.std.specs.Prelude.{◌≡◌, ◌≢◌, ◌≤◌, ℕ, List, None, Some, Err, is_none, if◌then◌else◌};
 ghost use Rattle.std.specs.FinMap.{get};
-ghost use Rattle.auth.specs.Callers.{Configuration};
+ghost use Rattle.auth.specs.Callers.{Configuration, Identity};
 ghost use Rattle.couch_http.specs.Message.{Message};
+ghost use Rattle.policy.specs.declared.rule.Rule.{Rule};
 ghost use Rattle.store.specs.Contents.{Contents};
 ghost use Rattle.store.specs.Database.{Database};
 ghost use Rattle.store.specs.Lawful.{AreLawful};
-ghost use Rattle.node.specs.Answer.{answer, removal, with_change};
+ghost use Rattle.node.specs.Answer.{answer, judgement, removal, with_change};
+ghost use Rattle.node.specs.Denials.{IsDenied, rule_denied_by};
 ghost use Rattle.node.specs.Effects.{IsLaterThan, IsOfAll};
+ghost use Rattle.api.specs.Asking.{denial};
 ghost use Rattle.api.specs.Paths.{database_name_in};
+ghost use Rattle.api.specs.Refusals.{name_of_rule, rule_of, status_of};
+ghost use Rattle.api.specs.declared.refusal.Refusal.{Refusal};
 ghost use Rattle.node.specs.Runs.{AreServed, IsRun, Stepped, Steps, end_of, messages_of};
 
 /// No answer has a status that stands for a failure; one from 400 on changes nothing.
@@ -44,6 +49,20 @@ pub fn answers_keep_databases_lawful()
     ensures answers { (c : Configuration) (a : Contents) (m : Message) → AreLawful a → AreLawful (with_change (answer c a m).change a) }
     ensures runs { (c : Configuration) (before : Contents) (ss : List (Stepped Contents)) → IsRun (Steps c) before ss → AreLawful before
         → AreLawful (end_of before ss) }
+{}
+
+/// A denial is told rightly. Where no proxy vouches for the caller whom the headers name, the rule is
+/// that of the token. Else the caller is known, and the rule is the first that refuses: of the
+/// policy's conditions for the action, or of those of the edit of the document. A caller without a
+/// name is answered with 401, one with a name with 403, and no other refusal has one of these
+/// statuses.
+#[tactic(auto, using(crate::proofs::Denials::judged_denied, crate::proofs::Denials::denial_status, crate::proofs::Denials::other_status, crate::proofs::Denials::rule_told))]
+pub fn denials_name_the_first_refusing_rule()
+    ensures due { (c : Configuration) (databases : Contents) (m : Message) (refusal : Refusal) (rule : Rule) → judgement c databases m ≡ Err refusal
+        → rule_denied_by refusal ≡ Some rule → IsDenied c databases m refusal rule }
+    ensures statuses { (caller : Identity) (rule : Rule) → status_of (denial caller rule) ≡ (if is_none caller.name then 401 else 403) }
+    ensures others { (refusal : Refusal) → rule_denied_by refusal ≡ None → (status_of refusal ≢ 401) × (status_of refusal ≢ 403) }
+    ensures rule { (refusal : Refusal) (rule : Rule) → rule_denied_by refusal ≡ Some rule → rule_of refusal ≡ Some (name_of_rule rule) }
 {}
 
 /// Two runs of the same requests from the same databases in which all were served have the same

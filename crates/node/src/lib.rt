@@ -8,6 +8,7 @@ mod databases;
 mod document;
 mod handling;
 pub mod laws;
+mod lists;
 mod memory;
 mod node;
 mod security;

@@ -4,7 +4,7 @@ ghost use Rattle.std.specs.Prelude.{◌≡◌, IfOk, IfErr};
 ghost use Rattle.couch_http.specs.Message.{message_of};
 ghost use Rattle.couch_json.specs.View.{view};
 ghost use Rattle.store.specs.Calls.{OnlyReads};
-ghost use Rattle.write.specs.Planning.{MayBeMade, secured};
+ghost use Rattle.write.specs.Planning.{MayBeMade, security_outcome};
 ghost use Rattle.node.specs.Answered.{done_of};
 ghost use Rattle.node.specs.Causes.{Ends};
 ghost use Rattle.node.specs.Coming.{Comes, OfThere};
@@ -64,7 +64,7 @@ fn set_security<S: Store>(
     value: &Json,
 ) -> Result<Worked, Stop>
     ensures comes { S.is_honest store.new → OfThere (S.contents store.old) name.now (λ db. Comes (done_of db) result
-        (security_set (secured (view value.now)))) }
+        (security_set (security_outcome (view value.now)))) }
     ensures may { S.is_honest store.new → OfThere (S.contents store.old) name.now (λ db. IfOk result (λ worked. MayBeMade worked.planned.changes db)) }
     ensures own { IfOk result (λ worked. worked.planned.database ≡ name.now) }
     ensures ends { IfErr result (Ends S.Store store.old store.new) }

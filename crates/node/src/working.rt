@@ -16,6 +16,7 @@ use crate::answered::{Answered, Change, Worked};
 use crate::bulk::write_documents;
 use crate::databases::read_database;
 use crate::document::{delete_document, read_document, write_document};
+use crate::lists::{list_changes, list_documents, tell_differences};
 use crate::security::{read_security, write_security};
 use crate::stop::Stop;
 use api::{database_name, deny};
@@ -44,6 +45,12 @@ pub(crate) enum Reading {
     Security,
     /// A document.
     Document,
+    /// Its documents, by id.
+    Documents,
+    /// Its documents, by the sequence of their latest write.
+    Changes,
+    /// Which revisions it doesn't know.
+    Differences,
 }
 
 /// What is written to a database.
@@ -165,6 +172,9 @@ fn read<S: Store>(
         Reading::Database => read_database(alloc, store, name, request),
         Reading::Security => read_security(alloc, store, name, request),
         Reading::Document => read_document(alloc, store, name, request),
+        Reading::Documents => list_documents(alloc, store, name, request),
+        Reading::Changes => list_changes(alloc, store, name, request),
+        Reading::Differences => tell_differences(alloc, store, name, request),
     }
 }
 
@@ -178,7 +188,7 @@ fn write<S: Store>(
     request: &Request,
 ) -> Result<Worked, Stop>
     ensures comes { S.is_honest store.new → OfThere (S.contents store.old) name.now (λ db. Comes (done_of db) result
-        (writing_of writing caller.now (message_of request.now) db)) }
+        (writing_of writing caller.now (message_of request.now) name.now db)) }
     ensures may { S.is_honest store.new → OfThere (S.contents store.old) name.now (λ db. IfOk result (λ worked. MayBeMade worked.planned.changes db)) }
     ensures own { IfOk result (λ worked. worked.planned.database ≡ name.now) }
     ensures ends { IfErr result (Ends S.Store store.old store.new) }

@@ -39,8 +39,8 @@ abbrev pub admins_only : Value
 admins_only = object (member (codes "roles") (array (item (text admin_role) no_items)) no_members)
 
 -- the security object of a new database
-abbrev pub closed : Value
-closed = object (member (codes "admins") admins_only (member (codes "members") admins_only no_members))
+abbrev pub closed_security : Value
+closed_security = object (member (codes "admins") admins_only (member (codes "members") admins_only no_members))
 
 -- ---- whom a security object names
 

@@ -1,24 +1,24 @@
 ghost use Rattle.std.specs.Prelude.{◌≡◌, IfOk};
 ghost use Rattle.couch_json.specs.View.{view};
-ghost use Rattle.policy.specs.Security.{admins_only as admins_only_lem, closed as closed_lem};
+ghost use Rattle.policy.specs.Security.{admins_only, closed_security};
 
 use couch_json::{Got, Json, put_member};
 use std::alloc::Global;
 use std::collections::BTreeMap;
 
-/// The security object of a new database.
-pub(crate) fn closed(alloc: Global) -> Got<Json>
-    ensures { IfOk result (λ json. view json ≡ closed_lem) }
+/// Builds the security object of a new database.
+pub(crate) fn closed_value(alloc: Global) -> Got<Json>
+    ensures { IfOk result (λ json. view json ≡ closed_security) }
 {
     let mut groups = BTreeMap::new(alloc);
-    put_member(alloc, &mut groups, "admins", admins_only(alloc)?)?;
-    put_member(alloc, &mut groups, "members", admins_only(alloc)?)?;
+    put_member(alloc, &mut groups, "admins", build_admins(alloc)?)?;
+    put_member(alloc, &mut groups, "members", build_admins(alloc)?)?;
     Ok(Json::Object(groups))
 }
 
-/// The group of server admins alone.
-fn admins_only(alloc: Global) -> Got<Json>
-    ensures { IfOk result (λ json. view json ≡ admins_only_lem) }
+/// Builds the group of server admins alone.
+fn build_admins(alloc: Global) -> Got<Json>
+    ensures { IfOk result (λ json. view json ≡ admins_only) }
 {
     let mut roles = Vec::new(alloc);
     roles.push(Json::Text(String::from_str(alloc, "_admin")?))?;

@@ -1,6 +1,6 @@
 ghost use Rattle.std.specs.Prelude.{◌≡◌, option_map, option_to_list};
 ghost use Rattle.std.specs.List.{list_any};
-ghost use Rattle.auth.specs.Roles.{is_among as is_among_lem};
+ghost use Rattle.auth.specs.Roles.{is_among};
 ghost use Rattle.couch_json.specs.Parts.{text_in};
 ghost use Rattle.couch_json.specs.View.{view, items_view};
 ghost use Rattle.policy.specs.Security.{is_empty, is_in, is_name_among, is_vacant, item_texts, listed_in};
@@ -8,22 +8,22 @@ ghost use Rattle.policy.specs.Security.{is_empty, is_in, is_name_among, is_vacan
 use auth::Caller;
 use couch_json::Json;
 
-/// Whether the caller is in the group, by name or by a role.
+/// Tells whether the caller is in the group, by name or by a role.
 pub(crate) fn is_in(group: Option<&Json>, caller: &Caller) -> bool
     ensures { result ≡ is_in (option_map (λ v. view v.now) group.entry) caller.now }
 {
-    is_named(listed(group, "names"), caller) || has_role(listed(group, "roles"), caller)
+    is_named(list_under(group, "names"), caller) || has_role(list_under(group, "roles"), caller)
 }
 
-/// Whether the group names nobody.
+/// Tells whether the group names nobody.
 pub(crate) fn is_vacant(group: Option<&Json>) -> bool
     ensures { result ≡ is_vacant (option_map (λ v. view v.now) group.entry) }
 {
-    has_no_text(listed(group, "names")) && has_no_text(listed(group, "roles"))
+    has_no_text(list_under(group, "names")) && has_no_text(list_under(group, "roles"))
 }
 
 /// Returns the elements of the list that a group has under this name, or none.
-fn listed<'a>(group: Option<&'a Json>, part: &str) -> &'a [Json]
+fn list_under<'a>(group: Option<&'a Json>, part: &str) -> &'a [Json]
     ensures { item_texts (items_view result.now) ≡ listed_in (option_map (λ v. view v.now) group.entry) part.now }
 {
     let Some(group) = group else {
@@ -42,25 +42,25 @@ fn is_named(names: &[Json], caller: &Caller) -> bool
     ensures { result ≡ is_name_among caller.now.name (item_texts (items_view names.now)) }
 {
     match caller.name() {
-        Some(name) => is_among(names, name),
+        Some(name) => has_text(names, name),
         None => false,
     }
 }
 
 fn has_role(roles: &[Json], caller: &Caller) -> bool
-    ensures { result ≡ list_any (λ role. is_among_lem role (item_texts (items_view roles.now))) caller.now.roles }
+    ensures { result ≡ list_any (λ role. is_among role (item_texts (items_view roles.now))) caller.now.roles }
 {
     for role in caller.roles() {
-        if is_among(roles, role.as_str()) {
+        if has_text(roles, role.as_str()) {
             return true;
         }
     }
     false
 }
 
-/// Whether the text is one of the elements.
-fn is_among(items: &[Json], text: &str) -> bool
-    ensures { result ≡ is_among_lem text.now (item_texts (items_view items.now)) }
+/// Tells whether the text is one of the elements.
+fn has_text(items: &[Json], text: &str) -> bool
+    ensures { result ≡ is_among text.now (item_texts (items_view items.now)) }
 {
     for item in items {
         if is_same_text(item, text) {
@@ -71,7 +71,7 @@ fn is_among(items: &[Json], text: &str) -> bool
 }
 
 fn is_same_text(item: &Json, text: &str) -> bool
-    ensures { result ≡ is_among_lem text.now (option_to_list (text_in (view item.now))) }
+    ensures { result ≡ is_among text.now (option_to_list (text_in (view item.now))) }
 {
     match item.text() {
         Some(found) => found == text,

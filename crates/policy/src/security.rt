@@ -1,10 +1,10 @@
 ghost use Rattle.std.specs.Prelude.{◌≡◌, ◌↔◌, IfOk, IsErrOf, IsTrue, Option, option_map, option_copied, true, false, map, string_bytes};
 ghost use Rattle.couch_json.specs.View.{view, items_view};
 ghost use Rattle.auth.specs.Roles.{is_among};
-ghost use Rattle.policy.specs.Security.{closed as closed_lem, is_in, is_security, is_vacant, is_server_admin, is_database_admin, is_member, item_texts, listed_in};
+ghost use Rattle.policy.specs.Security.{closed_security, is_in, is_security, is_vacant, is_server_admin, is_database_admin, is_member, item_texts, listed_in};
 ghost use Rattle.policy.specs.declared.security.SecurityFault.TheVariants.{Memory};
 
-use crate::closed::closed;
+use crate::closed::closed_value;
 use crate::group::{is_in, is_vacant};
 use crate::shape::is_security;
 use auth::Caller;
@@ -58,7 +58,7 @@ impl Model for Security {
 }
 
 impl Security {
-    /// The security object that a value is, as a copy of its own.
+    /// Reads the security object that a value is, as a copy of its own.
     ///
     /// `Shape` comes exactly where the value is none; it is looked for before memory is taken.
     pub fn read(alloc: Global, value: &Json) -> Result<Security, SecurityFault>
@@ -72,15 +72,15 @@ impl Security {
         Ok(Security { json })
     }
 
-    /// The security object of a new database: server admins alone are its admins and members.
+    /// Builds the security object of a new database: server admins alone are its admins and members.
     pub fn closed(alloc: Global) -> Got<Security>
-        ensures { IfOk result (λ security. security ≡ closed_lem) }
+        ensures { IfOk result (λ security. security ≡ closed_security) }
     {
-        let json = closed(alloc)?;
+        let json = closed_value(alloc)?;
         Ok(Security { json })
     }
 
-    /// The value.
+    /// Returns the value.
     pub fn value(&self) -> &Json
         ensures value { view result.now ≡ self.now }
         ensures lawful { IsTrue (is_security self.now) }
@@ -88,7 +88,7 @@ impl Security {
         &self.json
     }
 
-    /// An equal security object of its own.
+    /// Copies the security object into memory of its own.
     pub fn copy(&self, alloc: Global) -> Got<Security>
         ensures { IfOk result (λ security. security ≡ self.now) }
     {
@@ -96,14 +96,14 @@ impl Security {
         Ok(Security { json })
     }
 
-    /// Whether the caller is an admin of the database: of the server, or by name or by a role.
+    /// Tells whether the caller is an admin of the database: of the server, or by name or by a role.
     pub fn is_database_admin(&self, caller: &Caller) -> bool
         ensures { result ≡ is_database_admin self.now caller.now }
     {
         is_server_admin(caller) || is_in(self.json.member("admins"), caller)
     }
 
-    /// Whether the caller is a member of the database: an admin of it, a member by name or by a
+    /// Tells whether the caller is a member of the database: an admin of it, a member by name or by a
     /// role, or anyone where no member is named.
     pub fn is_member(&self, caller: &Caller) -> bool
         ensures { result ≡ is_member self.now caller.now }
@@ -113,7 +113,7 @@ impl Security {
     }
 }
 
-/// Whether the caller is an admin of the server: has the role `_admin`.
+/// Tells whether the caller is an admin of the server: has the role `_admin`.
 pub fn is_server_admin(caller: &Caller) -> bool
     ensures { result ≡ is_server_admin caller.now }
 {

@@ -6,7 +6,7 @@ use crate::rule::Rule;
 use crate::security::{Security, is_server_admin};
 use auth::Caller;
 
-/// The first rule that refuses the action to the caller, or `None` where it is allowed.
+/// Returns the first rule that refuses the action to the caller, or `None` where it is allowed.
 ///
 /// Update rules are judged apart, and only where this answers `None`. For `Administer` the
 /// security object is not looked at.

@@ -43,3 +43,20 @@ Shows defined (Err Deleted) = defined ≡ Err Deleted
 Shows defined (Err BadQuery) = ⊥
 Shows defined (Err (Store fault)) = ⊥
 Shows defined (Err Memory) = ⊤
+
+-- when the store stops a reader: there is no such database, as `absent` says of an honest one, or a fault that has a cause
+abbrev pub StopsBy : {S : Type 0} → Ghosts S → S → S → Type 0 → StoreFault → Type 0
+StopsBy g old new absent store.NoDatabase = g.is_honest new → absent
+StopsBy g old new absent store.Failed = HasFailed (g.fault_count old) (g.fault_count new)
+StopsBy g old new absent store.Damaged = ¬ (g.is_honest new)
+StopsBy g old new absent store.Memory = ⊥
+StopsBy g old new absent store.Exists = ⊥
+StopsBy g old new absent store.Full = ⊥
+
+-- what has to hold where a part of a reader's work ends so, which refuses nothing of its own
+abbrev pub Stops : {S : Type 0} → Ghosts S → S → S → Type 0 → ReadFault → Type 0
+Stops g old new absent Missing = ⊥
+Stops g old new absent Deleted = ⊥
+Stops g old new absent BadQuery = ⊥
+Stops g old new absent (Store fault) = StopsBy g old new absent fault
+Stops g old new absent Memory = ⊤

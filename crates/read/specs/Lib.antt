@@ -1,5 +1,9 @@
 pub mod Answers
 pub mod Information
+pub mod Listing
+pub mod Changes
+pub mod Differences
+pub mod DifferencesAsked
 pub mod OpenRevisions
 pub mod Path
 pub mod Shown

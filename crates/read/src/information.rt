@@ -1,18 +1,18 @@
-ghost use Rattle.std.specs.Prelude.{◌≡◌, ◌≢◌, ◌<◌, ◌^◌, IfOk, IfErr, Ok, option_map, pos};
+ghost use Rattle.std.specs.Prelude.{◌≡◌, ◌≢◌, ◌<◌, ◌^◌, IfOk, IfErr, Ok, option_map};
 ghost use Rattle.std.specs.FinMap as map;
-ghost use Rattle.couch_json.specs.Value.{whole};
 ghost use Rattle.couch_json.specs.View.{view};
 ghost use Rattle.store.specs.Calls.{OnlyReads};
 ghost use Rattle.read.specs.Answers.{Answers};
 ghost use Rattle.read.specs.Information.{information, information_by};
 
 use crate::fault::ReadFault;
-use couch_json::{Got, Json, Number, put_member};
+use crate::numbers::whole;
+use couch_json::{Got, Json, put_member};
 use std::alloc::Global;
 use std::collections::BTreeMap;
 use store::{DbName, DocumentCounts, SeqRange, Store};
 
-/// What a database says of itself: an object with `db_name`, `doc_count`, `doc_del_count` and
+/// Tells what a database says of itself: an object with `db_name`, `doc_count`, `doc_del_count` and
 /// `update_seq`. The counts are of documents by winner, not deleted and deleted.
 ///
 /// `Store(NoDatabase)` comes exactly where there is no database of this name; else nothing but
@@ -36,6 +36,7 @@ pub fn info<S: Store>(alloc: Global, store: &mut S, db: &DbName) -> Result<Json,
     }
 }
 
+/// Builds that object.
 fn build_information(alloc: Global, db: &DbName, counts: DocumentCounts, sequence: u64) -> Got<Json>
     requires documents { counts.documents < 2 ^ 63 }
     requires deleted { counts.deleted < 2 ^ 63 }
@@ -49,11 +50,4 @@ fn build_information(alloc: Global, db: &DbName, counts: DocumentCounts, sequenc
     put_member(alloc, &mut members, "doc_del_count", whole(counts.deleted))?;
     put_member(alloc, &mut members, "update_seq", whole(sequence))?;
     Ok(Json::Object(members))
-}
-
-fn whole(number: u64) -> Json
-    requires { number < 2 ^ 63 }
-    ensures { view result ≡ whole (pos number) }
-{
-    Json::Whole(Number::from(number as i64))
 }

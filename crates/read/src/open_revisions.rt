@@ -73,7 +73,13 @@ fn elements(
 }
 
 /// What is said of one revision.
-fn build_open_revision(alloc: Global, history: &History, id: &DocId, rev: &Rev, revs: bool) -> Got<Json>
+fn build_open_revision(
+    alloc: Global,
+    history: &History,
+    id: &DocId,
+    rev: &Rev,
+    revs: bool,
+) -> Got<Json>
     ensures { IfOk result (λ value. view value ≡ open_revision id.now history.now revs rev.now) }
 {
     build_element(alloc, rev, show(alloc, history, id, rev, revs)?)

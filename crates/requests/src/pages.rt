@@ -3,7 +3,7 @@ use crate::setup::Setup;
 use crate::texts::{answer, first_word, text_of};
 use rows::{Kind, RowsFault};
 use std::alloc::Global;
-use store::{DbName, IdRange, PageById, PageBySeq, PlainStore, SeqRange, Store};
+use store::{DbName, IdRange, PageById, PageBySeq, PlainStore, RangeKey, SeqRange, Store};
 
 /// Pages of the store of one node, which its users write by requests: `USER METHOD TARGET BODY`.
 ///
@@ -103,10 +103,10 @@ fn number_behind(words: &str, name: &str) -> Option<u64> {
     word_behind(words, name)?.parse::<u64>().ok()
 }
 
-/// Returns a copy of the word behind a name and its blank, where that is there.
-fn text_behind(alloc: Global, words: &str, name: &str) -> Result<Option<String>, RowsFault> {
+/// Returns the word behind a name and its blank as a key, where that is there.
+fn key_behind(alloc: Global, words: &str, name: &str) -> Result<Option<RangeKey>, RowsFault> {
     match word_behind(words, name) {
-        Some(word) => Ok(Some(String::from_str(alloc, word)?)),
+        Some(word) => Ok(Some(RangeKey::new(String::from_str(alloc, word)?))),
         None => Ok(None),
     }
 }
@@ -123,14 +123,14 @@ fn sequence_range(words: &str) -> SeqRange {
 
 /// Reads the words of a range of ids.
 fn id_range(alloc: Global, words: &str) -> Result<IdRange, RowsFault> {
-    let before = text_behind(alloc, words, "before ")?;
+    let before = key_behind(alloc, words, "before ")?;
     let inclusive_end = before.is_none();
     let end = match before {
         Some(end) => Some(end),
-        None => text_behind(alloc, words, "end ")?,
+        None => key_behind(alloc, words, "end ")?,
     };
     Ok(IdRange {
-        start: text_behind(alloc, words, "start ")?,
+        start: key_behind(alloc, words, "start ")?,
         end,
         inclusive_end,
         descending: has_word(words, "down"),

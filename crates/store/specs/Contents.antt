@@ -3,7 +3,7 @@
 use Rattle.std.specs.Prelude.{◌≡◌, ◌≤◌, ℕ, List, [], ◌∷◌, true, Option, Some, None, Ok, ⊤}
 use Rattle.couch_json.specs.Value.{Value, depth}
 use Rattle.couch_json.specs.Parts.{is_object}
-use Rattle.policy.specs.Security.{closed}
+use Rattle.policy.specs.Security.{closed_security}
 use Rattle.tree.specs.History.{placement}
 use Rattle.tree.specs.declared.placement.Placed.TheVariants.{Added}
 use Rattle.store.specs.Database.{TextMap, Database, DocumentWrite, history_at, with_one, empty_database}
@@ -13,7 +13,7 @@ Contents = TextMap Database
 
 -- a new database: no document, and closed to all but server admins
 abbrev pub new_database : Database
-new_database = empty_database closed
+new_database = empty_database closed_security
 
 -- the database's security object
 abbrev pub with_security : Database → Value → Database

@@ -1,6 +1,6 @@
 -- The rows that a database is listed by, in the order of its writes and by id, cut by a range, with the counts of the database where they are asked for.
 -- CouchDB manual, api/database/changes (`_changes`: `since`, `limit`, `style`, `last_seq`), api/database/bulk-api (`_all_docs`: `startkey`, `endkey`, `inclusive_end`, `descending`, `skip`, `limit`, `offset`, `total_rows`) and api/database/common (`doc_count`, `doc_del_count`, `update_seq`); that ids are ordered by their bytes is this server's own.
-use Rattle.std.specs.Prelude.{◌≡◌, ◌<◌, ℕ, ◌+◌, ◌-◌, Bool, true, false, not, ◌||◌, List, [], ◌∷◌, map, filter, length, min, nat_lt, take, drop, reverse, string_bytes, Option, Some, None, option_map, if◌then◌else◌}
+use Rattle.std.specs.Prelude.{◌≡◌, ◌<◌, ℕ, ◌+◌, ◌-◌, Bool, true, false, not, ◌||◌, List, [], ◌∷◌, map, filter, length, min, nat_lt, take, drop, reverse, Option, Some, None, option_map, if◌then◌else◌}
 use Rattle.std.specs.List.{count_by}
 use Rattle.std.specs.Option.{option_to_list}
 use Rattle.std.specs.Ordering.{nat_cmp, is_lt}
@@ -148,10 +148,10 @@ is_after_end_of descending inclusive (Some end) id =
     if inclusive then comes_before descending end id else not (comes_before descending id end)
 
 abbrev pub is_before_start : IdRange → List ℕ → Bool
-is_before_start range id = is_before_start_of range.descending (option_map string_bytes range.start) id
+is_before_start range id = is_before_start_of range.descending range.start id
 
 abbrev pub is_after_end : IdRange → List ℕ → Bool
-is_after_end range id = is_after_end_of range.descending range.inclusive_end (option_map string_bytes range.end) id
+is_after_end range id = is_after_end_of range.descending range.inclusive_end range.end id
 
 abbrev pub is_within : IdRange → List ℕ → Bool
 is_within range id = not (is_before_start range id || is_after_end range id)

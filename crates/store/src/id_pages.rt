@@ -114,7 +114,7 @@ fn precedes_start(range: &IdRange, id: &DocId) -> bool
     ensures { result ≡ is_before_start range.now id.now }
 {
     match &range.start {
-        Some(start) => precedes(range.descending, id.as_str(), start),
+        Some(start) => precedes(range.descending, id.as_str(), start.as_str()),
         None => false,
     }
 }
@@ -123,8 +123,10 @@ fn passes_end(range: &IdRange, id: &DocId) -> bool
     ensures { result ≡ is_after_end range.now id.now }
 {
     match &range.end {
-        Some(end) if range.inclusive_end => precedes(range.descending, end, id.as_str()),
-        Some(end) => !precedes(range.descending, id.as_str(), end),
+        Some(end) if range.inclusive_end => {
+            precedes(range.descending, end.as_str(), id.as_str())
+        }
+        Some(end) => !precedes(range.descending, id.as_str(), end.as_str()),
         None => false,
     }
 }

@@ -1,3 +1,4 @@
+use crate::range_key::RangeKey;
 use tree::{DocId, Rev};
 
 /// Which rows of a listing by sequence are wanted.
@@ -55,9 +56,9 @@ pub struct PageBySeq {
 #[derive(Debug, Drop)]
 pub struct IdRange {
     /// Where the range starts in the direction of the listing; `None` for the first row.
-    pub start: Option<String>,
+    pub start: Option<RangeKey>,
     /// Where it ends; `None` for the last row.
-    pub end: Option<String>,
+    pub end: Option<RangeKey>,
     /// Whether a row whose id is `end` belongs to it.
     pub inclusive_end: bool,
     /// Whether the listing goes down.

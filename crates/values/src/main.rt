@@ -1,5 +1,5 @@
 //! Plays rows on the crates that hold no database: JSON, selectors, callers, streams of requests,
-//! revisions, histories and verdicts. A file's ending says which kind its rows are of.
+//! revisions, histories, verdicts and update rules. A file's ending says which kind its rows are of.
 #![tactic(auto)]
 
 mod callers;
@@ -11,11 +11,13 @@ mod numbers;
 mod paths;
 mod replies;
 mod revisions;
+mod rules;
 mod security;
 mod selectors;
 mod streams;
 mod texts;
 mod tokens;
+mod users;
 
 use rows::{Report, RowsFault, file_names, play};
 use std::alloc::Global;
@@ -87,6 +89,7 @@ fn play_file(alloc: Global, name: &str, text: &str, report: &mut Report) -> Resu
             &mut revisions::Revisions::new(alloc),
             report,
         ),
+        "rules" => play(alloc, name, text, &mut rules::Rules::new(alloc), report),
         "security" => play(
             alloc,
             name,

@@ -1,5 +1,6 @@
 use crate::texts::{answer, canonical, first_word, text_of, value_of};
-use auth::{Auth, Caller};
+use crate::users::Users;
+use auth::Caller;
 use policy::{Action, Rule, Security, SecurityFault, refusal};
 use rows::{Kind, RowsFault};
 use std::alloc::Global;
@@ -11,7 +12,7 @@ use std::alloc::Global;
 #[derive(Drop)]
 pub struct Verdicts {
     alloc: Global,
-    users: Vec<(String, String)>,
+    users: Users,
 }
 
 impl Verdicts {
@@ -19,27 +20,14 @@ impl Verdicts {
     pub fn new(alloc: Global) -> Verdicts {
         Verdicts {
             alloc,
-            users: Vec::new(alloc),
+            users: Users::new(alloc),
         }
-    }
-
-    /// Returns the caller of this name, if the head has it.
-    fn caller(&self, name: &str) -> Result<Option<Caller>, RowsFault> {
-        if name == "anybody" {
-            return Ok(Some(Caller::anonymous(self.alloc)));
-        }
-        for user in &self.users {
-            if user.0.as_str() == name {
-                return caller_of(self.alloc, name, user.1.as_str());
-            }
-        }
-        Ok(None)
     }
 
     /// Answers what the rules say of an action.
     fn judge(&self, who: &str, value: &str) -> Result<Vec<u8>, RowsFault> {
         let (name, action) = first_word(who);
-        let Some(caller) = self.caller(name)? else {
+        let Some(caller) = self.users.caller(name)? else {
             return answer(self.alloc, "the head has no such user");
         };
         let Some(action) = action_of(action) else {
@@ -68,28 +56,6 @@ impl Verdicts {
     }
 }
 
-/// Returns a caller for whom a proxy vouches; `None` where the name is none.
-fn caller_of(alloc: Global, name: &str, roles: &str) -> Result<Option<Caller>, RowsFault> {
-    let auth = Auth::new(alloc, b"Jefe", &[])?;
-    let token = auth.token(name)?;
-    let mut headers = Vec::new(alloc);
-    headers.push(header(alloc, "X-Auth-CouchDB-UserName", name)?)?;
-    headers.push(header(alloc, "X-Auth-CouchDB-Roles", roles)?)?;
-    headers.push(header(alloc, "X-Auth-CouchDB-Token", token.as_str())?)?;
-    match auth.caller(&headers) {
-        Ok(caller) => Ok(Some(caller)),
-        Err(_) => Ok(None),
-    }
-}
-
-/// Returns a header.
-fn header(alloc: Global, name: &str, value: &str) -> Result<(String, String), RowsFault> {
-    Ok((
-        String::from_str(alloc, name)?,
-        String::from_str(alloc, value)?,
-    ))
-}
-
 /// Returns the action of a word.
 fn action_of(word: &str) -> Option<Action> {
     match word {
@@ -116,14 +82,7 @@ fn verdict(action: Action, caller: &Caller, security: &Security) -> &'static str
 
 impl Kind for Verdicts {
     fn set(&mut self, line: &str) -> Result<bool, RowsFault> {
-        let Some(rest) = line.strip_prefix("user ") else {
-            return Ok(false);
-        };
-        let (name, roles) = first_word(rest);
-        let name = String::from_str(self.alloc, name)?;
-        let roles = String::from_str(self.alloc, roles)?;
-        self.users.push((name, roles))?;
-        Ok(true)
+        self.users.set(line)
     }
 
     fn answer(&mut self, question: &[u8]) -> Result<Vec<u8>, RowsFault> {

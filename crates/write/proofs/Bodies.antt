@@ -1,5 +1,5 @@
 -- What is left of an object's members without the special ones, and what a body that was accepted is.
-use Rattle.std.proofs.Common.{◌≡◌, ◌≤◌, ℕ, Bool, true, false, not, cond, ◌&&◌, List, [], ◌∷◌, filter, String, Global, Option, Some, None, option_map, option_and_then, string_bytes, nat_le, refl, ap, arith}
+use Rattle.std.proofs.Common.{◌≡◌, ◌≤◌, ℕ, Bool, true, false, not, cond, ◌&&◌, List, [], ◌∷◌, filter, String, Global, Option, Some, None, option_map, option_and_then, string_bytes, nat_le, refl, ap, sym, subst, arith}
 use Rattle.std.proofs.lemmas.Bool.Decides.{nat_tests}
 use Rattle.couch_json.specs.Parts.{is_object}
 use Rattle.couch_json.specs.Value.{Value, null, truth, whole, text, array, object, Members, member, depth}
@@ -7,7 +7,7 @@ use Rattle.couch_json.specs.View.{view, members_view}
 use Rattle.couch_json.specs.declared.value.Json.{Json}
 use Rattle.store.specs.Contents.{max_body_depth}
 use Rattle.tree.specs.Revision.{Revision}
-use Rattle.write.specs.Document.{are_allowed, body_if, body_in, is_special, said, sent_in, sent_with, without_special}
+use Rattle.write.specs.Document.{are_allowed, body_for, body_if, body_in, is_body_for, is_special, sent_in, sent_with, without_special, words_in}
 use Rattle.write.specs.declared.document.Sent.{Sent}
 
 abbrev pub Entry : Type 0
@@ -65,5 +65,11 @@ with_words : (words : Option (Option Revision × Bool)) (body : Option Value) (s
 with_words None body s are_bodies h = absurd cc
 with_words (Some w) body s are_bodies h = with_body w body s are_bodies h
 
+suited : (id : List ℕ) (plain : Option Value) (body : Value) → ((b : Value) → plain ≡ Some b → IsBody b)
+    → option_and_then (λ b. body_if (is_body_for id b) b) plain ≡ Some body → IsBody body
+suited id None body are_bodies h = absurd cc
+suited id (Some b) body are_bodies h = subst IsBody (sym (taken (is_body_for id b) b body h).0) (are_bodies b refl)
+
 pub sent_in-Some : (id : List ℕ) (document : Value) (s : Sent) → sent_in id document ≡ Some s → IsBody s.body
-sent_in-Some id document s h = with_words (said id document) (body_in document) s (body_in-Some document) h
+sent_in-Some id document s h =
+    with_words (words_in id document) (body_for id document) s (λ b e. suited id (body_in document) b (body_in-Some document) e) h

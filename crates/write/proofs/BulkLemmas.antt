@@ -12,10 +12,11 @@ use Rattle.couch_json.specs.Value.{Value}
 use Rattle.store.specs.Database.{DocumentWrite}
 use Rattle.store.specs.Writing.{addition_of, written_in}
 use Rattle.store.specs.declared.write.Write.{Write}
-use Rattle.write.specs.Admission.{with_taken}
-use Rattle.write.specs.Bulk.{Histories, after, judged, with_write_in}
+use Rattle.write.specs.Admission.{history_with}
+use Rattle.write.specs.Bulk.{Histories, after, document_outcome, with_write_in}
 use Rattle.write.specs.BulkResults.{brought, held_or, seen_in, with_history}
 use Rattle.write.proofs.Names.{judged-named}
+use Rattle.write.specs.Terms.{Terms}
 
 or_cond : (b : Bool) (stored h : HistoryContent) (o : Option HistoryContent) → held_or stored (cond b (Some h) o) ≡ cond b h (held_or stored o)
 or_cond true stored h o = refl
@@ -80,7 +81,7 @@ put_written : (old : Histories) (w : DocumentWrite) → with_history old w.id (w
 put_written old w = λ i k. write_at old w k (bytes_eq w.id k) refl i
 
 put_taken : (old : Histories) (id : List ℕ) (w : Option DocumentWrite) → ((v : DocumentWrite) → w ≡ Some v → v.id ≡ id)
-    → with_history old id (with_taken (old id) w) ≡ after old (Ok w)
+    → with_history old id (history_with (old id) w) ≡ after old (Ok w)
 put_taken old id None own = put_same old id
 put_taken old id (Some w) own =
     ap (λ (k : List ℕ). with_history old k (with_write (old k) w.write)) (sym (own w refl)) ∙ put_written old w
@@ -92,21 +93,21 @@ pub brought_at : (old : Histories) (id : List ℕ) (h : HistoryContent) (w : Opt
 brought_at old id h None is own = refl
 brought_at old id h (Some w) is own = ap (λ (g : HistoryContent). Some (written_in g (addition_of w))) (is ∙ ap old (sym (own (written_in h (addition_of w)) refl)))
 
-pub judged_seen : (new_edits : Bool) (old : Histories) (id : List ℕ) (h : HistoryContent) (document : Value) (w : Option Write) → h ≡ old id
-    → judged new_edits id h document ≡ Ok (option_map (λ (x : Write). written_in h (addition_of x)) w)
-    → judged new_edits id (old id) document ≡ Ok (option_map (brought old) w)
-judged_seen new_edits old id h document w is became =
-    ap (λ g. judged new_edits id g document) (sym is) ∙ became
-    ∙ ap Ok (brought_at old id h w is (λ v e. judged-named new_edits id h document v (became ∙ ap Ok e)))
+pub judged_seen : (terms : Terms) (new_edits : Bool) (old : Histories) (id : List ℕ) (h : HistoryContent) (document : Value) (w : Option Write) → h ≡ old id
+    → document_outcome terms new_edits id h document ≡ Ok (option_map (λ (x : Write). written_in h (addition_of x)) w)
+    → document_outcome terms new_edits id (old id) document ≡ Ok (option_map (brought old) w)
+judged_seen terms new_edits old id h document w is became =
+    ap (λ g. document_outcome terms new_edits id g document) (sym is) ∙ became
+    ∙ ap Ok (brought_at old id h w is (λ v e. judged-named terms new_edits id h document v (became ∙ ap Ok e)))
 
-pub seen_after : (new_edits : Bool) (old mid new : Histories) (id : List ℕ) (h k : HistoryContent) (document : Value) (w : Option Write)
+pub seen_after : (terms : Terms) (new_edits : Bool) (old mid new : Histories) (id : List ℕ) (h k : HistoryContent) (document : Value) (w : Option Write)
     → h ≡ old id → ((g : HistoryContent) → with_history mid id g ≡ with_history old id g) → new ≡ with_history mid id k
-    → judged new_edits id h document ≡ Ok (option_map (λ (x : Write). written_in h (addition_of x)) w)
-    → k ≡ with_taken h (option_map (λ (x : Write). written_in h (addition_of x)) w)
+    → document_outcome terms new_edits id h document ≡ Ok (option_map (λ (x : Write). written_in h (addition_of x)) w)
+    → k ≡ history_with h (option_map (λ (x : Write). written_in h (addition_of x)) w)
     → new ≡ after old (Ok (option_map (brought old) w))
-seen_after new_edits old mid new id h k document w is others put became taken_in =
-    let named = λ (v : DocumentWrite) (e : option_map (λ (x : Write). written_in h (addition_of x)) w ≡ Some v). judged-named new_edits id h document v (became ∙ ap Ok e) in
-    put ∙ others k ∙ ap (with_history old id) (taken_in ∙ ap (λ g. with_taken g (option_map (λ (x : Write). written_in h (addition_of x)) w)) is)
+seen_after terms new_edits old mid new id h k document w is others put became taken_in =
+    let named = λ (v : DocumentWrite) (e : option_map (λ (x : Write). written_in h (addition_of x)) w ≡ Some v). judged-named terms new_edits id h document v (became ∙ ap Ok e) in
+    put ∙ others k ∙ ap (with_history old id) (taken_in ∙ ap (λ g. history_with g (option_map (λ (x : Write). written_in h (addition_of x)) w)) is)
     ∙ put_taken old id (option_map (λ (x : Write). written_in h (addition_of x)) w) named
     ∙ ap (λ o. after old (Ok o)) (brought_at old id h w is named)
 

@@ -18,7 +18,7 @@ use Rattle.store.specs.Database.{Database, history_at}
 use Rattle.store.specs.Lawful.{IsLawful}
 use Rattle.store.proofs.Lawfuls.{writes_behind}
 use Rattle.tree.specs.History.{behind}
-use Rattle.write.specs.Admission.{base, extended}
+use Rattle.write.specs.Admission.{base, extended_leaf}
 
 -- ---- the path behind a known revision
 
@@ -90,7 +90,7 @@ leaf_known false childless e = e
 followed : (ws : List Write) (r : Revision) (parent : Option Revision) → AreWritten ws → is_known (content_of ws) r ≡ true → Some (Some r) ≡ Some parent → GoesOn (content_of ws) parent
 followed ws r parent lawful known is = subst (GoesOn (content_of ws)) (inside (Some r) parent is) (known_goes_on ws r lawful known)
 
-extended_goes_on : (ws : List Write) (o parent : Option Revision) → AreWritten ws → extended (content_of ws) o ≡ Some parent → GoesOn (content_of ws) parent
+extended_goes_on : (ws : List Write) (o parent : Option Revision) → AreWritten ws → extended_leaf (content_of ws) o ≡ Some parent → GoesOn (content_of ws) parent
 extended_goes_on ws None parent lawful e = subst (GoesOn (content_of ws)) (inside None parent e) (none_goes_on (content_of ws))
 extended_goes_on ws (Some r) parent lawful e = by (is_deleted (held_of (content_of ws) r)) refl e
   where

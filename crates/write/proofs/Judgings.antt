@@ -12,10 +12,11 @@ use Rattle.store.specs.Database.{Database, DocumentWrite, history_at, with_all}
 use Rattle.store.specs.Writing.{Addition, addition_of, additions, written_in, writings_in}
 use Rattle.store.specs.declared.write.Write.{Write}
 use Rattle.store.proofs.Contents.{with_all-append, writings_in-append}
-use Rattle.write.specs.Admission.{with_taken}
-use Rattle.write.specs.Bulk.{DocumentOutcome, Histories, Told, after, all_told, judged, judged_by, outcome_in, outcome_told, outcomes, put_before, told, writes_in}
+use Rattle.write.specs.Admission.{history_with}
+use Rattle.write.specs.Bulk.{DocumentOutcome, Histories, Told, after, all_told, document_outcome, outcome_by_id, outcome_in, outcome_told, outcomes, put_before, result_told, writes_in}
 use Rattle.write.specs.BulkResults.{brought, held_or, seen_in, with_history}
 use Rattle.write.specs.Document.{id_in, member_text}
+use Rattle.write.specs.Terms.{Terms}
 use Rattle.write.specs.declared.fault.WriteFault.{WriteFault}
 use Rattle.write.specs.declared.fault.WriteFault.TheVariants.{Memory}
 use Rattle.write.specs.declared.planned.Outcome.{Outcome}
@@ -35,24 +36,24 @@ stored_seen m n id d h there at is absent put =
 
 -- ---- a document judged by its history, which is taken out and put back
 
-pub settle_ok : (new_edits : Bool) (m : BTreeMap (List ℕ) HistoryContent) (id : List ℕ) (h : HistoryContent) (document : Value) (r : Result (Option Write) WriteFault)
+pub settle_ok : (terms : Terms) (new_edits : Bool) (m : BTreeMap (List ℕ) HistoryContent) (id : List ℕ) (h : HistoryContent) (document : Value) (r : Result (Option Write) WriteFault)
     → id_in document ≡ Some id → ((stored : Histories) → h ≡ seen_in stored m id)
-    → IfOk r (λ w. judged new_edits id h document ≡ Ok (option_map (λ x. written_in h (addition_of x)) w))
-    → IfOk r (λ w. (stored : Histories) → outcome_in new_edits (seen_in stored m) document ≡ Ok (option_map (brought (seen_in stored m)) w))
-settle_ok new_edits m id h document (Ok w) named value became =
-    λ stored. ap (judged_by new_edits (seen_in stored m) document) named ∙ judged_seen new_edits (seen_in stored m) id h document w (value stored) became
-settle_ok new_edits m id h document (Err fault) named value became = tt
+    → IfOk r (λ w. document_outcome terms new_edits id h document ≡ Ok (option_map (λ x. written_in h (addition_of x)) w))
+    → IfOk r (λ w. (stored : Histories) → outcome_in terms new_edits (seen_in stored m) document ≡ Ok (option_map (brought (seen_in stored m)) w))
+settle_ok terms new_edits m id h document (Ok w) named value became =
+    λ stored. ap (outcome_by_id terms new_edits (seen_in stored m) document) named ∙ judged_seen terms new_edits (seen_in stored m) id h document w (value stored) became
+settle_ok terms new_edits m id h document (Err fault) named value became = tt
 
-pub settle_histories : (new_edits : Bool) (m mid n : BTreeMap (List ℕ) HistoryContent) (id : List ℕ) (h k : HistoryContent) (document : Value) (r : Result (Option Write) WriteFault)
+pub settle_histories : (terms : Terms) (new_edits : Bool) (m mid n : BTreeMap (List ℕ) HistoryContent) (id : List ℕ) (h k : HistoryContent) (document : Value) (r : Result (Option Write) WriteFault)
     → ((stored : Histories) → h ≡ seen_in stored m id)
     → ((stored : Histories) (g : HistoryContent) → with_history (seen_in stored mid) id g ≡ with_history (seen_in stored m) id g)
     → ((stored : Histories) → seen_in stored n ≡ with_history (seen_in stored mid) id k)
-    → IfOk r (λ w. judged new_edits id h document ≡ Ok (option_map (λ x. written_in h (addition_of x)) w))
-    → IfOk r (λ w. k ≡ with_taken h (option_map (λ x. written_in h (addition_of x)) w))
+    → IfOk r (λ w. document_outcome terms new_edits id h document ≡ Ok (option_map (λ x. written_in h (addition_of x)) w))
+    → IfOk r (λ w. k ≡ history_with h (option_map (λ x. written_in h (addition_of x)) w))
     → IfOk r (λ w. (stored : Histories) → seen_in stored n ≡ after (seen_in stored m) (Ok (option_map (brought (seen_in stored m)) w)))
-settle_histories new_edits m mid n id h k document (Ok w) value others put became taken_in =
-    λ stored. seen_after new_edits (seen_in stored m) (seen_in stored mid) (seen_in stored n) id h k document w (value stored) (others stored) (put stored) became taken_in
-settle_histories new_edits m mid n id h k document (Err fault) value others put became taken_in = tt
+settle_histories terms new_edits m mid n id h k document (Ok w) value others put became taken_in =
+    λ stored. seen_after terms new_edits (seen_in stored m) (seen_in stored mid) (seen_in stored n) id h k document w (value stored) (others stored) (put stored) became taken_in
+settle_histories terms new_edits m mid n id h k document (Err fault) value others put became taken_in = tt
 
 pub settle_same : (m mid n : BTreeMap (List ℕ) HistoryContent) (id : List ℕ) (h k : HistoryContent) (r : Result (Option Write) WriteFault)
     → ((stored : Histories) → h ≡ seen_in stored m id)
@@ -67,7 +68,7 @@ settle_same m mid n id h k (Err fault) value others put same =
 
 pub told_is : (document : Value) (o : DocumentOutcome) (x : Outcome) (t : Told) (id rev : Option (List ℕ))
     → id ≡ member_text (codes "_id") document → rev ≡ member_text (codes "_rev") document → outcome_told o ≡ x
-    → t ≡ record { id = id; rev = rev; outcome = x } → told document o ≡ t
+    → t ≡ record { id = id; rev = rev; outcome = x } → result_told document o ≡ t
 told_is document o x t id rev is_id is_rev is_outcome is =
     (λ i. record { id = sym is_id i; rev = sym is_rev i; outcome = is_outcome i }) ∙ sym is
 
@@ -98,10 +99,10 @@ pushed histories d ws vs (Some w) o is more seen =
 -- ---- all of them
 
 -- So far these writes were made and this was told; what is left is judged by the histories that are seen.
-pub record IsJudged (new_edits : Bool) (d : Database) (all left : List Value) (m : BTreeMap (List ℕ) HistoryContent) (added : List Addition) (told_so_far : List Told) : Type 0 where
+pub record IsJudged (terms : Terms) (new_edits : Bool) (d : Database) (all left : List Value) (m : BTreeMap (List ℕ) HistoryContent) (added : List Addition) (told_so_far : List Told) : Type 0 where
   pub seen : seen_in (history_at d) m ≡ history_at (with_all d (writings_in d added))
-  pub writes : writings_in d added ++ writes_in (outcomes new_edits (seen_in (history_at d) m) left) ≡ writes_in (outcomes new_edits (history_at d) all)
-  pub results : told_so_far ++ all_told left (outcomes new_edits (seen_in (history_at d) m) left) ≡ all_told all (outcomes new_edits (history_at d) all)
+  pub writes : writings_in d added ++ writes_in (outcomes terms new_edits (seen_in (history_at d) m) left) ≡ writes_in (outcomes terms new_edits (history_at d) all)
+  pub results : told_so_far ++ all_told left (outcomes terms new_edits (seen_in (history_at d) m) left) ≡ all_told all (outcomes terms new_edits (history_at d) all)
 
 nothing_held : (stored : Histories) (m : BTreeMap (List ℕ) HistoryContent) → m.entries ≡ [] → seen_in stored m ≡ stored
 nothing_held stored m none = λ i id. at_id id i
@@ -109,23 +110,23 @@ nothing_held stored m none = λ i id. at_id id i
     at_id : (id : List ℕ) → held_or (stored id) (get (slice_cmp nat_cmp) m id) ≡ stored id
     at_id id = rw none refl
 
-begun_with : (new_edits : Bool) (d : Database) (all : List Value) (m : BTreeMap (List ℕ) HistoryContent) → m.entries ≡ [] → IsJudged new_edits d all all m [] []
-begun_with new_edits d all m none =
+begun_with : (terms : Terms) (new_edits : Bool) (d : Database) (all : List Value) (m : BTreeMap (List ℕ) HistoryContent) → m.entries ≡ [] → IsJudged terms new_edits d all all m [] []
+begun_with terms new_edits d all m none =
     let same = nothing_held (history_at d) m none in
     record {
       seen = same;
-      writes = ap (λ (hs : Histories). writes_in (outcomes new_edits hs all)) same;
-      results = ap (λ (hs : Histories). all_told all (outcomes new_edits hs all)) same;
+      writes = ap (λ (hs : Histories). writes_in (outcomes terms new_edits hs all)) same;
+      results = ap (λ (hs : Histories). all_told all (outcomes terms new_edits hs all)) same;
     }
 
-pub begun : (new_edits : Bool) (d : Database) (all left : List Value) (m : BTreeMap (List ℕ) HistoryContent) (added : List Addition) (results : List Told)
-    → m.entries ≡ [] → left ≡ all → added ≡ [] → results ≡ [] → IsJudged new_edits d all left m added results
-begun new_edits d all left m added results none whole nothing untold =
-    subst (λ vs. IsJudged new_edits d all vs m added results) (sym whole)
-    (subst (λ as_said. IsJudged new_edits d all all m as_said results) (sym nothing)
-    (subst (λ ts. IsJudged new_edits d all all m [] ts) (sym untold) (begun_with new_edits d all m none)))
+pub begun : (terms : Terms) (new_edits : Bool) (d : Database) (all left : List Value) (m : BTreeMap (List ℕ) HistoryContent) (added : List Addition) (results : List Told)
+    → m.entries ≡ [] → left ≡ all → added ≡ [] → results ≡ [] → IsJudged terms new_edits d all left m added results
+begun terms new_edits d all left m added results none whole nothing untold =
+    subst (λ vs. IsJudged terms new_edits d all vs m added results) (sym whole)
+    (subst (λ as_said. IsJudged terms new_edits d all all m as_said results) (sym nothing)
+    (subst (λ ts. IsJudged terms new_edits d all all m [] ts) (sym untold) (begun_with terms new_edits d all m none)))
 
-one_told : (front : List Told) (t : Told) (v : Value) (o : DocumentOutcome) (vs : List Value) (os : List DocumentOutcome) → told v o ≡ t
+one_told : (front : List Told) (t : Told) (v : Value) (o : DocumentOutcome) (vs : List Value) (os : List DocumentOutcome) → result_told v o ≡ t
     → (front ++ t ∷ []) ++ all_told vs os ≡ front ++ all_told (v ∷ vs) (o ∷ os)
 one_told front t v o vs os e = append_assoc front (t ∷ []) (all_told vs os) ∙ ap (λ x. front ++ x ∷ all_told vs os) (sym e)
 
@@ -143,45 +144,45 @@ with_outcome db (Ok None) = refl
 with_outcome db (Err fault) = refl
 
 -- one document more
-pub judged_next : (new_edits : Bool) (d : Database) (all documents left : List Value) (v : Value) (m l n : BTreeMap (List ℕ) HistoryContent) (writes more : List Addition) (results others : List Told) (t : Told)
-    → documents ≡ v ∷ left → IsJudged new_edits d all documents m writes results → seen_in (history_at d) l ≡ seen_in (history_at d) m
-    → ((stored : Histories) → told v (outcome_in new_edits (seen_in stored l) v) ≡ t)
-    → ((stored : Histories) → seen_in stored n ≡ after (seen_in stored l) (outcome_in new_edits (seen_in stored l) v))
+pub judged_next : (terms : Terms) (new_edits : Bool) (d : Database) (all documents left : List Value) (v : Value) (m l n : BTreeMap (List ℕ) HistoryContent) (writes more : List Addition) (results others : List Told) (t : Told)
+    → documents ≡ v ∷ left → IsJudged terms new_edits d all documents m writes results → seen_in (history_at d) l ≡ seen_in (history_at d) m
+    → ((stored : Histories) → result_told v (outcome_in terms new_edits (seen_in stored l) v) ≡ t)
+    → ((stored : Histories) → seen_in stored n ≡ after (seen_in stored l) (outcome_in terms new_edits (seen_in stored l) v))
     → ((stored : Histories) (e : Database) → seen_in stored l ≡ history_at (with_all e (writings_in e writes))
-    → writings_in e more ≡ writings_in e writes ++ put_before (outcome_in new_edits (seen_in stored l) v) [])
-    → others ≡ results ++ t ∷ [] → IsJudged new_edits d all left n more others
-judged_next new_edits d all documents left v m l n writes more results others t first so_far loaded is_told becomes written last =
+    → writings_in e more ≡ writings_in e writes ++ put_before (outcome_in terms new_edits (seen_in stored l) v) [])
+    → others ≡ results ++ t ∷ [] → IsJudged terms new_edits d all left n more others
+judged_next terms new_edits d all documents left v m l n writes more results others t first so_far loaded is_told becomes written last =
     let hs : Histories = seen_in (history_at d) l in
-    let o : DocumentOutcome = outcome_in new_edits hs v in
+    let o : DocumentOutcome = outcome_in terms new_edits hs v in
     let e : Database = with_all d (writings_in d writes) in
     let seen : hs ≡ history_at e = loaded ∙ so_far.seen in
     let one : writings_in d more ≡ writings_in d writes ++ put_before o [] = written (history_at d) d seen in
     let now : seen_in (history_at d) n ≡ after hs o = becomes (history_at d) in
-    let os : List DocumentOutcome = outcomes new_edits (after hs o) left in
+    let os : List DocumentOutcome = outcomes terms new_edits (after hs o) left in
     record {
       seen = now ∙ ap (λ (x : Histories). after x o) seen ∙ after_is e o
           ∙ ap history_at (with_outcome e o ∙ sym (with_all-append d (writings_in d writes) (put_before o [])) ∙ ap (with_all d) (sym one));
-      writes = ap (λ (x : Histories). writings_in d more ++ writes_in (outcomes new_edits x left)) now
+      writes = ap (λ (x : Histories). writings_in d more ++ writes_in (outcomes terms new_edits x left)) now
           ∙ ap (λ ws. ws ++ writes_in os) one
           ∙ one_written (writings_in d writes) o (writes_in os)
-          ∙ ap (λ (x : Histories). writings_in d writes ++ writes_in (outcomes new_edits x (v ∷ left))) loaded
-          ∙ ap (λ vs. writings_in d writes ++ writes_in (outcomes new_edits (seen_in (history_at d) m) vs)) (sym first)
+          ∙ ap (λ (x : Histories). writings_in d writes ++ writes_in (outcomes terms new_edits x (v ∷ left))) loaded
+          ∙ ap (λ vs. writings_in d writes ++ writes_in (outcomes terms new_edits (seen_in (history_at d) m) vs)) (sym first)
           ∙ so_far.writes;
-      results = ap (λ (x : Histories). others ++ all_told left (outcomes new_edits x left)) now
+      results = ap (λ (x : Histories). others ++ all_told left (outcomes terms new_edits x left)) now
           ∙ ap (λ ts. ts ++ all_told left os) last
           ∙ one_told results t v o left os (is_told (history_at d))
-          ∙ ap (λ (x : Histories). results ++ all_told (v ∷ left) (outcomes new_edits x (v ∷ left))) loaded
-          ∙ ap (λ vs. results ++ all_told vs (outcomes new_edits (seen_in (history_at d) m) vs)) (sym first)
+          ∙ ap (λ (x : Histories). results ++ all_told (v ∷ left) (outcomes terms new_edits x (v ∷ left))) loaded
+          ∙ ap (λ vs. results ++ all_told vs (outcomes terms new_edits (seen_in (history_at d) m) vs)) (sym first)
           ∙ so_far.results;
     }
 
 -- nothing is left
-pub judged_writes : (new_edits : Bool) (d : Database) (all left : List Value) (m : BTreeMap (List ℕ) HistoryContent) (writes : List Addition) (results : List Told)
-    → left ≡ [] → IsJudged new_edits d all left m writes results → writings_in d writes ≡ writes_in (outcomes new_edits (history_at d) all)
-judged_writes new_edits d all left m writes results none so_far =
-    sym (append-nil (writings_in d writes)) ∙ ap (λ vs. writings_in d writes ++ writes_in (outcomes new_edits (seen_in (history_at d) m) vs)) (sym none) ∙ so_far.writes
+pub judged_writes : (terms : Terms) (new_edits : Bool) (d : Database) (all left : List Value) (m : BTreeMap (List ℕ) HistoryContent) (writes : List Addition) (results : List Told)
+    → left ≡ [] → IsJudged terms new_edits d all left m writes results → writings_in d writes ≡ writes_in (outcomes terms new_edits (history_at d) all)
+judged_writes terms new_edits d all left m writes results none so_far =
+    sym (append-nil (writings_in d writes)) ∙ ap (λ vs. writings_in d writes ++ writes_in (outcomes terms new_edits (seen_in (history_at d) m) vs)) (sym none) ∙ so_far.writes
 
-pub judged_results : (new_edits : Bool) (d : Database) (all left : List Value) (m : BTreeMap (List ℕ) HistoryContent) (writes : List Addition) (results : List Told)
-    → left ≡ [] → IsJudged new_edits d all left m writes results → results ≡ all_told all (outcomes new_edits (history_at d) all)
-judged_results new_edits d all left m writes results none so_far =
-    sym (append-nil results) ∙ ap (λ vs. results ++ all_told vs (outcomes new_edits (seen_in (history_at d) m) vs)) (sym none) ∙ so_far.results
+pub judged_results : (terms : Terms) (new_edits : Bool) (d : Database) (all left : List Value) (m : BTreeMap (List ℕ) HistoryContent) (writes : List Addition) (results : List Told)
+    → left ≡ [] → IsJudged terms new_edits d all left m writes results → results ≡ all_told all (outcomes terms new_edits (history_at d) all)
+judged_results terms new_edits d all left m writes results none so_far =
+    sym (append-nil results) ∙ ap (λ vs. results ++ all_told vs (outcomes terms new_edits (seen_in (history_at d) m) vs)) (sym none) ∙ so_far.results

@@ -2,9 +2,12 @@ pub mod Bodies
 pub mod Extending
 pub mod Fitting
 pub mod Acceptances
+pub mod Outcomes
+pub mod Unruled
 pub mod Names
 pub mod Paths
 pub mod BulkLemmas
 pub mod Judgings
 pub mod Plannings
 pub mod Settlings
+pub mod DesignRows

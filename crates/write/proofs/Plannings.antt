@@ -1,5 +1,5 @@
 -- What a plan makes of its database, where there is one.
-use Rattle.std.proofs.Common.{◌≡◌, ℕ, List, [], ◌∷◌, map, Option, Some, None, option_map, Ok, refl, ap, sym, ◌∙◌, subst}
+use Rattle.std.proofs.Common.{◌≡◌, ℕ, List, [], ◌∷◌, map, Option, Some, None, option_map, Result, Ok, Err, refl, ap, sym, ◌∙◌, subst}
 use Rattle.std.specs.Prelude.{codes, string_bytes}
 use Rattle.couch_json.specs.Value.{Value}
 use Rattle.tree.specs.History.{HistoryContent}
@@ -10,9 +10,11 @@ use Rattle.store.specs.declared.write.Write.{Write}
 use Rattle.write.specs.Bulk.{DocumentOutcome, Told, all_told, outcome_told, put_before, writes_alone, writes_in}
 use Rattle.write.specs.BulkResults.{told_as, told_of}
 use Rattle.write.specs.Document.{member_text}
-use Rattle.write.specs.Planning.{MayBeMade, Plans, changed, planned_writes}
+use Rattle.write.specs.Planning.{MayBeMade, Plans, database_after, planned_writes}
+use Rattle.write.specs.Terms.{Terms}
+use Rattle.write.specs.declared.fault.WriteFault.{WriteFault}
 use Rattle.write.specs.declared.planned.Planned.{Planned}
-use Rattle.write.specs.declared.planning.Words.{Words}
+use Rattle.write.specs.declared.planning.Label.{Label}
 use Rattle.write.proofs.BulkLemmas.{brought_at}
 use Rattle.write.proofs.Judgings.{is_history, told_is}
 
@@ -25,43 +27,64 @@ one_outcome : (d : Database) (id : List ℕ) (h : HistoryContent) (became : Hist
 one_outcome d id h became w is e named =
     ap became (sym is) ∙ e ∙ ap Ok (brought_at (history_at d) id h w is (λ v k. named h v (e ∙ ap Ok k)))
 
-pub one_made : (there : Option Database) (id : List ℕ) (h : HistoryContent) (became : HistoryContent → DocumentOutcome) (w : Option Write) (planned : Planned)
-    → option_map (λ db. history_at db id) there ≡ Some h → became h ≡ Ok (option_map (λ x. written_in h (addition_of x)) w)
-    → ((g : HistoryContent) (v : DocumentWrite) → became g ≡ Ok (Some v) → v.id ≡ id)
-    → ((d : Database) → planned_writes d planned.changes ≡ put_before (Ok (option_map (λ x. written_at d (addition_of x)) w)) [])
-    → IfThere there (λ d. writes_alone (became (history_at d id)) ≡ Ok (planned_writes d planned.changes))
-one_made None id h became w planned read e named writes = tt
-one_made (Some d) id h became w planned read e named writes =
-    ap writes_alone (one_outcome d id h became w (is_history d id h (Some d) refl read) e named) ∙ ap Ok (sym (writes d))
+-- a fact about the database that is there
+pub if_there : (fact : Database → Type 0) (there : Option Database) (d : Database) → there ≡ Some d → IfThere there fact → fact d
+if_there fact there d is known = subst (λ o. IfThere o fact) is known
 
-pub one_plan : (there : Option Database) (id : List ℕ) (h : HistoryContent) (document : Value) (became : HistoryContent → DocumentOutcome) (w : Option Write) (words : Words) (planned : Planned)
-    → option_map (λ db. history_at db id) there ≡ Some h → became h ≡ Ok (option_map (λ x. written_in h (addition_of x)) w)
-    → ((g : HistoryContent) (v : DocumentWrite) → became g ≡ Ok (Some v) → v.id ≡ id)
-    → ((d : Database) → there ≡ Some d → AreAcceptable d (writes_in (became (history_at d id) ∷ [])))
+-- the terms that were read are those of the database, so the same becomes of the document on them
+on_terms : (d : Database) (id : List ℕ) (became : Terms → HistoryContent → DocumentOutcome) (terms own : Terms) → terms ≡ own
+    → became own (history_at d id) ≡ became terms (history_at d id)
+on_terms d id became terms own same = ap (λ (t : Terms). became t (history_at d id)) (sym same)
+
+pub one_made : (there : Option Database) (id : List ℕ) (h : HistoryContent) (became : Terms → HistoryContent → DocumentOutcome) (terms : Terms) (own : Database → Terms) (w : Option Write) (planned : Planned)
+    → IfThere there (λ d. terms ≡ own d)
+    → option_map (λ db. history_at db id) there ≡ Some h → became terms h ≡ Ok (option_map (λ x. written_in h (addition_of x)) w)
+    → ((g : HistoryContent) (v : DocumentWrite) → became terms g ≡ Ok (Some v) → v.id ≡ id)
     → ((d : Database) → planned_writes d planned.changes ≡ put_before (Ok (option_map (λ x. written_at d (addition_of x)) w)) [])
-    → ((d : Database) → changed planned.changes d ≡ with_all d (planned_writes d planned.changes))
+    → IfThere there (λ d. writes_alone (became (own d) (history_at d id)) ≡ Ok (planned_writes d planned.changes))
+one_made None id h became terms own w planned same read e named writes = tt
+one_made (Some d) id h became terms own w planned same read e named writes =
+    ap writes_alone (on_terms d id became terms (own d) same ∙ one_outcome d id h (became terms) w (is_history d id h (Some d) refl read) e named)
+    ∙ ap Ok (sym (writes d))
+
+pub one_refused : {A : Type 0} (there : Option Database) (id : List ℕ) (h : HistoryContent) (became : Terms → HistoryContent → Result A WriteFault) (terms : Terms) (own : Database → Terms) (fault : WriteFault)
+    → IfThere there (λ d. terms ≡ own d) → option_map (λ db. history_at db id) there ≡ Some h → became terms h ≡ Err fault
+    → IfThere there (λ d. became (own d) (history_at d id) ≡ Err fault)
+one_refused None id h became terms own fault same read e = tt
+one_refused (Some d) id h became terms own fault same read e =
+    ap (λ (t : Terms). became t (history_at d id)) (sym same) ∙ ap (became terms) (sym (is_history d id h (Some d) refl read)) ∙ e
+
+pub one_plan : (there : Option Database) (id : List ℕ) (h : HistoryContent) (document : Value) (became : Terms → HistoryContent → DocumentOutcome) (terms : Terms) (own : Database → Terms) (w : Option Write) (label : Label) (planned : Planned)
+    → IfThere there (λ d. terms ≡ own d)
+    → option_map (λ db. history_at db id) there ≡ Some h → became terms h ≡ Ok (option_map (λ x. written_in h (addition_of x)) w)
+    → ((g : HistoryContent) (v : DocumentWrite) → became terms g ≡ Ok (Some v) → v.id ≡ id)
+    → ((d : Database) → there ≡ Some d → AreAcceptable d (writes_in (became (own d) (history_at d id) ∷ [])))
+    → ((d : Database) → planned_writes d planned.changes ≡ put_before (Ok (option_map (λ x. written_at d (addition_of x)) w)) [])
+    → ((d : Database) → database_after planned.changes d ≡ with_all d (planned_writes d planned.changes))
     → ((d : Database) → AreAcceptable d (planned_writes d planned.changes) → MayBeMade planned.changes d)
-    → ((g : HistoryContent) → map told_of planned.results.items ≡ told_as words (Ok (option_map (λ x. written_in g (addition_of x)) w)) ∷ [])
-    → option_map string_bytes words.id ≡ member_text (codes "_id") document → option_map string_bytes words.rev ≡ member_text (codes "_rev") document
-    → IfThere there (λ d. Plans d (document ∷ []) (became (history_at d id) ∷ []) planned)
-one_plan None id h document became w words planned read e named may writes changes allowed results is_id is_rev = tt
-one_plan (Some d) id h document became w words planned read e named may writes changes allowed results is_id is_rev =
+    → ((g : HistoryContent) → map told_of planned.results.items ≡ told_as label (Ok (option_map (λ x. written_in g (addition_of x)) w)) ∷ [])
+    → option_map string_bytes label.id ≡ member_text (codes "_id") document → option_map string_bytes label.rev ≡ member_text (codes "_rev") document
+    → IfThere there (λ d. Plans d (document ∷ []) (became (own d) (history_at d id) ∷ []) planned)
+one_plan None id h document became terms own w label planned same read e named may writes changes allowed results is_id is_rev = tt
+one_plan (Some d) id h document became terms own w label planned same read e named may writes changes allowed results is_id is_rev =
     let is : h ≡ history_at d id = is_history d id h (Some d) refl read in
-    let made : planned_writes d planned.changes ≡ writes_in (became (history_at d id) ∷ []) =
-    writes d ∙ ap (λ (o : DocumentOutcome). put_before o []) (sym (one_outcome d id h became w is e named)) in
-    let told : became (history_at d id) ≡ Ok (option_map (λ x. written_in h (addition_of x)) w) = ap became (sym is) ∙ e in
+    let o : DocumentOutcome = became (own d) (history_at d id) in
+    let same_outcome : o ≡ became terms (history_at d id) = on_terms d id became terms (own d) same in
+    let made : planned_writes d planned.changes ≡ writes_in (o ∷ []) =
+    writes d ∙ ap (λ (x : DocumentOutcome). put_before x []) (sym (same_outcome ∙ one_outcome d id h (became terms) w is e named)) in
+    let told : o ≡ Ok (option_map (λ x. written_in h (addition_of x)) w) = same_outcome ∙ ap (became terms) (sym is) ∙ e in
     record {
       writes = made;
       changes = changes d ∙ ap (with_all d) made;
       may = allowed d (subst (AreAcceptable d) (sym made) (may d refl));
-      results = results h ∙ ap (λ (t : Told). t ∷ []) (sym (told_is document (became (history_at d id)) _ _ _ _ is_id is_rev (ap outcome_told told) refl));
+      results = results h ∙ ap (λ (t : Told). t ∷ []) (sym (told_is document o _ _ _ _ is_id is_rev (ap outcome_told told) refl));
     }
 
 -- ---- several documents
 
 pub all_planned : (there : Option Database) (documents : List Value) (os : Database → List DocumentOutcome) (planned : Planned)
     → ((d : Database) → there ≡ Some d → planned_writes d planned.changes ≡ writes_in (os d))
-    → ((d : Database) → changed planned.changes d ≡ with_all d (planned_writes d planned.changes))
+    → ((d : Database) → database_after planned.changes d ≡ with_all d (planned_writes d planned.changes))
     → ((d : Database) → AreAcceptable d (planned_writes d planned.changes) → MayBeMade planned.changes d)
     → ((d : Database) → there ≡ Some d → AreAcceptable d (writes_in (os d)))
     → ((d : Database) → there ≡ Some d → map told_of planned.results.items ≡ all_told documents (os d))

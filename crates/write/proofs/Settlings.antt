@@ -1,5 +1,5 @@
 -- Replicated documents are known afterwards, or refused.
-use Rattle.std.proofs.Common.{◌≡◌, ℕ, Bool, true, false, cond, List, [], ◌∷◌, Option, Some, None, Result, Ok, Err, refl, ap, ◌∙◌, subst, sym, inl}
+use Rattle.std.proofs.Common.{◌≡◌, ℕ, Bool, true, false, cond, List, [], ◌∷◌, Option, Some, None, Ok, Err, refl, ap, ◌∙◌, subst, sym, inl}
 use Rattle.std.specs.Prelude.{IsTrue, is_some}
 use Rattle.std.specs.FinMap.{find}
 use Rattle.std.proofs.lemmas.Slice.Eq.{bytes_eq-Decides}
@@ -10,18 +10,17 @@ use Rattle.tree.specs.History.{HistoryContent, is_known, placement, with_write, 
 use Rattle.tree.specs.declared.entry.Entry.{Entry}
 use Rattle.tree.specs.declared.placement.Placed.{Placed}
 use Rattle.tree.specs.declared.placement.Placed.TheVariants.{Added, Known}
-use Rattle.tree.specs.declared.placement.TreeFault.{TreeFault}
 use Rattle.tree.specs.declared.placement.TreeFault.TheVariants.{BadPath, OtherParent}
 use Rattle.tree.proofs.Contents.{entry_kept, or, write_shows}
 use Rattle.tree.proofs.Shown.{stands_found}
 use Rattle.store.specs.Database.{Database, DocumentWrite, history_at, is_of, with_all}
-use Rattle.write.specs.Admission.{taken, taken_in, taken_on, write_at}
-use Rattle.write.specs.Bulk.{Histories, DocumentOutcome, after, judged_by, outcome_in, outcomes, put_before, writes_in}
-use Rattle.write.specs.Document.{id_in, path_in, sent_in}
-use Rattle.write.specs.Settling.{AreKnownOrRefused, IsKnownIn, IsKnownOrRefused, after_all, head_of}
-use Rattle.write.specs.declared.document.Sent.{Sent}
-use Rattle.write.specs.declared.fault.WriteFault.{WriteFault}
+use Rattle.write.specs.Admission.{replicated_outcome}
+use Rattle.write.specs.Bulk.{Histories, DocumentOutcome, after, outcome_by_id, outcome_in, outcomes, put_before, writes_in}
+use Rattle.write.specs.Document.{id_in}
+use Rattle.write.specs.Settling.{AreKnownOrRefused, IsKnownIn, IsKnownOrRefused, after_all}
+use Rattle.write.specs.Terms.{Terms}
 use Rattle.write.proofs.Acceptances.{after_is, db_after}
+use Rattle.write.proofs.Outcomes.{IsReplicated, replicated_accepted}
 
 -- ---- a known revision stays known
 
@@ -64,64 +63,55 @@ head_known false true known e = absurd cc
 head_known false false true e = refl
 head_known false false false e = absurd cc
 
--- what was judged: the document's id, what it says, and its path
-record IsRead (id : List ℕ) (document : Value) (sent : Sent) (path : List Revision) : Type 0 where
-  named : id_in document ≡ Some id
-  says : sent_in id document ≡ Some sent
-  leads : path_in document sent.rev ≡ Ok path
-
-settled : (histories : Histories) (id : List ℕ) (document : Value) (sent : Sent) (r : Revision) (rest : List Revision) (o : DocumentOutcome)
-    → IsRead id document sent (r ∷ rest) → IsTrue (is_known (after histories o id) r) → IsKnownIn (after histories o) document
-settled histories id document sent r rest o read known =
+-- the outcome of a document that was replicated
+settled : (terms : Terms) (histories : Histories) (id : List ℕ) (document : Value) (w : Option DocumentWrite) (k : IsReplicated terms id (histories id) document w) (r : Revision) (rest : List Revision)
+    → id_in document ≡ Some id → k.ancestry.path ≡ r ∷ rest → IsTrue (is_known (after histories (Ok w) id) r) → IsKnownIn (after histories (Ok w)) document
+settled terms histories id document w k r rest named is known =
     record {
       id = id;
       rev = r;
-      named = read.named;
-      brought = rw read.says (ap head_of read.leads);
+      named = named;
+      brought = rw (k.says, k.leads, is) refl;
       known = known;
     }
 
-placed_settled : (histories : Histories) (id : List ℕ) (document : Value) (sent : Sent) (path : List Revision) (placed : Result Placed TreeFault)
-    → IsRead id document sent path → placement (histories id) path ≡ placed
-    → IsKnownOrRefused (after histories (taken placed (write_at id path sent))) document (taken placed (write_at id path sent))
-placed_settled histories id document sent path (Err fault) read e = tt
-placed_settled histories id document sent [] (Ok Added) read e = absurd cc
-placed_settled histories id document sent [] (Ok Known) read e = absurd cc
-placed_settled histories id document sent (r ∷ rest) (Ok Added) read e =
-    let w : DocumentWrite = write_at id (r ∷ rest) sent in
-    let own : is_of id w ≡ true = (bytes_eq-Decides id id).1 refl in
-    settled histories id document sent r rest (Ok (Some w)) read
-    (subst (λ b. IsTrue (is_known (cond b (with_write (histories id) w.write) (histories id)) r)) (sym own)
-    (newest_known (histories id) w.write r rest refl))
-placed_settled histories id document sent (r ∷ rest) (Ok Known) read e =
-    settled histories id document sent r rest (Ok None) read (head_known _ _ (is_known (histories id) r) e)
+-- a path that has a place is not empty
+not_empty : (h : HistoryContent) (path : List Revision) (placed : Placed) → placement h path ≡ Ok placed → (r : Revision) × (rest : List Revision) × (path ≡ r ∷ rest)
+not_empty h [] placed e = absurd cc
+not_empty h (r ∷ rest) placed e = (r, rest, refl)
 
-path_settled : (histories : Histories) (id : List ℕ) (document : Value) (sent : Sent) (path : Result (List Revision) WriteFault)
-    → id_in document ≡ Some id → sent_in id document ≡ Some sent → path_in document sent.rev ≡ path
-    → IsKnownOrRefused (after histories (taken_on id (histories id) sent path)) document (taken_on id (histories id) sent path)
-path_settled histories id document sent (Err fault) named says leads = tt
-path_settled histories id document sent (Ok path) named says leads =
-    placed_settled histories id document sent path (placement (histories id) path) (record { named = named; says = says; leads = leads }) refl
+outcome_settled : (terms : Terms) (histories : Histories) (id : List ℕ) (document : Value) (w : Option DocumentWrite) → id_in document ≡ Some id
+    → IsReplicated terms id (histories id) document w → IsKnownIn (after histories (Ok w)) document
+outcome_settled terms histories id document (Some v) named k =
+    let front = not_empty (histories id) k.ancestry.path Added k.taken.0 in
+    let own : is_of id v ≡ true = (bytes_eq-Decides v.id id).1 (ap (λ (x : DocumentWrite). x.id) k.taken.1) in
+    settled terms histories id document (Some v) k front.0 front.1 named front.2
+    (subst (λ b. IsTrue (is_known (cond b (with_write (histories id) v.write) (histories id)) front.0)) (sym own)
+    (newest_known (histories id) v.write front.0 front.1 (ap (λ (x : DocumentWrite). x.write.path) k.taken.1 ∙ front.2)))
+outcome_settled terms histories id document None named k =
+    let front = not_empty (histories id) k.ancestry.path Known k.taken in
+    settled terms histories id document None k front.0 front.1 named front.2
+    (head_known _ _ (is_known (histories id) front.0) (ap (placement (histories id)) (sym front.2) ∙ k.taken))
 
-sent_settled : (histories : Histories) (id : List ℕ) (document : Value) (sent : Option Sent) → id_in document ≡ Some id → sent_in id document ≡ sent
-    → IsKnownOrRefused (after histories (taken_in id (histories id) document sent)) document (taken_in id (histories id) document sent)
-sent_settled histories id document None named says = tt
-sent_settled histories id document (Some sent) named says = path_settled histories id document sent (path_in document sent.rev) named says refl
+result_settled : (terms : Terms) (histories : Histories) (id : List ℕ) (document : Value) (o : DocumentOutcome) → id_in document ≡ Some id
+    → replicated_outcome terms id (histories id) document ≡ o → IsKnownOrRefused (after histories o) document o
+result_settled terms histories id document (Err fault) named e = tt
+result_settled terms histories id document (Ok w) named e = outcome_settled terms histories id document w named (replicated_accepted terms id (histories id) document w e)
 
-id_settled : (histories : Histories) (document : Value) (id : Option (List ℕ)) → id_in document ≡ id
-    → IsKnownOrRefused (after histories (judged_by false histories document id)) document (judged_by false histories document id)
-id_settled histories document None named = tt
-id_settled histories document (Some id) named = sent_settled histories id document (sent_in id document) named refl
+id_settled : (terms : Terms) (histories : Histories) (document : Value) (id : Option (List ℕ)) → id_in document ≡ id
+    → IsKnownOrRefused (after histories (outcome_by_id terms false histories document id)) document (outcome_by_id terms false histories document id)
+id_settled terms histories document None named = tt
+id_settled terms histories document (Some id) named = result_settled terms histories id document (replicated_outcome terms id (histories id) document) named refl
 
 -- ---- all of them
 
-pub all_settled : (documents : List Value) (histories : Histories)
-    → AreKnownOrRefused (after_all histories (outcomes false histories documents)) documents (outcomes false histories documents)
-all_settled [] histories = tt
-all_settled (v ∷ vs) histories =
-    let o : DocumentOutcome = outcome_in false histories v in
+pub all_settled : (terms : Terms) (documents : List Value) (histories : Histories)
+    → AreKnownOrRefused (after_all histories (outcomes terms false histories documents)) documents (outcomes terms false histories documents)
+all_settled terms [] histories = tt
+all_settled terms (v ∷ vs) histories =
+    let o : DocumentOutcome = outcome_in terms false histories v in
     let left : Histories = after histories o in
-    (still left (outcomes false left vs) v o (id_settled histories v (id_in v) refl), all_settled vs left)
+    (still left (outcomes terms false left vs) v o (id_settled terms histories v (id_in v) refl), all_settled terms vs left)
 
 -- ---- the database with the writes
 
@@ -137,9 +127,9 @@ after_all_is (o ∷ os) db =
     ∙ after_all_is os (db_after db o)
     ∙ ap history_at (with_before db o (writes_in os))
 
-pub all_settled_in : (db : Database) (documents : List Value)
-    → AreKnownOrRefused (history_at (with_all db (writes_in (outcomes false (history_at db) documents)))) documents
-    (outcomes false (history_at db) documents)
-all_settled_in db documents =
-    let os : List DocumentOutcome = outcomes false (history_at db) documents in
-    subst (λ histories. AreKnownOrRefused histories documents os) (after_all_is os db) (all_settled documents (history_at db))
+pub all_settled_in : (terms : Terms) (db : Database) (documents : List Value)
+    → AreKnownOrRefused (history_at (with_all db (writes_in (outcomes terms false (history_at db) documents)))) documents
+    (outcomes terms false (history_at db) documents)
+all_settled_in terms db documents =
+    let os : List DocumentOutcome = outcomes terms false (history_at db) documents in
+    subst (λ histories. AreKnownOrRefused histories documents os) (after_all_is os db) (all_settled terms documents (history_at db))

@@ -1,81 +1,128 @@
--- What becomes of a write of a document: a bad document, a bad history, a conflict, no further generation, or the write that is appended.
--- CouchDB manual, api/document/common (`PUT` and `DELETE /{db}/{docid}`: 409 where the revision is not the one to follow), api/database/bulk-api (`new_edits`) and replication/conflicts.
-use Rattle.std.specs.Prelude.{ℕ, ◌==◌, Bool, if◌then◌else◌, List, ◌∷◌, Option, Some, None, option_map, option_and_then, Result, Ok, Err}
+-- What becomes of a write of a document, on the terms of its database: a bad document, a denial, a conflict or a bad history, no further generation, or the write that is appended.
+-- CouchDB manual, api/document/common (`PUT` and `DELETE /{db}/{docid}`: 409 where the revision is not the one to follow), api/database/bulk-api (`new_edits`), replication/conflicts and ddocs/ddocs ("Validate Document Update Functions"); the order of the refusals is this server's own.
+use Rattle.std.specs.Prelude.{ℕ, ◌==◌, Bool, false, if◌then◌else◌, List, [], ◌∷◌, find, is_some, length, Option, Some, None, option_map, option_and_then, Result, Ok, Err}
 use Rattle.std.specs.Ordering.{eq_by_cmp}
 use Rattle.couch_json.specs.Value.{Value}
+use Rattle.tree.specs.DocumentId.{is_design_id}
 use Rattle.tree.specs.Revision.{Revision, greatest_number, revision_cmp}
 use Rattle.tree.specs.NextRevision.{next_revision, number_before}
 use Rattle.tree.specs.Write.{head}
-use Rattle.tree.specs.History.{HistoryContent, held_of, is_deleted, is_head_known, is_leaf, placement, winner, with_write}
-use Rattle.tree.specs.History.{behind}
+use Rattle.tree.specs.History.{HistoryContent, behind, held_of, is_deleted, is_known, is_leaf, placement, winner, with_write}
 use Rattle.tree.specs.declared.placement.Placed.{Placed}
 use Rattle.tree.specs.declared.placement.Placed.TheVariants.{Added, Known}
 use Rattle.tree.specs.declared.placement.TreeFault.{TreeFault}
+use Rattle.tree.specs.declared.placement.TreeFault.TheVariants.{BadPath}
+use Rattle.policy.specs.Argument.{NewDocument, OldDocument, argument}
+use Rattle.policy.specs.UpdateRules.{update_verdict}
+use Rattle.policy.specs.Verdict.{verdict}
+use Rattle.policy.specs.declared.action.Action.TheVariants.{WriteDesign}
+use Rattle.policy.specs.declared.rule.Rule.{Rule}
 use Rattle.store.specs.Database.{Database, DocumentWrite, history_at}
-use Rattle.write.specs.Document.{path_in, sent_in}
+use Rattle.write.specs.Document.{Ancestry, ancestry_in, sent_in}
+use Rattle.write.specs.Terms.{Terms}
 use Rattle.write.specs.declared.document.Sent.{Sent}
 use Rattle.write.specs.declared.fault.WriteFault.{WriteFault}
-use Rattle.write.specs.declared.fault.WriteFault.TheVariants.{BadDocument, BadHistory, Conflict, Generation}
+use Rattle.write.specs.declared.fault.WriteFault.TheVariants.{BadDocument, BadHistory, Conflict, Denied, Generation}
 
 -- the write of what a document says, at the end of a path
 abbrev pub write_at : List ℕ → List Revision → Sent → DocumentWrite
 write_at id path sent = record { id = id; write = record { path = path; deleted = sent.deleted; body = sent.body } }
 
+-- ---- denials
+
+-- the document that is written, as the update rules see it
+abbrev pub document_of : List ℕ → Sent → NewDocument
+document_of id sent = record { id = id; deleted = sent.deleted; body = sent.body }
+
+-- a revision of the document, as they see it, where there is one and its body is held
+abbrev pub held_document : List ℕ → HistoryContent → Option Revision → Option OldDocument
+held_document id h rev = option_and_then (λ r. option_map (λ d. record { id = id; rev = r; deleted = d.deleted; body = d.body }) (held_of h r)) rev
+
+-- the rule by which the caller may not write this document, whatever it says: he has to be an admin of the database for a design
+-- document
+abbrev pub design_refusal : Terms → List ℕ → Option Rule
+design_refusal terms id = if is_design_id id then verdict WriteDesign terms.caller terms.security else None
+
+-- the first update rule that does not hold of the document that is written and of this revision of it; a design document is subject
+-- to none
+abbrev pub rule_refusal : Terms → List ℕ → HistoryContent → Sent → Option Revision → Option Rule
+rule_refusal terms id h sent rev =
+    if is_design_id id then None
+    else update_verdict terms.rules (argument (document_of id sent) (held_document id h rev) terms.caller terms.name terms.security)
+
+-- the outcome where no rule refuses, else the denial
+abbrev pub unless_denied : {A : Type 0} → Option Rule → Result A WriteFault → Result A WriteFault
+unless_denied None outcome = outcome
+unless_denied (Some rule) outcome = Err (Denied rule)
+
 -- ---- edits
 
 -- the revision that an edit names: in its query, in its document, or in both alike
-abbrev pub named : Option Revision → Option Revision → Option (Option Revision)
-named None own = Some own
-named (Some r) None = Some (Some r)
-named (Some r) (Some s) = if eq_by_cmp revision_cmp r s then Some (Some r) else None
+abbrev pub named_revision : Option Revision → Option Revision → Option (Option Revision)
+named_revision None own = Some own
+named_revision (Some r) None = Some (Some r)
+named_revision (Some r) (Some s) = if eq_by_cmp revision_cmp r s then Some (Some r) else None
 
-abbrev pub naming : Option Revision → Sent → Option Sent
-naming query sent = option_map (λ rev. record sent { rev = rev }) (named query sent.rev)
+abbrev pub with_named_revision : Option Revision → Sent → Option Sent
+with_named_revision query sent = option_map (λ rev. record sent { rev = rev }) (named_revision query sent.rev)
 
 -- what an edit says, with the revision that its query names; none where the document is a bad one
 abbrev pub edit_of : List ℕ → Option Revision → Value → Option Sent
-edit_of id query document = option_and_then (λ sent. naming query sent) (sent_in id document)
+edit_of id query document = option_and_then (λ sent. with_named_revision query sent) (sent_in id document)
 
 -- What an edit that names no revision follows: nothing where nothing was ever written, the winner where it is deleted. Where the
 -- winner is not deleted there is nothing that it may follow.
-abbrev pub extended : HistoryContent → Option Revision → Option (Option Revision)
-extended h None = Some None
-extended h (Some r) = if is_deleted (held_of h r) then Some (Some r) else None
+abbrev pub extended_leaf : HistoryContent → Option Revision → Option (Option Revision)
+extended_leaf h None = Some None
+extended_leaf h (Some r) = if is_deleted (held_of h r) then Some (Some r) else None
 
 -- what an edit follows: the leaf that it names, deleted or not
 abbrev pub base : HistoryContent → Option Revision → Option (Option Revision)
-base h None = extended h (winner h)
+base h None = extended_leaf h (winner h)
 base h (Some r) = if is_leaf h r then Some (Some r) else None
 
--- the write of a body, with its mark of deletion, as the next revision after a known one, or as a first one
-abbrev pub next_write : List ℕ → HistoryContent → Bool → Value → Option Revision → DocumentWrite
-next_write id h deleted body parent =
-    record { id = id; write = record { path = next_revision parent deleted body ∷ behind h parent; deleted = deleted; body = body } }
+-- the revision that an edit makes which follows this one, or none before it; no revision follows one of the greatest number
+abbrev pub revision_after : Sent → Option Revision → Option Revision
+revision_after sent parent =
+    if number_before parent == greatest_number then None else Some (next_revision parent sent.deleted sent.body)
 
--- an edit is appended where its revision is new to the tree; else it is a conflict
-abbrev pub appended : HistoryContent → DocumentWrite → Result DocumentWrite WriteFault
-appended h w = if is_head_known h w.write.path then Err Conflict else Ok w
+abbrev pub is_known_if_any : HistoryContent → Option Revision → Bool
+is_known_if_any h None = false
+is_known_if_any h (Some r) = is_known h r
 
--- after the greatest number there is no further generation
-abbrev pub continued : List ℕ → HistoryContent → Bool → Value → Option Revision → Result DocumentWrite WriteFault
-continued id h deleted body parent =
-    if number_before parent == greatest_number then Err Generation else appended h (next_write id h deleted body parent)
+-- the path of an edit that makes this revision after another one
+abbrev pub edit_path : HistoryContent → Option Revision → Revision → List Revision
+edit_path h parent r = r ∷ behind h parent
 
-abbrev pub admitted_after : List ℕ → HistoryContent → Sent → Option (Option Revision) → Result DocumentWrite WriteFault
-admitted_after id h sent None = Err Conflict
-admitted_after id h sent (Some parent) = continued id h sent.deleted sent.body parent
+abbrev pub appended_edit : List ℕ → HistoryContent → Sent → Option Revision → Option Revision → Result DocumentWrite WriteFault
+appended_edit id h sent parent None = Err Generation
+appended_edit id h sent parent (Some r) = Ok (write_at id (edit_path h parent r) sent)
 
-abbrev pub admitted_edit : List ℕ → HistoryContent → Option Sent → Result DocumentWrite WriteFault
-admitted_edit id h None = Err BadDocument
-admitted_edit id h (Some sent) = admitted_after id h sent (base h sent.rev)
+-- what becomes of an edit that follows one revision and makes another: a conflict where that is known, a denial where an update rule
+-- does not hold, no further generation where there is none to make, or the write
+abbrev pub edit_with_revision : Terms → List ℕ → HistoryContent → Sent → Option Revision → Option Revision → Result DocumentWrite WriteFault
+edit_with_revision terms id h sent parent next =
+    if is_known_if_any h next then Err Conflict
+    else unless_denied (rule_refusal terms id h sent parent) (appended_edit id h sent parent next)
+
+abbrev pub next_edit : Terms → List ℕ → HistoryContent → Sent → Option Revision → Result DocumentWrite WriteFault
+next_edit terms id h sent parent = edit_with_revision terms id h sent parent (revision_after sent parent)
+
+abbrev pub edit_after : Terms → List ℕ → HistoryContent → Sent → Option (Option Revision) → Result DocumentWrite WriteFault
+edit_after terms id h sent None = Err Conflict
+edit_after terms id h sent (Some parent) = next_edit terms id h sent parent
+
+abbrev pub edit_by : Terms → List ℕ → HistoryContent → Option Sent → Result DocumentWrite WriteFault
+edit_by terms id h None = Err BadDocument
+edit_by terms id h (Some sent) = unless_denied (design_refusal terms id) (edit_after terms id h sent (base h sent.rev))
 
 -- what becomes of the edit of a document with this history, whose query names this revision or none
-abbrev pub admitted : List ℕ → HistoryContent → Option Revision → Value → Result DocumentWrite WriteFault
-admitted id h query document = admitted_edit id h (edit_of id query document)
+abbrev pub edit_outcome : Terms → List ℕ → HistoryContent → Option Revision → Value → Result DocumentWrite WriteFault
+edit_outcome terms id h query document = edit_by terms id h (edit_of id query document)
 
 -- what becomes of the edit in this database
-abbrev pub admission : Database → List ℕ → Option Revision → Value → Result DocumentWrite WriteFault
-admission db id query document = admitted id (history_at db id) query document
+abbrev pub admission : Terms → Database → List ℕ → Option Revision → Value → Result DocumentWrite WriteFault
+admission terms db id query document = edit_outcome terms id (history_at db id) query document
 
 -- the revision that a write makes
 abbrev pub new_revision : DocumentWrite → Option Revision
@@ -83,29 +130,44 @@ new_revision w = head w.write.path
 
 -- ---- replicated writes
 
--- a replicated write is appended where its revision is new; where it is known, nothing changes
-abbrev pub taken : Result Placed TreeFault → DocumentWrite → Result (Option DocumentWrite) WriteFault
-taken (Ok Added) w = Ok (Some w)
-taken (Ok Known) w = Ok None
-taken (Err fault) w = Err BadHistory
+-- the revisions behind the newest of a path
+abbrev pub ancestors : List Revision → List Revision
+ancestors [] = []
+ancestors (r ∷ rs) = rs
 
-abbrev pub taken_on : List ℕ → HistoryContent → Sent → Result (List Revision) WriteFault → Result (Option DocumentWrite) WriteFault
-taken_on id h sent (Ok path) = taken (placement h path) (write_at id path sent)
-taken_on id h sent (Err fault) = Err fault
+-- the first of these revisions whose body is held
+abbrev pub nearest_held : HistoryContent → List Revision → Option Revision
+nearest_held h rs = find (λ r. is_some (held_of h r)) rs
 
-abbrev pub taken_in : List ℕ → HistoryContent → Value → Option Sent → Result (Option DocumentWrite) WriteFault
-taken_in id h document None = Err BadDocument
-taken_in id h document (Some sent) = taken_on id h sent (path_in document sent.rev)
+-- where the history has a place for the path of an ancestry: with fewer revisions than it says, or more, it is not whole
+abbrev pub ancestry_placement : HistoryContent → Ancestry → Result Placed TreeFault
+ancestry_placement h ancestry = if ancestry.start == length ancestry.path then placement h ancestry.path else Err BadPath
+
+-- a replicated write whose revision is new is appended where no update rule refuses it; where its revision is known nothing changes
+abbrev pub placement_outcome : Terms → List ℕ → HistoryContent → Sent → List Revision → Result Placed TreeFault → Result (Option DocumentWrite) WriteFault
+placement_outcome terms id h sent path (Err fault) = Err BadHistory
+placement_outcome terms id h sent path (Ok Known) = Ok None
+placement_outcome terms id h sent path (Ok Added) =
+    unless_denied (rule_refusal terms id h sent (nearest_held h (ancestors path))) (Ok (Some (write_at id path sent)))
+
+abbrev pub ancestry_outcome : Terms → List ℕ → HistoryContent → Sent → Option Ancestry → Result (Option DocumentWrite) WriteFault
+ancestry_outcome terms id h sent None = Err BadDocument
+ancestry_outcome terms id h sent (Some ancestry) =
+    unless_denied (design_refusal terms id) (placement_outcome terms id h sent ancestry.path (ancestry_placement h ancestry))
+
+abbrev pub replicated_by : Terms → List ℕ → HistoryContent → Value → Option Sent → Result (Option DocumentWrite) WriteFault
+replicated_by terms id h document None = Err BadDocument
+replicated_by terms id h document (Some sent) = ancestry_outcome terms id h sent (ancestry_in document sent.rev)
 
 -- what becomes of a replicated document: the write that is appended, nothing where its revision is known, or the fault
-abbrev pub replicated : List ℕ → HistoryContent → Value → Result (Option DocumentWrite) WriteFault
-replicated id h document = taken_in id h document (sent_in id document)
+abbrev pub replicated_outcome : Terms → List ℕ → HistoryContent → Value → Result (Option DocumentWrite) WriteFault
+replicated_outcome terms id h document = replicated_by terms id h document (sent_in id document)
 
 -- what becomes of the replicated document in this database
-abbrev pub replication : Database → List ℕ → Value → Result (Option DocumentWrite) WriteFault
-replication db id document = replicated id (history_at db id) document
+abbrev pub replication : Terms → Database → List ℕ → Value → Result (Option DocumentWrite) WriteFault
+replication terms db id document = replicated_outcome terms id (history_at db id) document
 
 -- a history once a write is in, where there is one
-abbrev pub with_taken : HistoryContent → Option DocumentWrite → HistoryContent
-with_taken h None = h
-with_taken h (Some w) = with_write h w.write
+abbrev pub history_with : HistoryContent → Option DocumentWrite → HistoryContent
+history_with h None = h
+history_with h (Some w) = with_write h w.write

@@ -1,12 +1,13 @@
 -- What becomes of several documents that are written together.
--- CouchDB manual, api/database/bulk-api (`POST /{db}/_bulk_docs`, `new_edits`): each has its own outcome; that they are judged one after another, each by the histories that those before it left, is this server's own.
+-- CouchDB manual, api/database/bulk-api (`POST /{db}/_bulk_docs`, `new_edits`): each has its own outcome; that they are judged one after another, all on the same terms and each by the histories that those before it left, is this server's own.
 use Rattle.std.specs.Prelude.{ℕ, Bool, true, false, if◌then◌else◌, List, [], ◌∷◌, Option, Some, None, Result, Ok, Err, codes}
 use Rattle.couch_json.specs.Value.{Value}
 use Rattle.tree.specs.Revision.{Revision}
 use Rattle.tree.specs.History.{HistoryContent, with_write}
 use Rattle.store.specs.Database.{DocumentWrite, is_of}
-use Rattle.write.specs.Admission.{admitted, new_revision, replicated}
+use Rattle.write.specs.Admission.{edit_outcome, new_revision, replicated_outcome}
 use Rattle.write.specs.Document.{id_in, member_text}
+use Rattle.write.specs.Terms.{Terms}
 use Rattle.write.specs.declared.fault.WriteFault.{WriteFault}
 use Rattle.write.specs.declared.fault.WriteFault.TheVariants.{BadDocument, BadHistory}
 use Rattle.write.specs.declared.planned.Outcome.{Outcome}
@@ -21,9 +22,9 @@ as_outcome (Ok w) = Ok (Some w)
 as_outcome (Err fault) = Err fault
 
 -- what becomes of a document with this history: as a new edit, or as a replicated write
-abbrev pub judged : Bool → List ℕ → HistoryContent → Value → DocumentOutcome
-judged true id h document = as_outcome (admitted id h None document)
-judged false id h document = replicated id h document
+abbrev pub document_outcome : Terms → Bool → List ℕ → HistoryContent → Value → DocumentOutcome
+document_outcome terms true id h document = as_outcome (edit_outcome terms id h None document)
+document_outcome terms false id h document = replicated_outcome terms id h document
 
 -- the histories of documents, by id
 abbrev pub Histories : Type 0
@@ -33,13 +34,13 @@ Histories = List ℕ → HistoryContent
 abbrev pub with_write_in : Histories → DocumentWrite → Histories
 with_write_in histories w = λ id. if is_of id w then with_write (histories id) w.write else histories id
 
-abbrev pub judged_by : Bool → Histories → Value → Option (List ℕ) → DocumentOutcome
-judged_by new_edits histories document None = Err BadDocument
-judged_by new_edits histories document (Some id) = judged new_edits id (histories id) document
+abbrev pub outcome_by_id : Terms → Bool → Histories → Value → Option (List ℕ) → DocumentOutcome
+outcome_by_id terms new_edits histories document None = Err BadDocument
+outcome_by_id terms new_edits histories document (Some id) = document_outcome terms new_edits id (histories id) document
 
 -- what becomes of a document
-abbrev pub outcome_in : Bool → Histories → Value → DocumentOutcome
-outcome_in new_edits histories document = judged_by new_edits histories document (id_in document)
+abbrev pub outcome_in : Terms → Bool → Histories → Value → DocumentOutcome
+outcome_in terms new_edits histories document = outcome_by_id terms new_edits histories document (id_in document)
 
 -- the histories after an outcome
 abbrev pub after : Histories → DocumentOutcome → Histories
@@ -47,11 +48,11 @@ after histories (Ok (Some w)) = with_write_in histories w
 after histories (Ok None) = histories
 after histories (Err fault) = histories
 
--- what becomes of each document, in order, by the histories that those before it left
-abbrev pub outcomes : Bool → Histories → List Value → List DocumentOutcome
-outcomes new_edits histories [] = []
-outcomes new_edits histories (v ∷ vs) =
-    outcome_in new_edits histories v ∷ outcomes new_edits (after histories (outcome_in new_edits histories v)) vs
+-- what becomes of each document, in order, by the histories that those before it left; the terms are the same for all of them
+abbrev pub outcomes : Terms → Bool → Histories → List Value → List DocumentOutcome
+outcomes terms new_edits histories [] = []
+outcomes terms new_edits histories (v ∷ vs) =
+    outcome_in terms new_edits histories v ∷ outcomes terms new_edits (after histories (outcome_in terms new_edits histories v)) vs
 
 abbrev pub put_before : DocumentOutcome → List DocumentWrite → List DocumentWrite
 put_before (Ok (Some w)) ws = w ∷ ws
@@ -77,21 +78,21 @@ pub record Told : Type 0 where
   pub outcome : Outcome
 
 -- what is told of a write by the revision that it makes: each write that is appended makes one
-abbrev pub made : Option Revision → Outcome
-made None = Refused BadHistory
-made (Some r) = Made r
+abbrev pub outcome_of_revision : Option Revision → Outcome
+outcome_of_revision None = Refused BadHistory
+outcome_of_revision (Some r) = Made r
 
 -- a revision was made, was known already, or the document was refused
 abbrev pub outcome_told : DocumentOutcome → Outcome
 outcome_told (Ok None) = Known
-outcome_told (Ok (Some w)) = made (new_revision w)
+outcome_told (Ok (Some w)) = outcome_of_revision (new_revision w)
 outcome_told (Err fault) = Refused fault
 
-abbrev pub told : Value → DocumentOutcome → Told
-told document outcome =
+abbrev pub result_told : Value → DocumentOutcome → Told
+result_told document outcome =
     record { id = member_text (codes "_id") document; rev = member_text (codes "_rev") document; outcome = outcome_told outcome }
 
 abbrev pub all_told : List Value → List DocumentOutcome → List Told
 all_told [] os = []
 all_told (v ∷ vs) [] = []
-all_told (v ∷ vs) (o ∷ os) = told v o ∷ all_told vs os
+all_told (v ∷ vs) (o ∷ os) = result_told v o ∷ all_told vs os

@@ -12,7 +12,7 @@ use Rattle.write.specs.Refusing.{IsOwn}
 use Rattle.write.specs.declared.planned.DocumentResult.{DocumentResult}
 use Rattle.write.specs.declared.planned.Outcome.{Outcome}
 use Rattle.write.specs.declared.planned.Outcome.TheVariants.{Made, Known, Refused}
-use Rattle.write.specs.declared.planning.Words.{Words}
+use Rattle.write.specs.declared.planning.Label.{Label}
 use Rattle.store.specs.declared.write.Write.{Write}
 
 -- what a result tells
@@ -63,7 +63,7 @@ with_history histories id h = λ k. if bytes_eq id k then h else histories k
 abbrev pub brought : Histories → Write → DocumentWrite
 brought histories w = written_in (histories w.id) (addition_of w)
 
--- what is told of a document that says these words of itself
-abbrev pub told_as : Words → DocumentOutcome → Told
-told_as words outcome =
-    record { id = option_map string_bytes words.id; rev = option_map string_bytes words.rev; outcome = outcome_told outcome }
+-- what is told of a document under this label
+abbrev pub told_as : Label → DocumentOutcome → Told
+told_as label outcome =
+    record { id = option_map string_bytes label.id; rev = option_map string_bytes label.rev; outcome = outcome_told outcome }

@@ -1,14 +1,13 @@
 -- What a document that a client sends says: its body, the revision that it names, its mark of deletion, and the history that it comes with; and which documents are bad ones.
--- CouchDB manual, api/document/common ("Special Fields": names that begin with `_` are reserved) and api/database/bulk-api (`_revisions`); that other special members are refused and the limit on depth are this server's own.
-use Rattle.std.specs.Prelude.{ℕ, suc, ◌==◌, Bool, true, false, not, ◌&&◌, ◌||◌, if◌then◌else◌, List, [], ◌∷◌, length, ℤ, pos, negsuc, Option, Some, None, option_map, option_and_then, Result, Ok, Err, codes, nat_eq, nat_le, bytes_eq}
+-- CouchDB manual, api/document/common ("Special Fields": names that begin with `_` are reserved), api/database/bulk-api (`_revisions`) and ddocs (design documents); that other special members are refused and the limit on depth are this server's own.
+use Rattle.std.specs.Prelude.{ℕ, suc, ◌==◌, Bool, true, false, not, ◌&&◌, ◌||◌, if◌then◌else◌, List, [], ◌∷◌, ℤ, pos, negsuc, Option, Some, None, option_map, option_and_then, codes, nat_eq, nat_le, bytes_eq}
 use Rattle.std.specs.List.{starts_with}
 use Rattle.couch_json.specs.Parts.{has_only, items_in, members_in, text_in, truth_in, whole_in}
 use Rattle.couch_json.specs.Value.{Value, object, Items, no_items, item, Members, no_members, member, member_of, depth}
+use Rattle.policy.specs.DesignDocuments.{is_design_body}
 use Rattle.store.specs.Contents.{max_body_depth}
 use Rattle.tree.specs.DocumentId.{is_design_id, is_document_id, is_local_id}
 use Rattle.tree.specs.Revision.{Revision, greatest_number, revision_of, revision_read}
-use Rattle.write.specs.declared.fault.WriteFault.{WriteFault}
-use Rattle.write.specs.declared.fault.WriteFault.TheVariants.{BadDocument, BadHistory}
 use Rattle.write.specs.declared.document.Sent.{Sent}
 
 -- ---- parts of a value
@@ -68,14 +67,14 @@ mark_in (Some v) = truth_in v
 
 -- ---- a document
 
-abbrev pub said_of : Value → Option (Option Revision × Bool)
-said_of document =
+abbrev pub words_said : Value → Option (Option Revision × Bool)
+words_said document =
     option_and_then (λ rev. option_map (λ deleted. (rev, deleted)) (mark_in (member_of document (codes "_deleted"))))
     (revision_in (member_of document (codes "_rev")))
 
 -- the revision and the mark of deletion that a document with this id says
-abbrev pub said : List ℕ → Value → Option (Option Revision × Bool)
-said id document = if fits_id id (member_of document (codes "_id")) then said_of document else None
+abbrev pub words_in : List ℕ → Value → Option (Option Revision × Bool)
+words_in id document = if fits_id id (member_of document (codes "_id")) then words_said document else None
 
 abbrev pub body_if : Bool → Value → Option Value
 body_if good body = if good then Some body else None
@@ -89,18 +88,26 @@ body_of ms =
 abbrev pub body_in : Value → Option Value
 body_in document = option_and_then (λ ms. body_of ms) (members_in document)
 
+-- a design document has the body of one, also where it is deleted
+abbrev pub is_body_for : List ℕ → Value → Bool
+is_body_for id body = if is_design_id id then is_design_body body else true
+
+-- the body of a document with this id
+abbrev pub body_for : List ℕ → Value → Option Value
+body_for id document = option_and_then (λ body. body_if (is_body_for id body) body) (body_in document)
+
 abbrev pub sent_with : Option Revision × Bool → Value → Sent
 sent_with words body = record { rev = words.0; deleted = words.1; body = body }
 
 -- what a document with this id says, or none where it is a bad one: where it is no object, has a special member that no document
--- has or one of another form, or its body, which is what is left without them, nests too deep
+-- has or one of another form, its body, which is what is left without them, nests too deep, or it is a design document and its body
+-- is not that of one
 abbrev pub sent_in : List ℕ → Value → Option Sent
-sent_in id document = option_and_then (λ words. option_map (λ body. sent_with words body) (body_in document)) (said id document)
+sent_in id document = option_and_then (λ words. option_map (λ body. sent_with words body) (body_for id document)) (words_in id document)
 
--- the id that a document of several gives itself: a text that is the id of a document, of no local one, and, as long as they are
--- not served, of no design document
+-- the id that a document of several gives itself: a text that is the id of a document, and of no local one
 abbrev pub is_bulk_id : List ℕ → Bool
-is_bulk_id id = is_document_id id && not (is_design_id id) && not (is_local_id id)
+is_bulk_id id = is_document_id id && not (is_local_id id)
 
 abbrev pub id_if : List ℕ → Option (List ℕ)
 id_if id = if is_bulk_id id then Some id else None
@@ -135,12 +142,18 @@ start_in v = option_and_then (λ n. number_if n) (option_and_then (λ m. natural
 abbrev pub ids_in : Value → Option (List Revision)
 ids_in v = option_and_then (λ vs. path_of vs) (option_and_then (λ m. items_in m) (member_of v (codes "ids")))
 
-abbrev pub ancestry_if : Bool → Value → Option (ℕ × List Revision)
-ancestry_if good v = if good then option_and_then (λ start. option_map (λ path. (start, path)) (ids_in v)) (start_in v) else None
+-- what a document says of its history: how many revisions it has, and these, newest first
+pub record Ancestry : Type 0 where
+  pub start : ℕ
+  pub path : List Revision
 
--- what `_revisions` says: `start` and `ids`, newest first, and nothing else
-abbrev pub ancestry_in : Value → Option (ℕ × List Revision)
-ancestry_in v = ancestry_if (has_only (codes "start" ∷ codes "ids" ∷ []) v) v
+abbrev pub revisions_if : Bool → Value → Option Ancestry
+revisions_if good v =
+    if good then option_and_then (λ start. option_map (λ path. record { start = start; path = path }) (ids_in v)) (start_in v) else None
+
+-- what `_revisions` says: `start` and `ids`, and nothing else
+abbrev pub revisions_in : Value → Option Ancestry
+revisions_in v = revisions_if (has_only (codes "start" ∷ codes "ids" ∷ []) v) v
 
 -- the newest revision is `start` with the first of `ids`; a document that names its revision too names this one
 abbrev pub is_newest : ℕ → List Revision → Option Revision → Bool
@@ -148,23 +161,22 @@ is_newest start [] rev = false
 is_newest start (r ∷ path) None = true
 is_newest start (r ∷ path) (Some s) = (s.number == start) && bytes_eq s.hash r.hash
 
--- with fewer hashes than `start` says, or more, they are not the whole history
-abbrev pub whole_path : ℕ → List Revision → Result (List Revision) WriteFault
-whole_path start path = if start == length path then Ok path else Err BadHistory
+abbrev pub ancestry_if_newest : Option Revision → Ancestry → Option Ancestry
+ancestry_if_newest rev said = if is_newest said.start said.path rev then Some said else None
 
-abbrev pub path_from : Option (ℕ × List Revision) → Option Revision → Result (List Revision) WriteFault
-path_from None rev = Err BadDocument
-path_from (Some (start, path)) rev = if is_newest start path rev then whole_path start path else Err BadDocument
+-- a revision that comes alone is the whole history
+abbrev pub ancestry_alone : Revision → Ancestry
+ancestry_alone r = record { start = 1; path = r ∷ [] }
 
-abbrev pub path_alone : Option Revision → Result (List Revision) WriteFault
-path_alone None = Err BadDocument
-path_alone (Some r) = Ok (r ∷ [])
+abbrev pub ancestry_by : Option (Option Ancestry) → Option Revision → Option Ancestry
+ancestry_by None rev = option_map ancestry_alone rev
+ancestry_by (Some said) rev = option_and_then (ancestry_if_newest rev) said
 
-abbrev pub path_by : Option Value → Option Revision → Result (List Revision) WriteFault
-path_by None rev = path_alone rev
-path_by (Some v) rev = path_from (ancestry_in v) rev
+-- what `_revisions` says, where it is given
+abbrev pub given_revisions : Value → Option (Option Ancestry)
+given_revisions document = option_map revisions_in (member_of document (codes "_revisions"))
 
--- the path of a replicated document that names this revision: that of `_revisions`, or the one revision; without both, or where
--- they say different things, it is a bad document
-abbrev pub path_in : Value → Option Revision → Result (List Revision) WriteFault
-path_in document rev = path_by (member_of document (codes "_revisions")) rev
+-- The history of a replicated document that names this revision: that of `_revisions`, or the one revision. Without both, or where
+-- they say different things, there is none, and it is a bad document.
+abbrev pub ancestry_in : Value → Option Revision → Option Ancestry
+ancestry_in document rev = ancestry_by (given_revisions document) rev

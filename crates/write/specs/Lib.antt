@@ -1,6 +1,10 @@
 pub mod Refusing
 pub mod Document
+pub mod AncestryRead
+pub mod Terms
+pub mod TermsRead
 pub mod Admission
+pub mod Denials
 pub mod Bulk
 pub mod BulkResults
 pub mod Planning

@@ -20,9 +20,9 @@ planned_writes db (Writes ws) = writings_in db (additions ws.items)
 planned_writes db (Security s) = []
 
 -- the database once the changes are made
-abbrev pub changed : Changes → Database → Database
-changed (Writes ws) db = with_all db (writings_in db (additions ws.items))
-changed (Security s) db = with_security db s
+abbrev pub database_after : Changes → Database → Database
+database_after (Writes ws) db = with_all db (writings_in db (additions ws.items))
+database_after (Security s) db = with_security db s
 
 -- the changes are writes
 abbrev pub AreWrites : Changes → Type 0
@@ -43,10 +43,10 @@ LacksRoomFor lacks name (Security s) db = ⊥
 -- the plan makes of this database what becomes of these documents, and tells it of each
 pub record Plans (db : Database) (documents : List Value) (os : List DocumentOutcome) (planned : Planned) : Type 0 where
   pub writes : planned_writes db planned.changes ≡ writes_in os
-  pub changes : changed planned.changes db ≡ with_all db (writes_in os)
+  pub changes : database_after planned.changes db ≡ with_all db (writes_in os)
   pub may : MayBeMade planned.changes db
   pub results : map told_of planned.results.items ≡ all_told documents os
 
 -- a value is a security object or a bad one
-abbrev pub secured : Value → Result Value WriteFault
-secured value = if is_security value then Ok value else Err BadDocument
+abbrev pub security_outcome : Value → Result Value WriteFault
+security_outcome value = if is_security value then Ok value else Err BadDocument

@@ -9,9 +9,9 @@ use Rattle.write.specs.declared.fault.WriteFault.{WriteFault}
 use Rattle.write.specs.declared.fault.WriteFault.TheVariants.{BadDocument, Denied, BadHistory, Conflict, Generation, Store, Memory}
 
 -- the store's fault as it is passed on: want of memory is one cause, wherever it comes from
-abbrev pub passed : StoreFault → WriteFault
-passed store.Memory = Memory
-passed fault = Store fault
+abbrev pub fault_of_store : StoreFault → WriteFault
+fault_of_store store.Memory = Memory
+fault_of_store fault = Store fault
 
 -- the store refuses: there is no such database, as `absent` says of an honest one, a fault has its cause, or numbers ran out, as `full`
 -- says; it never refuses because there is such a database

@@ -1,26 +1,22 @@
 -- What several documents leave: the histories after all of them, and that what was replicated is known there or was refused.
 -- CouchDB manual, replication/protocol ("Upload Batch of Changed Documents": `_bulk_docs` with `new_edits` false, whose reply tells what was not written); the words are this server's own.
-use Rattle.std.specs.Prelude.{◌≡◌, ℕ, List, [], ◌∷◌, Option, Some, None, option_and_then, Result, Ok, Err, IsTrue, ⊤}
+use Rattle.std.specs.Prelude.{◌≡◌, ℕ, List, [], ◌∷◌, Option, Some, option_and_then, Ok, Err, IsTrue, ⊤}
 use Rattle.couch_json.specs.Value.{Value}
 use Rattle.tree.specs.Revision.{Revision}
 use Rattle.tree.specs.Write.{head}
 use Rattle.tree.specs.History.{is_known}
 use Rattle.write.specs.Bulk.{Histories, DocumentOutcome, after}
-use Rattle.write.specs.Document.{id_in, path_in, sent_in}
-use Rattle.write.specs.declared.fault.WriteFault.{WriteFault}
+use Rattle.write.specs.Document.{ancestry_in, id_in, sent_in}
 
 -- the histories after several outcomes, one after another
 abbrev pub after_all : Histories → List DocumentOutcome → Histories
 after_all histories [] = histories
 after_all histories (o ∷ os) = after_all (after histories o) os
 
-abbrev pub head_of : Result (List Revision) WriteFault → Option Revision
-head_of (Ok path) = head path
-head_of (Err fault) = None
-
--- the revision that a replicated document with this id brings: the newest of its path
+-- the revision that a replicated document with this id brings: the newest of its history
 abbrev pub revision_brought : List ℕ → Value → Option Revision
-revision_brought id document = option_and_then (λ sent. head_of (path_in document sent.rev)) (sent_in id document)
+revision_brought id document =
+    option_and_then (λ sent. option_and_then (λ ancestry. head ancestry.path) (ancestry_in document sent.rev)) (sent_in id document)
 
 -- the document has an id and brings a revision, and the document of this id has that revision
 pub record IsKnownIn (histories : Histories) (document : Value) : Type 0 where

@@ -1,65 +1,77 @@
 //! The history that a replicated document comes with: `_revisions`, or its one revision.
 
-ghost use Rattle.std.specs.Prelude.{◌≡◌, ◌≢◌, ◌<◌, IfOk, IfErr, Ok, Err, length, option_map, option_and_then};
+ghost use Rattle.std.specs.Prelude.{◌≡◌, IfOk, option_map, option_and_then};
 ghost use Rattle.couch_json.specs.Parts.{text_in};
 ghost use Rattle.couch_json.specs.View.{view, items_view};
-ghost use Rattle.tree.specs.Revision.{revision_of};
-ghost use Rattle.write.specs.Document.{ancestry_in, is_newest, natural, number_if, path_alone, path_from, path_in as path_in_lem, path_of, start_in};
+ghost use Rattle.tree.specs.Revision.{Revision, revision_of};
+ghost use Rattle.write.specs.AncestryRead.{ancestry_of};
+ghost use Rattle.write.specs.Document.{ancestry_alone, ancestry_by, ancestry_if_newest, given_revisions, is_newest, natural, number_if, path_of, revisions_in, start_in};
 
-use crate::fault::WriteFault;
 use couch_json::{Got, Json};
 use std::alloc::Global;
 use tree::Rev;
 
-/// The path of a replicated document that names this revision, newest first.
-pub(crate) fn path_in(
-    alloc: Global,
-    document: &Json,
-    rev: Option<Rev>,
-) -> Result<Vec<Rev>, WriteFault>
-    ensures ok { IfOk result (λ path. path_in_lem (view document.now) rev ≡ Ok path.items) }
-    ensures fault { IfErr result (λ fault. fault ≢ WriteFault.Memory → path_in_lem (view document.now) rev ≡ Err fault) }
-    ensures others { IfErr result (λ fault. ((rule : _) → fault ≢ WriteFault.Denied rule) × ((cause : _) → fault ≢ WriteFault.Store cause)) }
+/// What a document says of its history.
+#[derive(Drop)]
+pub(crate) struct Ancestry {
+    /// How many revisions it has.
+    pub(crate) start: u32,
+    /// Its revisions, newest first.
+    pub(crate) path: Vec<Rev>,
+}
+
+/// Reads what `_revisions` says, where it is given: `Some(None)` where it is not of its form.
+pub(crate) fn read_given(alloc: Global, document: &Json) -> Got<Option<Option<Ancestry>>>
+    ensures { IfOk result (λ given. option_map (λ said. option_map ancestry_of said) given ≡ given_revisions (view document.now)) }
 {
     match document.member("_revisions") {
-        Some(value) => path_from(ancestry_in(alloc, value)?, rev),
-        None => path_alone(alloc, rev),
+        Some(value) => Ok(Some(read_revisions(alloc, value)?)),
+        None => Ok(None),
     }
 }
 
-/// The path of a revision that comes without the ones behind it.
-fn path_alone(alloc: Global, rev: Option<Rev>) -> Result<Vec<Rev>, WriteFault>
-    ensures ok { IfOk result (λ path. path_alone rev ≡ Ok path.items) }
-    ensures fault { IfErr result (λ fault. fault ≢ WriteFault.Memory → path_alone rev ≡ Err fault) }
-    ensures others { IfErr result (λ fault. ((rule : _) → fault ≢ WriteFault.Denied rule) × ((cause : _) → fault ≢ WriteFault.Store cause)) }
+/// Finds the history of a replicated document that names this revision: what `_revisions` says, or
+/// the revision alone. `None` where the document comes without one, or says different things of it.
+pub(crate) fn find_ancestry(
+    alloc: Global,
+    given: Option<Option<Ancestry>>,
+    rev: Option<Rev>,
+) -> Got<Option<Ancestry>>
+    ensures { IfOk result (λ ancestry. option_map ancestry_of ancestry
+        ≡ ancestry_by (option_map (λ said. option_map ancestry_of said) given) rev) }
+{
+    match given {
+        Some(Some(said)) => Ok(match_newest(said, rev)),
+        Some(None) => Ok(None),
+        None => make_alone(alloc, rev),
+    }
+}
+
+/// Makes the history of a revision that comes alone.
+fn make_alone(alloc: Global, rev: Option<Rev>) -> Got<Option<Ancestry>>
+    ensures { IfOk result (λ ancestry. option_map ancestry_of ancestry ≡ option_map ancestry_alone rev) }
 {
     let Some(rev) = rev else {
-        return Err(WriteFault::BadDocument);
+        return Ok(None);
     };
     let mut path = Vec::with_capacity(alloc, 1)?;
     path.push(rev)?;
-    Ok(path)
+    Ok(Some(Ancestry { start: 1, path }))
 }
 
-/// The path that `_revisions` gives, where it is the one that the document's revision has.
-fn path_from(ancestry: Option<(u32, Vec<Rev>)>, rev: Option<Rev>) -> Result<Vec<Rev>, WriteFault>
-    ensures ok { IfOk result (λ path. path_from (option_map (λ a. (a.0, a.1.items)) ancestry) rev ≡ Ok path.items) }
-    ensures fault { IfErr result (λ fault. path_from (option_map (λ a. (a.0, a.1.items)) ancestry) rev ≡ Err fault) }
-    ensures others { IfErr result (λ fault. ((rule : _) → fault ≢ WriteFault.Denied rule) × ((cause : _) → fault ≢ WriteFault.Store cause)) }
+/// Keeps the history whose newest revision is the one that the document names, if it names one.
+fn match_newest(said: Ancestry, rev: Option<Rev>) -> Option<Ancestry>
+    ensures { option_map ancestry_of result ≡ ancestry_if_newest rev (ancestry_of said) }
 {
-    let Some((start, path)) = ancestry else {
-        return Err(WriteFault::BadDocument);
-    };
-    if !is_newest(start, &path, rev) {
-        return Err(WriteFault::BadDocument);
+    if is_newest(said.start, &said.path, rev) {
+        Some(said)
+    } else {
+        None
     }
-    if start as usize != path.len() {
-        return Err(WriteFault::BadHistory);
-    }
-    Ok(path)
 }
 
-/// Whether the document's revision, if it names one, has this number and the first hash of the path.
+/// Tells whether the document's revision, if it names one, has this number and the first hash of the
+/// path.
 fn is_newest(start: u32, path: &[Rev], rev: Option<Rev>) -> bool
     ensures { result ≡ is_newest start path.now rev }
 {
@@ -70,37 +82,37 @@ fn is_newest(start: u32, path: &[Rev], rev: Option<Rev>) -> bool
     }
 }
 
-/// What `_revisions` says, or `None` where it is not of its form.
-fn ancestry_in(alloc: Global, value: &Json) -> Got<Option<(u32, Vec<Rev>)>>
-    ensures { IfOk result (λ ancestry. option_map (λ a. (a.0, a.1.items)) ancestry ≡ ancestry_in (view value.now)) }
+/// Reads what `_revisions` says; `None` where it is not of its form.
+fn read_revisions(alloc: Global, value: &Json) -> Got<Option<Ancestry>>
+    ensures { IfOk result (λ said. option_map ancestry_of said ≡ revisions_in (view value.now)) }
 {
     if !value.has_only(&["start", "ids"]) {
         return Ok(None);
     }
-    let Some(start) = start_in(value) else {
+    let Some(start) = read_start(value) else {
         return Ok(None);
     };
     let Some(Json::Array(ids)) = value.member("ids") else {
         return Ok(None);
     };
-    match path_of(alloc, ids)? {
-        Some(path) => Ok(Some((start, path))),
+    match read_path(alloc, ids)? {
+        Some(path) => Ok(Some(Ancestry { start, path })),
         None => Ok(None),
     }
 }
 
-/// The number that `start` gives the newest revision.
-fn start_in(value: &Json) -> Option<u32>
+/// Reads the number that `start` gives the newest revision.
+fn read_start(value: &Json) -> Option<u32>
     ensures { result ≡ start_in (view value.now) }
 {
     match value.member("start") {
-        Some(Json::Whole(number)) => number_if(number.value()),
+        Some(Json::Whole(number)) => check_number(number.value()),
         _ => None,
     }
 }
 
-/// The number, where it is that of a revision.
-fn number_if(number: i128) -> Option<u32>
+/// Keeps a number that is one of a revision.
+fn check_number(number: i128) -> Option<u32>
     ensures { result ≡ option_and_then number_if (natural number) }
 {
     if number < 1 || number > 2_147_483_647 {
@@ -109,8 +121,8 @@ fn number_if(number: i128) -> Option<u32>
     Some(number as u32)
 }
 
-/// The revisions of these hashes, newest first and down to number 1.
-fn path_of(alloc: Global, ids: &[Json]) -> Got<Option<Vec<Rev>>>
+/// Reads the revisions of these hashes, newest first and down to number 1.
+fn read_path(alloc: Global, ids: &[Json]) -> Got<Option<Vec<Rev>>>
     ensures { IfOk result (λ path. option_map (λ revs. revs.items) path ≡ path_of (items_view ids.now)) }
 {
     let mut path = Vec::with_capacity(alloc, ids.len())?;
@@ -123,7 +135,7 @@ fn path_of(alloc: Global, ids: &[Json]) -> Got<Option<Vec<Rev>>>
     Ok(Some(path))
 }
 
-/// The revision of a number and a hash.
+/// Reads the revision of a number and a hash.
 fn revision_at(number: usize, hash: &Json) -> Option<Rev>
     ensures { result ≡ option_and_then (λ text. revision_of number text) (text_in (view hash.now)) }
 {

@@ -8,20 +8,24 @@ ghost use Rattle.store.specs.Calls.{OnlyReads};
 ghost use Rattle.store.specs.Contents.{IfThere};
 ghost use Rattle.store.specs.Database.{Database, history_at, with_all};
 ghost use Rattle.store.specs.Writing.{addition_of, additions, writings_in, written_in};
-ghost use Rattle.write.specs.Admission.{with_taken};
-ghost use Rattle.write.specs.Bulk.{Histories, after, all_told, judged as judged_lem, outcome_in, outcomes, put_before, told as told_lem, writes_in};
+ghost use Rattle.write.specs.Admission.{history_with};
+ghost use Rattle.write.specs.Bulk.{Histories, after, all_told, document_outcome, outcome_in, outcomes, put_before, result_told, writes_in};
 ghost use Rattle.write.specs.BulkResults.{IsHeld, IsOwnOutcome, brought, seen_in, told_of};
-ghost use Rattle.write.specs.Document.{id_in as id_in_lem};
+ghost use Rattle.write.specs.Document.{id_in};
 ghost use Rattle.write.specs.Planning.{AreWrites, Plans};
 ghost use Rattle.write.specs.Refusing.{IsDecided, Refuses};
+ghost use Rattle.write.specs.Terms.{terms_in};
+ghost use Rattle.write.specs.TermsRead.{terms_of};
 
 use crate::admission::admit_edit;
-use crate::document::id_in;
+use crate::document::read_id;
 use crate::fault::WriteFault;
 use crate::histories::{load, put_history, take_history, take_in};
 use crate::planned::{Changes, DocumentResult, Outcome, Planned};
-use crate::planning::{outcome_of, result_of, words_of};
+use crate::planning::{read_label, tell_outcome, tell_result};
 use crate::replicating::admit_replicated;
+use crate::terms::{Terms, read_terms};
+use auth::Caller;
 use couch_json::{Got, Json, NoMemory};
 use std::alloc::Global;
 use std::collections::BTreeMap;
@@ -32,19 +36,22 @@ use tree::{DocId, History};
 ///
 /// Each document is judged on its own, by its `_id`, in order, by the histories that those before it
 /// left: as an edit, or with `new_edits` false as a replicated write, whose path is `_revisions` or
-/// its one revision, and which changes nothing where its revision is known. Their writes make one
-/// plan. `Store(NoDatabase)` comes exactly where there is no database of this name. No history is
-/// copied, and no path of an edit is walked. See the CouchDB manual, api/database/bulk-api.
+/// its one revision, and which changes nothing where its revision is known. All are judged on the
+/// terms that the store has at the start: a design document among them rules none of those behind
+/// it. Their writes make one plan. `Store(NoDatabase)` comes exactly where there is no database of
+/// this name. No history is copied, and no path of an edit is walked. See the CouchDB manual,
+/// api/database/bulk-api.
 pub fn bulk<S: Store>(
     alloc: Global,
     store: &mut S,
     db: &DbName,
+    caller: &Caller,
     documents: Vec<Json>,
     new_edits: bool,
 ) -> Result<Planned, WriteFault>
     ensures there { S.is_honest store.new → IsDecided result → is_some (map.get (S.contents store.old) db.now) ≡ true }
     ensures plan { S.is_honest store.new → IfOk result (λ planned. IfThere (map.get (S.contents store.old) db.now) (λ d.
-        Plans d (list_map view documents.items) (outcomes new_edits (history_at d) (list_map view documents.items)) planned)) }
+        Plans d (list_map view documents.items) (outcomes (terms_in caller.now db.now d) new_edits (history_at d) (list_map view documents.items)) planned)) }
     ensures appends { IfOk result (λ planned. AreWrites planned.changes) }
     ensures own { IfOk result (λ planned. All (λ r. IsOwnOutcome r.outcome) planned.results.items) }
     ensures database { IfOk result (λ planned. planned.database ≡ db.now) }
@@ -52,8 +59,8 @@ pub fn bulk<S: Store>(
     ensures passed { IfErr result (Refuses S.Store store.old store.new (map.get (S.contents store.old) db.now ≡ None) ⊥) }
     ensures reads { OnlyReads S.Store store.old store.new }
 {
-    let _present = store.security(db)?;
-    let (writes, results) = judge_all(alloc, store, db, documents, new_edits)?;
+    let terms = read_terms(alloc, store, db, caller)?;
+    let (writes, results) = judge_all(alloc, store, db, &terms, documents, new_edits)?;
     Ok(Planned {
         database: db.copy(alloc)?,
         changes: Changes::Writes(writes),
@@ -66,13 +73,14 @@ fn judge_all<S: Store>(
     alloc: Global,
     store: &mut S,
     db: &DbName,
+    terms: &Terms,
     documents: Vec<Json>,
     new_edits: bool,
 ) -> Result<(Vec<Write>, Vec<DocumentResult>), WriteFault>
     ensures writes { S.is_honest store.new → IfOk result (λ all. (d : Database) → map.get (S.contents store.old) db.now ≡ Some d
-        → writings_in d (additions all.0.items) ≡ writes_in (outcomes new_edits (history_at d) (list_map view documents.items))) }
+        → writings_in d (additions all.0.items) ≡ writes_in (outcomes (terms_of terms.now) new_edits (history_at d) (list_map view documents.items))) }
     ensures results { S.is_honest store.new → IfOk result (λ all. (d : Database) → map.get (S.contents store.old) db.now ≡ Some d
-        → list_map told_of all.1.items ≡ all_told (list_map view documents.items) (outcomes new_edits (history_at d) (list_map view documents.items))) }
+        → list_map told_of all.1.items ≡ all_told (list_map view documents.items) (outcomes (terms_of terms.now) new_edits (history_at d) (list_map view documents.items))) }
     ensures own { IfOk result (λ all. All (λ r. IsOwnOutcome r.outcome) all.1.items) }
     ensures only { IfErr result (λ fault. fault ≢ WriteFault.Memory → ((cause : _) → fault ≢ WriteFault.Store cause) → ⊥) }
     ensures passed { IfErr result (Refuses S.Store store.old store.new (map.get (S.contents store.old) db.now ≡ None) ⊥) }
@@ -83,7 +91,14 @@ fn judge_all<S: Store>(
     let mut results = Vec::with_capacity(alloc, documents.len())?;
     for document in documents {
         load(alloc, store, db, &document, &mut histories)?;
-        results.push(judge_one(alloc, &mut histories, &mut writes, new_edits, document)?)?;
+        results.push(judge_one(
+            alloc,
+            terms,
+            &mut histories,
+            &mut writes,
+            new_edits,
+            document,
+        )?)?;
     }
     Ok((writes, results))
 }
@@ -92,36 +107,37 @@ fn judge_all<S: Store>(
 /// writes, if it is appended.
 fn judge_one(
     alloc: Global,
+    terms: &Terms,
     histories: &mut BTreeMap<DocId, History>,
     writes: &mut Vec<Write>,
     new_edits: bool,
     document: Json,
 ) -> Got<DocumentResult>
-    requires { IsHeld histories.old (id_in_lem (view document)) }
-    ensures told { IfOk result (λ r. (stored : Histories) → told_lem (view document) (outcome_in new_edits (seen_in stored histories.old) (view document)) ≡ told_of r) }
+    requires { IsHeld histories.old (id_in (view document)) }
+    ensures told { IfOk result (λ r. (stored : Histories) → result_told (view document) (outcome_in (terms_of terms.now) new_edits (seen_in stored histories.old) (view document)) ≡ told_of r) }
     ensures own { IfOk result (λ r. IsOwnOutcome r.outcome) }
     ensures histories { OnOk result ((stored : Histories) → seen_in stored histories.new
-        ≡ after (seen_in stored histories.old) (outcome_in new_edits (seen_in stored histories.old) (view document))) }
+        ≡ after (seen_in stored histories.old) (outcome_in (terms_of terms.now) new_edits (seen_in stored histories.old) (view document))) }
     ensures writes { OnOk result ((stored : Histories) (d : Database) → seen_in stored histories.old ≡ history_at (with_all d (writings_in d (additions writes.old.items)))
         → writings_in d (additions writes.new.items)
-        ≡ writings_in d (additions writes.old.items) ++ put_before (outcome_in new_edits (seen_in stored histories.old) (view document)) []) }
+        ≡ writings_in d (additions writes.old.items) ++ put_before (outcome_in (terms_of terms.now) new_edits (seen_in stored histories.old) (view document)) []) }
 {
-    let words = words_of(alloc, &document)?;
-    match settle(alloc, histories, new_edits, document) {
+    let label = read_label(alloc, &document)?;
+    match settle(alloc, terms, histories, new_edits, document) {
         Ok(write) => {
-            let outcome = outcome_of(&write);
+            let outcome = tell_outcome(&write);
             append(writes, write)?;
-            Ok(result_of(words, outcome))
+            Ok(tell_result(label, outcome))
         }
         Err(fault) => {
-            let outcome = refusal_of(fault)?;
-            Ok(result_of(words, outcome))
+            let outcome = tell_refusal(fault)?;
+            Ok(tell_result(label, outcome))
         }
     }
 }
 
 /// Tells that a document was refused, where that is not for want of memory.
-fn refusal_of(fault: WriteFault) -> Got<Outcome>
+fn tell_refusal(fault: WriteFault) -> Got<Outcome>
     requires { (cause : _) → fault ≢ WriteFault.Store cause }
     ensures told { IfOk result (λ outcome. outcome ≡ Outcome.Refused fault) }
     ensures own { IfOk result (λ outcome. IsOwnOutcome outcome) }
@@ -151,25 +167,26 @@ fn append(writes: &mut Vec<Write>, write: Option<Write>) -> Got<()>
 /// Judges a document by its history, which takes in its write.
 fn settle(
     alloc: Global,
+    terms: &Terms,
     histories: &mut BTreeMap<DocId, History>,
     new_edits: bool,
     document: Json,
 ) -> Result<Option<Write>, WriteFault>
-    requires { IsHeld histories.old (id_in_lem (view document)) }
-    ensures ok { IfOk result (λ write. (stored : Histories) → outcome_in new_edits (seen_in stored histories.old) (view document)
+    requires { IsHeld histories.old (id_in (view document)) }
+    ensures ok { IfOk result (λ write. (stored : Histories) → outcome_in (terms_of terms.now) new_edits (seen_in stored histories.old) (view document)
         ≡ Ok (option_map (brought (seen_in stored histories.old)) write)) }
     ensures headed { IfOk result (λ write. IfSome write (λ w. 0 < length w.path.items)) }
     ensures histories { IfOk result (λ write. (stored : Histories) → seen_in stored histories.new
         ≡ after (seen_in stored histories.old) (Ok (option_map (brought (seen_in stored histories.old)) write))) }
-    ensures fault { IfErr result (λ fault. fault ≢ WriteFault.Memory → (stored : Histories) → outcome_in new_edits (seen_in stored histories.old) (view document) ≡ Err fault) }
+    ensures fault { IfErr result (λ fault. fault ≢ WriteFault.Memory → (stored : Histories) → outcome_in (terms_of terms.now) new_edits (seen_in stored histories.old) (view document) ≡ Err fault) }
     ensures same { IfErr result (λ fault. fault ≢ WriteFault.Memory → (stored : Histories) → seen_in stored histories.new ≡ seen_in stored histories.old) }
     ensures others { IfErr result (λ fault. (cause : _) → fault ≢ WriteFault.Store cause) }
 {
-    let Some(id) = id_in(alloc, &document)? else {
+    let Some(id) = read_id(alloc, &document)? else {
         return Err(WriteFault::BadDocument);
     };
     let mut history = take_history(histories, &id);
-    let outcome = judge_in(alloc, &mut history, &id, new_edits, document);
+    let outcome = judge_in(alloc, terms, &mut history, &id, new_edits, document);
     put_history(histories, id, history)?;
     outcome
 }
@@ -177,19 +194,20 @@ fn settle(
 /// Judges a document by this history, which takes in its write.
 fn judge_in(
     alloc: Global,
+    terms: &Terms,
     history: &mut History,
     id: &DocId,
     new_edits: bool,
     document: Json,
 ) -> Result<Option<Write>, WriteFault>
-    ensures ok { IfOk result (λ write. judged_lem new_edits id.now history.old (view document) ≡ Ok (option_map (λ w. written_in history.old (addition_of w)) write)) }
+    ensures ok { IfOk result (λ write. document_outcome (terms_of terms.now) new_edits id.now history.old (view document) ≡ Ok (option_map (λ w. written_in history.old (addition_of w)) write)) }
     ensures headed { IfOk result (λ write. IfSome write (λ w. 0 < length w.path.items)) }
-    ensures taken_in { IfOk result (λ write. history.new ≡ with_taken history.old (option_map (λ w. written_in history.old (addition_of w)) write)) }
-    ensures fault { IfErr result (λ fault. fault ≢ WriteFault.Memory → judged_lem new_edits id.now history.old (view document) ≡ Err fault) }
+    ensures taken_in { IfOk result (λ write. history.new ≡ history_with history.old (option_map (λ w. written_in history.old (addition_of w)) write)) }
+    ensures fault { IfErr result (λ fault. fault ≢ WriteFault.Memory → document_outcome (terms_of terms.now) new_edits id.now history.old (view document) ≡ Err fault) }
     ensures err { OnErr result (history.new ≡ history.old) }
     ensures others { IfErr result (λ fault. (cause : _) → fault ≢ WriteFault.Store cause) }
 {
-    let write = judge(alloc, history, id, new_edits, document)?;
+    let write = judge(alloc, terms, history, id, new_edits, document)?;
     if let Some(write) = &write {
         take_in(history, write)?;
     }
@@ -199,18 +217,19 @@ fn judge_in(
 /// Judges a document by this history, as a new edit or as a replicated write.
 fn judge(
     alloc: Global,
+    terms: &Terms,
     history: &History,
     id: &DocId,
     new_edits: bool,
     document: Json,
 ) -> Result<Option<Write>, WriteFault>
-    ensures ok { IfOk result (λ write. judged_lem new_edits id.now history.now (view document) ≡ Ok (option_map (λ w. written_in history.now (addition_of w)) write)) }
+    ensures ok { IfOk result (λ write. document_outcome (terms_of terms.now) new_edits id.now history.now (view document) ≡ Ok (option_map (λ w. written_in history.now (addition_of w)) write)) }
     ensures headed { IfOk result (λ write. IfSome write (λ w. 0 < length w.path.items)) }
-    ensures fault { IfErr result (λ fault. fault ≢ WriteFault.Memory → judged_lem new_edits id.now history.now (view document) ≡ Err fault) }
+    ensures fault { IfErr result (λ fault. fault ≢ WriteFault.Memory → document_outcome (terms_of terms.now) new_edits id.now history.now (view document) ≡ Err fault) }
     ensures others { IfErr result (λ fault. (cause : _) → fault ≢ WriteFault.Store cause) }
 {
     if new_edits {
-        return Ok(Some(admit_edit(alloc, history, id, None, document)?));
+        return Ok(Some(admit_edit(alloc, terms, history, id, None, document)?));
     }
-    admit_replicated(alloc, history, id, document)
+    admit_replicated(alloc, terms, history, id, document)
 }

@@ -2,9 +2,10 @@
 
 ghost use Rattle.std.specs.Prelude.{◌≡◌, IfOk, option_map, string_bytes};
 ghost use Rattle.couch_json.specs.View.{view, members_view};
-ghost use Rattle.write.specs.Document.{are_allowed, body_in, fits_id, id_if, id_in, is_allowed, is_document_member, is_special, mark_in, member_text, revision_in, said, sent_in, without_special};
+ghost use Rattle.write.specs.Document.{are_allowed, body_for, body_in, fits_id, id_if, id_in, is_allowed, is_body_for, is_document_member, is_special, mark_in, member_text, revision_in, sent_in, without_special, words_in};
 
 use couch_json::{Got, Json, NoMemory};
+use policy::check_design;
 use std::alloc::Global;
 use std::collections::BTreeMap;
 use tree::{Body, DocId, IdFault, Rev};
@@ -23,31 +24,62 @@ pub(crate) struct Sent {
     pub(crate) body: Body,
 }
 
-/// What a document with this id says, or `None` where it is a bad one.
-pub(crate) fn sent_in(id: &DocId, document: Json) -> Option<Sent>
-    ensures { result ≡ sent_in id.now (view document) }
+/// Reads what a document with this id says; `None` where it is a bad one.
+pub(crate) fn read_document(alloc: Global, id: &DocId, document: Json) -> Got<Option<Sent>>
+    ensures { IfOk result (λ sent. sent ≡ sent_in id.now (view document)) }
 {
-    let (rev, deleted) = said(id, &document)?;
-    let body = Body::new(body_in(document)?);
-    Some(Sent { rev, deleted, body })
+    let Some((rev, deleted)) = read_words(id, &document) else {
+        return Ok(None);
+    };
+    let Some(body) = read_body(alloc, id, document)? else {
+        return Ok(None);
+    };
+    let body = Body::new(body);
+    Ok(Some(Sent { rev, deleted, body }))
 }
 
-/// The revision and the mark of deletion that a document says; `None` where its id is another one or
-/// one of them is not of its form.
-pub(crate) fn said(id: &DocId, document: &Json) -> Option<(Option<Rev>, bool)>
-    ensures { result ≡ said id.now (view document.now) }
+/// Reads the revision and the mark of deletion that a document says; `None` where its id is another
+/// one or one of them is not of its form.
+fn read_words(id: &DocId, document: &Json) -> Option<(Option<Rev>, bool)>
+    ensures { result ≡ words_in id.now (view document.now) }
 {
     if !fits_id(id, document.member("_id")) {
         return None;
     }
-    let rev = revision_in(document.member("_rev"))?;
-    let deleted = mark_in(document.member("_deleted"))?;
+    let rev = parse_revision(document.member("_rev"))?;
+    let deleted = read_mark(document.member("_deleted"))?;
     Some((rev, deleted))
 }
 
-/// What is left of a document without its special members; `None` where it is no object, has special
-/// members that no document has, or nests too deep.
-pub(crate) fn body_in(document: Json) -> Option<Json>
+/// Reads the body of a document with this id; `None` where it is no object, has special members that
+/// no document has, nests too deep, or is not the body that a design document may have.
+fn read_body(alloc: Global, id: &DocId, document: Json) -> Got<Option<Json>>
+    ensures { IfOk result (λ body. option_map view body ≡ body_for id.now (view document)) }
+{
+    let Some(body) = strip(document) else {
+        return Ok(None);
+    };
+    if suits(alloc, id, &body)? {
+        Ok(Some(body))
+    } else {
+        Ok(None)
+    }
+}
+
+/// Tells whether a document with this id may have this body.
+fn suits(alloc: Global, id: &DocId, body: &Json) -> Got<bool>
+    ensures { IfOk result (λ good. good ≡ is_body_for id.now (view body.now)) }
+{
+    if id.is_design() {
+        check_design(alloc, body)
+    } else {
+        Ok(true)
+    }
+}
+
+/// Strips a document of its special members; `None` where it is no object, has special members that
+/// no document has, or nests too deep.
+fn strip(document: Json) -> Option<Json>
     ensures { option_map view result ≡ body_in (view document) }
 {
     let Json::Object(members) = document else {
@@ -100,7 +132,7 @@ fn without_special(members: BTreeMap<String, Json>) -> BTreeMap<String, Json>
     members
 }
 
-/// Whether `_id`, where it is given, is the text of the id.
+/// Tells whether `_id`, where it is given, is the text of the id.
 fn fits_id(id: &DocId, value: Option<&Json>) -> bool
     ensures { result ≡ fits_id id.now (option_map (λ v. view v.now) value.entry) }
 {
@@ -113,8 +145,8 @@ fn fits_id(id: &DocId, value: Option<&Json>) -> bool
     }
 }
 
-/// The revision that `_rev` gives, if it is given; `None` where it gives none.
-fn revision_in(value: Option<&Json>) -> Option<Option<Rev>>
+/// Parses the revision that `_rev` gives, if it is given; `None` where it gives none.
+fn parse_revision(value: Option<&Json>) -> Option<Option<Rev>>
     ensures { result ≡ revision_in (option_map (λ v. view v.now) value.entry) }
 {
     let Some(value) = value else {
@@ -124,8 +156,8 @@ fn revision_in(value: Option<&Json>) -> Option<Option<Rev>>
     Some(Some(rev))
 }
 
-/// Whether `_deleted` marks the document as deleted; `None` where it is neither true nor false.
-fn mark_in(value: Option<&Json>) -> Option<bool>
+/// Tells whether `_deleted` marks the document as deleted; `None` where it is neither true nor false.
+fn read_mark(value: Option<&Json>) -> Option<bool>
     ensures { result ≡ mark_in (option_map (λ v. view v.now) value.entry) }
 {
     match value {
@@ -134,19 +166,19 @@ fn mark_in(value: Option<&Json>) -> Option<bool>
     }
 }
 
-/// The id that a document of several gives itself; `None` where it gives none, or one that can't be
-/// written so.
-pub(crate) fn id_in(alloc: Global, document: &Json) -> Got<Option<DocId>>
+/// Reads the id that a document of several gives itself; `None` where it gives none, or that of a
+/// local document.
+pub(crate) fn read_id(alloc: Global, document: &Json) -> Got<Option<DocId>>
     ensures { IfOk result (λ id. id ≡ id_in (view document.now)) }
 {
     match document.member("_id") {
-        Some(Json::Text(text)) => id_of(alloc, text),
+        Some(Json::Text(text)) => parse_id(alloc, text),
         _ => Ok(None),
     }
 }
 
-/// The id that a text is, where it is one of a document that is neither a design document nor local.
-fn id_of(alloc: Global, text: &str) -> Got<Option<DocId>>
+/// Parses the id of a document that is no local one.
+fn parse_id(alloc: Global, text: &str) -> Got<Option<DocId>>
     ensures { IfOk result (λ id. id ≡ id_if text.now) }
 {
     let id = match DocId::new(alloc, text) {
@@ -154,17 +186,14 @@ fn id_of(alloc: Global, text: &str) -> Got<Option<DocId>>
         Err(IdFault::Shape) => return Ok(None),
         Err(IdFault::Memory) => return Err(NoMemory),
     };
-    if id.is_design() {
-        return Ok(None);
-    }
     if id.is_local() {
         return Ok(None);
     }
     Ok(Some(id))
 }
 
-/// The text of a member, where there is one and it is a text.
-pub(crate) fn member_text(alloc: Global, document: &Json, name: &str) -> Got<Option<String>>
+/// Copies the text of a member, where there is one and it is a text.
+pub(crate) fn copy_text(alloc: Global, document: &Json, name: &str) -> Got<Option<String>>
     ensures { IfOk result (λ text. option_map string_bytes text ≡ member_text name.now (view document.now)) }
 {
     match document.member(name) {

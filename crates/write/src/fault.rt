@@ -10,11 +10,13 @@ use thiserror::Error;
 /// Why a write was refused. Nothing has changed then.
 #[derive(Debug, Drop, Error)]
 pub enum WriteFault {
-    /// The document is no object, has a special member that it may not have, or its body nests
-    /// more than 100 deep.
+    /// The document is no object, has a special member that it may not have, its body nests more
+    /// than 100 deep, or it is a design document whose rule is no selector or whose indexes are not
+    /// of their form.
     #[error("a bad document")]
     BadDocument,
-    /// A rule of the written policy refused it.
+    /// This rule refused it, the first that does: the caller may not write design documents, or an
+    /// update rule of the database does not hold.
     #[error("denied by a rule")]
     Denied(Rule),
     /// The path of revisions is not whole, or gives a known revision another parent.
@@ -35,9 +37,9 @@ pub enum WriteFault {
 }
 
 impl From<StoreFault> for WriteFault {
-    ghost use Rattle.write.specs.Refusing.{passed};
+    ghost use Rattle.write.specs.Refusing.{fault_of_store};
 
-    ghost from_gives = { λ fault given. given ≡ passed fault };
+    ghost from_gives = { λ fault given. given ≡ fault_of_store fault };
 
     fn from(fault: StoreFault) -> WriteFault {
         match fault {

@@ -9,10 +9,10 @@ ghost use Rattle.store.specs.Database.{Database, history_at};
 ghost use Rattle.store.specs.Writing.{addition_of, written_in};
 ghost use Rattle.write.specs.Bulk.{Histories};
 ghost use Rattle.write.specs.BulkResults.{IsHeld, seen_in, with_history};
-ghost use Rattle.write.specs.Document.{id_in as id_in_lem};
+ghost use Rattle.write.specs.Document.{id_in};
 ghost use Rattle.write.specs.Refusing.{Refuses};
 
-use crate::document::id_in;
+use crate::document::read_id;
 use crate::fault::WriteFault;
 use couch_json::{Got, Json};
 use std::alloc::Global;
@@ -30,12 +30,12 @@ pub(crate) fn load<S: Store>(
 ) -> Result<(), WriteFault>
     ensures ok { S.is_honest store.new → OnOk result ((d : Database) → map.get (S.contents store.old) db.now ≡ Some d
         → seen_in (history_at d) histories.new ≡ seen_in (history_at d) histories.old) }
-    ensures held { OnOk result (IsHeld histories.new (id_in_lem (view document.now))) }
+    ensures held { OnOk result (IsHeld histories.new (id_in (view document.now))) }
     ensures only { IfErr result (λ fault. fault ≢ WriteFault.Memory → ((cause : _) → fault ≢ WriteFault.Store cause) → ⊥) }
     ensures passed { IfErr result (Refuses S.Store store.old store.new (map.get (S.contents store.old) db.now ≡ None) ⊥) }
     ensures reads { OnlyReads S.Store store.old store.new }
 {
-    let Some(id) = id_in(alloc, document)? else {
+    let Some(id) = read_id(alloc, document)? else {
         return Ok(());
     };
     if histories.contains_key(&id) {

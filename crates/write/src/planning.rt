@@ -8,37 +8,37 @@ ghost use Rattle.store.specs.Database.{Database, with_all};
 ghost use Rattle.store.specs.Writing.{addition_of, written_at, written_in};
 ghost use Rattle.write.specs.Bulk.{outcome_told, put_before};
 ghost use Rattle.write.specs.BulkResults.{IsMadeOutcome, IsUnrefused, OfFirst, told_as, told_of};
-ghost use Rattle.write.specs.Document.{member_text as member_text_lem};
-ghost use Rattle.write.specs.Planning.{MayBeMade, changed, planned_writes};
+ghost use Rattle.write.specs.Document.{member_text};
+ghost use Rattle.write.specs.Planning.{MayBeMade, database_after, planned_writes};
 ghost use Rattle.store.specs.Contents.{AreAcceptable};
 
-use crate::document::member_text;
+use crate::document::copy_text;
 use crate::planned::{Changes, DocumentResult, Outcome, Planned};
 use couch_json::{Got, Json};
 use std::alloc::Global;
 use store::{DbName, Write};
 
-/// What a document says of itself.
+/// What a document calls itself, by which its result is told.
 #[derive(Drop)]
-pub(crate) struct Words {
+pub(crate) struct Label {
     /// Its `_id`, where that is a text.
     pub(crate) id: Option<String>,
     /// Its `_rev`, where that is a text.
     pub(crate) rev: Option<String>,
 }
 
-/// Reads what a document says of itself.
-pub(crate) fn words_of(alloc: Global, document: &Json) -> Got<Words>
-    ensures id { IfOk result (λ words. option_map string_bytes words.id ≡ member_text_lem (codes "_id") (view document.now)) }
-    ensures rev { IfOk result (λ words. option_map string_bytes words.rev ≡ member_text_lem (codes "_rev") (view document.now)) }
+/// Reads what a document calls itself.
+pub(crate) fn read_label(alloc: Global, document: &Json) -> Got<Label>
+    ensures id { IfOk result (λ label. option_map string_bytes label.id ≡ member_text (codes "_id") (view document.now)) }
+    ensures rev { IfOk result (λ label. option_map string_bytes label.rev ≡ member_text (codes "_rev") (view document.now)) }
 {
-    let id = member_text(alloc, document, "_id")?;
-    let rev = member_text(alloc, document, "_rev")?;
-    Ok(Words { id, rev })
+    let id = copy_text(alloc, document, "_id")?;
+    let rev = copy_text(alloc, document, "_rev")?;
+    Ok(Label { id, rev })
 }
 
 /// Tells what became of a document that was not refused.
-pub(crate) fn outcome_of(write: &Option<Write>) -> Outcome
+pub(crate) fn tell_outcome(write: &Option<Write>) -> Outcome
     requires { IfSome write.now (λ w. 0 < length w.path.items) }
     ensures told { (h : HistoryContent) → outcome_told (Ok (option_map (λ w. written_in h (addition_of w)) write.now)) ≡ result }
     ensures unrefused { IsUnrefused result }
@@ -54,43 +54,43 @@ pub(crate) fn outcome_of(write: &Option<Write>) -> Outcome
 pub(crate) fn plan_alone(
     alloc: Global,
     db: &DbName,
-    words: Words,
+    label: Label,
     write: Option<Write>,
 ) -> Got<Planned>
     requires { IfSome write (λ w. 0 < length w.path.items) }
     ensures writes { IfOk result (λ planned. (d : Database) → planned_writes d planned.changes ≡ put_before (Ok (option_map (λ w. written_at d (addition_of w)) write)) []) }
-    ensures changed { IfOk result (λ planned. (d : Database) → changed planned.changes d ≡ with_all d (planned_writes d planned.changes)) }
+    ensures changed { IfOk result (λ planned. (d : Database) → database_after planned.changes d ≡ with_all d (planned_writes d planned.changes)) }
     ensures may { IfOk result (λ planned. (d : Database) → AreAcceptable d (planned_writes d planned.changes) → MayBeMade planned.changes d) }
     ensures results { IfOk result (λ planned. (h : HistoryContent) → map told_of planned.results.items
-        ≡ told_as words (Ok (option_map (λ w. written_in h (addition_of w)) write)) ∷ []) }
+        ≡ told_as label (Ok (option_map (λ w. written_in h (addition_of w)) write)) ∷ []) }
     ensures unrefused { IfOk result (λ planned. OfFirst IsUnrefused planned.results.items) }
     ensures made { IfOk result (λ planned. IfSome write (λ w. OfFirst IsMadeOutcome planned.results.items)) }
     ensures database { IfOk result (λ planned. planned.database ≡ db.now) }
 {
-    let outcome = outcome_of(&write);
+    let outcome = tell_outcome(&write);
     let mut results = Vec::with_capacity(alloc, 1)?;
-    results.push(result_of(words, outcome))?;
+    results.push(tell_result(label, outcome))?;
     Ok(Planned {
         database: db.copy(alloc)?,
-        changes: Changes::Writes(list_of(alloc, write)?),
+        changes: Changes::Writes(list_write(alloc, write)?),
         results,
     })
 }
 
-/// Puts what a document says of itself beside what became of it.
-pub(crate) fn result_of(words: Words, outcome: Outcome) -> DocumentResult
-    ensures words { told_of result ≡ record { id = option_map string_bytes words.id; rev = option_map string_bytes words.rev; outcome = outcome } }
+/// Tells what became of a document with this label.
+pub(crate) fn tell_result(label: Label, outcome: Outcome) -> DocumentResult
+    ensures label { told_of result ≡ record { id = option_map string_bytes label.id; rev = option_map string_bytes label.rev; outcome = outcome } }
     ensures outcome { result.outcome ≡ outcome }
 {
     DocumentResult {
-        id: words.id,
-        rev: words.rev,
+        id: label.id,
+        rev: label.rev,
         outcome,
     }
 }
 
 /// Lists the write, where there is one.
-fn list_of(alloc: Global, write: Option<Write>) -> Got<Vec<Write>>
+fn list_write(alloc: Global, write: Option<Write>) -> Got<Vec<Write>>
     ensures { IfOk result (λ writes. writes.items ≡ option_to_list write) }
 {
     let mut writes = Vec::with_capacity(alloc, 1)?;

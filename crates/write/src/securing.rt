@@ -3,7 +3,7 @@ ghost use Rattle.std.specs.FinMap as map;
 ghost use Rattle.couch_json.specs.View.{view};
 ghost use Rattle.store.specs.Calls.{OnlyReads};
 ghost use Rattle.write.specs.Refusing.{IsDecided, IsOwn, Refuses};
-ghost use Rattle.write.specs.Planning.{secured as secured_lem};
+ghost use Rattle.write.specs.Planning.{security_outcome};
 
 use crate::fault::WriteFault;
 use crate::planned::{Changes, Planned};
@@ -24,26 +24,26 @@ pub fn put_security<S: Store>(
     value: &Json,
 ) -> Result<Planned, WriteFault>
     ensures there { S.is_honest store.new → IsDecided result → is_some (map.get (S.contents store.old) db.now) ≡ true }
-    ensures ok { IfOk result (λ planned. secured_lem (view value.now) ≡ Ok (view value.now)) }
+    ensures ok { IfOk result (λ planned. security_outcome (view value.now) ≡ Ok (view value.now)) }
     ensures changes { IfOk result (λ planned. planned.changes ≡ Changes.Security (view value.now)) }
     ensures results { IfOk result (λ planned. planned.results.items ≡ []) }
     ensures database { IfOk result (λ planned. planned.database ≡ db.now) }
-    ensures refused { IfErr result (λ fault. IsOwn fault → secured_lem (view value.now) ≡ Err fault) }
+    ensures refused { IfErr result (λ fault. IsOwn fault → security_outcome (view value.now) ≡ Err fault) }
     ensures only { IfErr result (λ fault. fault ≢ WriteFault.BadDocument → fault ≢ WriteFault.Memory → ((cause : _) → fault ≢ WriteFault.Store cause) → ⊥) }
     ensures passed { IfErr result (Refuses S.Store store.old store.new (map.get (S.contents store.old) db.now ≡ None) ⊥) }
     ensures reads { OnlyReads S.Store store.old store.new }
 {
     let _present = store.security(db)?;
-    secured(alloc, db, value)
+    plan_security(alloc, db, value)
 }
 
-/// The plan, where the value is a security object.
-fn secured(alloc: Global, db: &DbName, value: &Json) -> Result<Planned, WriteFault>
-    ensures ok { IfOk result (λ planned. secured_lem (view value.now) ≡ Ok (view value.now)) }
+/// Plans to set a value that is a security object.
+fn plan_security(alloc: Global, db: &DbName, value: &Json) -> Result<Planned, WriteFault>
+    ensures ok { IfOk result (λ planned. security_outcome (view value.now) ≡ Ok (view value.now)) }
     ensures changes { IfOk result (λ planned. planned.changes ≡ Changes.Security (view value.now)) }
     ensures results { IfOk result (λ planned. planned.results.items ≡ []) }
     ensures database { IfOk result (λ planned. planned.database ≡ db.now) }
-    ensures refused { IfErr result (λ fault. fault ≢ WriteFault.Memory → secured_lem (view value.now) ≡ Err fault) }
+    ensures refused { IfErr result (λ fault. fault ≢ WriteFault.Memory → security_outcome (view value.now) ≡ Err fault) }
     ensures only { IfErr result (λ fault. fault ≢ WriteFault.BadDocument → fault ≢ WriteFault.Memory → ⊥) }
 {
     let security = match Security::read(alloc, value) {

@@ -5,5 +5,5 @@ use Rattle.node.proofs.document.delete_document.Goals as goal
 
 pub returns-clause-comes : goal.returns-clause-comes
 returns-clause-comes g c = λ honest db there.
-    deletion_comes c.args.caller.now (message_of c.args.request.now) db (c.in_ok-id.id, c.in_ok-id.rev) c.in-Some.rev (view c.in_ok-document.document) c.edit_document.result
+    deletion_comes c.args.caller.now (message_of c.args.request.now) c.args.name.now db (c.in_ok-id.id, c.in_ok-id.rev) c.in-Some.rev (view c.in_ok-document.document) c.edit_document.result
     c.in_ok-id.ensures.says c.in-Some.is c.in_ok-document.ensures (c.edit_document.ensures.comes honest db there)

@@ -9,6 +9,7 @@ use Rattle.store.specs.Contents.{Contents}
 use Rattle.store.specs.Writing.{additions}
 use Rattle.store.proofs.Calls.{reads_nothing, reads_then}
 use Rattle.write.specs.BulkResults.{IsOwnOutcome, told_of}
+use Rattle.write.specs.TermsRead.{terms_of}
 use Rattle.write.specs.declared.planned.DocumentResult.{DocumentResult}
 use Rattle.write.proofs.Judgings.{begun, judged_next, judged_results, judged_writes}
 use Rattle.write.proofs.bulk_writes.judge_all.Goals as goal
@@ -16,7 +17,7 @@ use Rattle.write.proofs.bulk_writes.judge_all.Goals as goal
 pub loop-document-init : goal.loop-document-init
 loop-document-init g c = record {
   judged = λ honest d there.
-      begun c.args.new_edits d (map view c.args.documents.items) _ c.new-histories.result _ _ c.new-histories.ensures.empty
+      begun (terms_of c.args.terms.now) c.args.new_edits d (map view c.args.documents.items) _ c.new-histories.result _ _ c.new-histories.ensures.empty
       (ap (map view) c.into_iter-document-iterator.ensures.into_iter_gives.0) (ap additions c.new-writes.ensures.items) (ap (map told_of) c.in_ok-results.ensures.items);
   own = grind (arith, common_steps);
   reads = reads_nothing g.S.Store c.args.store.now;
@@ -30,7 +31,7 @@ loop-document-preserved g c =
     record {
       judged = λ honest d there.
           let before = c.in_ok-load.ensures.reads.goes_on.honest honest in
-          judged_next c.args.new_edits d (map view c.args.documents.items) (map view (into_iter_items l.document-iterator)) (map view left) (view c.in-Some.document)
+          judged_next (terms_of c.args.terms.now) c.args.new_edits d (map view c.args.documents.items) (map view (into_iter_items l.document-iterator)) (map view left) (view c.in-Some.document)
           l.histories c.load.new.histories c.judge_one.new.histories (additions l.writes.items) (additions c.judge_one.new.writes.items)
           (map told_of l.results.items) (map told_of c.push.new.self.items) (told_of c.in_ok-judge_one.field-0)
           (ap (map view) first) (l.invariant.judged before d there)
@@ -46,12 +47,12 @@ pub returns-clause-writes : goal.returns-clause-writes
 returns-clause-writes g c = λ honest d there.
     let l = c.loop-document in
     let none : into_iter_items l.document-iterator ≡ [] = grind (arith, common_steps) in
-    judged_writes c.args.new_edits d (map view c.args.documents.items) (map view (into_iter_items l.document-iterator)) l.histories (additions l.writes.items) (map told_of l.results.items)
+    judged_writes (terms_of c.args.terms.now) c.args.new_edits d (map view c.args.documents.items) (map view (into_iter_items l.document-iterator)) l.histories (additions l.writes.items) (map told_of l.results.items)
     (ap (map view) none) (l.invariant.judged honest d there)
 
 pub returns-clause-results : goal.returns-clause-results
 returns-clause-results g c = λ honest d there.
     let l = c.loop-document in
     let none : into_iter_items l.document-iterator ≡ [] = grind (arith, common_steps) in
-    judged_results c.args.new_edits d (map view c.args.documents.items) (map view (into_iter_items l.document-iterator)) l.histories (additions l.writes.items) (map told_of l.results.items)
+    judged_results (terms_of c.args.terms.now) c.args.new_edits d (map view c.args.documents.items) (map view (into_iter_items l.document-iterator)) l.histories (additions l.writes.items) (map told_of l.results.items)
     (ap (map view) none) (l.invariant.judged honest d there)

@@ -7,9 +7,9 @@ use Rattle.write.proofs.bulk_writes.judge_one.Goals as goal
 
 pub returns-in_ok-append-in-Ok-clause-told : goal.returns-in_ok-append-in-Ok-clause-told
 returns-in_ok-append-in-Ok-clause-told c = λ stored.
-    told_is (view c.args.document) _ c.outcome_of-outcome.result _ _ _ c.in_ok-words.ensures.id c.in_ok-words.ensures.rev
-    (ap outcome_told (c.in-Ok.ensures.ok stored) ∙ told_brought (seen_in stored c.args.histories.now) c.in-Ok.write _ c.outcome_of-outcome.ensures.told)
-    c.result_of.ensures.words
+    told_is (view c.args.document) _ c.tell_outcome-outcome.result _ _ _ c.in_ok-label.ensures.id c.in_ok-label.ensures.rev
+    (ap outcome_told (c.in-Ok.ensures.ok stored) ∙ told_brought (seen_in stored c.args.histories.now) c.in-Ok.write _ c.tell_outcome-outcome.ensures.told)
+    c.tell_result.ensures.label
 
 pub returns-in_ok-append-in-Ok-clause-writes : goal.returns-in_ok-append-in-Ok-clause-writes
 returns-in_ok-append-in-Ok-clause-writes c = λ stored d seen.

@@ -1,5 +1,5 @@
 use Rattle.std.proofs.Common.{◌≡◌, true, is_some, sym, subst, rules}
-use Rattle.policy.specs.Security.{closed}
+use Rattle.policy.specs.Security.{closed_security}
 use Rattle.std.specs.FinMap as map
 use Rattle.store.specs.Contents.{new_database}
 use Rattle.store.specs.Lawful.{AreLawful}
@@ -20,5 +20,5 @@ invariant_of-self c =
     let new = contents_of c.add.new.databases.items in
     record {
       lawful = lawful_after c.add.result old new (contents_of c.add.new.databases.items ≡ map.insert (contents_of c.args.self.now.databases.items) c.args.name.now new_database) c.add.ensures.ok c.add.ensures.err
-          (λ made h. subst AreLawful (sym made) (lawful_insert old name new_database h (lawful_empty closed))) c.args.self.now.lawful;
+          (λ made h. subst AreLawful (sym made) (lawful_insert old name new_database h (lawful_empty closed_security))) c.args.self.now.lawful;
     }

@@ -1,0 +1,122 @@
+-- What the queries of a listing by id and of the changes ask for, and which revisions a request asks about.
+-- CouchDB manual, api/database/bulk-api (`startkey`, `endkey`, `inclusive_end`, `descending`, `skip`, `limit`), api/database/changes (`since`, `limit`, `style`) and api/database/misc (`_revs_diff`); that keys are JSON strings, and the greatest number, are this server's own.
+use Rattle.std.specs.Prelude.{ℕ, Bool, true, false, ◌&&◌, if◌then◌else◌, List, [], ◌∷◌, length, nat_le, Option, Some, None, option_map, option_and_then, Result, Ok, Err, bytes_eq, codes, unwrap_or}
+use Rattle.std.specs.Char.{is_ascii_digit}
+use Rattle.std.specs.List.{list_all}
+use Rattle.std.specs.Str.Parse.{digits_value}
+use Rattle.couch_json.specs.Parts.{members_in, text_in}
+use Rattle.couch_json.specs.Reading.{reading}
+use Rattle.couch_json.specs.Value.{Value, Members, no_members, member}
+use Rattle.couch_json.specs.declared.fault.JsonFault.{JsonFault}
+use Rattle.tree.specs.Revision.{Revision}
+use Rattle.store.specs.declared.page.IdRange.{IdRange}
+use Rattle.store.specs.declared.page.SeqRange.{SeqRange}
+use Rattle.read.specs.Differences.{RevisionsOf}
+use Rattle.api.specs.Queries.{are_named, parameters_in, revisions_listed, sole_value}
+
+-- ---- values of parameters
+
+-- 2^63 - 1
+abbrev pub greatest_count : ℕ
+greatest_count = 9223372036854775807
+
+-- 1 to 19 decimal digits
+abbrev pub is_count_text : List ℕ → Bool
+is_count_text text = nat_le 1 (length text) && nat_le (length text) 19 && list_all is_ascii_digit text
+
+-- the number that they write, where it is not too great
+abbrev pub count_in : List ℕ → Option ℕ
+count_in text = if is_count_text text && nat_le (digits_value 10 text) greatest_count then Some (digits_value 10 text) else None
+
+-- what a value that may be absent says, where each value has to be of this form
+abbrev pub if_given : {A : Type 0} → (List ℕ → Option A) → Option (List ℕ) → Option (Option A)
+if_given read None = Some None
+if_given read (Some value) = option_map (λ a. Some a) (read value)
+
+-- the same of the parameter of this name
+abbrev pub given_at : {A : Type 0} → (List ℕ → Option A) → List ℕ → List (List ℕ × List ℕ) → Option (Option A)
+given_at read name parameters = option_and_then (λ value. if_given read value) (sole_value name parameters)
+
+abbrev pub text_read : Result Value JsonFault → Option (List ℕ)
+text_read (Ok v) = text_in v
+text_read (Err fault) = None
+
+-- a key is a JSON string
+abbrev pub key_in : List ℕ → Option (List ℕ)
+key_in value = text_read (reading value)
+
+-- `true` or `false`
+abbrev pub flag_in : List ℕ → Option Bool
+flag_in value = if bytes_eq value (codes "true") then Some true else (if bytes_eq value (codes "false") then Some false else None)
+
+-- all leaves of a document, or its winner alone
+abbrev pub style_in : List ℕ → Option Bool
+style_in value = if bytes_eq value (codes "all_docs") then Some true else (if bytes_eq value (codes "main_only") then Some false else None)
+
+-- ---- a listing by id
+
+abbrev pub range_by : Option (List ℕ) → Option (List ℕ) → Option Bool → Option Bool → Option ℕ → Option ℕ → IdRange
+range_by start end inclusive_end descending skip limit = record {
+  start = start;
+  end = end;
+  inclusive_end = unwrap_or inclusive_end true;
+  descending = unwrap_or descending false;
+  skip = unwrap_or skip 0;
+  limit = limit;
+  counted = false;
+}
+
+abbrev pub listing_names : List (List ℕ)
+listing_names = codes "startkey" ∷ codes "endkey" ∷ codes "inclusive_end" ∷ codes "descending" ∷ codes "skip" ∷ codes "limit" ∷ []
+
+-- the range from these keys, in a direction
+abbrev pub range_from : List (List ℕ × List ℕ) → Option (List ℕ) → Option (List ℕ) → Option IdRange
+range_from ps start end =
+    option_and_then (λ inclusive_end. option_and_then (λ descending. option_and_then (λ skip. option_map (λ limit.
+    range_by start end inclusive_end descending skip limit)
+    (given_at count_in (codes "limit") ps)) (given_at count_in (codes "skip") ps))
+    (given_at flag_in (codes "descending") ps)) (given_at flag_in (codes "inclusive_end") ps)
+
+abbrev pub range_asked : List (List ℕ × List ℕ) → Option IdRange
+range_asked ps =
+    if are_named listing_names ps
+    then option_and_then (λ start. option_and_then (λ end. range_from ps start end) (given_at key_in (codes "endkey") ps)) (given_at key_in (codes "startkey") ps)
+    else None
+
+-- the rows that a listing's reader asks for, or nothing where the query is a bad one
+abbrev pub listing_query : Option (List ℕ) → Option IdRange
+listing_query query = range_asked (parameters_in query)
+
+-- ---- changes
+
+abbrev pub changes_by : Option ℕ → Option ℕ → Option Bool → SeqRange
+changes_by since limit all_leaves =
+    record { since = unwrap_or since 0; limit = limit; all_leaves = unwrap_or all_leaves false; counted = false }
+
+abbrev pub change_names : List (List ℕ)
+change_names = codes "since" ∷ codes "limit" ∷ codes "style" ∷ []
+
+abbrev pub changes_asked : List (List ℕ × List ℕ) → Option SeqRange
+changes_asked ps =
+    if are_named change_names ps
+    then option_and_then (λ since. option_and_then (λ limit. option_map (λ style. changes_by since limit style)
+    (given_at style_in (codes "style") ps)) (given_at count_in (codes "limit") ps)) (given_at count_in (codes "since") ps)
+    else None
+
+-- the changes that a reader asks for, or nothing where the query is a bad one
+abbrev pub changes_query : Option (List ℕ) → Option SeqRange
+changes_query query = changes_asked (parameters_in query)
+
+-- ---- differences of revisions
+
+-- a text and a list of revisions, before others
+abbrev pub with_revisions_of : List ℕ → Option (List Revision) → Option (List RevisionsOf) → Option (List RevisionsOf)
+with_revisions_of id revs rest = option_and_then (λ rs. option_map (λ others. record { id = id; revs = rs } ∷ others) rest) revs
+
+abbrev pub revisions_of_members : Members → Option (List RevisionsOf)
+revisions_of_members no_members = Some []
+revisions_of_members (member name v ms) = with_revisions_of name (revisions_listed v) (revisions_of_members ms)
+
+-- the revisions that a body asks about: an object from texts to lists of revisions
+abbrev pub differences_in : Value → Option (List RevisionsOf)
+differences_in v = option_and_then (λ ms. revisions_of_members ms) (members_in v)

@@ -1,0 +1,388 @@
+-- Each denial names the first rule that refuses, and is told to the caller as it should be.
+use Rattle.std.proofs.Common.{◌≡◌, ◌≢◌, cond, arith, ℕ, List, true, false, is_none, Option, Some, None, Result, Ok, Err, ◌⊎◌, inl, inr, refl, ap, sym, ◌∙◌, subst}
+use Rattle.std.specs.Prelude.{⊤, map}
+use Rattle.std.specs.FinMap.{get}
+use Rattle.auth.specs.Callers.{Configuration, Identity, caller_of}
+use Rattle.auth.specs.declared.auth_fault.AuthFault.{AuthFault}
+use Rattle.couch_http.specs.Message.{Message}
+use Rattle.couch_json.specs.Value.{Value}
+use Rattle.couch_json.specs.Reading.{reading}
+use Rattle.couch_json.specs.declared.fault.JsonFault.{JsonFault}
+use Rattle.policy.specs.Security.{closed_security}
+use Rattle.policy.specs.Verdict.{verdict}
+use Rattle.policy.specs.declared.action.Action.{Action}
+use Rattle.policy.specs.declared.action.Action.TheVariants.{Administer, Read, WriteSecurity, WriteDocument}
+use Rattle.policy.specs.declared.rule.Rule.{Rule}
+use Rattle.policy.specs.declared.rule.Rule.TheVariants.{ProxyToken}
+use Rattle.read.specs.declared.fault.ReadFault.{ReadFault}
+use Rattle.read.specs.declared.fault.ReadFault.TheVariants as read
+use Rattle.store.specs.Contents.{Contents}
+use Rattle.store.specs.Database.{Database, DocumentWrite, history_at}
+use Rattle.tree.specs.Revision.{Revision}
+use Rattle.write.specs.Admission.{admission}
+use Rattle.write.specs.Denials.{EditIsDueTo}
+use Rattle.write.specs.Planning.{security_outcome}
+use Rattle.write.specs.Terms.{Terms, terms_in}
+use Rattle.write.specs.declared.fault.WriteFault.{WriteFault}
+use Rattle.write.specs.declared.fault.WriteFault.TheVariants as write
+use Rattle.write.proofs.Outcomes.{edit_denied}
+use Rattle.api.specs.Asking.{asker, body_of, denial, identity_or_refusal, method_of, pair_of, plain, value_or_refusal}
+use Rattle.api.specs.Bulk.{bulk_in}
+use Rattle.api.specs.Listings.{changes_query, differences_in, listing_query}
+use Rattle.api.specs.Paths.{database_name_in, document_id_in}
+use Rattle.api.specs.Queries.{document_query, revision_query}
+use Rattle.api.specs.Refusals.{name_of_rule, next, rule_of, status_of, there_or, true_or}
+use Rattle.api.specs.Routing.{page_of}
+use Rattle.api.specs.declared.method.RequestMethod.{RequestMethod}
+use Rattle.api.specs.declared.method.RequestMethod.TheVariants.{Get, Put, Post, Delete}
+use Rattle.api.specs.declared.page.Page.{Page}
+use Rattle.api.specs.declared.page.Page.TheVariants.{Welcome, AllDatabases, Database as DatabasePage, Security, BulkDocuments, AllDocuments, Changes, Differences, Document}
+use Rattle.api.specs.declared.refusal.Refusal.{Refusal}
+use Rattle.api.specs.declared.refusal.Refusal.TheVariants.{Unauthorized, Forbidden, Path, Method, DatabaseName, NoDatabase, Exists, Id, Query, Syntax, Body, BadDocument, BadHistory, Conflict, Generation, Missing, Deleted}
+use Rattle.node.specs.Answer.{Outcome, Task, administration, permission, created, entry, admin_task, judgement, listed, database_name_of, outcome_in, task_outcome, removed, page_outcome, task_of, told, worked, work_task}
+use Rattle.node.proofs.Tasks.{named, same, there, went}
+use Rattle.node.specs.Denials.{IsAsked, IsByEdit, IsByPolicy, IsDenied, IsDue, IsToldRule, IsUnvouched, rule_denied_by}
+use Rattle.node.specs.Work.{Done, Work, read_work}
+use Rattle.node.specs.Works.{change_list, database_read, difference_list, document_deleted, document_list, document_read, document_written, documents_written, deletion, edit_asked, edit_done, edit_in, found, read_by, security_read, security_set, security_written}
+
+-- ---- refusals of steps
+
+-- the refusal denies by no rule, or by the rule that is due to this caller
+data IsFair (a : Contents) (m : Message) (caller : Identity) (e : Refusal) : Type 0 where
+  other : rule_denied_by e ≡ None → IsFair a m caller e
+  rightly : (rule : Rule) → e ≡ denial caller rule → IsDue a m caller rule → IsFair a m caller e
+
+abbrev AreFair : {A : Type 0} → Contents → Message → Identity → Result A Refusal → Type 0
+AreFair a m caller r = (e : Refusal) → r ≡ Err e → IsFair a m caller e
+
+abbrev ill : {A : Type 0} → Refusal → Result A Refusal
+ill e = Err e
+
+same_refusal : {A : Type 0} (d e : Refusal) → ill {A = A} d ≡ ill e → d ≡ e
+same_refusal d e h = cc
+
+fair_ok : {A : Type 0} (a : Contents) (m : Message) (caller : Identity) (x : A) → AreFair a m caller (Ok x)
+fair_ok a m caller x e h = absurd cc
+
+fair_other : {A : Type 0} (a : Contents) (m : Message) (caller : Identity) (d : Refusal) → rule_denied_by d ≡ None → AreFair {A = A} a m caller (Err d)
+fair_other a m caller d none e h = other (ap rule_denied_by (sym (same_refusal d e h)) ∙ none)
+
+fair_there : {A : Type 0} (a : Contents) (m : Message) (caller : Identity) (d : Refusal) (o : Option A) → rule_denied_by d ≡ None → AreFair a m caller (there_or d o)
+fair_there a m caller d None none = fair_other a m caller d none
+fair_there a m caller d (Some x) none = fair_ok a m caller x
+
+fair_true : (a : Contents) (m : Message) (caller : Identity) (d : Refusal) (b : _) → rule_denied_by d ≡ None → AreFair a m caller (true_or d b)
+fair_true a m caller d true none = fair_ok a m caller tt
+fair_true a m caller d false none = fair_other a m caller d none
+
+fair_next : {A B : Type 0} (a : Contents) (m : Message) (caller : Identity) (r : Result A Refusal) (go : A → Result B Refusal)
+    → AreFair a m caller r → ((x : A) → r ≡ Ok x → AreFair a m caller (go x)) → AreFair a m caller (next r go)
+fair_next a m caller (Ok x) go first then = then x refl
+fair_next a m caller (Err d) go first then = λ e h. first e (ap ill (same_refusal d e h))
+
+fair_value : (a : Contents) (m : Message) (caller : Identity) (r : Result Value JsonFault) → AreFair a m caller (value_or_refusal r)
+fair_value a m caller (Ok v) = fair_ok a m caller v
+fair_value a m caller (Err fault) = fair_other a m caller Syntax refl
+
+fair_body : (a : Contents) (m : Message) (caller : Identity) → AreFair a m caller (body_of m)
+fair_body a m caller = fair_value a m caller (reading m.body)
+
+fair_plain : (a : Contents) (m : Message) (caller : Identity) → AreFair a m caller (plain m)
+fair_plain a m caller = fair_true a m caller Query _ refl
+
+fair_permission : (a : Contents) (m : Message) (caller : Identity) (o : Option Rule) → ((rule : Rule) → o ≡ Some rule → IsDue a m caller rule) → AreFair a m caller (permission caller o)
+fair_permission a m caller None due = fair_ok a m caller tt
+fair_permission a m caller (Some rule) due = λ e h. rightly rule (sym (same_refusal (denial caller rule) e h)) (due rule refl)
+
+fair_administration : (a : Contents) (m : Message) (caller : Identity) → AreFair a m caller (administration caller)
+fair_administration a m caller =
+    fair_permission a m caller (verdict Administer caller closed_security) (λ rule first. inl (record { action = Administer; security = closed_security; asked = inl refl; first = first }))
+
+-- ---- work in a database
+
+abbrev AreFairWorks : Contents → Message → Identity → Work → Database → Type 0
+AreFairWorks a m caller work db = AreFair a m caller (work db)
+
+fair_read : (a : Contents) (m : Message) (caller : Identity) (read : Database → Result Value Refusal) (db : Database) → AreFair a m caller (read db) → AreFair a m caller (read_work read db)
+fair_read a m caller read db first = fair_next a m caller (read db) _ first (λ v is. fair_ok a m caller _)
+
+fair_database : (a : Contents) (m : Message) (caller : Identity) (name : List ℕ) (db : Database) → AreFair a m caller (database_read m name db)
+fair_database a m caller name db = fair_next a m caller (plain m) _ (fair_plain a m caller) (λ u is. fair_ok a m caller _)
+
+fair_security : (a : Contents) (m : Message) (caller : Identity) (db : Database) → AreFair a m caller (security_read m db)
+fair_security a m caller db = fair_next a m caller (plain m) _ (fair_plain a m caller) (λ u is. fair_ok a m caller _)
+
+fair_found : (a : Contents) (m : Message) (caller : Identity) (r : Result Value ReadFault) → AreFair a m caller (found r)
+fair_found a m caller (Ok v) = fair_ok a m caller v
+fair_found a m caller (Err read.Missing) = fair_other a m caller Missing refl
+fair_found a m caller (Err read.Deleted) = fair_other a m caller Deleted refl
+fair_found a m caller (Err read.BadQuery) = fair_other a m caller Missing refl
+fair_found a m caller (Err (read.Store fault)) = fair_other a m caller Missing refl
+fair_found a m caller (Err read.Memory) = fair_other a m caller Missing refl
+
+fair_document : (a : Contents) (m : Message) (caller : Identity) (db : Database) → AreFair a m caller (document_read m db)
+fair_document a m caller db =
+    fair_next a m caller (there_or Id (document_id_in m.path)) _ (fair_there a m caller Id (document_id_in m.path) refl)
+    (λ id is. fair_next a m caller (there_or Query (document_query m.query)) _ (fair_there a m caller Query (document_query m.query) refl)
+    (λ query asked. fair_found a m caller (read_by id query.revs query.asked db)))
+
+fair_listing : (a : Contents) (m : Message) (caller : Identity) (db : Database) → AreFair a m caller (document_list m db)
+fair_listing a m caller db = fair_next a m caller (there_or Query (listing_query m.query)) _ (fair_there a m caller Query (listing_query m.query) refl) (λ range asked. fair_ok a m caller _)
+
+fair_changes : (a : Contents) (m : Message) (caller : Identity) (db : Database) → AreFair a m caller (change_list m db)
+fair_changes a m caller db = fair_next a m caller (there_or Query (changes_query m.query)) _ (fair_there a m caller Query (changes_query m.query) refl) (λ range asked. fair_ok a m caller _)
+
+fair_differences : (a : Contents) (m : Message) (caller : Identity) (db : Database) → AreFair a m caller (difference_list m db)
+fair_differences a m caller db =
+    fair_next a m caller (plain m) _ (fair_plain a m caller)
+    (λ u is. fair_next a m caller (body_of m) _ (fair_body a m caller)
+    (λ v said. fair_next a m caller (there_or Body (differences_in v)) _ (fair_there a m caller Body (differences_in v) refl) (λ asked were. fair_ok a m caller _)))
+
+fair_set : (a : Contents) (m : Message) (caller : Identity) (r : Result Value WriteFault) → AreFair a m caller (security_set r)
+fair_set a m caller (Ok v) = fair_ok a m caller _
+fair_set a m caller (Err fault) = fair_other a m caller Body refl
+
+fair_securing : (a : Contents) (m : Message) (caller : Identity) (db : Database) → AreFair a m caller (security_written m db)
+fair_securing a m caller db =
+    fair_next a m caller (plain m) _ (fair_plain a m caller)
+    (λ u is. fair_next a m caller (body_of m) _ (fair_body a m caller) (λ v said. fair_set a m caller (security_outcome v)))
+
+fair_edit : (a : Contents) (m : Message) (caller : Identity) (status : ℕ) (id : List ℕ) (r : Result DocumentWrite WriteFault)
+    → ((rule : Rule) → r ≡ Err (write.Denied rule) → IsDue a m caller rule) → AreFair a m caller (edit_done caller status id r)
+fair_edit a m caller status id (Ok w) due = fair_ok a m caller _
+fair_edit a m caller status id (Err write.BadDocument) due = fair_other a m caller BadDocument refl
+fair_edit a m caller status id (Err (write.Denied rule)) due = λ e h. rightly rule (sym (same_refusal (denial caller rule) e h)) (due rule refl)
+fair_edit a m caller status id (Err write.BadHistory) due = fair_other a m caller BadHistory refl
+fair_edit a m caller status id (Err write.Conflict) due = fair_other a m caller Conflict refl
+fair_edit a m caller status id (Err write.Generation) due = fair_other a m caller Generation refl
+fair_edit a m caller status id (Err (write.Store fault)) due = fair_other a m caller Conflict refl
+fair_edit a m caller status id (Err write.Memory) due = fair_other a m caller Conflict refl
+
+fair_asked : (a : Contents) (m : Message) (caller : Identity) → AreFair a m caller (edit_asked m)
+fair_asked a m caller =
+    fair_next a m caller (there_or Id (document_id_in m.path)) _ (fair_there a m caller Id (document_id_in m.path) refl)
+    (λ id is. fair_next a m caller (there_or Query (revision_query m.query)) _ (fair_there a m caller Query (revision_query m.query) refl) (λ rev said. fair_ok a m caller (id, rev)))
+
+asked_leads : (m : Message) (asked : List ℕ × Option Revision) → edit_asked m ≡ Ok asked → document_id_in m.path ≡ Some asked.0
+asked_leads m asked e =
+    let k = went (there_or Id (document_id_in m.path)) (λ id. next (there_or Query (revision_query m.query)) (λ rev. Ok (id, rev))) asked e in
+    let l = went (there_or Query (revision_query m.query)) (λ rev. Ok (k.first, rev)) asked k.then in
+    named Id (document_id_in m.path) k.first k.was ∙ ap (λ (x : List ℕ × Option Revision). Some x.0) (same {A = List ℕ × Option Revision} (k.first, l.first) asked l.then)
+
+-- the database that the path leads into, where it is there
+record IsIn (a : Contents) (m : Message) (name : List ℕ) (db : Database) : Type 0 where
+  own : database_name_in m.path ≡ Some name
+  there : get a name ≡ Some db
+
+edit_due : (a : Contents) (m : Message) (caller : Identity) (name : List ℕ) (db : Database) (asked : List ℕ × Option Revision) (query : Option Revision) (document : Value) (rule : Rule)
+    → IsIn a m name db → edit_asked m ≡ Ok asked → (body_of m ≡ Ok document) ⊎ (document ≡ deletion)
+    → admission (terms_in caller name db) db asked.0 query document ≡ Err (write.Denied rule) → IsDue a m caller rule
+edit_due a m caller name db asked query document rule place leads says denied = inr (record {
+  name = name;
+  db = db;
+  id = asked.0;
+  query = query;
+  document = document;
+  own = place.own;
+  there = place.there;
+  leads = asked_leads m asked leads;
+  says = says;
+  due = edit_denied (terms_in caller name db) asked.0 (history_at db asked.0) query document rule denied;
+})
+
+fair_writing : (a : Contents) (m : Message) (caller : Identity) (name : List ℕ) (db : Database) → IsIn a m name db → AreFair a m caller (document_written caller m name db)
+fair_writing a m caller name db place =
+    fair_next a m caller (edit_asked m) _ (fair_asked a m caller)
+    (λ asked leads. fair_next a m caller (body_of m) _ (fair_body a m caller)
+    (λ document says. fair_edit a m caller 201 asked.0 (admission (terms_in caller name db) db asked.0 asked.1 document)
+    (λ rule denied. edit_due a m caller name db asked asked.1 document rule place leads (inl says) denied)))
+
+fair_deleting : (a : Contents) (m : Message) (caller : Identity) (name : List ℕ) (db : Database) → IsIn a m name db → AreFair a m caller (document_deleted caller m name db)
+fair_deleting a m caller name db place =
+    fair_next a m caller (edit_asked m) _ (fair_asked a m caller)
+    (λ asked leads. fair_next a m caller (there_or Conflict asked.1) _ (fair_there a m caller Conflict asked.1 refl)
+    (λ rev is. fair_edit a m caller 200 asked.0 (admission (terms_in caller name db) db asked.0 (Some rev) deletion)
+    (λ rule denied. edit_due a m caller name db asked (Some rev) deletion rule place leads (inr refl) denied)))
+
+fair_documents : (a : Contents) (m : Message) (caller : Identity) (name : List ℕ) (db : Database) → AreFair a m caller (documents_written caller m name db)
+fair_documents a m caller name db =
+    fair_next a m caller (plain m) _ (fair_plain a m caller)
+    (λ u is. fair_next a m caller (body_of m) _ (fair_body a m caller)
+    (λ v said. fair_next a m caller (there_or Body (bulk_in v)) _ (fair_there a m caller Body (bulk_in v) refl) (λ bulk asked. fair_ok a m caller _)))
+
+-- ---- what is asked
+
+abbrev IsFairTask : Contents → Message → Identity → Task → Type 0
+IsFairTask a m caller (told value) = ⊤
+IsFairTask a m caller listed = ⊤
+IsFairTask a m caller (created name asked) = AreFair a m caller asked
+IsFairTask a m caller (removed name asked) = AreFair a m caller asked
+IsFairTask a m caller (worked action name work) = (database_name_in m.path ≡ Some name) × ((db : Database) → IsIn a m name db → AreFair a m caller (work db))
+
+fair_work : (a : Contents) (m : Message) (caller : Identity) (action : Action) (w : List ℕ → Work) (task : Task) → ((name : List ℕ) (db : Database) → IsIn a m name db → AreFair a m caller (w name db))
+    → work_task action m w ≡ Ok task → IsFairTask a m caller task
+fair_work a m caller action w task all e =
+    let k = went (database_name_of m) (λ name. Ok (worked action name (w name))) task e in
+    subst (λ (x : Task). IsFairTask a m caller x) (same {A = Task} _ task k.then) (named DatabaseName (database_name_in m.path) k.first k.was, all k.first)
+
+fair_admin : (a : Contents) (m : Message) (caller : Identity) (t : List ℕ → Task) (task : Task) → ((name : List ℕ) → IsFairTask a m caller (t name)) → admin_task caller m t ≡ Ok task → IsFairTask a m caller task
+fair_admin a m caller t task all e =
+    let k = went (database_name_of m) (λ name. next (administration caller) (λ _. Ok (t name))) task e in
+    let l = went (administration caller) (λ _. Ok (t k.first)) task k.then in
+    subst (λ (x : Task). IsFairTask a m caller x) (same {A = Task} _ task l.then) (all k.first)
+
+fair_task : (a : Contents) (page : Page) (method : Option RequestMethod) (caller : Identity) (m : Message) (task : Task) → task_of page method caller m ≡ Ok task → IsFairTask a m caller task
+fair_task a Welcome (Some Get) caller m task e =
+    let k = went (plain m) (λ _. Ok _) task e in subst (λ (x : Task). IsFairTask a m caller x) (same {A = Task} _ task k.then) tt
+fair_task a AllDatabases (Some Get) caller m task e =
+    let k = went (administration caller) (λ _. next (plain m) (λ _. Ok listed)) task e in
+    let l = went (plain m) (λ _. Ok listed) task k.then in
+    subst (λ (x : Task). IsFairTask a m caller x) (same {A = Task} _ task l.then) tt
+fair_task a DatabasePage (Some Get) caller m task e = fair_work a m caller Read (λ name. read_work (database_read m name)) task (λ name db place. fair_read a m caller (database_read m name) db (fair_database a m caller name db)) e
+fair_task a DatabasePage (Some Put) caller m task e = fair_admin a m caller (λ name. created name (plain m)) task (λ name. fair_plain a m caller) e
+fair_task a DatabasePage (Some Delete) caller m task e = fair_admin a m caller (λ name. removed name (plain m)) task (λ name. fair_plain a m caller) e
+fair_task a Security (Some Get) caller m task e = fair_work a m caller Read (λ name. read_work (security_read m)) task (λ name db place. fair_read a m caller (security_read m) db (fair_security a m caller db)) e
+fair_task a Security (Some Put) caller m task e = fair_work a m caller WriteSecurity (λ name. security_written m) task (λ name db place. fair_securing a m caller db) e
+fair_task a BulkDocuments (Some Post) caller m task e = fair_work a m caller WriteDocument (λ name. documents_written caller m name) task (λ name db place. fair_documents a m caller name db) e
+fair_task a AllDocuments (Some Get) caller m task e = fair_work a m caller Read (λ name. read_work (document_list m)) task (λ name db place. fair_read a m caller (document_list m) db (fair_listing a m caller db)) e
+fair_task a Changes (Some Get) caller m task e = fair_work a m caller Read (λ name. read_work (change_list m)) task (λ name db place. fair_read a m caller (change_list m) db (fair_changes a m caller db)) e
+fair_task a Differences (Some Post) caller m task e = fair_work a m caller Read (λ name. read_work (difference_list m)) task (λ name db place. fair_read a m caller (difference_list m) db (fair_differences a m caller db)) e
+fair_task a Document (Some Get) caller m task e = fair_work a m caller Read (λ name. read_work (document_read m)) task (λ name db place. fair_read a m caller (document_read m) db (fair_document a m caller db)) e
+fair_task a Document (Some Put) caller m task e = fair_work a m caller WriteDocument (λ name. document_written caller m name) task (λ name db place. fair_writing a m caller name db place) e
+fair_task a Document (Some Delete) caller m task e = fair_work a m caller WriteDocument (λ name. document_deleted caller m name) task (λ name db place. fair_deleting a m caller name db place) e
+fair_task a page method caller m task e = absurd cc
+
+fair_named : (a : Contents) (m : Message) (caller : Identity) → AreFair a m caller (database_name_of m)
+fair_named a m caller = fair_there a m caller DatabaseName (database_name_in m.path) refl
+
+fair_work_asked : (a : Contents) (m : Message) (caller : Identity) (action : Action) (w : List ℕ → Work) → AreFair a m caller (work_task action m w)
+fair_work_asked a m caller action w = fair_next a m caller (database_name_of m) _ (fair_named a m caller) (λ name is. fair_ok a m caller _)
+
+fair_admin_asked : (a : Contents) (m : Message) (caller : Identity) (t : List ℕ → Task) → AreFair a m caller (admin_task caller m t)
+fair_admin_asked a m caller t =
+    fair_next a m caller (database_name_of m) _ (fair_named a m caller)
+    (λ name is. fair_next a m caller (administration caller) _ (fair_administration a m caller) (λ u allowed. fair_ok a m caller _))
+
+fair_page : (a : Contents) (page : Page) (method : Option RequestMethod) (caller : Identity) (m : Message) → AreFair a m caller (task_of page method caller m)
+fair_page a Welcome (Some Get) caller m = fair_next a m caller (plain m) _ (fair_plain a m caller) (λ u is. fair_ok a m caller _)
+fair_page a AllDatabases (Some Get) caller m =
+    fair_next a m caller (administration caller) _ (fair_administration a m caller) (λ u is. fair_next a m caller (plain m) _ (fair_plain a m caller) (λ v plainly. fair_ok a m caller _))
+fair_page a DatabasePage (Some Get) caller m = fair_work_asked a m caller Read _
+fair_page a DatabasePage (Some Put) caller m = fair_admin_asked a m caller _
+fair_page a DatabasePage (Some Delete) caller m = fair_admin_asked a m caller _
+fair_page a Security (Some Get) caller m = fair_work_asked a m caller Read _
+fair_page a Security (Some Put) caller m = fair_work_asked a m caller WriteSecurity _
+fair_page a BulkDocuments (Some Post) caller m = fair_work_asked a m caller WriteDocument _
+fair_page a AllDocuments (Some Get) caller m = fair_work_asked a m caller Read _
+fair_page a Changes (Some Get) caller m = fair_work_asked a m caller Read _
+fair_page a Differences (Some Post) caller m = fair_work_asked a m caller Read _
+fair_page a Document (Some Get) caller m = fair_work_asked a m caller Read _
+fair_page a Document (Some Put) caller m = fair_work_asked a m caller WriteDocument _
+fair_page a Document (Some Delete) caller m = fair_work_asked a m caller WriteDocument _
+fair_page a page method caller m = fair_other a m caller Method refl
+
+-- ---- what comes of it
+
+fair_entry : (a : Contents) (m : Message) (caller : Identity) (action : Action) (name : List ℕ) (o : Option Database) → database_name_in m.path ≡ Some name → get a name ≡ o
+    → AreFair a m caller (entry caller action o)
+fair_entry a m caller action name None own is = fair_other a m caller NoDatabase refl
+fair_entry a m caller action name (Some db) own is =
+    fair_next a m caller (permission caller (verdict action caller db.security)) _
+    (fair_permission a m caller (verdict action caller db.security)
+    (λ rule first. inl (record { action = action; security = db.security; asked = inr (name, db, own, is, refl); first = first })))
+    (λ u allowed. fair_ok a m caller db)
+
+fair_outcome : (a : Contents) (m : Message) (caller : Identity) (task : Task) → IsFairTask a m caller task → AreFair a m caller (task_outcome caller a task)
+fair_outcome a m caller (told value) fair = fair_ok a m caller _
+fair_outcome a m caller listed fair = fair_ok a m caller _
+fair_outcome a m caller (created name asked) fair =
+    fair_next a m caller (true_or Exists (is_none (get a name))) _ (fair_true a m caller Exists (is_none (get a name)) refl)
+    (λ u is. fair_next a m caller asked _ fair (λ v may. fair_ok a m caller _))
+fair_outcome a m caller (removed name asked) fair =
+    fair_next a m caller (there_or NoDatabase (get a name)) _ (fair_there a m caller NoDatabase (get a name) refl)
+    (λ u is. fair_next a m caller asked _ fair (λ v may. fair_ok a m caller _))
+fair_outcome a m caller (worked action name work) fair =
+    fair_next a m caller (entry caller action (get a name)) _ (fair_entry a m caller action name (get a name) fair.0 refl)
+    (λ db is. fair_next a m caller (work db) _ (fair.1 db (record { own = fair.0; there = there caller action (get a name) db is })) (λ d done. fair_ok a m caller _))
+
+fair_answer : (a : Contents) (m : Message) (caller : Identity) → AreFair a m caller (next (there_or Path (page_of m.path)) (λ page. page_outcome page (method_of m.method) caller a m))
+fair_answer a m caller =
+    fair_next a m caller (there_or Path (page_of m.path)) _ (fair_there a m caller Path (page_of m.path) refl)
+    (λ page is. fair_next a m caller (task_of page (method_of m.method) caller m) _ (fair_page a page (method_of m.method) caller m)
+    (λ task asked. fair_outcome a m caller task (fair_task a page (method_of m.method) caller m task asked)))
+
+-- ---- all requests
+
+rule_of_denial : (caller : Identity) (rule : Rule) → rule_denied_by (denial caller rule) ≡ Some rule
+rule_of_denial caller rule = by caller.name refl
+  where
+    by : (n : Option (List ℕ)) → caller.name ≡ n → rule_denied_by (denial caller rule) ≡ Some rule
+    by None is = rw is refl
+    by (Some name) is = rw is refl
+
+told_rule : (c : Configuration) (a : Contents) (m : Message) (caller : Identity) (e : Refusal) (rule : Rule) → asker c m ≡ Ok caller → rule_denied_by e ≡ Some rule → IsFair a m caller e → IsDenied c a m e rule
+told_rule c a m caller e rule is denies (other none) = absurd (let k : None ≡ Some rule = sym none ∙ denies in cc)
+told_rule c a m caller e rule is denies (rightly first said due) =
+    let k : Some first ≡ Some rule = sym (rule_of_denial caller first) ∙ ap rule_denied_by (sym said) ∙ denies in
+    let same_rule : first ≡ rule = cc in
+    inr (subst (λ (x : Rule). IsToldRule c a m e x) same_rule (record { caller = caller; known = is; due = due; told = said }))
+
+unvouched : (c : Configuration) (m : Message) (r : Result Identity AuthFault) (e : Refusal) → caller_of (map pair_of m.headers) c.secret c.admins ≡ r → identity_or_refusal r ≡ Err e → IsUnvouched c m e
+unvouched c m (Ok caller) e is h = absurd cc
+unvouched c m (Err fault) e is h = record { fault = fault; refused = is; told = sym (same_refusal {A = Identity} (Unauthorized ProxyToken) e h) }
+
+pub judged_denied : (c : Configuration) (a : Contents) (m : Message) (e : Refusal) (rule : Rule) → judgement c a m ≡ Err e → rule_denied_by e ≡ Some rule → IsDenied c a m e rule
+judged_denied c a m e rule h denies = by (asker c m) refl h
+  where
+    by : (r : Result Identity Refusal) → asker c m ≡ r
+        → next r (λ caller. next (there_or Path (page_of m.path)) (λ page. page_outcome page (method_of m.method) caller a m)) ≡ Err e → IsDenied c a m e rule
+    by (Ok caller) is k = told_rule c a m caller e rule is denies (fair_answer a m caller e k)
+    by (Err d) is k = inl (unvouched c m (caller_of (map pair_of m.headers) c.secret c.admins) e refl (is ∙ ap (λ (x : Refusal). ill x) (same_refusal d e k)))
+
+pub denial_status : (caller : Identity) (rule : Rule) → status_of (denial caller rule) ≡ cond (is_none caller.name) 401 403
+denial_status caller rule = by caller.name refl
+  where
+    by : (n : Option (List ℕ)) → caller.name ≡ n → status_of (denial caller rule) ≡ cond (is_none caller.name) 401 403
+    by None is = rw is refl
+    by (Some name) is = rw is refl
+
+pub other_status : (e : Refusal) → rule_denied_by e ≡ None → (status_of e ≢ 401) × (status_of e ≢ 403)
+other_status (Unauthorized rule) none = absurd (let k : Some rule ≡ None = none in cc)
+other_status (Forbidden rule) none = absurd (let k : Some rule ≡ None = none in cc)
+other_status Path none = ((λ h. omega (arith, h)), (λ h. omega (arith, h)))
+other_status Method none = ((λ h. omega (arith, h)), (λ h. omega (arith, h)))
+other_status DatabaseName none = ((λ h. omega (arith, h)), (λ h. omega (arith, h)))
+other_status NoDatabase none = ((λ h. omega (arith, h)), (λ h. omega (arith, h)))
+other_status Exists none = ((λ h. omega (arith, h)), (λ h. omega (arith, h)))
+other_status Id none = ((λ h. omega (arith, h)), (λ h. omega (arith, h)))
+other_status Query none = ((λ h. omega (arith, h)), (λ h. omega (arith, h)))
+other_status Syntax none = ((λ h. omega (arith, h)), (λ h. omega (arith, h)))
+other_status Body none = ((λ h. omega (arith, h)), (λ h. omega (arith, h)))
+other_status BadDocument none = ((λ h. omega (arith, h)), (λ h. omega (arith, h)))
+other_status BadHistory none = ((λ h. omega (arith, h)), (λ h. omega (arith, h)))
+other_status Conflict none = ((λ h. omega (arith, h)), (λ h. omega (arith, h)))
+other_status Generation none = ((λ h. omega (arith, h)), (λ h. omega (arith, h)))
+other_status Missing none = ((λ h. omega (arith, h)), (λ h. omega (arith, h)))
+other_status Deleted none = ((λ h. omega (arith, h)), (λ h. omega (arith, h)))
+
+same_rule : (r s : Rule) → (Some r ≡ Some s) → r ≡ s
+same_rule r s e = cc
+
+pub rule_told : (e : Refusal) (rule : Rule) → rule_denied_by e ≡ Some rule → rule_of e ≡ Some (name_of_rule rule)
+rule_told (Unauthorized r) rule denies = ap (λ (x : Rule). Some (name_of_rule x)) (same_rule r rule denies)
+rule_told (Forbidden r) rule denies = ap (λ (x : Rule). Some (name_of_rule x)) (same_rule r rule denies)
+rule_told Path rule denies = absurd (let k : None ≡ Some rule = denies in cc)
+rule_told Method rule denies = absurd (let k : None ≡ Some rule = denies in cc)
+rule_told DatabaseName rule denies = absurd (let k : None ≡ Some rule = denies in cc)
+rule_told NoDatabase rule denies = absurd (let k : None ≡ Some rule = denies in cc)
+rule_told Exists rule denies = absurd (let k : None ≡ Some rule = denies in cc)
+rule_told Id rule denies = absurd (let k : None ≡ Some rule = denies in cc)
+rule_told Query rule denies = absurd (let k : None ≡ Some rule = denies in cc)
+rule_told Syntax rule denies = absurd (let k : None ≡ Some rule = denies in cc)
+rule_told Body rule denies = absurd (let k : None ≡ Some rule = denies in cc)
+rule_told BadDocument rule denies = absurd (let k : None ≡ Some rule = denies in cc)
+rule_told BadHistory rule denies = absurd (let k : None ≡ Some rule = denies in cc)
+rule_told Conflict rule denies = absurd (let k : None ≡ Some rule = denies in cc)
+rule_told Generation rule denies = absurd (let k : None ≡ Some rule = denies in cc)
+rule_told Missing rule denies = absurd (let k : None ≡ Some rule = denies in cc)
+rule_told Deleted rule denies = absurd (let k : None ≡ Some rule = denies in cc)

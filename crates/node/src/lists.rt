@@ -1,0 +1,69 @@
+//! The pages that list a database's documents, and tell which revisions it doesn't know (CouchDB manual, api/database/bulk-api, api/database/changes and api/database/misc).
+
+ghost use Rattle.std.specs.Prelude.{◌≡◌, IfErr};
+ghost use Rattle.couch_http.specs.Message.{message_of};
+ghost use Rattle.couch_json.specs.View.{view};
+ghost use Rattle.store.specs.Calls.{OnlyReads};
+ghost use Rattle.node.specs.Causes.{Ends};
+ghost use Rattle.node.specs.Coming.{Comes, OfThere};
+ghost use Rattle.node.specs.Works.{change_list, difference_list, document_list};
+
+use crate::stop::Stop;
+use api::{Refusal, body, changes_query, differences_in, listing_query, without_parameters};
+use couch_http::Request;
+use couch_json::Json;
+use read::{all_docs, changes, revs_diff};
+use std::alloc::Global;
+use store::{DbName, Store};
+
+/// Lists the documents of a database by id.
+pub(crate) fn list_documents<S: Store>(
+    alloc: Global,
+    store: &mut S,
+    name: &DbName,
+    request: &Request,
+) -> Result<Json, Stop>
+    ensures comes { S.is_honest store.new → OfThere (S.contents store.old) name.now (λ db. Comes view result
+        (document_list (message_of request.now) db)) }
+    ensures ends { IfErr result (Ends S.Store store.old store.new) }
+    ensures reads { OnlyReads S.Store store.old store.new }
+{
+    let range = listing_query(alloc, request)?;
+    Ok(all_docs(alloc, store, name, range)?)
+}
+
+/// Lists the documents of a database that changed after a sequence.
+pub(crate) fn list_changes<S: Store>(
+    alloc: Global,
+    store: &mut S,
+    name: &DbName,
+    request: &Request,
+) -> Result<Json, Stop>
+    ensures comes { S.is_honest store.new → OfThere (S.contents store.old) name.now (λ db. Comes view result
+        (change_list (message_of request.now) db)) }
+    ensures ends { IfErr result (Ends S.Store store.old store.new) }
+    ensures reads { OnlyReads S.Store store.old store.new }
+{
+    let range = changes_query(alloc, request)?;
+    Ok(changes(alloc, store, name, &range)?)
+}
+
+/// Tells which of the revisions that a request asks about a database doesn't know.
+pub(crate) fn tell_differences<S: Store>(
+    alloc: Global,
+    store: &mut S,
+    name: &DbName,
+    request: &Request,
+) -> Result<Json, Stop>
+    ensures comes { S.is_honest store.new → OfThere (S.contents store.old) name.now (λ db. Comes view result
+        (difference_list (message_of request.now) db)) }
+    ensures ends { IfErr result (Ends S.Store store.old store.new) }
+    ensures reads { OnlyReads S.Store store.old store.new }
+{
+    without_parameters(request)?;
+    let value = body(alloc, request)?;
+    let Some(asked) = differences_in(alloc, &value)? else {
+        return Err(Stop::Refused(Refusal::Body));
+    };
+    Ok(revs_diff(alloc, store, name, &asked)?)
+}

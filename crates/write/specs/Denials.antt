@@ -1,0 +1,64 @@
+-- Why a write is denied: the rule that is named is the first that refuses it. And what holds where a write is not: no rule refuses it.
+-- CouchDB manual, api/database/security and ddocs/ddocs ("Validate Document Update Functions"); that a denial names its rule is this server's own.
+use Rattle.std.specs.Prelude.{◌≡◌, ◌⊎◌, ℕ, false, true, List, Option, Some, None, option_and_then}
+use Rattle.couch_json.specs.Value.{Value}
+use Rattle.policy.specs.Argument.{argument}
+use Rattle.policy.specs.UpdateRules.{update_verdict}
+use Rattle.policy.specs.Verdict.{verdict}
+use Rattle.policy.specs.declared.action.Action.TheVariants.{WriteDesign}
+use Rattle.policy.specs.declared.rule.Rule.{Rule}
+use Rattle.tree.specs.DocumentId.{is_design_id}
+use Rattle.tree.specs.History.{HistoryContent}
+use Rattle.tree.specs.Revision.{Revision}
+use Rattle.write.specs.Admission.{ancestors, base, held_document, document_of, edit_of, nearest_held}
+use Rattle.write.specs.Document.{Ancestry, ancestry_in, sent_in}
+use Rattle.write.specs.Terms.{Terms}
+use Rattle.write.specs.declared.document.Sent.{Sent}
+
+-- the document is a design document, and this is the rule that refuses to let the caller write one
+pub record IsDesignDenial (terms : Terms) (id : List ℕ) (rule : Rule) : Type 0 where
+  pub design : is_design_id id ≡ true
+  pub first : verdict WriteDesign terms.caller terms.security ≡ Some rule
+
+-- it is none, and this is the first update rule that does not hold of it and of this revision
+pub record IsUpdateDenial (terms : Terms) (id : List ℕ) (h : HistoryContent) (sent : Sent) (rev : Option Revision) (rule : Rule) : Type 0 where
+  pub other : is_design_id id ≡ false
+  pub first : update_verdict terms.rules (argument (document_of id sent) (held_document id h rev) terms.caller terms.name terms.security) ≡ Some rule
+
+-- what was sent is denied by this rule, on its own or beside the revision before it
+abbrev pub IsDueTo : Terms → List ℕ → HistoryContent → Sent → Option Revision → Rule → Type 0
+IsDueTo terms id h sent rev rule = IsDesignDenial terms id rule ⊎ IsUpdateDenial terms id h sent rev rule
+
+-- the edit is denied by this rule, beside the leaf that it follows
+pub record EditIsDueTo (terms : Terms) (id : List ℕ) (h : HistoryContent) (query : Option Revision) (document : Value) (rule : Rule) : Type 0 where
+  pub sent : Sent
+  pub says : edit_of id query document ≡ Some sent
+  pub due : IsDueTo terms id h sent (option_and_then (λ parent. parent) (base h sent.rev)) rule
+
+-- the replicated document is, beside the nearest revision behind it whose body is held
+pub record ReplicationIsDueTo (terms : Terms) (id : List ℕ) (h : HistoryContent) (document : Value) (rule : Rule) : Type 0 where
+  pub sent : Sent
+  pub ancestry : Ancestry
+  pub says : sent_in id document ≡ Some sent
+  pub leads : ancestry_in document sent.rev ≡ Some ancestry
+  pub due : IsDueTo terms id h sent (nearest_held h (ancestors ancestry.path)) rule
+
+-- what was sent may be written: a design document by this caller, another one by each update rule
+pub record HasLeave (terms : Terms) (id : List ℕ) (h : HistoryContent) (sent : Sent) (rev : Option Revision) : Type 0 where
+  pub design : is_design_id id ≡ true → verdict WriteDesign terms.caller terms.security ≡ None
+  pub updates : is_design_id id ≡ false
+      → update_verdict terms.rules (argument (document_of id sent) (held_document id h rev) terms.caller terms.name terms.security) ≡ None
+
+-- the edit has leave, beside the leaf that it follows
+pub record EditHasLeave (terms : Terms) (id : List ℕ) (h : HistoryContent) (query : Option Revision) (document : Value) : Type 0 where
+  pub sent : Sent
+  pub says : edit_of id query document ≡ Some sent
+  pub leave : HasLeave terms id h sent (option_and_then (λ parent. parent) (base h sent.rev))
+
+-- the replicated document has, beside the nearest revision behind it whose body is held
+pub record ReplicationHasLeave (terms : Terms) (id : List ℕ) (h : HistoryContent) (document : Value) : Type 0 where
+  pub sent : Sent
+  pub ancestry : Ancestry
+  pub says : sent_in id document ≡ Some sent
+  pub leads : ancestry_in document sent.rev ≡ Some ancestry
+  pub leave : HasLeave terms id h sent (nearest_held h (ancestors ancestry.path))

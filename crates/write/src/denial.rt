@@ -1,0 +1,104 @@
+//! The rules that refuse a write.
+
+ghost use Rattle.std.specs.Prelude.{◌≡◌, IfOk, is_some, option_map};
+ghost use Rattle.couch_json.specs.View.{view};
+ghost use Rattle.tree.specs.History.{held_of};
+ghost use Rattle.policy.specs.Argument.{old_document};
+ghost use Rattle.policy.specs.UpdateRules.{update_verdict};
+ghost use Rattle.write.specs.Admission.{ancestors, design_refusal, held_document, nearest_held, rule_refusal};
+ghost use Rattle.write.specs.TermsRead.{terms_of};
+
+use crate::document::Sent;
+use crate::terms::Terms;
+use couch_json::{Got, Json};
+use policy::{Action, Rule, argument, refusal, show_new};
+use std::alloc::Global;
+use tree::{DocId, History, Rev, show};
+
+/// Finds the rule by which the caller may not write this document, whatever it says.
+pub(crate) fn find_design_refusal(terms: &Terms, id: &DocId) -> Option<Rule>
+    ensures { result ≡ design_refusal (terms_of terms.now) id.now }
+{
+    if id.is_design() {
+        refusal(Action::WriteDesign, terms.caller, &terms.security)
+    } else {
+        None
+    }
+}
+
+/// Finds the first update rule that does not hold of what is sent and of this revision of the
+/// document. Where there are no rules nothing is copied.
+pub(crate) fn find_rule_refusal(
+    alloc: Global,
+    terms: &Terms,
+    history: &History,
+    id: &DocId,
+    sent: &Sent,
+    rev: Option<Rev>,
+) -> Got<Option<Rule>>
+    ensures { IfOk result (λ rule. rule ≡ rule_refusal (terms_of terms.now) id.now history.now sent.now rev) }
+{
+    if id.is_design() {
+        return Ok(None);
+    }
+    if terms.rules.is_empty() {
+        return Ok(None);
+    }
+    let new = show_new(alloc, id, sent.deleted, sent.body.json())?;
+    let old = show_old(alloc, history, id, rev)?;
+    let (caller, name) = (terms.caller, terms.name.as_str());
+    let argument = argument(alloc, new, old, caller, name, &terms.security)?;
+    judge_argument(alloc, terms, &argument)
+}
+
+/// Finds the first update rule that does not hold of the argument.
+fn judge_argument(alloc: Global, terms: &Terms, argument: &Json) -> Got<Option<Rule>>
+    ensures { IfOk result (λ rule. rule ≡ update_verdict (terms_of terms.now).rules (view argument.now)) }
+{
+    match terms.rules.refusal(argument) {
+        Some(id) => Ok(Some(Rule::Update(id.copy(alloc)?))),
+        None => Ok(None),
+    }
+}
+
+/// Shows a revision of the document as it is, where there is one and its body is held.
+fn show_old(alloc: Global, history: &History, id: &DocId, rev: Option<Rev>) -> Got<Option<Json>>
+    ensures { IfOk result (λ old. option_map view old ≡ option_map old_document (held_document id.now history.now rev)) }
+{
+    let Some(rev) = rev else {
+        return Ok(None);
+    };
+    let Some((deleted, body)) = history.body(&rev) else {
+        return Ok(None);
+    };
+    Ok(Some(show(alloc, id, &rev, deleted, body)?))
+}
+
+/// Finds the nearest revision behind the newest of a path whose body is held.
+pub(crate) fn find_nearest_held(history: &History, path: &[Rev]) -> Option<Rev>
+    ensures { result ≡ nearest_held history.now (ancestors path.now) }
+{
+    match path.split_first() {
+        Some((_newest, behind)) => find_held(history, behind),
+        None => None,
+    }
+}
+
+/// Finds the first of these revisions whose body is held.
+fn find_held(history: &History, revs: &[Rev]) -> Option<Rev>
+    ensures { result ≡ nearest_held history.now revs.now }
+{
+    for rev in revs {
+        if holds_body(history, rev) {
+            return Some(*rev);
+        }
+    }
+    None
+}
+
+/// Tells whether the body of a revision is held.
+fn holds_body(history: &History, rev: &Rev) -> bool
+    ensures { result ≡ is_some (held_of history.now rev.now) }
+{
+    history.body(rev).is_some()
+}

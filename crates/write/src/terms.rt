@@ -1,0 +1,144 @@
+//! The terms on which a caller writes.
+
+ghost use Rattle.std.specs.Prelude.{◌≡◌, ◌≢◌, true, IfOk, IfErr, None, OnOk, Some, flat_map, is_some};
+ghost use Rattle.std.specs.FinMap as map;
+ghost use Rattle.store.specs.Calls.{OnlyReads};
+ghost use Rattle.store.specs.Contents.{IfThere};
+ghost use Rattle.store.specs.Database.{Database};
+ghost use Rattle.tree.specs.DocumentId.{is_design_id};
+ghost use Rattle.policy.specs.UpdateRules.{rules_of, with_rules};
+ghost use Rattle.write.specs.Refusing.{IsDecided, Refuses};
+ghost use Rattle.write.specs.Terms.{as_design_document, live_body, rules_in, terms_in};
+ghost use Rattle.write.specs.TermsRead.{IsDesignRange, document_at, terms_of};
+
+use crate::fault::WriteFault;
+use auth::Caller;
+use couch_json::Got;
+use policy::{RuleSet, Security};
+use std::alloc::Global;
+use store::{DbName, IdRange, IdRow, RangeKey, Store};
+use tree::{DocId, History};
+
+/// The terms on which a caller writes into a database, as a request finds it.
+#[derive(Drop)]
+pub struct Terms<'a> {
+    /// Who writes.
+    pub caller: &'a Caller,
+    /// The name of the database.
+    pub name: &'a DbName,
+    /// Its security object.
+    pub security: Security,
+    /// Its update rules: those of the design documents whose winner is not deleted.
+    pub rules: RuleSet,
+}
+
+/// Reads the terms on which a caller writes. Nothing changes.
+///
+/// `Store(NoDatabase)` comes exactly where there is no database of this name; else nothing but want
+/// of memory and faults of the store refuse. See the CouchDB manual, ddocs/ddocs.
+pub fn read_terms<'a, S: Store>(
+    alloc: Global,
+    store: &mut S,
+    db: &'a DbName,
+    caller: &'a Caller,
+) -> Result<Terms<'a>, WriteFault>
+    ensures there { S.is_honest store.new → IsDecided result → is_some (map.get (S.contents store.old) db.now) ≡ true }
+    ensures terms { S.is_honest store.new → IfOk result (λ t. IfThere (map.get (S.contents store.old) db.now) (λ d. terms_of t ≡ terms_in caller.now db.now d)) }
+    ensures only { IfErr result (λ fault. fault ≢ WriteFault.Memory → ((cause : _) → fault ≢ WriteFault.Store cause) → ⊥) }
+    ensures passed { IfErr result (Refuses S.Store store.old store.new (map.get (S.contents store.old) db.now ≡ None) ⊥) }
+    ensures reads { OnlyReads S.Store store.old store.new }
+{
+    let security = store.security(db)?;
+    let rules = read_rules(alloc, store, db)?;
+    Ok(Terms {
+        caller,
+        name: db,
+        security,
+        rules,
+    })
+}
+
+/// Reads the update rules of a database.
+fn read_rules<S: Store>(alloc: Global, store: &mut S, db: &DbName) -> Result<RuleSet, WriteFault>
+    ensures rules { S.is_honest store.new → IfOk result (λ rules. IfThere (map.get (S.contents store.old) db.now) (λ d. rules ≡ rules_in d)) }
+    ensures only { IfErr result (λ fault. fault ≢ WriteFault.Memory → ((cause : _) → fault ≢ WriteFault.Store cause) → ⊥) }
+    ensures passed { IfErr result (Refuses S.Store store.old store.new (map.get (S.contents store.old) db.now ≡ None) ⊥) }
+    ensures reads { OnlyReads S.Store store.old store.new }
+{
+    let range = design_range(alloc)?;
+    let page = store.page_by_id(db, &range)?;
+    take_rules(alloc, store, db, &page.rows)
+}
+
+/// Builds a range by id in which all design documents are.
+fn design_range(alloc: Global) -> Got<IdRange>
+    ensures { IfOk result IsDesignRange }
+{
+    let start = String::from_str(alloc, "_design/")?;
+    let end = String::from_str(alloc, "_design0")?;
+    Ok(IdRange {
+        start: Some(RangeKey::new(start)),
+        end: Some(RangeKey::new(end)),
+        inclusive_end: false,
+        descending: false,
+        skip: 0,
+        limit: None,
+        counted: false,
+    })
+}
+
+/// Takes the rules of those of the rows that are design documents.
+fn take_rules<S: Store>(
+    alloc: Global,
+    store: &mut S,
+    db: &DbName,
+    rows: &[IdRow],
+) -> Result<RuleSet, WriteFault>
+    ensures rules { S.is_honest store.new → IfOk result (λ rules. (d : Database) → map.get (S.contents store.old) db.now ≡ Some d
+        → rules ≡ rules_of (flat_map (λ r. document_at d r.id) rows.now)) }
+    ensures only { IfErr result (λ fault. fault ≢ WriteFault.Memory → ((cause : _) → fault ≢ WriteFault.Store cause) → ⊥) }
+    ensures passed { IfErr result (Refuses S.Store store.old store.new (map.get (S.contents store.old) db.now ≡ None) ⊥) }
+    ensures reads { OnlyReads S.Store store.old store.new }
+{
+    let mut rules = RuleSet::new(alloc);
+    for row in rows {
+        take_rule(store, db, &row.id, &mut rules)?;
+    }
+    Ok(rules)
+}
+
+/// Takes in the rule of a document, if it is a design document and declares one.
+fn take_rule<S: Store>(
+    store: &mut S,
+    db: &DbName,
+    id: &DocId,
+    rules: &mut RuleSet,
+) -> Result<(), WriteFault>
+    ensures rules { S.is_honest store.new → OnOk result ((d : Database) → map.get (S.contents store.old) db.now ≡ Some d
+        → rules.new ≡ with_rules rules.old (document_at d id.now)) }
+    ensures only { IfErr result (λ fault. fault ≢ WriteFault.Memory → ((cause : _) → fault ≢ WriteFault.Store cause) → ⊥) }
+    ensures passed { IfErr result (Refuses S.Store store.old store.new (map.get (S.contents store.old) db.now ≡ None) ⊥) }
+    ensures reads { OnlyReads S.Store store.old store.new }
+{
+    if !id.is_design() {
+        return Ok(());
+    }
+    let history = store.history(db, id)?;
+    put_rule(rules, id, &history)?;
+    Ok(())
+}
+
+/// Puts in the rule of a design document with this history, if its winner is not deleted and
+/// declares one.
+fn put_rule(rules: &mut RuleSet, id: &DocId, history: &History) -> Got<()>
+    requires { is_design_id id.now ≡ true }
+    ensures ok { OnOk result (rules.new ≡ with_rules rules.old (as_design_document id.now (live_body history.now))) }
+{
+    let Some(rev) = history.winner() else {
+        return Ok(());
+    };
+    match history.body(rev) {
+        Some((false, body)) => rules.put(id, body),
+        _ => Ok(()),
+    }
+}
