@@ -1,5 +1,5 @@
 -- Over stores in memory no reply is a 500.
-use Rattle.std.proofs.Common.{◌≡◌, ◌≢◌, ℕ, List, [], ◌∷◌, inl, inr, ap, sym, arith}
+use Rattle.std.proofs.Common.{◌≡◌, ◌≢◌, ℕ, List, [], ◌∷◌, inl, inr, arith}
 use Rattle.store.specs.Causes.{HasFailed}
 use Rattle.store.specs.contracts.plain_store.PlainStoreStore.TheImpl.{ghosts}
 use Rattle.store.specs.declared.plain_store.PlainStore.{PlainStore}
