@@ -1,4 +1,12 @@
-//! The HTTP API: which page a path leads to, who asks, with which parameters and body, and what a refusal says.
+//! The HTTP API: which page a path leads to, who asks, with which parameters and body, and what a
+//! refusal says.
+//!
+//! [`Routes::page`] finds the page, [`Refusal`] is the reply of a request that is refused. A row of the
+//! tests:
+//!
+//! ```rows
+//! anybody GET /none/x => 404 {"error":"not_found","reason":"Database does not exist."}
+//! ```
 #![tactic(auto)]
 
 mod asking;

@@ -63,7 +63,12 @@ fn find_parts(head: &[u8], spans: &mut [HeaderSpan]) -> Option<RequestSpans>
 }
 
 /// The request whose parts were found in its head.
-fn build_request(alloc: Global, head: &[u8], found: RequestSpans, spans: &[HeaderSpan]) -> Got<HeadRead>
+fn build_request(
+    alloc: Global,
+    head: &[u8],
+    found: RequestSpans,
+    spans: &[HeaderSpan],
+) -> Got<HeadRead>
     requires method { IsWithin (length head.now) found.method }
     requires path { IsWithin (length head.now) found.path }
     requires headers { All (IsHeaderWithin (length head.now)) spans.now }

@@ -1,4 +1,16 @@
-//! HTTP/1.1 messages out of bytes and into bytes (RFC 9112), as the server of CouchDB's API takes and gives them.
+//! HTTP/1.1 messages out of bytes and into bytes (RFC 9112), as the server of CouchDB's API takes and
+//! gives them.
+//!
+//! [`Cutter::feed`] takes the pieces of a stream and gives the requests that they complete;
+//! [`Response::made`] makes a reply. A row of the tests: a stream, and what was read of it.
+//!
+//! ```rows
+//! > PUT /db/b HTTP/1.1\r\nHost: 127.0.0.1:39175\r\nAccept-Encoding: identity\r\n
+//! > Content-Length: 8\r\nContent-Type: application/json\r\n\r\n
+//! > {"by":1}
+//! < PUT /db/b, 4 headers, {"by":1}
+//! < open
+//! ```
 #![tactic(auto)]
 
 mod cut;

@@ -87,7 +87,11 @@ impl Response {
             Fixed::Store { last: false } => Response::from_text(500, 90, fixed_texts::STORE),
             Fixed::Store { last: true } => Response::from_text(500, 109, fixed_texts::STORE_LAST),
             Fixed::NoRoom { last: false } => Response::from_text(503, 88, fixed_texts::NO_ROOM),
-            Fixed::NoRoom { last: true } => Response::from_text(503, 107, fixed_texts::NO_ROOM_LAST),
+            Fixed::NoRoom { last: true } => Response::from_text(
+                503,
+                107,
+                fixed_texts::NO_ROOM_LAST,
+            ),
         }
     }
 

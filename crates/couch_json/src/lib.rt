@@ -1,3 +1,11 @@
+//! JSON values: read from bytes, written as canonical text, put in order, and looked into by field paths
+//! (RFC 8259; CouchDB manual, ddocs/views/collation).
+//!
+//! [`read`] makes a [`Json`] of bytes, and [`canon`] writes its canonical text. A row of the tests:
+//!
+//! ```rows
+//! {"b":1,"a":2,"b":3} => {"a":2,"b":3}
+//! ```
 #![tactic(auto)]
 
 mod collation;

@@ -1,4 +1,11 @@
 //! One node: the answer to a request over a store, as bytes.
+//!
+//! [`Node::handle`] takes a request and gives the reply. Rows of the tests:
+//!
+//! ```rows
+//! anybody PUT /db/a {"v":1} => 201 {"id":"a","ok":true,"rev":"<r1>"}
+//! anybody GET /none/x => 404 {"error":"not_found","reason":"Database does not exist."}
+//! ```
 #![tactic(auto)]
 
 mod answered;

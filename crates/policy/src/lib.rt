@@ -1,4 +1,12 @@
-//! Who may do what: security objects, update rules, and the first rule that refuses an action.
+//! Who may do what: security objects, update rules, and the first of them that refuses
+//! (CouchDB manual, api/database/security).
+//!
+//! [`refusal`] judges an action. Rows of the tests, each with the rule that refuses:
+//!
+//! ```rows
+//! bob administers on {} => server_admin
+//! root administers on {} => allowed
+//! ```
 #![tactic(auto)]
 
 mod action;

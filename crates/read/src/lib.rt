@@ -1,4 +1,11 @@
-//! Reading: what a store's databases show of their documents.
+//! Reading: what a store's databases show of their documents (CouchDB manual, api/document/common).
+//!
+//! [`get`] and [`open_revs`] read documents, [`info`] a database. Rows of the tests:
+//!
+//! ```rows
+//! anybody GET /db/a => 200 {"_id":"a","_rev":"<r1>","v":1}
+//! anybody GET /db/b => 404 {"error":"not_found","reason":"missing"}
+//! ```
 #![tactic(auto)]
 
 mod change_list;

@@ -1,4 +1,11 @@
-//! The store of databases: what it is, in the words that everything above it speaks, and a plain store in memory.
+//! The store of databases: what it is, in the words that everything above it speaks, and a plain store
+//! in memory.
+//!
+//! [`Store`] is the trait, [`PlainStore`] meets it in memory. A row of the tests, a page by sequence:
+//!
+//! ```rows
+//! seq db => 1 b 1-x, 3 D 1-q, 6 a 2-b, 7 c 2-y deleted, last 7 of 7, 3 documents, 1 deleted
+//! ```
 #![tactic(auto)]
 
 mod database_name;

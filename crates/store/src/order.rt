@@ -25,7 +25,11 @@ pub(crate) fn spot<K: Ord, V>(entries: &Vec<(K, V)>, key: &K) -> Result<usize, u
 }
 
 /// Puts a value at a key: in the place of the one that was there, or before the first greater key.
-pub(crate) fn put_sorted<K: Ord + Drop, V: Drop>(entries: &mut Vec<(K, V)>, key: K, value: V) -> Got<()>
+pub(crate) fn put_sorted<K: Ord + Drop, V: Drop>(
+    entries: &mut Vec<(K, V)>,
+    key: K,
+    value: V,
+) -> Got<()>
     ensures ok { OnOk result (entries.new.items ≡ put K.cmp key value entries.old.items) }
 {
     match spot(entries, &key) {

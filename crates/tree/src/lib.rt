@@ -1,4 +1,14 @@
-//! The revision tree of one document: ids, revisions, and the history of a document's edits.
+//! The revision tree of one document: ids, revisions, and the history of a document's edits
+//! (CouchDB manual, replication/conflicts).
+//!
+//! [`History`] takes writes by [`History::insert`], and tells its winner and its leaves. Rows of the
+//! tests:
+//!
+//! ```rows
+//! insert 2-b,1-r {} => Added
+//! insert 2-a,1-r {} => Added
+//! winner => 2-b
+//! ```
 #![tactic(auto)]
 
 mod body;

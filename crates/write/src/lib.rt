@@ -1,4 +1,12 @@
-//! Writing: what becomes of an edit, and the plan that makes it so.
+//! Writing: what becomes of an edit, and the plan that makes it so (CouchDB manual,
+//! api/document/common and api/database/bulk-api).
+//!
+//! [`edit`], [`replicated`] and [`bulk`] plan, and [`apply`] changes the store. Rows of the tests:
+//!
+//! ```rows
+//! anybody PUT /db/a {"v":1} => 201 {"id":"a","ok":true,"rev":"<r1>"}
+//! anybody PUT /db/a {"v":1} => 409 {"error":"conflict","reason":"Document update conflict."}
+//! ```
 #![tactic(auto)]
 
 mod admission;
