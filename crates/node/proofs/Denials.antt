@@ -20,9 +20,8 @@ use Rattle.store.specs.Contents.{Contents}
 use Rattle.store.specs.Database.{Database, DocumentWrite, history_at}
 use Rattle.tree.specs.Revision.{Revision}
 use Rattle.write.specs.Admission.{admission}
-use Rattle.write.specs.Denials.{EditIsDueTo}
 use Rattle.write.specs.Planning.{security_outcome}
-use Rattle.write.specs.Terms.{Terms, terms_in}
+use Rattle.write.specs.Terms.{terms_in}
 use Rattle.write.specs.declared.fault.WriteFault.{WriteFault}
 use Rattle.write.specs.declared.fault.WriteFault.TheVariants as write
 use Rattle.write.proofs.Outcomes.{edit_denied}
@@ -39,11 +38,11 @@ use Rattle.api.specs.declared.page.Page.{Page}
 use Rattle.api.specs.declared.page.Page.TheVariants.{Welcome, AllDatabases, Database as DatabasePage, Security, BulkDocuments, AllDocuments, Changes, Differences, Document}
 use Rattle.api.specs.declared.refusal.Refusal.{Refusal}
 use Rattle.api.specs.declared.refusal.Refusal.TheVariants.{Unauthorized, Forbidden, Path, Method, DatabaseName, NoDatabase, Exists, Id, Query, Syntax, Body, BadDocument, BadHistory, Conflict, Generation, Missing, Deleted}
-use Rattle.node.specs.Answer.{Outcome, Task, administration, permission, created, entry, admin_task, judgement, listed, database_name_of, outcome_in, task_outcome, removed, page_outcome, task_of, told, worked, work_task}
+use Rattle.node.specs.Answer.{Task, administration, permission, created, entry, admin_task, judgement, listed, database_name_of, task_outcome, removed, page_outcome, task_of, told, worked, work_task}
 use Rattle.node.proofs.Tasks.{named, same, there, went}
-use Rattle.node.specs.Denials.{IsAsked, IsByEdit, IsByPolicy, IsDenied, IsDue, IsToldRule, IsUnvouched, rule_denied_by}
-use Rattle.node.specs.Work.{Done, Work, read_work}
-use Rattle.node.specs.Works.{change_list, database_read, difference_list, document_deleted, document_list, document_read, document_written, documents_written, deletion, edit_asked, edit_done, edit_in, found, read_by, security_read, security_set, security_written}
+use Rattle.node.specs.Denials.{IsDenied, IsDue, IsToldRule, IsUnvouched, rule_denied_by}
+use Rattle.node.specs.Work.{Work, read_work}
+use Rattle.node.specs.Works.{change_list, database_read, difference_list, document_deleted, document_list, document_read, document_written, documents_written, deletion, edit_asked, edit_done, found, read_by, security_read, security_set, security_written}
 
 -- ---- refusals of steps
 

@@ -1,17 +1,10 @@
 -- What holds of each answer: which effects fit a lawful database, and what becomes of a database.
 -- This server's own.
-use Rattle.std.specs.Prelude.{◌≡◌, ℕ, List, true, Option, Some, None, ⊤, ◌⊎◌}
-use Rattle.std.specs.FinMap.{get}
-use Rattle.auth.specs.Callers.{Identity}
+use Rattle.std.specs.Prelude.{◌≡◌, true, Option, Some, None, ⊤}
 use Rattle.couch_http.specs.Message.{Message}
-use Rattle.couch_json.specs.Value.{Value}
 use Rattle.policy.specs.Security.{is_security}
-use Rattle.policy.specs.Verdict.{verdict}
-use Rattle.policy.specs.declared.action.Action.{Action}
-use Rattle.policy.specs.declared.rule.Rule.{Rule}
-use Rattle.store.specs.Contents.{AreAcceptable, Contents}
+use Rattle.store.specs.Contents.{AreAcceptable}
 use Rattle.store.specs.Database.{Database, IsLater}
-use Rattle.api.specs.Paths.{database_name_in}
 use Rattle.api.specs.Routing.{page_of}
 use Rattle.api.specs.declared.page.Page.TheVariants.{AllDatabases}
 use Rattle.node.specs.Work.{Effect, appended, nothing, secured}

@@ -1,6 +1,6 @@
 -- The rows that a database is listed by, in the order of its writes and by id, cut by a range, with the counts of the database where they are asked for.
 -- CouchDB manual, api/database/changes (`_changes`: `since`, `limit`, `style`, `last_seq`), api/database/bulk-api (`_all_docs`: `startkey`, `endkey`, `inclusive_end`, `descending`, `skip`, `limit`, `offset`, `total_rows`) and api/database/common (`doc_count`, `doc_del_count`, `update_seq`); that ids are ordered by their bytes is this server's own.
-use Rattle.std.specs.Prelude.{◌≡◌, ◌<◌, ℕ, ◌+◌, ◌-◌, Bool, true, false, not, ◌||◌, List, [], ◌∷◌, map, filter, length, min, nat_lt, take, drop, reverse, Option, Some, None, option_map, if◌then◌else◌}
+use Rattle.std.specs.Prelude.{◌≡◌, ◌<◌, ℕ, ◌+◌, ◌-◌, Bool, true, false, not, ◌||◌, List, [], ◌∷◌, map, filter, length, min, nat_lt, take, drop, reverse, Option, Some, None, if◌then◌else◌}
 use Rattle.std.specs.List.{count_by}
 use Rattle.std.specs.Option.{option_to_list}
 use Rattle.std.specs.Ordering.{nat_cmp, is_lt}

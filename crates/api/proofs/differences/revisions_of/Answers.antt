@@ -6,7 +6,6 @@ use Rattle.couch_json.specs.Value.{member}
 use Rattle.couch_json.specs.View.{members_view, view}
 use Rattle.read.specs.declared.differences.AskedRevisions.{AskedRevisions}
 use Rattle.read.specs.DifferencesAsked.{all_asked, asked_of}
-use Rattle.api.specs.Listings.{revisions_of_members}
 use Rattle.api.specs.Queries.{revisions_listed}
 use Rattle.api.proofs.Listed.{list_taken}
 use Rattle.api.proofs.differences.revisions_of.Goals as goal
