@@ -29,7 +29,7 @@ pub fn caller(alloc: Global, auth: &Auth, request: &Request) -> Result<Caller, R
     }
 }
 
-/// The headers, each as its name and its value.
+/// Returns the headers, each as its name and its value.
 fn pairs<'a>(alloc: Global, headers: &'a [Header]) -> Got<Vec<(&'a [u8], &'a [u8])>>
     ensures { IfOk result (λ pairs. map (λ p. (p.0.now, p.1.now)) pairs.items ≡ map pair_of (map header_field headers.now)) }
 {
@@ -50,7 +50,7 @@ pub fn deny(caller: &Caller, rule: Rule) -> Refusal
     }
 }
 
-/// Whether the query has no parameter (URL Standard, section 5.1).
+/// Tells whether the query has no parameter (URL Standard, section 5.1).
 fn lacks_parameters(query: &Option<String>) -> bool
     ensures { result ≡ lacks_parameters (option_map string_bytes query.now) }
 {

@@ -33,7 +33,7 @@ pub fn bulk_in(value: Json) -> Option<BulkAsked>
     })
 }
 
-/// What `new_edits` says, true where it is not given; `None` where it is neither true nor false.
+/// Tells what `new_edits` says, true where it is not given; `None` where it is neither true nor false.
 fn new_edits_in(value: Option<&Json>) -> Option<bool>
     ensures { result ≡ new_edits_in (option_map (λ v. view v.now) value.entry) }
 {
@@ -43,7 +43,7 @@ fn new_edits_in(value: Option<&Json>) -> Option<bool>
     }
 }
 
-/// The list that `docs` is; `None` where it is not given or is no list.
+/// Returns the list that `docs` is; `None` where it is not given or is no list.
 fn documents_in(value: Json) -> Option<Vec<Json>>
     ensures { option_map (λ documents. list_map view documents.items) result ≡ documents_in (member_of (view value) (codes "docs")) }
 {
@@ -53,7 +53,7 @@ fn documents_in(value: Json) -> Option<Vec<Json>>
     list_of(take_member(members, "docs")?)
 }
 
-/// The value at a name, taken out of the members of an object.
+/// Returns the value at a name, taken out of the members of an object.
 fn take_member(members: BTreeMap<String, Json>, name: &str) -> Option<Json>
     ensures { option_map view result ≡ member_at name.now (members_view members.entries) }
 {
@@ -61,7 +61,7 @@ fn take_member(members: BTreeMap<String, Json>, name: &str) -> Option<Json>
     members.remove(name)
 }
 
-/// The elements, where the value is a list.
+/// Returns the elements, where the value is a list.
 fn list_of(value: Json) -> Option<Vec<Json>>
     ensures { option_map (λ elements. list_map view elements.items) result ≡ documents_of (view value) }
 {

@@ -8,7 +8,7 @@ ghost use Rattle.std.specs.List.{list_any};
 
 use std::alloc::{AllocError, Global};
 
-/// The parameters of a query, each a name and a value.
+/// Returns the parameters of a query, each a name and a value.
 pub(crate) fn parameters(
     alloc: Global,
     query: &Option<String>,
@@ -21,7 +21,7 @@ pub(crate) fn parameters(
     }
 }
 
-/// The names and values of a form.
+/// Returns the names and values of a form.
 fn decode_form(alloc: Global, form: &[u8]) -> Result<Vec<(String, String)>, AllocError>
     ensures { IfOk result (λ parameters. texts_of parameters.items ≡ map parameter_of (raw_pairs form.now)) }
 {
@@ -44,7 +44,7 @@ pub(crate) fn are_named(parameters: &[(String, String)], names: &[&str]) -> bool
     true
 }
 
-/// Whether the name is one of these.
+/// Tells whether the name is one of these.
 fn is_among(name: &str, names: &[&str]) -> bool
     ensures { result ≡ list_any (λ known. bytes_eq known name.now) (map (λ known. known.now) names.now) }
 {

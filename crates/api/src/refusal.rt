@@ -73,7 +73,7 @@ impl Refusal {
         }
     }
 
-    /// The short word for the refusal.
+    /// Returns the short word for the refusal.
     fn error(&self) -> &'static str
         ensures { result.now ≡ error_of self.now }
     {
@@ -98,7 +98,7 @@ impl Refusal {
         }
     }
 
-    /// What is wrong.
+    /// Tells what is wrong.
     fn reason(&self) -> &'static str
         ensures { result.now ≡ reason_of self.now }
     {
@@ -123,7 +123,7 @@ impl Refusal {
         }
     }
 
-    /// The name of the rule, where a rule refuses.
+    /// Returns the name of the rule, where a rule refuses.
     fn rule(&self) -> Option<&str>
         ensures { option_copied result ≡ rule_of self.now }
     {
@@ -155,7 +155,7 @@ impl Refusal {
     }
 }
 
-/// Why a rule refuses.
+/// Tells why a rule refuses.
 fn reason_of_rule(rule: &Rule) -> &'static str
     ensures { result.now ≡ reason_of_rule rule.now }
 {
@@ -169,7 +169,7 @@ fn reason_of_rule(rule: &Rule) -> &'static str
     }
 }
 
-/// The name of a rule; an update rule is named by the id of its design document.
+/// Returns the name of a rule; an update rule is named by the id of its design document.
 fn name_of_rule(rule: &Rule) -> &str
     ensures { result.now ≡ name_of_rule rule.now }
 {

@@ -35,7 +35,7 @@ impl Auth {
     ghost use Rattle.auth.specs.Headers.{fields_of};
     ghost use Rattle.auth.specs.Hmac.{token_of};
 
-    /// A server with this secret, which may be any bytes, and these names of admins. Both are
+    /// Makes a server with this secret, which may be any bytes, and these names of admins. Both are
     /// copied.
     pub fn new(alloc: Global, secret: &[u8], admins: &[String]) -> Got<Auth>
         ensures { IfOk result (λ auth. auth ≡ record { secret = secret.now; admins = map string_bytes admins.now }) }
@@ -49,7 +49,7 @@ impl Auth {
         })
     }
 
-    /// The token that vouches for the user of this name: in lower-case hex, HMAC-SHA-256 of the
+    /// Returns the token that vouches for the user of this name: in lower-case hex, HMAC-SHA-256 of the
     /// name alone under the secret (RFC 2104, section 2). 64 bytes.
     pub fn token(&self, name: &str) -> Got<String>
         ensures { IfOk result (λ token. string_bytes token ≡ token_of self.now.secret name.now) }
@@ -59,7 +59,7 @@ impl Auth {
         Ok(token)
     }
 
-    /// The caller of a request with these headers, each a name and a value, in the order that they
+    /// Returns the caller of a request with these headers, each a name and a value, in the order that they
     /// came. Header names go without ASCII case.
     ///
     /// `X-Auth-CouchDB-UserName` names the caller, `X-Auth-CouchDB-Roles` lists its roles, separated
@@ -92,7 +92,7 @@ impl Auth {
         }
     }
 
-    /// The user of this name, with the roles that a header lists, where the token vouches for it.
+    /// Returns the user of this name, with the roles that a header lists, where the token vouches for it.
     fn user(&self, name: &[u8], roles: &[u8], token: Option<&[u8]>) -> Result<Caller, AuthFault>
         ensures ok { IfOk result (λ caller. caller_by (Some name.now) roles.now (option_copied token.entry)
             self.now.secret self.now.admins ≡ Ok caller) }
@@ -115,7 +115,7 @@ impl Auth {
         Ok(Caller::with_roles(name, roles))
     }
 
-    /// Whether the name isn't empty and a token came that is the name's, byte by byte.
+    /// Tells whether the name isn't empty and a token came that is the name's, byte by byte.
     fn vouches_for(&self, name: &str, token: Option<&[u8]>) -> Got<bool>
         ensures { IfOk result (λ answer. answer ≡ (not (length name.now == 0)
             && is_token (option_copied token.entry) (token_of self.now.secret name.now))) }
@@ -128,7 +128,7 @@ impl Auth {
     }
 }
 
-/// Whether the bytes are the same. All of them are compared, so that the time taken doesn't tell how
+/// Tells whether the bytes are the same. All of them are compared, so that the time taken doesn't tell how
 /// far a guessed token is right.
 fn is_same(given: &[u8], wanted: &[u8]) -> bool
     ensures { result ≡ bytes_eq given.now wanted.now }
@@ -143,7 +143,7 @@ fn is_same(given: &[u8], wanted: &[u8]) -> bool
     same
 }
 
-/// The bytes as a text; `Token` where they aren't UTF-8.
+/// Returns the bytes as a text; `Token` where they aren't UTF-8.
 fn text(bytes: &[u8]) -> Result<&str, AuthFault>
     ensures ok { IfOk result (λ text. (text.now ≡ bytes.now) × (is_utf8 bytes.now ≡ true)) }
     ensures refused { IfErr result (λ fault. (fault ≡ Token) × (is_utf8 bytes.now ≡ false)) }
@@ -154,7 +154,7 @@ fn text(bytes: &[u8]) -> Result<&str, AuthFault>
     }
 }
 
-/// A copy of each text.
+/// Copies each text.
 fn copies(alloc: Global, texts: &[String]) -> Got<Vec<String>>
     ensures { IfOk result (λ copies. map string_bytes copies.items ≡ map string_bytes texts.now) }
 {

@@ -25,7 +25,7 @@ impl Model for Caller {
 impl Caller {
     ghost use Rattle.auth.specs.Callers.{anonymous};
 
-    /// The caller of whom nothing is known: no name and no roles. Allocates nothing.
+    /// Makes the caller of whom nothing is known: no name and no roles. Allocates nothing.
     pub fn anonymous(alloc: Global) -> Caller
         ensures { result ≡ anonymous }
     {
@@ -35,7 +35,7 @@ impl Caller {
         }
     }
 
-    /// The caller's name, or `None` for an anonymous caller.
+    /// Returns the caller's name, or `None` for an anonymous caller.
     pub fn name(&self) -> Option<&str>
         ensures { option_copied result ≡ self.now.name }
     {
@@ -45,14 +45,14 @@ impl Caller {
         }
     }
 
-    /// The caller's roles, in order.
+    /// Returns the caller's roles, in order.
     pub fn roles(&self) -> &[String]
         ensures { map string_bytes result.now ≡ self.now.roles }
     {
         self.roles.as_slice()
     }
 
-    /// The user of this name with these roles.
+    /// Makes the user of this name with these roles.
     pub(crate) fn with_roles(name: String, roles: Vec<String>) -> Caller
         ensures { result ≡ record { name = Some (string_bytes name); roles = map string_bytes roles.items } }
     {

@@ -13,7 +13,7 @@ pub(crate) const ROLES: &str = "X-Auth-CouchDB-Roles";
 /// The header whose token vouches for the name.
 pub(crate) const TOKEN: &str = "X-Auth-CouchDB-Token";
 
-/// The value of the header of this name, where there is one. Names go without ASCII case (RFC
+/// Returns the value of the header of this name, where there is one. Names go without ASCII case (RFC
 /// 9110, section 5.1).
 ///
 /// `Repeated` where more than one header has the name.
@@ -38,7 +38,7 @@ pub(crate) fn sole_value<'a, N: AsSlice<u8>, V: AsSlice<u8>>(
     Ok(found)
 }
 
-/// Whether a header's name is this one.
+/// Tells whether a header's name is this one.
 fn is_named(header: &[u8], name: &str) -> bool
     ensures { result ≡ str_eq_ignore_ascii_case header.now name.now }
 {

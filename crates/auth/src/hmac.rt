@@ -13,7 +13,7 @@ const INNER_PAD: u8 = 0x36;
 /// The byte of the outer pad (RFC 2104, section 2).
 const OUTER_PAD: u8 = 0x5c;
 
-/// HMAC-SHA-256 of `message` under `key` (RFC 2104, section 2).
+/// Computes HMAC-SHA-256 of `message` under `key` (RFC 2104, section 2).
 pub(crate) fn hmac_sha256(alloc: Global, key: &[u8], message: &[u8]) -> Got<[u8; 32]>
     ensures { IfOk result (λ digest. digest ≡ hmac_sha256 key.now message.now) }
 {
@@ -23,7 +23,7 @@ pub(crate) fn hmac_sha256(alloc: Global, key: &[u8], message: &[u8]) -> Got<[u8;
     Ok(digest_of_parts(outer_key.as_slice(), inner.as_slice()))
 }
 
-/// The key as one block, each byte of it xored with `pad`.
+/// Returns the key as one block, each byte of it xored with `pad`.
 fn padded_key(alloc: Global, key: &[u8], pad: u8) -> Got<Vec<u8>>
     ensures { IfOk result (λ padded. padded.items ≡ padded_key pad key.now) }
 {
@@ -32,7 +32,7 @@ fn padded_key(alloc: Global, key: &[u8], pad: u8) -> Got<Vec<u8>>
     Ok(padded)
 }
 
-/// The key as one block: a key that is longer than a block is hashed first.
+/// Returns the key as one block: a key that is longer than a block is hashed first.
 fn key_block(alloc: Global, key: &[u8]) -> Got<Vec<u8>>
     ensures { IfOk result (λ block. block.items ≡ key_block key.now) }
 {
@@ -45,7 +45,7 @@ fn key_block(alloc: Global, key: &[u8]) -> Got<Vec<u8>>
     }
 }
 
-/// The bytes with zeros after them, up to a block.
+/// Returns the bytes with zeros after them, up to a block.
 fn zero_filled(alloc: Global, bytes: &[u8]) -> Got<Vec<u8>>
     requires { length bytes.now ≤ 64 }
     ensures { IfOk result (λ block. block.items ≡ zero_filled bytes.now) }
@@ -56,7 +56,7 @@ fn zero_filled(alloc: Global, bytes: &[u8]) -> Got<Vec<u8>>
     Ok(block)
 }
 
-/// SHA-256 of one message in two parts.
+/// Computes SHA-256 of one message in two parts.
 fn digest_of_parts(first: &[u8], second: &[u8]) -> [u8; 32]
     ensures { result ≡ sha256 (first.now ++ second.now) }
 {

@@ -7,7 +7,7 @@ use std::alloc::Global;
 /// The role of server admins.
 pub(crate) const ADMIN_ROLE: &str = "_admin";
 
-/// The roles that a header's value lists, separated by commas, without the spaces and tabs round
+/// Returns the roles that a header's value lists, separated by commas, without the spaces and tabs round
 /// each, and without empty ones.
 pub(crate) fn roles_in(alloc: Global, value: &str) -> Got<Vec<String>>
     ensures { IfOk result (λ roles. map string_bytes roles.items ≡ roles_in value.now) }
@@ -30,7 +30,7 @@ fn push_role(alloc: Global, roles: &mut Vec<String>, role: &str) -> Got<()>
     Ok(())
 }
 
-/// The text without the spaces and tabs at either end.
+/// Returns the text without the spaces and tabs at either end.
 fn trim_blanks(text: &str) -> &str
     ensures { result.now ≡ without_blanks text.now }
 {
@@ -54,7 +54,7 @@ pub(crate) fn add_admin_role(
     Ok(())
 }
 
-/// Whether the text is among the texts.
+/// Tells whether the text is among the texts.
 fn is_among(text: &str, texts: &[String]) -> bool
     ensures { result ≡ is_among text.now (map string_bytes texts.now) }
 {

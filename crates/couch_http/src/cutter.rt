@@ -34,7 +34,7 @@ impl Cutter {
     ghost use Rattle.std.specs.Prelude.{◌≡◌, ◌≢◌, ◌↔◌, ◌≤◌, ◌+◌, [], Some, None, length, vec_capacity, vec_len, IfOk, IfErr, OnErr, IsErrOf};
     ghost use Rattle.couch_http.specs.Cutting.{Answers, HasStreamFault};
 
-    /// At the front of a stream.
+    /// Begins at the front of a stream.
     #[tactic(auto, unfolding(crate::specs::Front::head_limit))]
     pub fn new(alloc: Global) -> Cutter
         ensures { result ≡ Some [] }
@@ -66,7 +66,8 @@ impl Cutter {
         self.feed_with_room(piece, &mut room)
     }
 
-    /// Takes the next piece as `feed` does, and makes room in `room` for a reply to each of the requests and one more.
+    /// Takes the next piece as `feed` does, and makes room in `room` for a reply to each of the
+    /// requests and one more.
     ///
     /// Once a piece is taken its replies can then be kept without a growth that might be refused.
     #[tactic(auto, using(crate::proofs::FaultLemmas::HasStreamFault_answer))]

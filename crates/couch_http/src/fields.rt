@@ -11,7 +11,7 @@ use crate::fault::HttpFault;
 use crate::limits::BODY_LIMIT;
 use crate::request::Header;
 
-/// Whether two names are equal without ASCII case (RFC 9110, section 5.1).
+/// Tells whether two names are equal without ASCII case (RFC 9110, section 5.1).
 #[tactic(auto, unfolding(crate::specs::Fields::same_name))]
 fn is_same_name(a: &[u8], b: &[u8]) -> bool
     ensures { result ≡ same_name a.now b.now }
@@ -19,7 +19,7 @@ fn is_same_name(a: &[u8], b: &[u8]) -> bool
     a.eq_ignore_ascii_case(b)
 }
 
-/// The value of the first header of a name, and the headers after it.
+/// Returns the value of the first header of a name, and the headers after it.
 fn find_header<'a>(headers: &'a [Header], name: &[u8]) -> Option<(&'a [u8], &'a [Header])>
     ensures { MatchOption result (values_of name.now (map header_field headers.now) ≡ [])
         (λ found. values_of name.now (map header_field headers.now)
@@ -33,7 +33,7 @@ fn find_header<'a>(headers: &'a [Header], name: &[u8]) -> Option<(&'a [u8], &'a 
     None
 }
 
-/// Whether there is a `Transfer-Encoding` header, whatever it says (RFC 9112, section 6.1).
+/// Tells whether there is a `Transfer-Encoding` header, whatever it says (RFC 9112, section 6.1).
 pub fn has_transfer_encoding(headers: &[Header]) -> bool
     ensures { result ≡ has_transfer_encoding (map header_field headers.now) }
 {
@@ -98,7 +98,7 @@ fn decimal(digits: &[u8], limit: usize) -> Option<usize>
     Some(number)
 }
 
-/// Whether a `Connection` header lists `close` (RFC 9112, section 9.6).
+/// Tells whether a `Connection` header lists `close` (RFC 9112, section 9.6).
 fn asks_close(headers: &[Header]) -> bool
     ensures { result ≡ asks_close (map header_field headers.now) }
 {
@@ -110,7 +110,8 @@ fn asks_close(headers: &[Header]) -> bool
     false
 }
 
-/// Whether a request is the last on its connection (RFC 9112, sections 9.3 and 9.6): one of version 1.0, or one that asks for
+/// Tells whether a request is the last on its connection (RFC 9112, sections 9.3 and 9.6): one of
+/// version 1.0, or one that asks for
 /// the close.
 pub fn is_last(minor: u8, headers: &[Header]) -> bool
     ensures { result ≡ (minor == 0 || asks_close (map header_field headers.now)) }
@@ -118,7 +119,7 @@ pub fn is_last(minor: u8, headers: &[Header]) -> bool
     minor == 0 || asks_close(headers)
 }
 
-/// Whether a list of parts between commas has `close`, without ASCII case (RFC 9110, section 7.6.1).
+/// Tells whether a list of parts between commas has `close`, without ASCII case (RFC 9110, section 7.6.1).
 fn lists_close(value: &[u8]) -> bool
     ensures { result ≡ lists_close value.now }
 {
@@ -127,7 +128,7 @@ fn lists_close(value: &[u8]) -> bool
         .any(|part| is_same_name(trim(part), b"close"))
 }
 
-/// The bytes without the spaces and tabs at both ends.
+/// Trims the bytes: returns them without the spaces and tabs at both ends.
 #[tactic(auto, unfolding(httparse::specs::Grammar::trim_ows))]
 fn trim(bytes: &[u8]) -> &[u8]
     ensures { result.now ≡ trim_ows bytes.now }

@@ -43,7 +43,7 @@ pub fn read_head(alloc: Global, head: &[u8]) -> Got<HeadRead>
     }
 }
 
-/// Where the parts of a request are whose head is all of these bytes.
+/// Finds where the parts of a request are whose head is all of these bytes.
 fn find_parts(head: &[u8], spans: &mut [HeaderSpan]) -> Option<RequestSpans>
     requires { length spans.old ≡ header_limit }
     ensures within { IfSome result (IsRequestWithin head.now spans.new) }
@@ -62,7 +62,7 @@ fn find_parts(head: &[u8], spans: &mut [HeaderSpan]) -> Option<RequestSpans>
     }
 }
 
-/// The request whose parts were found in its head.
+/// Builds the request whose parts were found in its head.
 fn build_request(
     alloc: Global,
     head: &[u8],
@@ -103,7 +103,7 @@ fn build_request(
     ))
 }
 
-/// The headers that the spans cover.
+/// Returns the headers that the spans cover.
 fn headers_at(alloc: Global, head: &[u8], spans: &[HeaderSpan]) -> Got<Vec<Header>>
     requires { All (IsHeaderWithin (length head.now)) spans.now }
     ensures { IfOk result (λ headers. map header_field headers.items ≡ map (field_at head.now) spans.now) }
@@ -140,7 +140,7 @@ fn text_of(bytes: &[u8]) -> &str
     }
 }
 
-/// A target up to its first `?`.
+/// Returns a target up to its first `?`.
 fn path_of(alloc: Global, target: &str) -> Got<String>
     ensures { IfOk result (λ path. string_bytes path ≡ path_of target.now) }
 {
@@ -151,7 +151,7 @@ fn path_of(alloc: Global, target: &str) -> Got<String>
     Ok(String::from_str(alloc, path)?)
 }
 
-/// What stands behind the first `?` of a target.
+/// Tells what stands behind the first `?` of a target.
 fn query_of(alloc: Global, target: &str) -> Got<Option<String>>
     ensures { IfOk result (λ query. option_map string_bytes query ≡ query_of target.now) }
 {

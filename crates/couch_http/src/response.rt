@@ -43,7 +43,7 @@ impl Response {
     ghost use Rattle.couch_json.specs.View.{view};
     ghost use Rattle.couch_http.specs.Reply.{reply_of, fixed_reply};
 
-    /// The reply of a status and a value, with `Connection: close` where it is the connection's last.
+    /// Makes the reply of a status and a value, with `Connection: close` where it is the connection's last.
     ///
     /// The status is one of the thirteen that have a phrase here (RFC 9110, section 15): 200, 201, 400, 401, 403,
     /// 404, 405, 409, 412, 413, 500, 501 and 503. The body is the value's canonical text. `Memory` is the one
@@ -57,7 +57,7 @@ impl Response {
         Ok(Response::of_text(alloc, status, body.as_str(), last)?)
     }
 
-    /// The reply of a status and the text of its body.
+    /// Makes the reply of a status and the text of its body.
     fn of_text(alloc: Global, status: u16, body: &str, last: bool) -> Got<Response>
         ensures { IfOk result (λ reply. reply ≡ reply_of status body.now last) }
     {
@@ -76,7 +76,7 @@ impl Response {
         })
     }
 
-    /// A reply that needs no memory.
+    /// Makes a reply that needs no memory.
     pub fn fixed(fixed: Fixed) -> Response
         ensures { result ≡ fixed_reply fixed }
     {
@@ -95,7 +95,7 @@ impl Response {
         }
     }
 
-    /// A reply whose text stands already, with its head in the first bytes.
+    /// Makes a reply whose text stands already, with its head in the first bytes.
     fn from_text(status: u16, head_len: usize, text: &'static str) -> Response
         requires { head_len ≤ length text.now }
         ensures { result ≡ record { status = status; body = drop head_len text.now; bytes = text.now } }
@@ -107,21 +107,21 @@ impl Response {
         }
     }
 
-    /// The status code (RFC 9110, section 15).
+    /// Returns the status code (RFC 9110, section 15).
     pub fn status(&self) -> u16
         ensures { result ≡ self.now.status }
     {
         self.status
     }
 
-    /// The body.
+    /// Returns the body.
     pub fn body(&self) -> &[u8]
         ensures { result.now ≡ self.now.body }
     {
         &self.bytes()[self.head_len..]
     }
 
-    /// All bytes of the reply, from the status line to the end of the body.
+    /// Returns all bytes of the reply, from the status line to the end of the body.
     pub fn bytes(&self) -> &[u8]
         ensures { result.now ≡ self.now.bytes }
     {

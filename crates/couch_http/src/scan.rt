@@ -37,7 +37,7 @@ impl Line {
     ghost use Rattle.std.specs.Prelude.{◌≡◌};
     ghost use Rattle.couch_http.specs.Head.{is_empty_so_far, line_with};
 
-    /// Whether the line would be empty if it ended here.
+    /// Tells whether the line would be empty if it ended here.
     fn is_empty_so_far(self) -> bool
         ensures { result ≡ is_empty_so_far self }
     {
@@ -47,7 +47,7 @@ impl Line {
         }
     }
 
-    /// The line with one more byte. A line feed begins the next.
+    /// Returns the line with one more byte. A line feed begins the next.
     fn with(self, byte: u8) -> Line
         ensures { result ≡ line_with self byte }
     {
@@ -65,7 +65,7 @@ impl Scan {
     ghost use Rattle.couch_http.specs.Scanning.{scan_found, IsScanOf};
     ghost use Rattle.couch_http.specs.declared.scan.Line.TheVariants.{Empty};
 
-    /// At the front of a stream.
+    /// Begins at the front of a stream.
     pub fn start() -> Scan
         ensures lines { result.lines ≡ 0 }
         ensures line { result.line ≡ Empty }
@@ -76,14 +76,14 @@ impl Scan {
         }
     }
 
-    /// Whether a head ends with this byte.
+    /// Tells whether a head ends with this byte.
     fn ends_with(self, byte: u8) -> bool
         ensures { result ≡ ends_head self.lines self.line byte }
     {
         byte == b'\n' && self.line.is_empty_so_far() && self.lines > 0
     }
 
-    /// The search with one more byte, which ends no head.
+    /// Returns the search with one more byte, which ends no head.
     fn after(self, byte: u8) -> Scan
         requires { self.lines + 1 < 2 ^ 64 }
         ensures lines { result.lines ≡ lines_with self.lines self.line byte }

@@ -7,7 +7,7 @@ use crate::value::Json;
 use std::cmp::Ordering;
 use std::collections::BTreeMap;
 
-/// The order of two values (CouchDB manual, "Views Collation", with texts by their bytes):
+/// Compares two values (CouchDB manual, "Views Collation", with texts by their bytes):
 /// null, false, true, numbers, texts, arrays element by element, objects member by member.
 ///
 /// Members go in byte order of their names, each by name and then value; what is a proper front
@@ -26,7 +26,7 @@ pub fn collate(left: &Json, right: &Json) -> Ordering
     }
 }
 
-/// Where the value's kind stands among the kinds.
+/// Tells where the value's kind stands among the kinds.
 fn rank(value: &Json) -> u8
     ensures { result ≡ kind_rank (view value.now) }
 {

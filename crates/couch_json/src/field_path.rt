@@ -59,7 +59,7 @@ impl Model for FieldPath {
 }
 
 impl FieldPath {
-    /// The path that a text spells; `Shape` where it spells none.
+    /// Parses the path that a text spells; `Shape` where it spells none.
     pub fn parse(alloc: Global, text: &str) -> Result<FieldPath, PathFault>
         ensures ok { IfOk result (λ path. (path ≡ text.now) × (is_field_path text.now ≡ true)) }
         ensures fault { IfErr result (λ e. e ≢ PathFault.Memory
@@ -76,7 +76,7 @@ impl FieldPath {
         Ok(FieldPath { text, names })
     }
 
-    /// The text of the path.
+    /// Returns the text of the path.
     pub fn as_str(&self) -> &str
         ensures text { result.now ≡ self.now }
         ensures lawful { is_field_path self.now ≡ true }
@@ -85,7 +85,7 @@ impl FieldPath {
     }
 }
 
-/// The value inside of `value` that the path reaches: from object to object, name by name. A step
+/// Returns the value inside of `value` that the path reaches: from object to object, name by name. A step
 /// into what is no object, or has no such name, reaches nothing.
 pub fn at<'a>(value: &'a Json, path: &FieldPath) -> Option<&'a Json>
     ensures { option_map (λ v. view v.now) result ≡ value_at path.now (view value.now) }
@@ -97,7 +97,7 @@ pub fn at<'a>(value: &'a Json, path: &FieldPath) -> Option<&'a Json>
     Some(reached)
 }
 
-/// The names in a path's text.
+/// Returns the names in a path's text.
 fn names_in(alloc: Global, text: &str) -> Got<Vec<String>>
     ensures { IfOk result (λ names. map string_bytes names.items ≡ names_in text.now) }
 {
@@ -139,7 +139,7 @@ fn take_sign(name: &mut String, held: bool, sign: char) -> Got<bool>
     Ok(false)
 }
 
-/// Whether no name is empty.
+/// Tells whether no name is empty.
 fn are_filled(names: &[String]) -> bool
     ensures { result ≡ are_filled (map string_bytes names.now) }
 {

@@ -5,7 +5,7 @@ ghost use Rattle.couch_json.specs.View.{view, items_view, members_view};
 use crate::value::Json;
 use std::collections::BTreeMap;
 
-/// Whether the value nests at most `limit` deep.
+/// Tells whether the value nests at most `limit` deep.
 #[cycle(within)]
 pub(crate) fn value_within(value: &Json, limit: usize) -> bool
     ensures { IsTrue result ↔ (depth (view value.now) ≤ limit) }

@@ -12,7 +12,7 @@ enum Place {
     Escaped,
 }
 
-/// Whether more than 110 brackets and braces are ever open, outside of strings.
+/// Tells whether more than 110 brackets and braces are ever open, outside of strings.
 pub(crate) fn check_nesting(bytes: &[u8]) -> bool
     ensures { result ≡ nests_too_deep bytes.now }
 {

@@ -9,7 +9,7 @@ pub struct Number {
 }
 
 impl Number {
-    /// The number, or `None` exactly where it lies outside of -2^63 to 2^63 - 1.
+    /// Makes the number, or `None` exactly where it lies outside of -2^63 to 2^63 - 1.
     pub fn new(value: i128) -> Option<Number>
         ensures { MatchOption result (¬ IsInRange value) (λ n. IsInRange value × (n.value ≡ value)) }
     {
@@ -19,7 +19,7 @@ impl Number {
         Some(Number { value })
     }
 
-    /// The number as an integer, from -2^63 to 2^63 - 1.
+    /// Returns the number as an integer, from -2^63 to 2^63 - 1.
     pub fn value(&self) -> i128
         ensures number { result ≡ self.now.value }
         ensures in_range { IsInRange result }

@@ -11,7 +11,7 @@ use serde_json::Value;
 use serde_json::error::Category;
 use std::alloc::Global;
 
-/// The value that the bytes have as a JSON text, or the first fault that applies:
+/// Reads the value that the bytes have as a JSON text, or the first fault that applies:
 ///
 /// 1. `Depth`: more than 110 brackets and braces are open at once, strings aside; a closing one
 ///    with none open counts for nothing.
@@ -30,7 +30,7 @@ pub fn read(alloc: Global, bytes: &[u8]) -> Result<Json, JsonFault>
     convert(alloc, parse(alloc, bytes)?)
 }
 
-/// What serde_json reads: `Syntax` exactly where it reads nothing.
+/// Reads what serde_json reads: `Syntax` exactly where it reads nothing.
 fn parse(alloc: Global, bytes: &[u8]) -> Result<Value, JsonFault>
     ensures value { IfOk result (λ v. data_read bytes.now ≡ Some (data_view v)) }
     ensures fault { IfErr result (λ e. e ≢ JsonFault.Memory

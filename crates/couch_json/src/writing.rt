@@ -13,7 +13,7 @@ use json::Writer;
 use std::alloc::Global;
 use std::collections::BTreeMap;
 
-/// The canonical text of the value, compact and in UTF-8, with no line end.
+/// Writes the canonical text of the value, compact and in UTF-8, with no line end.
 ///
 /// An object's members stand in byte order of their names; texts have the shortest escapes.
 pub fn canon(alloc: Global, value: &Json) -> Got<String>

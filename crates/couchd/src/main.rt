@@ -28,7 +28,7 @@ fn run<R: Env + Input + Print + AllocGlobal>(rt: &R) -> Result<u8, Refusal> {
     }
 }
 
-/// The words of the command line. One that is no text makes them invalid.
+/// Returns the words of the command line. One that is no text makes them invalid.
 fn words_of<R: Env + AllocGlobal>(rt: &R) -> Result<Vec<String>, PlanFault> {
     match env::args(rt) {
         Ok(words) => Ok(words.collect(rt.alloc())?),

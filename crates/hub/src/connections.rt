@@ -42,7 +42,7 @@ impl Connections {
     ghost use Rattle.hub.specs.Cutters.{IsCut};
     ghost use Rattle.hub.specs.Feeding.{IsFed};
 
-    /// No connections. Takes no memory.
+    /// Makes a table without connections. Takes no memory.
     pub fn new(alloc: Global) -> Connections
         ensures { result ≡ no_connections }
     {

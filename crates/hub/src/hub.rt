@@ -36,7 +36,7 @@ impl<S: Store + Drop> Hub<S> {
     ghost use Rattle.hub.specs.Connections.{is_open, next_connection, no_connections, rest_on, was_opened, with_connection, without};
     ghost use Rattle.hub.specs.Feeding.{IsFed};
 
-    /// A node without connections. Takes no memory.
+    /// Makes a hub of a node, without connections. Takes no memory.
     pub fn new(alloc: Global, node: Node<S>) -> Hub<S>
         ensures node { result.node ≡ node }
         ensures connections { result.connections ≡ no_connections }
@@ -107,7 +107,7 @@ impl<S: Store + Drop> Hub<S> {
         self.node.handle(request)
     }
 
-    /// The node.
+    /// Returns the node.
     pub fn into_node(self) -> Node<S>
         ensures { result ≡ self.node }
     {

@@ -25,7 +25,7 @@ pub fn plan(alloc: Global, words: &[String]) -> Result<Plan, PlanFault>
     }
 }
 
-/// What clap makes of the words.
+/// Tells what clap makes of the words.
 fn parse<'a>(alloc: Global, words: &'a [String]) -> Result<ArgMatches<'a>, Error>
     ensures ok { IfOk result (λ m. fault_of couchd_command (map string_bytes words.now) ≡ []) }
     ensures command { IfOk result (λ m. subcommand_rows_of m ≡ subcommand_of couchd_command (map string_bytes words.now)) }
@@ -35,7 +35,7 @@ fn parse<'a>(alloc: Global, words: &'a [String]) -> Result<ArgMatches<'a>, Error
     command.try_get_matches_from(words)
 }
 
-/// `couchd`, with the command `lab --secret S [ADMIN]...`.
+/// Returns the command `couchd`, with the command `lab --secret S [ADMIN]...`.
 fn couchd_command<'a>(alloc: Global) -> Result<Command<'a>, AllocError>
     ensures { IfOk result (λ command. app_of command ≡ couchd_command) }
 {
@@ -56,7 +56,7 @@ fn couchd_command<'a>(alloc: Global) -> Result<Command<'a>, AllocError>
     Ok(couchd)
 }
 
-/// The plan of the command of this name, with what clap made of its words.
+/// Returns the plan of the command of this name, with what clap made of its words.
 fn plan_at(alloc: Global, name: &str, matches: &ArgMatches<'_>) -> Result<Plan, PlanFault>
     ensures ok { IfOk result (λ plan. asked_at name.now (rows_of (found_of matches.now)) ≡ Some (asked_of plan)) }
     ensures usage { result ≡ Err PlanFault.Usage → asked_at name.now (rows_of (found_of matches.now)) ≡ None }
@@ -68,7 +68,7 @@ fn plan_at(alloc: Global, name: &str, matches: &ArgMatches<'_>) -> Result<Plan, 
     }
 }
 
-/// The plan of the words after `lab`.
+/// Returns the plan of the words after `lab`.
 fn lab_plan(alloc: Global, matches: &ArgMatches<'_>) -> Result<Plan, PlanFault>
     ensures ok { IfOk result (λ plan. lab_asked_by (rows_of (found_of matches.now)) ≡ Some (asked_of plan)) }
     ensures usage { result ≡ Err PlanFault.Usage → lab_asked_by (rows_of (found_of matches.now)) ≡ None }
@@ -81,7 +81,7 @@ fn lab_plan(alloc: Global, matches: &ArgMatches<'_>) -> Result<Plan, PlanFault>
     Ok(Plan::Lab { secret, admins })
 }
 
-/// The names of admins among the words.
+/// Returns the names of admins among the words.
 fn admins_of(alloc: Global, matches: &ArgMatches<'_>) -> Result<Vec<String>, AllocError>
     ensures { IfOk result (λ names. map string_bytes names.items ≡ unwrap_or (all_of (codes "admin") (rows_of (found_of matches.now))) []) }
 {
@@ -102,7 +102,7 @@ fn copies(alloc: Global, words: &[&str]) -> Result<Vec<String>, AllocError>
     Ok(copies)
 }
 
-/// Why clap refused: want of memory, or the words.
+/// Tells why clap refused: want of memory, or the words.
 fn fault_of(error: &Error) -> PlanFault
     ensures memory { kind_of error.now ≡ ErrorKind.OutOfMemory → result ≡ PlanFault.Memory }
     ensures usage { kind_of error.now ≢ ErrorKind.OutOfMemory → result ≡ PlanFault.Usage }

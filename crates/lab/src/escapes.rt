@@ -6,7 +6,7 @@ ghost use Rattle.lab.specs.Escapes.{hex_byte, hex_digit, put, unescaped_text};
 use couch_json::Got;
 use std::alloc::Global;
 
-/// The bytes that a text spells, where `\r`, `\n`, `\\` and `\xHH`, with hexadecimal digits in
+/// Returns the bytes that a text spells, where `\r`, `\n`, `\\` and `\xHH`, with hexadecimal digits in
 /// either case, stand for one byte and each other byte for itself; `None` where a backslash begins
 /// no such escape.
 pub fn unescape(alloc: Global, text: &[u8]) -> Got<Option<Vec<u8>>>
@@ -24,7 +24,7 @@ pub fn unescape(alloc: Global, text: &[u8]) -> Got<Option<Vec<u8>>>
     Ok(Some(bytes))
 }
 
-/// The first byte that a text spells, and the text behind what spells it.
+/// Returns the first byte that a text spells, and the text behind what spells it.
 fn unescape_first(text: &[u8]) -> Option<(u8, &[u8])>
     requires { 0 < length text.now }
     ensures first { unescaped_text text.now ≡ option_and_then (λ p. put p.0 (unescaped_text p.1.now)) result }
@@ -43,7 +43,7 @@ fn unescape_first(text: &[u8]) -> Option<(u8, &[u8])>
     }
 }
 
-/// The byte that two hexadecimal digits spell.
+/// Returns the byte that two hexadecimal digits spell.
 fn byte_of(high: u8, low: u8) -> Option<u8>
     ensures { result ≡ hex_byte high low }
 {
@@ -52,7 +52,7 @@ fn byte_of(high: u8, low: u8) -> Option<u8>
     Some(16 * high + low)
 }
 
-/// The value of a hexadecimal digit.
+/// Returns the value of a hexadecimal digit.
 fn hex_digit(digit: u8) -> Option<u8>
     ensures value { result ≡ hex_digit digit }
     ensures small { IfSome result (λ value. value < 16) }

@@ -67,7 +67,7 @@ impl LineFault {
     ghost use Rattle.std.specs.Prelude.{◌≡◌};
     ghost use Rattle.lab.specs.Playing.{fault_at};
 
-    /// The program's fault, where this is that of the line of this number.
+    /// Returns the program's fault, where this is that of the line of this number.
     pub fn at(self, number: u64) -> ProgramFault
         ensures { result ≡ fault_at self number }
     {

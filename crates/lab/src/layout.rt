@@ -16,7 +16,7 @@ pub struct Layout {
 }
 
 impl Layout {
-    /// No nodes.
+    /// Makes a layout without nodes.
     pub fn new(alloc: Global) -> Layout {
         Layout {
             alloc,
@@ -53,7 +53,7 @@ fn open_to_all(alloc: Global, store: &mut PlainStore, name: &DbName) -> Result<(
     Ok(())
 }
 
-/// The security object `{}`: it names no member, so everyone is one.
+/// Returns the security object `{}`: it names no member, so everyone is one.
 fn open_security(alloc: Global) -> Result<Security, NoMemory> {
     let value = Json::Object(BTreeMap::new(alloc));
     match Security::read(alloc, &value) {

@@ -122,7 +122,7 @@ fn read_close<'a>(name: &'a [u8]) -> Option<Line<'a>>
     }
 }
 
-/// The name of a database that the bytes spell. Its bytes are ASCII, so bytes that are no text are
+/// Returns the name of a database that the bytes spell. Its bytes are ASCII, so bytes that are no text are
 /// no name.
 fn read_name(alloc: Global, bytes: &[u8]) -> Got<Option<DbName>>
     ensures { IfOk result (λ name. name ≡ (if is_database_name bytes.now then Some bytes.now else None)) }

@@ -10,7 +10,7 @@ pub struct Named<T> {
     pub value: T,
 }
 
-/// The place of the first that has this name.
+/// Finds the place of the first that has this name.
 pub fn place_of<T>(entries: &[Named<T>], name: &[u8]) -> Option<usize>
     ensures place { result ≡ position_from (λ n. bytes_eq name.now n) 0 (map (λ e. e.name.items) entries.now) }
     ensures within { IfSome result (λ place. place < length entries.now) }

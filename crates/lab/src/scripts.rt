@@ -78,7 +78,7 @@ fn read_next<R: BufRead>(reader: &mut R, bytes: &mut Vec<u8>) -> Result<bool, Pr
     Ok(count > 0)
 }
 
-/// A line without its line feed, which the last of a script may lack.
+/// Returns a line without its line feed, which the last of a script may lack.
 fn without_line_feed(line: &[u8]) -> &[u8]
     ensures { result.now ≡ strip_last 10 line.now }
 {

@@ -15,7 +15,7 @@ pub struct Server<'a> {
 }
 
 impl Server<'_> {
-    /// A node over a store.
+    /// Makes a node over a store.
     pub fn node(&self, store: PlainStore) -> Got<Node<PlainStore>> {
         let auth = Auth::new(self.alloc, self.secret.as_bytes(), self.admins)?;
         let routes = Routes::new(self.alloc)?;

@@ -4,7 +4,7 @@ ghost use Rattle.std.specs.Prelude.{◌≡◌, ◌<◌, length, IfSome, option_m
 ghost use Rattle.std.specs.List.{list_all, list_any, position_from};
 ghost use Rattle.lab.specs.Words.{parts_at_space, is_space, is_word, is_letter_or_digit, is_node_name};
 
-/// What stands before the first space, and what stands behind it.
+/// Tells what stands before the first space, and what stands behind it.
 pub fn split_at_space(bytes: &[u8]) -> Option<(&[u8], &[u8])>
     ensures { option_map (λ p. (p.0.now, p.1.now)) result ≡ parts_at_space bytes.now }
 {
@@ -14,7 +14,7 @@ pub fn split_at_space(bytes: &[u8]) -> Option<(&[u8], &[u8])>
     }
 }
 
-/// The place of the first space.
+/// Finds the place of the first space.
 fn space_in(bytes: &[u8]) -> Option<usize>
     ensures place { result ≡ position_from is_space 0 bytes.now }
     ensures within { IfSome result (λ place. place < length bytes.now) }
@@ -27,7 +27,7 @@ fn space_in(bytes: &[u8]) -> Option<usize>
     None
 }
 
-/// Whether these bytes are a word: there are some, and no space is among them.
+/// Tells whether these bytes are a word: there are some, and no space is among them.
 pub fn is_word(bytes: &[u8]) -> bool
     ensures { result ≡ is_word bytes.now }
 {
@@ -48,7 +48,7 @@ fn has_space(bytes: &[u8]) -> bool
     false
 }
 
-/// Whether these bytes may name a node: ASCII letters and digits, at least one.
+/// Tells whether these bytes may name a node: ASCII letters and digits, at least one.
 pub fn is_node_name(bytes: &[u8]) -> bool
     ensures { result ≡ is_node_name bytes.now }
 {

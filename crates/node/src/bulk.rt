@@ -43,7 +43,7 @@ pub(crate) fn write_documents<S: Store>(
     write_bulk(alloc, store, caller, name, asked)
 }
 
-/// What the documents come to.
+/// Tells what the documents come to.
 fn write_bulk<S: Store>(
     alloc: Global,
     store: &mut S,

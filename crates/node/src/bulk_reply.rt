@@ -31,7 +31,7 @@ pub(crate) fn bulk_reply(
     Ok(Json::Array(failures_listed(alloc, caller, results)?))
 }
 
-/// An element for each edit, in order.
+/// Builds an element for each edit, in order.
 fn edits_listed(alloc: Global, caller: &Caller, results: Vec<DocumentResult>) -> Got<Vec<Json>>
     ensures { IfOk result (λ values. map view values.items ≡ map (edit_listed caller.now) (map told_of results.items)) }
 {
@@ -42,7 +42,7 @@ fn edits_listed(alloc: Global, caller: &Caller, results: Vec<DocumentResult>) ->
     Ok(values)
 }
 
-/// An element for each document that was refused, in order.
+/// Builds an element for each document that was refused, in order.
 fn failures_listed(alloc: Global, caller: &Caller, results: Vec<DocumentResult>) -> Got<Vec<Json>>
     ensures { IfOk result (λ values. map view values.items ≡ failures_listed caller.now (map told_of results.items)) }
 {
@@ -56,7 +56,7 @@ fn failures_listed(alloc: Global, caller: &Caller, results: Vec<DocumentResult>)
     Ok(values)
 }
 
-/// What is said of a new edit.
+/// Tells what is said of a new edit.
 fn edit_listed(alloc: Global, caller: &Caller, told: DocumentResult) -> Got<Json>
     ensures { IfOk result (λ value. view value ≡ edit_listed caller.now (told_of told)) }
 {
@@ -73,7 +73,7 @@ fn edit_listed(alloc: Global, caller: &Caller, told: DocumentResult) -> Got<Json
     Ok(Json::Object(members))
 }
 
-/// What is said of a replicated document that was refused.
+/// Tells what is said of a replicated document that was refused.
 fn failure_listed(
     alloc: Global,
     caller: &Caller,
@@ -101,7 +101,7 @@ pub(crate) fn made_members(
     Ok(members)
 }
 
-/// Of a document that is there: its id.
+/// Says of a document that is there its id.
 fn known_members(alloc: Global, id: &Option<String>) -> Got<BTreeMap<String, Json>>
     ensures { IfOk result (λ members. members_view members.entries ≡ known_members (option_map string_bytes id.now)) }
 {
@@ -111,7 +111,7 @@ fn known_members(alloc: Global, id: &Option<String>) -> Got<BTreeMap<String, Jso
     Ok(members)
 }
 
-/// Of a document that was refused: its id, and why.
+/// Says of a document that was refused its id, and why.
 fn failed_members(
     alloc: Global,
     caller: &Caller,

@@ -119,7 +119,7 @@ pub(crate) fn remove_database<S: Store>(
     })
 }
 
-/// The name of a database that the caller may create or remove.
+/// Returns the name of a database that the caller may create or remove.
 fn name_to_govern(alloc: Global, caller: &Caller, request: &Request) -> Result<DbName, RequestFault>
     ensures { Says (λ name. name) result (next (database_name_of (message_of request.now)) (λ name. next (administration caller.now) (λ _. Ok name))) }
 {
@@ -139,7 +139,7 @@ fn require_server_admin(alloc: Global, caller: &Caller) -> Result<(), RequestFau
     }
 }
 
-/// Whether there is a database of this name.
+/// Tells whether there is a database of this name.
 fn is_there<S: Store>(store: &mut S, name: &DbName) -> Result<bool, Stop>
     ensures ok { S.is_honest store.new → IfOk result (λ there. is_some (map.get (S.contents store.old) name.now) ≡ there) }
     ensures unrefused { (refusal : _) → result ≢ Err (Stop.Refused refusal) }
@@ -153,7 +153,7 @@ fn is_there<S: Store>(store: &mut S, name: &DbName) -> Result<bool, Stop>
     }
 }
 
-/// A list of names.
+/// Builds a list of names.
 fn list_names(alloc: Global, names: &[DbName]) -> Got<Json>
     ensures { IfOk result (λ value. view value ≡ array (items_of (list_map text names.now))) }
 {

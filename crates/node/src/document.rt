@@ -51,7 +51,7 @@ pub(crate) fn read_document<S: Store>(
     find(alloc, store, name, &id, &query)
 }
 
-/// What the reader of a document is shown.
+/// Tells what the reader of a document is shown.
 fn find<S: Store>(
     alloc: Global,
     store: &mut S,
@@ -67,7 +67,7 @@ fn find<S: Store>(
     Ok(read_by(alloc, store, name, id, query)?)
 }
 
-/// What reading a document gives, by what is asked.
+/// Tells what reading a document gives, by what is asked.
 fn read_by<S: Store>(
     alloc: Global,
     store: &mut S,
@@ -137,7 +137,7 @@ pub(crate) fn delete_document<S: Store>(
     edit_document(alloc, store, caller, name, &id, Some(rev), document, 200)
 }
 
-/// The document that is edited, and the revision that the query names, if any.
+/// Returns the document that is edited, and the revision that the query names, if any.
 fn edit_asked(alloc: Global, request: &Request) -> Result<(DocId, Option<Rev>), RequestFault>
     ensures says { Says (λ asked. asked) result (edit_asked (message_of request.now)) }
     ensures plain { IfOk result (λ asked. is_local_id asked.0 ≡ false) }
@@ -147,7 +147,7 @@ fn edit_asked(alloc: Global, request: &Request) -> Result<(DocId, Option<Rev>), 
     Ok((id, rev))
 }
 
-/// The document of an edit that deletes.
+/// Builds the document of an edit that deletes.
 fn deletion(alloc: Global) -> Got<Json>
     ensures { IfOk result (λ document. view document ≡ deletion) }
 {
@@ -156,7 +156,7 @@ fn deletion(alloc: Global) -> Got<Json>
     Ok(Json::Object(members))
 }
 
-/// What the edit of a document comes to.
+/// Tells what the edit of a document comes to.
 fn edit_document<S: Store>(
     alloc: Global,
     store: &mut S,
@@ -190,7 +190,7 @@ fn edit_document<S: Store>(
     })
 }
 
-/// The revision that the first of the results makes.
+/// Returns the revision that the first of the results makes.
 fn made_revision(results: &[DocumentResult]) -> Rev
     requires { OfFirst IsMadeOutcome results.now }
     ensures { OfFirst (λ outcome. outcome ≡ Outcome.Made result) results.now }
@@ -204,7 +204,7 @@ fn made_revision(results: &[DocumentResult]) -> Rev
     }
 }
 
-/// The reply to an edit: the id and the new revision.
+/// Builds the reply to an edit: the id and the new revision.
 fn edit_reply(alloc: Global, id: &DocId, rev: &Rev) -> Got<Json>
     ensures { IfOk result (λ value. view value ≡ object (made_members (Some id.now) rev.now)) }
 {

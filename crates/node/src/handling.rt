@@ -30,7 +30,7 @@ use std::alloc::Global;
 use store::{DbName, Store, StoreFault};
 use write::{Planned, WriteFault, apply};
 
-/// What a request comes to, but for the change of the store itself.
+/// Tells what a request comes to, but for the change of the store itself.
 fn judge<S: Store>(
     alloc: Global,
     store: &mut S,
@@ -51,7 +51,7 @@ fn judge<S: Store>(
     serve(alloc, store, page, &caller, request)
 }
 
-/// What a page has for the method of a request.
+/// Tells what a page has for the method of a request.
 fn serve<S: Store>(
     alloc: Global,
     store: &mut S,
@@ -117,7 +117,7 @@ fn serve<S: Store>(
     }
 }
 
-/// The reply to what a request comes to, and the change made: the reply is made whole before the
+/// Makes the reply to what a request comes to, and the change: the reply is made whole before the
 /// store changes.
 fn finish<S: Store>(
     alloc: Global,
@@ -136,7 +136,7 @@ fn finish<S: Store>(
     Ok(reply)
 }
 
-/// The reply of a status and a value.
+/// Builds the reply of a status and a value.
 fn build_response(alloc: Global, status: u16, value: &Json, last: bool) -> Got<Response>
     ensures reply { IfOk result (λ reply. reply ≡ reply_of status (canonical (view value.now)) last) }
     ensures lawful { OnOk result (IsLawful (view value.now)) }
@@ -209,7 +209,7 @@ fn write<S: Store>(store: &mut S, planned: Planned) -> Result<(), Stop>
     }
 }
 
-/// How a request ends whose change was not made.
+/// Tells how a request ends whose change was not made.
 fn stop_after(fault: &WriteFault) -> Stop
     ensures { result ≡ stop_of_change fault.now }
 {
@@ -219,7 +219,7 @@ fn stop_after(fault: &WriteFault) -> Stop
     }
 }
 
-/// The reply to a request, where nothing refuses it and nothing fails.
+/// Answers a request, where nothing refuses it and nothing fails.
 fn reply<S: Store>(
     alloc: Global,
     store: &mut S,
@@ -238,7 +238,7 @@ fn reply<S: Store>(
     finish(alloc, store, answered, request.last)
 }
 
-/// The reply to a refused request, or where memory runs out the fixed one.
+/// Answers a refused request, or where memory runs out the fixed one.
 fn refusal_reply(alloc: Global, refusal: &Refusal, last: bool) -> Response
     ensures { ((result ≡ reply_of (status_of refusal.now) (canonical (refusal_value refusal.now)) last) × IsLawful (refusal_value refusal.now))
         ⊎ (result ≡ fixed_reply (NoRoom last)) }

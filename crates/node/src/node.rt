@@ -32,7 +32,7 @@ impl<S: Store + Drop> Node<S> {
     ghost use Rattle.node.specs.Causes.{HasCause};
     ghost use Rattle.node.specs.Step.{IsStep};
 
-    /// A node over a store. Takes no memory.
+    /// Makes a node over a store. Takes no memory.
     pub fn new(alloc: Global, store: S, auth: Auth, routes: Routes) -> Node<S>
         ensures store { result.store ≡ store }
         ensures configuration { result.configuration ≡ auth }
@@ -45,7 +45,7 @@ impl<S: Store + Drop> Node<S> {
         }
     }
 
-    /// The reply to a request; the store is then as the definition of the answer says.
+    /// Answers a request; the store is then as the definition of the answer says.
     ///
     /// Where memory runs out the reply is the fixed 503, where the store fails the fixed 500, and the
     /// databases are as they were.
@@ -64,7 +64,7 @@ impl<S: Store + Drop> Node<S> {
         )
     }
 
-    /// The store.
+    /// Returns the store.
     pub fn into_store(self) -> S
         ensures { result ≡ self.store }
     {

@@ -56,7 +56,7 @@ pub(crate) fn write_security<S: Store>(
     set_security(alloc, store, name, &value)
 }
 
-/// What becomes of a value that is to be the security object of a database.
+/// Tells what becomes of a value that is to be the security object of a database.
 fn set_security<S: Store>(
     alloc: Global,
     store: &mut S,

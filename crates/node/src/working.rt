@@ -66,7 +66,7 @@ pub(crate) enum Writing {
     Deletion,
 }
 
-/// The action that the policy of the database is asked for.
+/// Returns the action that the policy of the database is asked for.
 fn action_of(work: Work) -> Action
     ensures { result ≡ action_of work }
 {

@@ -11,7 +11,7 @@ use std::alloc::Global;
 use store::{DbName, Store};
 use tree::{DocId, History, Rev};
 
-/// A document as a revision of it shows it: the body with `_id` and `_rev`, and with `_revisions`
+/// Returns a document as a revision of it shows it: the body with `_id` and `_rev`, and with `_revisions`
 /// where `revs` asks for it.
 ///
 /// Without `rev` that is the winning revision: `Missing` comes exactly where the document was never
@@ -37,7 +37,7 @@ pub fn get<S: Store>(
     }
 }
 
-/// The winner of a history, as it is shown.
+/// Returns the winner of a history, as it is shown.
 pub(crate) fn winning_document(
     alloc: Global,
     history: &History,
@@ -64,7 +64,7 @@ fn is_deleted(history: &History, rev: &Rev) -> bool
     }
 }
 
-/// A revision of a history, deleted or not, as it is shown.
+/// Returns a revision of a history, deleted or not, as it is shown.
 pub(crate) fn document(
     alloc: Global,
     history: &History,

@@ -13,7 +13,7 @@ use std::collections::BTreeMap;
 use store::{DbName, Store};
 use tree::{DocId, History, Rev};
 
-/// What a document shows of each revision that is asked for, in the order asked: a list of objects,
+/// Tells what a document shows of each revision that is asked for, in the order asked: a list of objects,
 /// `{"ok":document}` with the document as [`get`](crate::get) shows that revision, or
 /// `{"missing":"N-hash"}` where no body is held of it.
 ///
@@ -38,7 +38,7 @@ pub fn open_revs<S: Store>(
     Ok(build_open_revisions(alloc, &history, id, asked, revs)?)
 }
 
-/// What a history shows of the revisions that are asked for, or of its leaves.
+/// Tells what a history shows of the revisions that are asked for, or of its leaves.
 pub(crate) fn build_open_revisions(
     alloc: Global,
     history: &History,
@@ -72,7 +72,7 @@ fn elements(
     Ok(elements)
 }
 
-/// What is said of one revision.
+/// Tells what is said of one revision.
 fn build_open_revision(
     alloc: Global,
     history: &History,
@@ -94,7 +94,7 @@ fn build_element(alloc: Global, rev: &Rev, document: Option<Json>) -> Got<Json>
     }
 }
 
-/// An object of one member.
+/// Builds an object of one member.
 fn label(alloc: Global, label: &str, value: Json) -> Got<Json>
     ensures { IfOk result (λ labelled. view labelled ≡ object (member label.now (view value) no_members)) }
 {

@@ -28,7 +28,7 @@ pub(crate) fn put_revisions(
     put_member(alloc, members, "_revisions", revisions(alloc, rev, &path)?)
 }
 
-/// The path whose newest revision is this one, as `_revisions` has it.
+/// Returns the path whose newest revision is this one, as `_revisions` has it.
 fn revisions(alloc: Global, rev: &Rev, path: &[Rev]) -> Got<Json>
     ensures { IfOk result (λ value. view value ≡ revisions_of rev.now path.now) }
 {

@@ -7,7 +7,7 @@ use couch_json::{Got, Json};
 use std::alloc::Global;
 use tree::{DocId, History, Rev, show_members};
 
-/// The document that a revision is shown as: its body with `_id`, `_rev`, `_deleted` where it is
+/// Returns the document that a revision is shown as: its body with `_id`, `_rev`, `_deleted` where it is
 /// deleted, and `_revisions` where that is asked for. `None` where no body is held of it.
 pub(crate) fn show(
     alloc: Global,

@@ -6,7 +6,7 @@ ghost use Rattle.selector.specs.Truth.{elements, is_among, each_item, each_of_so
 
 use couch_json::{Json, collate};
 
-/// The elements of a list, and none where it is no list.
+/// Returns the elements of a list, and none where it is no list.
 pub(crate) fn elements(value: &Json) -> &[Json]
     ensures { items_view result.now ≡ elements (view value.now) }
 {
@@ -16,7 +16,7 @@ pub(crate) fn elements(value: &Json) -> &[Json]
     }
 }
 
-/// Whether the value equals one of the elements.
+/// Tells whether the value equals one of the elements.
 pub(crate) fn is_among(value: &Json, items: &[Json]) -> bool
     ensures { result ≡ is_among (view value.now) (items_view items.now) }
 {
@@ -28,7 +28,7 @@ pub(crate) fn is_among(value: &Json, items: &[Json]) -> bool
     false
 }
 
-/// Whether there is a value wanted, and each of them is among the elements.
+/// Tells whether there is a value wanted, and each of them is among the elements.
 pub(crate) fn has_all(wanted: &[Json], items: &[Json]) -> bool
     ensures { result ≡ each_of_some (λ w. is_among w (items_view items.now)) (items_view wanted.now) }
 {

@@ -13,7 +13,7 @@ use crate::operator::{ListOperator, SelectorOperator, ValueOperator};
 use crate::selector::{Condition, Field, Selector};
 use couch_json::{Json, at};
 
-/// Whether the selector is true of the current value, which may be missing.
+/// Tells whether the selector is true of the current value, which may be missing.
 #[cycle(truth)]
 pub(crate) fn is_true(selector: &Selector, current: Option<&Json>) -> bool
     ensures truth { result ≡ is_true selector.now (option_map (λ v. view v.now) current.entry) }
@@ -58,7 +58,7 @@ fn is_condition_true(condition: &Condition, current: Option<&Json>) -> bool
     }
 }
 
-/// What the field's path reaches in the current value.
+/// Tells what the field's path reaches in the current value.
 fn follow_path<'a>(field: &Field, current: Option<&'a Json>) -> Option<&'a Json>
     ensures { option_map (λ v. view v.now) result
         ≡ option_and_then (value_at field.now.path) (option_map (λ v. view v.now) current.entry) }
@@ -66,7 +66,7 @@ fn follow_path<'a>(field: &Field, current: Option<&'a Json>) -> Option<&'a Json>
     at(current?, &field.path)
 }
 
-/// Whether the value is there and meets the operator.
+/// Tells whether the value is there and meets the operator.
 fn is_met(operator: ValueOperator, argument: &Json, current: Option<&Json>) -> bool
     ensures { result ≡ is_there_and (meets operator (view argument.now)) (option_map (λ v. view v.now) current.entry) }
 {
@@ -88,7 +88,7 @@ fn is_true_of_some(selector: &Selector, items: &[Json]) -> bool
     false
 }
 
-/// Whether there is an element, and the selector is true of each.
+/// Tells whether there is an element, and the selector is true of each.
 #[cycle(truth)]
 fn is_true_of_each(selector: &Selector, items: &[Json]) -> bool
     ensures { result ≡ each_of_some (λ v. is_true selector.now (Some v)) (items_view items.now) }

@@ -7,7 +7,7 @@ use crate::operator::ValueOperator;
 use crate::takes::division_in;
 use couch_json::{Json, Number, collate};
 
-/// Whether the value meets the operator with its argument.
+/// Tells whether the value meets the operator with its argument.
 pub(crate) fn meets(operator: ValueOperator, argument: &Json, value: &Json) -> bool
     ensures { result ≡ meets operator (view argument.now) (view value.now) }
 {
@@ -27,7 +27,7 @@ pub(crate) fn meets(operator: ValueOperator, argument: &Json, value: &Json) -> b
     }
 }
 
-/// Whether the argument names the value's type.
+/// Tells whether the argument names the value's type.
 fn has_type(argument: &Json, value: &Json) -> bool
     ensures { result ≡ has_type (view argument.now) (view value.now) }
 {
@@ -50,7 +50,7 @@ fn type_name(value: &Json) -> &'static str
     }
 }
 
-/// Whether the value is a list of that length.
+/// Tells whether the value is a list of that length.
 fn has_size(argument: &Json, value: &Json) -> bool
     ensures { result ≡ has_size (view argument.now) (view value.now) }
 {
@@ -66,7 +66,7 @@ fn length_of(items: &Vec<Json>) -> i128
     items.len() as i128
 }
 
-/// Whether the value is a number with that remainder. The division truncates toward zero, as that
+/// Tells whether the value is a number with that remainder. The division truncates toward zero, as that
 /// of the language does.
 fn has_remainder(division: Option<(Number, Number)>, value: &Json) -> bool
     ensures { result ≡ has_remainder (option_map (λ p. (p.0.value, p.1.value)) division) (view value.now) }

@@ -65,7 +65,7 @@ pub(crate) enum ListOperator {
     NoneTrue,
 }
 
-/// The operator of this name, its `$` included.
+/// Returns the operator of this name, its `$` included.
 pub(crate) fn operator_named(name: &str) -> Option<Operator>
     ensures operator { result ≡ operator_named name.now }
     ensures name { IfSome result (λ o. operator_name o ≡ name.now) }

@@ -16,7 +16,7 @@ use std::collections::BTreeMap;
 /// How many selector objects may nest.
 const MAX_LEVEL: usize = 32;
 
-/// The selector that a value is, at this level.
+/// Parses the selector that a value is, at this level.
 #[cycle(parse)]
 pub(crate) fn parse_selector(
     alloc: Global,
@@ -96,7 +96,7 @@ fn parse_member(
     }
 }
 
-/// A member whose name is no operator's and does not begin with `$`.
+/// Parses a member whose name is no operator's and does not begin with `$`.
 #[cycle(parse)]
 fn parse_field(
     alloc: Global,
@@ -130,7 +130,7 @@ fn parse_field(
     }
 }
 
-/// The selectors of a list.
+/// Parses the selectors of a list.
 #[cycle(parse)]
 fn parse_list(alloc: Global, value: &Json, level: usize) -> Result<Vec<Selector>, SelectorFault>
     requires { level ≤ MAX_LEVEL + 1 }
@@ -145,7 +145,7 @@ fn parse_list(alloc: Global, value: &Json, level: usize) -> Result<Vec<Selector>
     }
 }
 
-/// The selectors that the elements are, of which there is at least one.
+/// Parses the selectors that the elements are, of which there is at least one.
 #[cycle(parse)]
 fn parse_items(
     alloc: Global,

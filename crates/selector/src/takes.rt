@@ -5,7 +5,7 @@ ghost use Rattle.selector.specs.Grammar.{takes, is_type_name, division_in, has_d
 use crate::operator::ValueOperator;
 use couch_json::{Json, Number};
 
-/// Whether the value is of the shape that the operator takes.
+/// Tells whether the value is of the shape that the operator takes.
 pub(crate) fn takes(operator: ValueOperator, value: &Json) -> bool
     ensures { result ≡ takes operator (view value.now) }
 {
@@ -34,7 +34,7 @@ fn is_type_name(value: &Json) -> bool
     }
 }
 
-/// The divisor and the remainder of a list that is just these.
+/// Returns the divisor and the remainder of a list that is just these.
 pub(crate) fn division_in(value: &Json) -> Option<(Number, Number)>
     ensures { option_map (λ p. (p.0.value, p.1.value)) result ≡ division_in (view value.now) }
 {
@@ -57,7 +57,7 @@ pub(crate) fn division_in(value: &Json) -> Option<(Number, Number)>
     }
 }
 
-/// Whether there is a divisor, other than 0.
+/// Tells whether there is a divisor, other than 0.
 fn has_divisor(division: Option<(Number, Number)>) -> bool
     ensures { result ≡ has_divisor (option_map (λ p. (p.0.value, p.1.value)) division) }
 {

@@ -54,7 +54,7 @@ impl Model for DbName {
 }
 
 impl DbName {
-    /// The name that a text spells.
+    /// Makes the name that a text spells.
     ///
     /// `Shape` comes exactly where the text is no name; it is looked for before memory is taken.
     pub fn new(alloc: Global, text: &str) -> Result<DbName, NameFault>
@@ -68,7 +68,7 @@ impl DbName {
         Ok(DbName { text })
     }
 
-    /// The text of the name.
+    /// Returns the text of the name.
     pub fn as_str(&self) -> &str
         ensures text { result.now ≡ self.now }
         ensures lawful { IsTrue (is_database_name self.now) }
@@ -76,7 +76,7 @@ impl DbName {
         self.text.as_str()
     }
 
-    /// An equal name of its own.
+    /// Makes an equal name of its own.
     pub fn copy(&self, alloc: Global) -> Got<DbName>
         ensures { IfOk result (λ name. name ≡ self.now) }
     {
@@ -156,7 +156,7 @@ fn is_name_byte(byte: u8) -> bool
     is_lower_case(byte) || byte >= b'0' && byte <= b'9' || is_sign(byte)
 }
 
-/// One of `_ $ ( ) + -`.
+/// Tells whether a byte is one of `_ $ ( ) + -`.
 fn is_sign(byte: u8) -> bool
     ensures { result ≡ is_sign byte }
 {

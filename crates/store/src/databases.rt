@@ -16,7 +16,7 @@ use couch_json::Got;
 use policy::Security;
 use std::alloc::Global;
 
-/// The place of the database of this name, if there is one.
+/// Finds the place of the database of this name, if there is one.
 pub(crate) fn place_of(databases: &Databases, name: &DbName) -> Option<usize>
     ensures place { result ≡ place_from 0 name.now databases.now.items }
     ensures within { IfSome result (λ at. at < vec_len databases.now) }
@@ -36,7 +36,7 @@ fn is_same(entry: &DbName, name: &DbName) -> bool
     name.as_str() == entry.as_str()
 }
 
-/// The database of this name, if there is one.
+/// Finds the database of this name, if there is one.
 pub(crate) fn database_of<'a>(databases: &'a Databases, name: &DbName) -> Option<&'a PlainDatabase>
     ensures { option_map (λ d. content d.now) result ≡ map.get (contents_of databases.now.items) name.now }
 {
@@ -93,7 +93,7 @@ pub(crate) fn remove(databases: &mut Databases, name: &DbName)
     databases.retain(|entry| !is_same(&entry.0, name));
 }
 
-/// The names of the databases, in the order of their bytes.
+/// Returns the names of the databases, in the order of their bytes.
 pub(crate) fn names_of(alloc: Global, databases: &Databases) -> Got<Vec<DbName>>
     ensures { IfOk result (λ names. names.items ≡ map.keys (contents_of databases.now.items)) }
 {

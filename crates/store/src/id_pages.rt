@@ -71,7 +71,7 @@ fn counts_if(counted: bool, offset: u64, total: u64) -> Option<RowCounts>
     None
 }
 
-/// A row for each document whose winner is not deleted.
+/// Builds a row for each document whose winner is not deleted.
 fn list_live_rows(alloc: Global, documents: &Documents) -> Got<Vec<IdRow>>
     ensures { IfOk result (λ rows. rows.items ≡ live_rows (document_entries documents.now.items)) }
 {
@@ -87,7 +87,7 @@ fn list_live_rows(alloc: Global, documents: &Documents) -> Got<Vec<IdRow>>
     Ok(rows)
 }
 
-/// The winner, where it is not deleted.
+/// Finds the winner, where it is not deleted.
 fn find_live_rev(history: &History) -> Option<Rev>
     ensures { result ≡ live_rev history.now }
 {
@@ -108,7 +108,7 @@ fn turn(rows: Vec<IdRow>, descending: bool) -> Vec<IdRow>
     rows
 }
 
-/// How many rows come before the start of the range.
+/// Counts how many rows come before the start of the range.
 fn count_before(rows: &Vec<IdRow>, range: &IdRange) -> u64
     ensures count { result ≡ count_by (λ r. is_before_start range.now r.id) rows.now.items }
     ensures within { result ≤ length rows.now.items }
@@ -158,7 +158,7 @@ fn passes_end(range: &IdRange, id: &DocId) -> bool
     }
 }
 
-/// Whether a text comes before another in this direction.
+/// Tells whether a text comes before another in this direction.
 fn precedes(descending: bool, a: &str, b: &str) -> bool
     ensures { result ≡ comes_before descending a.now b.now }
 {

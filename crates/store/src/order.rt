@@ -8,7 +8,7 @@ ghost use Rattle.store.specs.Plain.{spot_from};
 use couch_json::Got;
 use std::cmp::Ordering;
 
-/// Where a key stands, or before which entry it would go in.
+/// Finds where a key stands, or before which entry it would go in.
 pub(crate) fn spot<K: Ord, V>(entries: &Vec<(K, V)>, key: &K) -> Result<usize, usize>
     ensures spot { result ≡ spot_from K.cmp 0 key.now entries.now.items }
     ensures within { IfOk result (λ at. at < length entries.now.items) }
@@ -39,7 +39,7 @@ pub(crate) fn put_sorted<K: Ord + Drop, V: Drop>(
     Ok(())
 }
 
-/// The first of the rows, up to the limit.
+/// Cuts the rows to the limit.
 pub(crate) fn cut_to_limit<T: Drop>(rows: Vec<T>, limit: Option<u64>) -> Vec<T>
     ensures { result.items ≡ up_to_limit limit rows.items }
 {

@@ -16,7 +16,7 @@ use std::alloc::Global;
 use std::cmp::min;
 use tree::{DocId, History, Rev};
 
-/// The rows that the writes made, in the order of their sequences, cut by the range.
+/// Returns the rows that the writes made, in the order of their sequences, cut by the range.
 pub(crate) fn page_by_seq(alloc: Global, writes: &Vec<Write>, range: &SeqRange) -> Got<PageBySeq>
     ensures page { IfOk result (λ page. sequence_page_of page ≡ page_with range.now (length writes.now.items) (gathered_after 0 [] (additions writes.now.items))) }
     ensures bounded { IfOk result (IsBounded range.now) }
@@ -49,7 +49,7 @@ fn counts_of(documents: &Documents, counted: bool) -> Option<DocumentCounts>
     })
 }
 
-/// The documents that the writes made, in the order of their ids.
+/// Returns the documents that the writes made, in the order of their ids.
 pub(crate) fn documents_of(alloc: Global, writes: &Vec<Write>) -> Got<Documents>
     ensures { IfOk result (λ documents. document_entries documents.items ≡ gathered_after 0 [] (additions writes.now.items)) }
 {
@@ -97,7 +97,7 @@ fn make_document(alloc: Global, sequence: u64, write: &Write) -> Got<PlainDocume
     Ok(document)
 }
 
-/// A row for each document.
+/// Builds a row for each document.
 fn build_rows(alloc: Global, documents: &Documents, all_leaves: bool) -> Got<Vec<SeqRow>>
     ensures { IfOk result (λ rows. sequence_rows rows.items ≡ rows_of all_leaves (document_entries documents.now.items)) }
 {
@@ -122,7 +122,7 @@ fn build_row(alloc: Global, document: &(DocId, PlainDocument), all_leaves: bool)
     })
 }
 
-/// All leaves, best first, or the winner alone.
+/// Returns all leaves, best first, or the winner alone.
 fn list_revs(alloc: Global, history: &History, all_leaves: bool) -> Got<Vec<Rev>>
     ensures { IfOk result (λ revs. revs.items ≡ shown_revs all_leaves history.now) }
 {
@@ -136,7 +136,7 @@ fn list_revs(alloc: Global, history: &History, all_leaves: bool) -> Got<Vec<Rev>
     Ok(revs)
 }
 
-/// Whether the winner is deleted.
+/// Tells whether the winner is deleted.
 fn has_deleted_winner(history: &History) -> bool
     ensures { result ≡ is_gone history.now }
 {
@@ -149,7 +149,7 @@ fn has_deleted_winner(history: &History) -> bool
     }
 }
 
-/// How many documents have a winner that is deleted.
+/// Counts how many documents have a winner that is deleted.
 fn count_deleted(documents: &Documents) -> u64
     ensures count { result ≡ gone_count (document_entries documents.now.items) }
     ensures within { result ≤ length documents.now.items }
@@ -163,7 +163,7 @@ fn count_deleted(documents: &Documents) -> u64
     count
 }
 
-/// The same rows, ascending by sequence.
+/// Puts rows in the order of their sequences.
 fn sort_by_sequence(alloc: Global, rows: Vec<SeqRow>) -> Got<Vec<SeqRow>>
     ensures { IfOk result (λ ordered. sequence_rows ordered.items ≡ in_sequence (sequence_rows rows.items)) }
 {
@@ -181,7 +181,7 @@ fn second_parts(alloc: Global, ordered: Vec<(u64, SeqRow)>) -> Got<Vec<SeqRow>>
     Ok(ordered.into_iter().map(|entry| entry.1).collect(alloc)?)
 }
 
-/// The rows after a sequence, up to the limit.
+/// Returns the rows after a sequence, up to the limit.
 fn rows_after(rows: Vec<SeqRow>, range: &SeqRange) -> Vec<SeqRow>
     ensures { sequence_rows result.items ≡ up_to_limit range.now.limit (filter (λ r. nat_lt range.now.since r.sequence) (sequence_rows rows.items)) }
 {

@@ -28,7 +28,7 @@ pub struct PlainStore {
 }
 
 impl PlainStore {
-    /// A store without databases. Takes no memory.
+    /// Makes a store without databases. Takes no memory.
     pub fn new(alloc: Global) -> PlainStore
         ensures { contents_of result.databases.items ≡ map.empty }
     {

@@ -8,7 +8,7 @@ use couch_json::Got;
 use std::alloc::Global;
 use tree::{DocId, History};
 
-/// The history that the writes made of a document.
+/// Returns the history that the writes made of a document.
 pub(crate) fn history_of(alloc: Global, writes: &Vec<Write>, id: &DocId) -> Got<History>
     ensures { IfOk result (λ history. history ≡ history_after map.empty id.now (additions writes.now.items)) }
 {

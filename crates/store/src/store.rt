@@ -62,13 +62,13 @@ pub trait Store {
         ensures caused { IfErr result (λ fault. IsCaused (fault_count self.old) (fault_count self.new) (is_honest self.new) ⊥ fault) }
         ensures changes { ChangesWhole contents is_honest is_clean fault_count self.old self.new result };
 
-    /// The names of all databases, in the order of their bytes.
+    /// Returns the names of all databases, in the order of their bytes.
     fn names(&mut self) -> Result<Vec<DbName>, StoreFault>
         ensures answer { Answers is_honest fault_count self.old self.new (λ names. names.items) (Some (map.keys (contents self.old))) result }
         ensures others { result ≢ Err StoreFault.NoDatabase }
         ensures reads { OnlyReads contents is_honest is_clean fault_count lacks_room lacks_number self.old self.new };
 
-    /// The security object of a database. `NoDatabase` comes exactly where there is none.
+    /// Returns the security object of a database. `NoDatabase` comes exactly where there is none.
     fn security(&mut self, name: &DbName) -> Result<Security, StoreFault>
         ensures answer { Answers is_honest fault_count self.old self.new (λ security. security)
             (option_map (λ db. db.security) (map.get (contents self.old) name.now)) result }
@@ -82,14 +82,14 @@ pub trait Store {
         ensures caused { IfErr result (λ fault. IsCaused (fault_count self.old) (fault_count self.new) (is_honest self.new) ⊥ fault) }
         ensures changes { ChangesWhole contents is_honest is_clean fault_count self.old self.new result };
 
-    /// The history of a document, empty where it was never written. `NoDatabase` comes exactly where
+    /// Returns the history of a document, empty where it was never written. `NoDatabase` comes exactly where
     /// there is no database of this name.
     fn history(&mut self, name: &DbName, id: &DocId) -> Result<History, StoreFault>
         ensures answer { Answers is_honest fault_count self.old self.new (λ history. history)
             (option_map (λ db. history_at db id.now) (map.get (contents self.old) name.now)) result }
         ensures reads { OnlyReads contents is_honest is_clean fault_count lacks_room lacks_number self.old self.new };
 
-    /// The documents of a database whose winner is not deleted, by id and cut by a range, with their
+    /// Returns the documents of a database whose winner is not deleted, by id and cut by a range, with their
     /// counts where those are asked for. `NoDatabase` comes exactly where there is none of this name.
     fn page_by_id(&mut self, name: &DbName, range: &IdRange) -> Result<PageById, StoreFault>
         ensures answer { Answers is_honest fault_count self.old self.new id_page_of
@@ -97,7 +97,7 @@ pub trait Store {
         ensures counted { IfOk result (IsCounted range.now) }
         ensures reads { OnlyReads contents is_honest is_clean fault_count lacks_room lacks_number self.old self.new };
 
-    /// The documents of a database, each once at the sequence of its latest write, ascending and cut
+    /// Returns the documents of a database, each once at the sequence of its latest write, ascending and cut
     /// by a range, with the database's counts where those are asked for. `NoDatabase` comes exactly
     /// where there is none of this name.
     fn page_by_seq(&mut self, name: &DbName, range: &SeqRange) -> Result<PageBySeq, StoreFault>
@@ -123,7 +123,7 @@ pub trait Store {
             (is_honest self.new → IfThere (map.get (contents self.old) name.now) (λ db. lacks_room self.old name.now (writings_in db (additions writes.now)))) fault) }
         ensures changes { ChangesWhole contents is_honest is_clean fault_count self.old self.new result };
 
-    /// How many faults of what it stands on the store has met; it stays at 2^64 - 1.
+    /// Counts how many faults of what it stands on the store has met; it stays at 2^64 - 1.
     fn faults(&self) -> u64
         ensures { result ≡ fault_count self.now };
 

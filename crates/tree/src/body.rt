@@ -25,21 +25,21 @@ impl Body {
     ghost use Rattle.std.specs.Prelude.{◌≡◌, IfOk};
     ghost use Rattle.couch_json.specs.View.{view};
 
-    /// The body that a JSON value is.
+    /// Makes the body that a JSON value is.
     pub fn new(json: Json) -> Body
         ensures { result ≡ view json }
     {
         Body { json }
     }
 
-    /// The JSON value.
+    /// Returns the JSON value.
     pub fn json(&self) -> &Json
         ensures { view result.now ≡ self.now }
     {
         &self.json
     }
 
-    /// The JSON value, taken out.
+    /// Returns the JSON value, taken out.
     pub fn into_json(self) -> Json
         ensures { view result ≡ self }
     {
@@ -47,7 +47,7 @@ impl Body {
         json
     }
 
-    /// An equal body of its own.
+    /// Makes an equal body of its own.
     pub fn copy(&self, alloc: Global) -> Got<Body>
         ensures { IfOk result (λ b. b ≡ self.now) }
     {

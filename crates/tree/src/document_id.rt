@@ -55,7 +55,7 @@ impl Model for DocId {
 }
 
 impl DocId {
-    /// The id that a text spells.
+    /// Makes the id that a text spells.
     ///
     /// `Shape` comes exactly where the text is no id; it is looked for before memory is taken.
     pub fn new(alloc: Global, text: &str) -> Result<DocId, IdFault>
@@ -69,7 +69,7 @@ impl DocId {
         Ok(DocId { text })
     }
 
-    /// The text of the id.
+    /// Returns the text of the id.
     pub fn as_str(&self) -> &str
         ensures text { result.now ≡ self.now }
         ensures lawful { IsTrue (is_document_id self.now) }
@@ -77,7 +77,7 @@ impl DocId {
         self.text.as_str()
     }
 
-    /// An equal id of its own.
+    /// Makes an equal id of its own.
     pub fn copy(&self, alloc: Global) -> Got<DocId>
         ensures { IfOk result (λ id. id ≡ self.now) }
     {
@@ -85,14 +85,14 @@ impl DocId {
         Ok(DocId { text })
     }
 
-    /// Whether it names a design document.
+    /// Tells whether it names a design document.
     pub fn is_design(&self) -> bool
         ensures { result ≡ is_design_id self.now }
     {
         is_design_id(self.text.as_bytes())
     }
 
-    /// Whether it names a local document.
+    /// Tells whether it names a local document.
     pub fn is_local(&self) -> bool
         ensures { result ≡ is_local_id self.now }
     {

@@ -51,7 +51,7 @@ impl Entry {
         })
     }
 
-    /// Whether this is its parent.
+    /// Tells whether this is its parent.
     pub fn has_parent(&self, rev: &Rev) -> bool
         ensures { result ≡ names self.now.parent rev.now }
     {
@@ -61,7 +61,7 @@ impl Entry {
         }
     }
 
-    /// Whether it is deleted, or not, as the mark says.
+    /// Tells whether it is deleted, or not, as the mark says.
     pub fn is_marked(&self, deleted: bool) -> bool
         ensures { result ≡ is_marked deleted self.now.held }
     {
@@ -71,7 +71,7 @@ impl Entry {
         }
     }
 
-    /// Whether its parent is this one, or it has none where none is given.
+    /// Tells whether its parent is this one, or it has none where none is given.
     pub fn agrees(&self, parent: Option<Rev>) -> bool
         ensures { result ≡ same_parent self.now.parent parent }
     {

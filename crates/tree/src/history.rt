@@ -46,7 +46,7 @@ impl Model for History {
 }
 
 impl History {
-    /// The history of a document that was never written.
+    /// Makes the history of a document that was never written.
     pub fn new(alloc: Global) -> History
         ensures { result ≡ map.empty }
     {
@@ -58,7 +58,7 @@ impl History {
         }
     }
 
-    /// An equal history of its own.
+    /// Makes an equal history of its own.
     pub fn copy(&self) -> Got<History>
         ensures { IfOk result (λ h. h ≡ self.now) }
     {
@@ -147,7 +147,7 @@ impl History {
         self.put_entry(rev, Entry { parent, held })
     }
 
-    /// The winning leaf, if anything was written: one that is not deleted before one that is, then
+    /// Returns the winning leaf, if anything was written: one that is not deleted before one that is, then
     /// the greatest revision. Every replica picks the same.
     pub fn winner(&self) -> Option<&Rev>
         ensures { option_copied result ≡ winner self.now }
@@ -159,14 +159,14 @@ impl History {
         }
     }
 
-    /// Whether some leaf is not deleted; it looks at no node.
+    /// Tells whether some leaf is not deleted; it looks at no node.
     pub fn is_live(&self) -> bool
         ensures { result ≡ is_live self.now }
     {
         self.live > 0
     }
 
-    /// All leaves, the winner first, and so on in the order by which it is picked.
+    /// Returns all leaves, the winner first, and so on in the order by which it is picked.
     pub fn leaves(&self) -> Got<Vec<Rev>>
         ensures { IfOk result (λ revs. revs.items ≡ leaves self.now) }
     {
@@ -176,7 +176,7 @@ impl History {
         Ok(leaves)
     }
 
-    /// The path of a revision, from it back to its root, or `None` where it is not known.
+    /// Returns the path of a revision, from it back to its root, or `None` where it is not known.
     pub fn chain(&self, rev: &Rev) -> Got<Option<Vec<Rev>>>
         ensures { IfOk result (λ path. option_map (λ revs. revs.items) path ≡ chain self.now rev.now) }
     {
@@ -186,7 +186,7 @@ impl History {
         Ok(Some(self.line(rev)?))
     }
 
-    /// Whether a revision is deleted, and its body; `None` where it is not known or only came
+    /// Tells whether a revision is deleted, and its body; `None` where it is not known or only came
     /// inside a path.
     pub fn body(&self, rev: &Rev) -> Option<(bool, &Json)>
         ensures { MatchOption result (held_of self.now rev.now ≡ None)
@@ -196,14 +196,14 @@ impl History {
         Some((held.deleted, held.body.json()))
     }
 
-    /// Whether a revision is known and no known revision follows it.
+    /// Tells whether a revision is known and no known revision follows it.
     pub fn is_leaf(&self, rev: &Rev) -> bool
         ensures { result ≡ is_leaf self.now rev.now }
     {
         self.knows(rev) && !self.has_child(rev)
     }
 
-    /// Whether a revision stands in the path of some write.
+    /// Tells whether a revision stands in the path of some write.
     pub fn knows(&self, rev: &Rev) -> bool
         ensures { result ≡ is_known self.now rev.now }
     {
@@ -245,7 +245,7 @@ impl History {
         Ok(())
     }
 
-    /// The known revisions in their order, each with its entry.
+    /// Returns the known revisions in their order, each with its entry.
     fn nodes(&self) -> &BTreeMap<Rev, Entry>
         ensures { result.now.entries ≡ map.entries self.now }
     {
@@ -264,14 +264,14 @@ impl History {
         self.parents.contains(rev)
     }
 
-    /// Whether the node has this mark and is no node's parent.
+    /// Tells whether the node has this mark and is no node's parent.
     fn is_leaf_marked(&self, rev: &Rev, entry: &Entry, deleted: bool) -> bool
         ensures { result ≡ is_leaf_in deleted (map.entries self.now) (rev.now, entry.now) }
     {
         entry.is_marked(deleted) && !self.has_child(rev)
     }
 
-    /// The greatest leaf with this mark.
+    /// Returns the greatest leaf with this mark.
     fn best_leaf(&self, deleted: bool) -> Option<&Rev>
         ensures { option_copied result ≡ slice_get (leaves_marked deleted self.now) 0 }
     {
@@ -283,7 +283,7 @@ impl History {
         None
     }
 
-    /// The leaves with this mark, the greatest first.
+    /// Returns the leaves with this mark, the greatest first.
     fn leaves_marked(&self, deleted: bool) -> Got<Vec<Rev>>
         ensures { IfOk result (λ revs. revs.items ≡ leaves_marked deleted self.now) }
     {
@@ -307,7 +307,7 @@ impl History {
         true
     }
 
-    /// Whether the revision has this parent, if it is known.
+    /// Tells whether the revision has this parent, if it is known.
     fn agrees(&self, rev: &Rev, parent: Option<Rev>) -> bool
         ensures { result ≡ agrees (map.get self.now rev.now) parent }
     {
@@ -339,7 +339,7 @@ impl History {
         }
     }
 
-    /// The revision, its parent, and so on, up to one that is not known, and at most as many as its
+    /// Returns the revision, its parent, and so on, up to one that is not known, and at most as many as its
     /// number says.
     fn line(&self, rev: &Rev) -> Got<Vec<Rev>>
         ensures { IfOk result (λ revs. revs.items ≡ line self.now rev.now.number rev.now) }
@@ -360,7 +360,7 @@ impl History {
     }
 }
 
-/// Whether the numbers of a path go down by one to 1.
+/// Tells whether the numbers of a path go down by one to 1.
 fn is_whole(path: &[Rev]) -> bool
     ensures { result ≡ is_whole path.now }
 {

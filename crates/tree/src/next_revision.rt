@@ -34,7 +34,7 @@ impl From<NoMemory> for RevFault {
     }
 }
 
-/// The revision that an edit makes.
+/// Makes the revision that an edit makes.
 ///
 /// Its number is one more than that of the revision before it. Its hash is the MD5, in lower-case
 /// hexadecimal, of the canonical text of `[deleted, number before, hash before, body]`, with 0 and
@@ -67,7 +67,7 @@ fn next_after(alloc: Global, parent: &Rev, deleted: bool, body: &Json) -> Result
     Ok(hash_revision(alloc, number, parent.hash(), deleted, body)?)
 }
 
-/// The revision that an edit makes after a number and a hash.
+/// Makes the revision that an edit makes after a number and a hash.
 fn hash_revision(alloc: Global, number: u32, hash: &str, deleted: bool, body: &Json) -> Got<Rev>
     requires bounded { number < greatest_number }
     requires plain { IsTrue (list_all is_ascii_alphanumeric hash.now) }
@@ -86,7 +86,7 @@ fn edit_text(alloc: Global, number: u32, hash: &str, deleted: bool, body: &Json)
     Ok(format!(in alloc; "[{deleted},{number},\"{hash}\",{body}]")?)
 }
 
-/// The MD5 of a text in lower-case hexadecimal.
+/// Computes the MD5 of a text in lower-case hexadecimal.
 fn digest(text: &[u8]) -> [u8; 32]
     ensures value { result ≡ encode_lower (md5 text.now) }
     ensures lawful { IsTrue (is_hash result) }
@@ -95,7 +95,7 @@ fn digest(text: &[u8]) -> [u8; 32]
     hexadecimal(&bytes)
 }
 
-/// Sixteen bytes in lower-case hexadecimal.
+/// Writes sixteen bytes in lower-case hexadecimal.
 fn hexadecimal(bytes: &[u8]) -> [u8; 32]
     requires { length bytes.now ≡ 16 }
     ensures value { result ≡ encode_lower bytes.now }

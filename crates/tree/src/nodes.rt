@@ -121,14 +121,14 @@ pub(crate) fn put_new(
     }
 }
 
-/// Whether a new node is a leaf that is not deleted, beside these parents.
+/// Tells whether a new node is a leaf that is not deleted, beside these parents.
 fn is_live_new(parents: &BTreeSet<Rev>, rev: &Rev, entry: &Entry) -> bool
     ensures { result ≡ is_live_new parents.now.keys rev.now entry.now }
 {
     entry.is_marked(false) && !parents.contains(rev)
 }
 
-/// Whether the revision is a node that is not deleted.
+/// Tells whether the revision is a node that is not deleted.
 fn is_live_at(nodes: &BTreeMap<Rev, Entry>, rev: &Option<Rev>) -> bool
     ensures { result ≡ is_live_at nodes.now.entries rev.now }
 {

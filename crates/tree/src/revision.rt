@@ -46,7 +46,7 @@ impl Model for Rev {
 }
 
 impl Rev {
-    /// The revision that a text spells, if it spells one.
+    /// Reads the revision that a text spells, if it spells one.
     pub fn parse(text: &[u8]) -> Option<Rev>
         ensures value { result ≡ revision_read text.now }
         ensures exact { MatchOption result ((r : Revision) → IsTrue (is_revision r) → text_of r ≢ text.now)
@@ -55,7 +55,7 @@ impl Rev {
         Rev::read(text)
     }
 
-    /// The revision of a number and a hash, if they make one.
+    /// Makes the revision of a number and a hash, if they make one.
     pub fn new(number: u32, hash: &str) -> Option<Rev>
         ensures { result ≡ revision_of number hash.now }
     {
@@ -68,7 +68,7 @@ impl Rev {
         Some(Rev::from_parts(number, hash.as_bytes()))
     }
 
-    /// Its number, the count of edits that lead to it.
+    /// Returns its number, the count of edits that lead to it.
     pub fn number(&self) -> u32
         ensures value { result ≡ self.now.number }
         ensures lawful { IsTrue (is_revision self.now) }
@@ -76,7 +76,7 @@ impl Rev {
         self.number
     }
 
-    /// Its hash, 1 to 64 ASCII letters or digits.
+    /// Returns its hash, 1 to 64 ASCII letters or digits.
     pub fn hash(&self) -> &str
         ensures value { result.now ≡ self.now.hash }
         ensures lawful { IsTrue (is_revision self.now) }
@@ -84,7 +84,7 @@ impl Rev {
         str::from_utf8(self.hash_bytes()).unwrap()
     }
 
-    /// The text that spells it.
+    /// Returns the text that spells it.
     pub fn text(&self, alloc: Global) -> Got<String>
         ensures { IfOk result (λ text. string_bytes text ≡ text_of self.now) }
     {
@@ -102,7 +102,7 @@ impl Rev {
         Some(Rev::from_parts(number, hash))
     }
 
-    /// The revision of a number and a hash.
+    /// Makes the revision of a number and a hash.
     pub(crate) fn from_parts(number: u32, hash: &[u8]) -> Rev
         requires { IsTrue (is_revision (record { number = number; hash = hash.now })) }
         ensures { result ≡ record { number = number; hash = hash.now } }
@@ -180,7 +180,7 @@ impl PartialOrd for Rev {
     }
 }
 
-/// What stands before the first dash, and what stands behind it.
+/// Tells what stands before the first dash, and what stands behind it.
 fn halves(text: &[u8]) -> Option<(&[u8], &[u8])>
     ensures { MatchOption result (after_first is_dash text.now ≡ [])
         (λ h. (h.0.now ≡ before_first is_dash text.now) × (h.1.now ≡ after_first is_dash text.now)) }
@@ -195,7 +195,7 @@ fn dash_place(text: &[u8]) -> Option<usize>
     text.iter().position(|b| *b == b'-')
 }
 
-/// The number that a numeral without a leading zero writes, from 1 to 2,147,483,647.
+/// Returns the number that a numeral without a leading zero writes, from 1 to 2,147,483,647.
 fn number_read(digits: &[u8]) -> Option<u32>
     ensures { result ≡ number_read digits.now }
 {
@@ -229,7 +229,7 @@ fn is_alphanumeric(bytes: &[u8]) -> bool
     bytes.iter().all(|b| b.is_ascii_alphanumeric())
 }
 
-/// Up to 64 bytes, with zeros behind them.
+/// Returns up to 64 bytes, with zeros behind them.
 fn pad(hash: &[u8]) -> [u8; 64]
     requires { length hash.now ≤ 64 }
     ensures { result ≡ hash.now ++ replicate (64 - length hash.now) 0 }
