@@ -40,7 +40,7 @@ impl Model for Routes {
 }
 
 impl Routes {
-    /// Makes the router. Want of memory is its one refusal.
+    /// Makes the router. Lack of memory is its one refusal.
     #[tactic(auto, unfolding(crate::specs::Routing::table))]
     pub fn new(alloc: Global) -> Got<Routes> {
         let router = build_router(alloc, &ROUTES)?;
@@ -69,7 +69,7 @@ fn build_router(alloc: Global, routes: &[(&str, Page)]) -> Got<Router<Page>>
     Ok(router)
 }
 
-/// Adds a route. A route that matchit refuses for another cause would be reported as want of memory; none is.
+/// Adds a route. A route that matchit refuses for another cause would be reported as lack of memory; none is.
 fn add(router: &mut Router<Page>, text: &str, page: Page) -> Got<()>
     ensures { OnOk result (router.new ≡ with_route (text.now, page) router.old) }
 {

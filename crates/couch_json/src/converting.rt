@@ -12,7 +12,7 @@ use serde_json::{Map, Value};
 use std::alloc::Global;
 use std::collections::BTreeMap;
 
-/// Converts the value that serde_json's is, or `Number` exactly where a number is not whole or out of range.
+/// Converts the value that serde_json's is, or `Number` if and only if a number is not whole or out of range.
 #[cycle(convert)]
 pub(crate) fn convert(alloc: Global, source: Value) -> Result<Json, JsonFault>
     ensures value { IfOk result (λ v. value_of (data_view source) ≡ Some (view v)) }

@@ -9,7 +9,7 @@ use thiserror::Error;
 #[error("out of memory")]
 pub struct NoMemory;
 
-/// The answer of a call that can be refused for want of memory alone.
+/// The answer of a call that can be refused for lack of memory alone.
 pub type Got<T> = Result<T, NoMemory>;
 
 impl From<AllocError> for NoMemory {

@@ -9,7 +9,7 @@ pub struct Number {
 }
 
 impl Number {
-    /// Makes the number, or `None` exactly where it lies outside of -2^63 to 2^63 - 1.
+    /// Makes the number, or `None` if and only if it lies outside of -2^63 to 2^63 - 1.
     pub fn new(value: i128) -> Option<Number>
         ensures { MatchOption result (¬ IsInRange value) (λ n. IsInRange value × (n.value ≡ value)) }
     {

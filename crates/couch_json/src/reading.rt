@@ -30,7 +30,7 @@ pub fn read(alloc: Global, bytes: &[u8]) -> Result<Json, JsonFault>
     convert(alloc, parse(alloc, bytes)?)
 }
 
-/// Reads what serde_json reads: `Syntax` exactly where it reads nothing.
+/// Reads what serde_json reads: `Syntax` if and only if it reads nothing.
 fn parse(alloc: Global, bytes: &[u8]) -> Result<Value, JsonFault>
     ensures value { IfOk result (λ v. data_read bytes.now ≡ Some (data_view v)) }
     ensures fault { IfErr result (λ e. e ≢ JsonFault.Memory

@@ -11,7 +11,7 @@ use std::alloc::{AllocError, Global};
 
 /// Reads the words of a command line, of which the first is the program's name, as in `env::args`.
 ///
-/// `Usage` comes exactly where the words ask for nothing that the program does.
+/// `Usage` comes if and only if the words ask for nothing that the program does.
 pub fn plan(alloc: Global, words: &[String]) -> Result<Plan, PlanFault>
     ensures ok { IfOk result (λ plan. asked_by (map string_bytes words.now) ≡ Some (asked_of plan)) }
     ensures usage { result ≡ Err PlanFault.Usage → asked_by (map string_bytes words.now) ≡ None }
@@ -102,7 +102,7 @@ fn copies(alloc: Global, words: &[&str]) -> Result<Vec<String>, AllocError>
     Ok(copies)
 }
 
-/// Tells why clap refused: want of memory, or the words.
+/// Tells why clap refused: lack of memory, or the words.
 fn fault_of(error: &Error) -> PlanFault
     ensures memory { kind_of error.now ≡ ErrorKind.OutOfMemory → result ≡ PlanFault.Memory }
     ensures usage { kind_of error.now ≢ ErrorKind.OutOfMemory → result ≡ PlanFault.Usage }

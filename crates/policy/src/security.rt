@@ -60,7 +60,7 @@ impl Model for Security {
 impl Security {
     /// Reads the security object that a value is, as a copy of its own.
     ///
-    /// `Shape` comes exactly where the value is none; it is looked for before memory is taken.
+    /// `Shape` comes if and only if the value is no security object; it is looked for before memory is taken.
     pub fn read(alloc: Global, value: &Json) -> Result<Security, SecurityFault>
         ensures ok { IfOk result (λ security. security ≡ view value.now) }
         ensures shape { IsErrOf result SecurityFault.Shape ↔ (is_security (view value.now) ≡ false) }

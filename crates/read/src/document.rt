@@ -14,10 +14,10 @@ use tree::{DocId, History, Rev};
 /// Returns a document as a revision of it shows it: the body with `_id` and `_rev`, and with `_revisions`
 /// where `revs` asks for it.
 ///
-/// Without `rev` that is the winning revision: `Missing` comes exactly where the document was never
-/// written, `Deleted` exactly where its winner is deleted. With `rev` it is that one, deleted (and
-/// then with `_deleted`) or not: `Missing` comes exactly where no body is held of it, since it is
-/// unknown or only came inside a path. `Store(NoDatabase)` comes exactly where there is no database
+/// Without `rev` that is the winning revision: `Missing` comes if and only if the document was never
+/// written, `Deleted` if and only if its winner is deleted. With `rev` it is that one, deleted (and
+/// then with `_deleted`) or not: `Missing` comes if and only if no body is held of it, since it is
+/// unknown or only came inside a path. `Store(NoDatabase)` comes if and only if there is no database
 /// of this name. Nothing changes. See the CouchDB manual, api/document/common.
 pub fn get<S: Store>(
     alloc: Global,

@@ -18,7 +18,7 @@ pub enum ReadFault {
     /// What was asked for is no query.
     #[error("not a query")]
     BadQuery,
-    /// The store refused, for another cause than want of memory.
+    /// The store refused, for another cause than lack of memory.
     #[error("{0}")]
     Store(StoreFault),
     /// Memory ran out, here or in the store.

@@ -15,8 +15,8 @@ use store::{DbName, DocumentCounts, SeqRange, Store};
 /// Tells what a database says of itself: an object with `db_name`, `doc_count`, `doc_del_count` and
 /// `update_seq`. The counts are of documents by winner, not deleted and deleted.
 ///
-/// `Store(NoDatabase)` comes exactly where there is no database of this name; else nothing but
-/// want of memory and faults of the store refuse. Nothing changes. See the CouchDB manual,
+/// `Store(NoDatabase)` comes if and only if there is no database of this name; else nothing but
+/// lack of memory and faults of the store refuse. Nothing changes. See the CouchDB manual,
 /// api/database/common.
 pub fn info<S: Store>(alloc: Global, store: &mut S, db: &DbName) -> Result<Json, ReadFault>
     ensures answer { Answers S.Store store.old store.new (option_map (λ d. Ok (information db.now d)) (map.get (S.contents store.old) db.now)) result }

@@ -18,8 +18,8 @@ use tree::{DocId, History, Rev};
 /// `{"missing":"N-hash"}` where no body is held of it.
 ///
 /// `None` asks for all leaves, the winner first, so for nothing where the document was never
-/// written. `Store(NoDatabase)` comes exactly where there is no database of this name; else nothing
-/// but want of memory and faults of the store refuse. Nothing changes. See the CouchDB manual,
+/// written. `Store(NoDatabase)` comes if and only if there is no database of this name; else nothing
+/// but lack of memory and faults of the store refuse. Nothing changes. See the CouchDB manual,
 /// api/document/common.
 pub fn open_revs<S: Store>(
     alloc: Global,

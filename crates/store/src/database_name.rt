@@ -56,7 +56,7 @@ impl Model for DbName {
 impl DbName {
     /// Makes the name that a text spells.
     ///
-    /// `Shape` comes exactly where the text is no name; it is looked for before memory is taken.
+    /// `Shape` comes if and only if the text is no name; it is looked for before memory is taken.
     pub fn new(alloc: Global, text: &str) -> Result<DbName, NameFault>
         ensures ok { IfOk result (λ name. name ≡ text.now) }
         ensures shape { IsErrOf result NameFault.Shape ↔ (is_database_name text.now ≡ false) }

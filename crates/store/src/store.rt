@@ -41,7 +41,7 @@ pub trait Store {
     /// The store has no number left for a new database.
     ghost lacks_number: { Self → Type 0 };
 
-    /// Makes a new database, closed to all but server admins. `Exists` comes exactly where there is
+    /// Makes a new database, closed to all but server admins. `Exists` comes if and only if there is
     /// one of this name.
     fn create(&mut self, name: &DbName) -> Result<(), StoreFault>
         ensures ok { is_honest self.new → OnOk result (contents self.new ≡ map.insert (contents self.old) name.now new_database) }
@@ -52,7 +52,7 @@ pub trait Store {
             (is_honest self.new → lacks_number self.old) fault) }
         ensures changes { ChangesWhole contents is_honest is_clean fault_count self.old self.new result };
 
-    /// Removes a database with all that it holds. `NoDatabase` comes exactly where there is none of
+    /// Removes a database with all that it holds. `NoDatabase` comes if and only if there is none of
     /// this name.
     fn remove(&mut self, name: &DbName) -> Result<(), StoreFault>
         ensures ok { is_honest self.new → OnOk result (contents self.new ≡ map.remove (contents self.old) name.now) }
@@ -68,13 +68,13 @@ pub trait Store {
         ensures others { result ≢ Err StoreFault.NoDatabase }
         ensures reads { OnlyReads contents is_honest is_clean fault_count lacks_room lacks_number self.old self.new };
 
-    /// Returns the security object of a database. `NoDatabase` comes exactly where there is none.
+    /// Returns the security object of a database. `NoDatabase` comes if and only if there is none.
     fn security(&mut self, name: &DbName) -> Result<Security, StoreFault>
         ensures answer { Answers is_honest fault_count self.old self.new (λ security. security)
             (option_map (λ db. db.security) (map.get (contents self.old) name.now)) result }
         ensures reads { OnlyReads contents is_honest is_clean fault_count lacks_room lacks_number self.old self.new };
 
-    /// Gives a database another security object. `NoDatabase` comes exactly where there is none.
+    /// Gives a database another security object. `NoDatabase` comes if and only if there is none.
     fn set_security(&mut self, name: &DbName, security: &Security) -> Result<(), StoreFault>
         ensures ok { is_honest self.new → OnOk result (option_map (λ db. map.insert (contents self.old) name.now (with_security db security.now)) (map.get (contents self.old) name.now) ≡ Some (contents self.new)) }
         ensures missing { is_honest self.new → result ≡ Err StoreFault.NoDatabase → map.get (contents self.old) name.now ≡ None }
@@ -82,7 +82,7 @@ pub trait Store {
         ensures caused { IfErr result (λ fault. IsCaused (fault_count self.old) (fault_count self.new) (is_honest self.new) ⊥ fault) }
         ensures changes { ChangesWhole contents is_honest is_clean fault_count self.old self.new result };
 
-    /// Returns the history of a document, empty where it was never written. `NoDatabase` comes exactly where
+    /// Returns the history of a document, empty where it was never written. `NoDatabase` comes if and only if
     /// there is no database of this name.
     fn history(&mut self, name: &DbName, id: &DocId) -> Result<History, StoreFault>
         ensures answer { Answers is_honest fault_count self.old self.new (λ history. history)
@@ -90,7 +90,7 @@ pub trait Store {
         ensures reads { OnlyReads contents is_honest is_clean fault_count lacks_room lacks_number self.old self.new };
 
     /// Returns the documents of a database whose winner is not deleted, by id and cut by a range, with their
-    /// counts where those are asked for. `NoDatabase` comes exactly where there is none of this name.
+    /// counts where those are asked for. `NoDatabase` comes if and only if there is none of this name.
     fn page_by_id(&mut self, name: &DbName, range: &IdRange) -> Result<PageById, StoreFault>
         ensures answer { Answers is_honest fault_count self.old self.new id_page_of
             (option_map (λ db. page_of_ids range.now db) (map.get (contents self.old) name.now)) result }
@@ -106,7 +106,7 @@ pub trait Store {
         ensures bounded { IfOk result (IsBounded range.now) }
         ensures reads { OnlyReads contents is_honest is_clean fault_count lacks_room lacks_number self.old self.new };
 
-    /// Appends all the writes to a database, or none of them. `NoDatabase` comes exactly where there
+    /// Appends all the writes to a database, or none of them. `NoDatabase` comes if and only if there
     /// is none of this name.
     ///
     /// A write's path goes on with what the history, once the writes before it are in, knows behind

@@ -57,7 +57,7 @@ impl Model for DocId {
 impl DocId {
     /// Makes the id that a text spells.
     ///
-    /// `Shape` comes exactly where the text is no id; it is looked for before memory is taken.
+    /// `Shape` comes if and only if the text is no id; it is looked for before memory is taken.
     pub fn new(alloc: Global, text: &str) -> Result<DocId, IdFault>
         ensures ok { IfOk result (λ id. id ≡ text.now) }
         ensures shape { IsErrOf result IdFault.Shape ↔ (is_document_id text.now ≡ false) }

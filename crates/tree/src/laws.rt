@@ -29,7 +29,7 @@ pub fn content_of_one_more_write()
     ensures { (ws : List Write) (w : Write) → content_of (ws ++ w ∷ []) ≡ with_write (content_of ws) w }
 {}
 
-/// A write is added exactly where the list with it at its end is lawful.
+/// A write is added if and only if the list with it at its end is lawful.
 pub fn added_where_lawful()
     ensures { (ws : List Write) (w : Write) → IsLawful ws
         → (placement (content_of ws) w.path ≡ Ok Placed.Added) ↔ IsLawful (ws ++ w ∷ []) }

@@ -39,7 +39,7 @@ impl From<NoMemory> for RevFault {
 /// Its number is one more than that of the revision before it. Its hash is the MD5, in lower-case
 /// hexadecimal, of the canonical text of `[deleted, number before, hash before, body]`, with 0 and
 /// the empty text for the first revision: so replicas that take in the same edit agree.
-/// `Generation` comes exactly where the revision before has the greatest number, and before
+/// `Generation` comes if and only if the revision before has the greatest number, and before
 /// memory is taken.
 pub fn next_rev(
     alloc: Global,

@@ -38,7 +38,7 @@ use tree::{DocId, History};
 /// left: as an edit, or with `new_edits` false as a replicated write, whose path is `_revisions` or
 /// its one revision, and which changes nothing where its revision is known. All are judged on the
 /// terms that the store has at the start: a design document among them rules none of those behind
-/// it. Their writes make one plan. `Store(NoDatabase)` comes exactly where there is no database of
+/// it. Their writes make one plan. `Store(NoDatabase)` comes if and only if there is no database of
 /// this name. No history is copied, and no path of an edit is walked. See the CouchDB manual,
 /// api/database/bulk-api.
 pub fn bulk<S: Store>(
@@ -136,7 +136,7 @@ fn judge_one(
     }
 }
 
-/// Tells that a document was refused, where that is not for want of memory.
+/// Tells that a document was refused, where that is not for lack of memory.
 fn tell_refusal(fault: WriteFault) -> Got<Outcome>
     requires { (cause : _) → fault ≢ WriteFault.Store cause }
     ensures told { IfOk result (λ outcome. outcome ≡ Outcome.Refused fault) }

@@ -28,13 +28,13 @@ use tree::{DocId, Rev};
 /// The edit names a revision by `query`, by the document's `_rev`, or by both alike, and then goes on
 /// from this revision, a leaf, deleted or not. Without one an unknown document is created, and where
 /// the winner is deleted the edit follows it. With `_deleted: true` the new revision is deleted.
-/// `BadDocument` comes exactly where the document is no object, has a special member that no
+/// `BadDocument` comes if and only if the document is no object, has a special member that no
 /// document has or one of another form, names another revision than `query`, has a body that nests
 /// more than 100 deep, or is a design document that declares what it may not; else `Denied` where it
 /// is a design document that the caller may not write; else `Conflict` where there is no such leaf to
 /// go on from, or the new revision is known already; else `Denied` where an update rule does not
 /// hold, by the first such rule; `Generation` where the leaf has the greatest number;
-/// `Store(NoDatabase)` exactly where there is no database of this name, and before these. See the
+/// `Store(NoDatabase)` if and only if there is no database of this name, and before these. See the
 /// CouchDB manual, api/document/common.
 pub fn edit<S: Store>(
     alloc: Global,

@@ -28,7 +28,7 @@ pub enum WriteFault {
     /// No revision follows the one with the greatest number, 2,147,483,647.
     #[error("no further generation")]
     Generation,
-    /// The store refused, for another cause than want of memory.
+    /// The store refused, for another cause than lack of memory.
     #[error("{0}")]
     Store(StoreFault),
     /// Memory ran out, here or in the store.

@@ -34,7 +34,7 @@ pub fn outcomes_are_written()
 {}
 
 /// In a lawful database the path of an edit fits in: where there is a revision to follow, or none is
-/// needed, the tree takes the write in exactly where its new revision is not known, else it knows the
+/// needed, the tree takes the write in if and only if its new revision is not known, else it knows the
 /// write or one with another parent. So an edit is judged without its path.
 pub fn edits_fit()
     ensures added { (db : Database) (id : List ℕ) (named parent : Option Revision) (deleted : Bool) (body : Value) → IsLawful db

@@ -41,6 +41,6 @@ pub enum Outcome {
     Made(Rev),
     /// Its revision was known already, so nothing changes.
     Known,
-    /// It was refused, for a cause of its own: never for the store or for want of memory.
+    /// It was refused, for a cause of its own: never for the store or for lack of memory.
     Refused(WriteFault),
 }

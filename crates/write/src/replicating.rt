@@ -33,12 +33,12 @@ use tree::{DocId, History, Placed, TreeFault};
 /// nothing.
 ///
 /// The document comes with its path: `_revisions`, or its one revision. Where its revision is known
-/// there is nothing to write. `BadDocument` comes exactly where the document is no object, has a
+/// there is nothing to write. `BadDocument` comes if and only if the document is no object, has a
 /// special member that no document has or one of another form, comes with no path, has a body that
 /// nests more than 100 deep, or is a design document that declares what it may not; else `Denied`
 /// where it is a design document that the caller may not write; else `BadHistory` where the path is
 /// not whole or gives a known revision another parent; `Denied` where the revision is new and an
-/// update rule does not hold, by the first such rule; `Store(NoDatabase)` exactly where there is no
+/// update rule does not hold, by the first such rule; `Store(NoDatabase)` if and only if there is no
 /// database of this name, and before these. See the CouchDB manual, api/document/common and
 /// replication/conflicts.
 pub fn replicated<S: Store>(

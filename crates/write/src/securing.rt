@@ -14,7 +14,7 @@ use store::{DbName, Store};
 
 /// Plans another security object for a database. It reads the store and changes nothing.
 ///
-/// `BadDocument` comes exactly where the value is no security object; `Store(NoDatabase)` exactly
+/// `BadDocument` comes if and only if the value is no security object; `Store(NoDatabase)` exactly
 /// where there is no database of this name, and before it. See the CouchDB manual,
 /// api/database/security.
 pub fn put_security<S: Store>(

@@ -34,7 +34,7 @@ pub struct Terms<'a> {
 
 /// Reads the terms on which a caller writes. Nothing changes.
 ///
-/// `Store(NoDatabase)` comes exactly where there is no database of this name; else nothing but want
+/// `Store(NoDatabase)` comes if and only if there is no database of this name; else nothing but want
 /// of memory and faults of the store refuse. See the CouchDB manual, ddocs/ddocs.
 pub fn read_terms<'a, S: Store>(
     alloc: Global,
