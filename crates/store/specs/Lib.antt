@@ -3,6 +3,7 @@ pub mod Database
 pub mod Contents
 pub mod Causes
 pub mod Pages
+pub mod Indexes
 pub mod Writing
 pub mod Paging
 pub mod Lawful
