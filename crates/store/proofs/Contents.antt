@@ -8,7 +8,8 @@ use Rattle.std.specs.Cmp.{eq_by_cmp_equiv}
 use Rattle.std.specs.FinMap as map
 use Rattle.couch_json.specs.Value.{Value}
 use Rattle.tree.specs.History.{HistoryContent, with_write}
-use Rattle.store.specs.Database.{Database, DocumentWrite, Document, history_at, history_in, with_one, with_all, empty_database, is_of}
+use Rattle.store.specs.declared.local_document.LocalDocument.{LocalDocument}
+use Rattle.store.specs.Database.{TextMap, Database, DocumentWrite, Document, history_at, history_in, with_one, with_all, empty_database, is_of}
 use Rattle.store.specs.Contents.{with_security}
 use Rattle.store.specs.Plain.{content, history_after, with_addition}
 use Rattle.store.specs.Writing.{Addition, addition_of, additions, written_at, written_in, writings_in}
@@ -92,6 +93,15 @@ pub content-with_security : (security other : Value) (all : List Addition)
     → with_all (empty_database other) (writings_in (empty_database other) all) ≡ with_security (with_all (empty_database security) (writings_in (empty_database security) all)) other
 content-with_security security other all =
     ap (with_all (empty_database other)) (writings_in-with_security (empty_database security) other all) ∙ with_all-with_security (empty_database security) other (writings_in (empty_database security) all)
+
+-- a database with other local documents
+abbrev pub with_locals : Database → TextMap LocalDocument → Database
+with_locals db locals = record db { locals = locals }
+
+pub with_all-with_locals : (db : Database) (locals : TextMap LocalDocument) (all : List Addition)
+    → with_all (with_locals db locals) (writings_in (with_locals db locals) all) ≡ with_locals (with_all db (writings_in db all)) locals
+with_all-with_locals db locals [] = refl
+with_all-with_locals db locals (a ∷ all) = with_all-with_locals (with_one db (written_at db a)) locals all
 
 -- a plain database's security object and histories
 pub security-content : (d : PlainDatabase) → (content d).security ≡ d.security

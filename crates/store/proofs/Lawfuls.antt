@@ -19,7 +19,8 @@ use Rattle.tree.proofs.Continued.{added_goes_on}
 use Rattle.tree.proofs.Leaves.{leaf_is_childless, leaf_is_held, winner_is_best}
 use Rattle.tree.proofs.Shown.{behind_below, inside, is_known_writes, parent_below, shown, stands_behind, whole_counts}
 use Rattle.store.specs.Database.{Database, Document, DocumentWrite, history_at, history_in, with_one, with_all, empty_database}
-use Rattle.store.specs.Contents.{Contents, IsAcceptable, AreAcceptable, IfThere, with_security}
+use Rattle.store.specs.declared.local_document.LocalDocument.{LocalDocument}
+use Rattle.store.specs.Contents.{Contents, IsAcceptable, AreAcceptable, IfThere, with_local, with_security}
 use Rattle.store.specs.Lawful.{IsBody, IsWritten, IsLawful, AreLawful}
 use Rattle.store.specs.Writing.{Addition, writings_in}
 use Rattle.store.proofs.Contents.{document_after}
@@ -67,6 +68,7 @@ lawful_by_one db w h ok =
     record {
       documents = λ id d is. at_key (bytes_eq id w.id) (db.length + 1) (with_write (history_at db w.id) w.write) (map.get db.documents id) d new (h.documents id) (sym (document_after db w id) ∙ is);
       sequences = sequences_by_one db w h.sequences;
+      locals = h.locals;
     }
 
 pub lawful_by_all : (ws : List DocumentWrite) (db : Database) → IsLawful db → AreAcceptable db ws → IsLawful (with_all db ws)
@@ -78,6 +80,7 @@ lawful_empty security =
     record {
       documents = λ id d is. absurd (none id d is);
       sequences = record { positive = λ id d is. absurd (none id d is); within = λ id d is. absurd (none id d is); distinct = λ id other d e is was same. absurd (none id d is) };
+      locals = λ id d is. let none = sym (map.get-empty {X = LocalDocument} (slice_cmp nat_cmp) id) ∙ is in absurd (cc);
     }
   where
     none : (id : List ℕ) (d : Document) → map.get (empty_database security).documents id ≡ Some d → ⊥
@@ -85,7 +88,20 @@ lawful_empty security =
 
 pub lawful_secured : (db : Database) (security : Value) → IsLawful db → IsLawful (with_security db security)
 lawful_secured db security h =
-    record { documents = h.documents; sequences = record { positive = h.sequences.positive; within = h.sequences.within; distinct = h.sequences.distinct } }
+    record { documents = h.documents; sequences = record { positive = h.sequences.positive; within = h.sequences.within; distinct = h.sequences.distinct }; locals = h.locals }
+
+local_key : (b : Bool) (new : LocalDocument) (old : Option LocalDocument) (d : LocalDocument) → IsBody new.body → (old ≡ Some d → IsBody d.body) → cond b (Some new) old ≡ Some d → IsBody d.body
+local_key true new old d n o is = subst (λ (x : LocalDocument). IsBody x.body) (inside new d is) n
+local_key false new old d n o is = o is
+
+pub lawful_local : (db : Database) (id : List ℕ) (document : LocalDocument) → IsLawful db → IsBody document.body → IsLawful (with_local db id document)
+lawful_local db id document h body =
+    record {
+      documents = h.documents;
+      sequences = record { positive = h.sequences.positive; within = h.sequences.within; distinct = h.sequences.distinct };
+      locals = λ other d is.
+          local_key (eq_by_cmp (slice_cmp nat_cmp) other id) document (map.get db.locals other) d body (h.locals other d) (sym (map.get-insert nat_list_cmp_total db.locals id document other) ∙ is);
+    }
 
 -- the lawful writes that stand behind the history of an id, none where it was never written
 pub writes_behind : (db : Database) (id : List ℕ) → IsLawful db → (ws : List Write) × AreWritten ws × (history_at db id ≡ content_of ws)
@@ -207,6 +223,12 @@ pub lawful_commit : (c d : Contents) (name : List ℕ) (all : List Addition) →
 lawful_commit c d name all ok is h =
     lawful_change c d name (map.get c name) (λ db. with_all db (writings_in db all)) refl is
     (λ db at l. lawful_by_all (writings_in db all) db l (subst (λ (o : Option Database). IfThere o (λ e. AreAcceptable e (writings_in e all))) at ok)) h
+
+pub lawful_write_local : (c d : Contents) (name id : List ℕ) (document : LocalDocument) → IfThere (map.get c name) (λ db. IsBody document.body)
+    → option_map (λ db. map.insert c name (with_local db id document)) (map.get c name) ≡ Some d → AreLawful c → AreLawful d
+lawful_write_local c d name id document ok is h =
+    lawful_change c d name (map.get c name) (λ db. with_local db id document) refl is
+    (λ db at l. lawful_local db id document l (subst (λ (o : Option Database). IfThere o (λ e. IsBody document.body)) at ok)) h
 
 -- a call that changes lawful contents lawfully, or leaves them, leaves them lawful
 pub lawful_after : {T E : Type 0} (r : Result T E) (c d : Contents) (Made : Type 0) → OnOk r Made → OnErr r (d ≡ c) → (Made → AreLawful c → AreLawful d) → ∥ AreLawful c ∥₁ → ∥ AreLawful d ∥₁

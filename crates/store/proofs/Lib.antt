@@ -2,6 +2,7 @@ pub mod Contents
 pub mod Logs
 pub mod Laters
 pub mod Plains
+pub mod LocalMaps
 pub mod Orders
 pub mod Listings
 pub mod Among

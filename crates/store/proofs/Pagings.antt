@@ -15,7 +15,8 @@ use Rattle.store.specs.Database.{Database, Document, DocumentWrite, history_at, 
 use Rattle.std.specs.List.{count_by}
 use Rattle.store.specs.Pages.{document_counts, in_direction, if_counted, id_page, is_before_start, is_within, live_rows, rows_within, page_of_ids, SequenceRow, in_sequence, last_sequence, up_to_limit, page_by_sequence, page_with, put_in_sequence, rows_after, rows_of}
 use Rattle.store.specs.Paging.{sequence_row_of, sequence_rows}
-use Rattle.store.specs.Plain.{content, document_entries, gathered_after, spot_from, value_in, with_addition, with_write_at}
+use Rattle.couch_json.specs.Value.{Value}
+use Rattle.store.specs.Plain.{content, document_entries, gathered_after, spot_from, value_in, with_addition, with_write_at, written_content}
 use Rattle.store.specs.Writing.{Addition, addition_of, additions, written_at, writings_in}
 use Rattle.store.specs.declared.page.DocumentCounts.{DocumentCounts}
 use Rattle.store.specs.declared.page.IdRange.{IdRange}
@@ -93,22 +94,26 @@ length-writings_in : (db : Database) (all : List Addition) → length (writings_
 length-writings_in db [] = refl
 length-writings_in db (a ∷ all) = ap suc (length-writings_in (with_one db (written_at db a)) all)
 
+pub length-written_content : (security : Value) (all : List Addition) → (written_content security all).length ≡ length all
+length-written_content security all =
+    let e = empty_database security in
+    omega (arith, length-with_all (writings_in e all) e, length-writings_in e all)
+
 -- a plain database is as long as its list of writes
 pub length-content : (d : PlainDatabase) → (content d).length ≡ length d.writes.items
-length-content d =
-    let e = empty_database d.security in
-    let all = additions d.writes.items in
-    omega (arith, length-with_all (writings_in e all) e, length-writings_in e all, length-map d.writes.items addition_of)
+length-content d = length-written_content d.security (additions d.writes.items) ∙ length-map d.writes.items addition_of
 
 pub no_length : {A : Type 0} (xs : List A) → length xs ≡ 0 → xs ≡ []
 no_length [] e = refl
 no_length (x ∷ xs) e = absurd (omega arith)
 
+pub entries-written_content : (security : Value) (all : List Addition) → finite.entries (written_content security all).documents ≡ gathered_after 0 [] all
+entries-written_content security all =
+    let none : finite.entries (empty_database security).documents ≡ [] = no_length _ (sym (finite.len-entries (empty_database security).documents) ∙ finite.len-empty (slice_cmp nat_cmp) Document) in
+    entries-with_all all (empty_database security) ∙ ap (λ es. gathered_after 0 es all) none
+
 pub entries-content : (d : PlainDatabase) → finite.entries (content d).documents ≡ gathered_after 0 [] (additions d.writes.items)
-entries-content d =
-    let all = additions d.writes.items in
-    let none : finite.entries (empty_database d.security).documents ≡ [] = no_length _ (sym (finite.len-entries (empty_database d.security).documents) ∙ finite.len-empty (slice_cmp nat_cmp) Document) in
-    entries-with_all all (empty_database d.security) ∙ ap (λ es. gathered_after 0 es all) none
+entries-content d = entries-written_content d.security (additions d.writes.items)
 
 pub page_by_sequence-content : (range : SeqRange) (d : PlainDatabase) → page_by_sequence range (content d) ≡ page_with range (length d.writes.items) (gathered_after 0 [] (additions d.writes.items))
 page_by_sequence-content range d = ap₂ (page_with range) (length-content d) (entries-content d)

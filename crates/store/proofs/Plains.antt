@@ -1,5 +1,5 @@
 -- A list of named databases beside the map that it stands for.
-use Rattle.std.proofs.Common.{◌≡◌, ℕ, zero, suc, ◌+◌, ◌<◌, List, [], ◌∷◌, ◌++◌, length, get_or, set, Bool, true, false, cond, Option, Some, None, Result, Ok, Err, OnErr, is_some, option_map, nat_cmp, not, filter, map as list_map, refl, sym, ap, ◌∙◌, subst, arith}
+use Rattle.std.proofs.Common.{◌≡◌, ℕ, zero, suc, ◌+◌, ◌<◌, List, [], ◌∷◌, ◌++◌, length, get_or, set, Bool, true, false, cond, Option, Some, None, Result, Ok, Err, OnErr, OnOk, is_some, option_map, nat_cmp, not, filter, map as list_map, refl, sym, ap, ◌∙◌, subst, arith}
 use Rattle.std.proofs.lemmas.Bool.{false≢true}
 use Rattle.std.proofs.lemmas.Cmp.{nat_list_cmp_total}
 use Rattle.std.proofs.lemmas.Map.Text.{is_eq-slice_cmp}
@@ -106,7 +106,7 @@ replaced (e ∷ es) zero name d q h =
     put_here (eq q name) (Some (content d)) (Some (content e.1)) (lookup q es) ∙ ap (λ k. cond (eq q name) (Some (content d)) (cond (eq q k) (Some (content e.1)) (lookup q es))) (sym same)
 replaced (e ∷ es) (suc at) name d q h = put_later q e es name (Some (content d)) (lookup q es) _ (eq q e.0) refl h.0 (replaced es at name d q h.1)
 
-exact : map.IsAntisymmetric (slice_cmp nat_cmp)
+pub exact : map.IsAntisymmetric (slice_cmp nat_cmp)
 exact = slice_cmp-IsAntisymmetric nat_cmp-IsAntisymmetric
 
 pub contents_of-set : (es : List Named) (at : ℕ) (name : List ℕ) (d : PlainDatabase) → IsFirst es name at
@@ -185,3 +185,12 @@ keys-contents_of (e ∷ es) =
 pub whatever : {T E P : Type 0} (r : Result T E) → P → OnErr r P
 whatever (Ok v) p = tt
 whatever (Err e) p = p
+
+-- what follows from an answer where it was made, and where it was refused
+pub if_made : {T E P Q : Type 0} (r : Result T E) → OnOk r P → (P → Q) → OnOk r Q
+if_made (Ok v) p f = f p
+if_made (Err e) p f = tt
+
+pub if_refused : {T E P Q : Type 0} (r : Result T E) → OnErr r P → (P → Q) → OnErr r Q
+if_refused (Ok v) p f = tt
+if_refused (Err e) p f = f p

@@ -1,12 +1,14 @@
--- The contents of a store: its databases by name; and which writes a store may be given to accept.
--- CouchDB manual, api/server/common (`/_all_dbs`) and api/database; this project's own words for what a store is.
-use Rattle.std.specs.Prelude.{◌≡◌, ◌≤◌, ℕ, List, [], ◌∷◌, true, Option, Some, None, Ok, ⊤}
+-- The contents of a store: its databases by name; what a change makes of one, and which writes a store may be given to accept.
+-- CouchDB manual, api/server/common (`/_all_dbs`), api/database and api/local; this project's own words for what a store is.
+use Rattle.std.specs.Prelude.{◌≡◌, ◌≤◌, ℕ, List, [], ◌∷◌, ◌++◌, codes, decimal, true, Option, Some, None, Ok, ⊤}
+use Rattle.std.specs.FinMap.{get, insert}
 use Rattle.couch_json.specs.Value.{Value, depth}
 use Rattle.couch_json.specs.Parts.{is_object}
 use Rattle.policy.specs.Security.{closed_security}
 use Rattle.tree.specs.History.{placement}
 use Rattle.tree.specs.declared.placement.Placed.TheVariants.{Added}
 use Rattle.store.specs.Database.{TextMap, Database, DocumentWrite, history_at, with_one, empty_database}
+use Rattle.store.specs.declared.local_document.LocalDocument.{LocalDocument}
 
 abbrev pub Contents : Type 0
 Contents = TextMap Database
@@ -18,6 +20,18 @@ new_database = empty_database closed_security
 -- the database's security object
 abbrev pub with_security : Database → Value → Database
 with_security db security = record db { security = security }
+
+-- the text of a local document's revision: `0-N`
+abbrev pub local_revision : ℕ → List ℕ
+local_revision number = codes "0-" ++ decimal number
+
+-- the local document of this id, if there is one
+abbrev pub local_at : Database → List ℕ → Option LocalDocument
+local_at db id = get db.locals id
+
+-- the database with this local document, in the place of the one of its id
+abbrev pub with_local : Database → List ℕ → LocalDocument → Database
+with_local db id document = record db { locals = insert db.locals id document }
 
 -- how deep the body of a document may nest
 abbrev pub max_body_depth : ℕ

@@ -8,6 +8,7 @@ use Rattle.couch_json.specs.Value.{Value}
 use Rattle.tree.specs.Revision.{Revision}
 use Rattle.tree.specs.Write as tree
 use Rattle.tree.specs.History.{HistoryContent, content_of, with_write, is_known}
+use Rattle.store.specs.declared.local_document.LocalDocument.{LocalDocument}
 
 -- finite maps from texts, by the bytes of their UTF-8
 abbrev pub TextMap : Type 0 → Type 0
@@ -17,10 +18,6 @@ TextMap A = FinMap {K = List ℕ} (slice_cmp nat_cmp) A
 pub record DocumentWrite : Type 0 where
   pub id : List ℕ
   pub write : tree.Write
-
-pub record LocalDocument : Type 0 where
-  pub number : ℕ
-  pub body : Value
 
 -- a database as the list of what happened to it
 pub record Log : Type 0 where

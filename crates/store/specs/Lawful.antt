@@ -9,6 +9,7 @@ use Rattle.tree.specs.Write as tree
 use Rattle.tree.specs.History.{HistoryContent, content_of}
 use Rattle.store.specs.Contents.{Contents, max_body_depth}
 use Rattle.store.specs.Database.{Database, Document, HasSequences}
+use Rattle.store.specs.declared.local_document.LocalDocument.{LocalDocument}
 
 -- the body of a document: an object that is not nested too deep
 pub record IsBody (body : Value) : Type 0 where
@@ -23,10 +24,11 @@ pub record IsWritten (h : HistoryContent) : Type 0 where
   pub bodies : AllByRecursion (λ w. IsBody w.body) (before ++ last ∷ [])
   pub content : h ≡ content_of (before ++ last ∷ [])
 
--- each document was written lawfully, and the sequences lie from 1 to the length, each once
+-- each document was written lawfully, the sequences lie from 1 to the length, each once, and each local document has a body
 pub record IsLawful (db : Database) : Type 0 where
   pub documents : (id : List ℕ) (d : Document) → get db.documents id ≡ Some d → IsWritten d.history
   pub sequences : HasSequences db
+  pub locals : (id : List ℕ) (d : LocalDocument) → get db.locals id ≡ Some d → IsBody d.body
 
 -- each database is lawful
 abbrev pub AreLawful : Contents → Type 0

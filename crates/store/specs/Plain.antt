@@ -6,18 +6,28 @@ use Rattle.std.specs.Ordering.{nat_cmp, eq_by_cmp}
 use Rattle.std.specs.Cmp.Lexicographic.{slice_cmp}
 use Rattle.std.specs.FinMap.{from_entries, find, put}
 use Rattle.std.specs.FinMap.Entries.{by_order}
+use Rattle.couch_json.specs.Value.{Value}
 use Rattle.tree.specs.History.{HistoryContent, with_write}
 use Rattle.store.specs.Contents.{Contents}
-use Rattle.store.specs.Database.{Database, Document, history_in, with_all, empty_database}
+use Rattle.store.specs.Database.{Database, Document, TextMap, history_in, with_all, empty_database}
 use Rattle.store.specs.Writing.{Addition, additions, written_in, writings_in}
+use Rattle.store.specs.declared.local_document.LocalDocument.{LocalDocument}
 use Rattle.store.specs.declared.plain.PlainDatabase.{PlainDatabase}
 use Rattle.store.specs.declared.plain.PlainDocument.{PlainDocument}
 
 abbrev pub Named : Type 0
 Named = List ℕ × PlainDatabase
 
+-- the local documents by id
+abbrev pub locals_of : List (List ℕ × LocalDocument) → TextMap LocalDocument
+locals_of es = from_entries es
+
+-- what writes made of a database with this security object
+abbrev pub written_content : Value → List Addition → Database
+written_content security all = with_all (empty_database security) (writings_in (empty_database security) all)
+
 abbrev pub content : PlainDatabase → Database
-content d = with_all (empty_database d.security) (writings_in (empty_database d.security) (additions d.writes.items))
+content d = record (written_content d.security (additions d.writes.items)) { locals = locals_of d.locals.entries }
 
 abbrev pub database_entries : List Named → List (List ℕ × Database)
 database_entries es = map (λ e. (e.0, content e.1)) es

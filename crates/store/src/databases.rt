@@ -1,6 +1,6 @@
 ghost use Rattle.std.specs.Prelude.{◌≡◌, ◌<◌, ◌++◌, ◌∷◌, [], IfNone, IfOk, IfSome, OnErr, OnOk, None, Some, length, option_map, slice_set, slice_get, vec_len, map as list_map};
 ghost use Rattle.std.specs.FinMap as map;
-ghost use Rattle.store.specs.Contents.{new_database, with_security};
+ghost use Rattle.store.specs.Contents.{new_database, with_local, with_security};
 ghost use Rattle.store.specs.Database.{with_all};
 ghost use Rattle.store.specs.Plain.{content, contents_of, place_from};
 ghost use Rattle.store.specs.Writing.{additions, writings_in};
@@ -8,6 +8,8 @@ ghost use Rattle.std.specs.Ordering.{nat_cmp, eq_by_cmp};
 ghost use Rattle.std.specs.Cmp.Lexicographic.{slice_cmp};
 
 use crate::database_name::DbName;
+use crate::local_document::LocalDocument;
+use crate::locals::put_local;
 use crate::order::put_sorted;
 use crate::plain::{Databases, PlainDatabase};
 use crate::replay::copies;
@@ -15,6 +17,8 @@ use crate::write::Write;
 use couch_json::Got;
 use policy::Security;
 use std::alloc::Global;
+use std::collections::BTreeMap;
+use tree::DocId;
 
 /// Finds the place of the database of this name, if there is one.
 pub(crate) fn place_of(databases: &Databases, name: &DbName) -> Option<usize>
@@ -54,6 +58,7 @@ pub(crate) fn add(alloc: Global, databases: &mut Databases, name: &DbName) -> Go
     let database = PlainDatabase {
         writes: Vec::new(alloc),
         security: Security::closed(alloc)?,
+        locals: BTreeMap::new(alloc),
     };
     databases.push((name.copy(alloc)?, database))?;
     Ok(())
@@ -84,6 +89,23 @@ pub(crate) fn append(
     let mut more = copies(alloc, writes)?;
     databases[at].1.writes.append(&mut more)?;
     Ok(())
+}
+
+/// Gives the database at a place a copy of a local document, or leaves it as it was.
+pub(crate) fn write_local(
+    alloc: Global,
+    databases: &mut Databases,
+    at: usize,
+    name: &DbName,
+    id: &DocId,
+    document: &LocalDocument,
+) -> Got<()>
+    requires { place_from 0 name.now databases.old.items ≡ Some at }
+    ensures ok { OnOk result (option_map (λ db. map.insert (contents_of databases.old.items) name.now (with_local db id.now document.now))
+        (map.get (contents_of databases.old.items) name.now) ≡ Some (contents_of databases.new.items)) }
+    ensures err { OnErr result (contents_of databases.new.items ≡ contents_of databases.old.items) }
+{
+    put_local(alloc, &mut databases[at].1.locals, id, document)
 }
 
 /// Removes the database of this name.

@@ -2,6 +2,7 @@ ghost use Rattle.std.specs.Prelude.{◌≡◌, ◌⊎◌, ◌+◌, ◌-◌, ◌<
 
 use crate::database_name::DbName;
 use crate::fault::StoreFault;
+use crate::local_document::LocalDocument;
 use crate::page::{IdRange, PageById, PageBySeq, SeqRange};
 use crate::store::Store;
 use crate::write::Write;
@@ -121,6 +122,21 @@ impl<S: Store + Drop> Store for FailingStore<S> {
             return Err(StoreFault::Full);
         }
         self.store.commit(name, writes)
+    }
+
+    fn local(&mut self, name: &DbName, id: &DocId) -> Result<Option<LocalDocument>, StoreFault> {
+        count_call(&mut self.calls_left, &mut self.failures)?;
+        self.store.local(name, id)
+    }
+
+    fn set_local(
+        &mut self,
+        name: &DbName,
+        id: &DocId,
+        document: &LocalDocument,
+    ) -> Result<(), StoreFault> {
+        count_call(&mut self.calls_left, &mut self.failures)?;
+        self.store.set_local(name, id, document)
     }
 
     fn faults(&self) -> u64 {

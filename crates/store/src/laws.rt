@@ -6,11 +6,12 @@ ghost use Rattle.couch_json.specs.Value.{Value};
 ghost use Rattle.tree.specs.Revision.{Revision};
 ghost use Rattle.tree.specs.History.{held_of, winner};
 ghost use Rattle.tree.specs.declared.entry.Held.{Held};
-ghost use Rattle.store.specs.Contents.{AreAcceptable, IsAcceptable, with_security};
+ghost use Rattle.store.specs.Contents.{AreAcceptable, IsAcceptable, with_local, with_security};
 ghost use Rattle.store.specs.Database.{Database, Document, DocumentWrite, HasSequences, IsContentOf, IsLater, Log, empty_database, with_all, with_one, with_write_logged};
 ghost use Rattle.store.specs.Lawful.{IsBody, IsLawful};
 ghost use Rattle.store.specs.Pages.{IsIdRowOf, IsRowOf, SequenceRow, comes_before, is_within, live_rev, page_of_ids, page_by_sequence, row_of};
 ghost use Rattle.store.specs.Writing.{Addition, writings_in};
+ghost use Rattle.store.specs.declared.local_document.LocalDocument.{LocalDocument};
 ghost use Rattle.store.specs.declared.page.IdRange.{IdRange};
 ghost use Rattle.store.specs.declared.page.IdRow.{IdRow};
 ghost use Rattle.store.specs.declared.page.SeqRange.{SeqRange};
@@ -52,12 +53,13 @@ pub fn sequences()
 {}
 
 /// An empty database is lawful, and each acceptable write, and so any number of them, keeps it so, as
-/// does another security object.
+/// do another security object, and a local document with a body.
 pub fn lawful_databases()
     ensures empty { (security : Value) → IsLawful (empty_database security) }
     ensures by_one { (db : Database) (w : DocumentWrite) → IsLawful db → IsAcceptable db w → IsLawful (with_one db w) }
     ensures by_all { (ws : List DocumentWrite) (db : Database) → IsLawful db → AreAcceptable db ws → IsLawful (with_all db ws) }
     ensures secured { (db : Database) (security : Value) → IsLawful db → IsLawful (with_security db security) }
+    ensures local { (db : Database) (id : List ℕ) (document : LocalDocument) → IsLawful db → IsBody document.body → IsLawful (with_local db id document) }
 {}
 
 /// Each document of a lawful database has a winner, something is held of it, and each body that is

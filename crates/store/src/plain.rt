@@ -4,17 +4,20 @@ ghost use Rattle.std.specs.Ordering.{nat_cmp, eq_by_cmp};
 ghost use Rattle.std.specs.Cmp.Lexicographic.{slice_cmp};
 
 use crate::database_name::DbName;
+use crate::locals::Locals;
 use crate::write::Write;
 use couch_json::Got;
 use policy::Security;
 use std::alloc::Global;
 use tree::{DocId, History};
 
-/// A database of a plain store: the writes that it accepted, in order, and its security object.
+/// A database of a plain store: the writes that it accepted, in order, its security object, and its
+/// local documents.
 #[derive(Drop)]
 pub(crate) struct PlainDatabase {
     pub(crate) writes: Vec<Write>,
     pub(crate) security: Security,
+    pub(crate) locals: Locals,
 }
 
 /// The databases of a plain store, each with its name.

@@ -4,9 +4,11 @@ ghost use Rattle.store.specs.Lawful.{AreLawful};
 ghost use Rattle.store.specs.Plain.{contents_of};
 
 use crate::database_name::DbName;
-use crate::databases::{add, append, database_of, names_of, place_of, remove, secure};
+use crate::databases::{add, append, database_of, names_of, place_of, remove, secure, write_local};
 use crate::fault::StoreFault;
 use crate::id_pages::page_by_id;
+use crate::local_document::LocalDocument;
+use crate::locals::local_of;
 use crate::page::{IdRange, PageById, PageBySeq, SeqRange};
 use crate::pages::page_by_seq;
 use crate::plain::Databases;
@@ -120,6 +122,28 @@ impl Store for PlainStore {
             return Err(StoreFault::NoDatabase);
         };
         append(alloc, &mut self.databases, at, name, writes)?;
+        Ok(())
+    }
+
+    fn local(&mut self, name: &DbName, id: &DocId) -> Result<Option<LocalDocument>, StoreFault> {
+        let alloc = *self.databases.allocator();
+        match database_of(&self.databases, name) {
+            Some(database) => Ok(local_of(alloc, &database.locals, id)?),
+            None => Err(StoreFault::NoDatabase),
+        }
+    }
+
+    fn set_local(
+        &mut self,
+        name: &DbName,
+        id: &DocId,
+        document: &LocalDocument,
+    ) -> Result<(), StoreFault> {
+        let alloc = *self.databases.allocator();
+        let Some(at) = place_of(&self.databases, name) else {
+            return Err(StoreFault::NoDatabase);
+        };
+        write_local(alloc, &mut self.databases, at, name, id, document)?;
         Ok(())
     }
 

@@ -1,9 +1,9 @@
 ghost use Rattle.std.specs.Prelude.{◌≡◌, ◌≢◌, ℕ, List, IfOk, IfErr, OnOk, Err, Some, None, is_some, true, option_map};
 ghost use Rattle.std.specs.FinMap as map;
 ghost use Rattle.store.specs.Causes.{IsCaused};
-ghost use Rattle.store.specs.Contents.{Contents, AreAcceptable, IfThere, new_database, with_security};
+ghost use Rattle.store.specs.Contents.{Contents, AreAcceptable, IfThere, local_at, new_database, with_local, with_security};
 ghost use Rattle.store.specs.Database.{DocumentWrite, history_at, with_all};
-ghost use Rattle.store.specs.Lawful.{AreLawful};
+ghost use Rattle.store.specs.Lawful.{AreLawful, IsBody};
 ghost use Rattle.store.specs.Leaving.{Answers, ChangesWhole, OnlyReads};
 ghost use Rattle.store.specs.Pages.{page_of_ids, page_by_sequence};
 ghost use Rattle.store.specs.Paging.{IsBounded, IsCounted, id_page_of, sequence_page_of};
@@ -11,6 +11,7 @@ ghost use Rattle.store.specs.Writing.{additions, writings_in};
 
 use crate::database_name::DbName;
 use crate::fault::StoreFault;
+use crate::local_document::LocalDocument;
 use crate::page::{IdRange, PageById, PageBySeq, SeqRange};
 use crate::write::Write;
 use policy::Security;
@@ -121,6 +122,30 @@ pub trait Store {
         ensures others { result ≢ Err StoreFault.Exists }
         ensures caused { IfErr result (λ fault. IsCaused (fault_count self.old) (fault_count self.new) (is_honest self.new)
             (is_honest self.new → IfThere (map.get (contents self.old) name.now) (λ db. lacks_room self.old name.now (writings_in db (additions writes.now)))) fault) }
+        ensures changes { ChangesWhole contents is_honest is_clean fault_count self.old self.new result };
+
+    /// Returns a local document, or `None` if none of this id was written. `NoDatabase` comes if and
+    /// only if there is no database of this name.
+    fn local(&mut self, name: &DbName, id: &DocId) -> Result<Option<LocalDocument>, StoreFault>
+        ensures answer { Answers is_honest fault_count self.old self.new (λ found. found)
+            (option_map (λ db. local_at db id.now) (map.get (contents self.old) name.now)) result }
+        ensures reads { OnlyReads contents is_honest is_clean fault_count lacks_room lacks_number self.old self.new };
+
+    /// Writes a local document in the place of the one of this id, whatever its number. `NoDatabase`
+    /// comes if and only if there is no database of this name; `Full` never comes.
+    ///
+    /// The caller owes that the body is an object at most 100 deep.
+    fn set_local(
+        &mut self,
+        name: &DbName,
+        id: &DocId,
+        document: &LocalDocument,
+    ) -> Result<(), StoreFault>
+        requires { is_honest self.old → IfThere (map.get (contents self.old) name.now) (λ _. IsBody document.now.body) }
+        ensures ok { is_honest self.new → OnOk result (option_map (λ db. map.insert (contents self.old) name.now (with_local db id.now document.now)) (map.get (contents self.old) name.now) ≡ Some (contents self.new)) }
+        ensures missing { is_honest self.new → result ≡ Err StoreFault.NoDatabase → map.get (contents self.old) name.now ≡ None }
+        ensures others { result ≢ Err StoreFault.Exists }
+        ensures caused { IfErr result (λ fault. IsCaused (fault_count self.old) (fault_count self.new) (is_honest self.new) ⊥ fault) }
         ensures changes { ChangesWhole contents is_honest is_clean fault_count self.old self.new result };
 
     /// Counts how many faults of what it stands on the store has met; it stays at 2^64 - 1.

@@ -1,7 +1,8 @@
-use Rattle.std.proofs.Common.{◌<◌, length, rules}
+use Rattle.std.proofs.Common.{◌<◌, ap, length, rules}
 use Rattle.store.specs.Contents.{with_security}
 use Rattle.store.specs.Writing.{additions}
-use Rattle.store.proofs.Contents.{content-with_security}
+use Rattle.store.specs.Plain.{locals_of}
+use Rattle.store.proofs.Contents.{content-with_security, with_locals}
 use Rattle.store.proofs.Plains.{changed_at, is_first, place_within}
 use Rattle.store.proofs.databases.secure.Goals as goal
 
@@ -14,5 +15,5 @@ index_mut-requires c =
 pub returns : goal.returns
 returns c =
     let e = c.index_mut.result.now in
-    changed_at c.args.databases.now.items c.args.at c.args.name.now e (record { writes = e.1.writes; security = c.args.security }) (λ db. with_security db c.args.security) c.requires
-    c.index_mut.ensures.value (content-with_security e.1.security c.args.security (additions e.1.writes.items))
+    changed_at c.args.databases.now.items c.args.at c.args.name.now e (record { writes = e.1.writes; security = c.args.security; locals = e.1.locals }) (λ db. with_security db c.args.security) c.requires
+    c.index_mut.ensures.value (ap (λ db. with_locals db (locals_of e.1.locals.entries)) (content-with_security e.1.security c.args.security (additions e.1.writes.items)))

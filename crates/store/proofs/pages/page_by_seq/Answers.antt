@@ -1,9 +1,9 @@
 use Rattle.std.proofs.Common.{◌≡◌, ◌<◌, [], filter, length, nat_lt, is_some, sym, ap, ◌∙◌, rules, arith}
-use Rattle.couch_json.specs.Value.{null}
+use Rattle.std.proofs.lemmas.List.{length-map}
 use Rattle.store.specs.Pages.{document_counts, if_counted, last_sequence, up_to_limit, page_with, rows_of}
 use Rattle.store.specs.Paging.{sequence_rows}
 use Rattle.store.specs.Plain.{gathered_after}
-use Rattle.store.specs.Writing.{additions}
+use Rattle.store.specs.Writing.{addition_of, additions}
 use Rattle.store.proofs.Bounds.{page_bounded}
 use Rattle.store.proofs.Pagings.{counts_below, is_counted, page_made, smaller}
 use Rattle.store.proofs.pages.page_by_seq.Goals as goal
@@ -28,8 +28,9 @@ returns-clause-bounded c =
     let n : c.len-sequence.result ≡ length c.args.writes.now.items = search rules in
     let lt : length c.args.writes.now.items < 9223372036854775808 = search rules in
     let fewer : length c.in_ok-documents.documents.items < 9223372036854775808 = search rules in
+    let long : length (additions c.args.writes.now.items) ≡ length c.args.writes.now.items = length-map c.args.writes.now.items addition_of in
     let page = returns-clause-page c ∙ ap (λ k. page_with c.args.range.now k (gathered_after 0 [] (additions c.args.writes.now.items))) (sym n) in
-    let h = page_bounded c.args.range.now (record { writes = c.args.writes.now; security = null }) c.find_last_sequence-last_seq.result c.len-sequence.result c.rows_after-rows.result.items c.counts_of.result n page in
+    let h = page_bounded c.args.range.now (additions c.args.writes.now.items) c.find_last_sequence-last_seq.result c.len-sequence.result c.rows_after-rows.result.items c.counts_of.result (n ∙ sym long) page in
     record {
       sequence = omega (arith, n, lt);
       last = omega (arith, h.0, lt);
