@@ -7,3 +7,4 @@ pub mod DifferencesAsked
 pub mod OpenRevisions
 pub mod Path
 pub mod Shown
+pub mod Local

@@ -18,7 +18,8 @@ use Rattle.write.specs.Bulk.{DocumentOutcome, after, as_outcome, document_outcom
 use Rattle.write.specs.Document.{id_in, sent_in}
 use Rattle.write.specs.Terms.{Terms}
 use Rattle.write.specs.declared.document.Sent.{Sent}
-use Rattle.write.proofs.Bodies.{IsBody, sent_in-Some}
+use Rattle.store.specs.Lawful.{IsBody}
+use Rattle.write.proofs.Bodies.{sent_in-Some}
 use Rattle.write.proofs.Fitting.{edit_placed}
 use Rattle.write.proofs.Names.{as_outcome-Some}
 use Rattle.write.proofs.Outcomes.{IsEdit, IsReplicated, edit_accepted, replicated_accepted}

@@ -6,6 +6,7 @@ use Rattle.couch_json.specs.Value.{Value, null, truth, whole, text, array, objec
 use Rattle.couch_json.specs.View.{view, members_view}
 use Rattle.couch_json.specs.declared.value.Json.{Json}
 use Rattle.store.specs.Contents.{max_body_depth}
+use Rattle.store.specs.Lawful.{IsBody}
 use Rattle.tree.specs.Revision.{Revision}
 use Rattle.write.specs.Document.{are_allowed, body_for, body_if, body_in, is_body_for, is_special, sent_in, sent_with, without_special, words_in}
 use Rattle.write.specs.declared.document.Sent.{Sent}
@@ -26,11 +27,6 @@ members_view-filter [] = refl
 members_view-filter (e ∷ es) =
     member-cond (is_special (string_bytes e.0)) e (filter is_plain es) (without_special (members_view es)) (members_view-filter es)
 
--- an object that is not nested too deep
-pub record IsBody (v : Value) : Type 0 where
-  pub object : is_object v ≡ true
-  pub shallow : depth v ≤ max_body_depth
-
 within : (allowed : Bool) (n : ℕ) → (allowed && nat_le n max_body_depth) ≡ true → n ≤ max_body_depth
 within true n h = grind (arith, nat_tests)
 within false n h = absurd cc
@@ -39,7 +35,7 @@ taken : (test : Bool) (v body : Value) → cond test (Some v) None ≡ Some body
 taken true v body h = (cc, refl)
 taken false v body h = absurd cc
 
-body_if-Some : (allowed : Bool) (v body : Value) → is_object v ≡ true → body_if (allowed && nat_le (depth v) max_body_depth) v ≡ Some body → IsBody body
+pub body_if-Some : (allowed : Bool) (v body : Value) → is_object v ≡ true → body_if (allowed && nat_le (depth v) max_body_depth) v ≡ Some body → IsBody body
 body_if-Some allowed v body is_obj h =
     let (same, test) = taken (allowed && nat_le (depth v) max_body_depth) v body h in
     rw same (record { object = is_obj; shallow = within allowed (depth v) test })

@@ -1,4 +1,5 @@
 pub mod Bodies
+pub mod LocalBodies
 pub mod Extending
 pub mod Fitting
 pub mod Acceptances

@@ -1,5 +1,6 @@
 pub mod Refusing
 pub mod Document
+pub mod LocalWrites
 pub mod AncestryRead
 pub mod Terms
 pub mod TermsRead

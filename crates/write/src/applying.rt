@@ -13,7 +13,7 @@ use store::Store;
 ///
 /// The caller owes that the change may be made still: that what the store holds under the
 /// database's name is what it held when the plan was made. At `Ok` the database has the writes at
-/// its end, or the security object; at `Err` nothing has changed. `Store(NoDatabase)` comes exactly
+/// its end, or the security object, or the local document; at `Err` nothing has changed. `Store(NoDatabase)` comes exactly
 /// where there is no database of this name.
 pub fn apply<S: Store>(store: &mut S, planned: Planned) -> Result<(), WriteFault>
     requires { S.is_honest store.old → IfThere (map.get (S.contents store.old) planned.database) (λ d. MayBeMade planned.changes d) }
@@ -32,6 +32,7 @@ pub fn apply<S: Store>(store: &mut S, planned: Planned) -> Result<(), WriteFault
     match changes {
         Changes::Writes(writes) => store.commit(&database, &writes)?,
         Changes::Security(security) => store.set_security(&database, &security)?,
+        Changes::Local(id, document) => store.set_local(&database, &id, &document)?,
     }
     Ok(())
 }

@@ -11,7 +11,7 @@ use std::collections::BTreeMap;
 use tree::{Body, DocId, IdFault, Rev};
 
 /// The most that a body may nest.
-const MAX_BODY_DEPTH: usize = 100;
+pub(crate) const MAX_BODY_DEPTH: usize = 100;
 
 /// What a document says besides its id and its history.
 #[derive(Drop)]
@@ -112,7 +112,8 @@ fn is_allowed(name: &str) -> bool
     !is_special(name) || is_document_member(name)
 }
 
-fn is_special(name: &str) -> bool
+/// Tells whether a member is special, by its name.
+pub(crate) fn is_special(name: &str) -> bool
     ensures { result ≡ is_special name.now }
 {
     name.as_bytes().starts_with(b"_")
@@ -124,7 +125,8 @@ fn is_document_member(name: &str) -> bool
     name == "_id" || name == "_rev" || name == "_deleted" || name == "_revisions"
 }
 
-fn without_special(members: BTreeMap<String, Json>) -> BTreeMap<String, Json>
+/// Returns the members that are not special.
+pub(crate) fn without_special(members: BTreeMap<String, Json>) -> BTreeMap<String, Json>
     ensures { members_view result.entries ≡ without_special (members_view members.entries) }
 {
     let mut members = members;
@@ -133,7 +135,7 @@ fn without_special(members: BTreeMap<String, Json>) -> BTreeMap<String, Json>
 }
 
 /// Tells whether `_id`, where it is given, is the text of the id.
-fn fits_id(id: &DocId, value: Option<&Json>) -> bool
+pub(crate) fn fits_id(id: &DocId, value: Option<&Json>) -> bool
     ensures { result ≡ fits_id id.now (option_map (λ v. view v.now) value.entry) }
 {
     let Some(value) = value else {

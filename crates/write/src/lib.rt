@@ -1,7 +1,7 @@
 //! Writing: what becomes of an edit, and the plan that makes it so (CouchDB manual,
 //! api/document/common and api/database/bulk-api).
 //!
-//! [`edit`], [`replicated`] and [`bulk`] plan, and [`apply`] changes the store. Rows of the tests:
+//! [`edit`], [`replicated`], [`bulk`] and [`put_local`] plan, and [`apply`] changes the store. Rows of the tests:
 //!
 //! ```rows
 //! anybody PUT /db/a {"v":1} => 201 {"id":"a","ok":true,"rev":"<r1>"}
@@ -19,6 +19,7 @@ mod editing;
 mod fault;
 mod histories;
 pub mod laws;
+mod local_writes;
 mod planned;
 mod planning;
 mod replicating;
@@ -29,6 +30,7 @@ pub use applying::apply;
 pub use bulk_writes::bulk;
 pub use editing::edit;
 pub use fault::WriteFault;
+pub use local_writes::put_local;
 pub use planned::{Changes, DocumentResult, Outcome, Planned};
 pub use replicating::replicated;
 pub use securing::put_security;

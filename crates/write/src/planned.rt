@@ -1,7 +1,7 @@
 use crate::fault::WriteFault;
 use policy::Security;
-use store::{DbName, Write};
-use tree::Rev;
+use store::{DbName, LocalDocument, Write};
+use tree::{DocId, Rev};
 
 /// A change of a database that was found in order and is not made yet.
 #[derive(Drop)]
@@ -10,7 +10,7 @@ pub struct Planned {
     pub database: DbName,
     /// What is changed in it.
     pub changes: Changes,
-    /// What became of each document, in order; none for a security object.
+    /// What became of each document, in order; none for a security object or a local document.
     pub results: Vec<DocumentResult>,
 }
 
@@ -21,6 +21,8 @@ pub enum Changes {
     Writes(Vec<Write>),
     /// Its security object.
     Security(Security),
+    /// A local document, by its id.
+    Local(DocId, LocalDocument),
 }
 
 /// A document that was to be written, and what became of it.
