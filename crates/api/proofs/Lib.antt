@@ -1,3 +1,4 @@
 pub mod Listed
 pub mod Counts
 pub mod Elements
+pub mod Ids

@@ -37,14 +37,10 @@ name_if text = text_if (is_database_name text) text
 abbrev pub database_name_in : List ℕ → Option (List ℕ)
 database_name_in path = option_and_then (λ text. name_if text) (decoded_at 1 path)
 
--- an id of a document that is served: no local one
-abbrev pub is_served_id : List ℕ → Bool
-is_served_id text = is_document_id text && not (is_local_id text)
-
 abbrev pub id_if : List ℕ → Option (List ℕ)
-id_if text = text_if (is_served_id text) text
+id_if text = text_if (is_document_id text) text
 
--- two texts with a slash between them, as in the id of a design document
+-- two texts with a slash between them, as in the id of a design document or of a local one
 abbrev pub joined_by_slash : Option (List ℕ) → Option (List ℕ) → Option (List ℕ)
 joined_by_slash first second = option_and_then (λ a. option_map (λ b. a ++ slash ∷ b) second) first
 
@@ -56,6 +52,14 @@ id_text_by (Some part) path = joined_by_slash (decoded_at 2 path) (decoded_at 3 
 abbrev pub id_text_in : List ℕ → Option (List ℕ)
 id_text_in path = id_text_by (part_at 3 path) path
 
--- the id of the document that a path leads to, where it is one
+-- the id that a path names behind the database, where it is one
+abbrev pub named_id_in : List ℕ → Option (List ℕ)
+named_id_in path = option_and_then (λ text. id_if text) (id_text_in path)
+
+-- the id of the document that a path leads to, where it is one, and no local one
 abbrev pub document_id_in : List ℕ → Option (List ℕ)
-document_id_in path = option_and_then (λ text. id_if text) (id_text_in path)
+document_id_in path = option_and_then (λ id. text_if (not (is_local_id id)) id) (named_id_in path)
+
+-- the id of the local document that a path leads to, where it is one
+abbrev pub local_id_in : List ℕ → Option (List ℕ)
+local_id_in path = option_and_then (λ id. text_if (is_local_id id) id) (named_id_in path)

@@ -1,14 +1,17 @@
 -- Which page of the server a path leads to.
--- CouchDB manual, api/server/common, api/database and api/document/common, for the paths; which of two routes a path takes is what matchit's own definition says.
-use Rattle.std.specs.Prelude.{ℕ, List, [], ◌∷◌, Option, option_map, Result, Ok, Err, codes}
+-- CouchDB manual, api/server/common, api/database, api/document/common and api/local, for the paths; which of two routes a path takes is what matchit's own definition says.
+use Rattle.std.specs.Prelude.{ℕ, Bool, true, false, List, [], ◌∷◌, Option, Some, None, option_map, Result, Ok, Err, codes, nat_eq}
+use Rattle.std.specs.List.{starts_with}
 use Rattle.matchit.specs.Order.{placed}
 use Rattle.matchit.specs.Rows.{RowsOf}
 use Rattle.matchit.specs.Route.{Scan, parse_route}
 use Rattle.matchit.specs.Router.{RouteOf, route_from}
 use Rattle.matchit.specs.Seek.{first}
 use Rattle.matchit.specs.declared.error.InsertError.{InsertError}
+use Rattle.percent_encoding.specs.Percent.{percent_decode}
+use Rattle.api.specs.Paths.{part_at}
 use Rattle.api.specs.declared.page.Page.{Page}
-use Rattle.api.specs.declared.page.Page.TheVariants.{Welcome, AllDatabases, Database, Security, BulkDocuments, AllDocuments, Changes, Differences, Document}
+use Rattle.api.specs.declared.page.Page.TheVariants.{Welcome, AllDatabases, Database, Security, BulkDocuments, AllDocuments, Changes, Differences, Document, LocalDocument}
 
 -- the routes of the server, each with its page
 abbrev pub routes : List (List ℕ × Page)
@@ -23,6 +26,7 @@ routes =
     ∷ (codes "/{db}/_changes", Changes)
     ∷ (codes "/{db}/_revs_diff", Differences)
     ∷ (codes "/{db}/_design/{name}", Document)
+    ∷ (codes "/{db}/_local/{name}", LocalDocument)
     ∷ (codes "/{db}/{id}", Document)
     ∷ []
 
@@ -44,6 +48,20 @@ with_routes (route ∷ rest) rows = with_routes rest (with_route route rows)
 unfoldable pub table : Table
 table = with_routes routes []
 
+-- the part stands for the id of a local document, or for one that only begins so
+abbrev pub begins_local : Option (List ℕ) → Bool
+begins_local None = false
+begins_local (Some part) = starts_with nat_eq (percent_decode part) (codes "_local/")
+
+-- the page of a document is that of a local one where the document's id begins so
+abbrev pub document_page : Bool → Page
+document_page true = LocalDocument
+document_page false = Document
+
+abbrev pub page_by : List ℕ → Page → Page
+page_by path Document = document_page (begins_local (part_at 2 path))
+page_by path page = page
+
 -- the page that a path leads to
 abbrev pub page_of : List ℕ → Option Page
-page_of path = option_map (λ route. route.value) (first table path)
+page_of path = option_map (λ route. page_by path route.value) (first table path)

@@ -19,4 +19,6 @@ pub enum Page {
     Differences,
     /// `/{db}/{id}` and `/{db}/_design/{name}`: a document.
     Document,
+    /// `/{db}/_local/{name}`, and `/{db}/{id}` where the id begins so: a local document.
+    LocalDocument,
 }

@@ -3,7 +3,7 @@
 ghost use Rattle.std.specs.Prelude.{◌≡◌, ◌++◌, ◌∷◌, IfOk, false, option_map, option_copied, string_bytes};
 ghost use Rattle.tree.specs.DocumentId.{is_local_id};
 ghost use Rattle.api.specs.Saying.{Says};
-ghost use Rattle.api.specs.Paths.{database_name_in, decoded_text, decoded_at, document_id_in, id_text_in, part_at, slash, text_if};
+ghost use Rattle.api.specs.Paths.{database_name_in, decoded_text, decoded_at, document_id_in, id_text_in, local_id_in, named_id_in, part_at, slash, text_if};
 ghost use Rattle.api.specs.Refusals.{there_or};
 ghost use Rattle.std.specs.Str.{is_utf8};
 
@@ -30,23 +30,41 @@ pub fn database_name(alloc: Global, path: &str) -> Result<DbName, RequestFault>
     }
 }
 
-/// Reads the id of the document that a path leads to. Local documents are not served yet.
+/// Reads the id of the document that a path leads to, which is no local one.
 pub fn document_id(alloc: Global, path: &str) -> Result<DocId, RequestFault>
     ensures says { Says (λ id. id) result (there_or Refusal.Id (document_id_in path.now)) }
     ensures plain { IfOk result (λ id. is_local_id id ≡ false) }
 {
-    let Some(text) = id_text(alloc, path)? else {
-        return Err(RequestFault::Refused(Refusal::Id));
-    };
-    let id = match DocId::new(alloc, text.as_str()) {
-        Ok(id) => id,
-        Err(IdFault::Shape) => return Err(RequestFault::Refused(Refusal::Id)),
-        Err(IdFault::Memory) => return Err(RequestFault::Memory),
-    };
+    let id = named_id(alloc, path)?;
     if id.is_local() {
         return Err(RequestFault::Refused(Refusal::Id));
     }
     Ok(id)
+}
+
+/// Reads the id of the local document that a path leads to.
+pub fn local_id(alloc: Global, path: &str) -> Result<DocId, RequestFault>
+    ensures { Says (λ id. id) result (there_or Refusal.Id (local_id_in path.now)) }
+{
+    let id = named_id(alloc, path)?;
+    if !id.is_local() {
+        return Err(RequestFault::Refused(Refusal::Id));
+    }
+    Ok(id)
+}
+
+/// Reads the id that a path names behind the database.
+fn named_id(alloc: Global, path: &str) -> Result<DocId, RequestFault>
+    ensures { Says (λ id. id) result (there_or Refusal.Id (named_id_in path.now)) }
+{
+    let Some(text) = id_text(alloc, path)? else {
+        return Err(RequestFault::Refused(Refusal::Id));
+    };
+    match DocId::new(alloc, text.as_str()) {
+        Ok(id) => Ok(id),
+        Err(IdFault::Shape) => Err(RequestFault::Refused(Refusal::Id)),
+        Err(IdFault::Memory) => Err(RequestFault::Memory),
+    }
 }
 
 /// Reads the text that names a document: what stands behind the database's name, one part of the
@@ -87,7 +105,7 @@ fn decoded_part(alloc: Global, path: &str, place: usize) -> Got<Option<String>>
 }
 
 /// Finds what stands between the slashes of a path, at a place counted from 0.
-fn part(path: &[u8], place: usize) -> Option<&[u8]>
+pub(crate) fn part(path: &[u8], place: usize) -> Option<&[u8]>
     ensures { option_copied result ≡ part_at place path.now }
 {
     path.split(|byte| *byte == b'/').nth(place)

@@ -1,14 +1,18 @@
-ghost use Rattle.std.specs.Prelude.{◌≡◌, [], IfOk, OnOk, map};
-ghost use Rattle.api.specs.Routing.{page_of, routes, table, with_route, with_routes};
+ghost use Rattle.std.specs.Prelude.{◌≡◌, [], IfOk, OnOk, map, nat_eq, option_copied};
+ghost use Rattle.std.specs.List.{starts_with};
+ghost use Rattle.api.specs.Routing.{begins_local, page_by, page_of, routes, table, with_route, with_routes};
+ghost use Rattle.percent_encoding.specs.Iter.{decoded_bytes};
 
 use crate::page::Page;
+use crate::path::part;
 use couch_json::{Got, NoMemory};
 use matchit::{InsertError, Router};
+use percent_encoding::{PercentDecode, percent_decode};
 use std::alloc::Global;
 use std::marker::Model;
 
 /// The paths that the server has, each with its page.
-const ROUTES: [(&str, Page); 11] = [
+const ROUTES: [(&str, Page); 12] = [
     ("/", Page::Welcome),
     ("/_all_dbs", Page::AllDatabases),
     ("/{db}", Page::Database),
@@ -19,6 +23,7 @@ const ROUTES: [(&str, Page); 11] = [
     ("/{db}/_changes", Page::Changes),
     ("/{db}/_revs_diff", Page::Differences),
     ("/{db}/_design/{name}", Page::Document),
+    ("/{db}/_local/{name}", Page::LocalDocument),
     ("/{db}/{id}", Page::Document),
 ];
 
@@ -52,10 +57,45 @@ impl Routes {
         ensures { result ≡ page_of path.now }
     {
         match self.router.at(path) {
-            Ok(found) => Some(*found.value),
+            Ok(found) => Some(page_by(path, *found.value)),
             Err(_) => None,
         }
     }
+}
+
+/// Finds the page of a route on this path: that of a document is the one of a local document where
+/// its id begins so.
+fn page_by(path: &str, page: Page) -> Page
+    ensures { result ≡ page_by path.now page }
+{
+    match page {
+        Page::Document if begins_local(part(path.as_bytes(), 2)) => Page::LocalDocument,
+        _ => page,
+    }
+}
+
+/// Tells whether a part of a path stands for a text that begins as the id of a local document.
+fn begins_local(part: Option<&[u8]>) -> bool
+    ensures { result ≡ begins_local (option_copied part.entry) }
+{
+    match part {
+        Some(part) => begins_with(percent_decode(part), b"_local/"),
+        None => false,
+    }
+}
+
+/// Tells whether what is decoded begins with these bytes.
+fn begins_with(decoded: PercentDecode<'_>, front: &[u8]) -> bool
+    ensures { result ≡ starts_with nat_eq (decoded_bytes decoded.entry) front.now }
+{
+    let mut decoded = decoded;
+    for wanted in front {
+        match decoded.next() {
+            Some(byte) if byte == *wanted => {}
+            _ => return false,
+        }
+    }
+    true
 }
 
 /// Builds a router with these routes.

@@ -1,5 +1,5 @@
 -- Each denial names the first rule that refuses, and is told to the caller as it should be.
-use Rattle.std.proofs.Common.{◌≡◌, ◌≢◌, cond, arith, ℕ, List, true, false, is_none, Option, Some, None, Result, Ok, Err, ◌⊎◌, inl, inr, refl, ap, sym, ◌∙◌, subst}
+use Rattle.std.proofs.Common.{◌≡◌, ◌≢◌, cond, arith, ℕ, List, Bool, true, false, is_none, option_map, Option, Some, None, Result, Ok, Err, ◌⊎◌, inl, inr, refl, ap, sym, ◌∙◌, subst}
 use Rattle.std.specs.Prelude.{⊤, map}
 use Rattle.std.specs.FinMap.{get}
 use Rattle.auth.specs.Callers.{Configuration, Identity, caller_of}
@@ -16,10 +16,13 @@ use Rattle.policy.specs.declared.rule.Rule.{Rule}
 use Rattle.policy.specs.declared.rule.Rule.TheVariants.{ProxyToken}
 use Rattle.read.specs.declared.fault.ReadFault.{ReadFault}
 use Rattle.read.specs.declared.fault.ReadFault.TheVariants as read
-use Rattle.store.specs.Contents.{Contents}
+use Rattle.read.specs.Local.{local_document}
+use Rattle.store.specs.Contents.{Contents, local_at}
 use Rattle.store.specs.Database.{Database, DocumentWrite, history_at}
+use Rattle.store.specs.declared.local_document.LocalDocument.{LocalDocument}
 use Rattle.tree.specs.Revision.{Revision}
 use Rattle.write.specs.Admission.{admission}
+use Rattle.write.specs.LocalWrites.{local_body, local_by, local_outcome, local_rev, names_stored, next_number, numbered}
 use Rattle.write.specs.Planning.{security_outcome}
 use Rattle.write.specs.Terms.{terms_in}
 use Rattle.write.specs.declared.fault.WriteFault.{WriteFault}
@@ -28,21 +31,21 @@ use Rattle.write.proofs.Outcomes.{edit_denied}
 use Rattle.api.specs.Asking.{asker, body_of, denial, identity_or_refusal, method_of, pair_of, plain, value_or_refusal}
 use Rattle.api.specs.Bulk.{bulk_in}
 use Rattle.api.specs.Listings.{changes_query, differences_in, listing_query}
-use Rattle.api.specs.Paths.{database_name_in, document_id_in}
+use Rattle.api.specs.Paths.{database_name_in, document_id_in, local_id_in}
 use Rattle.api.specs.Queries.{document_query, revision_query}
 use Rattle.api.specs.Refusals.{name_of_rule, next, rule_of, status_of, there_or, true_or}
 use Rattle.api.specs.Routing.{page_of}
 use Rattle.api.specs.declared.method.RequestMethod.{RequestMethod}
 use Rattle.api.specs.declared.method.RequestMethod.TheVariants.{Get, Put, Post, Delete}
 use Rattle.api.specs.declared.page.Page.{Page}
-use Rattle.api.specs.declared.page.Page.TheVariants.{Welcome, AllDatabases, Database as DatabasePage, Security, BulkDocuments, AllDocuments, Changes, Differences, Document}
+use Rattle.api.specs.declared.page.Page.TheVariants.{Welcome, AllDatabases, Database as DatabasePage, Security, BulkDocuments, AllDocuments, Changes, Differences, Document, LocalDocument as LocalDocumentPage}
 use Rattle.api.specs.declared.refusal.Refusal.{Refusal}
 use Rattle.api.specs.declared.refusal.Refusal.TheVariants.{Unauthorized, Forbidden, Path, Method, DatabaseName, NoDatabase, Exists, Id, Query, Syntax, Body, BadDocument, BadHistory, Conflict, Generation, Missing, Deleted}
 use Rattle.node.specs.Answer.{Task, administration, permission, created, entry, admin_task, judgement, listed, database_name_of, task_outcome, removed, page_outcome, task_of, told, worked, work_task}
 use Rattle.node.proofs.Tasks.{named, same, there, went}
 use Rattle.node.specs.Denials.{IsDenied, IsDue, IsToldRule, IsUnvouched, rule_denied_by}
 use Rattle.node.specs.Work.{Work, read_work}
-use Rattle.node.specs.Works.{change_list, database_read, difference_list, document_deleted, document_list, document_read, document_written, documents_written, deletion, edit_asked, edit_done, found, read_by, security_read, security_set, security_written}
+use Rattle.node.specs.Works.{change_list, database_read, difference_list, document_deleted, document_list, document_read, document_written, documents_written, deletion, edit_asked, edit_done, found, local_read, local_set, local_written, read_by, security_read, security_set, security_written}
 
 -- ---- refusals of steps
 
@@ -209,6 +212,40 @@ fair_documents a m caller name db =
     (λ u is. fair_next a m caller (body_of m) _ (fair_body a m caller)
     (λ v said. fair_next a m caller (there_or Body (bulk_in v)) _ (fair_there a m caller Body (bulk_in v) refl) (λ bulk asked. fair_ok a m caller _)))
 
+fair_local : (a : Contents) (m : Message) (caller : Identity) (db : Database) → AreFair a m caller (local_read m db)
+fair_local a m caller db =
+    fair_next a m caller (there_or Id (local_id_in m.path)) _ (fair_there a m caller Id (local_id_in m.path) refl)
+    (λ id is. fair_next a m caller (plain m) _ (fair_plain a m caller) (λ u plain. fair_found a m caller (local_document id db)))
+
+-- no rule refuses a local document
+undenied_by : (stored : Option LocalDocument) (names : Option Bool) (body : Option Value) (rule : Rule) → local_by stored names body ≢ Err (write.Denied rule)
+undenied_by stored None body rule e = cc
+undenied_by stored (Some names) None rule e = cc
+undenied_by stored (Some false) (Some body) rule e = cc
+undenied_by stored (Some true) (Some body) rule e = by (next_number stored) e
+  where
+    by : (o : Option ℕ) → numbered o body ≡ Err (write.Denied rule) → ⊥
+    by None h = cc
+    by (Some n) h = cc
+
+fair_stored : (a : Contents) (m : Message) (caller : Identity) (id : List ℕ) (r : Result LocalDocument WriteFault) → ((rule : Rule) → r ≢ Err (write.Denied rule)) → AreFair a m caller (local_set caller id r)
+fair_stored a m caller id (Ok d) due = fair_ok a m caller _
+fair_stored a m caller id (Err write.BadDocument) due = fair_other a m caller BadDocument refl
+fair_stored a m caller id (Err (write.Denied rule)) due = absurd (due rule refl)
+fair_stored a m caller id (Err write.BadHistory) due = fair_other a m caller BadHistory refl
+fair_stored a m caller id (Err write.Conflict) due = fair_other a m caller Conflict refl
+fair_stored a m caller id (Err write.Generation) due = fair_other a m caller Generation refl
+fair_stored a m caller id (Err (write.Store fault)) due = fair_other a m caller Conflict refl
+fair_stored a m caller id (Err write.Memory) due = fair_other a m caller Conflict refl
+
+fair_storing : (a : Contents) (m : Message) (caller : Identity) (db : Database) → AreFair a m caller (local_written caller m db)
+fair_storing a m caller db =
+    fair_next a m caller (there_or Id (local_id_in m.path)) _ (fair_there a m caller Id (local_id_in m.path) refl)
+    (λ id is. fair_next a m caller (plain m) _ (fair_plain a m caller)
+    (λ u plain. fair_next a m caller (body_of m) _ (fair_body a m caller)
+    (λ v said. fair_stored a m caller id (local_outcome (local_at db id) id v)
+    (λ rule. undenied_by (local_at db id) (option_map (λ rev. names_stored (local_at db id) rev) (local_rev id v)) (local_body v) rule))))
+
 -- ---- what is asked
 
 abbrev IsFairTask : Contents → Message → Identity → Task → Type 0
@@ -249,6 +286,8 @@ fair_task a Differences (Some Post) caller m task e = fair_work a m caller Read 
 fair_task a Document (Some Get) caller m task e = fair_work a m caller Read (λ name. read_work (document_read m)) task (λ name db place. fair_read a m caller (document_read m) db (fair_document a m caller db)) e
 fair_task a Document (Some Put) caller m task e = fair_work a m caller WriteDocument (λ name. document_written caller m name) task (λ name db place. fair_writing a m caller name db place) e
 fair_task a Document (Some Delete) caller m task e = fair_work a m caller WriteDocument (λ name. document_deleted caller m name) task (λ name db place. fair_deleting a m caller name db place) e
+fair_task a LocalDocumentPage (Some Get) caller m task e = fair_work a m caller Read (λ name. read_work (local_read m)) task (λ name db place. fair_read a m caller (local_read m) db (fair_local a m caller db)) e
+fair_task a LocalDocumentPage (Some Put) caller m task e = fair_work a m caller Read (λ name. local_written caller m) task (λ name db place. fair_storing a m caller db) e
 fair_task a page method caller m task e = absurd cc
 
 fair_named : (a : Contents) (m : Message) (caller : Identity) → AreFair a m caller (database_name_of m)
@@ -278,6 +317,8 @@ fair_page a Differences (Some Post) caller m = fair_work_asked a m caller Read _
 fair_page a Document (Some Get) caller m = fair_work_asked a m caller Read _
 fair_page a Document (Some Put) caller m = fair_work_asked a m caller WriteDocument _
 fair_page a Document (Some Delete) caller m = fair_work_asked a m caller WriteDocument _
+fair_page a LocalDocumentPage (Some Get) caller m = fair_work_asked a m caller Read _
+fair_page a LocalDocumentPage (Some Put) caller m = fair_work_asked a m caller Read _
 fair_page a page method caller m = fair_other a m caller Method refl
 
 -- ---- what comes of it

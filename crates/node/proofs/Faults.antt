@@ -13,13 +13,13 @@ use Rattle.store.specs.declared.store.Store.{Ghosts}
 use Rattle.write.specs.Planning.{LacksRoomFor, database_after}
 use Rattle.write.specs.Refusing.{Refuses}
 use Rattle.write.specs.declared.planned.Changes.{Changes}
-use Rattle.write.specs.declared.planned.Changes.TheVariants.{Writes, Security}
+use Rattle.write.specs.declared.planned.Changes.TheVariants.{Local, Writes, Security}
 use Rattle.write.specs.declared.fault.WriteFault.{WriteFault}
 use Rattle.write.specs.declared.fault.WriteFault.TheVariants as write
 use Rattle.node.specs.Answer.{Change, creation, inside, kept, removal, with_change}
 use Rattle.node.specs.Answered.{change_inside}
 use Rattle.node.specs.Causes.{Ends, EndsBefore, HasCause, LacksNumbers, stop_of_change}
-use Rattle.node.specs.Work.{appended, nothing, secured}
+use Rattle.node.specs.Work.{appended, local_put, nothing, secured}
 use Rattle.api.specs.declared.refusal.Refusal.{Refusal}
 use Rattle.node.specs.declared.stop.Stop.{Stop}
 use Rattle.node.specs.declared.stop.Stop.TheVariants.{Refused, Failed as Broken, NoRoom}
@@ -29,6 +29,7 @@ room_lacking : {S : Type 0} (g : Ghosts S) (s : S) (name : List ℕ) (changes : 
     → IfThere o (λ d. LacksRoomFor (g.lacks_room s) name changes d) → LacksNumbers g s (change_inside name changes o)
 room_lacking g s name changes None there h = absurd cc
 room_lacking g s name (Security v) (Some db) there h = absurd h
+room_lacking g s name (Local id document) (Some db) there h = absurd h
 room_lacking g s name (Writes ws) (Some db) there h = h
 
 -- a change that is not made, though there is a database, is not made for want of memory or has a cause
@@ -64,6 +65,7 @@ pub change_made : (databases after : Contents) (name : List ℕ) (changes : Chan
     → option_map (λ d. insert databases name (database_after changes d)) o ≡ Some after → after ≡ with_change (change_inside name changes o) databases
 change_made databases after name changes None is h = absurd cc
 change_made databases after name (Writes ws) (Some db) is h = let e : after ≡ insert databases name (with_all db (writings_in db (additions ws.items))) = cc in rw is e
+change_made databases after name (Local id document) (Some db) is h = let e : after ≡ insert databases name (database_after (Local id document) db) = cc in rw is e
 change_made databases after name (Security v) (Some db) is h = let e : after ≡ insert databases name (database_after (Security v) db) = cc in rw is e
 
 -- ---- after calls that only read
@@ -84,6 +86,7 @@ lacking_from g a b (removal name) reads honest h = absurd h
 lacking_from g a b (inside name nothing) reads honest h = absurd h
 lacking_from g a b (inside name (appended ws)) reads honest h = reads.room honest name ws h
 lacking_from g a b (inside name (secured security)) reads honest h = absurd h
+lacking_from g a b (inside name (local_put id document)) reads honest h = absurd h
 
 cause_from : {S : Type 0} (g : Ghosts S) (a b c : S) (change : Change) → OnlyReads g a b → g.is_honest b → HasCause g b c change → HasCause g a c change
 cause_from g a b c change reads honest (inl failed) = inl (failed_from _ _ _ reads.goes_on.counted failed)

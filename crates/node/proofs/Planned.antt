@@ -15,7 +15,7 @@ use Rattle.write.specs.Terms.{terms_in}
 use Rattle.write.specs.declared.fault.WriteFault.{WriteFault}
 use Rattle.write.specs.declared.fault.WriteFault.TheVariants as write
 use Rattle.write.specs.declared.planned.Changes.{Changes}
-use Rattle.write.specs.declared.planned.Changes.TheVariants.{Writes, Security}
+use Rattle.write.specs.declared.planned.Changes.TheVariants.{Local, Writes, Security}
 use Rattle.write.specs.declared.planned.DocumentResult.{DocumentResult}
 use Rattle.write.specs.declared.planned.Outcome.{Outcome}
 use Rattle.write.specs.declared.planned.Outcome.TheVariants.{Made}
@@ -49,6 +49,7 @@ first_told (r ∷ rs) t rev e h = let same : told_of r ≡ t = cc in ap (λ (x :
 
 effect_alone : (changes : Changes) (db : Database) (w : DocumentWrite) → writes_alone (Ok (Some w)) ≡ Ok (planned_writes db changes) → appended (w ∷ []) ≡ effect_of changes db
 effect_alone (Writes ws) db w e = let same : w ∷ [] ≡ writings_in db (additions ws.items) = cc in ap appended same
+effect_alone (Local id document) db w e = absurd (let same : w ∷ [] ≡ [] = cc in cc)
 effect_alone (Security v) db w e = absurd (let same : w ∷ [] ≡ [] = cc in cc)
 
 -- an edit comes to what is planned
@@ -68,6 +69,7 @@ edit_comes caller status id db document (Ok w) planned rev value alone plans fir
 effect_written : (changes : Changes) (db : Database) (ws : List DocumentWrite) → AreWrites changes → planned_writes db changes ≡ ws → appended ws ≡ effect_of changes db
 effect_written (Writes vs) db ws are e = ap appended (sym e)
 effect_written (Security v) db ws are e = absurd are
+effect_written (Local id document) db ws are e = absurd are
 
 -- several documents come to what is planned
 pub bulk_comes : (caller : Identity) (bulk : Bulk) (name : List ℕ) (db : Database) (value : Value) (planned : Planned)

@@ -14,7 +14,7 @@ use Rattle.store.specs.Contents.{Contents, new_database}
 use Rattle.store.specs.Database.{Database, DocumentWrite, IsLater}
 use Rattle.store.specs.Lawful.{AreLawful, IsLawful}
 use Rattle.store.proofs.Laters.{later_by_all, later_itself}
-use Rattle.store.proofs.Lawfuls.{lawful_by_all, lawful_empty, lawful_insert, lawful_remove, lawful_secured}
+use Rattle.store.proofs.Lawfuls.{lawful_by_all, lawful_empty, lawful_insert, lawful_local, lawful_remove, lawful_secured}
 use Rattle.policy.specs.Security.{closed_security}
 use Rattle.node.specs.Answer.{Change, Outcome, answer, creation, inside, judgement, kept, removal, settlement, with_change, with_effect_at}
 use Rattle.node.specs.Causes.{HasCause, LacksNumbers}
@@ -24,7 +24,7 @@ use Rattle.api.specs.Refusals.{status_of}
 use Rattle.api.specs.Routing.{page_of}
 use Rattle.node.specs.Runs.{AreServed, IsRun, IsServed, Stepped, Steps, end_of, messages_of}
 use Rattle.node.specs.Step.{IsDone, IsStep, reply_to}
-use Rattle.node.specs.Work.{Effect, appended, nothing, secured, with_effect}
+use Rattle.node.specs.Work.{Effect, appended, local_put, nothing, secured, with_effect}
 use Rattle.api.specs.declared.page.Page.TheVariants.{AllDatabases}
 use Rattle.api.specs.declared.refusal.Refusal.{Refusal}
 use Rattle.api.specs.declared.refusal.Refusal.TheVariants.{Unauthorized, Forbidden, Path, Method, DatabaseName, NoDatabase, Exists, Id, Query, Syntax, Body, BadDocument, BadHistory, Conflict, Generation, Missing, Deleted}
@@ -94,6 +94,7 @@ effect_lawful : (effect : Effect) (db : Database) → IsLawful db → Fits effec
 effect_lawful nothing db lawful fits = lawful
 effect_lawful (appended ws) db lawful fits = lawful_by_all ws db lawful fits
 effect_lawful (secured v) db lawful fits = lawful_secured db v lawful
+effect_lawful (local_put id document) db lawful fits = lawful_local db id document lawful fits
 
 change_lawful : (a : Contents) (m : Message) (change : Change) → IsMade a m change → AreLawful a → AreLawful (with_change change a)
 change_lawful a m kept made lawful = lawful
@@ -150,6 +151,7 @@ effect_later : (effect : Effect) (db : Database) → IsLater db (with_effect eff
 effect_later nothing db = later_itself db
 effect_later (appended ws) db = later_by_all ws db
 effect_later (secured v) db = record { grown = omega arith; known = λ id r h. h; unchanged = λ id h. refl }
+effect_later (local_put k document) db = record { grown = omega arith; known = λ id r h. h; unchanged = λ id h. refl }
 
 later_same : (db : Database) (o : Option Database) → o ≡ Some db → IsLaterThan db o
 later_same db o there = subst (λ (x : Option Database). IsLaterThan db x) (sym there) (later_itself db)
@@ -271,6 +273,7 @@ lacking_nothing g s (removal name) numbers room h = h
 lacking_nothing g s (inside name nothing) numbers room h = h
 lacking_nothing g s (inside name (appended ws)) numbers room h = room name ws h
 lacking_nothing g s (inside name (secured v)) numbers room h = h
+lacking_nothing g s (inside name (local_put id document)) numbers room h = h
 
 pub step_unfailing : {S : Type 0} (g : Ghosts S) (old new : S) (c : Configuration) (before : Contents) (m : Message) (reply : Reply) (after : Contents)
     → (HasFailed (g.fault_count old) (g.fault_count new) → ⊥) → (g.lacks_number old → ⊥) → ((name : List ℕ) (ws : List DocumentWrite) → g.lacks_room old name ws → ⊥)

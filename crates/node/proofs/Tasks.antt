@@ -9,10 +9,13 @@ use Rattle.policy.specs.Security.{is_security}
 use Rattle.policy.specs.Verdict.{verdict}
 use Rattle.policy.specs.declared.action.Action.{Action}
 use Rattle.policy.specs.declared.action.Action.TheVariants.{Read, WriteSecurity, WriteDocument}
-use Rattle.store.specs.Contents.{AreAcceptable, Contents}
+use Rattle.store.specs.Contents.{AreAcceptable, Contents, local_at}
 use Rattle.store.specs.Database.{Database, DocumentWrite}
-use Rattle.store.specs.Lawful.{IsLawful}
+use Rattle.store.specs.Lawful.{IsBody, IsLawful}
+use Rattle.store.specs.declared.local_document.LocalDocument.{LocalDocument}
+use Rattle.write.specs.LocalWrites.{local_outcome}
 use Rattle.write.specs.Planning.{security_outcome}
+use Rattle.write.proofs.LocalBodies.{local_has_body}
 use Rattle.write.specs.Terms.{Terms, terms_in}
 use Rattle.write.specs.declared.fault.WriteFault.{WriteFault}
 use Rattle.write.specs.Admission.{admission}
@@ -24,16 +27,16 @@ use Rattle.api.specs.Routing.{page_of}
 use Rattle.write.specs.declared.fault.WriteFault.TheVariants.{BadDocument}
 use Rattle.node.specs.Answer.{Change, Outcome, Task, administration, permission, change_at, created, creation, entry, admin_task, inside, judgement, kept, listed, database_name_of, outcome_in, task_outcome, removal, removed, page_outcome, task_of, told, welcome, worked, work_task}
 use Rattle.node.specs.Effects.{Fits}
-use Rattle.api.specs.Paths.{database_name_in}
-use Rattle.node.specs.Work.{Done, Effect, Work, appended, nothing, read_work, secured, value_done}
+use Rattle.api.specs.Paths.{database_name_in, local_id_in}
+use Rattle.node.specs.Work.{Done, Effect, Work, appended, local_put, nothing, read_work, secured, value_done}
 use Rattle.api.specs.Refusals.{next, there_or, true_or}
-use Rattle.node.specs.Works.{change_list, database_read, difference_list, document_deleted, document_list, document_read, document_written, documents_written, deletion, done, edit_asked, bulk_written, edit_done, edit_in, security_read, security_set, security_written}
+use Rattle.node.specs.Works.{change_list, database_read, difference_list, document_deleted, document_list, document_read, document_written, documents_written, deletion, done, edit_asked, bulk_written, edit_done, edit_in, local_read, local_set, local_written, security_read, security_set, security_written}
 use Rattle.api.specs.declared.method.RequestMethod.{RequestMethod}
 use Rattle.api.specs.declared.method.RequestMethod.TheVariants.{Get, Put, Post, Delete}
 use Rattle.api.specs.declared.page.Page.{Page}
-use Rattle.api.specs.declared.page.Page.TheVariants.{Welcome, AllDatabases, Database as DatabasePage, Security, BulkDocuments, AllDocuments, Changes, Differences, Document}
+use Rattle.api.specs.declared.page.Page.TheVariants.{Welcome, AllDatabases, Database as DatabasePage, Security, BulkDocuments, AllDocuments, Changes, Differences, Document, LocalDocument as LocalDocumentPage}
 use Rattle.api.specs.declared.refusal.Refusal.{Refusal}
-use Rattle.api.specs.declared.refusal.Refusal.TheVariants.{Body, Conflict, DatabaseName, NoDatabase, Exists, Path}
+use Rattle.api.specs.declared.refusal.Refusal.TheVariants.{Body, Conflict, Id, DatabaseName, NoDatabase, Exists, Path}
 
 -- ---- one step after another
 
@@ -124,6 +127,18 @@ sound_documents caller m name db d e =
     let b = went (there_or Body (bulk_in l.first)) (λ bulk. bulk_written caller bulk name db) d l.then in
     subst (λ (x : Done). IsSound db x) (same {A = Done} _ d b.then) (record { status = inr refl; fits = λ lawful. all_acceptable (terms_in caller name db) b.first.new_edits db b.first.documents lawful })
 
+sound_stored : (caller : Identity) (id : List ℕ) (db : Database) (r : Result LocalDocument WriteFault) (d : Done) → ((l : LocalDocument) → r ≡ Ok l → IsBody l.body)
+    → local_set caller id r ≡ Ok d → IsSound db d
+sound_stored caller id db (Ok l) d ok e = subst (λ (x : Done). IsSound db x) (same {A = Done} _ d e) (record { status = inr refl; fits = λ lawful. ok l refl })
+sound_stored caller id db (Err fault) d ok e = absurd cc
+
+sound_local : (caller : Identity) (m : Message) → AreSound (local_written caller m)
+sound_local caller m db d e =
+    let k = went (there_or Id (local_id_in m.path)) (λ id. next (plain m) (λ _. next (body_of m) (λ document. local_set caller id (local_outcome (local_at db id) id document)))) d e in
+    let l = went (plain m) (λ _. next (body_of m) (λ document. local_set caller k.first (local_outcome (local_at db k.first) k.first document))) d k.then in
+    let b = went (body_of m) (λ document. local_set caller k.first (local_outcome (local_at db k.first) k.first document)) d l.then in
+    sound_stored caller k.first db (local_outcome (local_at db k.first) k.first b.first) d (λ document. local_has_body (local_at db k.first) k.first b.first document) b.then
+
 -- ---- what is asked
 
 -- what is asked is asked of the database that the path leads into, and is sound work; or of all databases, on their page alone
@@ -175,6 +190,8 @@ good Differences (Some Post) caller m task e = good_work Differences Read m (λ 
 good Document (Some Get) caller m task e = good_work Document Read m (λ name. read_work (document_read m)) task (λ name. sound_reading (document_read m)) e
 good Document (Some Put) caller m task e = good_work Document WriteDocument m (λ name. document_written caller m name) task (λ name. sound_document caller m name) e
 good Document (Some Delete) caller m task e = good_work Document WriteDocument m (λ name. document_deleted caller m name) task (λ name. sound_deletion caller m name) e
+good LocalDocumentPage (Some Get) caller m task e = good_work LocalDocumentPage Read m (λ name. read_work (local_read m)) task (λ name. sound_reading (local_read m)) e
+good LocalDocumentPage (Some Put) caller m task e = good_work LocalDocumentPage Read m (λ name. local_written caller m) task (λ name. sound_local caller m) e
 good page method caller m task e = absurd cc
 
 -- ---- what comes of it
@@ -195,6 +212,7 @@ made_at : (a : Contents) (m : Message) (name : List ℕ) (db : Database) (effect
 made_at a m name db nothing own there fits = tt
 made_at a m name db (appended ws) own there fits = (own, (db, there, fits))
 made_at a m name db (secured v) own there fits = (own, (db, there, fits))
+made_at a m name db (local_put id document) own there fits = (own, (db, there, fits))
 
 pub there : (caller : Identity) (action : Action) (o : Option Database) (db : Database) → entry caller action o ≡ Ok db → o ≡ Some db
 there caller action None db e = absurd cc

@@ -17,12 +17,12 @@ use Rattle.api.specs.Asking.{asker, denial, method_of, plain}
 use Rattle.api.specs.Paths.{database_name_in}
 use Rattle.api.specs.Refusals.{refusal_value, status_of, next, there_or, true_or}
 use Rattle.api.specs.Routing.{page_of}
-use Rattle.node.specs.Work.{Done, Effect, Work, appended, nothing, read_work, secured, with_effect}
-use Rattle.node.specs.Works.{change_list, database_read, difference_list, document_deleted, document_list, document_read, document_written, documents_written, done, security_read, security_written}
+use Rattle.node.specs.Work.{Done, Effect, Work, appended, local_put, nothing, read_work, secured, with_effect}
+use Rattle.node.specs.Works.{change_list, database_read, difference_list, document_deleted, document_list, document_read, document_written, documents_written, done, local_read, local_written, security_read, security_written}
 use Rattle.api.specs.declared.method.RequestMethod.{RequestMethod}
 use Rattle.api.specs.declared.method.RequestMethod.TheVariants.{Get, Put, Post, Delete}
 use Rattle.api.specs.declared.page.Page.{Page}
-use Rattle.api.specs.declared.page.Page.TheVariants.{Welcome, AllDatabases, Database as DatabasePage, Security, BulkDocuments, AllDocuments, Changes, Differences, Document}
+use Rattle.api.specs.declared.page.Page.TheVariants.{Welcome, AllDatabases, Database as DatabasePage, Security, BulkDocuments, AllDocuments, Changes, Differences, Document, LocalDocument}
 use Rattle.api.specs.declared.refusal.Refusal.{Refusal}
 use Rattle.api.specs.declared.refusal.Refusal.TheVariants.{Path, Method, DatabaseName, NoDatabase, Exists}
 
@@ -62,6 +62,7 @@ abbrev pub change_at : List ℕ → Effect → Change
 change_at name nothing = kept
 change_at name (appended ws) = inside name (appended ws)
 change_at name (secured security) = inside name (secured security)
+change_at name (local_put id document) = inside name (local_put id document)
 
 -- what was done in the database of this name
 abbrev pub outcome_in : List ℕ → Done → Outcome
@@ -122,6 +123,8 @@ task_of Differences (Some Post) caller m = work_task Read m (λ name. read_work 
 task_of Document (Some Get) caller m = work_task Read m (λ name. read_work (document_read m))
 task_of Document (Some Put) caller m = work_task WriteDocument m (λ name. document_written caller m name)
 task_of Document (Some Delete) caller m = work_task WriteDocument m (λ name. document_deleted caller m name)
+task_of LocalDocument (Some Get) caller m = work_task Read m (λ name. read_work (local_read m))
+task_of LocalDocument (Some Put) caller m = work_task Read m (λ name. local_written caller m)
 task_of page method caller m = Err Method
 
 -- ---- what comes of it

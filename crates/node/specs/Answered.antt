@@ -12,11 +12,11 @@ use Rattle.policy.specs.declared.action.Action.{Action}
 use Rattle.policy.specs.declared.action.Action.TheVariants.{Read as ToRead, WriteSecurity, WriteDocument}
 use Rattle.write.specs.Planning.{MayBeMade}
 use Rattle.write.specs.declared.planned.Changes.{Changes}
-use Rattle.write.specs.declared.planned.Changes.TheVariants.{Writes, Security as SecurityObject}
-use Rattle.couch_json.specs.Value.{Value}
+use Rattle.write.specs.declared.planned.Changes.TheVariants.{Local, Writes, Security as SecurityObject}
+use Rattle.couch_json.specs.Value.{Value, object}
 use Rattle.node.specs.Answer as answer
-use Rattle.node.specs.Work.{Done, Effect, Work, appended, read_work, secured}
-use Rattle.node.specs.Works.{change_list, database_read, difference_list, document_deleted, document_list, document_read, document_written, documents_written, security_read, security_written}
+use Rattle.node.specs.Work.{Done, Effect, Work, appended, local_put, read_work, secured}
+use Rattle.node.specs.Works.{change_list, database_read, difference_list, document_deleted, document_list, document_read, document_written, documents_written, local_members, local_read, local_written, security_read, security_written}
 use Rattle.api.specs.declared.refusal.Refusal.{Refusal}
 use Rattle.node.specs.declared.answered.Answered.{Answered}
 use Rattle.node.specs.declared.answered.Change.{Change}
@@ -39,12 +39,14 @@ reading_of read.Document m name = document_read m
 reading_of read.Documents m name = document_list m
 reading_of read.Changes m name = change_list m
 reading_of read.Differences m name = difference_list m
+reading_of read.LocalDocument m name = local_read m
 
 abbrev pub writing_of : Writing → Identity → Message → List ℕ → Work
 writing_of write.Security caller m name = security_written m
 writing_of write.Documents caller m name = documents_written caller m name
 writing_of write.Document caller m name = document_written caller m name
 writing_of write.Deletion caller m name = document_deleted caller m name
+writing_of write.LocalDocument caller m name = local_written caller m
 
 abbrev pub work_of : WorkAsked → Identity → Message → List ℕ → Work
 work_of (asked.Read r) caller m name = read_work (reading_of r m name)
@@ -55,6 +57,7 @@ action_of_writing write.Security = WriteSecurity
 action_of_writing write.Documents = WriteDocument
 action_of_writing write.Document = WriteDocument
 action_of_writing write.Deletion = WriteDocument
+action_of_writing write.LocalDocument = ToRead
 
 -- the action that the policy of the database is asked for
 abbrev pub action_of : WorkAsked → Action
@@ -66,6 +69,13 @@ action_of (asked.Write w) = action_of_writing w
 abbrev pub effect_of : Changes → Database → Effect
 effect_of (Writes ws) db = appended (writings_in db (additions ws.items))
 effect_of (SecurityObject security) db = secured security
+effect_of (Local id document) db = local_put id document
+
+-- the value is the reply to this change, which is a local document
+abbrev pub IsLocalReply : Changes → Value → Type 0
+IsLocalReply (Writes ws) value = ⊥
+IsLocalReply (SecurityObject security) value = ⊥
+IsLocalReply (Local id document) value = value ≡ object (local_members id document)
 
 -- what work comes to in a database
 abbrev pub done_of : Database → Worked → Done

@@ -12,7 +12,7 @@ use Rattle.read.specs.declared.fault.ReadFault.TheVariants as read
 use Rattle.write.specs.declared.fault.WriteFault.{WriteFault}
 use Rattle.write.specs.declared.fault.WriteFault.TheVariants as write
 use Rattle.node.specs.Answer.{Change, creation, inside, kept, removal}
-use Rattle.node.specs.Work.{appended, nothing, secured}
+use Rattle.node.specs.Work.{appended, local_put, nothing, secured}
 use Rattle.api.specs.declared.refusal.Refusal.TheVariants.{Deleted, Exists, Missing, NoDatabase, Query}
 use Rattle.node.specs.declared.stop.Stop.{Stop}
 use Rattle.node.specs.declared.stop.Stop.TheVariants.{Refused, Failed, NoRoom}
@@ -25,6 +25,7 @@ LacksNumbers g s (removal name) = ⊥
 LacksNumbers g s (inside name nothing) = ⊥
 LacksNumbers g s (inside name (appended ws)) = g.lacks_room s name ws
 LacksNumbers g s (inside name (secured security)) = ⊥
+LacksNumbers g s (inside name (local_put id document)) = ⊥
 
 -- a fault was counted, or numbers lacked for this change
 abbrev pub HasCause : {S : Type 0} → Ghosts S → S → S → Change → Type 0

@@ -2,8 +2,9 @@
 -- This server's own: what is asked of a database depends on that database alone.
 use Rattle.std.specs.Prelude.{ℕ, List, Result, Ok}
 use Rattle.couch_json.specs.Value.{Value}
-use Rattle.store.specs.Contents.{with_security}
+use Rattle.store.specs.Contents.{with_local, with_security}
 use Rattle.store.specs.Database.{Database, DocumentWrite, with_all}
+use Rattle.store.specs.declared.local_document.LocalDocument.{LocalDocument}
 use Rattle.api.specs.Refusals.{next}
 use Rattle.api.specs.declared.refusal.Refusal.{Refusal}
 
@@ -14,12 +15,15 @@ pub data Effect : Type 0 where
   appended : List DocumentWrite → Effect
   -- this is its security object from now on
   secured : Value → Effect
+  -- this is its local document of this id from now on
+  local_put : List ℕ → LocalDocument → Effect
 
 -- the database afterwards
 abbrev pub with_effect : Effect → Database → Database
 with_effect nothing db = db
 with_effect (appended ws) db = with_all db ws
 with_effect (secured security) db = with_security db security
+with_effect (local_put id document) db = with_local db id document
 
 -- what a request comes to in a database
 pub record Done : Type 0 where

@@ -1,32 +1,36 @@
 -- What each request does in its database, by the database alone.
--- CouchDB manual, api/database/common, api/database/security, api/database/bulk-api and api/document/common; the order of refusals is this server's own.
+-- CouchDB manual, api/database/common, api/database/security, api/database/bulk-api, api/document/common and api/local; the order of refusals is this server's own.
 use Rattle.std.specs.Prelude.{ℕ, List, [], ◌∷◌, Bool, true, Option, Some, None, Result, Ok, Err, codes}
 use Rattle.auth.specs.Callers.{Identity}
 use Rattle.couch_http.specs.Message.{Message}
-use Rattle.couch_json.specs.Value.{Value, truth, object, no_members, put}
+use Rattle.couch_json.specs.Value.{Value, truth, text, object, Members, no_members, put}
 use Rattle.read.specs.Changes.{changes_in}
 use Rattle.read.specs.Differences.{revision_differences}
 use Rattle.read.specs.Information.{information}
 use Rattle.read.specs.Listing.{document_listing}
+use Rattle.read.specs.Local.{local_document}
 use Rattle.read.specs.OpenRevisions.{open_revisions}
 use Rattle.read.specs.Shown.{document_at}
 use Rattle.read.specs.declared.fault.ReadFault.{ReadFault}
 use Rattle.read.specs.declared.fault.ReadFault.TheVariants as read
+use Rattle.store.specs.Contents.{local_at, local_revision}
 use Rattle.store.specs.Database.{Database, DocumentWrite, history_at}
+use Rattle.store.specs.declared.local_document.LocalDocument.{LocalDocument}
 use Rattle.tree.specs.Revision.{Revision}
 use Rattle.write.specs.Admission.{admission}
 use Rattle.write.specs.Bulk.{DocumentOutcome, all_told, outcome_told, outcomes, writes_in}
+use Rattle.write.specs.LocalWrites.{local_outcome}
 use Rattle.write.specs.Planning.{security_outcome}
 use Rattle.write.specs.Terms.{terms_in}
 use Rattle.write.specs.declared.fault.WriteFault.{WriteFault}
 use Rattle.api.specs.Asking.{body_of, plain}
 use Rattle.api.specs.Bulk.{Bulk, bulk_in}
-use Rattle.node.specs.Bulk.{bulk_reply, edit_members}
+use Rattle.node.specs.Bulk.{bulk_reply, edit_members, known_members}
 use Rattle.api.specs.Listings.{changes_query, differences_in, listing_query}
-use Rattle.api.specs.Paths.{document_id_in}
+use Rattle.api.specs.Paths.{document_id_in, local_id_in}
 use Rattle.api.specs.Queries.{Asked, winner, revision, leaves, revisions, document_query, revision_query}
 use Rattle.node.specs.Edits.{refusal_of_edit}
-use Rattle.node.specs.Work.{Done, Work, appended, secured}
+use Rattle.node.specs.Work.{Done, Work, appended, local_put, secured}
 use Rattle.api.specs.Refusals.{next, there_or}
 use Rattle.api.specs.declared.refusal.Refusal.{Refusal}
 use Rattle.api.specs.declared.refusal.Refusal.TheVariants.{Id, Query, Body, Conflict, Missing, Deleted}
@@ -87,6 +91,26 @@ change_list m db = next (there_or Query (changes_query m.query)) (λ range. Ok (
 abbrev pub difference_list : Message → Database → Result Value Refusal
 difference_list m db =
     next (plain m) (λ _. next (body_of m) (λ value. next (there_or Body (differences_in value)) (λ asked. Ok (revision_differences asked db))))
+
+-- ---- local documents
+
+abbrev pub local_read : Message → Database → Result Value Refusal
+local_read m db =
+    next (there_or Id (local_id_in m.path)) (λ id. next (plain m) (λ _. found (local_document id db)))
+
+-- of a local document that was written: its id and its new revision
+abbrev pub local_members : List ℕ → LocalDocument → Members
+local_members id document = put (codes "rev") (text (local_revision document.number)) (known_members (Some id))
+
+-- what the write of the local document of this id comes to
+abbrev pub local_set : Identity → List ℕ → Result LocalDocument WriteFault → Result Done Refusal
+local_set caller id (Ok document) = Ok (record { status = 201; value = object (local_members id document); effect = local_put id document })
+local_set caller id (Err fault) = Err (refusal_of_edit caller fault)
+
+abbrev pub local_written : Identity → Message → Work
+local_written caller m db =
+    next (there_or Id (local_id_in m.path)) (λ id.
+    next (plain m) (λ _. next (body_of m) (λ document. local_set caller id (local_outcome (local_at db id) id document))))
 
 -- ---- writing a document
 

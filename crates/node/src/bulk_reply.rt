@@ -102,7 +102,7 @@ pub(crate) fn made_members(
 }
 
 /// Says of a document that is there its id.
-fn known_members(alloc: Global, id: &Option<String>) -> Got<BTreeMap<String, Json>>
+pub(crate) fn known_members(alloc: Global, id: &Option<String>) -> Got<BTreeMap<String, Json>>
     ensures { IfOk result (λ members. members_view members.entries ≡ known_members (option_map string_bytes id.now)) }
 {
     let mut members = BTreeMap::new(alloc);

@@ -113,6 +113,12 @@ fn serve<S: Store>(
         (Page::Document, Some(RequestMethod::Delete)) => {
             do_work(alloc, store, caller, Write(Writing::Deletion), request)
         }
+        (Page::LocalDocument, Some(RequestMethod::Get)) => {
+            do_work(alloc, store, caller, Read(Reading::LocalDocument), request)
+        }
+        (Page::LocalDocument, Some(RequestMethod::Put)) => {
+            do_work(alloc, store, caller, Write(Writing::LocalDocument), request)
+        }
         _ => Err(Stop::Refused(Refusal::Method)),
     }
 }

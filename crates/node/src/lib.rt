@@ -16,6 +16,7 @@ mod document;
 mod handling;
 pub mod laws;
 mod lists;
+mod local_document;
 mod memory;
 mod node;
 mod security;

@@ -17,6 +17,7 @@ use crate::bulk::write_documents;
 use crate::databases::read_database;
 use crate::document::{delete_document, read_document, write_document};
 use crate::lists::{list_changes, list_documents, tell_differences};
+use crate::local_document::{read_local, write_local};
 use crate::security::{read_security, write_security};
 use crate::stop::Stop;
 use api::{database_name, deny};
@@ -51,6 +52,8 @@ pub(crate) enum Reading {
     Changes,
     /// Which revisions it doesn't know.
     Differences,
+    /// A local document.
+    LocalDocument,
 }
 
 /// What is written to a database.
@@ -64,6 +67,8 @@ pub(crate) enum Writing {
     Document,
     /// A document's deletion.
     Deletion,
+    /// A local document, which who may read may write.
+    LocalDocument,
 }
 
 /// Returns the action that the policy of the database is asked for.
@@ -71,7 +76,7 @@ fn action_of(work: Work) -> Action
     ensures { result ≡ action_of work }
 {
     match work {
-        Work::Read(_) => Action::Read,
+        Work::Read(_) | Work::Write(Writing::LocalDocument) => Action::Read,
         Work::Write(Writing::Security) => Action::WriteSecurity,
         Work::Write(Writing::Documents | Writing::Document | Writing::Deletion) => {
             Action::WriteDocument
@@ -175,6 +180,7 @@ fn read<S: Store>(
         Reading::Documents => list_documents(alloc, store, name, request),
         Reading::Changes => list_changes(alloc, store, name, request),
         Reading::Differences => tell_differences(alloc, store, name, request),
+        Reading::LocalDocument => read_local(alloc, store, name, request),
     }
 }
 
@@ -199,5 +205,6 @@ fn write<S: Store>(
         Writing::Documents => write_documents(alloc, store, caller, name, request),
         Writing::Document => write_document(alloc, store, caller, name, request),
         Writing::Deletion => delete_document(alloc, store, caller, name, request),
+        Writing::LocalDocument => write_local(alloc, store, caller, name, request),
     }
 }

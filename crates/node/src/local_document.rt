@@ -1,0 +1,117 @@
+//! A local document's page: `GET` and `PUT /{db}/_local/{id}` (CouchDB manual, api/local).
+
+ghost use Rattle.std.specs.Prelude.{◌≡◌, IfOk, IfErr};
+ghost use Rattle.couch_http.specs.Message.{message_of};
+ghost use Rattle.couch_json.specs.Value.{object};
+ghost use Rattle.couch_json.specs.View.{view};
+ghost use Rattle.store.specs.Calls.{OnlyReads};
+ghost use Rattle.store.specs.Contents.{local_at};
+ghost use Rattle.write.specs.LocalWrites.{local_outcome};
+ghost use Rattle.write.specs.Planning.{IsLocal, MayBeMade};
+ghost use Rattle.node.specs.Answered.{IsLocalReply, done_of};
+ghost use Rattle.node.specs.Causes.{Ends};
+ghost use Rattle.node.specs.Coming.{Comes, OfThere};
+ghost use Rattle.node.specs.Works.{local_members, local_read, local_set, local_written};
+
+use crate::answered::Worked;
+use crate::bulk_reply::{known_members, refusal_of_edit};
+use crate::stop::Stop;
+use api::{body, local_id, without_parameters};
+use auth::Caller;
+use couch_http::Request;
+use couch_json::{Got, Json, put_member};
+use read::local;
+use std::alloc::Global;
+use store::{DbName, LocalDocument, Store};
+use tree::DocId;
+use write::{Changes, WriteFault, put_local};
+
+/// Reads a local document.
+pub(crate) fn read_local<S: Store>(
+    alloc: Global,
+    store: &mut S,
+    name: &DbName,
+    request: &Request,
+) -> Result<Json, Stop>
+    ensures comes { S.is_honest store.new → OfThere (S.contents store.old) name.now (λ db. Comes view result
+        (local_read (message_of request.now) db)) }
+    ensures ends { IfErr result (Ends S.Store store.old store.new) }
+    ensures reads { OnlyReads S.Store store.old store.new }
+{
+    let id = local_id(alloc, &request.path)?;
+    without_parameters(request)?;
+    Ok(local(alloc, store, name, &id)?)
+}
+
+/// Writes a local document, but for the change of the store itself.
+pub(crate) fn write_local<S: Store>(
+    alloc: Global,
+    store: &mut S,
+    caller: &Caller,
+    name: &DbName,
+    request: &Request,
+) -> Result<Worked, Stop>
+    ensures comes { S.is_honest store.new → OfThere (S.contents store.old) name.now (λ db. Comes (done_of db) result
+        (local_written caller.now (message_of request.now) db)) }
+    ensures may { S.is_honest store.new → OfThere (S.contents store.old) name.now (λ db. IfOk result (λ worked. MayBeMade worked.planned.changes db)) }
+    ensures own { IfOk result (λ worked. worked.planned.database ≡ name.now) }
+    ensures ends { IfErr result (Ends S.Store store.old store.new) }
+    ensures reads { OnlyReads S.Store store.old store.new }
+{
+    let id = local_id(alloc, &request.path)?;
+    without_parameters(request)?;
+    let document = body(alloc, request)?;
+    set_local(alloc, store, caller, name, &id, document)
+}
+
+/// Tells what becomes of a local document that is written.
+fn set_local<S: Store>(
+    alloc: Global,
+    store: &mut S,
+    caller: &Caller,
+    name: &DbName,
+    id: &DocId,
+    document: Json,
+) -> Result<Worked, Stop>
+    ensures comes { S.is_honest store.new → OfThere (S.contents store.old) name.now (λ db. Comes (done_of db) result
+        (local_set caller.now id.now (local_outcome (local_at db id.now) id.now (view document)))) }
+    ensures may { S.is_honest store.new → OfThere (S.contents store.old) name.now (λ db. IfOk result (λ worked. MayBeMade worked.planned.changes db)) }
+    ensures own { IfOk result (λ worked. worked.planned.database ≡ name.now) }
+    ensures ends { IfErr result (Ends S.Store store.old store.new) }
+    ensures reads { OnlyReads S.Store store.old store.new }
+{
+    let planned = match put_local(alloc, store, name, id, document) {
+        Ok(planned) => planned,
+        Err(WriteFault::Memory) => return Err(Stop::NoRoom),
+        Err(WriteFault::Store(fault)) => return Err(Stop::from(fault)),
+        Err(fault) => return Err(Stop::Refused(refusal_of_edit(caller, fault))),
+    };
+    let value = local_reply(alloc, &planned.changes)?;
+    Ok(Worked {
+        status: 201,
+        value,
+        planned,
+    })
+}
+
+/// Builds the reply to the write of a local document: its id and its new revision.
+fn local_reply(alloc: Global, changes: &Changes) -> Got<Json>
+    requires { IsLocal changes.now }
+    ensures { IfOk result (λ value. IsLocalReply changes.now (view value)) }
+{
+    match changes {
+        Changes::Local(id, document) => build_local_reply(alloc, id, document),
+        _ => unreachable!(),
+    }
+}
+
+/// Builds what is said of a local document that was written.
+fn build_local_reply(alloc: Global, id: &DocId, document: &LocalDocument) -> Got<Json>
+    ensures { IfOk result (λ value. view value ≡ object (local_members id.now document.now)) }
+{
+    let rev = document.revision(alloc)?;
+    let id = String::from_str(alloc, id.as_str())?;
+    let mut members = known_members(alloc, &Some(id))?;
+    put_member(alloc, &mut members, "rev", Json::Text(rev))?;
+    Ok(Json::Object(members))
+}
