@@ -13,3 +13,4 @@ pub mod Calls
 pub mod RowOrders
 pub mod IdRows
 pub mod NoRows
+pub mod FieldValues

@@ -4,7 +4,7 @@ use Rattle.std.specs.Prelude.{ℕ, List, [], ◌∷◌, map, codes, Option, Some
 use Rattle.std.specs.declared.cmp.Ordering.{Ordering}
 use Rattle.std.specs.Ordering.{nat_cmp, ordering_then}
 use Rattle.std.specs.Cmp.Lexicographic.{slice_cmp}
-use Rattle.std.specs.FinMap.{entries, get, put}
+use Rattle.std.specs.FinMap.{entries, put}
 use Rattle.couch_json.specs.Collation.{collation}
 use Rattle.couch_json.specs.FieldPath.{value_at}
 use Rattle.couch_json.specs.Parts.{items_in, items_or_none, text_in}

@@ -88,7 +88,7 @@ fn list_live_rows(alloc: Global, documents: &Documents) -> Got<Vec<IdRow>>
 }
 
 /// Finds the winner, where it is not deleted.
-fn find_live_rev(history: &History) -> Option<Rev>
+pub(crate) fn find_live_rev(history: &History) -> Option<Rev>
     ensures { result ≡ live_rev history.now }
 {
     let winner = history.winner()?;
