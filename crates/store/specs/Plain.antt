@@ -1,6 +1,6 @@
 -- What a plain store holds, as contents; for private clauses and proofs.
 -- This crate's own.
-use Rattle.std.specs.Prelude.{ℕ, bytes_eq, ◌+◌, List, [], ◌∷◌, map, Option, Some, None, Result, Ok, Err, if◌then◌else◌, ⊤}
+use Rattle.std.specs.Prelude.{ℕ, bytes_eq, ◌+◌, List, [], ◌∷◌, map, Option, Some, None, if◌then◌else◌, ⊤}
 use Rattle.std.specs.declared.cmp.Ordering.{Ordering}
 use Rattle.std.specs.Ordering.{nat_cmp, eq_by_cmp}
 use Rattle.std.specs.Cmp.Lexicographic.{slice_cmp}
@@ -42,11 +42,6 @@ with_addition h a = with_write h (written_in h a).write
 abbrev pub history_after : HistoryContent → List ℕ → List Addition → HistoryContent
 history_after h id [] = h
 history_after h id (a ∷ more) = history_after (if bytes_eq a.id id then with_addition h a else h) id more
-
--- where a key stands among entries, counted on from n: Ok at the first that has it, Err before the first that is above it
-abbrev pub spot_from : {K X : Type 0} → (K → K → Ordering) → ℕ → K → List (K × X) → Result ℕ ℕ
-spot_from R n k [] = Err n
-spot_from R n k (e ∷ es) = by_order (R k e.0) (Err n) (Ok n) (spot_from R (n + 1) k es)
 
 -- the value at a key among entries in the order of their keys
 abbrev pub value_in : {K X : Type 0} → (K → K → Ordering) → K → List (K × X) → Option X
