@@ -191,7 +191,7 @@ sequence_rows-limited (Some n) rs = sym (take-map sequence_row_of n rs)
 
 -- ---- counts
 
-apart : {X : Type 0} (p q : X → Bool) → ((x : X) → p x ≡ true → q x ≡ false) → (xs : List X) → length (filter p xs) + length (filter q xs) ≤ length xs
+pub apart : {X : Type 0} (p q : X → Bool) → ((x : X) → p x ≡ true → q x ≡ false) → (xs : List X) → length (filter p xs) + length (filter q xs) ≤ length xs
 apart p q h [] = omega arith
 apart p q h (x ∷ xs) = by (p x) (q x) (h x) (apart p q h xs)
   where
@@ -202,11 +202,11 @@ apart p q h (x ∷ xs) = by (p x) (q x) (h x) (apart p q h xs)
     by false true k le = omega (arith, le)
     by false false k le = omega (arith, le)
 
-count-directed : (descending : Bool) (p : IdRow → Bool) (rs : List IdRow) → count_by p (in_direction descending rs) ≡ count_by p rs
+pub count-directed : {X : Type 0} (descending : Bool) (p : X → Bool) (rs : List X) → count_by p (in_direction descending rs) ≡ count_by p rs
 count-directed true p rs = sum_by-IsPermutation (λ r. cond (p r) 1 0) rs (reverse rs) (IsPermutation-reverse rs)
 count-directed false p rs = refl
 
-length-directed : (descending : Bool) (rs : List IdRow) → length (in_direction descending rs) ≡ length rs
+pub length-directed : {X : Type 0} (descending : Bool) (rs : List X) → length (in_direction descending rs) ≡ length rs
 length-directed true rs = length-reverse rs
 length-directed false rs = refl
 

@@ -6,9 +6,13 @@ use Rattle.std.specs.Ordering.{nat_cmp, eq_by_cmp}
 use Rattle.std.specs.Cmp.Lexicographic.{slice_cmp}
 use Rattle.std.specs.FinMap.{from_entries, find, put}
 use Rattle.std.specs.FinMap.Entries.{by_order}
+use Rattle.couch_json.specs.Value.{Value}
+use Rattle.couch_json.specs.View.{view}
+use Rattle.couch_json.specs.declared.value.Json.{Json}
 use Rattle.tree.specs.History.{HistoryContent, with_write}
 use Rattle.store.specs.Contents.{Contents}
 use Rattle.store.specs.Database.{Database, Document, history_in, with_all, empty_database}
+use Rattle.store.specs.Indexes.{IndexPlace, index_over}
 use Rattle.store.specs.Writing.{Addition, additions, written_in, writings_in}
 use Rattle.store.specs.declared.plain.PlainDatabase.{PlainDatabase}
 use Rattle.store.specs.declared.plain.PlainDocument.{PlainDocument}
@@ -68,3 +72,11 @@ with_write_at sequence es a =
 abbrev pub gathered_after : ℕ → List (List ℕ × Document) → List Addition → List (List ℕ × Document)
 gathered_after n es [] = es
 gathered_after n es (a ∷ more) = gathered_after (n + 1) (with_write_at (n + 1) es a) more
+
+-- an index with its documents
+abbrev pub placed : List (IndexPlace × Json) → List (IndexPlace × Value)
+placed es = map (λ e. (e.0, view e.1)) es
+
+-- the places of these documents in an index of these fields
+abbrev pub places_over : List (List ℕ) → List (List ℕ × Document) → List IndexPlace
+places_over fields es = map (λ e. e.0) (index_over fields es)
