@@ -62,7 +62,7 @@ fn gather_page(alloc: Global, writes: &Vec<Write>, range: &IdRange) -> Got<PageB
     })
 }
 
-fn counts_if(counted: bool, offset: u64, total: u64) -> Option<RowCounts>
+pub(crate) fn counts_if(counted: bool, offset: u64, total: u64) -> Option<RowCounts>
     ensures { result ≡ if_counted counted (record { offset = offset; total = total }) }
 {
     if counted {
@@ -88,7 +88,7 @@ fn list_live_rows(alloc: Global, documents: &Documents) -> Got<Vec<IdRow>>
 }
 
 /// Finds the winner, where it is not deleted.
-fn find_live_rev(history: &History) -> Option<Rev>
+pub(crate) fn find_live_rev(history: &History) -> Option<Rev>
     ensures { result ≡ live_rev history.now }
 {
     let winner = history.winner()?;
@@ -98,7 +98,8 @@ fn find_live_rev(history: &History) -> Option<Rev>
     }
 }
 
-fn turn(rows: Vec<IdRow>, descending: bool) -> Vec<IdRow>
+/// Turns the rows round where a listing goes down.
+pub(crate) fn turn<T: Drop>(rows: Vec<T>, descending: bool) -> Vec<T>
     ensures { result.items ≡ in_direction descending rows.items }
 {
     let mut rows = rows;
