@@ -1,0 +1,12 @@
+//! Finds: the documents of a database that match a selector, in an order, in part (CouchDB manual,
+//! api/database/find).
+#![tactic(auto)]
+
+mod fault;
+mod query;
+mod sort;
+mod sort_fields;
+
+pub use fault::QueryFault;
+pub use query::Query;
+pub use sort_fields::SortFields;
