@@ -1,0 +1,5 @@
+mod Filtered
+mod Finding
+mod Indexed
+mod Parts
+pub mod Turned

@@ -2,11 +2,18 @@
 //! api/database/find).
 #![tactic(auto)]
 
+mod by_fields;
+mod by_id;
+mod documents;
 mod fault;
+mod matching;
+mod part;
+mod place;
 mod query;
 mod sort;
 mod sort_fields;
 
+pub use documents::find;
 pub use fault::QueryFault;
 pub use query::Query;
 pub use sort_fields::SortFields;
