@@ -1,5 +1,5 @@
 -- The rows of a page give the documents that a query finds.
-use Rattle.std.proofs.Common.{◌≡◌, ◌⊎◌, ℕ, ◌≤◌, ◌<◌, ◌^◌, ◌-◌, Bool, true, false, List, [], ◌∷◌, Option, Some, None, Result, Ok, Err, drop, filter, map, option_map, take, refl, sym, ap, ◌∙◌, inl, inr, arith}
+use Rattle.std.proofs.Common.{◌≡◌, ℕ, ◌≤◌, Bool, true, false, List, [], ◌∷◌, Option, Some, None, Result, Ok, Err, drop, filter, map, option_map, take, refl, sym, ap, ◌∙◌, inl, inr, arith}
 use Rattle.std.specs.Prelude.{IfErr, IfOk}
 use Rattle.std.specs.Cmp.Lexicographic.{slice_cmp}
 use Rattle.std.specs.FinMap as finite
@@ -7,11 +7,11 @@ use Rattle.std.specs.Ordering.{nat_cmp}
 use Rattle.couch_json.specs.Value.{Value}
 use Rattle.selector.specs.Truth.{selector_matches}
 use Rattle.tree.proofs.Kept.{true_from_T}
-use Rattle.store.proofs.Listings.{Entry, in_found}
+use Rattle.store.proofs.Listings.{in_found}
 use Rattle.store.specs.Calls.{OnlyReads}
 use Rattle.store.specs.Causes.{HasFailed}
 use Rattle.store.specs.Database.{Database}
-use Rattle.store.specs.Indexes.{index_entries, index_over}
+use Rattle.store.specs.Indexes.{index_entries}
 use Rattle.store.specs.Pages.{IdPage, live_rows, page_of_ids}
 use Rattle.store.specs.declared.fault.StoreFault.{StoreFault}
 use Rattle.store.specs.declared.fault.StoreFault.TheVariants as store
@@ -22,10 +22,10 @@ use Rattle.read.specs.Answers.{Stops, StopsBy}
 use Rattle.read.specs.declared.fault.ReadFault.{ReadFault}
 use Rattle.read.specs.declared.fault.ReadFault.TheVariants.{Missing, Deleted, BadQuery, Store, Memory}
 use Rattle.find.proofs.Filtered.{filter-seconds}
-use Rattle.find.proofs.Indexed.{AreOf, filter_index, index_by_id, index_of, matching, rows_match, rows_sorted}
+use Rattle.find.proofs.Indexed.{AreOf, filter_index, index_by_id, index_of, rows_match, rows_sorted}
 use Rattle.find.proofs.Turned.{filter-directed, options-directed}
 use Rattle.find.specs.Answers.{Finds}
-use Rattle.find.specs.Found.{found_documents, in_direction, matching_documents, sorted_documents}
+use Rattle.find.specs.Found.{found_documents, in_direction, sorted_documents}
 use Rattle.find.specs.Matching.{match_in, matches_of, put_matches}
 use Rattle.find.specs.declared.query.Query.{Query}
 

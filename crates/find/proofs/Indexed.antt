@@ -72,7 +72,7 @@ sorted_index fields [] = refl
 sorted_index fields (e ∷ es) = sorted_put fields e.0 (seen e) (index_over fields es) (sorted_index fields es)
 
 -- where documents stand after an id that comes before theirs
-abbrev After : List ℕ → IndexPlace → Type 0
+abbrev pub After : List ℕ → IndexPlace → Type 0
 After id p = slice_cmp nat_cmp id p.id ≡ Less
 
 after_put : (P : IndexPlace → Type 0) (fields : List (List ℕ)) (id : List ℕ) (o : Option Value) (es : List (IndexPlace × Value)) → ((key : Value) → P (record { key = key; id = id })) → HasKeys P es → HasKeys P (put_in_index fields id o es)
@@ -83,11 +83,11 @@ after_put P fields id (Some v) es p h = by (field_values fields v)
     by None = h
     by (Some values) = keys_put place_order P (record { key = array values; id = id }) v es (p (array values)) h
 
-after_index : (fields : List (List ℕ)) (id : List ℕ) (es : List Entry) → below_all (slice_cmp nat_cmp) id es ≡ true → HasKeys (After id) (index_over fields es)
+pub after_index : (fields : List (List ℕ)) (id : List ℕ) (es : List Entry) → below_all (slice_cmp nat_cmp) id es ≡ true → HasKeys (After id) (index_over fields es)
 after_index fields id [] h = λ x i. absurd i
 after_index fields id (e ∷ es) h = after_put (After id) fields e.0 (seen e) (index_over fields es) (λ key. less _ (first_so _ _ h)) (after_index fields id es (second_so _ _ h))
 
-not_tied : (a b : Ordering) → b ≡ Less → ordering_then a b ≡ Equal → ⊥
+pub not_tied : (a b : Ordering) → b ≡ Less → ordering_then a b ≡ Equal → ⊥
 not_tied Less b e t = cc
 not_tied Equal b e t = cc
 not_tied Greater b e t = cc

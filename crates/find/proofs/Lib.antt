@@ -1,4 +1,5 @@
 mod Filtered
+mod Findables
 mod Finding
 mod Indexed
 mod Parts

@@ -1,10 +1,11 @@
 -- What a find finds: documents that match a selector, in an order, and of these a part.
 -- CouchDB manual, api/database/find; that a document without one of the fields of the sort is not found, and that documents without a sort go by id, are this server's own.
-use Rattle.std.specs.Prelude.{ℕ, Bool, List, drop, filter, if◌then◌else◌, map, reverse, take}
-use Rattle.couch_json.specs.Value.{Value}
+use Rattle.std.specs.Prelude.{◌≡◌, ℕ, Bool, true, List, Some, drop, filter, if◌then◌else◌, map, reverse, take}
+use Rattle.std.specs.FinMap.{get}
+use Rattle.couch_json.specs.Value.{Items, Value}
 use Rattle.selector.specs.Truth.{selector_matches}
-use Rattle.store.specs.Database.{Database}
-use Rattle.store.specs.Indexes.{index_entries}
+use Rattle.store.specs.Database.{Database, Document}
+use Rattle.store.specs.Indexes.{field_values, index_entries, queried_document}
 use Rattle.find.specs.declared.query.Query.{Query}
 
 abbrev pub in_direction : {A : Type 0} → Bool → List A → List A
@@ -21,3 +22,13 @@ matching_documents query db = filter (λ v. selector_matches query.selector v) (
 -- the part of them that is asked for
 abbrev pub found_documents : Query → Database → List Value
 found_documents query db = take query.limit (drop query.skip (matching_documents query db))
+
+-- the document is one that queries look at, has all fields of the sort, and matches
+pub record IsFindable (query : Query) (db : Database) (v : Value) : Type 0 where
+  pub id : List ℕ
+  pub document : Document
+  pub there : get db.documents id ≡ Some document
+  pub shown : queried_document id document.history ≡ Some v
+  pub values : Items
+  pub has : field_values query.sort v ≡ Some values
+  pub matches : selector_matches query.selector v ≡ true
