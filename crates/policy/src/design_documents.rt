@@ -45,8 +45,9 @@ fn is_selector(alloc: Global, value: &Json) -> Got<bool>
     }
 }
 
-/// Tests whether indexes, where there are some, are an object of them.
-fn check_indexes(alloc: Global, indexes: Option<&Json>) -> Got<bool>
+/// Tests whether indexes, where there are some, are of their form: an object of them by name, as
+/// [`check_design`] says.
+pub fn check_indexes(alloc: Global, indexes: Option<&Json>) -> Got<bool>
     ensures { IfOk result (λ good. good ≡ is_absent_or is_index_object (option_map (λ v. view v.now) indexes.entry)) }
 {
     match indexes {

@@ -22,7 +22,7 @@ mod update_rules;
 mod verdict;
 
 pub use action::Action;
-pub use design_documents::check_design;
+pub use design_documents::{check_design, check_indexes};
 pub use rule::Rule;
 pub use rule_argument::{argument, show_new};
 pub use security::{Security, SecurityFault, is_server_admin};

@@ -14,3 +14,6 @@ pub mod RowOrders
 pub mod IdRows
 pub mod NoRows
 pub mod FieldValues
+pub mod KeyPlaces
+pub mod DeclaredFields
+pub mod KeyCounts

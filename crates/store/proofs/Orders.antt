@@ -1,67 +1,50 @@
--- Entries put in the order of their keys: where one goes in, and which keys come of it.
-use Rattle.std.proofs.Common.{◌≡◌, true, cond, is_eq, ℕ, suc, ◌+◌, ◌<◌, ◌≤◌, List, [], ◌∷◌, ◌++◌, length, map, get_or, set, take, drop, Ordering, Some, None, Ok, Err, refl, sym, ap, ◌∙◌, arith}
+-- Entries put in the order of their keys: what std's maps make of them, and which keys come of it.
+use Rattle.std.proofs.Common.{◌≡◌, true, cond, is_eq, List, [], ◌∷◌, ◌++◌, map, Ordering, Some, None, refl, sym, ap, ◌∙◌}
+use Rattle.std.proofs.lemmas.Map.{lookup-none}
+use Rattle.std.proofs.lemmas.Map.Entries.{none_below_head}
+use Rattle.std.proofs.lemmas.Map.Keys.{sorted_tail}
 use Rattle.std.specs.declared.cmp.Ordering.TheVariants.{Less, Equal, Greater}
 use Rattle.std.specs.Prelude.{⊤}
+use Rattle.std.specs.BTreeMap.{insert_entry, is_at}
 use Rattle.std.specs.Cmp.{IsTotalOrder}
+use Rattle.std.specs.List.Sorted.{IsStrictlySortedBy}
+use Rattle.std.specs.Map.{keys_of, lookup, set_value}
+use Rattle.std.specs.Ordering.{match_ordering}
 use Rattle.std.specs.FinMap.{find, is_sorted, put}
 use Rattle.std.specs.FinMap.Entries.{below_all, by_order}
 use Rattle.tree.proofs.RevisionText.{parts}
 use Rattle.tree.proofs.SortedEntries.{less}
-use Rattle.store.specs.Plain.{spot_from, keys_put, value_in}
+use Rattle.store.specs.Plain.{keys_put, value_in}
 
 module _ {K X : Type 0} (R : K → K → Ordering) where
-  -- k stands at, counted on from n, and a value put there replaces the one that it has
-  abbrev pub Stands : ℕ → K → X → (K × X) → List (K × X) → ℕ → Type 0
-  Stands n k v d es at = (i : ℕ) × (at ≡ n + i) × (i < length es) × (put R k v es ≡ set es i ((get_or es i d).0, v)) × (value_in R k es ≡ Some (get_or es i d).1)
+  pub insert_entry-put : (k : K) (v : X) (es : List (K × X)) → insert_entry R es k v ≡ put R k v es
+  insert_entry-put k v [] = refl
+  insert_entry-put k v (e ∷ es) = by (insert_entry-put k v es) (R k e.0)
+    where
+      by : insert_entry R es k v ≡ put R k v es → (o : Ordering) → match_ordering o ((k, v) ∷ e ∷ es) ((e.0, v) ∷ es) (e ∷ insert_entry R es k v) ≡ by_order o ((k, v) ∷ e ∷ es) ((e.0, v) ∷ es) (e ∷ put R k v es)
+      by later Less = refl
+      by later Equal = refl
+      by later Greater = ap (λ rest. e ∷ rest) later
 
-  -- k does not stand among the entries, and a value put there goes in at this place
-  abbrev pub GoesIn : ℕ → K → X → List (K × X) → ℕ → Type 0
-  GoesIn n k v es at = (i : ℕ) × (at ≡ n + i) × (i ≤ length es) × (put R k v es ≡ take i es ++ (k, v) ∷ drop i es) × (value_in R k es ≡ None)
+  -- a value written over another at a key that stands there
+  pub set_value-put : (k : K) (v w : X) (es : List (K × X)) → value_in R k es ≡ Some v → set_value (is_at (R k)) es w ≡ put R k w es
+  set_value-put k v w [] h = absurd cc
+  set_value-put k v w (e ∷ es) h = by (set_value-put k v w es) (R k e.0) h
+    where
+      by : (value_in R k es ≡ Some v → set_value (is_at (R k)) es w ≡ put R k w es) → (o : Ordering) → by_order o None (Some e.1) (value_in R k es) ≡ Some v
+          → cond (is_eq o) ((e.0, w) ∷ es) (e ∷ set_value (is_at (R k)) es w) ≡ by_order o ((k, w) ∷ e ∷ es) ((e.0, w) ∷ es) (e ∷ put R k w es)
+      by later Less is = absurd cc
+      by later Equal is = refl
+      by later Greater is = ap (λ rest. e ∷ rest) (later is)
 
-  stands_by : (r : Ordering) (n : ℕ) (k : K) (v : X) (d e : K × X) (es : List (K × X)) (at : ℕ) → (spot_from R (n + 1) k es ≡ Ok at → Stands (n + 1) k v d es at)
-      → by_order r (Err n) (Ok n) (spot_from R (n + 1) k es) ≡ Ok at
-      → (i : ℕ) × (at ≡ n + i) × (i < suc (length es)) × (by_order r ((k, v) ∷ e ∷ es) ((e.0, v) ∷ es) (e ∷ put R k v es) ≡ set (e ∷ es) i ((get_or (e ∷ es) i d).0, v))
-      × (by_order r None (Some e.1) (value_in R k es) ≡ Some (get_or (e ∷ es) i d).1)
-  stands_by Less n k v d e es at later h = absurd cc
-  stands_by Equal n k v d e es at later h = let here : n ≡ at = cc in (0, omega arith, omega arith, refl, refl)
-  stands_by Greater n k v d e es at later h = let f = later h in (suc f.0, omega (arith, f.1), omega (arith, f.2), ap (λ rest. e ∷ rest) f.3, f.4)
-
-  stands_from : (n : ℕ) (k : K) (v : X) (d : K × X) (es : List (K × X)) (at : ℕ) → spot_from R n k es ≡ Ok at → Stands n k v d es at
-  stands_from n k v d [] at h = absurd cc
-  stands_from n k v d (e ∷ es) at h = stands_by (R k e.0) n k v d e es at (stands_from (n + 1) k v d es at) h
-
-  goes_in_by : (r : Ordering) (n : ℕ) (k : K) (v : X) (e : K × X) (es : List (K × X)) (at : ℕ) → (spot_from R (n + 1) k es ≡ Err at → GoesIn (n + 1) k v es at)
-      → by_order r (Err n) (Ok n) (spot_from R (n + 1) k es) ≡ Err at
-      → (i : ℕ) × (at ≡ n + i) × (i ≤ suc (length es)) × (by_order r ((k, v) ∷ e ∷ es) ((e.0, v) ∷ es) (e ∷ put R k v es) ≡ take i (e ∷ es) ++ (k, v) ∷ drop i (e ∷ es))
-      × (by_order r None (Some e.1) (value_in R k es) ≡ None)
-  goes_in_by Less n k v e es at later h = let here : n ≡ at = cc in (0, omega arith, omega arith, refl, refl)
-  goes_in_by Equal n k v e es at later h = absurd cc
-  goes_in_by Greater n k v e es at later h = let f = later h in (suc f.0, omega (arith, f.1), omega (arith, f.2), ap (λ rest. e ∷ rest) f.3, f.4)
-
-  goes_in_from : (n : ℕ) (k : K) (v : X) (es : List (K × X)) (at : ℕ) → spot_from R n k es ≡ Err at → GoesIn n k v es at
-  goes_in_from n k v [] at h = let here : n ≡ at = cc in (0, omega arith, omega arith, refl, refl)
-  goes_in_from n k v (e ∷ es) at h = goes_in_by (R k e.0) n k v e es at (goes_in_from (n + 1) k v es at) h
-
-  pub put_at : (k : K) (v : X) (d : K × X) (es : List (K × X)) (at : ℕ) → spot_from R 0 k es ≡ Ok at → put R k v es ≡ set es at ((get_or es at d).0, v)
-  put_at k v d es at h =
-      let f = stands_from 0 k v d es at h in
-      let same : f.0 ≡ at = omega (arith, f.1) in
-      f.3 ∙ ap (λ i. set es i ((get_or es i d).0, v)) same
-
-  pub put_in : (k : K) (v : X) (es : List (K × X)) (at : ℕ) → spot_from R 0 k es ≡ Err at → put R k v es ≡ take at es ++ (k, v) ∷ drop at es
-  put_in k v es at h =
-      let f = goes_in_from 0 k v es at h in
-      let same : f.0 ≡ at = omega (arith, f.1) in
-      f.3 ∙ ap (λ i. take i es ++ (k, v) ∷ drop i es) same
-
-  pub value_at : (k : K) (d : K × X) (es : List (K × X)) (at : ℕ) → spot_from R 0 k es ≡ Ok at → value_in R k es ≡ Some (get_or es at d).1
-  value_at k d es at h =
-      let f = stands_from 0 k d.1 d es at h in
-      let same : f.0 ≡ at = omega (arith, f.1) in
-      f.4 ∙ ap (λ i. Some (get_or es i d).1) same
-
-  pub no_value : (k : K) (v : X) (es : List (K × X)) (at : ℕ) → spot_from R 0 k es ≡ Err at → value_in R k es ≡ None
-  no_value k v es at h = (goes_in_from 0 k v es at h).4
+  pub value_in-lookup : IsTotalOrder R → (k : K) (es : List (K × X)) → IsStrictlySortedBy R (keys_of es) → value_in R k es ≡ lookup (is_at (R k)) es
+  value_in-lookup o k [] h = refl
+  value_in-lookup o k (e ∷ es) h = by (value_in-lookup o k es (sorted_tail R e.0 (keys_of es) h)) (R k e.0) refl
+    where
+      by : value_in R k es ≡ lookup (is_at (R k)) es → (r : Ordering) → R k e.0 ≡ r → by_order r None (Some e.1) (value_in R k es) ≡ cond (is_eq r) (Some e.1) (lookup (is_at (R k)) es)
+      by later Less is = sym (lookup-none (is_at (R k)) (e ∷ es) (none_below_head o k e es h is)) ∙ ap (λ r. cond (is_eq r) (Some e.1) (lookup (is_at (R k)) es)) is
+      by later Equal is = refl
+      by later Greater is = later
 
   pub keys_put-push : (es : List (K × X)) (e : K × X) (among : List (K × ⊤)) → keys_put R (es ++ e ∷ []) among ≡ keys_put R es (put R e.0 tt among)
   keys_put-push [] e among = refl

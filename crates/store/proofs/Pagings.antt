@@ -1,5 +1,5 @@
 -- The rows of a plain store beside those of its contents.
-use Rattle.std.proofs.Common.{◌≡◌, ℕ, suc, ◌+◌, ◌≤◌, ◌<◌, ◌^◌, List, [], ◌∷◌, ◌++◌, length, get_or, set, take, map, filter, min, drop, Ok, Err, reverse, nat_lt, subst, IfSome, is_some, Bool, true, false, cond, Ordering, Option, Some, None, option_map, nat_cmp, refl, sym, ap, ap₂, ◌∙◌, arith}
+use Rattle.std.proofs.Common.{◌≡◌, ℕ, suc, ◌+◌, ◌≤◌, ◌<◌, ◌^◌, List, [], ◌∷◌, ◌++◌, length, set, map, filter, min, drop, reverse, nat_lt, subst, IfSome, is_some, Bool, true, false, cond, Ordering, Option, Some, None, option_map, nat_cmp, refl, sym, ap, ap₂, ◌∙◌, arith}
 use Rattle.std.proofs.lemmas.Bool.Decides.{nat_tests}
 use Rattle.std.proofs.lemmas.Cmp.{nat_list_cmp_total}
 use Rattle.std.proofs.lemmas.List.{drop_min, length-map, length-reverse, map-append, take-map}
@@ -8,6 +8,9 @@ use Rattle.std.proofs.lemmas.List.Sums.{length-filter}
 use Rattle.std.specs.declared.cmp.Ordering.TheVariants.{Less, Equal, Greater}
 use Rattle.std.specs.Ordering.{ord_min}
 use Rattle.std.specs.Cmp.Lexicographic.{slice_cmp}
+use Rattle.std.specs.BTreeMap.{is_at}
+use Rattle.std.specs.List.Sorted.{IsStrictlySortedBy}
+use Rattle.std.specs.Map.{keys_of, lookup, set_value}
 use Rattle.std.specs.FinMap as finite
 use Rattle.std.specs.FinMap.{put}
 use Rattle.std.specs.FinMap.Entries.{by_order}
@@ -15,7 +18,7 @@ use Rattle.store.specs.Database.{Database, Document, DocumentWrite, history_at, 
 use Rattle.std.specs.List.{count_by}
 use Rattle.store.specs.Pages.{document_counts, in_direction, if_counted, id_page, is_before_start, is_within, live_rows, rows_within, page_of_ids, SequenceRow, in_sequence, last_sequence, up_to_limit, page_by_sequence, page_with, put_in_sequence, rows_after, rows_of}
 use Rattle.store.specs.Paging.{sequence_row_of, sequence_rows}
-use Rattle.store.specs.Plain.{content, document_entries, gathered_after, spot_from, value_in, with_addition, with_write_at}
+use Rattle.store.specs.Plain.{content, document_entries, gathered_after, value_in, with_addition, with_write_at}
 use Rattle.store.specs.Writing.{Addition, addition_of, additions, written_at, writings_in}
 use Rattle.store.specs.declared.page.DocumentCounts.{DocumentCounts}
 use Rattle.store.specs.declared.page.IdRange.{IdRange}
@@ -25,7 +28,7 @@ use Rattle.store.specs.declared.page.SeqRange.{SeqRange}
 use Rattle.store.specs.declared.page.SeqRow.{SeqRow}
 use Rattle.store.specs.declared.plain.PlainDatabase.{PlainDatabase}
 use Rattle.store.specs.declared.plain.PlainDocument.{PlainDocument}
-use Rattle.store.proofs.Orders.{no_value, put_at, put_in, value_at, value_in-find}
+use Rattle.store.proofs.Orders.{set_value-put, value_in-find, value_in-lookup}
 use Rattle.tree.proofs.Kept.{true_from_T}
 
 -- ---- entries whose values are seen as others
@@ -63,23 +66,26 @@ gathered_entry db a =
     ∙ ap (λ o. put (slice_cmp nat_cmp) a.id (record { sequence = db.length + 1; history = with_addition (history_in o) a }) (finite.entries db.documents))
     (finite.get-entries db.documents a.id ∙ sym (value_in-find (slice_cmp nat_cmp) nat_list_cmp_total a.id (finite.entries db.documents) (true_from_T _ (finite.entries_sorted db.documents))))
 
--- a write goes into the document that stands at a place
-pub written_there : (sequence : ℕ) (a : Addition) (es : List (List ℕ × PlainDocument)) (at : ℕ) (e : List ℕ × PlainDocument) (d : PlainDocument) → spot_from (slice_cmp nat_cmp) 0 a.id es ≡ Ok at → e ≡ get_or es at e
-    → d ≡ record { sequence = sequence; history = with_addition e.1.history a } → document_entries (set es at (e.0, d)) ≡ with_write_at sequence (document_entries es) a
-written_there sequence a es at e d place is made =
+-- a write goes into the document that has its id
+pub written_there : (sequence : ℕ) (a : Addition) (es new : List (List ℕ × PlainDocument)) (old d : PlainDocument) → IsStrictlySortedBy (slice_cmp nat_cmp) (keys_of es)
+    → Some old ≡ lookup (is_at (slice_cmp nat_cmp a.id)) es → new ≡ set_value (is_at (slice_cmp nat_cmp a.id)) es d → d ≡ record { sequence = sequence; history = with_addition old.history a }
+    → document_entries new ≡ with_write_at sequence (document_entries es) a
+written_there sequence a es new old d ascend there set made =
     let R = slice_cmp nat_cmp in
-    let old = value_in-seen R document a.id es ∙ ap (option_map document) (value_at R a.id e es at place ∙ ap (λ f. Some f.1) (sym is)) in
-    ap (λ f. document_entries (set es at (f.0, d))) is ∙ ap document_entries (sym (put_at R a.id d e es at place)) ∙ put-seen R document a.id d es
-    ∙ ap (λ x. put R a.id (document x) (document_entries es)) made ∙ ap (λ o. put R a.id (record { sequence = sequence; history = with_addition (history_in o) a }) (document_entries es)) (sym old)
+    let here = value_in-lookup R nat_list_cmp_total a.id es ascend ∙ sym there in
+    let seen = value_in-seen R document a.id es ∙ ap (option_map document) here in
+    ap document_entries (set ∙ set_value-put R a.id old d es here) ∙ put-seen R document a.id d es
+    ∙ ap (λ x. put R a.id (document x) (document_entries es)) made ∙ ap (λ o. put R a.id (record { sequence = sequence; history = with_addition (history_in o) a }) (document_entries es)) (sym seen)
 
--- a write makes a document, which goes in at a place
-pub written_new : (sequence : ℕ) (a : Addition) (es : List (List ℕ × PlainDocument)) (at : ℕ) (d : PlainDocument) → spot_from (slice_cmp nat_cmp) 0 a.id es ≡ Err at
-    → d ≡ record { sequence = sequence; history = with_addition finite.empty a } → document_entries (take at es ++ (a.id, d) ∷ drop at es) ≡ with_write_at sequence (document_entries es) a
-written_new sequence a es at d place made =
+-- a write makes a document, where none has its id
+pub written_new : (sequence : ℕ) (a : Addition) (es new : List (List ℕ × PlainDocument)) (d : PlainDocument) → IsStrictlySortedBy (slice_cmp nat_cmp) (keys_of es)
+    → None ≡ lookup (is_at (slice_cmp nat_cmp a.id)) es → new ≡ put (slice_cmp nat_cmp) a.id d es → d ≡ record { sequence = sequence; history = with_addition finite.empty a }
+    → document_entries new ≡ with_write_at sequence (document_entries es) a
+written_new sequence a es new d ascend none is made =
     let R = slice_cmp nat_cmp in
-    let old = value_in-seen R document a.id es ∙ ap (option_map document) (no_value R a.id d es at place) in
-    ap document_entries (sym (put_in R a.id d es at place)) ∙ put-seen R document a.id d es
-    ∙ ap (λ x. put R a.id (document x) (document_entries es)) made ∙ ap (λ o. put R a.id (record { sequence = sequence; history = with_addition (history_in o) a }) (document_entries es)) (sym old)
+    let seen = value_in-seen R document a.id es ∙ ap (option_map document) (value_in-lookup R nat_list_cmp_total a.id es ascend ∙ sym none) in
+    ap document_entries is ∙ put-seen R document a.id d es
+    ∙ ap (λ x. put R a.id (document x) (document_entries es)) made ∙ ap (λ o. put R a.id (record { sequence = sequence; history = with_addition (history_in o) a }) (document_entries es)) (sym seen)
 
 entries-with_all : (all : List Addition) (db : Database) → finite.entries (with_all db (writings_in db all)).documents ≡ gathered_after db.length (finite.entries db.documents) all
 entries-with_all [] db = refl
@@ -185,7 +191,7 @@ sequence_rows-limited (Some n) rs = sym (take-map sequence_row_of n rs)
 
 -- ---- counts
 
-apart : {X : Type 0} (p q : X → Bool) → ((x : X) → p x ≡ true → q x ≡ false) → (xs : List X) → length (filter p xs) + length (filter q xs) ≤ length xs
+pub apart : {X : Type 0} (p q : X → Bool) → ((x : X) → p x ≡ true → q x ≡ false) → (xs : List X) → length (filter p xs) + length (filter q xs) ≤ length xs
 apart p q h [] = omega arith
 apart p q h (x ∷ xs) = by (p x) (q x) (h x) (apart p q h xs)
   where
@@ -196,11 +202,11 @@ apart p q h (x ∷ xs) = by (p x) (q x) (h x) (apart p q h xs)
     by false true k le = omega (arith, le)
     by false false k le = omega (arith, le)
 
-count-directed : (descending : Bool) (p : IdRow → Bool) (rs : List IdRow) → count_by p (in_direction descending rs) ≡ count_by p rs
+pub count-directed : {X : Type 0} (descending : Bool) (p : X → Bool) (rs : List X) → count_by p (in_direction descending rs) ≡ count_by p rs
 count-directed true p rs = sum_by-IsPermutation (λ r. cond (p r) 1 0) rs (reverse rs) (IsPermutation-reverse rs)
 count-directed false p rs = refl
 
-length-directed : (descending : Bool) (rs : List IdRow) → length (in_direction descending rs) ≡ length rs
+pub length-directed : {X : Type 0} (descending : Bool) (rs : List X) → length (in_direction descending rs) ≡ length rs
 length-directed true rs = length-reverse rs
 length-directed false rs = refl
 

@@ -1,10 +1,12 @@
 -- The documents that queries look at, and the rows of an index over them, made from scratch: each document that has all the fields, at the values that it has for them.
 -- CouchDB manual, api/database/find (which documents a query sees, and the fields of an index) and ddocs/views/collation (the order of keys); that a design document declares its indexes in the member `indexes` is this server's own.
-use Rattle.std.specs.Prelude.{ℕ, List, [], ◌∷◌, map, codes, Option, Some, None, option_map, option_and_then, if◌then◌else◌}
+use Rattle.std.specs.Prelude.{refl, ℕ, List, [], ◌∷◌, map, codes, Option, Some, None, option_map, option_and_then, if◌then◌else◌}
 use Rattle.std.specs.declared.cmp.Ordering.{Ordering}
 use Rattle.std.specs.Ordering.{nat_cmp, ordering_then}
 use Rattle.std.specs.Cmp.Lexicographic.{slice_cmp}
+use Rattle.std.specs.Coded.{Coded, code_by, coded×, coded_list, coded_ℕ}
 use Rattle.std.specs.FinMap.{entries, put}
+use Rattle.couch_json.specs.Code.{value_code}
 use Rattle.couch_json.specs.Collation.{collation}
 use Rattle.couch_json.specs.FieldPath.{value_at}
 use Rattle.couch_json.specs.Parts.{items_in, items_or_none, text_in}
@@ -43,6 +45,10 @@ pub record IndexPlace : Type 0 where
 -- places go by their keys, and by the bytes of the ids where the keys tie
 abbrev pub place_order : IndexPlace → IndexPlace → Ordering
 place_order a b = ordering_then (collation a.key b.key) (slice_cmp nat_cmp a.id b.id)
+
+-- a place is stored as the pair of its parts
+abbrev pub place_code : Coded IndexPlace
+place_code = code_by (Value × List ℕ) (coded× value_code (coded_list coded_ℕ)) (λ p. (p.key, p.id)) (λ p. record { key = p.0; id = p.1 }) (λ _. refl)
 
 abbrev pub values_with : Option Value → Option Items → Option Items
 values_with None vs = None
@@ -104,7 +110,11 @@ declared_fields body name = option_map fields_in (member_of (object (indexes_if 
 abbrev pub winning_body : HistoryContent → Option Value
 winning_body h = option_map (λ held. held.body) (held_by h (live_rev h))
 
--- the fields of the index that a design document declares under this name, where its winner is not deleted
+-- the fields of the index that a design document with this history declares under this name, where its winner is not deleted
+abbrev pub index_fields_of : List ℕ → HistoryContent → List ℕ → Option (List (List ℕ))
+index_fields_of design h name =
+    if is_design_id design then option_and_then (λ body. declared_fields body name) (winning_body h) else None
+
+-- the fields of the index that this design document of a database declares under this name
 abbrev pub index_fields_at : Database → List ℕ → List ℕ → Option (List (List ℕ))
-index_fields_at db design name =
-    if is_design_id design then option_and_then (λ body. declared_fields body name) (winning_body (history_at db design)) else None
+index_fields_at db design name = index_fields_of design (history_at db design) name

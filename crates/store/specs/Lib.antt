@@ -4,8 +4,11 @@ pub mod Contents
 pub mod Causes
 pub mod Pages
 pub mod Indexes
+pub mod PlaceOrder
+pub mod KeyPages
 pub mod Writing
 pub mod Paging
+pub mod KeyPaging
 pub mod Lawful
 pub mod Leaving
 pub mod Calls

@@ -156,7 +156,7 @@ is_after_end range id = is_after_end_of range.descending range.inclusive_end ran
 abbrev pub is_within : IdRange → List ℕ → Bool
 is_within range id = not (is_before_start range id || is_after_end range id)
 
-abbrev pub in_direction : Bool → List IdRow → List IdRow
+abbrev pub in_direction : {A : Type 0} → Bool → List A → List A
 in_direction descending rs = if descending then reverse rs else rs
 
 -- the rows of the range, in its direction

@@ -1,14 +1,18 @@
 -- What a plain store holds, as contents; for private clauses and proofs.
 -- This crate's own.
-use Rattle.std.specs.Prelude.{ℕ, bytes_eq, ◌+◌, List, [], ◌∷◌, map, Option, Some, None, Result, Ok, Err, if◌then◌else◌, ⊤}
+use Rattle.std.specs.Prelude.{ℕ, bytes_eq, ◌+◌, List, [], ◌∷◌, map, Option, Some, None, if◌then◌else◌, ⊤}
 use Rattle.std.specs.declared.cmp.Ordering.{Ordering}
 use Rattle.std.specs.Ordering.{nat_cmp, eq_by_cmp}
 use Rattle.std.specs.Cmp.Lexicographic.{slice_cmp}
 use Rattle.std.specs.FinMap.{from_entries, find, put}
 use Rattle.std.specs.FinMap.Entries.{by_order}
+use Rattle.couch_json.specs.Value.{Value}
+use Rattle.couch_json.specs.View.{view}
+use Rattle.couch_json.specs.declared.value.Json.{Json}
 use Rattle.tree.specs.History.{HistoryContent, with_write}
 use Rattle.store.specs.Contents.{Contents}
 use Rattle.store.specs.Database.{Database, Document, history_in, with_all, empty_database}
+use Rattle.store.specs.Indexes.{IndexPlace, index_over}
 use Rattle.store.specs.Writing.{Addition, additions, written_in, writings_in}
 use Rattle.store.specs.declared.plain.PlainDatabase.{PlainDatabase}
 use Rattle.store.specs.declared.plain.PlainDocument.{PlainDocument}
@@ -43,11 +47,6 @@ abbrev pub history_after : HistoryContent → List ℕ → List Addition → His
 history_after h id [] = h
 history_after h id (a ∷ more) = history_after (if bytes_eq a.id id then with_addition h a else h) id more
 
--- where a key stands among entries, counted on from n: Ok at the first that has it, Err before the first that is above it
-abbrev pub spot_from : {K X : Type 0} → (K → K → Ordering) → ℕ → K → List (K × X) → Result ℕ ℕ
-spot_from R n k [] = Err n
-spot_from R n k (e ∷ es) = by_order (R k e.0) (Err n) (Ok n) (spot_from R (n + 1) k es)
-
 -- the value at a key among entries in the order of their keys
 abbrev pub value_in : {K X : Type 0} → (K → K → Ordering) → K → List (K × X) → Option X
 value_in R k [] = None
@@ -73,3 +72,11 @@ with_write_at sequence es a =
 abbrev pub gathered_after : ℕ → List (List ℕ × Document) → List Addition → List (List ℕ × Document)
 gathered_after n es [] = es
 gathered_after n es (a ∷ more) = gathered_after (n + 1) (with_write_at (n + 1) es a) more
+
+-- an index with its documents
+abbrev pub placed : List (IndexPlace × Json) → List (IndexPlace × Value)
+placed es = map (λ e. (e.0, view e.1)) es
+
+-- the places of these documents in an index of these fields
+abbrev pub places_over : List (List ℕ) → List (List ℕ × Document) → List IndexPlace
+places_over fields es = map (λ e. e.0) (index_over fields es)

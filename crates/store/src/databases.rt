@@ -15,6 +15,7 @@ use crate::write::Write;
 use couch_json::Got;
 use policy::Security;
 use std::alloc::Global;
+use std::collections::BTreeMap;
 
 /// Finds the place of the database of this name, if there is one.
 pub(crate) fn place_of(databases: &Databases, name: &DbName) -> Option<usize>
@@ -97,15 +98,15 @@ pub(crate) fn remove(databases: &mut Databases, name: &DbName)
 pub(crate) fn names_of(alloc: Global, databases: &Databases) -> Got<Vec<DbName>>
     ensures { IfOk result (λ names. names.items ≡ map.keys (contents_of databases.now.items)) }
 {
-    let mut names = Vec::new(alloc);
+    let mut names = BTreeMap::new(alloc);
     for at in (0..databases.len()).rev() {
         put_sorted(&mut names, databases[at].0.copy(alloc)?, ())?;
     }
-    Ok(first_parts(alloc, names)?)
+    Ok(list_keys(alloc, names)?)
 }
 
-fn first_parts(alloc: Global, names: Vec<(DbName, ())>) -> Got<Vec<DbName>>
-    ensures { IfOk result (λ firsts. firsts.items ≡ list_map (λ e. e.0) names.items) }
+fn list_keys(alloc: Global, names: BTreeMap<DbName, ()>) -> Got<Vec<DbName>>
+    ensures { IfOk result (λ keys. keys.items ≡ list_map (λ e. e.0) names.entries) }
 {
-    Ok(names.into_iter().map(|entry| entry.0).collect(alloc)?)
+    Ok(names.into_keys().collect(alloc)?)
 }

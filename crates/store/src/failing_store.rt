@@ -2,6 +2,7 @@ ghost use Rattle.std.specs.Prelude.{◌≡◌, ◌⊎◌, ◌+◌, ◌-◌, ◌<
 
 use crate::database_name::DbName;
 use crate::fault::StoreFault;
+use crate::key_page::{KeyRange, PageByKey};
 use crate::page::{IdRange, PageById, PageBySeq, SeqRange};
 use crate::store::Store;
 use crate::write::Write;
@@ -113,6 +114,17 @@ impl<S: Store + Drop> Store for FailingStore<S> {
     fn page_by_seq(&mut self, name: &DbName, range: &SeqRange) -> Result<PageBySeq, StoreFault> {
         count_call(&mut self.calls_left, &mut self.failures)?;
         self.store.page_by_seq(name, range)
+    }
+
+    fn page_by_key(
+        &mut self,
+        name: &DbName,
+        design: &DocId,
+        index: &str,
+        range: &KeyRange,
+    ) -> Result<Option<PageByKey>, StoreFault> {
+        count_call(&mut self.calls_left, &mut self.failures)?;
+        self.store.page_by_key(name, design, index, range)
     }
 
     fn commit(&mut self, name: &DbName, writes: &[Write]) -> Result<(), StoreFault> {

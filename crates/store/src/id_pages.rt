@@ -62,7 +62,7 @@ fn gather_page(alloc: Global, writes: &Vec<Write>, range: &IdRange) -> Got<PageB
     })
 }
 
-fn counts_if(counted: bool, offset: u64, total: u64) -> Option<RowCounts>
+pub(crate) fn counts_if(counted: bool, offset: u64, total: u64) -> Option<RowCounts>
     ensures { result ≡ if_counted counted (record { offset = offset; total = total }) }
 {
     if counted {
@@ -98,7 +98,8 @@ pub(crate) fn find_live_rev(history: &History) -> Option<Rev>
     }
 }
 
-fn turn(rows: Vec<IdRow>, descending: bool) -> Vec<IdRow>
+/// Turns the rows round where a listing goes down.
+pub(crate) fn turn<T: Drop>(rows: Vec<T>, descending: bool) -> Vec<T>
     ensures { result.items ≡ in_direction descending rows.items }
 {
     let mut rows = rows;

@@ -7,13 +7,14 @@ ghost use Rattle.store.specs.Paging.{IsBounded, sequence_page_of, sequence_row_o
 ghost use Rattle.store.specs.Plain.{document_entries, gathered_after, document_entry, with_addition, with_write_at};
 ghost use Rattle.store.specs.Writing.{addition_of, additions};
 
-use crate::order::{cut_to_limit, put_sorted, spot};
+use crate::order::{cut_to_limit, put_sorted};
 use crate::page::{DocumentCounts, PageBySeq, SeqRange, SeqRow};
 use crate::plain::{Documents, PlainDocument};
 use crate::write::Write;
 use couch_json::Got;
 use std::alloc::Global;
 use std::cmp::min;
+use std::collections::BTreeMap;
 use tree::{DocId, History, Rev};
 
 /// Returns the rows that the writes made, in the order of their sequences, cut by the range.
@@ -53,23 +54,34 @@ fn counts_of(documents: &Documents, counted: bool) -> Option<DocumentCounts>
 pub(crate) fn documents_of(alloc: Global, writes: &Vec<Write>) -> Got<Documents>
     ensures { IfOk result (λ documents. document_entries documents.items ≡ gathered_after 0 [] (additions writes.now.items)) }
 {
-    let mut documents = Vec::new(alloc);
+    let mut documents = BTreeMap::new(alloc);
     for (at, write) in writes.iter().enumerate() {
         take_in(alloc, &mut documents, at as u64 + 1, write)?;
     }
-    Ok(documents)
+    Ok(list_entries(alloc, documents)?)
+}
+
+fn list_entries(alloc: Global, documents: BTreeMap<DocId, PlainDocument>) -> Got<Documents>
+    ensures { IfOk result (λ entries. entries.items ≡ documents.entries) }
+{
+    Ok(documents.into_iter().collect(alloc)?)
 }
 
 /// Takes in the write that has this sequence.
-fn take_in(alloc: Global, documents: &mut Documents, sequence: u64, write: &Write) -> Got<()>
-    ensures ok { OnOk result (document_entries documents.new.items ≡ with_write_at sequence (document_entries documents.old.items) (addition_of write.now)) }
+fn take_in(
+    alloc: Global,
+    documents: &mut BTreeMap<DocId, PlainDocument>,
+    sequence: u64,
+    write: &Write,
+) -> Got<()>
+    ensures ok { OnOk result (document_entries documents.new.entries ≡ with_write_at sequence (document_entries documents.old.entries) (addition_of write.now)) }
 {
-    match spot(documents, &write.id) {
-        Ok(at) => write_to(&mut documents[at].1, sequence, write)?,
-        Err(at) => {
+    match documents.get_mut(&write.id) {
+        Some(document) => write_to(document, sequence, write)?,
+        None => {
             let id = write.id.copy(alloc)?;
             let document = make_document(alloc, sequence, write)?;
-            documents.insert(at, (id, document))?;
+            put_sorted(documents, id, document)?;
         }
     }
     Ok(())
@@ -168,17 +180,17 @@ fn sort_by_sequence(alloc: Global, rows: Vec<SeqRow>) -> Got<Vec<SeqRow>>
     ensures { IfOk result (λ ordered. sequence_rows ordered.items ≡ in_sequence (sequence_rows rows.items)) }
 {
     let mut rows = rows;
-    let mut ordered = Vec::new(alloc);
+    let mut ordered = BTreeMap::new(alloc);
     while let Some(row) = rows.pop() {
         put_sorted(&mut ordered, row.sequence, row)?;
     }
-    Ok(second_parts(alloc, ordered)?)
+    Ok(list_values(alloc, ordered)?)
 }
 
-fn second_parts(alloc: Global, ordered: Vec<(u64, SeqRow)>) -> Got<Vec<SeqRow>>
-    ensures { IfOk result (λ rows. rows.items ≡ list_map (λ e. e.1) ordered.items) }
+fn list_values(alloc: Global, ordered: BTreeMap<u64, SeqRow>) -> Got<Vec<SeqRow>>
+    ensures { IfOk result (λ rows. rows.items ≡ list_map (λ e. e.1) ordered.entries) }
 {
-    Ok(ordered.into_iter().map(|entry| entry.1).collect(alloc)?)
+    Ok(ordered.into_values().collect(alloc)?)
 }
 
 /// Returns the rows after a sequence, up to the limit.

@@ -7,6 +7,8 @@ use crate::database_name::DbName;
 use crate::databases::{add, append, database_of, names_of, place_of, remove, secure};
 use crate::fault::StoreFault;
 use crate::id_pages::page_by_id;
+use crate::key_page::{KeyRange, PageByKey};
+use crate::key_pages::page_by_key;
 use crate::page::{IdRange, PageById, PageBySeq, SeqRange};
 use crate::pages::page_by_seq;
 use crate::plain::Databases;
@@ -110,6 +112,20 @@ impl Store for PlainStore {
         let alloc = *self.databases.allocator();
         match database_of(&self.databases, name) {
             Some(database) => Ok(page_by_seq(alloc, &database.writes, range)?),
+            None => Err(StoreFault::NoDatabase),
+        }
+    }
+
+    fn page_by_key(
+        &mut self,
+        name: &DbName,
+        design: &DocId,
+        index: &str,
+        range: &KeyRange,
+    ) -> Result<Option<PageByKey>, StoreFault> {
+        let alloc = *self.databases.allocator();
+        match database_of(&self.databases, name) {
+            Some(database) => Ok(page_by_key(alloc, &database.writes, design, index, range)?),
             None => Err(StoreFault::NoDatabase),
         }
     }

@@ -1,8 +1,10 @@
-ghost use Rattle.std.specs.Prelude.{◌≡◌, ◌≢◌, ℕ, List, IfOk, IfErr, OnOk, Err, Some, None, is_some, true, option_map};
+ghost use Rattle.std.specs.Prelude.{◌≡◌, ◌≢◌, ℕ, List, IfOk, IfErr, IfSome, OnOk, Err, Some, None, is_some, true, option_map};
 ghost use Rattle.std.specs.FinMap as map;
 ghost use Rattle.store.specs.Causes.{IsCaused};
 ghost use Rattle.store.specs.Contents.{Contents, AreAcceptable, IfThere, new_database, with_security};
 ghost use Rattle.store.specs.Database.{DocumentWrite, history_at, with_all};
+ghost use Rattle.store.specs.KeyPages.{page_of_keys};
+ghost use Rattle.store.specs.KeyPaging.{HasKeyCounts, key_page_in};
 ghost use Rattle.store.specs.Lawful.{AreLawful};
 ghost use Rattle.store.specs.Leaving.{Answers, ChangesWhole, OnlyReads};
 ghost use Rattle.store.specs.Pages.{page_of_ids, page_by_sequence};
@@ -11,6 +13,7 @@ ghost use Rattle.store.specs.Writing.{additions, writings_in};
 
 use crate::database_name::DbName;
 use crate::fault::StoreFault;
+use crate::key_page::{KeyRange, PageByKey};
 use crate::page::{IdRange, PageById, PageBySeq, SeqRange};
 use crate::write::Write;
 use policy::Security;
@@ -104,6 +107,21 @@ pub trait Store {
         ensures answer { Answers is_honest fault_count self.old self.new sequence_page_of
             (option_map (λ db. page_by_sequence range.now db) (map.get (contents self.old) name.now)) result }
         ensures bounded { IfOk result (IsBounded range.now) }
+        ensures reads { OnlyReads contents is_honest is_clean fault_count lacks_room lacks_number self.old self.new };
+
+    /// Returns the rows of the index that a design document of a database declares under a name, by key
+    /// and cut by a range, with their counts where those are asked for; `None` where it declares none of
+    /// this name. `NoDatabase` comes if and only if there is no database of this name.
+    fn page_by_key(
+        &mut self,
+        name: &DbName,
+        design: &DocId,
+        index: &str,
+        range: &KeyRange,
+    ) -> Result<Option<PageByKey>, StoreFault>
+        ensures answer { Answers is_honest fault_count self.old self.new key_page_in
+            (option_map (λ db. page_of_keys range.now design.now index.now db) (map.get (contents self.old) name.now)) result }
+        ensures counted { IfOk result (λ page. IfSome page (HasKeyCounts range.now)) }
         ensures reads { OnlyReads contents is_honest is_clean fault_count lacks_room lacks_number self.old self.new };
 
     /// Appends all the writes to a database, or none of them. `NoDatabase` comes if and only if there

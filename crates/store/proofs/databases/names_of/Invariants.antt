@@ -4,4 +4,4 @@ use Rattle.store.specs.Plain.{keys_put}
 use Rattle.store.proofs.databases.names_of.Given as goal
 
 abbrev pub invariant-loop-at : goal.invariant-loop-at
-invariant-loop-at l = keys_put (slice_cmp nat_cmp) (take l.at l.databases.items) l.names.items ≡ keys_put (slice_cmp nat_cmp) l.databases.items []
+invariant-loop-at l = keys_put (slice_cmp nat_cmp) (take l.at l.databases.items) l.names.entries ≡ keys_put (slice_cmp nat_cmp) l.databases.items []

@@ -4,4 +4,4 @@ use Rattle.store.specs.Writing.{additions}
 use Rattle.store.proofs.pages.documents_of.Given as goal
 
 abbrev pub invariant-loop-at : goal.invariant-loop-at
-invariant-loop-at l = gathered_after l.at (document_entries l.documents.items) (additions (drop l.at l.writes.items)) ≡ gathered_after 0 [] (additions l.writes.items)
+invariant-loop-at l = gathered_after l.at (document_entries l.documents.entries) (additions (drop l.at l.writes.items)) ≡ gathered_after 0 [] (additions l.writes.items)

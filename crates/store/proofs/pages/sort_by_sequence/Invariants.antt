@@ -5,7 +5,7 @@ use Rattle.store.proofs.Pagings.{keyed}
 use Rattle.store.proofs.pages.sort_by_sequence.Given as goal
 
 abbrev pub invariant-loop-row : goal.invariant-loop-row
-invariant-loop-row l = put_in_sequence (sequence_rows l.rows.items) (keyed l.ordered.items) ≡ put_in_sequence (sequence_rows l.initial.rows.items) []
+invariant-loop-row l = put_in_sequence (sequence_rows l.rows.items) (keyed l.ordered.entries) ≡ put_in_sequence (sequence_rows l.initial.rows.items) []
 
 abbrev pub decreases-loop-row : goal.decreases-loop-row
 decreases-loop-row l = length l.rows.items

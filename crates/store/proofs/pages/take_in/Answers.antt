@@ -1,22 +1,22 @@
-use Rattle.std.proofs.Common.{◌∷◌, ◌++◌, drop, take, sym, ap, ◌∙◌}
-use Rattle.store.specs.Plain.{document_entries}
+use Rattle.std.proofs.Common.{nat_cmp, ap, ◌∙◌}
+use Rattle.std.specs.Cmp.Lexicographic.{slice_cmp}
+use Rattle.std.specs.FinMap.{put}
 use Rattle.store.specs.Writing.{addition_of}
 use Rattle.store.proofs.Pagings.{written_new, written_there}
 use Rattle.store.proofs.pages.take_in.Goals as goal
 
-pub returns-in_ok-write_to-in-Ok : goal.returns-in_ok-write_to-in-Ok
-returns-in_ok-write_to-in-Ok c =
+pub returns-in_ok-write_to-in-Some : goal.returns-in_ok-write_to-in-Some
+returns-in_ok-write_to-in-Some c =
     record {
-      ok = written_there c.args.sequence (addition_of c.args.write.now) c.args.documents.now.items c.in-Ok.at c.index_mut.result.now c.write_to.new.document
-          (sym c.in-Ok.ensures.spot) c.index_mut.ensures.value c.in_ok-write_to-in-Ok.ensures.ok;
+      ok = written_there c.args.sequence (addition_of c.args.write.now) c.args.documents.now.entries _ c.in-Some.document.now c.write_to.new.document c.get_mut.ensures.ordered
+          c.in-Some.ensures.value (c.get_mut.follows.holds c.write_to.new.document).0 c.in_ok-write_to-in-Some.ensures.ok;
     }
 
-pub returns-in_ok-insert-in-Err : goal.returns-in_ok-insert-in-Err
-returns-in_ok-insert-in-Err c =
-    let es = c.args.documents.now.items in
-    let at = c.in-Err.at in
-    let d = c.in_ok-document-in-Err.document in
+pub returns-in_ok-put_sorted-in-None : goal.returns-in_ok-put_sorted-in-None
+returns-in_ok-put_sorted-in-None c =
+    let es = c.args.documents.now.entries in
+    let d = c.in_ok-document-in-None.document in
     record {
-      ok = ap document_entries (c.in_ok-insert-in-Err.ensures.items ∙ ap (λ id. take at es ++ (id, d) ∷ drop at es) c.in_ok-id-in-Err.ensures)
-          ∙ written_new c.args.sequence (addition_of c.args.write.now) es at d (sym c.in-Err.ensures.spot) c.in_ok-document-in-Err.ensures;
+      ok = written_new c.args.sequence (addition_of c.args.write.now) es _ d c.get_mut.ensures.ordered c.in-None.ensures.value
+          (c.in_ok-put_sorted-in-None.ensures.ok ∙ (λ i. put (slice_cmp nat_cmp) c.in_ok-id-in-None.id d (c.get_mut.follows.holds-at-none i).entries) ∙ ap (λ id. put (slice_cmp nat_cmp) id d es) c.in_ok-id-in-None.ensures) c.in_ok-document-in-None.ensures;
     }

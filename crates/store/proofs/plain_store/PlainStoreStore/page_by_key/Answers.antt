@@ -1,0 +1,15 @@
+use Rattle.std.proofs.Common.{◌≡◌, Some, option_map, sym, ap, ◌∙◌, rules}
+use Rattle.std.specs.FinMap as map
+use Rattle.store.specs.KeyPages.{page_of_keys}
+use Rattle.store.specs.Plain.{content, contents_of}
+use Rattle.store.proofs.KeyCounts.{page_of_keys-content}
+use Rattle.store.proofs.plain_store.PlainStoreStore.page_by_key.Goals as goal
+
+pub returns-in_ok-page_by_key-in-Some-clause-answer : goal.returns-in_ok-page_by_key-in-Some-clause-answer
+returns-in_ok-page_by_key-in-Some-clause-answer c =
+    let d = c.in-Some.database.now in
+    let range = c.args.range.now in
+    let design = c.args.design.now in
+    let index = c.args.index.now in
+    let there : map.get (contents_of c.args.self.now.databases.items) c.args.name.now ≡ Some (content c.in-Some.database.now) = search rules in
+    λ _. ap (option_map (λ db. page_of_keys range design index db)) there ∙ ap Some (page_of_keys-content range design index d ∙ sym c.in_ok-page_by_key-in-Some.ensures.page)
