@@ -1,0 +1,6 @@
+mod Filtered
+mod Findables
+mod Finding
+mod Indexed
+mod Parts
+pub mod Turned

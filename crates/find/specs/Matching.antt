@@ -1,0 +1,33 @@
+-- A find row by row: what each row adds, and what is still to come.
+-- This crate's own: it ties the loops of the code to the definition of `Found`.
+use Rattle.std.specs.Prelude.{ℕ, List, [], ◌∷◌, ◌++◌, drop, flat_map, if◌then◌else◌, map, Option, Some, None, take}
+use Rattle.std.specs.Option.{option_to_list}
+use Rattle.couch_json.specs.Value.{Value}
+use Rattle.couch_json.specs.View.{view}
+use Rattle.selector.specs.Truth.{selector_matches}
+use Rattle.store.specs.Database.{Database, history_at}
+use Rattle.store.specs.Indexes.{IndexPlace, put_in_index, queried_document}
+use Rattle.store.specs.declared.page.IdRow.{IdRow}
+use Rattle.find.specs.declared.part.Part.{Part}
+
+-- the document, where it matches
+abbrev pub if_matches : Value → Option Value → Option Value
+if_matches selector None = None
+if_matches selector (Some v) = if selector_matches selector v then Some v else None
+
+-- the document of this id, where queries look at it and it matches
+abbrev pub match_in : Value → Database → List ℕ → Option Value
+match_in selector db id = if_matches selector (queried_document id (history_at db id))
+
+-- the documents of these rows that match
+abbrev pub matches_of : Value → Database → List IdRow → List Value
+matches_of selector db rows = flat_map (λ r. option_to_list (match_in selector db r.id)) rows
+
+-- the same documents at their places in an index of these fields
+abbrev pub put_matches : List (List ℕ) → Value → Database → List IdRow → List (IndexPlace × Value) → List (IndexPlace × Value)
+put_matches fields selector db [] among = among
+put_matches fields selector db (r ∷ rows) among = put_matches fields selector db rows (put_in_index fields r.id (match_in selector db r.id) among)
+
+-- the part, once these documents have come too
+abbrev pub completed : Part → List Value → List Value
+completed part rest = map view part.documents.items ++ take part.limit (drop part.skip rest)

@@ -1,0 +1,11 @@
+-- What reading a part of a query answers, by what is defined.
+-- This crate's own: it ties the faults of the code to the definition of `Queries`.
+use Rattle.std.specs.Prelude.{◌≡◌, Option, Some, None, Result, Ok, Err, ⊤}
+use Rattle.find.specs.declared.fault.QueryFault.{QueryFault}
+use Rattle.find.specs.declared.fault.QueryFault.TheVariants.{Shape, Memory}
+
+-- What is defined, as it is shown; a fault of shape comes where nothing is, and lack of memory in place of any answer.
+abbrev pub Reads : {X A : Type 0} → (X → A) → Option A → Result X QueryFault → Type 0
+Reads shown defined (Ok x) = defined ≡ Some (shown x)
+Reads shown defined (Err Shape) = defined ≡ None
+Reads shown defined (Err Memory) = ⊤

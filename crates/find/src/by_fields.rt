@@ -1,0 +1,135 @@
+//! Finds with a sort: all documents that match are put at their places first.
+
+ghost use Rattle.std.specs.Prelude.{◌≡◌, [], IfOk, IfErr, None, OnOk, Some, drop, map as each, take};
+ghost use Rattle.std.specs.FinMap as map;
+ghost use Rattle.couch_json.specs.View.{view};
+ghost use Rattle.store.specs.Calls.{OnlyReads};
+ghost use Rattle.store.specs.Database.{Database};
+ghost use Rattle.store.specs.Indexes.{put_in_index};
+ghost use Rattle.read.specs.Answers.{Stops};
+ghost use Rattle.find.specs.Found.{in_direction};
+ghost use Rattle.find.specs.Matching.{match_in, put_matches};
+ghost use Rattle.find.specs.Places.{entries_view};
+
+use crate::matching::read_match;
+use crate::part::Part;
+use crate::place::Place;
+use crate::query::Query;
+use couch_json::{FieldPath, Got, Json};
+use read::ReadFault;
+use std::alloc::Global;
+use std::collections::BTreeMap;
+use store::{DbName, IdRow, Store, values_at};
+use tree::DocId;
+
+/// Finds the documents of these rows that match and have all fields of the sort, sorts them, and
+/// takes the part that is asked for.
+#[tactic(auto, using(crate::proofs::Turned::map_directed))]
+pub(crate) fn find_sorted<S: Store>(
+    alloc: Global,
+    store: &mut S,
+    db: &DbName,
+    rows: &[IdRow],
+    query: &Query,
+) -> Result<Vec<Json>, ReadFault>
+    ensures ok { S.is_honest store.new → IfOk result (λ documents. (d : Database) → map.get (S.contents store.old) db.now ≡ Some d
+        → each view documents.items ≡ take query.now.limit (drop query.now.skip
+        (in_direction query.now.descending (each (λ e. e.1) (put_matches query.now.sort query.now.selector d rows.now []))))) }
+    ensures stops { IfErr result (Stops S.Store store.old store.new (map.get (S.contents store.old) db.now ≡ None)) }
+    ensures reads { OnlyReads S.Store store.old store.new }
+{
+    let sorted = sort_matches(alloc, store, db, rows, query)?;
+    let documents = turn(documents_of(alloc, sorted)?, query.descending);
+    Ok(take_part(alloc, documents, query)?)
+}
+
+/// Puts the documents of these rows that match at their places.
+fn sort_matches<S: Store>(
+    alloc: Global,
+    store: &mut S,
+    db: &DbName,
+    rows: &[IdRow],
+    query: &Query,
+) -> Result<BTreeMap<Place, Json>, ReadFault>
+    ensures ok { S.is_honest store.new → IfOk result (λ sorted. (d : Database) → map.get (S.contents store.old) db.now ≡ Some d
+        → entries_view sorted.entries ≡ put_matches query.now.sort query.now.selector d rows.now []) }
+    ensures stops { IfErr result (Stops S.Store store.old store.new (map.get (S.contents store.old) db.now ≡ None)) }
+    ensures reads { OnlyReads S.Store store.old store.new }
+{
+    let mut sorted = BTreeMap::new(alloc);
+    for row in rows {
+        put_match(alloc, store, db, &row.id, query, &mut sorted)?;
+    }
+    Ok(sorted)
+}
+
+/// Puts a document at its place, if it matches and has one.
+fn put_match<S: Store>(
+    alloc: Global,
+    store: &mut S,
+    db: &DbName,
+    id: &DocId,
+    query: &Query,
+    sorted: &mut BTreeMap<Place, Json>,
+) -> Result<(), ReadFault>
+    ensures ok { S.is_honest store.new → OnOk result ((d : Database) → map.get (S.contents store.old) db.now ≡ Some d
+        → entries_view sorted.new.entries ≡ put_in_index query.now.sort id.now (match_in query.now.selector d id.now) (entries_view sorted.old.entries)) }
+    ensures stops { IfErr result (Stops S.Store store.old store.new (map.get (S.contents store.old) db.now ≡ None)) }
+    ensures reads { OnlyReads S.Store store.old store.new }
+{
+    if let Some(document) = read_match(alloc, store, db, id, &query.selector)? {
+        put_document(alloc, query.sort.as_slice(), id, document, sorted)?;
+    }
+    Ok(())
+}
+
+/// Puts a document at its place, if it has all the fields.
+fn put_document(
+    alloc: Global,
+    fields: &[FieldPath],
+    id: &DocId,
+    document: Json,
+    sorted: &mut BTreeMap<Place, Json>,
+) -> Got<()>
+    ensures { OnOk result (entries_view sorted.new.entries ≡ put_in_index fields.now id.now (Some (view document)) (entries_view sorted.old.entries)) }
+{
+    let Some(values) = values_at(alloc, fields, &document)? else {
+        return Ok(());
+    };
+    let place = Place::new(values, id.copy(alloc)?);
+    drop(sorted.insert(place, document)?);
+    Ok(())
+}
+
+/// Turns the documents round, if they are to go down.
+fn turn(documents: Vec<Json>, descending: bool) -> Vec<Json>
+    ensures { result.items ≡ in_direction descending documents.items }
+{
+    let mut documents = documents;
+    if descending {
+        documents.reverse();
+    }
+    documents
+}
+
+/// Lists the documents in the order of their places.
+fn documents_of(alloc: Global, sorted: BTreeMap<Place, Json>) -> Got<Vec<Json>>
+    ensures { IfOk result (λ documents. each view documents.items ≡ each (λ e. e.1) (entries_view sorted.entries)) }
+{
+    let mut documents = Vec::with_capacity(alloc, sorted.len())?;
+    for document in sorted.into_values() {
+        documents.push(document)?;
+    }
+    Ok(documents)
+}
+
+/// Takes the part of the documents that is asked for.
+fn take_part(alloc: Global, documents: Vec<Json>, query: &Query) -> Got<Vec<Json>>
+    ensures { IfOk result (λ part. each view part.items ≡ take query.now.limit (drop query.now.skip (each view documents.items))) }
+{
+    let mut part = Part::new(alloc, query);
+    for document in documents {
+        part.put(document)?;
+    }
+    Ok(part.documents)
+}

@@ -1,0 +1,26 @@
+//! Finds: the documents of a database that match a selector, in an order, in part (CouchDB manual,
+//! api/database/find).
+//!
+//! [`Query::read`] reads what is asked for, and [`find`] answers it. A row of the tests:
+//!
+//! ```rows
+//! anybody POST /db/_find {"selector":{"n":{"$mod":[-1,0]}}} => 200 {"bookmark":"nil","docs":[{"_id":"p","_rev":"1-x","n":1}]}
+//! ```
+#![tactic(auto)]
+
+mod by_fields;
+mod by_id;
+mod documents;
+mod fault;
+pub mod laws;
+mod matching;
+mod part;
+mod place;
+mod query;
+mod sort;
+mod sort_fields;
+
+pub use documents::find;
+pub use fault::QueryFault;
+pub use query::Query;
+pub use sort_fields::SortFields;

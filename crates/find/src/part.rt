@@ -1,0 +1,52 @@
+ghost use Rattle.std.specs.Prelude.{◌≡◌, ◌∷◌, List, OnOk, drop, nat_eq, take};
+ghost use Rattle.couch_json.specs.Value.{Value};
+ghost use Rattle.couch_json.specs.View.{view};
+ghost use Rattle.find.specs.Matching.{completed};
+
+use crate::query::Query;
+use couch_json::{Got, Json};
+use std::alloc::Global;
+
+/// The part of the documents that a query asks for, as it is gathered.
+#[derive(Drop)]
+pub(crate) struct Part {
+    /// How many documents to come are left out.
+    pub(crate) skip: u64,
+    /// How many more are wanted.
+    pub(crate) limit: u64,
+    /// The documents so far.
+    pub(crate) documents: Vec<Json>,
+}
+
+impl Part {
+    /// Returns the part before any document has come. Takes no memory.
+    pub(crate) fn new(alloc: Global, query: &Query) -> Part
+        ensures { (rest : List Value) → completed result rest ≡ take query.now.limit (drop query.now.skip rest) }
+    {
+        Part {
+            skip: query.skip,
+            limit: query.limit,
+            documents: Vec::new(alloc),
+        }
+    }
+
+    /// Tells whether no more documents are wanted.
+    pub(crate) fn is_full(&self) -> bool
+        ensures { result ≡ nat_eq self.now.limit 0 }
+    {
+        self.limit == 0
+    }
+
+    /// Takes the next document, which may be left out.
+    pub(crate) fn put(&mut self, document: Json) -> Got<()>
+        ensures { OnOk result ((rest : List Value) → completed self.new rest ≡ completed self.old (view document ∷ rest)) }
+    {
+        if self.skip > 0 {
+            self.skip -= 1;
+        } else if self.limit > 0 {
+            self.limit -= 1;
+            self.documents.push(document)?;
+        }
+        Ok(())
+    }
+}
