@@ -52,6 +52,10 @@ id_text_by (Some part) path = joined_by_slash (decoded_at 2 path) (decoded_at 3 
 abbrev pub id_text_in : List ℕ → Option (List ℕ)
 id_text_in path = id_text_by (part_at 3 path) path
 
+-- the name of the index that the path of a view ends with, where it is UTF-8
+abbrev pub index_name_in : List ℕ → Option (List ℕ)
+index_name_in path = decoded_at 5 path
+
 -- the id that a path names behind the database, where it is one
 abbrev pub named_id_in : List ℕ → Option (List ℕ)
 named_id_in path = option_and_then (λ text. id_if text) (id_text_in path)

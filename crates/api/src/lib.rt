@@ -31,7 +31,7 @@ pub use listings::{changes_query, listing_query};
 pub use members::put_text;
 pub use method::{RequestMethod, method_of};
 pub use page::Page;
-pub use path::{database_name, document_id, local_id};
+pub use path::{database_name, document_id, index_name, local_id};
 pub use query::{Asked, DocumentQuery, document_query, revision_query};
 pub use refusal::Refusal;
 pub use routes::Routes;

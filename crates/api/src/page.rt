@@ -17,6 +17,10 @@ pub enum Page {
     Changes,
     /// `/{db}/_revs_diff`: which revisions a database doesn't know.
     Differences,
+    /// `/{db}/_find`: the documents of a database that match a selector.
+    Find,
+    /// `/{db}/_design/{name}/_view/{index}`: the rows of an index.
+    View,
     /// `/{db}/{id}` and `/{db}/_design/{name}`: a document.
     Document,
     /// `/{db}/_local/{name}`, and `/{db}/{id}` where the id begins so: a local document.

@@ -3,7 +3,7 @@
 ghost use Rattle.std.specs.Prelude.{◌≡◌, ◌++◌, ◌∷◌, IfOk, false, option_map, option_copied, string_bytes};
 ghost use Rattle.tree.specs.DocumentId.{is_local_id};
 ghost use Rattle.api.specs.Saying.{Says};
-ghost use Rattle.api.specs.Paths.{database_name_in, decoded_text, decoded_at, document_id_in, id_text_in, local_id_in, named_id_in, part_at, slash, text_if};
+ghost use Rattle.api.specs.Paths.{database_name_in, decoded_text, decoded_at, document_id_in, id_text_in, index_name_in, local_id_in, named_id_in, part_at, slash, text_if};
 ghost use Rattle.api.specs.Refusals.{there_or};
 ghost use Rattle.std.specs.Str.{is_utf8};
 
@@ -64,6 +64,16 @@ fn named_id(alloc: Global, path: &str) -> Result<DocId, RequestFault>
         Ok(id) => Ok(id),
         Err(IdFault::Shape) => Err(RequestFault::Refused(Refusal::Id)),
         Err(IdFault::Memory) => Err(RequestFault::Memory),
+    }
+}
+
+/// Reads the name of the index that the path of a view ends with.
+pub fn index_name(alloc: Global, path: &str) -> Result<String, RequestFault>
+    ensures { Says string_bytes result (there_or Refusal.Id (index_name_in path.now)) }
+{
+    match decoded_part(alloc, path, 5)? {
+        Some(name) => Ok(name),
+        None => Err(RequestFault::Refused(Refusal::Id)),
     }
 }
 

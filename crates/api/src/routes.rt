@@ -12,7 +12,7 @@ use std::alloc::Global;
 use std::marker::Model;
 
 /// The paths that the server has, each with its page.
-const ROUTES: [(&str, Page); 12] = [
+const ROUTES: [(&str, Page); 14] = [
     ("/", Page::Welcome),
     ("/_all_dbs", Page::AllDatabases),
     ("/{db}", Page::Database),
@@ -22,6 +22,8 @@ const ROUTES: [(&str, Page); 12] = [
     ("/{db}/_all_docs", Page::AllDocuments),
     ("/{db}/_changes", Page::Changes),
     ("/{db}/_revs_diff", Page::Differences),
+    ("/{db}/_find", Page::Find),
+    ("/{db}/_design/{name}/_view/{index}", Page::View),
     ("/{db}/_design/{name}", Page::Document),
     ("/{db}/_local/{name}", Page::LocalDocument),
     ("/{db}/{id}", Page::Document),

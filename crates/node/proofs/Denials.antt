@@ -31,21 +31,24 @@ use Rattle.write.proofs.Outcomes.{edit_denied}
 use Rattle.api.specs.Asking.{asker, body_of, denial, identity_or_refusal, method_of, pair_of, plain, value_or_refusal}
 use Rattle.api.specs.Bulk.{bulk_in}
 use Rattle.api.specs.Listings.{changes_query, differences_in, listing_query}
-use Rattle.api.specs.Paths.{database_name_in, document_id_in, local_id_in}
+use Rattle.api.specs.Paths.{database_name_in, document_id_in, index_name_in, local_id_in}
 use Rattle.api.specs.Queries.{document_query, revision_query}
 use Rattle.api.specs.Refusals.{name_of_rule, next, rule_of, status_of, there_or, true_or}
 use Rattle.api.specs.Routing.{page_of}
+use Rattle.api.specs.Views.{view_query}
+use Rattle.find.specs.Queries.{query_in}
+use Rattle.read.specs.Views.{view_listing}
 use Rattle.api.specs.declared.method.RequestMethod.{RequestMethod}
 use Rattle.api.specs.declared.method.RequestMethod.TheVariants.{Get, Put, Post, Delete}
 use Rattle.api.specs.declared.page.Page.{Page}
-use Rattle.api.specs.declared.page.Page.TheVariants.{Welcome, AllDatabases, Database as DatabasePage, Security, BulkDocuments, AllDocuments, Changes, Differences, Document, LocalDocument as LocalDocumentPage}
+use Rattle.api.specs.declared.page.Page.TheVariants.{Welcome, AllDatabases, Database as DatabasePage, Security, BulkDocuments, AllDocuments, Changes, Differences, Find, View, Document, LocalDocument as LocalDocumentPage}
 use Rattle.api.specs.declared.refusal.Refusal.{Refusal}
 use Rattle.api.specs.declared.refusal.Refusal.TheVariants.{Unauthorized, Forbidden, Path, Method, DatabaseName, NoDatabase, Exists, Id, Query, Syntax, Body, BadDocument, BadHistory, Conflict, Generation, Missing, Deleted}
 use Rattle.node.specs.Answer.{Task, administration, permission, created, entry, admin_task, judgement, listed, database_name_of, task_outcome, removed, page_outcome, task_of, told, worked, work_task}
 use Rattle.node.proofs.Tasks.{named, same, there, went}
 use Rattle.node.specs.Denials.{IsDenied, IsDue, IsToldRule, IsUnvouched, rule_denied_by}
 use Rattle.node.specs.Work.{Work, read_work}
-use Rattle.node.specs.Works.{change_list, database_read, difference_list, document_deleted, document_list, document_read, document_written, documents_written, deletion, edit_asked, edit_done, found, local_read, local_set, local_written, read_by, security_read, security_set, security_written}
+use Rattle.node.specs.Works.{change_list, database_read, difference_list, document_deleted, document_finds, document_list, document_read, document_written, documents_written, deletion, edit_asked, edit_done, found, local_read, local_set, local_written, read_by, security_read, security_set, security_written, view_read}
 
 -- ---- refusals of steps
 
@@ -212,6 +215,19 @@ fair_documents a m caller name db =
     (λ u is. fair_next a m caller (body_of m) _ (fair_body a m caller)
     (λ v said. fair_next a m caller (there_or Body (bulk_in v)) _ (fair_there a m caller Body (bulk_in v) refl) (λ bulk asked. fair_ok a m caller _)))
 
+fair_finds : (a : Contents) (m : Message) (caller : Identity) (db : Database) → AreFair a m caller (document_finds m db)
+fair_finds a m caller db =
+    fair_next a m caller (plain m) _ (fair_plain a m caller)
+    (λ u is. fair_next a m caller (body_of m) _ (fair_body a m caller)
+    (λ v said. fair_next a m caller (there_or Body (query_in v)) _ (fair_there a m caller Body (query_in v) refl) (λ query asked. fair_ok a m caller _)))
+
+fair_view : (a : Contents) (m : Message) (caller : Identity) (db : Database) → AreFair a m caller (view_read m db)
+fair_view a m caller db =
+    fair_next a m caller (there_or Id (document_id_in m.path)) _ (fair_there a m caller Id (document_id_in m.path) refl)
+    (λ design is. fair_next a m caller (there_or Id (index_name_in m.path)) _ (fair_there a m caller Id (index_name_in m.path) refl)
+    (λ index named. fair_next a m caller (there_or Query (view_query m.query)) _ (fair_there a m caller Query (view_query m.query) refl)
+    (λ range asked. fair_found a m caller (view_listing range design index db))))
+
 fair_local : (a : Contents) (m : Message) (caller : Identity) (db : Database) → AreFair a m caller (local_read m db)
 fair_local a m caller db =
     fair_next a m caller (there_or Id (local_id_in m.path)) _ (fair_there a m caller Id (local_id_in m.path) refl)
@@ -286,6 +302,8 @@ fair_task a Differences (Some Post) caller m task e = fair_work a m caller Read 
 fair_task a Document (Some Get) caller m task e = fair_work a m caller Read (λ name. read_work (document_read m)) task (λ name db place. fair_read a m caller (document_read m) db (fair_document a m caller db)) e
 fair_task a Document (Some Put) caller m task e = fair_work a m caller WriteDocument (λ name. document_written caller m name) task (λ name db place. fair_writing a m caller name db place) e
 fair_task a Document (Some Delete) caller m task e = fair_work a m caller WriteDocument (λ name. document_deleted caller m name) task (λ name db place. fair_deleting a m caller name db place) e
+fair_task a Find (Some Post) caller m task e = fair_work a m caller Read (λ name. read_work (document_finds m)) task (λ name db place. fair_read a m caller (document_finds m) db (fair_finds a m caller db)) e
+fair_task a View (Some Get) caller m task e = fair_work a m caller Read (λ name. read_work (view_read m)) task (λ name db place. fair_read a m caller (view_read m) db (fair_view a m caller db)) e
 fair_task a LocalDocumentPage (Some Get) caller m task e = fair_work a m caller Read (λ name. read_work (local_read m)) task (λ name db place. fair_read a m caller (local_read m) db (fair_local a m caller db)) e
 fair_task a LocalDocumentPage (Some Put) caller m task e = fair_work a m caller Read (λ name. local_written caller m) task (λ name db place. fair_storing a m caller db) e
 fair_task a page method caller m task e = absurd cc
@@ -317,6 +335,8 @@ fair_page a Differences (Some Post) caller m = fair_work_asked a m caller Read _
 fair_page a Document (Some Get) caller m = fair_work_asked a m caller Read _
 fair_page a Document (Some Put) caller m = fair_work_asked a m caller WriteDocument _
 fair_page a Document (Some Delete) caller m = fair_work_asked a m caller WriteDocument _
+fair_page a Find (Some Post) caller m = fair_work_asked a m caller Read _
+fair_page a View (Some Get) caller m = fair_work_asked a m caller Read _
 fair_page a LocalDocumentPage (Some Get) caller m = fair_work_asked a m caller Read _
 fair_page a LocalDocumentPage (Some Put) caller m = fair_work_asked a m caller Read _
 fair_page a page method caller m = fair_other a m caller Method refl

@@ -30,11 +30,11 @@ use Rattle.node.specs.Effects.{Fits}
 use Rattle.api.specs.Paths.{database_name_in, local_id_in}
 use Rattle.node.specs.Work.{Done, Effect, Work, appended, local_put, nothing, read_work, secured, value_done}
 use Rattle.api.specs.Refusals.{next, there_or, true_or}
-use Rattle.node.specs.Works.{change_list, database_read, difference_list, document_deleted, document_list, document_read, document_written, documents_written, deletion, done, edit_asked, bulk_written, edit_done, edit_in, local_read, local_set, local_written, security_read, security_set, security_written}
+use Rattle.node.specs.Works.{change_list, database_read, difference_list, document_deleted, document_finds, document_list, document_read, document_written, documents_written, deletion, done, edit_asked, bulk_written, edit_done, edit_in, local_read, local_set, local_written, security_read, security_set, security_written, view_read}
 use Rattle.api.specs.declared.method.RequestMethod.{RequestMethod}
 use Rattle.api.specs.declared.method.RequestMethod.TheVariants.{Get, Put, Post, Delete}
 use Rattle.api.specs.declared.page.Page.{Page}
-use Rattle.api.specs.declared.page.Page.TheVariants.{Welcome, AllDatabases, Database as DatabasePage, Security, BulkDocuments, AllDocuments, Changes, Differences, Document, LocalDocument as LocalDocumentPage}
+use Rattle.api.specs.declared.page.Page.TheVariants.{Welcome, AllDatabases, Database as DatabasePage, Security, BulkDocuments, AllDocuments, Changes, Differences, Find, View, Document, LocalDocument as LocalDocumentPage}
 use Rattle.api.specs.declared.refusal.Refusal.{Refusal}
 use Rattle.api.specs.declared.refusal.Refusal.TheVariants.{Body, Conflict, Id, DatabaseName, NoDatabase, Exists, Path}
 
@@ -190,6 +190,8 @@ good Differences (Some Post) caller m task e = good_work Differences Read m (λ 
 good Document (Some Get) caller m task e = good_work Document Read m (λ name. read_work (document_read m)) task (λ name. sound_reading (document_read m)) e
 good Document (Some Put) caller m task e = good_work Document WriteDocument m (λ name. document_written caller m name) task (λ name. sound_document caller m name) e
 good Document (Some Delete) caller m task e = good_work Document WriteDocument m (λ name. document_deleted caller m name) task (λ name. sound_deletion caller m name) e
+good Find (Some Post) caller m task e = good_work Find Read m (λ name. read_work (document_finds m)) task (λ name. sound_reading (document_finds m)) e
+good View (Some Get) caller m task e = good_work View Read m (λ name. read_work (view_read m)) task (λ name. sound_reading (view_read m)) e
 good LocalDocumentPage (Some Get) caller m task e = good_work LocalDocumentPage Read m (λ name. read_work (local_read m)) task (λ name. sound_reading (local_read m)) e
 good LocalDocumentPage (Some Put) caller m task e = good_work LocalDocumentPage Read m (λ name. local_written caller m) task (λ name. sound_local caller m) e
 good page method caller m task e = absurd cc

@@ -16,7 +16,7 @@ use Rattle.write.specs.declared.planned.Changes.TheVariants.{Local, Writes, Secu
 use Rattle.couch_json.specs.Value.{Value, object}
 use Rattle.node.specs.Answer as answer
 use Rattle.node.specs.Work.{Done, Effect, Work, appended, local_put, read_work, secured}
-use Rattle.node.specs.Works.{change_list, database_read, difference_list, document_deleted, document_list, document_read, document_written, documents_written, local_members, local_read, local_written, security_read, security_written}
+use Rattle.node.specs.Works.{change_list, database_read, difference_list, document_deleted, document_finds, document_list, document_read, document_written, documents_written, local_members, local_read, local_written, security_read, security_written, view_read}
 use Rattle.api.specs.declared.refusal.Refusal.{Refusal}
 use Rattle.node.specs.declared.answered.Answered.{Answered}
 use Rattle.node.specs.declared.answered.Change.{Change}
@@ -40,6 +40,8 @@ reading_of read.Documents m name = document_list m
 reading_of read.Changes m name = change_list m
 reading_of read.Differences m name = difference_list m
 reading_of read.LocalDocument m name = local_read m
+reading_of read.Finds m name = document_finds m
+reading_of read.View m name = view_read m
 
 abbrev pub writing_of : Writing → Identity → Message → List ℕ → Work
 writing_of write.Security caller m name = security_written m

@@ -1,9 +1,12 @@
 -- What each request does in its database, by the database alone.
--- CouchDB manual, api/database/common, api/database/security, api/database/bulk-api, api/document/common and api/local; the order of refusals is this server's own.
+-- CouchDB manual, api/database/common, api/database/security, api/database/bulk-api, api/database/find, api/ddoc/views, api/document/common and api/local; the order of refusals is this server's own.
 use Rattle.std.specs.Prelude.{ℕ, List, [], ◌∷◌, Bool, true, Option, Some, None, Result, Ok, Err, codes}
 use Rattle.auth.specs.Callers.{Identity}
 use Rattle.couch_http.specs.Message.{Message}
-use Rattle.couch_json.specs.Value.{Value, truth, text, object, Members, no_members, put}
+use Rattle.couch_json.specs.Value.{Value, truth, text, array, object, Members, no_members, put}
+use Rattle.couch_json.specs.View.{items_of}
+use Rattle.find.specs.Found.{found_documents}
+use Rattle.find.specs.Queries.{query_in}
 use Rattle.read.specs.Changes.{changes_in}
 use Rattle.read.specs.Differences.{revision_differences}
 use Rattle.read.specs.Information.{information}
@@ -11,6 +14,7 @@ use Rattle.read.specs.Listing.{document_listing}
 use Rattle.read.specs.Local.{local_document}
 use Rattle.read.specs.OpenRevisions.{open_revisions}
 use Rattle.read.specs.Shown.{document_at}
+use Rattle.read.specs.Views.{view_listing}
 use Rattle.read.specs.declared.fault.ReadFault.{ReadFault}
 use Rattle.read.specs.declared.fault.ReadFault.TheVariants as read
 use Rattle.store.specs.Contents.{local_at, local_revision}
@@ -27,8 +31,9 @@ use Rattle.api.specs.Asking.{body_of, plain}
 use Rattle.api.specs.Bulk.{Bulk, bulk_in}
 use Rattle.node.specs.Bulk.{bulk_reply, edit_members, known_members}
 use Rattle.api.specs.Listings.{changes_query, differences_in, listing_query}
-use Rattle.api.specs.Paths.{document_id_in, local_id_in}
+use Rattle.api.specs.Paths.{document_id_in, index_name_in, local_id_in}
 use Rattle.api.specs.Queries.{Asked, winner, revision, leaves, revisions, document_query, revision_query}
+use Rattle.api.specs.Views.{view_query}
 use Rattle.node.specs.Edits.{refusal_of_edit}
 use Rattle.node.specs.Work.{Done, Work, appended, local_put, secured}
 use Rattle.api.specs.Refusals.{next, there_or}
@@ -91,6 +96,25 @@ change_list m db = next (there_or Query (changes_query m.query)) (λ range. Ok (
 abbrev pub difference_list : Message → Database → Result Value Refusal
 difference_list m db =
     next (plain m) (λ _. next (body_of m) (λ value. next (there_or Body (differences_in value)) (λ asked. Ok (revision_differences asked db))))
+
+-- ---- finds and views
+
+-- documents that were found, in order, and a bookmark that says nothing
+abbrev pub documents_reply : List Value → Value
+documents_reply documents = object (put (codes "docs") (array (items_of documents)) (put (codes "bookmark") (text (codes "nil")) no_members))
+
+-- the documents that the body asks for
+abbrev pub document_finds : Message → Database → Result Value Refusal
+document_finds m db =
+    next (plain m) (λ _.
+    next (body_of m) (λ value. next (there_or Body (query_in value)) (λ query. Ok (documents_reply (found_documents query db)))))
+
+-- the rows of the index that the path leads to, in the range that the query asks for
+abbrev pub view_read : Message → Database → Result Value Refusal
+view_read m db =
+    next (there_or Id (document_id_in m.path)) (λ design.
+    next (there_or Id (index_name_in m.path)) (λ index.
+    next (there_or Query (view_query m.query)) (λ range. found (view_listing range design index db))))
 
 -- ---- local documents
 

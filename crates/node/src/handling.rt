@@ -113,6 +113,12 @@ fn serve<S: Store>(
         (Page::Document, Some(RequestMethod::Delete)) => {
             do_work(alloc, store, caller, Write(Writing::Deletion), request)
         }
+        (Page::Find, Some(RequestMethod::Post)) => {
+            do_work(alloc, store, caller, Read(Reading::Finds), request)
+        }
+        (Page::View, Some(RequestMethod::Get)) => {
+            do_work(alloc, store, caller, Read(Reading::View), request)
+        }
         (Page::LocalDocument, Some(RequestMethod::Get)) => {
             do_work(alloc, store, caller, Read(Reading::LocalDocument), request)
         }

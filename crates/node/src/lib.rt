@@ -13,6 +13,7 @@ mod bulk;
 mod bulk_reply;
 mod databases;
 mod document;
+mod finds;
 mod handling;
 pub mod laws;
 mod lists;

@@ -16,6 +16,7 @@ use crate::answered::{Answered, Change, Worked};
 use crate::bulk::write_documents;
 use crate::databases::read_database;
 use crate::document::{delete_document, read_document, write_document};
+use crate::finds::{find_documents, list_view};
 use crate::lists::{list_changes, list_documents, tell_differences};
 use crate::local_document::{read_local, write_local};
 use crate::security::{read_security, write_security};
@@ -54,6 +55,10 @@ pub(crate) enum Reading {
     Differences,
     /// A local document.
     LocalDocument,
+    /// Its documents that match a selector.
+    Finds,
+    /// The rows of an index.
+    View,
 }
 
 /// What is written to a database.
@@ -181,6 +186,8 @@ fn read<S: Store>(
         Reading::Changes => list_changes(alloc, store, name, request),
         Reading::Differences => tell_differences(alloc, store, name, request),
         Reading::LocalDocument => read_local(alloc, store, name, request),
+        Reading::Finds => find_documents(alloc, store, name, request),
+        Reading::View => list_view(alloc, store, name, request),
     }
 }
 

@@ -1,0 +1,80 @@
+//! The pages of finds and of views (CouchDB manual, api/database/find and api/ddoc/views).
+
+ghost use Rattle.std.specs.Prelude.{◌≡◌, ◌≢◌, IfErr, IfOk, map as each};
+ghost use Rattle.couch_http.specs.Message.{message_of};
+ghost use Rattle.couch_json.specs.View.{view};
+ghost use Rattle.find.specs.Queries.{query_in};
+ghost use Rattle.store.specs.Calls.{OnlyReads};
+ghost use Rattle.api.specs.Refusals.{there_or};
+ghost use Rattle.node.specs.Causes.{Ends};
+ghost use Rattle.node.specs.Coming.{Comes, OfThere};
+ghost use Rattle.node.specs.Works.{document_finds, documents_reply, view_read};
+
+use crate::stop::Stop;
+use api::{Refusal, body, document_id, index_name, view_query, without_parameters};
+use couch_http::Request;
+use couch_json::{Got, Json, put_member};
+use find::{Query, QueryFault, find};
+use std::alloc::Global;
+use std::collections::BTreeMap;
+use store::{DbName, Store};
+
+/// Finds the documents of a database that match a selector.
+pub(crate) fn find_documents<S: Store>(
+    alloc: Global,
+    store: &mut S,
+    name: &DbName,
+    request: &Request,
+) -> Result<Json, Stop>
+    ensures comes { S.is_honest store.new → OfThere (S.contents store.old) name.now (λ db. Comes view result
+        (document_finds (message_of request.now) db)) }
+    ensures ends { IfErr result (Ends S.Store store.old store.new) }
+    ensures reads { OnlyReads S.Store store.old store.new }
+{
+    without_parameters(request)?;
+    let value = body(alloc, request)?;
+    let query = read_query(alloc, &value)?;
+    let documents = find(alloc, store, name, &query)?;
+    Ok(documents_reply(alloc, documents)?)
+}
+
+/// Reads what is looked for.
+fn read_query(alloc: Global, value: &Json) -> Result<Query, Stop>
+    ensures comes { Comes (λ query. query) result (there_or Refusal.Body (query_in (view value.now))) }
+    ensures ends { IfErr result (λ stop. stop ≢ Stop.Failed) }
+{
+    match Query::read(alloc, value) {
+        Ok(query) => Ok(query),
+        Err(QueryFault::Shape) => Err(Stop::Refused(Refusal::Body)),
+        Err(QueryFault::Memory) => Err(Stop::NoRoom),
+    }
+}
+
+/// Builds the reply to a find: the documents, and a bookmark that says nothing.
+fn documents_reply(alloc: Global, documents: Vec<Json>) -> Got<Json>
+    ensures { IfOk result (λ value. view value ≡ documents_reply (each view documents.items)) }
+{
+    let bookmark = String::from_str(alloc, "nil")?;
+    let mut members = BTreeMap::new(alloc);
+    put_member(alloc, &mut members, "bookmark", Json::Text(bookmark))?;
+    put_member(alloc, &mut members, "docs", Json::Array(documents))?;
+    Ok(Json::Object(members))
+}
+
+/// Lists the rows of an index.
+pub(crate) fn list_view<S: Store>(
+    alloc: Global,
+    store: &mut S,
+    name: &DbName,
+    request: &Request,
+) -> Result<Json, Stop>
+    ensures comes { S.is_honest store.new → OfThere (S.contents store.old) name.now (λ db. Comes view result
+        (view_read (message_of request.now) db)) }
+    ensures ends { IfErr result (Ends S.Store store.old store.new) }
+    ensures reads { OnlyReads S.Store store.old store.new }
+{
+    let design = document_id(alloc, &request.path)?;
+    let index = index_name(alloc, &request.path)?;
+    let range = view_query(alloc, request)?;
+    Ok(read::view(alloc, store, name, &design, index.as_str(), range)?)
+}
