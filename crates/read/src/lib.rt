@@ -19,6 +19,7 @@ mod numbers;
 mod open_revisions;
 mod path;
 mod shown;
+mod views;
 
 pub use change_list::changes;
 pub use differences::{AskedRevisions, revs_diff};
@@ -28,3 +29,4 @@ pub use information::info;
 pub use listing::all_docs;
 pub use local_document::local;
 pub use open_revisions::open_revs;
+pub use views::view;
