@@ -23,29 +23,19 @@ use Rattle.tree.specs.Revision.{Revision}
 use Rattle.store.proofs.Listings.{Entry, In}
 use Rattle.store.specs.Database.{Database, history_in}
 use Rattle.store.specs.Indexes.{IndexPlace, field_values, index_over, place_order, put_at_values, put_in_index, queried_document, shown_by}
+use Rattle.store.specs.PlaceOrder.{place_order_total}
+use Rattle.store.specs.Plain.{placed}
 use Rattle.store.specs.Pages.{live_rev, live_rows, with_row}
 use Rattle.store.specs.declared.page.IdRow.{IdRow}
 use Rattle.find.proofs.Filtered.{HasKeys, filter-put, keys_put, put_front}
 use Rattle.find.proofs.Turned.{reverse-cons}
 use Rattle.find.specs.Matching.{if_matches, match_in, matches_of, put_matches}
-use Rattle.find.specs.Places.{entries_view, place_order_total}
 
 -- ---- the map of the code
 
-pub entries_view-insert : (es : List (IndexPlace × Json)) (k : IndexPlace) (v : Json) → entries_view (insert_entry place_order es k v) ≡ put place_order k (view v) (entries_view es)
-entries_view-insert [] k v = refl
-entries_view-insert (e ∷ es) k v = by (place_order k e.0) (entries_view-insert es k v)
-  where
-    by : (o : Ordering) → entries_view (insert_entry place_order es k v) ≡ put place_order k (view v) (entries_view es)
-        → entries_view (match_ordering o ((k, v) ∷ e ∷ es) ((e.0, v) ∷ es) (e ∷ insert_entry place_order es k v))
-        ≡ by_order o ((k, view v) ∷ (e.0, view e.1) ∷ entries_view es) ((e.0, view v) ∷ entries_view es) ((e.0, view e.1) ∷ put place_order k (view v) (entries_view es))
-    by Less rest = refl
-    by Equal rest = refl
-    by Greater rest = ap (λ xs. (e.0, view e.1) ∷ xs) rest
-
-pub seconds_view : (es : List (IndexPlace × Json)) → map view (map (λ e. e.1) es) ≡ map (λ e. e.1) (entries_view es)
-seconds_view [] = refl
-seconds_view (e ∷ es) = ap (λ vs. view e.1 ∷ vs) (seconds_view es)
+pub seconds_placed : (es : List (IndexPlace × Json)) → map view (map (λ e. e.1) es) ≡ map (λ e. e.1) (placed es)
+seconds_placed [] = refl
+seconds_placed (e ∷ es) = ap (λ vs. view e.1 ∷ vs) (seconds_placed es)
 
 -- ---- an index of documents that match
 
