@@ -3,14 +3,13 @@ use Rattle.std.proofs.Common.{◌≡◌, ℕ, Bool, true, false, cond, List, [],
 use Rattle.std.proofs.Math.Dec.{T}
 use Rattle.std.specs.Prelude.{flat_map}
 use Rattle.std.specs.declared.cmp.Ordering.TheVariants.{Less, Equal, Greater}
-use Rattle.std.specs.BTreeMap.{insert_entry}
 use Rattle.std.specs.Cmp.{first_so, second_so}
 use Rattle.std.specs.Cmp.Lexicographic.{slice_cmp}
 use Rattle.std.specs.FinMap as finite
-use Rattle.std.specs.FinMap.{is_sorted, put}
-use Rattle.std.specs.FinMap.Entries.{below_all, by_order, is_sorted-put}
+use Rattle.std.specs.FinMap.{is_sorted}
+use Rattle.std.specs.FinMap.Entries.{below_all, is_sorted-put}
 use Rattle.std.specs.Option.{option_to_list}
-use Rattle.std.specs.Ordering.{match_ordering, nat_cmp, ordering_then}
+use Rattle.std.specs.Ordering.{nat_cmp, ordering_then}
 use Rattle.couch_json.specs.Collation.{collation}
 use Rattle.couch_json.specs.Value.{Value, Items, no_items, array}
 use Rattle.couch_json.specs.View.{view}
@@ -57,7 +56,7 @@ sorted_put fields id (Some v) es h = by (field_values fields v)
     by None = h
     by (Some values) = true_from_T _ (is_sorted-put place_order place_order_total (record { key = array values; id = id }) v es (T_from_true _ h))
 
-sorted_index : (fields : List (List ℕ)) (es : List Entry) → is_sorted place_order (index_over fields es) ≡ true
+pub sorted_index : (fields : List (List ℕ)) (es : List Entry) → is_sorted place_order (index_over fields es) ≡ true
 sorted_index fields [] = refl
 sorted_index fields (e ∷ es) = sorted_put fields e.0 (seen e) (index_over fields es) (sorted_index fields es)
 
