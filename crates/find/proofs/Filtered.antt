@@ -34,7 +34,7 @@ pub put_front : {K X : Type 0} (R : K → K → Ordering) (k : K) (v : X) (es : 
 put_front R k v [] h = refl
 put_front R k v (e ∷ es) h = ap (λ o. by_order o ((k, v) ∷ e ∷ es) ((e.0, v) ∷ es) (e ∷ put R k v es)) (h e (inl refl))
 
-below : {K X : Type 0} (R : K → K → Ordering) (k : K) (es : List (K × X)) → below_all R k es ≡ true → HasKeys (λ q. R k q ≡ Less) es
+pub below : {K X : Type 0} (R : K → K → Ordering) (k : K) (es : List (K × X)) → below_all R k es ≡ true → HasKeys (λ q. R k q ≡ Less) es
 below R k [] h x i = absurd i
 below R k (e ∷ es) h x (inl i) = subst (λ y. R k y.0 ≡ Less) i (less _ (first_so _ _ h))
 below R k (e ∷ es) h x (inr i) = below R k es (second_so _ _ h) x i

@@ -3,14 +3,13 @@ use Rattle.std.proofs.Common.{◌≡◌, ℕ, Bool, true, false, cond, List, [],
 use Rattle.std.proofs.Math.Dec.{T}
 use Rattle.std.specs.Prelude.{flat_map}
 use Rattle.std.specs.declared.cmp.Ordering.TheVariants.{Less, Equal, Greater}
-use Rattle.std.specs.BTreeMap.{insert_entry}
 use Rattle.std.specs.Cmp.{first_so, second_so}
 use Rattle.std.specs.Cmp.Lexicographic.{slice_cmp}
 use Rattle.std.specs.FinMap as finite
-use Rattle.std.specs.FinMap.{is_sorted, put}
-use Rattle.std.specs.FinMap.Entries.{below_all, by_order, is_sorted-put}
+use Rattle.std.specs.FinMap.{is_sorted}
+use Rattle.std.specs.FinMap.Entries.{below_all, is_sorted-put}
 use Rattle.std.specs.Option.{option_to_list}
-use Rattle.std.specs.Ordering.{match_ordering, nat_cmp, ordering_then}
+use Rattle.std.specs.Ordering.{nat_cmp, ordering_then}
 use Rattle.couch_json.specs.Collation.{collation}
 use Rattle.couch_json.specs.Value.{Value, Items, no_items, array}
 use Rattle.couch_json.specs.View.{view}
@@ -23,29 +22,19 @@ use Rattle.tree.specs.Revision.{Revision}
 use Rattle.store.proofs.Listings.{Entry, In}
 use Rattle.store.specs.Database.{Database, history_in}
 use Rattle.store.specs.Indexes.{IndexPlace, field_values, index_over, place_order, put_at_values, put_in_index, queried_document, shown_by}
+use Rattle.store.specs.PlaceOrder.{place_order_total}
+use Rattle.store.specs.Plain.{placed}
 use Rattle.store.specs.Pages.{live_rev, live_rows, with_row}
 use Rattle.store.specs.declared.page.IdRow.{IdRow}
 use Rattle.find.proofs.Filtered.{HasKeys, filter-put, keys_put, put_front}
 use Rattle.find.proofs.Turned.{reverse-cons}
 use Rattle.find.specs.Matching.{if_matches, match_in, matches_of, put_matches}
-use Rattle.find.specs.Places.{entries_view, place_order_total}
 
 -- ---- the map of the code
 
-pub entries_view-insert : (es : List (IndexPlace × Json)) (k : IndexPlace) (v : Json) → entries_view (insert_entry place_order es k v) ≡ put place_order k (view v) (entries_view es)
-entries_view-insert [] k v = refl
-entries_view-insert (e ∷ es) k v = by (place_order k e.0) (entries_view-insert es k v)
-  where
-    by : (o : Ordering) → entries_view (insert_entry place_order es k v) ≡ put place_order k (view v) (entries_view es)
-        → entries_view (match_ordering o ((k, v) ∷ e ∷ es) ((e.0, v) ∷ es) (e ∷ insert_entry place_order es k v))
-        ≡ by_order o ((k, view v) ∷ (e.0, view e.1) ∷ entries_view es) ((e.0, view v) ∷ entries_view es) ((e.0, view e.1) ∷ put place_order k (view v) (entries_view es))
-    by Less rest = refl
-    by Equal rest = refl
-    by Greater rest = ap (λ xs. (e.0, view e.1) ∷ xs) rest
-
-pub seconds_view : (es : List (IndexPlace × Json)) → map view (map (λ e. e.1) es) ≡ map (λ e. e.1) (entries_view es)
-seconds_view [] = refl
-seconds_view (e ∷ es) = ap (λ vs. view e.1 ∷ vs) (seconds_view es)
+pub seconds_placed : (es : List (IndexPlace × Json)) → map view (map (λ e. e.1) es) ≡ map (λ e. e.1) (placed es)
+seconds_placed [] = refl
+seconds_placed (e ∷ es) = ap (λ vs. view e.1 ∷ vs) (seconds_placed es)
 
 -- ---- an index of documents that match
 
@@ -67,7 +56,7 @@ sorted_put fields id (Some v) es h = by (field_values fields v)
     by None = h
     by (Some values) = true_from_T _ (is_sorted-put place_order place_order_total (record { key = array values; id = id }) v es (T_from_true _ h))
 
-sorted_index : (fields : List (List ℕ)) (es : List Entry) → is_sorted place_order (index_over fields es) ≡ true
+pub sorted_index : (fields : List (List ℕ)) (es : List Entry) → is_sorted place_order (index_over fields es) ≡ true
 sorted_index fields [] = refl
 sorted_index fields (e ∷ es) = sorted_put fields e.0 (seen e) (index_over fields es) (sorted_index fields es)
 

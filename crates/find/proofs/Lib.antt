@@ -2,5 +2,6 @@ mod Filtered
 mod Findables
 mod Finding
 mod Indexed
+mod Ordered
 mod Parts
 pub mod Turned

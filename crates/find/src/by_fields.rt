@@ -2,24 +2,24 @@
 
 ghost use Rattle.std.specs.Prelude.{◌≡◌, [], IfOk, IfErr, None, OnOk, Some, drop, map as each, take};
 ghost use Rattle.std.specs.FinMap as map;
-ghost use Rattle.couch_json.specs.View.{view};
+ghost use Rattle.couch_json.specs.Value.{array};
+ghost use Rattle.couch_json.specs.View.{items_view, view};
 ghost use Rattle.store.specs.Calls.{OnlyReads};
 ghost use Rattle.store.specs.Database.{Database};
 ghost use Rattle.store.specs.Indexes.{put_in_index};
+ghost use Rattle.store.specs.Plain.{placed};
 ghost use Rattle.read.specs.Answers.{Stops};
 ghost use Rattle.find.specs.Found.{in_direction};
 ghost use Rattle.find.specs.Matching.{match_in, put_matches};
-ghost use Rattle.find.specs.Places.{entries_view};
 
 use crate::matching::read_match;
 use crate::part::Part;
-use crate::place::Place;
 use crate::query::Query;
 use couch_json::{FieldPath, Got, Json};
 use read::ReadFault;
 use std::alloc::Global;
 use std::collections::BTreeMap;
-use store::{DbName, IdRow, Store, values_at};
+use store::{DbName, IdRow, IndexKey, KeyRow, Store, values_at};
 use tree::DocId;
 
 /// Finds the documents of these rows that match and have all fields of the sort, sorts them, and
@@ -50,9 +50,9 @@ fn sort_matches<S: Store>(
     db: &DbName,
     rows: &[IdRow],
     query: &Query,
-) -> Result<BTreeMap<Place, Json>, ReadFault>
+) -> Result<BTreeMap<KeyRow, Json>, ReadFault>
     ensures ok { S.is_honest store.new → IfOk result (λ sorted. (d : Database) → map.get (S.contents store.old) db.now ≡ Some d
-        → entries_view sorted.entries ≡ put_matches query.now.sort query.now.selector d rows.now []) }
+        → placed sorted.entries ≡ put_matches query.now.sort query.now.selector d rows.now []) }
     ensures stops { IfErr result (Stops S.Store store.old store.new (map.get (S.contents store.old) db.now ≡ None)) }
     ensures reads { OnlyReads S.Store store.old store.new }
 {
@@ -70,10 +70,10 @@ fn put_match<S: Store>(
     db: &DbName,
     id: &DocId,
     query: &Query,
-    sorted: &mut BTreeMap<Place, Json>,
+    sorted: &mut BTreeMap<KeyRow, Json>,
 ) -> Result<(), ReadFault>
     ensures ok { S.is_honest store.new → OnOk result ((d : Database) → map.get (S.contents store.old) db.now ≡ Some d
-        → entries_view sorted.new.entries ≡ put_in_index query.now.sort id.now (match_in query.now.selector d id.now) (entries_view sorted.old.entries)) }
+        → placed sorted.new.entries ≡ put_in_index query.now.sort id.now (match_in query.now.selector d id.now) (placed sorted.old.entries)) }
     ensures stops { IfErr result (Stops S.Store store.old store.new (map.get (S.contents store.old) db.now ≡ None)) }
     ensures reads { OnlyReads S.Store store.old store.new }
 {
@@ -89,16 +89,23 @@ fn put_document(
     fields: &[FieldPath],
     id: &DocId,
     document: Json,
-    sorted: &mut BTreeMap<Place, Json>,
+    sorted: &mut BTreeMap<KeyRow, Json>,
 ) -> Got<()>
-    ensures { OnOk result (entries_view sorted.new.entries ≡ put_in_index fields.now id.now (Some (view document)) (entries_view sorted.old.entries)) }
+    ensures { OnOk result (placed sorted.new.entries ≡ put_in_index fields.now id.now (Some (view document)) (placed sorted.old.entries)) }
 {
     let Some(values) = values_at(alloc, fields, &document)? else {
         return Ok(());
     };
-    let place = Place::new(values, id.copy(alloc)?);
+    let place = KeyRow::new(make_key(values), id.copy(alloc)?);
     drop(sorted.insert(place, document)?);
     Ok(())
+}
+
+/// Makes the key of these values.
+fn make_key(values: Vec<Json>) -> IndexKey
+    ensures { result ≡ array (items_view values.items) }
+{
+    IndexKey::new(Json::Array(values))
 }
 
 /// Turns the documents round, if they are to go down.
@@ -113,8 +120,8 @@ fn turn(documents: Vec<Json>, descending: bool) -> Vec<Json>
 }
 
 /// Lists the documents in the order of their places.
-fn documents_of(alloc: Global, sorted: BTreeMap<Place, Json>) -> Got<Vec<Json>>
-    ensures { IfOk result (λ documents. each view documents.items ≡ each (λ e. e.1) (entries_view sorted.entries)) }
+fn documents_of(alloc: Global, sorted: BTreeMap<KeyRow, Json>) -> Got<Vec<Json>>
+    ensures { IfOk result (λ documents. each view documents.items ≡ each (λ e. e.1) (placed sorted.entries)) }
 {
     let mut documents = Vec::with_capacity(alloc, sorted.len())?;
     for document in sorted.into_values() {

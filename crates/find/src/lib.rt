@@ -15,7 +15,6 @@ mod fault;
 pub mod laws;
 mod matching;
 mod part;
-mod place;
 mod query;
 mod sort;
 mod sort_fields;

@@ -2,14 +2,14 @@ use Rattle.std.proofs.Common.{◌≡◌, [], Some, drop}
 use Rattle.std.specs.FinMap as finite
 use Rattle.store.specs.Calls.{OnlyReads}
 use Rattle.store.specs.Database.{Database}
+use Rattle.store.specs.Plain.{placed}
 use Rattle.find.specs.Matching.{put_matches}
-use Rattle.find.specs.Places.{entries_view}
 use Rattle.find.proofs.by_fields.sort_matches.Given as goal
 
 -- what is sorted, with the rows to come put in, is what all rows give
 abbrev pub invariant-loop-row : goal.invariant-loop-row
 invariant-loop-row g l = record {
   sorted : g.S.Store.is_honest l.store → (d : Database) → finite.get (g.S.Store.contents l.initial.store) l.db ≡ Some d
-      → put_matches l.query.sort l.query.selector d (drop l.row-index l.rows) (entries_view l.sorted.entries) ≡ put_matches l.query.sort l.query.selector d l.rows [];
+      → put_matches l.query.sort l.query.selector d (drop l.row-index l.rows) (placed l.sorted.entries) ≡ put_matches l.query.sort l.query.selector d l.rows [];
   reads : OnlyReads g.S.Store l.initial.store l.store;
 }
