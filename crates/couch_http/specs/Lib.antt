@@ -9,6 +9,7 @@ pub mod Stages
 pub mod Beginning
 pub mod Reply
 pub mod ReplyText
+pub mod RequestText
 pub mod Pieces
 pub mod Places
 pub mod Laws

@@ -1,5 +1,8 @@
 pub mod Asking
 pub mod EscapeLemmas
+pub mod LayoutLemmas
 pub mod Names
+pub mod NamingLemmas
 pub mod PlayLemmas
 pub mod ReplyLemmas
+pub mod SceneLemmas

@@ -1,5 +1,5 @@
 -- Lines read one after the other, and what they print.
-use Rattle.std.proofs.Common.{ℕ, ◌≡◌, ◌∙◌, ◌+◌, ◌<◌, ◌≤◌, ◌++◌, zero, suc, true, List, [], Option, Some, None, ap, sym, append-nil, inl, inr, ◌⊎◌, arith, add-one, below_more}
+use Rattle.std.proofs.Common.{ℕ, ◌≡◌, ◌∙◌, ◌+◌, ◌<◌, ◌≤◌, ◌++◌, zero, suc, true, List, [], Option, Some, None, ap, sym, refl, append-nil, inl, inr, ◌⊎◌, arith, add-one, below_more}
 use Rattle.std.specs.Prelude.{IfSome, OnOk, Result, Ok, Err, is_some}
 use Rattle.std.specs.Io.BufRead.{drop_through, first_piece, strip_last, take_through}
 use Rattle.std.specs.Io.KnownBytes.{IsAtEnd, Keeps}
@@ -10,6 +10,10 @@ use Rattle.lab.specs.declared.fault.LineFault.{LineFault}
 use Rattle.lab.specs.declared.fault.LineFault.TheVariants as line
 use Rattle.lab.specs.declared.fault.ProgramFault.TheVariants as program
 use Rattle.lab.proofs.ReplyLemmas.{Appends-then}
+
+pub OnOk-then : {T E P Q : Type 0} (r : Result T E) → OnOk r P → (P → Q) → OnOk r Q
+OnOk-then (Ok v) p f = f p
+OnOk-then (Err e) p f = tt
 
 pub OnOk-always : {T E P : Type 0} (r : Result T E) → P → OnOk r P
 OnOk-always (Ok v) p = p
@@ -75,3 +79,8 @@ pub fault_at-line : (fault : LineFault) (k n : ℕ) → fault_at fault k ≡ pro
 fault_at-line line.Line k n e = cc
 fault_at-line line.File k n e = absurd (cc)
 fault_at-line line.Memory k n e = absurd (cc)
+
+pub fault_at-is_line : (fault : LineFault) (k n : ℕ) → fault_at fault k ≡ program.Line n → fault ≡ line.Line
+fault_at-is_line line.Line k n e = refl
+fault_at-is_line line.File k n e = absurd (cc)
+fault_at-is_line line.Memory k n e = absurd (cc)

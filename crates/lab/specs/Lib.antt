@@ -6,3 +6,6 @@ pub mod Plan
 pub mod Printed
 pub mod Replies
 pub mod Playing
+pub mod Naming
+pub mod Scene
+pub mod Stages

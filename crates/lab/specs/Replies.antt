@@ -1,7 +1,6 @@
 -- What sending a piece on a connection prints and changes.
 -- This project's own; the order of replies is RFC 9112, section 9.3.2.
-use Rattle.std.specs.Prelude.{◌≡◌, ◌⊎◌, ℕ, true, false, List, [], ◌∷◌, map, Option}
-use Rattle.std.specs.Io.KnownBytes.{Appends}
+use Rattle.std.specs.Prelude.{◌≡◌, ◌⊎◌, ℕ, true, false, List, [], ◌∷◌, map}
 use Rattle.store.specs.declared.store.Store.{Ghosts}
 use Rattle.hub.specs.Connections.{is_open}
 use Rattle.world.specs.Network.{Network}
@@ -15,8 +14,8 @@ seen_lines name seen = reply_lines name (map (λ s. s.reply) seen)
 
 -- A piece was sent on this connection, which a script calls so. Where the connection has ended it is said so, and nothing else happens.
 -- Where it hasn't the world plays the piece, and the replies are printed.
-abbrev pub IsSent : {S : Type 0} → Ghosts S → Network S → ℕ → List ℕ → List ℕ → Option (List ℕ) → Option (List ℕ) → Network S → Type 0
-IsSent g before conn bytes name old new after =
-    ((is_open before.connections conn ≡ false) × Appends old new (closed_line name) × (after ≡ before))
+abbrev pub IsSent : {S : Type 0} → Ghosts S → Network S → ℕ → List ℕ → List ℕ → List ℕ → Network S → Type 0
+IsSent g before conn bytes name printed after =
+    ((is_open before.connections conn ≡ false) × (printed ≡ closed_line name) × (after ≡ before))
     ⊎ ((is_open before.connections conn ≡ true)
-    × ((seen : List SeenReply) × IsPlayed g before (record { conn = conn; bytes = bytes } ∷ []) seen after × Appends old new (seen_lines name seen)))
+    × ((seen : List SeenReply) × IsPlayed g before (record { conn = conn; bytes = bytes } ∷ []) seen after × (printed ≡ seen_lines name seen)))

@@ -1,5 +1,9 @@
 //! The nodes of a script before its first connection.
 
+ghost use Rattle.std.specs.Prelude.{◌≡◌, IfOk, OnOk};
+ghost use Rattle.couch_json.specs.Value.{object, no_members};
+ghost use Rattle.lab.specs.Scene.{HasOneMore};
+
 use crate::fault::LineFault;
 use crate::named::{Named, place_of};
 use couch_json::{Json, NoMemory};
@@ -16,8 +20,14 @@ pub struct Layout {
 }
 
 impl Layout {
+    ghost use Rattle.std.specs.Prelude.{◌≡◌, [], OnOk};
+    ghost use Rattle.lab.specs.Scene.{AddsDatabase, AddsNode};
+    ghost use Rattle.lab.specs.Stages.{nodes_of};
+
     /// Makes a layout without nodes.
-    pub fn new(alloc: Global) -> Layout {
+    pub fn new(alloc: Global) -> Layout
+        ensures { nodes_of result ≡ [] }
+    {
         Layout {
             alloc,
             stores: Vec::new(alloc),
@@ -25,7 +35,9 @@ impl Layout {
     }
 
     /// Adds a node without databases. `Line` where there is one of this name.
-    pub fn add_node(&mut self, name: &[u8]) -> Result<(), LineFault> {
+    pub fn add_node(&mut self, name: &[u8]) -> Result<(), LineFault>
+        ensures { OnOk result (AddsNode ⟦<PlainStore as Store>⟧ (nodes_of self.old) name.now (nodes_of self.new)) }
+    {
         if place_of(&self.stores, name).is_some() {
             return Err(LineFault::Line);
         }
@@ -37,7 +49,9 @@ impl Layout {
 
     /// Adds a database that is open to everyone. `Line` where there is no such node, or it has a
     /// database of this name.
-    pub fn add_database(&mut self, node: &[u8], name: &DbName) -> Result<(), LineFault> {
+    pub fn add_database(&mut self, node: &[u8], name: &DbName) -> Result<(), LineFault>
+        ensures { OnOk result (AddsDatabase ⟦<PlainStore as Store>⟧ (nodes_of self.old) node.now name.now (nodes_of self.new)) }
+    {
         let Some(place) = place_of(&self.stores, node) else {
             return Err(LineFault::Line);
         };
@@ -46,7 +60,9 @@ impl Layout {
 }
 
 /// Makes a database whose security object is `{}`.
-fn open_to_all(alloc: Global, store: &mut PlainStore, name: &DbName) -> Result<(), LineFault> {
+fn open_to_all(alloc: Global, store: &mut PlainStore, name: &DbName) -> Result<(), LineFault>
+    ensures { OnOk result (HasOneMore ⟦<PlainStore as Store>⟧ store.old name.now store.new) }
+{
     let security = open_security(alloc)?;
     store.create(name)?;
     store.set_security(name, &security)?;
@@ -54,7 +70,9 @@ fn open_to_all(alloc: Global, store: &mut PlainStore, name: &DbName) -> Result<(
 }
 
 /// Returns the security object `{}`: it names no member, so everyone is one.
-fn open_security(alloc: Global) -> Result<Security, NoMemory> {
+fn open_security(alloc: Global) -> Result<Security, NoMemory>
+    ensures { IfOk result (λ security. security ≡ object no_members) }
+{
     let value = Json::Object(BTreeMap::new(alloc));
     match Security::read(alloc, &value) {
         Ok(security) => Ok(security),

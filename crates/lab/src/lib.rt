@@ -14,6 +14,7 @@ mod refusal;
 mod running;
 mod scripts;
 mod server;
+mod stage;
 mod words;
 
 pub use command_line::plan;

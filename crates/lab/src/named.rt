@@ -1,7 +1,7 @@
 //! What a script calls by names.
 
-ghost use Rattle.std.specs.Prelude.{◌≡◌, ◌<◌, length, map, IfSome, bytes_eq};
-ghost use Rattle.std.specs.List.{position_from};
+ghost use Rattle.std.specs.Prelude.{◌≡◌, ◌<◌, length, map, IfSome};
+ghost use Rattle.lab.specs.Naming.{named_of, place_named, value_named};
 
 /// Something with a name.
 #[derive(Drop)]
@@ -12,12 +12,24 @@ pub struct Named<T> {
 
 /// Finds the place of the first that has this name.
 pub fn place_of<T>(entries: &[Named<T>], name: &[u8]) -> Option<usize>
-    ensures place { result ≡ position_from (λ n. bytes_eq name.now n) 0 (map (λ e. e.name.items) entries.now) }
+    ensures place { result ≡ place_named 0 name.now (map named_of entries.now) }
     ensures within { IfSome result (λ place. place < length entries.now) }
 {
     for (place, entry) in entries.iter().enumerate() {
         if name == entry.name.as_slice() {
             return Some(place);
+        }
+    }
+    None
+}
+
+/// Returns the value of the first that has this name.
+pub fn value_of<T: Copy>(entries: &[Named<T>], name: &[u8]) -> Option<T>
+    ensures { result ≡ value_named name.now (map named_of entries.now) }
+{
+    for entry in entries {
+        if name == entry.name.as_slice() {
+            return Some(entry.value);
         }
     }
     None

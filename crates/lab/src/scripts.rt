@@ -1,28 +1,26 @@
 //! Scripts, from the first line to the last.
 
-ghost use Rattle.std.specs.Prelude.{◌≡◌, ℕ, Err, Some, true, false, [], is_some, IfErr, IfOk, IfSome, OnOk};
+ghost use Rattle.std.specs.Prelude.{◌≡◌, ℕ, Err, Some, false, [], IfErr, IfOk, IfSome, OnOk, map, string_bytes};
 ghost use Rattle.std.specs.Io.BufRead.{drop_through, strip_last, take_through};
 ghost use Rattle.std.specs.Io.KnownBytes.{IsAtEnd, Keeps};
 ghost use Rattle.lab.specs.Playing.{AreLines, IsOfNoLine, Prints, ReadsLines};
-ghost use Rattle.lab.specs.Script.{line_of};
+ghost use Rattle.lab.specs.Lines.{said_by};
+ghost use Rattle.auth.specs.Callers.{Configuration};
+ghost use Rattle.lab.specs.Scene.{Plays, PlaysBefore, PlaysScript, laying, running};
+ghost use Rattle.lab.specs.Stages.{AreBytesPlayed, IsLinePlayed, configuration_of, nodes_of, names_of, scene_of};
 
 use crate::fault::{LineFault, ProgramFault};
 use crate::layout::Layout;
 use crate::line::{Line, read_line};
 use crate::running::Running;
 use crate::server::Server;
+use crate::stage::Stage;
 use std::alloc::Global;
 use std::io::{BufRead, Write};
+use store::{PlainStore, Store};
 
 /// How many reads a script may take.
 const READS: u64 = 1_048_576;
-
-/// How far a script is: nodes and databases are laid out first, and then connections come.
-#[derive(Drop)]
-enum Stage {
-    Laying(Layout),
-    Running(Running),
-}
 
 /// Plays a script, and prints the replies: a line for each, `c STATUS BODY`. The answer is the
 /// program's status, 0.
@@ -42,9 +40,15 @@ pub fn lab<R: BufRead, W: Write>(
     ensures lines { OnOk result (IfSome (R.remaining reader.old) AreLines) }
     ensures printed { OnOk result (Prints (W.contents writer.old) (W.contents writer.new)) }
 
+    // Each line did what the definition says, and what was printed is what the lines print.
+    ensures played { OnOk result (IfSome (R.remaining reader.old) (λ script. PlaysScript ⟦<PlainStore as Store>⟧
+        (record { secret = secret.now; admins = map string_bytes admins.now }) script (W.contents writer.old) (W.contents writer.new))) }
+
     // At the fault of a line just the lines up to it were read, and what was printed stands.
     ensures line { (n : ℕ) → result ≡ Err (ProgramFault.Line n) → ReadsLines n (R.remaining reader.old) (R.remaining reader.new) }
     ensures stands { (n : ℕ) → result ≡ Err (ProgramFault.Line n) → Prints (W.contents writer.old) (W.contents writer.new) }
+    ensures before { (n : ℕ) → result ≡ Err (ProgramFault.Line n) → IfSome (R.remaining reader.old) (λ script. PlaysBefore ⟦<PlainStore as Store>⟧
+        (record { secret = secret.now; admins = map string_bytes admins.now }) n script (W.contents writer.old) (W.contents writer.new)) }
 {
     let server = Server {
         alloc,
@@ -95,8 +99,8 @@ fn play<W: Write>(
     bytes: &[u8],
     out: &mut W,
 ) -> Result<Stage, LineFault>
-    ensures line { OnOk result (is_some (line_of bytes.now) ≡ true) }
-    ensures printed { OnOk result (Prints (W.contents out.old) (W.contents out.new)) }
+    ensures played { IfOk result (λ next. AreBytesPlayed ⟦<PlainStore as Store>⟧ (configuration_of server.entry) (scene_of stage) bytes.now
+        (W.contents out.old) (W.contents out.new) (scene_of next)) }
     ensures stands { result ≡ Err LineFault.Line → Keeps (W.contents out.old) (W.contents out.new) }
 {
     let Some(line) = read_line(server.alloc, bytes)? else {
@@ -109,7 +113,9 @@ fn play<W: Write>(
 }
 
 /// Plays a line before the first connection.
-fn lay(server: Server<'_>, layout: Layout, line: Line<'_>) -> Result<Stage, LineFault> {
+fn lay(server: Server<'_>, layout: Layout, line: Line<'_>) -> Result<Stage, LineFault>
+    ensures { IfOk result (λ next. Plays ⟦<PlainStore as Store>⟧ (configuration_of server.entry) (laying (nodes_of layout)) (said_by line.entry) [] (scene_of next)) }
+{
     let mut layout = layout;
     match line {
         Line::Node(name) => {
@@ -130,16 +136,25 @@ fn lay(server: Server<'_>, layout: Layout, line: Line<'_>) -> Result<Stage, Line
 }
 
 /// Plays a line after the first connection.
-fn run<W: Write>(running: Running, line: Line<'_>, out: &mut W) -> Result<Stage, LineFault>
-    ensures printed { OnOk result (Prints (W.contents out.old) (W.contents out.new)) }
+fn run<W: Write>(names: Running, line: Line<'_>, out: &mut W) -> Result<Stage, LineFault>
+    ensures played { (c : Configuration) → IfOk result (λ next. IsLinePlayed ⟦<PlainStore as Store>⟧ c (running (names_of names)) (said_by line.entry)
+        (W.contents out.old) (W.contents out.new) (scene_of next)) }
     ensures stands { result ≡ Err LineFault.Line → Keeps (W.contents out.old) (W.contents out.new) }
 {
-    let mut running = running;
+    let mut names = names;
     match line {
-        Line::Conn(node, name) => running.open(node, name)?,
-        Line::Send(name, piece) => running.send(name, piece, out)?,
-        Line::Close(name) => running.close(name)?,
-        Line::Node(_) | Line::Public(_, _) => return Err(LineFault::Line),
+        Line::Conn(node, name) => {
+            names.open(node, name)?;
+            Ok(Stage::Running(names))
+        }
+        Line::Send(name, piece) => {
+            names.send(name, piece, out)?;
+            Ok(Stage::Running(names))
+        }
+        Line::Close(name) => {
+            names.close(name)?;
+            Ok(Stage::Running(names))
+        }
+        Line::Node(_) | Line::Public(_, _) => Err(LineFault::Line),
     }
-    Ok(Stage::Running(running))
 }

@@ -15,8 +15,13 @@ pub struct Server<'a> {
 }
 
 impl Server<'_> {
+    ghost use Rattle.std.specs.Prelude.{◌≡◌, IfOk};
+    ghost use Rattle.lab.specs.Stages.{configuration_of};
+
     /// Makes a node over a store.
-    pub fn node(&self, store: PlainStore) -> Got<Node<PlainStore>> {
+    pub fn node(&self, store: PlainStore) -> Got<Node<PlainStore>>
+        ensures { IfOk result (λ node. node ≡ record { store = store; configuration = configuration_of self.now }) }
+    {
         let auth = Auth::new(self.alloc, self.secret.as_bytes(), self.admins)?;
         let routes = Routes::new(self.alloc)?;
         Ok(Node::new(self.alloc, store, auth, routes))

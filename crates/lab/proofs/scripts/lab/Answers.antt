@@ -1,6 +1,12 @@
-use Rattle.std.proofs.Common.{◌≡◌, ◌+◌, sym}
-use Rattle.lab.proofs.PlayLemmas.{AreLines-end, Keeps-prints, Prints-then, ReadsLines-more, fault_at-line, lines-more}
+use Rattle.std.proofs.Common.{◌≡◌, ◌+◌, Err, ap, sym}
+use Rattle.std.specs.Prelude.{map, string_bytes}
+use Rattle.std.specs.Io.BufRead.{strip_last}
+use Rattle.auth.specs.Callers.{Configuration}
+use Rattle.store.specs.contracts.plain_store.PlainStoreStore.TheImpl.{ghosts}
+use Rattle.lab.proofs.PlayLemmas.{AreLines-end, Keeps-prints, Prints-then, ReadsLines-more, fault_at-is_line, fault_at-line, lines-more}
+use Rattle.lab.proofs.SceneLemmas.{AreBytesPlayed-line, AreBytesPlayed-prints, HasPlayed-more, PlaysBefore-fault, PlaysScript-end}
 use Rattle.lab.specs.Playing.{fault_at}
+use Rattle.lab.specs.Stages.{AreBytesPlayed, scene_of}
 use Rattle.lab.specs.declared.fault.ProgramFault.TheVariants as program
 use Rattle.lab.proofs.scripts.lab.Goals as goal
 
@@ -9,6 +15,12 @@ returns-then-not-branch-clause-lines g c =
     AreLines-end c.loop-number.number (g.R.Read.remaining c.args.reader.now) (g.R.Read.remaining c.loop-number.reader) c.loop-number.invariant.read
     (c.in_ok-read_next.ensures.end c.if-not-branch.true) c.loop-number.invariant.lines
 
+pub returns-then-not-branch-clause-played : goal.returns-then-not-branch-clause-played
+returns-then-not-branch-clause-played g c =
+    PlaysScript-end ghosts (record { secret = c.args.secret.now; admins = map string_bytes c.args.admins.now }) c.loop-number.number (g.R.Read.remaining c.args.reader.now) (g.R.Read.remaining c.loop-number.reader) (g.W.Write.contents c.args.writer.now)
+    (g.W.Write.contents c.loop-number.writer) (scene_of c.loop-number.stage) c.loop-number.invariant.played c.loop-number.invariant.read
+    (c.in_ok-read_next.ensures.end c.if-not-branch.true)
+
 pub returns-in-Err-clause-line : goal.returns-in-Err-clause-line
 returns-in-Err-clause-line g c = λ n e.
     let made : fault_at c.in-Err.fault (c.loop-number.number + 1) ≡ program.Line n = cc (e, c.at.ensures) in
@@ -16,13 +28,32 @@ returns-in-Err-clause-line g c = λ n e.
     rw (sym same) (ReadsLines-more c.loop-number.number (g.R.Read.remaining c.args.reader.now) (g.R.Read.remaining c.loop-number.reader)
     (g.R.Read.remaining c.read_next.new.reader) c.loop-number.invariant.read c.in_ok-read_next.ensures.rest)
 
+pub returns-in-Err-clause-before : goal.returns-in-Err-clause-before
+returns-in-Err-clause-before g c = λ n e.
+    let made : fault_at c.in-Err.fault (c.loop-number.number + 1) ≡ program.Line n = cc (e, c.at.ensures) in
+    let same : c.loop-number.number + 1 ≡ n = fault_at-line c.in-Err.fault (c.loop-number.number + 1) n made in
+    PlaysBefore-fault ghosts (record { secret = c.args.secret.now; admins = map string_bytes c.args.admins.now }) c.loop-number.number n (g.R.Read.remaining c.args.reader.now) (g.W.Write.contents c.args.writer.now) (g.W.Write.contents c.loop-number.writer)
+    (g.W.Write.contents c.play.new.out) (scene_of c.loop-number.stage) c.loop-number.invariant.played (c.in-Err.ensures.stands (ap Err (fault_at-is_line c.in-Err.fault (c.loop-number.number + 1) n made))) same
+
 pub loop-number-preserved : goal.loop-number-preserved
-loop-number-preserved g c = record {
-  read = ReadsLines-more c.loop-number.number (g.R.Read.remaining c.args.reader.now) (g.R.Read.remaining c.loop-number.reader)
-      (g.R.Read.remaining c.read_next.new.reader) c.loop-number.invariant.read c.in_ok-read_next.ensures.rest;
-  lines = lines-more c.loop-number.number (g.R.Read.remaining c.args.reader.now) (g.R.Read.remaining c.loop-number.reader) c.read_next.new.bytes.items
-      c.loop-number.invariant.read c.in_ok-read_next.ensures.line (rw (c.without_line_feed.ensures, c.deref.ensures.value) at c.in-Ok.ensures.line) c.loop-number.invariant.lines;
-  printed = Prints-then (g.W.Write.contents c.args.writer.now) (g.W.Write.contents c.loop-number.writer) (g.W.Write.contents c.flush.new.self) c.loop-number.invariant.printed
-      (Prints-then (g.W.Write.contents c.loop-number.writer) (g.W.Write.contents c.play.new.out) (g.W.Write.contents c.flush.new.self) c.in-Ok.ensures.printed
-      (Keeps-prints (g.W.Write.contents c.play.new.out) (g.W.Write.contents c.flush.new.self) c.flush.ensures.bytes));
-}
+loop-number-preserved g c =
+    let script = g.R.Read.remaining c.args.reader.now in
+    let rest = g.R.Read.remaining c.loop-number.reader in
+    let start = g.W.Write.contents c.args.writer.now in
+    let before = g.W.Write.contents c.loop-number.writer in
+    let after = g.W.Write.contents c.play.new.out in
+    let flushed = g.W.Write.contents c.flush.new.self in
+    let configuration : Configuration = record { secret = c.args.secret.now; admins = map string_bytes c.args.admins.now } in
+    let scene = scene_of c.loop-number.stage in
+    let line = strip_last 10 c.read_next.new.bytes.items in
+    let here : AreBytesPlayed ghosts configuration scene line before after (scene_of c.in-Ok.next) =
+    rw (c.without_line_feed.ensures, c.deref.ensures.value) at c.in-Ok.ensures.played in
+    record {
+      read = ReadsLines-more c.loop-number.number script rest (g.R.Read.remaining c.read_next.new.reader) c.loop-number.invariant.read c.in_ok-read_next.ensures.rest;
+      lines = lines-more c.loop-number.number script rest c.read_next.new.bytes.items c.loop-number.invariant.read c.in_ok-read_next.ensures.line
+          (AreBytesPlayed-line ghosts configuration scene line before after (scene_of c.in-Ok.next) here) c.loop-number.invariant.lines;
+      printed = Prints-then start before flushed c.loop-number.invariant.printed
+          (Prints-then before after flushed (AreBytesPlayed-prints ghosts configuration scene line before after (scene_of c.in-Ok.next) here) (Keeps-prints after flushed c.flush.ensures.bytes));
+      played = HasPlayed-more ghosts configuration c.loop-number.number script rest c.read_next.new.bytes.items start before after flushed scene (scene_of c.in-Ok.next)
+          c.loop-number.invariant.played c.loop-number.invariant.read c.in_ok-read_next.ensures.line here c.flush.ensures.bytes;
+    }

@@ -1,0 +1,9 @@
+use crate::layout::Layout;
+use crate::running::Running;
+
+/// How far a script is: nodes and databases are laid out first, and then connections come.
+#[derive(Drop)]
+pub enum Stage {
+    Laying(Layout),
+    Running(Running),
+}
