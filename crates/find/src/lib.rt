@@ -1,11 +1,7 @@
 //! Finds: the documents of a database that match a selector, in an order, in part (CouchDB manual,
 //! api/database/find).
 //!
-//! [`Query::read`] reads what is asked for, and [`find`] answers it. A row of the tests:
-//!
-//! ```rows
-//! anybody POST /db/_find {"selector":{"n":{"$mod":[-1,0]}}} => 200 {"bookmark":"nil","docs":[{"_id":"p","_rev":"1-x","n":1}]}
-//! ```
+//! [`Query::read`] reads what is asked for, and [`find`] answers it.
 #![tactic(auto)]
 
 mod by_fields;
