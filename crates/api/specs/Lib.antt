@@ -7,4 +7,5 @@ pub mod Bulk
 pub mod BulkAsked
 pub mod Queries
 pub mod Listings
+pub mod Views
 pub mod Queried

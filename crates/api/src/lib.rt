@@ -22,6 +22,7 @@ mod path;
 mod query;
 mod refusal;
 mod routes;
+mod views;
 
 pub use asking::{body, caller, deny, without_parameters};
 pub use bulk::{BulkAsked, bulk_in};
@@ -35,3 +36,4 @@ pub use path::{database_name, document_id};
 pub use query::{Asked, DocumentQuery, document_query, revision_query};
 pub use refusal::Refusal;
 pub use routes::Routes;
+pub use views::view_query;

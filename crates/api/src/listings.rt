@@ -6,7 +6,8 @@ ghost use Rattle.std.specs.List.{list_all};
 ghost use Rattle.couch_http.specs.Message.{message_of};
 ghost use Rattle.api.specs.Saying.{Says};
 ghost use Rattle.api.specs.Queried.{texts_of};
-ghost use Rattle.api.specs.Listings.{changes_asked, changes_query, count_in, flag_in, given_at, is_count_text, key_in, listing_query, range_asked, range_from, style_in};
+ghost use Rattle.api.specs.Listings.{changes_asked, changes_query, count_in, flag_in, given_at, is_count_text, key_in, listing_names, listing_query, range_asked, range_from, style_in};
+ghost use Rattle.api.specs.Queries.{are_named};
 ghost use Rattle.api.specs.Refusals.{there_or};
 
 use crate::fault::RequestFault;
@@ -32,15 +33,7 @@ pub fn listing_query(alloc: Global, request: &Request) -> Result<IdRange, Reques
 fn read_range(alloc: Global, parameters: &[(String, String)]) -> Got<Option<IdRange>>
     ensures { IfOk result (λ range. range ≡ range_asked (texts_of parameters.now)) }
 {
-    let names = [
-        "startkey",
-        "endkey",
-        "inclusive_end",
-        "descending",
-        "skip",
-        "limit",
-    ];
-    if !are_named(parameters, &names) {
+    if !are_listing_names(parameters) {
         return Ok(None);
     }
     let Some(start) = key_at(alloc, parameters, "startkey")? else {
@@ -52,8 +45,23 @@ fn read_range(alloc: Global, parameters: &[(String, String)]) -> Got<Option<IdRa
     Ok(range_from(parameters, start, end))
 }
 
+/// Tests whether all names are those of a listing's parameters.
+pub(crate) fn are_listing_names(parameters: &[(String, String)]) -> bool
+    ensures { result ≡ are_named listing_names (texts_of parameters.now) }
+{
+    let names = [
+        "startkey",
+        "endkey",
+        "inclusive_end",
+        "descending",
+        "skip",
+        "limit",
+    ];
+    are_named(parameters, &names)
+}
+
 /// Reads the other parts of a range.
-fn range_from(
+pub(crate) fn range_from(
     parameters: &[(String, String)],
     start: Option<RangeKey>,
     end: Option<RangeKey>,

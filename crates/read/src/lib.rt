@@ -18,6 +18,7 @@ mod numbers;
 mod open_revisions;
 mod path;
 mod shown;
+mod views;
 
 pub use change_list::changes;
 pub use differences::{AskedRevisions, revs_diff};
@@ -26,3 +27,4 @@ pub use fault::ReadFault;
 pub use information::info;
 pub use listing::all_docs;
 pub use open_revisions::open_revs;
+pub use views::view;

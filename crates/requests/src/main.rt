@@ -3,6 +3,7 @@
 #![tactic(auto)]
 
 mod command_lines;
+mod key_pages;
 mod nodes;
 mod pages;
 mod requests;

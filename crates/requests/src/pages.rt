@@ -1,3 +1,4 @@
+use crate::key_pages::by_key;
 use crate::nodes::{Asked, send};
 use crate::setup::Setup;
 use crate::texts::{answer, first_word, text_of};
@@ -9,7 +10,10 @@ use store::{DbName, IdRange, PageById, PageBySeq, PlainStore, RangeKey, SeqRange
 ///
 /// `seq NAME WORD ..`: rows by sequence, with `since N`, `limit N`, `leaves` for all leaves.
 /// `id NAME WORD ..`: rows by id, with `start ID`, `end ID`, `before ID` for an end that is left
-/// out, `down`, `skip N`, `limit N`. `uncounted` in either asks for no counts.
+/// out, `down`, `skip N`, `limit N`.
+/// `key NAME DESIGN INDEX WORD ..`: rows of an index, with `low SIDE KEY`, `high SIDE KEY`, where a side
+/// is `before`, `after` or `behind`, and the key has no blanks, `down`, `skip N`, `limit N`.
+/// `uncounted` asks for no counts.
 #[derive(Drop)]
 pub struct Pages {
     alloc: Global,
@@ -68,6 +72,14 @@ impl Pages {
         }
     }
 
+    /// Answers with rows of an index.
+    fn by_key(&mut self, text: &str) -> Result<Vec<u8>, RowsFault> {
+        match &mut self.store {
+            Some(store) => by_key(self.alloc, store, text),
+            None => answer(self.alloc, "nothing written"),
+        }
+    }
+
     /// Answers with rows by id.
     fn by_id(&mut self, text: &str) -> Result<Vec<u8>, RowsFault> {
         let alloc = self.alloc;
@@ -87,7 +99,7 @@ impl Pages {
 }
 
 /// Tells whether a word is among these.
-fn has_word(words: &str, wanted: &str) -> bool {
+pub(crate) fn has_word(words: &str, wanted: &str) -> bool {
     words.split(' ').any(|word| word == wanted)
 }
 
@@ -99,7 +111,7 @@ fn word_behind<'a>(words: &'a str, name: &str) -> Option<&'a str> {
 }
 
 /// Returns the number behind a name and its blank, where there is one.
-fn number_behind(words: &str, name: &str) -> Option<u64> {
+pub(crate) fn number_behind(words: &str, name: &str) -> Option<u64> {
     word_behind(words, name)?.parse::<u64>().ok()
 }
 
@@ -193,6 +205,7 @@ impl Kind for Pages {
         match verb {
             "seq" => self.by_sequence(rest),
             "id" => self.by_id(rest),
+            "key" => self.by_key(rest),
             _ => self.send(question),
         }
     }

@@ -17,3 +17,4 @@ pub mod FieldValues
 pub mod KeyPlaces
 pub mod DeclaredFields
 pub mod KeyCounts
+pub mod IndexRows

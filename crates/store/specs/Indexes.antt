@@ -1,11 +1,11 @@
 -- The documents that queries look at, and the rows of an index over them, made from scratch: each document that has all the fields, at the values that it has for them.
 -- CouchDB manual, api/database/find (which documents a query sees, and the fields of an index) and ddocs/views/collation (the order of keys); that a design document declares its indexes in the member `indexes` is this server's own.
-use Rattle.std.specs.Prelude.{refl, ℕ, List, [], ◌∷◌, map, codes, Option, Some, None, option_map, option_and_then, if◌then◌else◌}
+use Rattle.std.specs.Prelude.{◌≡◌, refl, ℕ, List, [], ◌∷◌, map, codes, Option, Some, None, option_map, option_and_then, if◌then◌else◌}
 use Rattle.std.specs.declared.cmp.Ordering.{Ordering}
 use Rattle.std.specs.Ordering.{nat_cmp, ordering_then}
 use Rattle.std.specs.Cmp.Lexicographic.{slice_cmp}
 use Rattle.std.specs.Coded.{Coded, code_by, coded×, coded_list, coded_ℕ}
-use Rattle.std.specs.FinMap.{entries, put}
+use Rattle.std.specs.FinMap.{entries, get, put}
 use Rattle.couch_json.specs.Code.{value_code}
 use Rattle.couch_json.specs.Collation.{collation}
 use Rattle.couch_json.specs.FieldPath.{value_at}
@@ -118,3 +118,11 @@ index_fields_of design h name =
 -- the fields of the index that this design document of a database declares under this name
 abbrev pub index_fields_at : Database → List ℕ → List ℕ → Option (List (List ℕ))
 index_fields_at db design name = index_fields_of design (history_at db design) name
+
+-- the place is that of a document that queries look at, at its values
+pub record IsPlaceOf (fields : List (List ℕ)) (db : Database) (p : IndexPlace) : Type 0 where
+  pub document : Document
+  pub there : get db.documents p.id ≡ Some document
+  pub shown : Value
+  pub looked_at : queried_document p.id document.history ≡ Some shown
+  pub values : option_map array (field_values fields shown) ≡ Some p.key

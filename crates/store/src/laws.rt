@@ -8,12 +8,15 @@ ghost use Rattle.tree.specs.History.{held_of, winner};
 ghost use Rattle.tree.specs.declared.entry.Held.{Held};
 ghost use Rattle.store.specs.Contents.{AreAcceptable, IsAcceptable, with_security};
 ghost use Rattle.store.specs.Database.{Database, Document, DocumentWrite, HasSequences, IsContentOf, IsLater, Log, empty_database, with_all, with_one, with_write_logged};
+ghost use Rattle.store.specs.Indexes.{IndexPlace, IsPlaceOf, index_rows, place_order};
 ghost use Rattle.store.specs.Lawful.{IsBody, IsLawful};
 ghost use Rattle.store.specs.Pages.{IsIdRowOf, IsRowOf, SequenceRow, comes_before, is_within, live_rev, page_of_ids, page_by_sequence, row_of};
 ghost use Rattle.store.specs.Writing.{Addition, writings_in};
 ghost use Rattle.store.specs.declared.page.IdRange.{IdRange};
 ghost use Rattle.store.specs.declared.page.IdRow.{IdRow};
 ghost use Rattle.store.specs.declared.page.SeqRange.{SeqRange};
+
+use std::cmp::Ordering;
 
 /// Every log has a content, and only one.
 pub fn content_of_a_log()
@@ -90,4 +93,12 @@ pub fn rows_by_id()
     ensures ascending { (range : IdRange) (db : Database) → AllPairs (λ a b. comes_before range.descending a.id b.id ≡ true) (page_of_ids range db).rows }
     ensures there { (range : IdRange) (db : Database) (r : IdRow) → Contains (page_of_ids range db).rows r → IsIdRowOf range db r }
     ensures whole { (range : IdRange) (db : Database) (r : IdRow) → range.limit ≡ None → range.skip ≡ 0 → IsIdRowOf range db r → Contains (page_of_ids range db).rows r }
+{}
+
+/// The rows of an index ascend; each is of a document that queries look at, at its values, and each such
+/// document that has a value at each field has its row. So it has one row, since its values are its key.
+pub fn rows_by_key()
+    ensures ascending { (fields : List (List ℕ)) (db : Database) → AllPairs (λ a b. place_order a b ≡ Ordering.Less) (index_rows fields db) }
+    ensures there { (fields : List (List ℕ)) (db : Database) (p : IndexPlace) → Contains (index_rows fields db) p → IsPlaceOf fields db p }
+    ensures whole { (fields : List (List ℕ)) (db : Database) (p : IndexPlace) → IsPlaceOf fields db p → Contains (index_rows fields db) p }
 {}

@@ -1,0 +1,52 @@
+-- What the query of a view asks for: a range of the keys of an index.
+-- CouchDB manual, api/ddoc/views (`startkey`, `endkey`, `inclusive_end`, `descending`, `skip`, `limit`) and ddocs/views/collation (a range of keys).
+use Rattle.std.specs.Prelude.{Bool, false, ℕ, if◌then◌else◌, List, Option, Some, None, option_map, option_and_then, Result, Ok, Err, codes}
+use Rattle.couch_json.specs.Reading.{reading}
+use Rattle.couch_json.specs.Value.{Value}
+use Rattle.couch_json.specs.declared.fault.JsonFault.{JsonFault}
+use Rattle.store.specs.declared.key_page.CutSide.{CutSide}
+use Rattle.store.specs.declared.key_page.CutSide.TheVariants.{Before, After}
+use Rattle.store.specs.declared.key_page.KeyCut.{KeyCut}
+use Rattle.store.specs.declared.key_page.KeyRange.{KeyRange}
+use Rattle.store.specs.declared.page.IdRange.{IdRange}
+use Rattle.api.specs.Listings.{given_at, listing_names, range_from}
+use Rattle.api.specs.Queries.{are_named, parameters_in}
+
+abbrev pub value_read : Result Value JsonFault → Option Value
+value_read (Ok v) = Some v
+value_read (Err fault) = None
+
+-- a key is any JSON value
+abbrev pub json_in : List ℕ → Option Value
+json_in value = value_read (reading value)
+
+-- a cut at a key, where there is one
+abbrev pub cut_at : CutSide → Option Value → Option KeyCut
+cut_at side key = option_map (λ k. record { key = k; side = side }) key
+
+-- Which side of a key that ends a range belongs to it: the key itself does where the end is inclusive.
+abbrev pub end_side : Bool → Bool → CutSide
+end_side descending inclusive =
+    if descending then (if inclusive then Before else After) else (if inclusive then After else Before)
+
+-- the range from one key to another, in a direction: a range that goes down starts at its high end
+abbrev pub keys_between : Option Value → Option Value → IdRange → KeyRange
+keys_between start end range = record {
+  low = if range.descending then cut_at (end_side range.descending range.inclusive_end) end else cut_at Before start;
+  high = if range.descending then cut_at After start else cut_at (end_side range.descending range.inclusive_end) end;
+  descending = range.descending;
+  skip = range.skip;
+  limit = range.limit;
+  counted = false;
+}
+
+-- the parameters are those of a listing by id, but that a key is any value
+abbrev pub keys_asked : List (List ℕ × List ℕ) → Option KeyRange
+keys_asked ps =
+    if are_named listing_names ps
+    then option_and_then (λ start. option_and_then (λ end. option_map (keys_between start end) (range_from ps None None)) (given_at json_in (codes "endkey") ps)) (given_at json_in (codes "startkey") ps)
+    else None
+
+-- the rows that a view's reader asks for, or nothing where the query is a bad one
+abbrev pub view_query : Option (List ℕ) → Option KeyRange
+view_query query = keys_asked (parameters_in query)

@@ -1,0 +1,118 @@
+//! What the query of a view asks for (CouchDB manual, api/ddoc/views).
+
+ghost use Rattle.std.specs.Prelude.{◌≡◌, IfOk, Some, option_map};
+ghost use Rattle.couch_http.specs.Message.{message_of};
+ghost use Rattle.api.specs.Saying.{Says};
+ghost use Rattle.api.specs.Queried.{texts_of};
+ghost use Rattle.api.specs.Listings.{given_at};
+ghost use Rattle.api.specs.Refusals.{there_or};
+ghost use Rattle.api.specs.Views.{cut_at, end_side, json_in, keys_asked, keys_between, view_query};
+
+use crate::fault::RequestFault;
+use crate::listings::{are_listing_names, range_from};
+use crate::parameters::{parameters, sole_value};
+use crate::refusal::Refusal;
+use couch_http::Request;
+use couch_json::{Got, JsonFault, NoMemory, read};
+use std::alloc::Global;
+use store::{CutSide, IdRange, IndexKey, KeyCut, KeyRange};
+
+/// Reads which rows of an index a view is asked for: the parameters of a listing by id, but that a key
+/// is any JSON value.
+pub fn view_query(alloc: Global, request: &Request) -> Result<KeyRange, RequestFault>
+    ensures { Says (λ range. range) result (there_or Refusal.Query (view_query (message_of request.now).query)) }
+{
+    let parameters = parameters(alloc, &request.query)?;
+    match read_keys(alloc, &parameters)? {
+        Some(range) => Ok(range),
+        None => Err(RequestFault::Refused(Refusal::Query)),
+    }
+}
+
+/// Reads a range from parameters; `None` where one of them is not of its form.
+fn read_keys(alloc: Global, parameters: &[(String, String)]) -> Got<Option<KeyRange>>
+    ensures { IfOk result (λ range. range ≡ keys_asked (texts_of parameters.now)) }
+{
+    if !are_listing_names(parameters) {
+        return Ok(None);
+    }
+    let Some(start) = value_at(alloc, parameters, "startkey")? else {
+        return Ok(None);
+    };
+    let Some(end) = value_at(alloc, parameters, "endkey")? else {
+        return Ok(None);
+    };
+    match range_from(parameters, None, None) {
+        Some(range) => Ok(Some(keys_between(start, end, &range))),
+        None => Ok(None),
+    }
+}
+
+/// Makes the range from one key to another, in the direction of a listing.
+fn keys_between(start: Option<IndexKey>, end: Option<IndexKey>, range: &IdRange) -> KeyRange
+    ensures { result ≡ keys_between start end range.now }
+{
+    let side = end_side(range.descending, range.inclusive_end);
+    let (low, high) = if range.descending {
+        (cut_at(side, end), cut_at(CutSide::After, start))
+    } else {
+        (cut_at(CutSide::Before, start), cut_at(side, end))
+    };
+    KeyRange {
+        low,
+        high,
+        descending: range.descending,
+        skip: range.skip,
+        limit: range.limit,
+        counted: false,
+    }
+}
+
+/// Tells on which side of the key that ends a range it is cut.
+fn end_side(descending: bool, inclusive: bool) -> CutSide
+    ensures { result ≡ end_side descending inclusive }
+{
+    if descending == inclusive {
+        CutSide::Before
+    } else {
+        CutSide::After
+    }
+}
+
+/// Makes a cut at a key, where there is one.
+fn cut_at(side: CutSide, key: Option<IndexKey>) -> Option<KeyCut>
+    ensures { result ≡ cut_at side key }
+{
+    match key {
+        Some(key) => Some(KeyCut { key, side }),
+        None => None,
+    }
+}
+
+/// Reads the key at a name, if there is one; `None` where the parameter is of another form.
+fn value_at(
+    alloc: Global,
+    parameters: &[(String, String)],
+    name: &str,
+) -> Got<Option<Option<IndexKey>>>
+    ensures { IfOk result (λ key. key ≡ given_at json_in name.now (texts_of parameters.now)) }
+{
+    let Some(value) = sole_value(parameters, name) else {
+        return Ok(None);
+    };
+    match value {
+        Some(value) => read_value(alloc, value),
+        None => Ok(Some(None)),
+    }
+}
+
+/// Reads a key, which is a JSON value.
+fn read_value(alloc: Global, value: &str) -> Got<Option<Option<IndexKey>>>
+    ensures { IfOk result (λ key. key ≡ option_map (λ k. Some k) (json_in value.now)) }
+{
+    match read(alloc, value.as_bytes()) {
+        Ok(value) => Ok(Some(Some(IndexKey::new(value)))),
+        Err(JsonFault::Memory) => Err(NoMemory),
+        Err(_) => Ok(None),
+    }
+}
