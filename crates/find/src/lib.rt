@@ -1,7 +1,11 @@
 //! Finds: the documents of a database that match a selector, in an order, in part (CouchDB manual,
 //! api/database/find).
 //!
-//! [`Query::read`] reads what is asked for, and [`find`] answers it.
+//! [`Query::read`] reads what is asked for, and [`find`] answers it. A row of the tests:
+//!
+//! ```rows
+//! anybody POST /db/_find {"selector":{"b":{"$lt":2}},"sort":[{"b":"desc"}]} => 200 {"bookmark":"nil","docs":[{"_id":"p","_rev":"1-a","b":1}]}
+//! ```
 #![tactic(auto)]
 
 mod by_fields;
