@@ -4,7 +4,7 @@
 //! [`Query::read`] reads what is asked for, and [`find`] answers it. A row of the tests:
 //!
 //! ```rows
-//! anybody POST /db/_find {"selector":{"n":{"$mod":[-1,0]}}} => 200 {"bookmark":"nil","docs":[{"_id":"p","_rev":"1-x","n":1}]}
+//! anybody POST /db/_find {"selector":{"b":{"$lt":2}},"sort":[{"b":"desc"}]} => 200 {"bookmark":"nil","docs":[{"_id":"p","_rev":"1-a","b":1}]}
 //! ```
 #![tactic(auto)]
 
