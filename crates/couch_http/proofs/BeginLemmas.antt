@@ -11,15 +11,19 @@ use Rattle.couch_http.specs.declared.fault.HttpFault.TheVariants.{Encoding, TooL
 use Rattle.couch_http.specs.Message.{HeaderField, Message}
 use Rattle.couch_http.specs.Fields.{has_transfer_encoding, request_length}
 use Rattle.couch_http.specs.Head.{HeadScan, within, complete, scan_from, head_scan}
-use Rattle.couch_http.specs.Stream.{Front, waits, broken, whole, head_limit, Begins, AtHead, AtScan, ReadsHead, is_too_large, unfinished_head, field_of, announced_request, with_body, with_length, after_head}
+use Rattle.couch_http.specs.Stream.{Front, waits, broken, whole, head_limit, Begins, AtHead, AtScan, ReadsHead, is_too_large, unfinished_head, StandsAtHead, BeginsBy, field_of, announced_request, with_content, with_body, with_length, after_head}
 use Rattle.couch_http.proofs.ScanLemmas.{scan-append_complete, scan-append_within, scan_front}
 
 -- a stream whose head is whole
+pub BeginsBy-head : {A : Type 0} (Reads : List ℕ → List ℕ → Front A → Type 0) (head rest : List ℕ) (lines : ℕ) (front : Front A)
+    → head_scan head ≡ complete lines [] → StandsAtHead Reads head lines rest front → BeginsBy Reads (head ++ rest) front
+BeginsBy-head Reads head rest lines front scanned at =
+    rw (scan-append_complete head rest 0 Empty lines [] scanned) (head, refl, at)
+
 pub Begins-head : (head rest : List ℕ) (lines : ℕ) (front : Front Message) → head_scan head ≡ complete lines []
     → AtHead head lines rest front → Begins (head ++ rest) front
 unfolding Begins
-Begins-head head rest lines front scanned at =
-    rw (scan-append_complete head rest 0 Empty lines [] scanned) (head, refl, at)
+Begins-head head rest lines front scanned at = BeginsBy-head ReadsHead head rest lines front scanned at
 
 pub Begins-large : (head rest : List ℕ) (lines : ℕ) → head_scan head ≡ complete lines []
     → is_too_large head lines ≡ true → Begins (head ++ rest) (broken TooLarge)
@@ -30,10 +34,14 @@ pub Begins-read : (head rest : List ℕ) (lines : ℕ) (front : Front Message) �
 Begins-read head rest lines front scanned small read = Begins-head head rest lines _ scanned (rw small read)
 
 -- a stream without a whole head
+pub BeginsBy-unfinished : {A : Type 0} (Reads : List ℕ → List ℕ → Front A → Type 0) (bytes : List ℕ) (n : ℕ) (line : Line)
+    → head_scan bytes ≡ within n line → BeginsBy Reads bytes (unfinished_head bytes)
+BeginsBy-unfinished Reads bytes n line scanned = rw scanned refl
+
 pub Begins-unfinished : (bytes : List ℕ) (n : ℕ) (line : Line) → head_scan bytes ≡ within n line
     → Begins bytes (unfinished_head bytes)
 unfolding Begins
-Begins-unfinished bytes n line scanned = rw scanned refl
+Begins-unfinished bytes n line scanned = BeginsBy-unfinished ReadsHead bytes n line scanned
 
 pub Begins-waits : (bytes : List ℕ) (n : ℕ) (line : Line) → head_scan bytes ≡ within n line
     → nat_lt (length bytes) head_limit ≡ true → Begins bytes waits
@@ -113,10 +121,9 @@ Begins_shorter bytes m rest begins = by_scan (head_scan bytes) refl begins
         by_size (is_too_large at.0 n) at.0 after (scan_front bytes 0 Empty n after is).shorter at.2
 
 -- a body that is whole with the next piece
-pub with_body-done : (m : Message) (size : ℕ) (body piece : List ℕ) → length body < size → size - length body ≤ length piece
-    → with_body m size (body ++ piece)
-    ≡ whole (record m { body = body ++ take (size - length body) piece }) (drop (size - length body) piece)
-with_body-done m size body piece short enough =
+pub with_content-done : {A : Type 0} (made : List ℕ → A) (size : ℕ) (body piece : List ℕ) → length body ≤ size → size - length body ≤ length piece
+    → with_content made size (body ++ piece) ≡ whole (made (body ++ take (size - length body) piece)) (drop (size - length body) piece)
+with_content-done made size body piece inside enough =
     let long : size ≤ length (body ++ piece) = omega (arith, length-append body piece) in
     let all : nat_lt (length (body ++ piece)) size ≡ false = le-ltb (length (body ++ piece)) size long in
     let sum : length body + (size - length body) ≡ size = omega arith in
@@ -125,8 +132,17 @@ with_body-done m size body piece short enough =
     let after : drop size (body ++ piece) ≡ drop (size - length body) piece =
     ap (λ (n : ℕ). drop n (body ++ piece)) (sym sum) ∙ sym (drop-drop (size - length body) (length body) (body ++ piece))
     ∙ ap (drop (size - length body)) (drop_at body piece (length body) refl) in
-    rw (all, front, after) refl
+    rw all (λ i. whole (made (front i)) (after i))
+
+pub with_body-done : (m : Message) (size : ℕ) (body piece : List ℕ) → length body < size → size - length body ≤ length piece
+    → with_body m size (body ++ piece)
+    ≡ whole (record m { body = body ++ take (size - length body) piece }) (drop (size - length body) piece)
+with_body-done m size body piece short enough =
+    with_content-done (λ content. record m { body = content }) size body piece (omega (arith, short)) enough
 
 -- a body that isn't whole
+pub with_content-waits : {A : Type 0} (made : List ℕ → A) (size : ℕ) (bytes : List ℕ) → length bytes < size → with_content made size bytes ≡ waits
+with_content-waits made size bytes short = rw (lt-ltb (length bytes) size short) refl
+
 pub with_body-waits : (m : Message) (size : ℕ) (bytes : List ℕ) → length bytes < size → with_body m size bytes ≡ waits
-with_body-waits m size bytes short = rw (lt-ltb (length bytes) size short) refl
+with_body-waits m size bytes short = with_content-waits (λ content. record m { body = content }) size bytes short

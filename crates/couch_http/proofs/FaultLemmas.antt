@@ -1,6 +1,6 @@
 -- The faults of a stream are Syntax, Encoding and TooLarge.
 use Rattle.std.proofs.Common.{◌≡◌, ℕ, Bool, true, false, cond, List, [], ◌∷◌, ◌++◌, length, map, sym, subst, Ok, Err, Result, Option, Some, None, inl, inr}
-use Rattle.std.specs.Prelude.{⊤, MatchBool, nat_lt, codes}
+use Rattle.std.specs.Prelude.{⊤, IfErr, MatchBool, nat_lt, codes}
 use Rattle.couch_http.specs.declared.cut.Cut.{Cut}
 use Rattle.couch_http.specs.declared.cut.Ending.{Ending}
 use Rattle.couch_http.specs.declared.cut.Ending.TheVariants.{Open, Last, Fault}
@@ -10,6 +10,7 @@ use Rattle.couch_http.specs.Cutting.{Answers, CutsTo, HasStreamFault, messages_o
 use Rattle.couch_http.specs.Fields.{body_limit, length_of, request_length, has_transfer_encoding, values_of}
 use Rattle.couch_http.specs.Head.{HeadScan, within, complete, head_scan}
 use Rattle.couch_http.specs.Message.{HeaderField, Message}
+use Rattle.couch_http.specs.ReplyStream.{reply_length, reply_limit}
 use Rattle.couch_http.specs.Stream.{Front, waits, broken, whole, head_limit, with_length, announced_request, after_head, field_of, ReadsHead, AtScan, is_too_large, Begins, ended, faulty, Cuts, IsStreamFault}
 
 -- a front that isn't broken by the fault of a call
@@ -34,6 +35,14 @@ length_sound : (limit : ℕ) (absent : Result ℕ HttpFault) → IsLength absent
 length_sound limit absent h [] = h
 length_sound limit absent h (value ∷ []) = text_sound _ _ _
 length_sound limit absent h (value ∷ other ∷ more) = tt
+
+pub reply_length_sound : (headers : List HeaderField) (r : Result ℕ HttpFault) → r ≡ reply_length headers → IfErr r IsStreamFault
+reply_length_sound headers r same =
+    subst (λ (x : Result ℕ HttpFault). IfErr x IsStreamFault) (sym same) (as_fault (reply_length headers) (length_sound reply_limit (Err Syntax) tt (values_of (codes "Content-Length") headers)))
+  where
+    as_fault : (x : Result ℕ HttpFault) → IsLength x → IfErr x IsStreamFault
+    as_fault (Ok n) h = tt
+    as_fault (Err fault) h = h
 
 body_sound : (short : Bool) (m : Message) (rest : List ℕ) → IsSound (cond short waits (whole m rest))
 body_sound true m rest = tt

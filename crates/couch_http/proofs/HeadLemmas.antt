@@ -4,13 +4,15 @@ use Rattle.std.specs.Prelude.{IsTrue}
 use Rattle.std.proofs.lemmas.List.Elements.{All-weaker}
 use Rattle.httparse.specs.declared.spans.HeaderSpan.{HeaderSpan}
 use Rattle.httparse.specs.declared.spans.RequestSpans.{RequestSpans}
+use Rattle.httparse.specs.declared.spans.ResponseSpans.{ResponseSpans}
 use Rattle.http_header.specs.Token as Token
 use Rattle.httparse.specs.Grammar as Grammar
-use Rattle.httparse.specs.Grammar.{Field, RequestHead}
-use Rattle.httparse.specs.Spans.{span_bytes, header_bytes, name_and_value, IsRequestAt}
+use Rattle.httparse.specs.Grammar.{Field, RequestHead, ResponseHead}
+use Rattle.httparse.specs.Spans.{span_bytes, header_bytes, name_and_value, IsRequestAt, IsResponseAt}
 use Rattle.couch_http.specs.Beginning.{field_at}
 use Rattle.couch_http.specs.Message.{HeaderField, Message}
 use Rattle.couch_http.specs.Fields.{has_transfer_encoding, request_length}
+use Rattle.couch_http.specs.ReplyStream.{after_reply_head, reply_front}
 use Rattle.couch_http.specs.Stream.{announced_request, with_body, after_head, field_of, front_of}
 
 -- the request that is announced awaits its body
@@ -51,3 +53,12 @@ after_head-found head spans found h at rest =
     let fields : map (field_at head) (take found.headers spans) ≡ map field_of h.fields =
     map_field_at head (take found.headers spans) ∙ ap (map with_name) at.fields ∙ sym (map_field_of h.fields) in
     rw (at.method, at.path, at.version, fields) refl
+
+-- the same for a reply
+pub after_reply_head-found : (head : List ℕ) (spans : List HeaderSpan) (found : ResponseSpans) (h : ResponseHead)
+    → IsResponseAt head spans found h → (rest : List ℕ)
+    → after_reply_head head found.code (map (field_at head) (take found.headers spans)) rest ≡ reply_front head h rest
+after_reply_head-found head spans found h at rest =
+    let fields : map (field_at head) (take found.headers spans) ≡ map field_of h.fields =
+    map_field_at head (take found.headers spans) ∙ ap (map with_name) at.fields ∙ sym (map_field_of h.fields) in
+    rw (at.code, fields) refl

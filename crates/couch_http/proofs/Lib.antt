@@ -3,7 +3,9 @@ pub mod ScanLemmas
 pub mod CutLemmas
 pub mod HeadLemmas
 pub mod BeginLemmas
+pub mod ReplyLemmas
 pub mod StreamLaws
+pub mod ReplyLaws
 pub mod HeadLaws
 pub mod ArrivalLemmas
 pub mod FaultLemmas

@@ -1,11 +1,14 @@
 -- What holds of every stream.
--- RFC 9112 says none of it; it follows from the definitions of `Stream`, `Pieces` and `Places`.
+-- RFC 9112 says none of it; it follows from the definitions of `Stream`, `ReplyStream`, `Pieces` and `Places`.
 use Rattle.std.specs.Prelude.{◌≡◌, ℕ, ◌<◌, ◌↔◌, List, [], ◌++◌, length, All}
 use Rattle.couch_http.specs.Message.{Message}
 use Rattle.couch_http.specs.Head.{IsHead, head_scan, complete}
 use Rattle.couch_http.specs.Stream.{waits, Begins, StreamEnd, unfinished, ended, faulty, Cuts, IsStreamFault}
 use Rattle.couch_http.specs.Pieces.{bytes_of_pieces, CutInPieces}
 use Rattle.couch_http.specs.Places.{EndsAt}
+use Rattle.couch_http.specs.Front.{Front, broken, whole}
+use Rattle.couch_http.specs.Reply.{Reply}
+use Rattle.couch_http.specs.ReplyStream.{BeginsReply}
 use Rattle.couch_http.specs.declared.fault.HttpFault.{HttpFault}
 
 -- a stream holds one list of requests, and then stands in one way
@@ -54,3 +57,11 @@ abbrev pub ComesWithLastByte : Type 0
 ComesWithLastByte =
     (left piece : List ℕ) (messages : List Message) (places : List ℕ)
     → Begins left waits → EndsAt 0 (left ++ piece) messages places → All (λ place. length left < place) places
+
+-- A stream of replies begins in one way; and what it began with, a reply or a fault, stays, whatever comes. So it doesn't
+-- matter in which pieces it comes.
+abbrev pub RepliesHaveOneReading : Type 0
+RepliesHaveOneReading =
+    ((bytes : List ℕ) (front other : Front Reply) → BeginsReply bytes front → BeginsReply bytes other → front ≡ other)
+    × ((bytes more : List ℕ) (reply : Reply) (rest : List ℕ) → BeginsReply bytes (whole reply rest) → BeginsReply (bytes ++ more) (whole reply (rest ++ more)))
+    × ((bytes more : List ℕ) (fault : HttpFault) → BeginsReply bytes (broken fault) → BeginsReply (bytes ++ more) (broken fault))

@@ -10,6 +10,8 @@ pub mod Beginning
 pub mod Reply
 pub mod ReplyText
 pub mod RequestText
+pub mod ReplyStream
+pub mod ReplyStages
 pub mod Pieces
 pub mod Places
 pub mod Laws

@@ -344,7 +344,7 @@ fn with_body<'a>(
 
 /// Tests whether a head is too long, or has too many lines.
 #[tactic(auto, unfolding(crate::specs::Front::head_limit, crate::specs::Front::header_limit))]
-fn is_too_large(head: &[u8], lines: usize) -> bool
+pub fn is_too_large(head: &[u8], lines: usize) -> bool
     ensures { result ≡ is_too_large head.now lines }
 {
     head.len() > HEAD_LIMIT || lines.saturating_sub(1) > HEADER_LIMIT
@@ -352,7 +352,7 @@ fn is_too_large(head: &[u8], lines: usize) -> bool
 
 /// Tests whether more of a head may come behind so many bytes of it.
 #[tactic(auto, unfolding(crate::specs::Front::head_limit))]
-fn may_go_on(len: usize) -> bool
+pub fn may_go_on(len: usize) -> bool
     ensures { result ≡ nat_lt len head_limit }
 {
     len < HEAD_LIMIT

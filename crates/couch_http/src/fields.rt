@@ -1,14 +1,16 @@
-//! What the headers of a request say of its body and its connection.
+//! What the headers of a message say of its body and its connection.
 
-ghost use Rattle.std.specs.Prelude.{◌≡◌, ◌≤◌, ◌^◌, ◌||◌, ◌==◌, [], ◌∷◌, map, reverse, nat_lt, if◌then◌else◌, None, Some, MatchOption};
+ghost use Rattle.std.specs.Prelude.{◌≡◌, ◌≤◌, ◌^◌, ◌||◌, ◌==◌, [], ◌∷◌, map, reverse, nat_lt, if◌then◌else◌, None, Some, IfErr, MatchOption};
 ghost use Rattle.std.specs.Char.{is_ascii_digit};
 ghost use Rattle.std.specs.List.{list_all};
 ghost use Rattle.httparse.specs.Grammar.{skip_ows, trim_ows};
 ghost use Rattle.couch_http.specs.Message.{header_field};
 ghost use Rattle.couch_http.specs.Fields.{same_name, values_of, decimal_after, length_text, content_length, request_length, has_transfer_encoding, lists_close, asks_close};
+ghost use Rattle.couch_http.specs.ReplyStream.{reply_length};
+ghost use Rattle.couch_http.specs.Stream.{IsStreamFault};
 
 use crate::fault::HttpFault;
-use crate::limits::BODY_LIMIT;
+use crate::limits::{BODY_LIMIT, REPLY_LIMIT};
 use crate::request::Header;
 
 /// Tells whether two names are equal without ASCII case (RFC 9110, section 5.1).
@@ -46,6 +48,15 @@ pub fn request_length(headers: &[Header]) -> Result<usize, HttpFault>
     ensures { result ≡ request_length (map header_field headers.now) }
 {
     content_length(headers, BODY_LIMIT, Ok(0))
+}
+
+/// Reads how many bytes the body of a reply has: `Syntax` without `Content-Length`.
+#[tactic(auto, unfolding(crate::specs::ReplyStream::reply_limit), using(crate::proofs::FaultLemmas::reply_length_sound))]
+pub fn reply_length(headers: &[Header]) -> Result<usize, HttpFault>
+    ensures length { result ≡ reply_length (map header_field headers.now) }
+    ensures fault { IfErr result IsStreamFault }
+{
+    content_length(headers, REPLY_LIMIT, Err(HttpFault::Syntax))
 }
 
 /// Reads what `Content-Length` says, up to the limit: what is `absent` where there is none.

@@ -104,7 +104,7 @@ fn build_request(
 }
 
 /// Returns the headers that the spans cover.
-fn headers_at(alloc: Global, head: &[u8], spans: &[HeaderSpan]) -> Got<Vec<Header>>
+pub fn headers_at(alloc: Global, head: &[u8], spans: &[HeaderSpan]) -> Got<Vec<Header>>
     requires { All (IsHeaderWithin (length head.now)) spans.now }
     ensures { IfOk result (λ headers. map header_field headers.items ≡ map (field_at head.now) spans.now) }
 {

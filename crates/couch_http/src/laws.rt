@@ -1,6 +1,6 @@
 //! Laws of the definitions alone: each function has an empty body, and its contract is the law.
 
-ghost use Rattle.couch_http.specs.Laws.{HasOneReading, GoesOnFromRest, StaysEnded, PiecesDoNotMatter, HasStreamFaults, HasOnePlaceEach, ComesWithLastByte, HeadsAreFound};
+ghost use Rattle.couch_http.specs.Laws.{HasOneReading, GoesOnFromRest, StaysEnded, PiecesDoNotMatter, HasStreamFaults, HasOnePlaceEach, ComesWithLastByte, HeadsAreFound, RepliesHaveOneReading};
 
 /// A stream holds one list of requests, and then stands in one way.
 pub fn one_reading()
@@ -41,4 +41,10 @@ pub fn comes_with_last_byte()
 /// and an empty one.
 pub fn heads_are_found()
     ensures { HeadsAreFound }
+{}
+
+/// A stream of replies begins in one way, and a reply or a fault at its front stays, whatever comes. So it
+/// doesn't matter in which pieces a reply comes.
+pub fn replies_have_one_reading()
+    ensures { RepliesHaveOneReading }
 {}

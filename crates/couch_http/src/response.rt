@@ -6,7 +6,7 @@ use couch_json::{Got, Json, canon};
 use std::alloc::Global;
 use std::marker::Model;
 
-/// A reply (RFC 9112, section 4), as it goes to the client.
+/// A reply (RFC 9112, section 4), as it goes to the client, or as it was read from a server.
 ///
 /// Clauses see its status, its body and its bytes.
 #[derive(Debug, Drop)]
@@ -22,6 +22,8 @@ pub struct Response {
 pub enum ReplyText {
     Made(String),
     Fixed(&'static str),
+    /// As they were read from a server.
+    Read(Vec<u8>),
 }
 
 impl Model for Response {
@@ -107,6 +109,18 @@ impl Response {
         }
     }
 
+    /// Makes a reply that was read, with its head in the first bytes.
+    pub fn read(status: u16, head_len: usize, bytes: Vec<u8>) -> Response
+        requires { head_len ≤ length bytes.items }
+        ensures { result ≡ record { status = status; body = drop head_len bytes.items; bytes = bytes.items } }
+    {
+        Response {
+            status,
+            head_len,
+            text: ReplyText::Read(bytes),
+        }
+    }
+
     /// Returns the status code (RFC 9110, section 15).
     pub fn status(&self) -> u16
         ensures { result ≡ self.now.status }
@@ -128,6 +142,7 @@ impl Response {
         match &self.text {
             ReplyText::Made(text) => text.as_bytes(),
             ReplyText::Fixed(text) => text.as_bytes(),
+            ReplyText::Read(bytes) => bytes.as_slice(),
         }
     }
 }
