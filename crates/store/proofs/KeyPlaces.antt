@@ -7,7 +7,7 @@ use Rattle.std.specs.FinMap.{put}
 use Rattle.couch_json.specs.Value.{Items, Value, array}
 use Rattle.store.specs.Database.{Document}
 use Rattle.store.specs.Indexes.{IndexPlace, index_over, field_values, place_order, put_at_values, put_in_index, queried_document}
-use Rattle.store.specs.Plain.{document_entries, document_entry, placed, places_over}
+use Rattle.store.specs.Plain.{document_entries, document_entry, place_views, places_over}
 use Rattle.store.specs.declared.plain.PlainDocument.{PlainDocument}
 use Rattle.store.proofs.Pagings.{put-seen}
 
@@ -27,28 +27,28 @@ index_onto-nothing fields (e ∷ es) = ap (put_in_index fields e.0 (queried_docu
 
 -- the last of the documents that are left is put among the others
 pub one_placed : (fields : List (List ℕ)) (es left : List (List ℕ × PlainDocument)) (id : List ℕ) (d : PlainDocument) (among after : List (IndexPlace × Json)) → es ≡ left ++ (id, d) ∷ []
-    → placed after ≡ put_in_index fields id (queried_document id d.history) (placed among)
-    → index_onto fields (document_entries left) (placed after) ≡ index_onto fields (document_entries es) (placed among)
+    → place_views after ≡ put_in_index fields id (queried_document id d.history) (place_views among)
+    → index_onto fields (document_entries left) (place_views after) ≡ index_onto fields (document_entries es) (place_views among)
 one_placed fields es left id d among after is made =
     ap (index_onto fields (document_entries left)) made
-    ∙ sym (index_onto-push fields (document_entries left) (document_entry (id, d)) (placed among))
-    ∙ ap (λ fs. index_onto fields fs (placed among)) (sym (map-append document_entry left ((id, d) ∷ [])))
-    ∙ ap (λ fs. index_onto fields (document_entries fs) (placed among)) (sym is)
+    ∙ sym (index_onto-push fields (document_entries left) (document_entry (id, d)) (place_views among))
+    ∙ ap (λ fs. index_onto fields fs (place_views among)) (sym (map-append document_entry left ((id, d) ∷ [])))
+    ∙ ap (λ fs. index_onto fields (document_entries fs) (place_views among)) (sym is)
 
-firsts-placed : (es : List (IndexPlace × Json)) → map (λ e. e.0) es ≡ map (λ e. e.0) (placed es)
-firsts-placed [] = refl
-firsts-placed (e ∷ es) = ap (λ ps. e.0 ∷ ps) (firsts-placed es)
+firsts-place_views : (es : List (IndexPlace × Json)) → map (λ e. e.0) es ≡ map (λ e. e.0) (place_views es)
+firsts-place_views [] = refl
+firsts-place_views (e ∷ es) = ap (λ ps. e.0 ∷ ps) (firsts-place_views es)
 
 -- no document is left
 pub all_placed : (fields : List (List ℕ)) (left all : List (List ℕ × PlainDocument)) (es : List (IndexPlace × Json)) → left ≡ []
-    → index_onto fields (document_entries left) (placed es) ≡ index_onto fields (document_entries all) [] → map (λ e. e.0) es ≡ places_over fields (document_entries all)
+    → index_onto fields (document_entries left) (place_views es) ≡ index_onto fields (document_entries all) [] → map (λ e. e.0) es ≡ places_over fields (document_entries all)
 all_placed fields left all es none h =
-    firsts-placed es ∙ ap (map (λ (e : IndexPlace × Value). e.0)) (ap (λ fs. index_onto fields (document_entries fs) (placed es)) (sym none) ∙ h ∙ index_onto-nothing fields (document_entries all))
+    firsts-place_views es ∙ ap (map (λ (e : IndexPlace × Value). e.0)) (ap (λ fs. index_onto fields (document_entries fs) (place_views es)) (sym none) ∙ h ∙ index_onto-nothing fields (document_entries all))
 
 -- a document that queries look at is put at its values
 pub document_placed : (fields : List (List ℕ)) (id : List ℕ) (shown : Option Value) (document : Json) (values : Items) (es new : List (IndexPlace × Json)) → Some (view document) ≡ shown
-    → Some values ≡ field_values fields (view document) → new ≡ put place_order (record { key = array values; id = id }) document es → placed new ≡ put_in_index fields id shown (placed es)
+    → Some values ≡ field_values fields (view document) → new ≡ put place_order (record { key = array values; id = id }) document es → place_views new ≡ put_in_index fields id shown (place_views es)
 document_placed fields id shown document values es new is has made =
-    ap placed made ∙ put-seen place_order view (record { key = array values; id = id }) document es
-    ∙ ap (λ vs. put_at_values id (view document) vs (placed es)) has
-    ∙ ap (λ o. put_in_index fields id o (placed es)) is
+    ap place_views made ∙ put-seen place_order view (record { key = array values; id = id }) document es
+    ∙ ap (λ vs. put_at_values id (view document) vs (place_views es)) has
+    ∙ ap (λ o. put_in_index fields id o (place_views es)) is

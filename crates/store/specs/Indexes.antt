@@ -103,10 +103,15 @@ abbrev pub indexes_if : Option Value → Members
 indexes_if None = no_members
 indexes_if (Some v) = if is_index_object v then members_in v else no_members
 
--- the fields of the index that a body declares under this name
-abbrev pub declared_fields : Value → List ℕ → Option (List (List ℕ))
-declared_fields body name = option_map fields_in (member_of (object (indexes_if (member_of body (codes "indexes")))) name)
+-- the index that a body declares under this name
+abbrev pub declared_index : Value → List ℕ → Option Value
+declared_index body name = member_of (object (indexes_if (member_of body (codes "indexes")))) name
 
+-- the fields of that index
+abbrev pub declared_fields : Value → List ℕ → Option (List (List ℕ))
+declared_fields body name = option_map fields_in (declared_index body name)
+
+-- the body of the winner, where that is not deleted
 abbrev pub winning_body : HistoryContent → Option Value
 winning_body h = option_map (λ held. held.body) (held_by h (live_rev h))
 

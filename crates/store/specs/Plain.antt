@@ -83,8 +83,8 @@ gathered_after n es [] = es
 gathered_after n es (a ∷ more) = gathered_after (n + 1) (with_write_at (n + 1) es a) more
 
 -- an index with its documents
-abbrev pub placed : List (IndexPlace × Json) → List (IndexPlace × Value)
-placed es = map (λ e. (e.0, view e.1)) es
+abbrev pub place_views : List (IndexPlace × Json) → List (IndexPlace × Value)
+place_views es = map (λ e. (e.0, view e.1)) es
 
 -- the places of these documents in an index of these fields
 abbrev pub places_over : List (List ℕ) → List (List ℕ × Document) → List IndexPlace

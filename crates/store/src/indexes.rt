@@ -1,11 +1,11 @@
 //! What queries look at: the documents that they see, the values of a document at fields, and the
 //! fields of the indexes that design documents declare.
 
-ghost use Rattle.std.specs.Prelude.{◌≡◌, IfOk, Some, option_map, true};
+ghost use Rattle.std.specs.Prelude.{◌≡◌, IfOk, IfSome, Some, option_map, true};
 ghost use Rattle.couch_json.specs.View.{items_view, view};
 ghost use Rattle.policy.specs.DesignDocuments.{are_paths, is_index, is_path};
 ghost use Rattle.couch_json.specs.Parts.{text_in};
-ghost use Rattle.store.specs.Indexes.{declared_fields, field_values, fields_in, index_fields_of, paths_in, queried_document, shown_by, winning_body};
+ghost use Rattle.store.specs.Indexes.{declared_fields, declared_index, field_values, fields_in, index_fields_of, paths_in, queried_document, shown_by, winning_body};
 
 use crate::id_pages::find_live_rev;
 use couch_json::{FieldPath, Got, Json, NoMemory, PathFault, at};
@@ -75,7 +75,7 @@ pub(crate) fn read_fields(
 }
 
 /// Finds the body of the winner, where that is not deleted.
-fn find_winning_body(history: &History) -> Option<&Json>
+pub fn find_winning_body(history: &History) -> Option<&Json>
     ensures { option_map (λ body. view body.now) result ≡ winning_body history.now }
 {
     let winner = find_live_rev(history)?;
@@ -83,9 +83,13 @@ fn find_winning_body(history: &History) -> Option<&Json>
     Some(body)
 }
 
-/// Reads the fields of the index that a body declares under this name.
-fn read_declared(alloc: Global, body: &Json, name: &str) -> Got<Option<Vec<FieldPath>>>
-    ensures { IfOk result (λ fields. option_map (λ paths. paths.items) fields ≡ declared_fields (view body.now) name.now) }
+/// Finds the index that a body declares under this name; `None` where it declares none, or where one of
+/// its indexes is not of its form.
+///
+/// See the CouchDB manual, api/database/find, for the fields of an index.
+pub fn find_index<'a>(alloc: Global, body: &'a Json, name: &str) -> Got<Option<&'a Json>>
+    ensures declared { IfOk result (λ index. option_map (λ v. view v.now) index ≡ declared_index (view body.now) name.now) }
+    ensures formed { IfOk result (λ index. IfSome index (λ v. is_index (view v.now) ≡ true)) }
 {
     let Some(indexes) = body.member("indexes") else {
         return Ok(None);
@@ -94,6 +98,16 @@ fn read_declared(alloc: Global, body: &Json, name: &str) -> Got<Option<Vec<Field
         return Ok(None);
     }
     match indexes.member(name) {
+        Some(index) => Ok(Some(index)),
+        None => Ok(None),
+    }
+}
+
+/// Reads the fields of the index that a body declares under this name.
+fn read_declared(alloc: Global, body: &Json, name: &str) -> Got<Option<Vec<FieldPath>>>
+    ensures { IfOk result (λ fields. option_map (λ paths. paths.items) fields ≡ declared_fields (view body.now) name.now) }
+{
+    match find_index(alloc, body, name)? {
         Some(index) => Ok(Some(read_index(alloc, index)?)),
         None => Ok(None),
     }

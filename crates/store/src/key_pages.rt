@@ -9,7 +9,7 @@ ghost use Rattle.store.specs.Indexes.{index_fields_of, index_over, put_in_index,
 ghost use Rattle.store.specs.KeyPages.{begin_with, extends_key, is_above, is_key_before, is_key_within, key_page, lies_above};
 ghost use Rattle.store.specs.KeyPaging.{HasKeyCounts, key_page_in, key_page_of};
 ghost use Rattle.store.specs.Pages.{in_direction};
-ghost use Rattle.store.specs.Plain.{document_entries, gathered_after, history_after, placed, places_over};
+ghost use Rattle.store.specs.Plain.{document_entries, gathered_after, history_after, place_views, places_over};
 ghost use Rattle.store.specs.Writing.{additions};
 
 use crate::id_pages::{counts_if, turn};
@@ -94,7 +94,7 @@ fn put_document(
     id: DocId,
     history: &History,
 ) -> Got<()>
-    ensures ok { OnOk result (placed index.new.entries ≡ put_in_index fields.now id (queried_document id history.now) (placed index.old.entries)) }
+    ensures ok { OnOk result (place_views index.new.entries ≡ put_in_index fields.now id (queried_document id history.now) (place_views index.old.entries)) }
 {
     let Some(document) = show_queried(alloc, &id, history)? else {
         return Ok(());
