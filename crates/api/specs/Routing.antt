@@ -11,7 +11,7 @@ use Rattle.matchit.specs.declared.error.InsertError.{InsertError}
 use Rattle.percent_encoding.specs.Percent.{percent_decode}
 use Rattle.api.specs.Paths.{part_at}
 use Rattle.api.specs.declared.page.Page.{Page}
-use Rattle.api.specs.declared.page.Page.TheVariants.{Welcome, AllDatabases, Database, Security, BulkDocuments, AllDocuments, Changes, Differences, Find, View, Document, LocalDocument}
+use Rattle.api.specs.declared.page.Page.TheVariants.{Welcome, AllDatabases, Database, Security, BulkDocuments, AllDocuments, Changes, Differences, Find, Index, View, Document, LocalDocument}
 
 -- the routes of the server, each with its page
 abbrev pub routes : List (List ℕ × Page)
@@ -26,6 +26,7 @@ routes =
     ∷ (codes "/{db}/_changes", Changes)
     ∷ (codes "/{db}/_revs_diff", Differences)
     ∷ (codes "/{db}/_find", Find)
+    ∷ (codes "/{db}/_index", Index)
     ∷ (codes "/{db}/_design/{name}/_view/{index}", View)
     ∷ (codes "/{db}/_design/{name}", Document)
     ∷ (codes "/{db}/_local/{name}", LocalDocument)

@@ -19,6 +19,8 @@ pub enum Page {
     Differences,
     /// `/{db}/_find`: the documents of a database that match a selector.
     Find,
+    /// `/{db}/_index`: an index that is declared.
+    Index,
     /// `/{db}/_design/{name}/_view/{index}`: the rows of an index.
     View,
     /// `/{db}/{id}` and `/{db}/_design/{name}`: a document.

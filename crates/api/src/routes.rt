@@ -12,7 +12,7 @@ use std::alloc::Global;
 use std::marker::Model;
 
 /// The paths that the server has, each with its page.
-const ROUTES: [(&str, Page); 14] = [
+const ROUTES: [(&str, Page); 15] = [
     ("/", Page::Welcome),
     ("/_all_dbs", Page::AllDatabases),
     ("/{db}", Page::Database),
@@ -23,6 +23,7 @@ const ROUTES: [(&str, Page); 14] = [
     ("/{db}/_changes", Page::Changes),
     ("/{db}/_revs_diff", Page::Differences),
     ("/{db}/_find", Page::Find),
+    ("/{db}/_index", Page::Index),
     ("/{db}/_design/{name}/_view/{index}", Page::View),
     ("/{db}/_design/{name}", Page::Document),
     ("/{db}/_local/{name}", Page::LocalDocument),

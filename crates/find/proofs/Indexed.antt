@@ -23,7 +23,7 @@ use Rattle.store.proofs.Listings.{Entry, In}
 use Rattle.store.specs.Database.{Database, history_in}
 use Rattle.store.specs.Indexes.{IndexPlace, field_values, index_over, place_order, put_at_values, put_in_index, queried_document, shown_by}
 use Rattle.store.specs.PlaceOrder.{place_order_total}
-use Rattle.store.specs.Plain.{placed}
+use Rattle.store.specs.Plain.{place_views}
 use Rattle.store.specs.Pages.{live_rev, live_rows, with_row}
 use Rattle.store.specs.declared.page.IdRow.{IdRow}
 use Rattle.find.proofs.Filtered.{HasKeys, filter-put, keys_put, put_front}
@@ -32,7 +32,7 @@ use Rattle.find.specs.Matching.{if_matches, match_in, matches_of, put_matches}
 
 -- ---- the map of the code
 
-pub seconds_placed : (es : List (IndexPlace × Json)) → map view (map (λ e. e.1) es) ≡ map (λ e. e.1) (placed es)
+pub seconds_placed : (es : List (IndexPlace × Json)) → map view (map (λ e. e.1) es) ≡ map (λ e. e.1) (place_views es)
 seconds_placed [] = refl
 seconds_placed (e ∷ es) = ap (λ vs. view e.1 ∷ vs) (seconds_placed es)
 

@@ -5,3 +5,4 @@ mod Indexed
 mod Ordered
 mod Parts
 pub mod Turned
+pub mod Indexing

@@ -3,3 +3,5 @@ pub mod Found
 pub mod Matching
 pub mod Queries
 pub mod Reading
+pub mod IndexRead
+pub mod Indexes

@@ -29,5 +29,5 @@ put_matches fields selector db [] among = among
 put_matches fields selector db (r ∷ rows) among = put_matches fields selector db rows (put_in_index fields r.id (match_in selector db r.id) among)
 
 -- the part, once these documents have come too
-abbrev pub completed : Part → List Value → List Value
-completed part rest = map view part.documents.items ++ take part.limit (drop part.skip rest)
+abbrev pub completion : Part → List Value → List Value
+completion part rest = map view part.documents.items ++ take part.limit (drop part.skip rest)

@@ -7,7 +7,7 @@ ghost use Rattle.couch_json.specs.View.{items_view, view};
 ghost use Rattle.store.specs.Calls.{OnlyReads};
 ghost use Rattle.store.specs.Database.{Database};
 ghost use Rattle.store.specs.Indexes.{put_in_index};
-ghost use Rattle.store.specs.Plain.{placed};
+ghost use Rattle.store.specs.Plain.{place_views};
 ghost use Rattle.read.specs.Answers.{Stops};
 ghost use Rattle.find.specs.Found.{in_direction};
 ghost use Rattle.find.specs.Matching.{match_in, put_matches};
@@ -52,7 +52,7 @@ fn sort_matches<S: Store>(
     query: &Query,
 ) -> Result<BTreeMap<KeyRow, Json>, ReadFault>
     ensures ok { S.is_honest store.new → IfOk result (λ sorted. (d : Database) → map.get (S.contents store.old) db.now ≡ Some d
-        → placed sorted.entries ≡ put_matches query.now.sort query.now.selector d rows.now []) }
+        → place_views sorted.entries ≡ put_matches query.now.sort query.now.selector d rows.now []) }
     ensures stops { IfErr result (Stops S.Store store.old store.new (map.get (S.contents store.old) db.now ≡ None)) }
     ensures reads { OnlyReads S.Store store.old store.new }
 {
@@ -73,7 +73,7 @@ fn put_match<S: Store>(
     sorted: &mut BTreeMap<KeyRow, Json>,
 ) -> Result<(), ReadFault>
     ensures ok { S.is_honest store.new → OnOk result ((d : Database) → map.get (S.contents store.old) db.now ≡ Some d
-        → placed sorted.new.entries ≡ put_in_index query.now.sort id.now (match_in query.now.selector d id.now) (placed sorted.old.entries)) }
+        → place_views sorted.new.entries ≡ put_in_index query.now.sort id.now (match_in query.now.selector d id.now) (place_views sorted.old.entries)) }
     ensures stops { IfErr result (Stops S.Store store.old store.new (map.get (S.contents store.old) db.now ≡ None)) }
     ensures reads { OnlyReads S.Store store.old store.new }
 {
@@ -91,7 +91,7 @@ fn put_document(
     document: Json,
     sorted: &mut BTreeMap<KeyRow, Json>,
 ) -> Got<()>
-    ensures { OnOk result (placed sorted.new.entries ≡ put_in_index fields.now id.now (Some (view document)) (placed sorted.old.entries)) }
+    ensures { OnOk result (place_views sorted.new.entries ≡ put_in_index fields.now id.now (Some (view document)) (place_views sorted.old.entries)) }
 {
     let Some(values) = values_at(alloc, fields, &document)? else {
         return Ok(());
@@ -121,7 +121,7 @@ fn turn(documents: Vec<Json>, descending: bool) -> Vec<Json>
 
 /// Lists the documents in the order of their places.
 fn documents_of(alloc: Global, sorted: BTreeMap<KeyRow, Json>) -> Got<Vec<Json>>
-    ensures { IfOk result (λ documents. each view documents.items ≡ each (λ e. e.1) (placed sorted.entries)) }
+    ensures { IfOk result (λ documents. each view documents.items ≡ each (λ e. e.1) (place_views sorted.entries)) }
 {
     let mut documents = Vec::with_capacity(alloc, sorted.len())?;
     for document in sorted.into_values() {

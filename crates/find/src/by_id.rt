@@ -8,7 +8,7 @@ ghost use Rattle.couch_json.specs.View.{view};
 ghost use Rattle.store.specs.Calls.{OnlyReads};
 ghost use Rattle.store.specs.Database.{Database};
 ghost use Rattle.read.specs.Answers.{Stops};
-ghost use Rattle.find.specs.Matching.{completed, match_in, matches_of};
+ghost use Rattle.find.specs.Matching.{completion, match_in, matches_of};
 
 use crate::matching::read_match;
 use crate::part::Part;
@@ -53,7 +53,7 @@ fn put_match<S: Store>(
     part: &mut Part,
 ) -> Result<(), ReadFault>
     ensures ok { S.is_honest store.new → OnOk result ((d : Database) → map.get (S.contents store.old) db.now ≡ Some d
-        → (rest : List Value) → completed part.new rest ≡ completed part.old (option_to_list (match_in query.now.selector d id.now) ++ rest)) }
+        → (rest : List Value) → completion part.new rest ≡ completion part.old (option_to_list (match_in query.now.selector d id.now) ++ rest)) }
     ensures stops { IfErr result (Stops S.Store store.old store.new (map.get (S.contents store.old) db.now ≡ None)) }
     ensures reads { OnlyReads S.Store store.old store.new }
 {

@@ -12,6 +12,7 @@ mod by_fields;
 mod by_id;
 mod documents;
 mod fault;
+mod index;
 pub mod laws;
 mod matching;
 mod part;
@@ -21,5 +22,6 @@ mod sort_fields;
 
 pub use documents::find;
 pub use fault::QueryFault;
+pub use index::Index;
 pub use query::Query;
 pub use sort_fields::SortFields;

@@ -1,7 +1,7 @@
 ghost use Rattle.std.specs.Prelude.{◌≡◌, ◌∷◌, List, OnOk, drop, nat_eq, take};
 ghost use Rattle.couch_json.specs.Value.{Value};
 ghost use Rattle.couch_json.specs.View.{view};
-ghost use Rattle.find.specs.Matching.{completed};
+ghost use Rattle.find.specs.Matching.{completion};
 
 use crate::query::Query;
 use couch_json::{Got, Json};
@@ -21,7 +21,7 @@ pub(crate) struct Part {
 impl Part {
     /// Returns the part before any document has come. Takes no memory.
     pub(crate) fn new(alloc: Global, query: &Query) -> Part
-        ensures { (rest : List Value) → completed result rest ≡ take query.now.limit (drop query.now.skip rest) }
+        ensures { (rest : List Value) → completion result rest ≡ take query.now.limit (drop query.now.skip rest) }
     {
         Part {
             skip: query.skip,
@@ -39,7 +39,7 @@ impl Part {
 
     /// Takes the next document, which may be left out.
     pub(crate) fn put(&mut self, document: Json) -> Got<()>
-        ensures { OnOk result ((rest : List Value) → completed self.new rest ≡ completed self.old (view document ∷ rest)) }
+        ensures { OnOk result ((rest : List Value) → completion self.new rest ≡ completion self.old (view document ∷ rest)) }
     {
         if self.skip > 0 {
             self.skip -= 1;

@@ -44,7 +44,7 @@ pub(crate) fn read_fields(alloc: Global, entries: &[Json]) -> Result<SortFields,
 }
 
 /// Reads the fields of entries, each of which has to have this direction.
-fn read_each(
+pub(crate) fn read_each(
     alloc: Global,
     entries: &[Json],
     descending: bool,

@@ -8,7 +8,7 @@ use Rattle.auth.specs.Callers.{Configuration}
 use Rattle.store.specs.declared.store.Store.{Ghosts}
 use Rattle.lab.specs.Playing.{Prints, ReadsLines, after_lines}
 use Rattle.lab.specs.Naming.{NamedValue}
-use Rattle.lab.specs.Scene.{BeginsWith, Closes, HasPlayed, NamedNetwork, Opens, Plays, PlaysAll, PlaysBefore, PlaysScript, Scene, Sends, laying, running, started}
+use Rattle.lab.specs.Scene.{BeginsWith, Closes, HasPlayed, NamedNetwork, Opens, Plays, PlaysAll, PlaysBefore, PlaysScript, Scene, Sends, laying, running, first_network}
 use Rattle.lab.specs.Script.{ScriptLine, close_line, conn_line, line_of, send_line}
 use Rattle.lab.specs.Stages.{AreBytesPlayed, IsLinePlayed}
 use Rattle.lab.proofs.ReplyLemmas.{Appends-then}
@@ -98,7 +98,7 @@ AreBytesPlayed-prints g c before bytes b d after q = (q.2.0, q.2.2)
 -- ---- what a line does, by its kind
 
 pub plays_first : {S : Type 0} (g : Ghosts S) (c : Configuration) (nodes : List (NamedValue S)) (line : ScriptLine) (node name : List ℕ) (begun after : NamedNetwork S)
-    → line ≡ conn_line node name → begun ≡ started c nodes → Opens begun node name after → Plays g c (laying nodes) line [] (running after)
+    → line ≡ conn_line node name → begun ≡ first_network c nodes → Opens begun node name after → Plays g c (laying nodes) line [] (running after)
 plays_first {S} g c nodes line node name begun after same starts opens =
     subst (λ (l : ScriptLine). Plays g c (laying nodes) l [] (running after)) (sym same)
     (refl, (after, subst (λ (n : NamedNetwork S). Opens n node name after) starts opens, refl))

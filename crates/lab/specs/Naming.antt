@@ -19,9 +19,9 @@ with_named name value [] = []
 with_named name value (e ∷ es) = if bytes_eq name e.name then record e { value = value } ∷ es else e ∷ with_named name value es
 
 -- the names, with numbers from this one on
-abbrev pub numbered : {A : Type 0} → ℕ → List (NamedValue A) → List (NamedValue ℕ)
-numbered n [] = []
-numbered n (e ∷ es) = record { name = e.name; value = n } ∷ numbered (n + 1) es
+abbrev pub numbers_from : {A : Type 0} → ℕ → List (NamedValue A) → List (NamedValue ℕ)
+numbers_from n [] = []
+numbers_from n (e ∷ es) = record { name = e.name; value = n } ∷ numbers_from (n + 1) es
 
 -- the place of the name, counted on from n
 abbrev pub place_named : {A : Type 0} → ℕ → List ℕ → List (NamedValue A) → Option ℕ

@@ -11,7 +11,7 @@ use Rattle.store.specs.Database.{Database}
 use Rattle.store.specs.declared.store.Store.{Ghosts}
 use Rattle.hub.specs.Connections.{next_connection, no_connections, with_connection, without}
 use Rattle.world.specs.Network.{Network}
-use Rattle.lab.specs.Naming.{NamedValue, value_named, with_named, numbered}
+use Rattle.lab.specs.Naming.{NamedValue, value_named, with_named, numbers_from}
 use Rattle.lab.specs.Replies.{IsSent}
 use Rattle.lab.specs.Script.{ScriptLine, node_line, public_line, conn_line, send_line, close_line, line_of}
 
@@ -46,9 +46,9 @@ AddsDatabase {S} g before node name after =
     (old : S) × (value_named node before ≡ Some old) × ((new : S) × HasOneMore g old name new × (after ≡ with_named node new before))
 
 -- the network of these nodes, each with this configuration, and without connections
-abbrev pub started : {S : Type 0} → Configuration → List (NamedValue S) → NamedNetwork S
-started c nodes = record {
-  nodes = numbered 0 nodes;
+abbrev pub first_network : {S : Type 0} → Configuration → List (NamedValue S) → NamedNetwork S
+first_network c nodes = record {
+  nodes = numbers_from 0 nodes;
   connections = [];
   network = record { nodes = map (λ n. record { store = n.value; configuration = c }) nodes; homes = []; connections = no_connections };
 }
@@ -82,7 +82,7 @@ Plays {S} g c (laying nodes) (node_line name) printed after =
 Plays {S} g c (laying nodes) (public_line node name) printed after =
     (printed ≡ []) × ((then : List (NamedValue S)) × AddsDatabase g nodes node name then × (after ≡ laying then))
 Plays {S} g c (laying nodes) (conn_line node name) printed after =
-    (printed ≡ []) × ((then : NamedNetwork S) × Opens (started c nodes) node name then × (after ≡ running then))
+    (printed ≡ []) × ((then : NamedNetwork S) × Opens (first_network c nodes) node name then × (after ≡ running then))
 Plays g c (laying nodes) (send_line name bytes) printed after = ⊥
 Plays g c (laying nodes) (close_line name) printed after = ⊥
 Plays g c (running names) (node_line name) printed after = ⊥

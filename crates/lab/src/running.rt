@@ -7,7 +7,7 @@ ghost use Rattle.world.specs.Turning.{seen_reply};
 ghost use Rattle.lab.specs.Naming.{named_of};
 ghost use Rattle.lab.specs.Printed.{reply_line};
 ghost use Rattle.lab.specs.Replies.{IsSent, seen_lines};
-ghost use Rattle.lab.specs.Scene.{Closes, Opens, Sends, started};
+ghost use Rattle.lab.specs.Scene.{Closes, Opens, Sends, first_network};
 ghost use Rattle.lab.specs.Stages.{configuration_of, names_of, nodes_of};
 
 use crate::fault::LineFault;
@@ -34,7 +34,7 @@ pub struct Running {
 impl Running {
     /// Starts the nodes of a layout.
     pub fn start(server: Server<'_>, layout: Layout) -> Got<Running>
-        ensures { IfOk result (λ running. names_of running ≡ started (configuration_of server.entry) (nodes_of layout)) }
+        ensures { IfOk result (λ running. names_of running ≡ first_network (configuration_of server.entry) (nodes_of layout)) }
     {
         let mut nodes = Vec::new(server.alloc);
         let mut names = Vec::new(server.alloc);

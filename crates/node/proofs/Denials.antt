@@ -11,7 +11,7 @@ use Rattle.couch_json.specs.declared.fault.JsonFault.{JsonFault}
 use Rattle.policy.specs.Security.{closed_security}
 use Rattle.policy.specs.Verdict.{verdict}
 use Rattle.policy.specs.declared.action.Action.{Action}
-use Rattle.policy.specs.declared.action.Action.TheVariants.{Administer, Read, WriteSecurity, WriteDocument}
+use Rattle.policy.specs.declared.action.Action.TheVariants.{Administer, Read, WriteDesign, WriteSecurity, WriteDocument}
 use Rattle.policy.specs.declared.rule.Rule.{Rule}
 use Rattle.policy.specs.declared.rule.Rule.TheVariants.{ProxyToken}
 use Rattle.read.specs.declared.fault.ReadFault.{ReadFault}
@@ -20,14 +20,17 @@ use Rattle.read.specs.Local.{local_document}
 use Rattle.store.specs.Contents.{Contents, local_at}
 use Rattle.store.specs.Database.{Database, DocumentWrite, history_at}
 use Rattle.store.specs.declared.local_document.LocalDocument.{LocalDocument}
+use Rattle.tree.specs.DocumentId.{is_design_id}
 use Rattle.tree.specs.Revision.{Revision}
 use Rattle.write.specs.Admission.{admission}
-use Rattle.write.specs.LocalWrites.{local_body, local_by, local_outcome, local_rev, names_stored, next_number, numbered}
+use Rattle.write.specs.Bulk.{DocumentOutcome}
+use Rattle.write.specs.IndexWrites.{index_admission}
+use Rattle.write.specs.LocalWrites.{local_body, local_by, local_outcome, local_rev, names_stored, next_number, local_of_number}
 use Rattle.write.specs.Planning.{security_outcome}
-use Rattle.write.specs.Terms.{terms_in}
+use Rattle.write.specs.Terms.{Terms, terms_in}
 use Rattle.write.specs.declared.fault.WriteFault.{WriteFault}
 use Rattle.write.specs.declared.fault.WriteFault.TheVariants as write
-use Rattle.write.proofs.Outcomes.{edit_denied}
+use Rattle.write.proofs.Outcomes.{edit_denied, index_denied}
 use Rattle.api.specs.Asking.{asker, body_of, denial, identity_or_refusal, method_of, pair_of, plain, value_or_refusal}
 use Rattle.api.specs.Bulk.{bulk_in}
 use Rattle.api.specs.Listings.{changes_query, differences_in, listing_query}
@@ -36,19 +39,21 @@ use Rattle.api.specs.Queries.{document_query, revision_query}
 use Rattle.api.specs.Refusals.{name_of_rule, next, rule_of, status_of, there_or, true_or}
 use Rattle.api.specs.Routing.{page_of}
 use Rattle.api.specs.Views.{view_query}
+use Rattle.find.specs.Indexes.{IndexAsked, index_in}
 use Rattle.find.specs.Queries.{query_in}
+use Rattle.find.proofs.Indexing.{index_in-design}
 use Rattle.read.specs.Views.{view_listing}
 use Rattle.api.specs.declared.method.RequestMethod.{RequestMethod}
 use Rattle.api.specs.declared.method.RequestMethod.TheVariants.{Get, Put, Post, Delete}
 use Rattle.api.specs.declared.page.Page.{Page}
-use Rattle.api.specs.declared.page.Page.TheVariants.{Welcome, AllDatabases, Database as DatabasePage, Security, BulkDocuments, AllDocuments, Changes, Differences, Find, View, Document, LocalDocument as LocalDocumentPage}
+use Rattle.api.specs.declared.page.Page.TheVariants.{Welcome, AllDatabases, Database as DatabasePage, Security, BulkDocuments, AllDocuments, Changes, Differences, Find, Index, View, Document, LocalDocument as LocalDocumentPage}
 use Rattle.api.specs.declared.refusal.Refusal.{Refusal}
 use Rattle.api.specs.declared.refusal.Refusal.TheVariants.{Unauthorized, Forbidden, Path, Method, DatabaseName, NoDatabase, Exists, Id, Query, Syntax, Body, BadDocument, BadHistory, Conflict, Generation, Missing, Deleted}
 use Rattle.node.specs.Answer.{Task, administration, permission, created, entry, admin_task, judgement, listed, database_name_of, task_outcome, removed, page_outcome, task_of, told, worked, work_task}
 use Rattle.node.proofs.Tasks.{named, same, there, went}
 use Rattle.node.specs.Denials.{IsDenied, IsDue, IsToldRule, IsUnvouched, rule_denied_by}
 use Rattle.node.specs.Work.{Work, read_work}
-use Rattle.node.specs.Works.{change_list, database_read, difference_list, document_deleted, document_finds, document_list, document_read, document_written, documents_written, deletion, edit_asked, edit_done, found, local_read, local_set, local_written, read_by, security_read, security_set, security_written, view_read}
+use Rattle.node.specs.Works.{change_list, database_read, difference_list, document_deleted, document_finds, document_list, document_read, document_written, documents_written, deletion, edit_asked, edit_done, found, index_asked_in, index_done, index_written, local_read, local_set, local_written, read_by, security_read, security_set, security_written, view_read}
 
 -- ---- refusals of steps
 
@@ -221,6 +226,39 @@ fair_finds a m caller db =
     (λ u is. fair_next a m caller (body_of m) _ (fair_body a m caller)
     (λ v said. fair_next a m caller (there_or Body (query_in v)) _ (fair_there a m caller Body (query_in v) refl) (λ query asked. fair_ok a m caller _)))
 
+-- an index is denied as a design document alone, by the security object of its database
+fair_index : (a : Contents) (m : Message) (caller : Identity) (name : List ℕ) (db : Database) (asked : IndexAsked) → IsIn a m name db → is_design_id asked.design ≡ true
+    → AreFair a m caller (index_asked_in caller name db asked)
+fair_index a m caller name db asked place design = by (index_admission terms db asked.design asked.name asked.fields) refl
+  where
+    terms : Terms
+    terms = terms_in caller name db
+
+    due : (rule : Rule) → index_admission terms db asked.design asked.name asked.fields ≡ Err (write.Denied rule) → IsDue a m caller rule
+    due rule e = inl (record {
+      action = WriteDesign;
+      security = db.security;
+      asked = inr (name, db, place.own, place.there, refl);
+      first = (index_denied terms asked.design (history_at db asked.design) asked.name asked.fields rule design e).first;
+    })
+
+    by : (r : DocumentOutcome) → index_admission terms db asked.design asked.name asked.fields ≡ r → AreFair a m caller (index_done caller asked.design asked.name r)
+    by (Ok w) is = fair_ok a m caller _
+    by (Err write.BadDocument) is = fair_other a m caller BadDocument refl
+    by (Err (write.Denied rule)) is = λ e h. rightly rule (sym (same_refusal (denial caller rule) e h)) (due rule is)
+    by (Err write.BadHistory) is = fair_other a m caller BadHistory refl
+    by (Err write.Conflict) is = fair_other a m caller Conflict refl
+    by (Err write.Generation) is = fair_other a m caller Generation refl
+    by (Err (write.Store fault)) is = fair_other a m caller Conflict refl
+    by (Err write.Memory) is = fair_other a m caller Conflict refl
+
+fair_indexing : (a : Contents) (m : Message) (caller : Identity) (name : List ℕ) (db : Database) → IsIn a m name db → AreFair a m caller (index_written caller m name db)
+fair_indexing a m caller name db place =
+    fair_next a m caller (plain m) _ (fair_plain a m caller)
+    (λ u is. fair_next a m caller (body_of m) _ (fair_body a m caller)
+    (λ v said. fair_next a m caller (there_or Body (index_in v)) _ (fair_there a m caller Body (index_in v) refl)
+    (λ asked is. fair_index a m caller name db asked place (index_in-design v asked (named Body (index_in v) asked is)))))
+
 fair_view : (a : Contents) (m : Message) (caller : Identity) (db : Database) → AreFair a m caller (view_read m db)
 fair_view a m caller db =
     fair_next a m caller (there_or Id (document_id_in m.path)) _ (fair_there a m caller Id (document_id_in m.path) refl)
@@ -240,7 +278,7 @@ undenied_by stored (Some names) None rule e = cc
 undenied_by stored (Some false) (Some body) rule e = cc
 undenied_by stored (Some true) (Some body) rule e = by (next_number stored) e
   where
-    by : (o : Option ℕ) → numbered o body ≡ Err (write.Denied rule) → ⊥
+    by : (o : Option ℕ) → local_of_number o body ≡ Err (write.Denied rule) → ⊥
     by None h = cc
     by (Some n) h = cc
 
@@ -303,6 +341,7 @@ fair_task a Document (Some Get) caller m task e = fair_work a m caller Read (λ 
 fair_task a Document (Some Put) caller m task e = fair_work a m caller WriteDocument (λ name. document_written caller m name) task (λ name db place. fair_writing a m caller name db place) e
 fair_task a Document (Some Delete) caller m task e = fair_work a m caller WriteDocument (λ name. document_deleted caller m name) task (λ name db place. fair_deleting a m caller name db place) e
 fair_task a Find (Some Post) caller m task e = fair_work a m caller Read (λ name. read_work (document_finds m)) task (λ name db place. fair_read a m caller (document_finds m) db (fair_finds a m caller db)) e
+fair_task a Index (Some Post) caller m task e = fair_work a m caller WriteDocument (λ name. index_written caller m name) task (λ name db place. fair_indexing a m caller name db place) e
 fair_task a View (Some Get) caller m task e = fair_work a m caller Read (λ name. read_work (view_read m)) task (λ name db place. fair_read a m caller (view_read m) db (fair_view a m caller db)) e
 fair_task a LocalDocumentPage (Some Get) caller m task e = fair_work a m caller Read (λ name. read_work (local_read m)) task (λ name db place. fair_read a m caller (local_read m) db (fair_local a m caller db)) e
 fair_task a LocalDocumentPage (Some Put) caller m task e = fair_work a m caller Read (λ name. local_written caller m) task (λ name db place. fair_storing a m caller db) e
@@ -336,6 +375,7 @@ fair_page a Document (Some Get) caller m = fair_work_asked a m caller Read _
 fair_page a Document (Some Put) caller m = fair_work_asked a m caller WriteDocument _
 fair_page a Document (Some Delete) caller m = fair_work_asked a m caller WriteDocument _
 fair_page a Find (Some Post) caller m = fair_work_asked a m caller Read _
+fair_page a Index (Some Post) caller m = fair_work_asked a m caller WriteDocument _
 fair_page a View (Some Get) caller m = fair_work_asked a m caller Read _
 fair_page a LocalDocumentPage (Some Get) caller m = fair_work_asked a m caller Read _
 fair_page a LocalDocumentPage (Some Put) caller m = fair_work_asked a m caller Read _

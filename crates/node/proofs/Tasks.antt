@@ -18,8 +18,11 @@ use Rattle.write.specs.Planning.{security_outcome}
 use Rattle.write.proofs.LocalBodies.{local_has_body}
 use Rattle.write.specs.Terms.{Terms, terms_in}
 use Rattle.write.specs.declared.fault.WriteFault.{WriteFault}
+use Rattle.find.specs.Indexes.{index_in}
 use Rattle.write.specs.Admission.{admission}
-use Rattle.write.proofs.Acceptances.{all_acceptable, edit_acceptable}
+use Rattle.write.specs.Bulk.{DocumentOutcome, writes_in}
+use Rattle.write.specs.IndexWrites.{index_admission}
+use Rattle.write.proofs.Acceptances.{all_acceptable, edit_acceptable, index_alone_acceptable}
 use Rattle.tree.specs.Revision.{Revision}
 use Rattle.api.specs.Asking.{asker, body_of, method_of, plain}
 use Rattle.api.specs.Bulk.{bulk_in}
@@ -30,11 +33,11 @@ use Rattle.node.specs.Effects.{Fits}
 use Rattle.api.specs.Paths.{database_name_in, local_id_in}
 use Rattle.node.specs.Work.{Done, Effect, Work, appended, local_put, nothing, read_work, secured, value_done}
 use Rattle.api.specs.Refusals.{next, there_or, true_or}
-use Rattle.node.specs.Works.{change_list, database_read, difference_list, document_deleted, document_finds, document_list, document_read, document_written, documents_written, deletion, done, edit_asked, bulk_written, edit_done, edit_in, local_read, local_set, local_written, security_read, security_set, security_written, view_read}
+use Rattle.node.specs.Works.{change_list, database_read, difference_list, document_deleted, document_finds, document_list, document_read, document_written, documents_written, deletion, done, edit_asked, bulk_written, edit_done, edit_in, index_asked_in, index_done, index_written, local_read, local_set, local_written, security_read, security_set, security_written, view_read}
 use Rattle.api.specs.declared.method.RequestMethod.{RequestMethod}
 use Rattle.api.specs.declared.method.RequestMethod.TheVariants.{Get, Put, Post, Delete}
 use Rattle.api.specs.declared.page.Page.{Page}
-use Rattle.api.specs.declared.page.Page.TheVariants.{Welcome, AllDatabases, Database as DatabasePage, Security, BulkDocuments, AllDocuments, Changes, Differences, Find, View, Document, LocalDocument as LocalDocumentPage}
+use Rattle.api.specs.declared.page.Page.TheVariants.{Welcome, AllDatabases, Database as DatabasePage, Security, BulkDocuments, AllDocuments, Changes, Differences, Find, Index, View, Document, LocalDocument as LocalDocumentPage}
 use Rattle.api.specs.declared.refusal.Refusal.{Refusal}
 use Rattle.api.specs.declared.refusal.Refusal.TheVariants.{Body, Conflict, Id, DatabaseName, NoDatabase, Exists, Path}
 
@@ -127,6 +130,20 @@ sound_documents caller m name db d e =
     let b = went (there_or Body (bulk_in l.first)) (λ bulk. bulk_written caller bulk name db) d l.then in
     subst (λ (x : Done). IsSound db x) (same {A = Done} _ d b.then) (record { status = inr refl; fits = λ lawful. all_acceptable (terms_in caller name db) b.first.new_edits db b.first.documents lawful })
 
+sound_declared : (caller : Identity) (id name : List ℕ) (db : Database) (r : DocumentOutcome) (d : Done) → (IsLawful db → AreAcceptable db (writes_in (r ∷ [])))
+    → index_done caller id name r ≡ Ok d → IsSound db d
+sound_declared caller id name db (Ok w) d ok e = subst (λ (x : Done). IsSound db x) (same {A = Done} _ d e) (record { status = inl refl; fits = ok })
+sound_declared caller id name db (Err fault) d ok e = absurd cc
+
+sound_index : (caller : Identity) (m : Message) (name : List ℕ) → AreSound (index_written caller m name)
+sound_index caller m name db d e =
+    let terms = terms_in caller name db in
+    let k = went (plain m) (λ _. next (body_of m) (λ value. next (there_or Body (index_in value)) (λ asked. index_asked_in caller name db asked))) d e in
+    let l = went (body_of m) (λ value. next (there_or Body (index_in value)) (λ asked. index_asked_in caller name db asked)) d k.then in
+    let b = went (there_or Body (index_in l.first)) (λ asked. index_asked_in caller name db asked) d l.then in
+    sound_declared caller b.first.design b.first.name db (index_admission terms db b.first.design b.first.name b.first.fields) d
+    (index_alone_acceptable terms db b.first.design b.first.name b.first.fields) b.then
+
 sound_stored : (caller : Identity) (id : List ℕ) (db : Database) (r : Result LocalDocument WriteFault) (d : Done) → ((l : LocalDocument) → r ≡ Ok l → IsBody l.body)
     → local_set caller id r ≡ Ok d → IsSound db d
 sound_stored caller id db (Ok l) d ok e = subst (λ (x : Done). IsSound db x) (same {A = Done} _ d e) (record { status = inr refl; fits = λ lawful. ok l refl })
@@ -191,6 +208,7 @@ good Document (Some Get) caller m task e = good_work Document Read m (λ name. r
 good Document (Some Put) caller m task e = good_work Document WriteDocument m (λ name. document_written caller m name) task (λ name. sound_document caller m name) e
 good Document (Some Delete) caller m task e = good_work Document WriteDocument m (λ name. document_deleted caller m name) task (λ name. sound_deletion caller m name) e
 good Find (Some Post) caller m task e = good_work Find Read m (λ name. read_work (document_finds m)) task (λ name. sound_reading (document_finds m)) e
+good Index (Some Post) caller m task e = good_work Index WriteDocument m (λ name. index_written caller m name) task (λ name. sound_index caller m name) e
 good View (Some Get) caller m task e = good_work View Read m (λ name. read_work (view_read m)) task (λ name. sound_reading (view_read m)) e
 good LocalDocumentPage (Some Get) caller m task e = good_work LocalDocumentPage Read m (λ name. read_work (local_read m)) task (λ name. sound_reading (local_read m)) e
 good LocalDocumentPage (Some Put) caller m task e = good_work LocalDocumentPage Read m (λ name. local_written caller m) task (λ name. sound_local caller m) e

@@ -18,11 +18,11 @@ use Rattle.api.specs.Paths.{database_name_in}
 use Rattle.api.specs.Refusals.{refusal_value, status_of, next, there_or, true_or}
 use Rattle.api.specs.Routing.{page_of}
 use Rattle.node.specs.Work.{Done, Effect, Work, appended, local_put, nothing, read_work, secured, with_effect}
-use Rattle.node.specs.Works.{change_list, database_read, difference_list, document_deleted, document_finds, document_list, document_read, document_written, documents_written, done, local_read, local_written, security_read, security_written, view_read}
+use Rattle.node.specs.Works.{change_list, database_read, difference_list, document_deleted, document_finds, document_list, document_read, document_written, documents_written, done, index_written, local_read, local_written, security_read, security_written, view_read}
 use Rattle.api.specs.declared.method.RequestMethod.{RequestMethod}
 use Rattle.api.specs.declared.method.RequestMethod.TheVariants.{Get, Put, Post, Delete}
 use Rattle.api.specs.declared.page.Page.{Page}
-use Rattle.api.specs.declared.page.Page.TheVariants.{Welcome, AllDatabases, Database as DatabasePage, Security, BulkDocuments, AllDocuments, Changes, Differences, Find, View, Document, LocalDocument}
+use Rattle.api.specs.declared.page.Page.TheVariants.{Welcome, AllDatabases, Database as DatabasePage, Security, BulkDocuments, AllDocuments, Changes, Differences, Find, Index, View, Document, LocalDocument}
 use Rattle.api.specs.declared.refusal.Refusal.{Refusal}
 use Rattle.api.specs.declared.refusal.Refusal.TheVariants.{Path, Method, DatabaseName, NoDatabase, Exists}
 
@@ -124,6 +124,7 @@ task_of Document (Some Get) caller m = work_task Read m (λ name. read_work (doc
 task_of Document (Some Put) caller m = work_task WriteDocument m (λ name. document_written caller m name)
 task_of Document (Some Delete) caller m = work_task WriteDocument m (λ name. document_deleted caller m name)
 task_of Find (Some Post) caller m = work_task Read m (λ name. read_work (document_finds m))
+task_of Index (Some Post) caller m = work_task WriteDocument m (λ name. index_written caller m name)
 task_of View (Some Get) caller m = work_task Read m (λ name. read_work (view_read m))
 task_of LocalDocument (Some Get) caller m = work_task Read m (λ name. read_work (local_read m))
 task_of LocalDocument (Some Put) caller m = work_task Read m (λ name. local_written caller m)

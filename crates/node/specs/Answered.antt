@@ -1,6 +1,6 @@
 -- What a request came to, in the words of `Answer`: for private clauses.
 -- This crate's own: it ties structs of the code to the definition.
-use Rattle.std.specs.Prelude.{◌≡◌, ℕ, List, true, Option, Some, None, Result, ⊤, is_some}
+use Rattle.std.specs.Prelude.{◌≡◌, ℕ, Bool, List, false, true, Option, Some, None, Result, ⊤, is_some}
 use Rattle.std.specs.FinMap.{get}
 use Rattle.auth.specs.Callers.{Identity}
 use Rattle.couch_http.specs.Message.{Message}
@@ -13,10 +13,12 @@ use Rattle.policy.specs.declared.action.Action.TheVariants.{Read as ToRead, Writ
 use Rattle.write.specs.Planning.{MayBeMade}
 use Rattle.write.specs.declared.planned.Changes.{Changes}
 use Rattle.write.specs.declared.planned.Changes.TheVariants.{Local, Writes, Security as SecurityObject}
+use Rattle.write.specs.declared.planned.Outcome.{Outcome}
+use Rattle.write.specs.declared.planned.Outcome.TheVariants.{Made, Known, Refused}
 use Rattle.couch_json.specs.Value.{Value, object}
 use Rattle.node.specs.Answer as answer
 use Rattle.node.specs.Work.{Done, Effect, Work, appended, local_put, read_work, secured}
-use Rattle.node.specs.Works.{change_list, database_read, difference_list, document_deleted, document_finds, document_list, document_read, document_written, documents_written, local_members, local_read, local_written, security_read, security_written, view_read}
+use Rattle.node.specs.Works.{change_list, database_read, difference_list, document_deleted, document_finds, document_list, document_read, document_written, documents_written, index_written, local_members, local_read, local_written, security_read, security_written, view_read}
 use Rattle.api.specs.declared.refusal.Refusal.{Refusal}
 use Rattle.node.specs.declared.answered.Answered.{Answered}
 use Rattle.node.specs.declared.answered.Change.{Change}
@@ -48,6 +50,7 @@ writing_of write.Security caller m name = security_written m
 writing_of write.Documents caller m name = documents_written caller m name
 writing_of write.Document caller m name = document_written caller m name
 writing_of write.Deletion caller m name = document_deleted caller m name
+writing_of write.Index caller m name = index_written caller m name
 writing_of write.LocalDocument caller m name = local_written caller m
 
 abbrev pub work_of : WorkAsked → Identity → Message → List ℕ → Work
@@ -59,6 +62,7 @@ action_of_writing write.Security = WriteSecurity
 action_of_writing write.Documents = WriteDocument
 action_of_writing write.Document = WriteDocument
 action_of_writing write.Deletion = WriteDocument
+action_of_writing write.Index = WriteDocument
 action_of_writing write.LocalDocument = ToRead
 
 -- the action that the policy of the database is asked for
@@ -78,6 +82,12 @@ abbrev pub IsLocalReply : Changes → Value → Type 0
 IsLocalReply (Writes ws) value = ⊥
 IsLocalReply (SecurityObject security) value = ⊥
 IsLocalReply (Local id document) value = value ≡ object (local_members id document)
+
+-- the outcome says that a revision was made
+abbrev pub says_made : Outcome → Bool
+says_made (Made rev) = true
+says_made Known = false
+says_made (Refused fault) = false
 
 -- what work comes to in a database
 abbrev pub done_of : Database → Worked → Done

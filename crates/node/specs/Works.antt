@@ -1,11 +1,12 @@
 -- What each request does in its database, by the database alone.
 -- CouchDB manual, api/database/common, api/database/security, api/database/bulk-api, api/database/find, api/ddoc/views, api/document/common and api/local; the order of refusals is this server's own.
-use Rattle.std.specs.Prelude.{ℕ, List, [], ◌∷◌, Bool, true, Option, Some, None, Result, Ok, Err, codes}
+use Rattle.std.specs.Prelude.{ℕ, List, [], ◌∷◌, Bool, true, if◌then◌else◌, Option, Some, None, is_some, Result, Ok, Err, codes}
 use Rattle.auth.specs.Callers.{Identity}
 use Rattle.couch_http.specs.Message.{Message}
 use Rattle.couch_json.specs.Value.{Value, truth, text, array, object, Members, no_members, put}
 use Rattle.couch_json.specs.View.{items_of}
 use Rattle.find.specs.Found.{found_documents}
+use Rattle.find.specs.Indexes.{IndexAsked, index_in}
 use Rattle.find.specs.Queries.{query_in}
 use Rattle.read.specs.Changes.{changes_in}
 use Rattle.read.specs.Differences.{revision_differences}
@@ -22,7 +23,8 @@ use Rattle.store.specs.Database.{Database, DocumentWrite, history_at}
 use Rattle.store.specs.declared.local_document.LocalDocument.{LocalDocument}
 use Rattle.tree.specs.Revision.{Revision}
 use Rattle.write.specs.Admission.{admission}
-use Rattle.write.specs.Bulk.{DocumentOutcome, all_told, outcome_told, outcomes, writes_in}
+use Rattle.write.specs.Bulk.{DocumentOutcome, all_told, outcome_told, outcomes, put_before, writes_in}
+use Rattle.write.specs.IndexWrites.{index_admission}
 use Rattle.write.specs.LocalWrites.{local_outcome}
 use Rattle.write.specs.Planning.{security_outcome}
 use Rattle.write.specs.Terms.{terms_in}
@@ -115,6 +117,33 @@ view_read m db =
     next (there_or Id (document_id_in m.path)) (λ design.
     next (there_or Id (index_name_in m.path)) (λ index.
     next (there_or Query (view_query m.query)) (λ range. found (view_listing range design index db))))
+
+-- ---- indexes
+
+-- an index that was declared is created, another one is there already
+abbrev pub index_result : Bool → Value
+index_result created = text (if created then codes "created" else codes "exists")
+
+-- the id of the design document, the name of the index, and whether it was created
+abbrev pub index_reply : List ℕ → List ℕ → Bool → Value
+index_reply id name created =
+    object (put (codes "result") (index_result created) (put (codes "name") (text name) (put (codes "id") (text id) no_members)))
+
+-- what the declaration of an index comes to
+abbrev pub index_done : Identity → List ℕ → List ℕ → DocumentOutcome → Result Done Refusal
+index_done caller id name (Ok w) =
+    Ok (record { status = 200; value = index_reply id name (is_some w); effect = appended (put_before (Ok w) []) })
+index_done caller id name (Err fault) = Err (refusal_of_edit caller fault)
+
+abbrev pub index_asked_in : Identity → List ℕ → Database → IndexAsked → Result Done Refusal
+index_asked_in caller name db asked =
+    index_done caller asked.design asked.name (index_admission (terms_in caller name db) db asked.design asked.name asked.fields)
+
+-- the index that the body asks to declare
+abbrev pub index_written : Identity → Message → List ℕ → Work
+index_written caller m name db =
+    next (plain m) (λ _.
+    next (body_of m) (λ value. next (there_or Body (index_in value)) (λ asked. index_asked_in caller name db asked)))
 
 -- ---- local documents
 

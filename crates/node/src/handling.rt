@@ -116,6 +116,9 @@ fn serve<S: Store>(
         (Page::Find, Some(RequestMethod::Post)) => {
             do_work(alloc, store, caller, Read(Reading::Finds), request)
         }
+        (Page::Index, Some(RequestMethod::Post)) => {
+            do_work(alloc, store, caller, Write(Writing::Index), request)
+        }
         (Page::View, Some(RequestMethod::Get)) => {
             do_work(alloc, store, caller, Read(Reading::View), request)
         }

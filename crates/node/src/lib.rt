@@ -15,6 +15,7 @@ mod databases;
 mod document;
 mod finds;
 mod handling;
+mod indexes;
 pub mod laws;
 mod lists;
 mod local_document;

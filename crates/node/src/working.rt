@@ -17,6 +17,7 @@ use crate::bulk::write_documents;
 use crate::databases::read_database;
 use crate::document::{delete_document, read_document, write_document};
 use crate::finds::{find_documents, list_view};
+use crate::indexes::write_index;
 use crate::lists::{list_changes, list_documents, tell_differences};
 use crate::local_document::{read_local, write_local};
 use crate::security::{read_security, write_security};
@@ -72,6 +73,8 @@ pub(crate) enum Writing {
     Document,
     /// A document's deletion.
     Deletion,
+    /// An index, which its design document declares.
+    Index,
     /// A local document, which who may read may write.
     LocalDocument,
 }
@@ -83,9 +86,9 @@ fn action_of(work: Work) -> Action
     match work {
         Work::Read(_) | Work::Write(Writing::LocalDocument) => Action::Read,
         Work::Write(Writing::Security) => Action::WriteSecurity,
-        Work::Write(Writing::Documents | Writing::Document | Writing::Deletion) => {
-            Action::WriteDocument
-        }
+        Work::Write(
+            Writing::Documents | Writing::Document | Writing::Deletion | Writing::Index,
+        ) => Action::WriteDocument,
     }
 }
 
@@ -212,6 +215,7 @@ fn write<S: Store>(
         Writing::Documents => write_documents(alloc, store, caller, name, request),
         Writing::Document => write_document(alloc, store, caller, name, request),
         Writing::Deletion => delete_document(alloc, store, caller, name, request),
+        Writing::Index => write_index(alloc, store, caller, name, request),
         Writing::LocalDocument => write_local(alloc, store, caller, name, request),
     }
 }

@@ -4,7 +4,7 @@ use Rattle.couch_json.specs.Value.{Value}
 use Rattle.tree.specs.Revision.{Revision, greatest_number}
 use Rattle.tree.specs.NextRevision.{next_revision, number_before}
 use Rattle.tree.specs.Write.{Write, IsLawful as AreWritten}
-use Rattle.tree.specs.History.{HistoryContent, content_of, is_known, placement}
+use Rattle.tree.specs.History.{HistoryContent, content_of, is_known, placement, winner}
 use Rattle.tree.specs.declared.placement.Placed.{Placed}
 use Rattle.tree.specs.declared.placement.Placed.TheVariants.{Added, Known}
 use Rattle.tree.specs.declared.placement.TreeFault.{TreeFault}
@@ -16,12 +16,13 @@ use Rattle.store.proofs.Lawfuls.{lawful_by_one, writes_behind}
 use Rattle.write.specs.Admission.{admission, edit_outcome, edit_path, named_revision, replication, revision_after, with_named_revision}
 use Rattle.write.specs.Bulk.{DocumentOutcome, after, as_outcome, document_outcome, outcome_by_id, outcome_in, outcomes, put_before, writes_in}
 use Rattle.write.specs.Document.{id_in, sent_in}
+use Rattle.write.specs.IndexWrites.{index_admission, index_document}
 use Rattle.write.specs.Terms.{Terms}
 use Rattle.write.specs.declared.document.Sent.{Sent}
 use Rattle.store.specs.Lawful.{IsBody}
 use Rattle.write.proofs.Bodies.{sent_in-Some}
 use Rattle.write.proofs.Fitting.{edit_placed}
-use Rattle.write.proofs.Names.{as_outcome-Some}
+use Rattle.write.proofs.Names.{as_outcome-Some, index_by_edit}
 use Rattle.write.proofs.Outcomes.{IsEdit, IsReplicated, edit_accepted, replicated_accepted}
 use Rattle.std.specs.FinMap.{get}
 use Rattle.std.proofs.Math.Logic.{∥∥₁_elim, ∥∥₁_map}
@@ -145,6 +146,12 @@ edit_alone_acceptable terms db id query document lawful =
 
 pub replicated_alone_acceptable : (terms : Terms) (db : Database) (id : List ℕ) (document : Value) → AreAcceptable db (writes_in (replication terms db id document ∷ []))
 replicated_alone_acceptable terms db id document = alone_acceptable db (replication terms db id document) (λ w e. replicated_acceptable terms db id document w e)
+
+pub index_alone_acceptable : (terms : Terms) (db : Database) (id : List ℕ) (name : List ℕ) (fields : List (List ℕ)) → IsLawful db
+    → AreAcceptable db (writes_in (index_admission terms db id name fields ∷ []))
+index_alone_acceptable terms db id name fields lawful =
+    alone_acceptable db (index_admission terms db id name fields)
+    (λ w e. edit_acceptable terms db id (winner (history_at db id)) (index_document (history_at db id) name fields) w lawful (index_by_edit terms id (history_at db id) name fields w e))
 
 -- ---- what is said of the contents of a store
 

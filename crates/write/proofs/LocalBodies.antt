@@ -4,7 +4,7 @@ use Rattle.couch_json.specs.Value.{Value, null, truth, whole, text, array, objec
 use Rattle.store.specs.Lawful.{IsBody}
 use Rattle.store.specs.declared.local_document.LocalDocument.{LocalDocument}
 use Rattle.write.specs.Document.{without_special}
-use Rattle.write.specs.LocalWrites.{are_local_allowed, local_body, local_by, local_outcome, local_rev, names_stored, next_number, numbered}
+use Rattle.write.specs.LocalWrites.{are_local_allowed, local_body, local_by, local_outcome, local_rev, names_stored, next_number, local_of_number}
 use Rattle.write.specs.declared.fault.WriteFault.{WriteFault}
 use Rattle.write.proofs.Bodies.{body_if-Some}
 
@@ -22,16 +22,16 @@ well d = Ok d
 same : (a b : LocalDocument) → well a ≡ well b → a ≡ b
 same a b e = cc
 
-numbered_body : (o : Option ℕ) (body : Value) (d : LocalDocument) → numbered o body ≡ Ok d → body ≡ d.body
-numbered_body None body d h = absurd cc
-numbered_body (Some n) body d h = ap (λ (x : LocalDocument). x.body) (same (record { number = n; body = body }) d h)
+local_of_number_body : (o : Option ℕ) (body : Value) (d : LocalDocument) → local_of_number o body ≡ Ok d → body ≡ d.body
+local_of_number_body None body d h = absurd cc
+local_of_number_body (Some n) body d h = ap (λ (x : LocalDocument). x.body) (same (record { number = n; body = body }) d h)
 
 with_body : (stored : Option LocalDocument) (names : Option Bool) (body : Option Value) (d : LocalDocument) → ((b : Value) → body ≡ Some b → IsBody b)
     → local_by stored names body ≡ Ok d → IsBody d.body
 with_body stored None body d are_bodies h = absurd cc
 with_body stored (Some names) None d are_bodies h = absurd cc
 with_body stored (Some false) (Some b) d are_bodies h = absurd cc
-with_body stored (Some true) (Some b) d are_bodies h = subst IsBody (numbered_body (next_number stored) b d h) (are_bodies b refl)
+with_body stored (Some true) (Some b) d are_bodies h = subst IsBody (local_of_number_body (next_number stored) b d h) (are_bodies b refl)
 
 pub local_has_body : (stored : Option LocalDocument) (id : List ℕ) (document : Value) (d : LocalDocument) → local_outcome stored id document ≡ Ok d → IsBody d.body
 local_has_body stored id document d h =

@@ -8,7 +8,7 @@ use Rattle.policy.specs.declared.action.Action.TheVariants.{WriteDesign}
 use Rattle.policy.specs.declared.rule.Rule.{Rule}
 use Rattle.tree.specs.DocumentId.{is_design_id}
 use Rattle.tree.specs.Revision.{Revision}
-use Rattle.tree.specs.History.{HistoryContent, is_known, placement}
+use Rattle.tree.specs.History.{HistoryContent, is_known, placement, winner}
 use Rattle.tree.specs.declared.placement.Placed.{Placed}
 use Rattle.tree.specs.declared.placement.Placed.TheVariants.{Added, Known}
 use Rattle.tree.specs.declared.placement.TreeFault.{TreeFault}
@@ -17,6 +17,8 @@ use Rattle.store.specs.Database.{DocumentWrite}
 use Rattle.write.specs.Admission.{ancestors, ancestry_outcome, ancestry_placement, appended_edit, base, design_refusal, held_document, document_of, edit_after, edit_by, edit_with_revision, edit_of, edit_outcome, edit_path, nearest_held, placement_outcome, replicated_by, replicated_outcome, revision_after, rule_refusal, unless_denied, write_at}
 use Rattle.write.specs.Denials.{EditHasLeave, EditIsDueTo, HasLeave, IsDesignDenial, IsDueTo, IsUpdateDenial, ReplicationHasLeave, ReplicationIsDueTo}
 use Rattle.write.specs.Document.{Ancestry, ancestry_in, sent_in}
+use Rattle.write.specs.Bulk.{DocumentOutcome, as_outcome}
+use Rattle.write.specs.IndexWrites.{has_index, index_document, index_outcome}
 use Rattle.write.specs.Terms.{Terms}
 use Rattle.write.specs.declared.document.Sent.{Sent}
 use Rattle.write.specs.declared.fault.WriteFault.{WriteFault}
@@ -154,6 +156,42 @@ edit_by-denied terms id h query document (Some sent) rule says e =
 pub edit_denied : (terms : Terms) (id : List ℕ) (h : HistoryContent) (query : Option Revision) (document : Value) (rule : Rule)
     → edit_outcome terms id h query document ≡ Err (Denied rule) → EditIsDueTo terms id h query document rule
 edit_denied terms id h query document rule e = edit_by-denied terms id h query document (edit_of id query document) rule refl e
+
+-- ---- indexes
+
+as_outcome-denied : (r : Result DocumentWrite WriteFault) (rule : Rule) → as_outcome r ≡ Err (Denied rule) → r ≡ Err (Denied rule)
+as_outcome-denied (Ok w) rule e = absurd cc
+as_outcome-denied (Err fault) rule e = cc
+
+design_alone : (terms : Terms) (id : List ℕ) (h : HistoryContent) (sent : Sent) (rev : Option Revision) (rule : Rule) → is_design_id id ≡ true
+    → IsDueTo terms id h sent rev rule → IsDesignDenial terms id rule
+design_alone terms id h sent rev rule design (inl k) = k
+design_alone terms id h sent rev rule design (inr k) = absurd (let wrong : true ≡ false = sym design ∙ k.other in cc)
+
+-- the edit of a design document is denied as one alone
+design_edit_denied : (terms : Terms) (id : List ℕ) (h : HistoryContent) (query : Option Revision) (document : Value) (rule : Rule) → is_design_id id ≡ true
+    → edit_outcome terms id h query document ≡ Err (Denied rule) → IsDesignDenial terms id rule
+design_edit_denied terms id h query document rule design e =
+    let k = edit_denied terms id h query document rule e in
+    design_alone terms id h k.sent (option_and_then (λ parent. parent) (base h k.sent.rev)) rule design k.due
+
+index_edit_denied : (has : Bool) (r : Result DocumentWrite WriteFault) (rule : Rule) → cond has (Ok None) (as_outcome r) ≡ Err (Denied rule) → r ≡ Err (Denied rule)
+index_edit_denied true r rule e = absurd cc
+index_edit_denied false r rule e = as_outcome-denied r rule e
+
+-- an index is denied as a design document alone
+pub index_denied : (terms : Terms) (id : List ℕ) (h : HistoryContent) (name : List ℕ) (fields : List (List ℕ)) (rule : Rule) → is_design_id id ≡ true
+    → index_outcome terms id h name fields ≡ Err (Denied rule) → IsDesignDenial terms id rule
+index_denied terms id h name fields rule design e =
+    by (denied_by (design_refusal terms id) (cond (has_index h name fields) (Ok None) (as_outcome (edit_outcome terms id h (winner h) (index_document h name fields)))) rule e)
+  where
+    by : (design_refusal terms id ≡ Some rule)
+        ⊎ (cond (has_index h name fields) (Ok None) (as_outcome (edit_outcome terms id h (winner h) (index_document h name fields))) ≡ Err (Denied rule))
+        → IsDesignDenial terms id rule
+    by (inl k) = design_denial terms id rule k
+    by (inr k) =
+        design_edit_denied terms id h (winner h) (index_document h name fields) rule design
+        (index_edit_denied (has_index h name fields) (edit_outcome terms id h (winner h) (index_document h name fields)) rule k)
 
 -- ---- replicated writes
 

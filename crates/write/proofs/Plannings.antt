@@ -1,5 +1,5 @@
 -- What a plan makes of its database, where there is one.
-use Rattle.std.proofs.Common.{◌≡◌, ℕ, List, [], ◌∷◌, map, Option, Some, None, option_map, Ok, refl, ap, sym, ◌∙◌, subst}
+use Rattle.std.proofs.Common.{◌≡◌, ◌≢◌, ℕ, List, [], ◌∷◌, map, Option, Some, None, option_map, Result, Ok, Err, IfErr, refl, ap, sym, ◌∙◌, subst}
 use Rattle.std.specs.Prelude.{codes, string_bytes}
 use Rattle.couch_json.specs.Value.{Value}
 use Rattle.tree.specs.History.{HistoryContent}
@@ -11,7 +11,10 @@ use Rattle.write.specs.Bulk.{DocumentOutcome, Told, all_told, outcome_told, put_
 use Rattle.write.specs.BulkResults.{told_as, told_of}
 use Rattle.write.specs.Document.{member_text}
 use Rattle.write.specs.Planning.{MayBeMade, Plans, database_after, planned_writes}
+use Rattle.write.specs.Refusing.{IsOwn}
 use Rattle.write.specs.Terms.{Terms}
+use Rattle.write.specs.declared.fault.WriteFault.{WriteFault}
+use Rattle.write.specs.declared.fault.WriteFault.TheVariants.{BadDocument, BadHistory, Conflict, Denied, Generation, Memory, Store}
 use Rattle.write.specs.declared.planned.Planned.{Planned}
 use Rattle.write.specs.declared.planning.Label.{Label}
 use Rattle.write.proofs.BulkLemmas.{brought_at}
@@ -71,6 +74,28 @@ one_plan (Some d) id h document became terms own w label planned same read e nam
       may = allowed d (subst (AreAcceptable d) (sym made) (may d refl));
       results = results h ∙ ap (λ (t : Told). t ∷ []) (sym (told_is document o _ _ _ _ is_id is_rev (ap outcome_told told) refl));
     }
+
+-- a fault of its own is none of memory
+pub own_refusal : (fault : WriteFault) (fact : Type 0) → (fault ≢ Memory → fact) → IsOwn fault → fact
+own_refusal Memory fact h mine = absurd mine
+own_refusal BadDocument fact h mine = h (λ e. cc)
+own_refusal (Denied rule) fact h mine = h (λ e. cc)
+own_refusal BadHistory fact h mine = h (λ e. cc)
+own_refusal Conflict fact h mine = h (λ e. cc)
+own_refusal Generation fact h mine = h (λ e. cc)
+own_refusal (Store cause) fact h mine = absurd mine
+
+-- and what refuses it there refuses it in the database
+pub one_refused : (there : Option Database) (id : List ℕ) (h : HistoryContent) (became : Terms → HistoryContent → DocumentOutcome) (terms : Terms) (own : Database → Terms) (r : Result Planned WriteFault) (fault : WriteFault)
+    → IfThere there (λ d. terms ≡ own d) → option_map (λ db. history_at db id) there ≡ Some h → r ≡ Err fault → (IsOwn fault → became terms h ≡ Err fault)
+    → IfErr r (λ e. IsOwn e → IfThere there (λ d. became (own d) (history_at d id) ≡ Err e))
+one_refused there id h became terms own r fault same read is refused =
+    subst (λ (x : Result Planned WriteFault). IfErr x (λ e. IsOwn e → IfThere there (λ d. became (own d) (history_at d id) ≡ Err e))) (sym is) (λ mine. by there same read (refused mine))
+  where
+    by : (there : Option Database) → IfThere there (λ d. terms ≡ own d) → option_map (λ db. history_at db id) there ≡ Some h → became terms h ≡ Err fault
+        → IfThere there (λ d. became (own d) (history_at d id) ≡ Err fault)
+    by None same read e = tt
+    by (Some d) same read e = on_terms d id became terms (own d) same ∙ ap (became terms) (sym (is_history d id h (Some d) refl read)) ∙ e
 
 -- ---- several documents
 

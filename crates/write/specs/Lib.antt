@@ -10,3 +10,4 @@ pub mod Bulk
 pub mod BulkResults
 pub mod Planning
 pub mod Settling
+pub mod IndexWrites

@@ -52,15 +52,15 @@ abbrev pub next_number : Option LocalDocument → Option ℕ
 next_number None = Some 1
 next_number (Some stored) = if nat_lt stored.number greatest_number then Some (stored.number + 1) else None
 
-abbrev pub numbered : Option ℕ → Value → Result LocalDocument WriteFault
-numbered None body = Err Generation
-numbered (Some number) body = Ok (record { number = number; body = body })
+abbrev pub local_of_number : Option ℕ → Value → Result LocalDocument WriteFault
+local_of_number None body = Err Generation
+local_of_number (Some number) body = Ok (record { number = number; body = body })
 
 -- by whether it names the stored one, where it says so, and by its body
 abbrev pub local_by : Option LocalDocument → Option Bool → Option Value → Result LocalDocument WriteFault
 local_by stored None body = Err BadDocument
 local_by stored (Some names) None = Err BadDocument
-local_by stored (Some names) (Some body) = if names then numbered (next_number stored) body else Err Conflict
+local_by stored (Some names) (Some body) = if names then local_of_number (next_number stored) body else Err Conflict
 
 -- What becomes of a local document with this id, by the one that is stored. It is bad where it is no object, has a special member that
 -- no local document has or one of another form, or what is left without them nests too deep; else it is in conflict, or it has no

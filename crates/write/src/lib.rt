@@ -1,7 +1,8 @@
 //! Writing: what becomes of an edit, and the plan that makes it so (CouchDB manual,
 //! api/document/common and api/database/bulk-api).
 //!
-//! [`edit`], [`replicated`], [`bulk`] and [`put_local`] plan, and [`apply`] changes the store. Rows of the tests:
+//! [`edit`], [`replicated`], [`bulk`], [`put_index`] and [`put_local`] plan, and [`apply`] changes the store.
+//! Rows of the tests:
 //!
 //! ```rows
 //! anybody PUT /db/a {"v":1} => 201 {"id":"a","ok":true,"rev":"<r1>"}
@@ -18,6 +19,7 @@ mod document;
 mod editing;
 mod fault;
 mod histories;
+mod index_writes;
 pub mod laws;
 mod local_writes;
 mod planned;
@@ -30,6 +32,7 @@ pub use applying::apply;
 pub use bulk_writes::bulk;
 pub use editing::edit;
 pub use fault::WriteFault;
+pub use index_writes::put_index;
 pub use local_writes::put_local;
 pub use planned::{Changes, DocumentResult, Outcome, Planned};
 pub use replicating::replicated;

@@ -9,7 +9,7 @@ ghost use Rattle.store.specs.Writing.{addition_of, written_at, written_in};
 ghost use Rattle.write.specs.Bulk.{outcome_told, put_before};
 ghost use Rattle.write.specs.BulkResults.{IsMadeOutcome, IsUnrefused, OfFirst, told_as, told_of};
 ghost use Rattle.write.specs.Document.{member_text};
-ghost use Rattle.write.specs.Planning.{MayBeMade, database_after, planned_writes};
+ghost use Rattle.write.specs.Planning.{AreWrites, MayBeMade, database_after, planned_writes};
 ghost use Rattle.store.specs.Contents.{AreAcceptable};
 
 use crate::document::copy_text;
@@ -61,6 +61,7 @@ pub(crate) fn plan_alone(
     ensures writes { IfOk result (λ planned. (d : Database) → planned_writes d planned.changes ≡ put_before (Ok (option_map (λ w. written_at d (addition_of w)) write)) []) }
     ensures changed { IfOk result (λ planned. (d : Database) → database_after planned.changes d ≡ with_all d (planned_writes d planned.changes)) }
     ensures may { IfOk result (λ planned. (d : Database) → AreAcceptable d (planned_writes d planned.changes) → MayBeMade planned.changes d) }
+    ensures appends { IfOk result (λ planned. AreWrites planned.changes) }
     ensures results { IfOk result (λ planned. (h : HistoryContent) → map told_of planned.results.items
         ≡ told_as label (Ok (option_map (λ w. written_in h (addition_of w)) write)) ∷ []) }
     ensures unrefused { IfOk result (λ planned. OfFirst IsUnrefused planned.results.items) }

@@ -2,7 +2,7 @@ use Rattle.std.proofs.Common.{◌≡◌, [], Some, drop}
 use Rattle.std.specs.FinMap as finite
 use Rattle.store.specs.Calls.{OnlyReads}
 use Rattle.store.specs.Database.{Database}
-use Rattle.store.specs.Plain.{placed}
+use Rattle.store.specs.Plain.{place_views}
 use Rattle.find.specs.Matching.{put_matches}
 use Rattle.find.proofs.by_fields.sort_matches.Given as goal
 
@@ -10,6 +10,6 @@ use Rattle.find.proofs.by_fields.sort_matches.Given as goal
 abbrev pub invariant-loop-row : goal.invariant-loop-row
 invariant-loop-row g l = record {
   sorted : g.S.Store.is_honest l.store → (d : Database) → finite.get (g.S.Store.contents l.initial.store) l.db ≡ Some d
-      → put_matches l.query.sort l.query.selector d (drop l.row-index l.rows) (placed l.sorted.entries) ≡ put_matches l.query.sort l.query.selector d l.rows [];
+      → put_matches l.query.sort l.query.selector d (drop l.row-index l.rows) (place_views l.sorted.entries) ≡ put_matches l.query.sort l.query.selector d l.rows [];
   reads : OnlyReads g.S.Store l.initial.store l.store;
 }

@@ -1,0 +1,23 @@
+use Rattle.std.proofs.Common.{◌≡◌, [], ◌∷◌, Ok}
+use Rattle.couch_json.specs.Value.{null}
+use Rattle.couch_json.specs.View.{view}
+use Rattle.find.specs.IndexRead.{index_asked}
+use Rattle.store.specs.Database.{Database}
+use Rattle.write.specs.Bulk.{writes_alone}
+use Rattle.write.specs.IndexWrites.{index_admission}
+use Rattle.write.specs.Planning.{Plans, planned_writes}
+use Rattle.write.specs.Terms.{terms_in}
+use Rattle.node.proofs.Planned.{index_comes, of_there}
+use Rattle.node.proofs.indexes.declare_index.Goals as goal
+
+pub returns-clause-comes : goal.returns-clause-comes
+returns-clause-comes g c = λ honest db there.
+    let caller = c.args.caller.now in
+    let name = c.args.name.now in
+    let asked = index_asked c.args.index.now in
+    let planned = c.in-Ok.planned in
+    index_comes caller asked.design asked.name db (index_admission (terms_in caller name db) db asked.design asked.name asked.fields) planned c.says_made.result (view c.in_ok-value.value)
+    (of_there _ db (λ (d : Database). writes_alone (index_admission (terms_in caller name d) d asked.design asked.name asked.fields) ≡ Ok (planned_writes d planned.changes)) there (c.in-Ok.ensures.ok honest))
+    (of_there _ db (λ (d : Database). Plans d (null ∷ []) (index_admission (terms_in caller name d) d asked.design asked.name asked.fields ∷ []) planned) there (c.in-Ok.ensures.plan honest))
+    c.in-Ok.ensures.appends c.in-Ok.ensures.unrefused
+    (rw c.deref.ensures.value at c.says_made.ensures) c.in_ok-value.ensures

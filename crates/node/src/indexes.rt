@@ -1,0 +1,125 @@
+//! The page on which an index is declared (CouchDB manual, api/database/find).
+
+ghost use Rattle.std.specs.Prelude.{◌≡◌, ◌≢◌, IfErr, IfOk, true};
+ghost use Rattle.couch_http.specs.Message.{message_of};
+ghost use Rattle.couch_json.specs.View.{view};
+ghost use Rattle.find.specs.IndexRead.{index_asked};
+ghost use Rattle.find.specs.Indexes.{index_in};
+ghost use Rattle.store.specs.Calls.{OnlyReads};
+ghost use Rattle.tree.specs.DocumentId.{is_design_id};
+ghost use Rattle.write.specs.BulkResults.{IsUnrefused, OfFirst};
+ghost use Rattle.write.specs.Planning.{MayBeMade};
+ghost use Rattle.api.specs.Refusals.{there_or};
+ghost use Rattle.node.specs.Answered.{done_of, says_made};
+ghost use Rattle.node.specs.Causes.{Ends};
+ghost use Rattle.node.specs.Coming.{Comes, OfThere};
+ghost use Rattle.node.specs.Works.{index_asked_in, index_reply, index_written};
+
+use crate::answered::Worked;
+use crate::bulk_reply::refusal_of_edit;
+use crate::stop::Stop;
+use api::{Refusal, body, put_text, without_parameters};
+use auth::Caller;
+use couch_http::Request;
+use couch_json::{Got, Json};
+use find::{Index, QueryFault};
+use std::alloc::Global;
+use std::collections::BTreeMap;
+use store::{DbName, Store};
+use write::{DocumentResult, Outcome, WriteFault, put_index};
+
+/// Declares an index, but for the change of the store itself.
+pub(crate) fn write_index<S: Store>(
+    alloc: Global,
+    store: &mut S,
+    caller: &Caller,
+    name: &DbName,
+    request: &Request,
+) -> Result<Worked, Stop>
+    ensures comes { S.is_honest store.new → OfThere (S.contents store.old) name.now (λ db. Comes (done_of db) result
+        (index_written caller.now (message_of request.now) name.now db)) }
+    ensures may { S.is_honest store.new → OfThere (S.contents store.old) name.now (λ db. IfOk result (λ worked. MayBeMade worked.planned.changes db)) }
+    ensures own { IfOk result (λ worked. worked.planned.database ≡ name.now) }
+    ensures ends { IfErr result (Ends S.Store store.old store.new) }
+    ensures reads { OnlyReads S.Store store.old store.new }
+{
+    without_parameters(request)?;
+    let value = body(alloc, request)?;
+    let index = read_index(alloc, &value)?;
+    declare_index(alloc, store, caller, name, &index)
+}
+
+/// Reads the index that a body asks to declare.
+fn read_index(alloc: Global, value: &Json) -> Result<Index, Stop>
+    ensures comes { Comes index_asked result (there_or Refusal.Body (index_in (view value.now))) }
+    ensures design { IfOk result (λ index. is_design_id index.design ≡ true) }
+    ensures ends { IfErr result (λ stop. stop ≢ Stop.Failed) }
+{
+    match Index::read(alloc, value) {
+        Ok(index) => Ok(index),
+        Err(QueryFault::Shape) => Err(Stop::Refused(Refusal::Body)),
+        Err(QueryFault::Memory) => Err(Stop::NoRoom),
+    }
+}
+
+/// Tells what the declaration of an index comes to.
+fn declare_index<S: Store>(
+    alloc: Global,
+    store: &mut S,
+    caller: &Caller,
+    name: &DbName,
+    index: &Index,
+) -> Result<Worked, Stop>
+    requires { is_design_id index.now.design ≡ true }
+    ensures comes { S.is_honest store.new → OfThere (S.contents store.old) name.now (λ db. Comes (done_of db) result
+        (index_asked_in caller.now name.now db (index_asked index.now))) }
+    ensures may { S.is_honest store.new → OfThere (S.contents store.old) name.now (λ db. IfOk result (λ worked. MayBeMade worked.planned.changes db)) }
+    ensures own { IfOk result (λ worked. worked.planned.database ≡ name.now) }
+    ensures ends { IfErr result (Ends S.Store store.old store.new) }
+    ensures reads { OnlyReads S.Store store.old store.new }
+{
+    let planned = match put_index(
+        alloc,
+        store,
+        name,
+        caller,
+        &index.design,
+        &index.name,
+        &index.fields,
+    ) {
+        Ok(planned) => planned,
+        Err(WriteFault::Memory) => return Err(Stop::NoRoom),
+        Err(WriteFault::Store(fault)) => return Err(Stop::from(fault)),
+        Err(fault) => return Err(Stop::Refused(refusal_of_edit(caller, fault))),
+    };
+    let value = index_reply(alloc, index, says_made(&planned.results))?;
+    Ok(Worked {
+        status: 200,
+        value,
+        planned,
+    })
+}
+
+/// Tells whether the first of the results made a revision.
+fn says_made(results: &[DocumentResult]) -> bool
+    requires { OfFirst IsUnrefused results.now }
+    ensures { OfFirst (λ outcome. result ≡ says_made outcome) results.now }
+{
+    let Some(first) = results.first() else {
+        unreachable!()
+    };
+    matches!(first.outcome, Outcome::Made(_))
+}
+
+/// Builds the reply to the declaration of an index: the design document, the name, and whether it was
+/// created.
+fn index_reply(alloc: Global, index: &Index, created: bool) -> Got<Json>
+    ensures { IfOk result (λ value. view value ≡ index_reply (index_asked index.now).design (index_asked index.now).name created) }
+{
+    let result = if created { "created" } else { "exists" };
+    let mut members = BTreeMap::new(alloc);
+    put_text(alloc, &mut members, "id", index.design.as_str())?;
+    put_text(alloc, &mut members, "name", &index.name)?;
+    put_text(alloc, &mut members, "result", result)?;
+    Ok(Json::Object(members))
+}
