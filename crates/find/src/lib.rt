@@ -1,7 +1,8 @@
 //! Finds: the documents of a database that match a selector, in an order, in part (CouchDB manual,
 //! api/database/find).
 //!
-//! [`Query::read`] reads what is asked for, and [`find`] answers it. A row of the tests:
+//! [`Query::read`] reads what is asked for, and [`find`] answers it. [`Index::read`] reads an index that is
+//! to be declared. A row of the tests:
 //!
 //! ```rows
 //! anybody POST /db/_find {"selector":{"b":{"$lt":2}},"sort":[{"b":"desc"}]} => 200 {"bookmark":"nil","docs":[{"_id":"p","_rev":"1-a","b":1}]}

@@ -20,12 +20,13 @@ abbrev pub row_object : IdRow → Value
 row_object r =
     object (member (codes "id") (text r.id) (member (codes "key") (text r.id) (member (codes "value") (revision_object r.rev) no_members)))
 
-abbrev pub listing_of : List IdRow → RowCounts → Value
+-- rows, and where they stand among all
+abbrev pub listing_of : List Value → RowCounts → Value
 listing_of rows counts =
     object
     (member (codes "offset") (whole (pos counts.offset))
-    (member (codes "rows") (array (items_of (map row_object rows))) (member (codes "total_rows") (whole (pos counts.total)) no_members)))
+    (member (codes "rows") (array (items_of rows)) (member (codes "total_rows") (whole (pos counts.total)) no_members)))
 
 -- the rows of the range in this database, and how many come before them and in all
 abbrev pub document_listing : IdRange → Database → Value
-document_listing range db = listing_of (page_of_ids range db).rows (row_counts range (live_rows (entries db.documents)))
+document_listing range db = listing_of (map row_object (page_of_ids range db).rows) (row_counts range (live_rows (entries db.documents)))

@@ -1,13 +1,12 @@
 -- The rows of an index, listed by key: a document each, within a range, and where the rows stand among all.
 -- CouchDB manual, api/ddoc/views (`offset`, `rows`, `total_rows`; `id`, `key` and `value` of a row); which rows an index has, and which of them a range, are the store's words; that a row has no value is this server's own.
-use Rattle.std.specs.Prelude.{ℕ, List, codes, map, pos, Option, Some, None, Result, Ok, Err}
-use Rattle.couch_json.specs.Value.{Value, null, whole, text, array, object, no_members, member}
-use Rattle.couch_json.specs.View.{items_of}
+use Rattle.std.specs.Prelude.{ℕ, List, codes, map, Option, Some, None, Result, Ok, Err}
+use Rattle.couch_json.specs.Value.{Value, null, text, object, no_members, member}
 use Rattle.store.specs.Database.{Database}
 use Rattle.store.specs.Indexes.{IndexPlace, index_fields_at, index_rows}
 use Rattle.store.specs.KeyPages.{key_counts, key_page}
 use Rattle.store.specs.declared.key_page.KeyRange.{KeyRange}
-use Rattle.store.specs.declared.page.RowCounts.{RowCounts}
+use Rattle.read.specs.Listing.{listing_of}
 use Rattle.read.specs.declared.fault.ReadFault.{ReadFault}
 use Rattle.read.specs.declared.fault.ReadFault.TheVariants.{Missing}
 
@@ -15,15 +14,9 @@ use Rattle.read.specs.declared.fault.ReadFault.TheVariants.{Missing}
 abbrev pub key_row_object : IndexPlace → Value
 key_row_object r = object (member (codes "id") (text r.id) (member (codes "key") r.key (member (codes "value") null no_members)))
 
-abbrev pub key_listing_of : List IndexPlace → RowCounts → Value
-key_listing_of rows counts =
-    object
-    (member (codes "offset") (whole (pos counts.offset))
-    (member (codes "rows") (array (items_of (map key_row_object rows))) (member (codes "total_rows") (whole (pos counts.total)) no_members)))
-
 -- the rows of the range in an index by these fields, and how many come before them and in all
 abbrev pub key_listing : KeyRange → List (List ℕ) → Database → Value
-key_listing range fields db = key_listing_of (key_page range (index_rows fields db)).rows (key_counts range (index_rows fields db))
+key_listing range fields db = listing_of (map key_row_object (key_page range (index_rows fields db)).rows) (key_counts range (index_rows fields db))
 
 abbrev pub view_by : KeyRange → Database → Option (List (List ℕ)) → Result Value ReadFault
 view_by range db None = Err Missing

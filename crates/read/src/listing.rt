@@ -38,25 +38,20 @@ pub fn all_docs<S: Store>(
     };
     let page = store.page_by_id(db, &counted)?;
     match page.counts {
-        Some(counts) => Ok(build_listing(alloc, &page.rows, counts)?),
+        Some(counts) => Ok(build_listing(alloc, build_rows(alloc, &page.rows)?, counts)?),
         None => unreachable!(),
     }
 }
 
 /// Builds the object of a listing.
-fn build_listing(alloc: Global, rows: &[IdRow], counts: RowCounts) -> Got<Json>
+pub(crate) fn build_listing(alloc: Global, rows: Vec<Json>, counts: RowCounts) -> Got<Json>
     requires before { counts.offset ≤ counts.total }
     requires total { counts.total < 2 ^ 63 }
-    ensures { IfOk result (λ value. view value ≡ listing_of rows.now counts) }
+    ensures { IfOk result (λ value. view value ≡ listing_of (each view rows.items) counts) }
 {
     let mut members = BTreeMap::new(alloc);
     put_member(alloc, &mut members, "offset", whole(counts.offset))?;
-    put_member(
-        alloc,
-        &mut members,
-        "rows",
-        Json::Array(build_rows(alloc, rows)?),
-    )?;
+    put_member(alloc, &mut members, "rows", Json::Array(rows))?;
     put_member(alloc, &mut members, "total_rows", whole(counts.total))?;
     Ok(Json::Object(members))
 }

@@ -1,18 +1,18 @@
 //! The rows of an index, listed by key.
 
-ghost use Rattle.std.specs.Prelude.{◌≡◌, ◌≢◌, ◌≤◌, ◌<◌, ◌^◌, map as each, IfOk, IfErr, option_map};
+ghost use Rattle.std.specs.Prelude.{◌≡◌, ◌≢◌, map as each, IfOk, IfErr, option_map};
 ghost use Rattle.std.specs.FinMap as map;
 ghost use Rattle.couch_json.specs.View.{view};
 ghost use Rattle.store.specs.Calls.{OnlyReads};
 ghost use Rattle.read.specs.Answers.{Answers};
-ghost use Rattle.read.specs.Views.{key_listing_of, key_row_object, view_listing};
+ghost use Rattle.read.specs.Views.{key_row_object, view_listing};
 
 use crate::fault::ReadFault;
-use crate::numbers::whole;
+use crate::listing::build_listing;
 use couch_json::{Got, Json, put_member};
 use std::alloc::Global;
 use std::collections::BTreeMap;
-use store::{DbName, KeyRange, KeyRow, RowCounts, Store};
+use store::{DbName, KeyRange, KeyRow, Store};
 use tree::DocId;
 
 /// Lists the rows of the index that a design document of a database declares under a name, within a
@@ -41,27 +41,9 @@ pub fn view<S: Store>(
         return Err(ReadFault::Missing);
     };
     match page.counts {
-        Some(counts) => Ok(build_listing(alloc, &page.rows, counts)?),
+        Some(counts) => Ok(build_listing(alloc, build_rows(alloc, &page.rows)?, counts)?),
         None => unreachable!(),
     }
-}
-
-/// Builds the object of a listing.
-fn build_listing(alloc: Global, rows: &[KeyRow], counts: RowCounts) -> Got<Json>
-    requires before { counts.offset ≤ counts.total }
-    requires total { counts.total < 2 ^ 63 }
-    ensures { IfOk result (λ value. view value ≡ key_listing_of rows.now counts) }
-{
-    let mut members = BTreeMap::new(alloc);
-    put_member(alloc, &mut members, "offset", whole(counts.offset))?;
-    put_member(
-        alloc,
-        &mut members,
-        "rows",
-        Json::Array(build_rows(alloc, rows)?),
-    )?;
-    put_member(alloc, &mut members, "total_rows", whole(counts.total))?;
-    Ok(Json::Object(members))
 }
 
 /// Builds the objects of rows, in order.

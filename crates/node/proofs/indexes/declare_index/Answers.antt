@@ -1,12 +1,13 @@
-use Rattle.std.proofs.Common.{◌≡◌, [], ◌∷◌, Ok}
+use Rattle.std.proofs.Common.{◌≡◌, ℕ, List, [], ◌∷◌, Ok, ap, ◌∙◌, rules}
 use Rattle.couch_json.specs.Value.{null}
 use Rattle.couch_json.specs.View.{view}
 use Rattle.find.specs.IndexRead.{index_asked}
 use Rattle.store.specs.Database.{Database}
-use Rattle.write.specs.Bulk.{writes_alone}
+use Rattle.write.specs.Bulk.{DocumentOutcome, writes_alone}
 use Rattle.write.specs.IndexWrites.{index_admission}
 use Rattle.write.specs.Planning.{Plans, planned_writes}
 use Rattle.write.specs.Terms.{terms_in}
+use Rattle.node.specs.Works.{index_done}
 use Rattle.node.proofs.Planned.{index_comes, of_there}
 use Rattle.node.proofs.indexes.declare_index.Goals as goal
 
@@ -16,8 +17,14 @@ returns-clause-comes g c = λ honest db there.
     let name = c.args.name.now in
     let asked = index_asked c.args.index.now in
     let planned = c.in-Ok.planned in
-    index_comes caller asked.design asked.name db (index_admission (terms_in caller name db) db asked.design asked.name asked.fields) planned c.says_made.result (view c.in_ok-value.value)
-    (of_there _ db (λ (d : Database). writes_alone (index_admission (terms_in caller name d) d asked.design asked.name asked.fields) ≡ Ok (planned_writes d planned.changes)) there (c.in-Ok.ensures.ok honest))
-    (of_there _ db (λ (d : Database). Plans d (null ∷ []) (index_admission (terms_in caller name d) d asked.design asked.name asked.fields ∷ []) planned) there (c.in-Ok.ensures.plan honest))
+    let named : asked.name ≡ c.deref.result.now = search rules in
+    let fields : asked.fields ≡ c.deref-2.result.now = search rules in
+    let outcome : Database → DocumentOutcome = λ d. index_admission (terms_in caller name d) d asked.design c.deref.result.now c.deref-2.result.now in
+    let same : index_admission (terms_in caller name db) db asked.design asked.name asked.fields ≡ outcome db =
+    λ i. index_admission (terms_in caller name db) db asked.design (named i) (fields i) in
+    ap (index_done caller asked.design asked.name) same
+    ∙ index_comes caller asked.design asked.name db (outcome db) planned c.says_made.result (view c.in_ok-value.value)
+    (of_there _ db (λ (d : Database). writes_alone (outcome d) ≡ Ok (planned_writes d planned.changes)) there (c.in-Ok.ensures.ok honest))
+    (of_there _ db (λ (d : Database). Plans d (null ∷ []) (outcome d ∷ []) planned) there (c.in-Ok.ensures.plan honest))
     c.in-Ok.ensures.appends c.in-Ok.ensures.unrefused
-    (rw c.deref.ensures.value at c.says_made.ensures) c.in_ok-value.ensures
+    (rw c.deref-3.ensures.value at c.says_made.ensures) c.in_ok-value.ensures
