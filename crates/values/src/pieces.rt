@@ -61,7 +61,7 @@ pub fn size(pieces: &[Vec<u8>]) -> usize {
 }
 
 /// Returns the bytes of pieces in one.
-pub fn joined(alloc: Global, pieces: &[Vec<u8>]) -> Result<Vec<u8>, RowsFault> {
+pub fn join(alloc: Global, pieces: &[Vec<u8>]) -> Result<Vec<u8>, RowsFault> {
     let mut bytes = Vec::new(alloc);
     for piece in pieces {
         bytes.extend_from_slice(piece)?;

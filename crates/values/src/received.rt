@@ -1,4 +1,4 @@
-use crate::pieces::{joined, pieces_of, single_bytes, two_pieces};
+use crate::pieces::{join, pieces_of, single_bytes, two_pieces};
 use crate::texts::{answer, spell, text_of};
 use couch_http::{HttpFault, ReplyCutter, Response};
 use rows::{Joint, Kind, RowsFault};
@@ -39,7 +39,7 @@ impl Received {
         Ok(lines)
     }
 
-    /// Plays a piece, with which so many bytes have come.
+    /// Plays a piece, with which these bytes have come.
     fn feed(
         &self,
         cutter: &mut ReplyCutter,
@@ -89,7 +89,7 @@ impl Received {
     fn play_all(&self, pieces: &[Vec<u8>]) -> Result<String, RowsFault> {
         let lines = self.play(pieces)?;
         let mut text = text_of_lines(self.alloc, &lines)?;
-        let bytes = joined(self.alloc, pieces)?;
+        let bytes = join(self.alloc, pieces)?;
         if bytes.len() <= SHORT {
             let end = end_of(&lines);
             self.put_places(&mut text, &bytes, end)?;

@@ -117,9 +117,9 @@ fn request_of(alloc: Global, question: &str) -> Result<Option<Request>, RowsFaul
         None => (target, None),
     };
     let method = method_of(alloc, method)?;
-    let path = unescaped(alloc, path)?;
+    let path = unescape_text(alloc, path)?;
     let query = match query {
-        Some(query) => unescaped(alloc, query)?.map(Some),
+        Some(query) => unescape_text(alloc, query)?.map(Some),
         None => Some(None),
     };
     let headers = headers_of(alloc, lines)?;
@@ -147,7 +147,7 @@ fn method_of(alloc: Global, name: &str) -> Result<Option<Method>, RowsFault> {
 }
 
 /// Returns the text that a text with escapes spells, if it is one.
-fn unescaped(alloc: Global, text: &str) -> Result<Option<String>, RowsFault> {
+fn unescape_text(alloc: Global, text: &str) -> Result<Option<String>, RowsFault> {
     let Some(bytes) = unescape(alloc, text.as_bytes())? else {
         return Ok(None);
     };

@@ -1,4 +1,4 @@
-use crate::pieces::{joined, pieces_of, single_bytes, size};
+use crate::pieces::{join, pieces_of, single_bytes, size};
 use crate::texts::{answer, text_of};
 use couch_http::{Cutter, Ending, HttpFault, Request};
 use rows::{Joint, Kind, RowsFault, escape};
@@ -66,7 +66,7 @@ impl Streams {
         let flow = self.play(pieces)?;
         let mut text = show(self.alloc, &flow)?;
         if size(pieces) <= SHORT {
-            let bytes = joined(self.alloc, pieces)?;
+            let bytes = join(self.alloc, pieces)?;
             let slow = self.play(&single_bytes(self.alloc, &bytes)?)?;
             if slow.requests.as_str() != flow.requests.as_str() || slow.ending != flow.ending {
                 text.push_str("\nbyte by byte:\n")?;
