@@ -1,5 +1,5 @@
-//! Plays rows on the crates that hold no database: JSON, selectors, callers, streams of requests,
-//! revisions, histories, verdicts and update rules. A file's ending says which kind its rows are of.
+//! Plays rows on the crates that hold no database: JSON, selectors, callers, streams of requests and
+//! replies, revisions, histories, verdicts and update rules. A file's ending says which kind its rows are of.
 #![tactic(auto)]
 
 mod callers;
@@ -9,11 +9,14 @@ mod ids;
 mod json;
 mod numbers;
 mod paths;
+mod pieces;
+mod received;
 mod replies;
 mod revisions;
 mod rules;
 mod security;
 mod selectors;
+mod sent;
 mod streams;
 mod texts;
 mod tokens;
@@ -81,6 +84,7 @@ fn play_file(alloc: Global, name: &str, text: &str, report: &mut Report) -> Resu
         "json" => play(alloc, name, text, &mut json::Texts { alloc }, report),
         "numbers" => play(alloc, name, text, &mut numbers::Numbers { alloc }, report),
         "paths" => play(alloc, name, text, &mut paths::Paths { alloc }, report),
+        "received" => play(alloc, name, text, &mut received::Received { alloc }, report),
         "replies" => play(alloc, name, text, &mut replies::Replies { alloc }, report),
         "revisions" => play(
             alloc,
@@ -104,6 +108,7 @@ fn play_file(alloc: Global, name: &str, text: &str, report: &mut Report) -> Resu
             &mut selectors::Selectors { alloc },
             report,
         ),
+        "sent" => play(alloc, name, text, &mut sent::Sent { alloc }, report),
         "stream" => play(alloc, name, text, &mut streams::Streams { alloc }, report),
         "tokens" => play(alloc, name, text, &mut tokens::Tokens { alloc }, report),
         _ => report.object(name, 1, "no kind of rows has this ending"),

@@ -1,6 +1,7 @@
+use crate::pieces::{join, pieces_of, single_bytes, size};
 use crate::texts::{answer, text_of};
 use couch_http::{Cutter, Ending, HttpFault, Request};
-use rows::{Joint, Kind, RowsFault, escape, unescape};
+use rows::{Joint, Kind, RowsFault, escape};
 use std::alloc::Global;
 
 /// Pieces of a stream, one a line, with escapes; `cut N TEXT` is the text in pieces of N bytes.
@@ -61,12 +62,12 @@ impl Streams {
     }
 
     /// Plays the pieces and, where they are short, their bytes one by one.
-    fn play_both(&self, pieces: &[Vec<u8>]) -> Result<String, RowsFault> {
+    pub fn play_both(&self, pieces: &[Vec<u8>]) -> Result<String, RowsFault> {
         let flow = self.play(pieces)?;
         let mut text = show(self.alloc, &flow)?;
-        let bytes = single_bytes(self.alloc, pieces)?;
-        if bytes.len() > 0 {
-            let slow = self.play(&bytes)?;
+        if size(pieces) <= SHORT {
+            let bytes = join(self.alloc, pieces)?;
+            let slow = self.play(&single_bytes(self.alloc, &bytes)?)?;
             if slow.requests.as_str() != flow.requests.as_str() || slow.ending != flow.ending {
                 text.push_str("\nbyte by byte:\n")?;
                 text.push_str(show(self.alloc, &slow)?.as_str())?;
@@ -74,20 +75,6 @@ impl Streams {
         }
         Ok(text)
     }
-}
-
-/// Returns the bytes of pieces as pieces of one byte each, none where there are many.
-fn single_bytes(alloc: Global, pieces: &[Vec<u8>]) -> Result<Vec<Vec<u8>>, RowsFault> {
-    let mut bytes = Vec::new(alloc);
-    for piece in pieces {
-        if bytes.len().saturating_add(piece.len()) > SHORT {
-            return Ok(Vec::new(alloc));
-        }
-        for byte in piece {
-            bytes.push(Vec::from_slice(alloc, &[*byte])?)?;
-        }
-    }
-    Ok(bytes)
 }
 
 /// Adds the line of a request.
@@ -136,53 +123,6 @@ fn show(alloc: Global, flow: &Flow) -> Result<String, RowsFault> {
         text.push_str("\nclosed")?;
     }
     Ok(text)
-}
-
-/// Returns the pieces of a question; `None` where a backslash begins no escape.
-fn pieces_of(alloc: Global, question: &str) -> Result<Option<Vec<Vec<u8>>>, RowsFault> {
-    let mut pieces = Vec::new(alloc);
-    for line in question.split('\n') {
-        let (size, text) = size_of(line);
-        let Some(bytes) = unescape(alloc, text.as_bytes())? else {
-            return Ok(None);
-        };
-        if size == 0 {
-            pieces.push(bytes)?;
-        } else {
-            put_pieces(alloc, &mut pieces, &bytes, size)?;
-        }
-    }
-    Ok(Some(pieces))
-}
-
-/// Adds bytes in pieces of one size.
-fn put_pieces(
-    alloc: Global,
-    pieces: &mut Vec<Vec<u8>>,
-    bytes: &[u8],
-    size: usize,
-) -> Result<(), RowsFault> {
-    if size == 0 {
-        return Ok(());
-    }
-    for piece in bytes.chunks(size) {
-        pieces.push(Vec::from_slice(alloc, piece)?)?;
-    }
-    Ok(())
-}
-
-/// Returns the size that `cut N` asks for, and the text behind it; 0 where it isn't asked for.
-fn size_of(line: &str) -> (usize, &str) {
-    let Some(rest) = line.strip_prefix("cut ") else {
-        return (0, line);
-    };
-    match rest.split_once(' ') {
-        Some((size, text)) => match size.parse::<usize>() {
-            Ok(size) => (size, text),
-            Err(_) => (0, line),
-        },
-        None => (0, line),
-    }
 }
 
 impl Kind for Streams {

@@ -32,6 +32,28 @@ pub fn canonical(alloc: Global, value: &Json) -> Result<Vec<u8>, RowsFault> {
     answer(alloc, canon(alloc, value)?.as_str())
 }
 
+/// Returns a text of printable ASCII that spells bytes: all others, and backslashes, stand escaped.
+pub fn spell(alloc: Global, bytes: &[u8]) -> Result<String, RowsFault> {
+    let mut text = String::new(alloc);
+    for byte in bytes {
+        put_byte(alloc, &mut text, *byte)?;
+    }
+    Ok(text)
+}
+
+/// Adds what spells a byte.
+fn put_byte(alloc: Global, text: &mut String, byte: u8) -> Result<(), RowsFault> {
+    match byte {
+        b'\r' => text.push_str("\\r")?,
+        b'\n' => text.push_str("\\n")?,
+        b'\t' => text.push_str("\\t")?,
+        b'\\' => text.push_str("\\\\")?,
+        b' '..=b'~' => text.push(char::from(byte))?,
+        _ => text.push_str(format!(in alloc; "\\x{byte:02x}")?.as_str())?,
+    }
+    Ok(())
+}
+
 /// Returns the first word of a text, and what stands behind it.
 pub fn first_word(text: &str) -> (&str, &str) {
     match text.split_once(' ') {

@@ -1,0 +1,177 @@
+use crate::pieces::{join, pieces_of, single_bytes, two_pieces};
+use crate::texts::{answer, spell, text_of};
+use couch_http::{HttpFault, ReplyCutter, Response};
+use rows::{Joint, Kind, RowsFault};
+use std::alloc::Global;
+
+/// Pieces of a stream that begins with a reply, one a line, written as in `.stream`.
+/// The answer has a line for each piece: `waits`, the reply as `STATUS BODY`, or the fault, `Syntax`,
+/// `Encoding`, `TooLarge` or `Closed`.
+/// A short stream is played byte by byte too, and in two pieces cut at each place, which has to come
+/// to the same.
+#[derive(Drop)]
+pub struct Received {
+    pub alloc: Global,
+}
+
+/// Streams of more bytes are not cut at each place.
+const SHORT: usize = 300;
+
+/// Bodies of more bytes are told by their length.
+const SHOWN: usize = 200;
+
+/// What comes of a piece while the reply isn't whole.
+const WAITS: &str = "waits";
+
+/// What comes of a piece behind the end.
+const CLOSED: &str = "Closed";
+
+impl Received {
+    /// Plays pieces on a new cutter: a line for each.
+    fn play(&self, pieces: &[Vec<u8>]) -> Result<Vec<String>, RowsFault> {
+        let mut cutter = ReplyCutter::new(self.alloc);
+        let mut come = Vec::new(self.alloc);
+        let mut lines = Vec::new(self.alloc);
+        for piece in pieces {
+            come.extend_from_slice(piece)?;
+            lines.push(self.feed(&mut cutter, piece, &come)?)?;
+        }
+        Ok(lines)
+    }
+
+    /// Plays a piece, with which these bytes have come.
+    fn feed(
+        &self,
+        cutter: &mut ReplyCutter,
+        piece: &[u8],
+        come: &[u8],
+    ) -> Result<String, RowsFault> {
+        match cutter.feed(piece) {
+            Ok(None) => Ok(String::from_str(self.alloc, WAITS)?),
+            Ok(Some(reply)) => show_reply(self.alloc, &reply, come),
+            Err(HttpFault::Memory) => Err(RowsFault::Memory),
+            Err(fault) => Ok(String::from_str(self.alloc, name_of(fault))?),
+        }
+    }
+
+    /// Returns what pieces come to.
+    fn end(&self, pieces: &[Vec<u8>]) -> Result<String, RowsFault> {
+        let lines = self.play(pieces)?;
+        Ok(String::from_str(self.alloc, end_of(&lines))?)
+    }
+
+    /// Adds a line for each place where two pieces come to something else.
+    fn put_places(&self, text: &mut String, bytes: &[u8], end: &str) -> Result<(), RowsFault> {
+        for place in 0..bytes.len() {
+            let pieces = two_pieces(self.alloc, bytes, place)?;
+            let other = self.end(&pieces)?;
+            let other = other.as_str();
+            if other != end {
+                let line = format!(in self.alloc; "\ncut at {place}: {other}")?;
+                text.push_str(line.as_str())?;
+            }
+        }
+        Ok(())
+    }
+
+    /// Adds a line where single bytes come to something else.
+    fn put_bytes(&self, text: &mut String, bytes: &[u8], end: &str) -> Result<(), RowsFault> {
+        let pieces = single_bytes(self.alloc, bytes)?;
+        let other = self.end(&pieces)?;
+        if other.as_str() != end {
+            text.push_str("\nbyte by byte: ")?;
+            text.push_str(other.as_str())?;
+        }
+        Ok(())
+    }
+
+    /// Plays the pieces and, where they are short, their bytes cut at each place.
+    fn play_all(&self, pieces: &[Vec<u8>]) -> Result<String, RowsFault> {
+        let lines = self.play(pieces)?;
+        let mut text = text_of_lines(self.alloc, &lines)?;
+        let bytes = join(self.alloc, pieces)?;
+        if bytes.len() <= SHORT {
+            let end = end_of(&lines);
+            self.put_places(&mut text, &bytes, end)?;
+            self.put_bytes(&mut text, &bytes, end)?;
+        }
+        Ok(text)
+    }
+}
+
+/// Returns what lines come to: the first that doesn't wait, behind which all is closed.
+fn end_of(lines: &[String]) -> &str {
+    for (place, line) in lines.iter().enumerate() {
+        if line.as_str() != WAITS {
+            return if are_closed(lines, place) {
+                line.as_str()
+            } else {
+                "something behind its end"
+            };
+        }
+    }
+    WAITS
+}
+
+/// Tells whether each line behind a place is closed.
+fn are_closed(lines: &[String], place: usize) -> bool {
+    lines
+        .iter()
+        .skip(place.saturating_add(1))
+        .all(|line| line.as_str() == CLOSED)
+}
+
+/// Returns lines as one text.
+fn text_of_lines(alloc: Global, lines: &[String]) -> Result<String, RowsFault> {
+    let mut text = String::new(alloc);
+    for (place, line) in lines.iter().enumerate() {
+        if place > 0 {
+            text.push('\n')?;
+        }
+        text.push_str(line.as_str())?;
+    }
+    Ok(text)
+}
+
+/// Returns a reply as its status and its body, if its bytes are the first of those that have come and
+/// end in its body.
+fn show_reply(alloc: Global, reply: &Response, come: &[u8]) -> Result<String, RowsFault> {
+    if !come.starts_with(reply.bytes()) || !reply.bytes().ends_with(reply.body()) {
+        return Ok(String::from_str(alloc, "other bytes")?);
+    }
+    let status = reply.status();
+    let length = reply.body().len();
+    if length == 0 {
+        return Ok(format!(in alloc; "{status}")?);
+    }
+    if length > SHOWN {
+        return Ok(format!(in alloc; "{status} {length} bytes")?);
+    }
+    let body = spell(alloc, reply.body())?;
+    let body = body.as_str();
+    Ok(format!(in alloc; "{status} {body}")?)
+}
+
+/// Returns the name of a fault.
+fn name_of(fault: HttpFault) -> &'static str {
+    match fault {
+        HttpFault::Syntax => "Syntax",
+        HttpFault::Encoding => "Encoding",
+        HttpFault::TooLarge => "TooLarge",
+        HttpFault::Memory => "Memory",
+        HttpFault::Closed => CLOSED,
+    }
+}
+
+impl Kind for Received {
+    fn joint(&self) -> Joint {
+        Joint::LineFeed
+    }
+
+    fn answer(&mut self, question: &[u8]) -> Result<Vec<u8>, RowsFault> {
+        match pieces_of(self.alloc, text_of(question))? {
+            Some(pieces) => answer(self.alloc, self.play_all(&pieces)?.as_str()),
+            None => answer(self.alloc, "a backslash that begins no escape"),
+        }
+    }
+}

@@ -1,0 +1,197 @@
+use crate::streams::Streams;
+use crate::texts::{answer, first_word, spell, text_of};
+use couch_http::{Cut, Cutter, Ending, Header, HttpFault, Request, request_bytes};
+use http::Method;
+use http::method::MethodError;
+use rows::{Joint, Kind, RowsFault, unescape};
+use std::alloc::Global;
+use std::str;
+
+/// `METHOD TARGET`, or `METHOD TARGET last`; the headers, one a line, as `NAME: VALUE`; and behind an
+/// empty line the body. Each part may have escapes, and the first `?` parts the target.
+/// The answer is the bytes that are sent, and below them `same` where a `Cutter` reads this very
+/// request back, with the two headers that are added, else what it reads, as in `.stream`.
+#[derive(Drop)]
+pub struct Sent {
+    pub alloc: Global,
+}
+
+impl Sent {
+    /// Tells the bytes of a request, and what is read back of them.
+    fn tell(&self, request: &Request) -> Result<String, RowsFault> {
+        let bytes = request_bytes(self.alloc, request)?;
+        let mut text = spell(self.alloc, &bytes)?;
+        text.push('\n')?;
+        text.push_str(self.read_back(request, bytes)?.as_str())?;
+        Ok(text)
+    }
+
+    /// Tells what is read back of the bytes of a request.
+    fn read_back(&self, request: &Request, bytes: Vec<u8>) -> Result<String, RowsFault> {
+        let mut cutter = Cutter::new(self.alloc);
+        match cutter.feed(&bytes) {
+            Ok(cut) if is_alone(self.alloc, request, &cut)? => {
+                Ok(String::from_str(self.alloc, "same")?)
+            }
+            Err(HttpFault::Memory) => Err(RowsFault::Memory),
+            _ => {
+                let mut pieces = Vec::new(self.alloc);
+                pieces.push(bytes)?;
+                Streams { alloc: self.alloc }.play_both(&pieces)
+            }
+        }
+    }
+}
+
+/// Tells whether a request was read back, and nothing else.
+fn is_alone(alloc: Global, request: &Request, cut: &Cut) -> Result<bool, RowsFault> {
+    let ending = if request.last {
+        Ending::Last
+    } else {
+        Ending::Open
+    };
+    match cut.requests.as_slice() {
+        [read] => Ok(cut.ending == ending && is_same(alloc, request, read)?),
+        _ => Ok(false),
+    }
+}
+
+/// Tells whether a request is another, with the two headers that are added.
+fn is_same(alloc: Global, request: &Request, read: &Request) -> Result<bool, RowsFault> {
+    Ok(
+        request.method.as_str() == read.method.as_str()
+            && request.path.as_str() == read.path.as_str()
+            && is_same_query(&request.query, &read.query)
+            && has_both_added(alloc, request, &read.headers)?
+            && request.body.as_slice() == read.body.as_slice()
+            && request.last == read.last,
+    )
+}
+
+/// Tells whether both have no query, or the same.
+fn is_same_query(query: &Option<String>, read: &Option<String>) -> bool {
+    match (query, read) {
+        (Some(query), Some(read)) => query.as_str() == read.as_str(),
+        (None, None) => true,
+        _ => false,
+    }
+}
+
+/// Tells whether these are `Host`, the headers of a request, and `Content-Length`.
+fn has_both_added(alloc: Global, request: &Request, read: &[Header]) -> Result<bool, RowsFault> {
+    let [host, others @ .., length] = read else {
+        return Ok(false);
+    };
+    let size = request.body.len();
+    let digits = format!(in alloc; "{size}")?;
+    Ok(
+        is_header(host, b"Host", b"couchd")
+            && are_same_headers(&request.headers, others)
+            && is_header(length, b"Content-Length", digits.as_str().as_bytes()),
+    )
+}
+
+/// Tells whether headers are others, in their order.
+fn are_same_headers(headers: &[Header], read: &[Header]) -> bool {
+    headers.len() == read.len()
+        && headers.iter().zip(read).all(|(header, other)| is_header(
+            other,
+            &header.name,
+            &header.value,
+        ))
+}
+
+/// Tells whether a header has this name and this value.
+fn is_header(header: &Header, name: &[u8], value: &[u8]) -> bool {
+    header.name.as_slice() == name && header.value.as_slice() == value
+}
+
+/// Returns the request of a question, if it is one.
+fn request_of(alloc: Global, question: &str) -> Result<Option<Request>, RowsFault> {
+    let (head, body) = question.split_once("\n\n").unwrap_or((question, ""));
+    let (line, lines) = head.split_once('\n').unwrap_or((head, ""));
+    let (method, rest) = first_word(line);
+    let (target, last) = first_word(rest);
+    let (path, query) = match target.split_once('?') {
+        Some((path, query)) => (path, Some(query)),
+        None => (target, None),
+    };
+    let method = method_of(alloc, method)?;
+    let path = unescape_text(alloc, path)?;
+    let query = match query {
+        Some(query) => unescape_text(alloc, query)?.map(Some),
+        None => Some(None),
+    };
+    let headers = headers_of(alloc, lines)?;
+    let body = unescape(alloc, body.as_bytes())?;
+    match (method, path, query, headers, body) {
+        (Some(method), Some(path), Some(query), Some(headers), Some(body)) => Ok(Some(Request {
+            method,
+            path,
+            query,
+            headers,
+            body,
+            last: last == "last",
+        })),
+        _ => Ok(None),
+    }
+}
+
+/// Returns the method of this name, if it is one.
+fn method_of(alloc: Global, name: &str) -> Result<Option<Method>, RowsFault> {
+    match Method::from_bytes(alloc, name.as_bytes()) {
+        Ok(method) => Ok(Some(method)),
+        Err(MethodError::OutOfMemory) => Err(RowsFault::Memory),
+        Err(MethodError::Invalid) => Ok(None),
+    }
+}
+
+/// Returns the text that a text with escapes spells, if it is one.
+fn unescape_text(alloc: Global, text: &str) -> Result<Option<String>, RowsFault> {
+    let Some(bytes) = unescape(alloc, text.as_bytes())? else {
+        return Ok(None);
+    };
+    match str::from_utf8(&bytes) {
+        Ok(text) => Ok(Some(String::from_str(alloc, text)?)),
+        Err(_) => Ok(None),
+    }
+}
+
+/// Returns the headers of lines, if each is one.
+fn headers_of(alloc: Global, lines: &str) -> Result<Option<Vec<Header>>, RowsFault> {
+    let mut headers = Vec::new(alloc);
+    for line in lines.lines() {
+        match header_of(alloc, line)? {
+            Some(header) => headers.push(header)?,
+            None => return Ok(None),
+        }
+    }
+    Ok(Some(headers))
+}
+
+/// Returns the header of a line: what stands before and behind its first `:` and a space.
+fn header_of(alloc: Global, line: &str) -> Result<Option<Header>, RowsFault> {
+    let Some((name, value)) = line.split_once(':') else {
+        return Ok(None);
+    };
+    let value = value.strip_prefix(' ').unwrap_or(value);
+    let name = unescape(alloc, name.as_bytes())?;
+    let value = unescape(alloc, value.as_bytes())?;
+    match (name, value) {
+        (Some(name), Some(value)) => Ok(Some(Header { name, value })),
+        _ => Ok(None),
+    }
+}
+
+impl Kind for Sent {
+    fn joint(&self) -> Joint {
+        Joint::LineFeed
+    }
+
+    fn answer(&mut self, question: &[u8]) -> Result<Vec<u8>, RowsFault> {
+        match request_of(self.alloc, text_of(question))? {
+            Some(request) => answer(self.alloc, self.tell(&request)?.as_str()),
+            None => answer(self.alloc, "no request"),
+        }
+    }
+}
