@@ -3,3 +3,5 @@ pub mod PushedTexts
 pub mod ShapeLemmas
 pub mod SessionLemmas
 pub mod PendingLemmas
+pub mod Segments
+pub mod IndexLemmas

@@ -1,9 +1,14 @@
 -- How names and ids stand in the path of a request.
 -- RFC 3986, section 2.1 (percent-encoding) and section 2.3 (unreserved characters); CouchDB manual, api/ddoc/common, for design documents.
-use Rattle.std.specs.Prelude.{ℕ, List, ◌++◌, drop, nat_eq, if◌then◌else◌, codes}
+use Rattle.std.specs.Prelude.{ℕ, Bool, ◌==◌, ◌||◌, List, ◌++◌, drop, nat_eq, if◌then◌else◌, codes}
+use Rattle.std.specs.Char.{is_ascii_alphanumeric}
 use Rattle.std.specs.List.{starts_with}
 use Rattle.percent_encoding.specs.Percent.{percent_encode}
 use Rattle.percent_encoding.specs.declared.ascii_set.AsciiSet.{AsciiSet}
+
+-- a letter, a digit, `-`, `.`, `_` or `~`
+abbrev pub is_unreserved : ℕ → Bool
+is_unreserved b = is_ascii_alphanumeric b || b == 45 || b == 46 || b == 95 || b == 126
 
 -- the ASCII bytes that are reserved: all but letters, digits, `-`, `.`, `_` and `~`; bit b stands for the byte b
 abbrev pub reserved : AsciiSet

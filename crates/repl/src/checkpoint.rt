@@ -1,13 +1,14 @@
 //! What a side remembers of the passes that ended there (CouchDB manual, replication/protocol).
 
-ghost use Rattle.std.specs.Prelude.{◌≡◌, ◌++◌, ◌∷◌, map, IfOk, OnOk, option_map, string_bytes, codes};
+ghost use Rattle.std.specs.Prelude.{◌≡◌, ◌++◌, [], ◌∷◌, ℕ, List, map, IfOk, OnOk, option_map, string_bytes, codes};
+ghost use Rattle.std.specs.Option.{option_or};
 ghost use Rattle.hex.specs.Hex.{encode_lower};
 ghost use Rattle.md5.specs.Md5.{md5};
 ghost use Rattle.couch_json.specs.Canonical.{canonical};
 ghost use Rattle.couch_json.specs.View.{items_view, members_view, view};
 ghost use Rattle.repl.specs.Checkpoints.{checkpoint_id, checkpoint_in, common_sequence, history_of, name_or_null, next_checkpoint, next_history, others_of, replication_value, sequence_of, session_in, session_value, start_from, start_of, with_revision};
 ghost use Rattle.repl.specs.Configuration.{account_of, configuration_of};
-ghost use Rattle.repl.specs.Kept.{checkpoint_of, session_of};
+ghost use Rattle.repl.specs.Kept.{checkpoint_of, sequence_at, session_of};
 ghost use Rattle.repl.specs.Shapes.{count_at, each_in, list_at, list_in, text_at};
 
 use crate::config::{Config, User};
@@ -99,50 +100,75 @@ fn session_in(alloc: Global, value: &Json) -> Got<Option<KeptSession>>
 }
 
 /// Finds the sequence after which a pass begins.
-pub fn start_of(source: &Option<KeptCheckpoint>, target: &Option<KeptCheckpoint>) -> Count
-    ensures { result.value ≡ start_of (option_map checkpoint_of source.now) (option_map checkpoint_of target.now) }
+pub fn start_of(
+    alloc: Global,
+    source: &Option<KeptCheckpoint>,
+    target: &Option<KeptCheckpoint>,
+) -> Got<Count>
+    ensures { IfOk result (λ start. start.value ≡ start_of (option_map checkpoint_of source.now) (option_map checkpoint_of target.now)) }
 {
     match source {
         Some(source) => match target {
-            Some(target) => start_from(source, target),
-            None => Count::ZERO,
+            Some(target) => start_from(alloc, source, target),
+            None => Ok(Count::ZERO),
         },
-        None => Count::ZERO,
+        None => Ok(Count::ZERO),
     }
 }
 
 /// Finds the start from two checkpoints.
-fn start_from(source: &KeptCheckpoint, target: &KeptCheckpoint) -> Count
-    ensures { result.value ≡ start_from (checkpoint_of source.now) (checkpoint_of target.now) }
+fn start_from(alloc: Global, source: &KeptCheckpoint, target: &KeptCheckpoint) -> Got<Count>
+    ensures { IfOk result (λ start. start.value ≡ start_from (checkpoint_of source.now) (checkpoint_of target.now)) }
 {
     if source.session.as_str() == target.session.as_str() {
-        return source.sequence.smaller(target.sequence);
+        return Ok(source.sequence.smaller(target.sequence));
     }
-    common_sequence(&source.history, &target.history)
+    common_sequence(alloc, &source.history, &target.history)
 }
 
 /// Finds the smaller sequence of the first of the source's sessions that the target has too.
-fn common_sequence(source: &[KeptSession], target: &[KeptSession]) -> Count
-    ensures { result.value ≡ common_sequence (map session_of source.now) (map session_of target.now) }
+fn common_sequence(alloc: Global, source: &[KeptSession], target: &[KeptSession]) -> Got<Count>
+    ensures { IfOk result (λ common. common.value ≡ common_sequence (map session_of source.now) (map session_of target.now)) }
 {
+    let index = index_sessions(alloc, target)?;
     for session in source {
-        if let Some(sequence) = sequence_of(session.session.as_str(), target) {
-            return session.sequence.smaller(sequence);
+        if let Some(sequence) = sequence_at(&index, session.session.as_str()) {
+            return Ok(session.sequence.smaller(sequence));
         }
     }
-    Count::ZERO
+    Ok(Count::ZERO)
 }
 
-/// Finds the sequence of the first of these sessions that has this name.
-fn sequence_of(name: &str, sessions: &[KeptSession]) -> Option<Count>
-    ensures { option_map (λ c. c.value) result ≡ sequence_of name.now (map session_of sessions.now) }
+/// Returns the sequence that an index has for a session.
+fn sequence_at(index: &BTreeMap<String, Count>, name: &str) -> Option<Count>
+    ensures { option_map (λ c. c.value) result ≡ sequence_at index.now name.now }
 {
+    index.get(name).copied()
+}
+
+/// Makes an index of sessions: for each name the sequence of the first one.
+fn index_sessions(alloc: Global, sessions: &[KeptSession]) -> Got<BTreeMap<String, Count>>
+    ensures { IfOk result (λ index. (name : List ℕ) → sequence_at index name ≡ sequence_of name (map session_of sessions.now)) }
+{
+    let mut index = BTreeMap::new(alloc);
     for session in sessions {
-        if session.session.as_str() == name {
-            return Some(session.sequence);
+        add_session(&mut index, session)?;
+    }
+    Ok(index)
+}
+
+/// Adds a session to an index, unless one of its name is there.
+fn add_session(index: &mut BTreeMap<String, Count>, session: &KeptSession) -> Got<()>
+    ensures { OnOk result ((name : List ℕ) → sequence_at index.new name
+        ≡ option_or (sequence_at index.old name) (sequence_of name (session_of session.now ∷ []))) }
+{
+    match sequence_at(index, session.session.as_str()) {
+        Some(_) => Ok(()),
+        None => {
+            drop(index.insert(session.session.clone()?, session.sequence)?);
+            Ok(())
         }
     }
-    None
 }
 
 /// Makes the checkpoint that a session writes.

@@ -7,6 +7,7 @@ mod calls;
 mod checkpoint;
 mod config;
 mod count;
+pub mod laws;
 mod members;
 mod opened;
 mod opened_parts;

@@ -234,7 +234,7 @@ impl Replication {
     {
         match checkpoint_read(self.alloc, status, body)? {
             Ok(found) => {
-                self.since = start_of(&self.older, &found.checkpoint);
+                self.since = start_of(self.alloc, &self.older, &found.checkpoint)?;
                 self.target_revision = found.revision;
                 self.phase = Phase::ListChanges;
                 Ok(())
