@@ -1,5 +1,5 @@
 -- The text of the body that pushes documents.
-use Rattle.std.proofs.Common.{◌≡◌, ℕ, List, [], ◌∷◌, ◌++◌, codes, ap, append_assoc, ◌∙◌}
+use Rattle.std.proofs.Common.{◌≡◌, ℕ, List, ◌++◌, codes, ap, append_assoc, ◌∙◌}
 use Rattle.std.specs.List.{join_with_byte}
 use Rattle.json.specs.Print.{escape_byte}
 use Rattle.couch_json.specs.Canonical.{canonical, items_texts}

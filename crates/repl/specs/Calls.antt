@@ -1,7 +1,7 @@
 -- The calls of a pass, and the requests that they are.
 -- CouchDB manual, replication/protocol, and the pages of the calls: api/local, api/database/changes, api/database/misc
 -- (`_revs_diff`), api/document/common (`open_revs`) and api/database/bulk-api.
-use Rattle.std.specs.Prelude.{ℕ, Bool, false, List, [], ◌∷◌, ◌++◌, map, codes, Option, Some, None}
+use Rattle.std.specs.Prelude.{ℕ, false, List, [], ◌∷◌, ◌++◌, map, codes, Option, Some, None}
 use Rattle.std.specs.Fmt.{decimal}
 use Rattle.std.specs.List.{join_with_byte}
 use Rattle.couch_json.specs.Canonical.{canonical}

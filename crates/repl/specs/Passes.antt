@@ -1,6 +1,6 @@
 -- A pass of replication: what it asks, and what each reply makes of it.
 -- CouchDB manual, replication/protocol. How losses are counted, and that a checkpoint whose write was lost is read again, are this project's own.
-use Rattle.std.specs.Prelude.{ℕ, ◌+◌, ◌==◌, ◌&&◌, Bool, true, false, min, nat_le, List, [], ◌∷◌, ◌++◌, length, drop, pos, Option, Some, None, Result, Ok, Err, bytes_eq, if◌then◌else◌, codes}
+use Rattle.std.specs.Prelude.{ℕ, ◌+◌, ◌==◌, ◌&&◌, Bool, false, min, nat_le, List, [], ◌∷◌, ◌++◌, length, drop, pos, Option, Some, None, Result, Ok, Err, bytes_eq, if◌then◌else◌, codes}
 use Rattle.couch_json.specs.Value.{Value, whole, array, object, no_members, put}
 use Rattle.couch_json.specs.View.{items_of}
 use Rattle.couch_http.specs.Message.{Message}

@@ -1,14 +1,14 @@
 -- What the reply to each call says: one function for each, over its status and the bytes of its body.
 -- CouchDB manual, api/local, api/database/changes, api/database/misc (`_revs_diff`), api/document/common (`open_revs`) and
 -- api/database/bulk-api. Members that are not named here are not looked at, but in the elements of `open_revs`.
-use Rattle.std.specs.Prelude.{ℕ, Bool, true, false, ◌==◌, ◌&&◌, not, List, [], ◌∷◌, map, Option, Some, None, option_map, option_and_then, unwrap_or, Result, Ok, Err, bytes_eq, is_some, if◌then◌else◌, codes}
+use Rattle.std.specs.Prelude.{ℕ, Bool, true, false, ◌==◌, ◌&&◌, List, [], ◌∷◌, Option, Some, None, option_map, option_and_then, unwrap_or, Result, Ok, Err, bytes_eq, is_some, if◌then◌else◌, codes}
 use Rattle.couch_json.specs.Parts.{has_only, is_object, is_there_and, members_in, text_in}
 use Rattle.couch_json.specs.Reading.{reading}
 use Rattle.couch_json.specs.Value.{Value, null, truth, whole, text, array, object, Members, no_members, member, member_of, put}
 use Rattle.couch_json.specs.declared.fault.JsonFault.{JsonFault}
 use Rattle.repl.specs.Calls.{Revisions}
 use Rattle.repl.specs.Checkpoints.{Checkpoint, checkpoint_in}
-use Rattle.repl.specs.Shapes.{before, count_at, list_at, list_in, text_at, texts_at}
+use Rattle.repl.specs.Shapes.{count_at, list_at, list_in, text_at, texts_at}
 use Rattle.repl.specs.declared.why.Why.{Why}
 use Rattle.repl.specs.declared.why.Why.TheVariants.{Status, Reply}
 

@@ -1,4 +1,4 @@
-use Rattle.std.proofs.Common.{◌≡◌, Some, None, ap, sym, ◌∙◌, option_map, bytes_eq, string_bytes, rules}
+use Rattle.std.proofs.Common.{◌≡◌, None, ap, ◌∙◌, option_map, bytes_eq, string_bytes, rules}
 use Rattle.std.proofs.lemmas.Map.Text.{btree_map_updates_text}
 use Rattle.std.specs.BTreeMap.{get_by_text}
 use Rattle.repl.specs.Kept.{sequence_at}
