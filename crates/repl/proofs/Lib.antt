@@ -1,0 +1,7 @@
+pub mod Joins
+pub mod PushedTexts
+pub mod ShapeLemmas
+pub mod SessionLemmas
+pub mod PendingLemmas
+pub mod Segments
+pub mod IndexLemmas

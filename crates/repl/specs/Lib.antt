@@ -1,0 +1,12 @@
+pub mod Configuration
+pub mod Calls
+pub mod Spelling
+pub mod Joined
+pub mod Listed
+pub mod Shapes
+pub mod Checkpoints
+pub mod Kept
+pub mod Replies
+pub mod Taken
+pub mod Passes
+pub mod Asks

@@ -1,0 +1,269 @@
+-- A pass of replication: what it asks, and what each reply makes of it.
+-- CouchDB manual, replication/protocol. How losses are counted, and that a checkpoint whose write was lost is read again, are this project's own.
+use Rattle.std.specs.Prelude.{ℕ, ◌+◌, ◌==◌, ◌&&◌, Bool, false, min, nat_le, List, [], ◌∷◌, ◌++◌, length, drop, pos, Option, Some, None, Result, Ok, Err, bytes_eq, if◌then◌else◌, codes}
+use Rattle.couch_json.specs.Value.{Value, whole, array, object, no_members, put}
+use Rattle.couch_json.specs.View.{items_of}
+use Rattle.couch_http.specs.Message.{Message}
+use Rattle.repl.specs.Calls.{Call, Revisions, read_checkpoint, write_checkpoint, list_changes, compare_revisions, open_revisions, push_documents, request_of}
+use Rattle.repl.specs.Checkpoints.{Checkpoint, checkpoint_id, history_of, next_checkpoint, start_of}
+use Rattle.repl.specs.Configuration.{Configuration}
+use Rattle.repl.specs.Replies.{Changes, Opened, Stored, changes_listed, checkpoint_read, checkpoint_written, differences_read, documents_of, documents_pushed, missing_reports, revisions_opened}
+use Rattle.repl.specs.Shapes.{greatest_count}
+use Rattle.repl.specs.declared.phase.Phase.{Phase}
+use Rattle.repl.specs.declared.phase.Phase.TheVariants.{ReadSource, ReadTarget, ListChanges, Compare, Open, Push, WriteSource, WriteTarget, RereadSource, RereadTarget, Done, Stopped}
+use Rattle.repl.specs.declared.side.Side.{Side}
+use Rattle.repl.specs.declared.side.Side.TheVariants.{Source, Target}
+use Rattle.repl.specs.declared.why.Why.{Why}
+use Rattle.repl.specs.declared.why.Why.TheVariants.{Lost}
+
+-- where a pass stands
+pub record Pass : Type 0 where
+  pub configuration : Configuration
+  pub phase : Phase
+  -- the checkpoint that the source had when the pass began, and the revisions of the two documents as last seen
+  pub older : Option Checkpoint
+  pub source_revision : Option (List ℕ)
+  pub target_revision : Option (List ℕ)
+  -- the sequence after which changes are listed; and the start and the end that are reported, 0 before they are known
+  pub since : ℕ
+  pub start_seq : ℕ
+  pub last_seq : ℕ
+  -- the leaves listed; of those that are missing at the target, the ones that aren't open yet; and the documents that came
+  pub leaves : List Revisions
+  pub pending : List Revisions
+  pub documents : List Value
+  -- how many documents were pushed, what is reported of the others, and how many replies were lost
+  pub sent : ℕ
+  pub refused : List Value
+  pub losses : ℕ
+
+-- a pass that has asked nothing
+abbrev pub first_pass : Configuration → Pass
+first_pass c = record {
+  configuration = c;
+  phase = ReadSource;
+  older = None;
+  source_revision = None;
+  target_revision = None;
+  since = 0;
+  start_seq = 0;
+  last_seq = 0;
+  leaves = [];
+  pending = [];
+  documents = [];
+  sent = 0;
+  refused = [];
+  losses = 0;
+}
+
+-- ---- what is asked
+
+-- a call to a side, or nothing any more
+pub data Step : Type 0 where
+  called : Side → Call → Step
+  finished : Step
+  stopped : Why → Step
+
+-- the first of the documents that are to be opened
+abbrev pub first_of_pending : List Revisions → Revisions
+first_of_pending [] = record { id = []; revisions = [] }
+first_of_pending (r ∷ rs) = r
+
+-- the checkpoint of the pass, in place of the revision last seen on a side
+abbrev pub checkpoint_after : Pass → Option (List ℕ) → Value
+checkpoint_after p revision = next_checkpoint p.configuration.session p.last_seq (history_of p.older) revision
+
+-- what a pass asks in a phase
+abbrev pub step_in : Phase → Pass → Step
+step_in ReadSource p = called Source (read_checkpoint (checkpoint_id p.configuration))
+step_in ReadTarget p = called Target (read_checkpoint (checkpoint_id p.configuration))
+step_in ListChanges p = called Source (list_changes p.since)
+step_in Compare p = called Target (compare_revisions p.leaves)
+step_in Open p = called Source (open_revisions (first_of_pending p.pending))
+step_in Push p = called Target (push_documents p.documents)
+step_in WriteSource p = called Source (write_checkpoint (checkpoint_id p.configuration) (checkpoint_after p p.source_revision))
+step_in WriteTarget p = called Target (write_checkpoint (checkpoint_id p.configuration) (checkpoint_after p p.target_revision))
+step_in RereadSource p = called Source (read_checkpoint (checkpoint_id p.configuration))
+step_in RereadTarget p = called Target (read_checkpoint (checkpoint_id p.configuration))
+step_in Done p = finished
+step_in (Stopped why) p = stopped why
+
+abbrev pub step_of : Pass → Step
+step_of p = step_in p.phase p
+
+-- what is reported of a pass
+pub record Summary : Type 0 where
+  pub start_seq : ℕ
+  pub last_seq : ℕ
+  pub sent : ℕ
+  pub refused : List Value
+
+abbrev pub summary_of : Pass → Summary
+summary_of p = record { start_seq = p.start_seq; last_seq = p.last_seq; sent = p.sent; refused = p.refused }
+
+abbrev pub summary_value : Summary → Value
+summary_value s =
+    object (put (codes "start_seq") (whole (pos s.start_seq))
+    (put (codes "sent") (whole (pos s.sent))
+    (put (codes "refused") (array (items_of s.refused))
+    (put (codes "last_seq") (whole (pos s.last_seq)) no_members))))
+
+-- a request to a side, or the report at the end
+pub data Asked : Type 0 where
+  to_source : Message → Asked
+  to_target : Message → Asked
+  done : Summary → Asked
+  stopped_by : Why → Summary → Asked
+
+abbrev pub sent_to : Side → Message → Asked
+sent_to Source m = to_source m
+sent_to Target m = to_target m
+
+abbrev pub asked_by : Pass → Step → Asked
+asked_by p (called side call) = sent_to side (request_of p.configuration side call)
+asked_by p finished = done (summary_of p)
+asked_by p (stopped why) = stopped_by why (summary_of p)
+
+-- what a pass asks
+abbrev pub asked_of : Pass → Asked
+asked_of p = asked_by p (step_of p)
+
+-- ---- what a reply makes of a pass
+
+abbrev pub stopped_at : Pass → Why → Pass
+stopped_at p why = record p { phase = Stopped why }
+
+-- what a reply says is taken in, or the pass stops
+abbrev pub taken : {A : Type 0} → (Pass → A → Pass) → Pass → Result A Why → Pass
+taken take p (Ok a) = take p a
+taken take p (Err why) = stopped_at p why
+
+abbrev pub with_source : Pass → Stored → Pass
+with_source p s = record p { phase = ReadTarget; older = s.checkpoint; source_revision = s.revision }
+
+abbrev pub with_target : Pass → Stored → Pass
+with_target p s = record p { phase = ListChanges; target_revision = s.revision; since = start_of p.older s.checkpoint }
+
+-- where nothing was listed, the pass is done
+abbrev pub phase_after_list : List Revisions → Phase
+phase_after_list [] = Done
+phase_after_list (l ∷ ls) = Compare
+
+abbrev pub with_changes : Pass → Changes → Pass
+with_changes p c = record p {
+  phase = phase_after_list c.leaves;
+  start_seq = p.since;
+  last_seq = c.sequence;
+  leaves = c.leaves;
+}
+
+-- documents that are pending are opened, then those that came are pushed; where none came, the checkpoints follow
+abbrev pub phase_without_pending : List Value → Phase
+phase_without_pending [] = WriteSource
+phase_without_pending (v ∷ vs) = Push
+
+abbrev pub phase_with : List Revisions → List Value → Phase
+phase_with [] documents = phase_without_pending documents
+phase_with (r ∷ rs) documents = Open
+
+abbrev pub with_differences : Pass → List Revisions → Pass
+with_differences p missing = record p { phase = phase_with missing p.documents; leaves = []; pending = missing }
+
+abbrev pub with_opened : Pass → List Opened → Pass
+with_opened p opened = record p {
+  phase = phase_with (drop 1 p.pending) (p.documents ++ documents_of opened);
+  pending = drop 1 p.pending;
+  documents = p.documents ++ documents_of opened;
+  refused = p.refused ++ missing_reports (first_of_pending p.pending).id opened;
+}
+
+abbrev pub with_failures : Pass → List Value → Pass
+with_failures p failures = record p {
+  phase = WriteSource;
+  documents = [];
+  sent = min (p.sent + length p.documents) greatest_count;
+  refused = p.refused ++ failures;
+}
+
+abbrev pub with_source_written : Pass → List ℕ → Pass
+with_source_written p revision = record p { phase = WriteTarget; source_revision = Some revision }
+
+abbrev pub with_target_written : Pass → List ℕ → Pass
+with_target_written p revision = record p { phase = Done; target_revision = Some revision }
+
+-- a checkpoint is that of this pass
+abbrev pub is_written : Pass → Option Checkpoint → Bool
+is_written p None = false
+is_written p (Some c) = bytes_eq c.session p.configuration.session && c.sequence == p.last_seq
+
+abbrev pub with_source_reread : Pass → Stored → Pass
+with_source_reread p s =
+    record p { phase = if is_written p s.checkpoint then WriteTarget else WriteSource; source_revision = s.revision }
+
+abbrev pub with_target_reread : Pass → Stored → Pass
+with_target_reread p s =
+    record p { phase = if is_written p s.checkpoint then Done else WriteTarget; target_revision = s.revision }
+
+-- the pass after a reply to what it asks in a phase
+abbrev pub answered_in : Phase → Pass → ℕ → List ℕ → Pass
+answered_in ReadSource p status body = taken with_source p (checkpoint_read status body)
+answered_in ReadTarget p status body = taken with_target p (checkpoint_read status body)
+answered_in ListChanges p status body = taken with_changes p (changes_listed status body)
+answered_in Compare p status body = taken with_differences p (differences_read p.leaves status body)
+answered_in Open p status body = taken with_opened p (revisions_opened status body)
+answered_in Push p status body = taken with_failures p (documents_pushed status body)
+answered_in WriteSource p status body = taken with_source_written p (checkpoint_written status body)
+answered_in WriteTarget p status body = taken with_target_written p (checkpoint_written status body)
+answered_in RereadSource p status body = taken with_source_reread p (checkpoint_read status body)
+answered_in RereadTarget p status body = taken with_target_reread p (checkpoint_read status body)
+answered_in Done p status body = p
+answered_in (Stopped why) p status body = p
+
+-- the pass after a reply
+abbrev pub answered_of : Pass → ℕ → List ℕ → Pass
+answered_of p status body = answered_in p.phase p status body
+
+-- ---- losses
+
+-- the same is asked again, but after a lost write of a checkpoint it is read
+abbrev pub phase_after_loss : Phase → Phase
+phase_after_loss ReadSource = ReadSource
+phase_after_loss ReadTarget = ReadTarget
+phase_after_loss ListChanges = ListChanges
+phase_after_loss Compare = Compare
+phase_after_loss Open = Open
+phase_after_loss Push = Push
+phase_after_loss WriteSource = RereadSource
+phase_after_loss WriteTarget = RereadTarget
+phase_after_loss RereadSource = RereadSource
+phase_after_loss RereadTarget = RereadTarget
+phase_after_loss Done = Done
+phase_after_loss (Stopped why) = Stopped why
+
+-- how many losses a pass bears
+abbrev pub most_losses : ℕ
+most_losses = 100
+
+-- a pass that goes on counts a loss; one more than it bears stops it
+abbrev pub with_loss : Pass → Pass
+with_loss p =
+    if nat_le most_losses p.losses then stopped_at p Lost
+    else record p { phase = phase_after_loss p.phase; losses = p.losses + 1 }
+
+abbrev pub lost_in : Phase → Pass → Pass
+lost_in ReadSource p = with_loss p
+lost_in ReadTarget p = with_loss p
+lost_in ListChanges p = with_loss p
+lost_in Compare p = with_loss p
+lost_in Open p = with_loss p
+lost_in Push p = with_loss p
+lost_in WriteSource p = with_loss p
+lost_in WriteTarget p = with_loss p
+lost_in RereadSource p = with_loss p
+lost_in RereadTarget p = with_loss p
+lost_in Done p = p
+lost_in (Stopped why) p = p
+
+-- the pass after its request or the reply was lost
+abbrev pub lost_of : Pass → Pass
+lost_of p = lost_in p.phase p

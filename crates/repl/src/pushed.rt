@@ -1,0 +1,117 @@
+//! What the reply to a push says.
+
+ghost use Rattle.std.specs.Prelude.{◌≡◌, IfOk, OnOk, map, option_copied, option_map};
+ghost use Rattle.couch_json.specs.Value.{put};
+ghost use Rattle.couch_json.specs.View.{items_view, members_view, view};
+ghost use Rattle.repl.specs.Replies.{documents_pushed, failure_in, failure_report, label_value, with_rule};
+ghost use Rattle.repl.specs.Shapes.{each_in, list_in};
+ghost use Rattle.repl.specs.Taken.{said_as};
+
+use crate::members::{put_text, text_at};
+use crate::replies::value_in;
+use crate::shapes::{label_at, rule_in};
+use crate::why::Why;
+use couch_json::{Got, Json, put_member};
+use std::alloc::Global;
+use std::collections::BTreeMap;
+
+/// Reads the reply to a push: what is reported of the failures, in order.
+pub fn documents_pushed(alloc: Global, status: u16, body: &[u8]) -> Got<Result<Vec<Json>, Why>>
+    ensures { IfOk result (λ reply. said_as (λ rs. map view rs.items) reply ≡ documents_pushed status body.now) }
+{
+    if status != 201 {
+        return Ok(Err(Why::Status(status)));
+    }
+    match value_in(alloc, body)? {
+        Some(value) => Ok(failures_in(alloc, &value)?.ok_or(Why::Reply)),
+        None => Ok(Err(Why::Reply)),
+    }
+}
+
+/// Reads the failures of a list.
+fn failures_in(alloc: Global, value: &Json) -> Got<Option<Vec<Json>>>
+    ensures { IfOk result (λ reports. option_map (λ rs. map view rs.items) reports ≡ list_in failure_in (view value.now)) }
+{
+    match value.items() {
+        Some(items) => each_failure(alloc, items),
+        None => Ok(None),
+    }
+}
+
+/// Reads failures in order.
+fn each_failure(alloc: Global, values: &[Json]) -> Got<Option<Vec<Json>>>
+    ensures { IfOk result (λ reports. option_map (λ rs. map view rs.items) reports ≡ each_in failure_in (items_view values.now)) }
+{
+    let mut reports = Vec::with_capacity(alloc, values.len())?;
+    for value in values {
+        match failure_in(alloc, value)? {
+            Some(report) => reports.push(report)?,
+            None => return Ok(None),
+        }
+    }
+    Ok(Some(reports))
+}
+
+/// Reads one failure, and makes what is reported of it.
+fn failure_in(alloc: Global, value: &Json) -> Got<Option<Json>>
+    ensures { IfOk result (λ report. option_map view report ≡ failure_in (view value.now)) }
+{
+    let Some(error) = text_at(value, "error") else {
+        return Ok(None);
+    };
+    let Some(id) = label_at(value, "id") else {
+        return Ok(None);
+    };
+    let Some(reason) = text_at(value, "reason") else {
+        return Ok(None);
+    };
+    let Some(rev) = label_at(value, "rev") else {
+        return Ok(None);
+    };
+    let Some(rule) = rule_in(value.member("rule")) else {
+        return Ok(None);
+    };
+    Ok(Some(failure_report(alloc, error, id, reason, rev, rule)?))
+}
+
+/// Makes what is reported of a document that could not be written.
+fn failure_report(
+    alloc: Global,
+    error: &str,
+    id: Option<&str>,
+    reason: &str,
+    rev: Option<&str>,
+    rule: Option<&str>,
+) -> Got<Json>
+    ensures { IfOk result (λ report. view report
+        ≡ failure_report error.now (option_copied id.entry) reason.now (option_copied rev.entry) (option_copied rule.entry)) }
+{
+    let mut members = BTreeMap::new(alloc);
+    put_text(alloc, &mut members, "error", error)?;
+    put_member(alloc, &mut members, "id", label_value(alloc, id)?)?;
+    put_text(alloc, &mut members, "reason", reason)?;
+    put_member(alloc, &mut members, "rev", label_value(alloc, rev)?)?;
+    put_rule(alloc, &mut members, rule)?;
+    Ok(Json::Object(members))
+}
+
+/// Makes a text a value, and null where there is none.
+fn label_value(alloc: Global, label: Option<&str>) -> Got<Json>
+    ensures { IfOk result (λ value. view value ≡ label_value (option_copied label.entry)) }
+{
+    match label {
+        Some(label) => Ok(Json::Text(String::from_str(alloc, label)?)),
+        None => Ok(Json::Null),
+    }
+}
+
+/// Puts the rule, if there is one.
+fn put_rule(alloc: Global, members: &mut BTreeMap<String, Json>, rule: Option<&str>) -> Got<()>
+    ensures { OnOk result (members_view members.new.entries
+        ≡ with_rule (option_copied rule.entry) (members_view members.old.entries)) }
+{
+    match rule {
+        Some(rule) => put_text(alloc, members, "rule", rule),
+        None => Ok(()),
+    }
+}

@@ -1,0 +1,85 @@
+ghost use Rattle.std.specs.Prelude.{◌≡◌, ◌<◌, ◌^◌, pos, IfOk, map};
+ghost use Rattle.couch_json.specs.Value.{whole as whole_value};
+ghost use Rattle.couch_json.specs.View.{view};
+
+use crate::count::Count;
+use couch_json::{Got, Json, Number, put_member};
+use std::alloc::Global;
+use std::collections::BTreeMap;
+
+/// Says what a pass did.
+#[derive(Debug, Drop)]
+pub struct Report {
+    /// The sequence of the source after which the pass began; 0 before the changes are listed.
+    pub start_seq: u64,
+    /// The sequence of the source up to which it came; 0 before the changes are listed.
+    pub last_seq: u64,
+    /// How many documents were pushed.
+    pub sent: u64,
+    /// What is said of each document or revision that was not written, in order.
+    pub refused: Vec<Json>,
+    ghost start_in_range: { start_seq < 2 ^ 63 },
+    ghost last_in_range: { last_seq < 2 ^ 63 },
+    ghost sent_in_range: { sent < 2 ^ 63 },
+}
+
+impl Report {
+    ghost use Rattle.repl.specs.Asks.{report_of};
+    ghost use Rattle.repl.specs.Passes.{summary_value};
+
+    /// Makes the report of these numbers, with a copy of what was refused.
+    pub(crate) fn copied(
+        alloc: Global,
+        start_seq: Count,
+        last_seq: Count,
+        sent: Count,
+        refused: &[Json],
+    ) -> Got<Report>
+        ensures { IfOk result (λ r. report_of r ≡ record {
+          start_seq = start_seq.value;
+          last_seq = last_seq.value;
+          sent = sent.value;
+          refused = map view refused.now;
+        }) }
+    {
+        let refused = copy_values(alloc, refused)?;
+        Ok(Report {
+            start_seq: start_seq.value(),
+            last_seq: last_seq.value(),
+            sent: sent.value(),
+            refused,
+        })
+    }
+
+    /// Makes the JSON value of the report: an object of `last_seq`, `refused`, `sent` and `start_seq`.
+    pub fn to_json(&self, alloc: Global) -> Got<Json>
+        ensures { IfOk result (λ v. view v ≡ summary_value (report_of self.now)) }
+    {
+        let refused = Json::Array(copy_values(alloc, &self.refused)?);
+        let mut members = BTreeMap::new(alloc);
+        put_member(alloc, &mut members, "last_seq", whole(self.last_seq))?;
+        put_member(alloc, &mut members, "refused", refused)?;
+        put_member(alloc, &mut members, "sent", whole(self.sent))?;
+        put_member(alloc, &mut members, "start_seq", whole(self.start_seq))?;
+        Ok(Json::Object(members))
+    }
+}
+
+/// Makes the JSON value of a number.
+fn whole(number: u64) -> Json
+    requires { number < 2 ^ 63 }
+    ensures { view result ≡ whole_value (pos number) }
+{
+    Json::Whole(Number::from(number as i64))
+}
+
+/// Copies values in order.
+fn copy_values(alloc: Global, values: &[Json]) -> Got<Vec<Json>>
+    ensures { IfOk result (λ copies. map view copies.items ≡ map view values.now) }
+{
+    let mut copies = Vec::with_capacity(alloc, values.len())?;
+    for value in values {
+        copies.push(value.copy(alloc)?)?;
+    }
+    Ok(copies)
+}

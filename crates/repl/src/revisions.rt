@@ -1,0 +1,8 @@
+/// Revisions of a document.
+#[derive(Debug, Drop)]
+pub struct DocumentRevisions {
+    /// The document's id.
+    pub id: String,
+    /// The revisions, in order.
+    pub revisions: Vec<String>,
+}

@@ -1,0 +1,134 @@
+//! Lists of the shapes in which replies say what they say.
+
+ghost use Rattle.std.specs.Prelude.{◌≡◌, IfOk, map, option_and_then, option_copied, option_map, string_bytes, codes};
+ghost use Rattle.couch_json.specs.Parts.{items_in, text_in};
+ghost use Rattle.couch_json.specs.Value.{member_of};
+ghost use Rattle.couch_json.specs.View.{items_view, view};
+ghost use Rattle.repl.specs.Listed.{revisions_of};
+ghost use Rattle.repl.specs.Replies.{change_in, label_at, label_in, missing_in, revision_in, rule_in};
+ghost use Rattle.repl.specs.Shapes.{each_in, list_at, texts_at};
+
+use crate::members::text_at;
+use crate::revisions::DocumentRevisions;
+use couch_json::{Got, Json};
+use std::alloc::Global;
+
+/// Reads the texts of the list that a member is.
+pub fn texts_at(alloc: Global, value: &Json, name: &str) -> Got<Option<Vec<String>>>
+    ensures { IfOk result (λ texts. option_map (λ ts. map string_bytes ts.items) texts ≡ texts_at name.now (view value.now)) }
+{
+    match items_at(value, name) {
+        Some(items) => texts_in(alloc, items),
+        None => Ok(None),
+    }
+}
+
+/// Returns the elements of the list that a member is.
+pub fn items_at<'a>(value: &'a Json, name: &str) -> Option<&'a [Json]>
+    ensures { option_map (λ items. items_view items.now) result ≡ option_and_then (λ v. items_in v) (member_of (view value.now) name.now) }
+{
+    match value.member(name) {
+        Some(member) => member.items(),
+        None => None,
+    }
+}
+
+/// Reads texts in order.
+fn texts_in(alloc: Global, values: &[Json]) -> Got<Option<Vec<String>>>
+    ensures { IfOk result (λ texts. option_map (λ ts. map string_bytes ts.items) texts ≡ each_in text_in (items_view values.now)) }
+{
+    let mut texts = Vec::with_capacity(alloc, values.len())?;
+    for value in values {
+        match value.text() {
+            Some(text) => texts.push(String::from_str(alloc, text)?)?,
+            None => return Ok(None),
+        }
+    }
+    Ok(Some(texts))
+}
+
+/// Reads changes in order.
+pub fn changes_in(alloc: Global, values: &[Json]) -> Got<Option<Vec<DocumentRevisions>>>
+    ensures { IfOk result (λ changes. option_map (λ cs. map revisions_of cs.items) changes ≡ each_in change_in (items_view values.now)) }
+{
+    let mut changes = Vec::with_capacity(alloc, values.len())?;
+    for value in values {
+        match change_in(alloc, value)? {
+            Some(change) => changes.push(change)?,
+            None => return Ok(None),
+        }
+    }
+    Ok(Some(changes))
+}
+
+/// Reads one change: a document and its leaves.
+fn change_in(alloc: Global, value: &Json) -> Got<Option<DocumentRevisions>>
+    ensures { IfOk result (λ change. option_map revisions_of change ≡ change_in (view value.now)) }
+{
+    let Some(id) = text_at(value, "id") else {
+        return Ok(None);
+    };
+    let Some(revisions) = leaves_in(alloc, value)? else {
+        return Ok(None);
+    };
+    let id = String::from_str(alloc, id)?;
+    Ok(Some(DocumentRevisions { id, revisions }))
+}
+
+/// Reads the leaves of a change.
+fn leaves_in(alloc: Global, value: &Json) -> Got<Option<Vec<String>>>
+    ensures { IfOk result (λ leaves. option_map (λ ls. map string_bytes ls.items) leaves ≡ list_at (codes "changes") revision_in (view value.now)) }
+{
+    match items_at(value, "changes") {
+        Some(items) => revisions_in(alloc, items),
+        None => Ok(None),
+    }
+}
+
+/// Reads revisions in order.
+fn revisions_in(alloc: Global, values: &[Json]) -> Got<Option<Vec<String>>>
+    ensures { IfOk result (λ revisions. option_map (λ rs. map string_bytes rs.items) revisions ≡ each_in revision_in (items_view values.now)) }
+{
+    let mut revisions = Vec::with_capacity(alloc, values.len())?;
+    for value in values {
+        match text_at(value, "rev") {
+            Some(revision) => revisions.push(String::from_str(alloc, revision)?)?,
+            None => return Ok(None),
+        }
+    }
+    Ok(Some(revisions))
+}
+
+/// Returns the text of a member, or `None` inside where null stands for it.
+pub fn label_at<'a>(value: &'a Json, name: &str) -> Option<Option<&'a str>>
+    ensures { option_map option_copied result ≡ label_at name.now (view value.now) }
+{
+    match value.member(name) {
+        Some(member) => label_in(member),
+        None => None,
+    }
+}
+
+/// Returns a text, or `None` inside where null stands for it.
+fn label_in(value: &Json) -> Option<Option<&str>>
+    ensures { option_map option_copied result ≡ label_in (view value.now) }
+{
+    match value {
+        Json::Null => Some(None),
+        Json::Text(text) => Some(Some(text.as_str())),
+        _ => None,
+    }
+}
+
+/// Returns the rule that a failure names, if it names one.
+pub fn rule_in(value: Option<&Json>) -> Option<Option<&str>>
+    ensures { option_map option_copied result ≡ rule_in (option_map (λ v. view v.now) value.entry) }
+{
+    match value {
+        None => Some(None),
+        Some(value) => match value.text() {
+            Some(rule) => Some(Some(rule)),
+            None => None,
+        },
+    }
+}
