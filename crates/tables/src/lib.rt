@@ -1,0 +1,4 @@
+//! The databases as rows of SQLite tables.
+#![tactic(auto)]
+
+mod statement;
