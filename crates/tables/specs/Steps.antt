@@ -1,9 +1,12 @@
 -- What a statement leaves of a connection, whatever it reads or writes.
 -- This server's own words for the states of a connection, which are those of the kit's SQLite.
-use Rattle.std.specs.Prelude.{◌≡◌, ◌≢◌, ◌⊎◌, ℕ, true, false, List, Ok, IsTrue, MatchBool}
+use Rattle.std.specs.Prelude.{◌≡◌, ◌≢◌, ◌⊎◌, ℕ, true, false, List, [], Ok, IsTrue, MatchBool}
 use Rattle.std.specs.List.{AllByRecursion}
 use Rattle.sqlite_value.specs.Order.{Row}
+use Rattle.sqlite_trees.specs.Tree.{Trees}
 use Rattle.sqlite_schema.specs.declared.schema.Schema.{Schema}
+use Rattle.sqlite_schema.specs.declared.schema.Table.{Table}
+use Rattle.sqlite_catalog.specs.Change.{created, next_tree, KeepsRows}
 use Rattle.sqlite.specs.Effect.{Database}
 use Rattle.sqlite.specs.State.{State, HasCleanDisk, Executes, KeepsCommit, Survives}
 
@@ -34,3 +37,9 @@ pub record Changes (tree : ℕ) (now : List Row) (old new : Database) : Type 0 w
   pub schema : new.schema ≡ old.schema
   pub rows : new.trees tree ≡ now
   pub others : AllByRecursion (λ t. t.tree ≢ tree → new.trees t.tree ≡ old.trees t.tree) old.schema.tables
+
+-- the schema has one more table, which is empty, and each other table has the rows that it had
+pub record AddsTable (schema : Schema) (table : Table) (old new : Database) : Type 0 where
+  pub schema_is : new.schema ≡ created schema table
+  pub empty : new.trees (next_tree schema) ≡ []
+  pub others : KeepsRows schema.tables old.trees new.trees
