@@ -1,2 +1,4 @@
 pub mod Schema
 pub mod Steps
+pub mod Rows
+pub mod Layout
