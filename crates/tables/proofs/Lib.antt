@@ -1,2 +1,4 @@
 pub mod Creations
 pub mod Stays
+pub mod Numbered
+pub mod Inserts
