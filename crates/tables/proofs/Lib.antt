@@ -1,4 +1,9 @@
 pub mod Creations
 pub mod Stays
 pub mod Numbered
-pub mod Inserts
+pub mod Writes
+pub mod Queries
+pub mod Cells
+pub mod Single
+pub mod Tables
+pub mod Locals

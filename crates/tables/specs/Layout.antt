@@ -11,8 +11,8 @@ use Rattle.tree.specs.Revision.{Revision, is_revision, text_of}
 use Rattle.tree.specs.declared.entry.Held.{Held}
 use Rattle.store.specs.DatabaseName.{is_database_name}
 use Rattle.store.specs.Lawful.{AreLawful, IsBody}
-use Rattle.sqlite_value.specs.declared.value.Value.TheVariants.{Int}
-use Rattle.sqlite_value.specs.Order.{Row}
+use Rattle.sqlite_value.specs.declared.value.Value.TheVariants.{Int, Blob}
+use Rattle.sqlite_value.specs.Order.{Row, column}
 use Rattle.sqlite_trees.specs.Tree.{Trees, IsAscending, rowid}
 use Rattle.sqlite.specs.Effect as sqlite
 use Rattle.tables.specs.Schema.{schema, meta_tree, dbs_tree, docs_tree, revs_tree, locals_tree}
@@ -21,6 +21,17 @@ use Rattle.tables.specs.Rows.{number_of, db_of, id_of, is_of, count, database_ro
 -- each row has a number, and the numbers rise
 pub record AreNumbered (rows : List Row) : Type 0 where
   pub numbers : AllByRecursion (λ r. rowid r ≡ Int (number_of r)) rows
+  pub rising : IsAscending (λ a b. number_of a <ℤ number_of b) rows
+
+-- a row of a table that names the database first, and then the document
+pub record IsKeyed (r : Row) : Type 0 where
+  pub number : rowid r ≡ Int (number_of r)
+  pub db : column r 1 ≡ Int (db_of r)
+  pub id : column r 2 ≡ Blob (id_of r)
+
+-- each row is so, and the numbers rise
+pub record AreKeyed (rows : List Row) : Type 0 where
+  pub keyed : AllByRecursion IsKeyed rows
   pub rising : IsAscending (λ a b. number_of a <ℤ number_of b) rows
 
 -- some database has this number

@@ -1,6 +1,6 @@
 -- What the rows of the tables say: the databases that they hold, as a function of all rows; a row that is laid out otherwise says something, whatever it is.
 -- The contents are those of `store`; that a known revision is a row is this server's own layout.
-use Rattle.std.specs.Prelude.{ℕ, ◌-◌, ℤ, pos, negsuc, Bool, true, false, ◌&&◌, nat_lt, bytes_eq, if◌then◌else◌, List, [], ◌∷◌, map, filter, find, Option, Some, None, option_map, Result, Ok, Err}
+use Rattle.std.specs.Prelude.{ℕ, ◌-◌, ℤ, pos, negsuc, ◌+ℤ◌, ◌++◌, fold, Bool, true, false, ◌&&◌, nat_lt, bytes_eq, if◌then◌else◌, List, [], ◌∷◌, map, filter, find, Option, Some, None, option_map, Result, Ok, Err}
 use Rattle.std.specs.Ordering.{int_eq}
 use Rattle.std.specs.FinMap.{from_entries}
 use Rattle.couch_json.specs.Canonical.{canonical}
@@ -64,6 +64,14 @@ spelled v = Text (canonical v)
 abbrev pub number_of : Row → ℤ
 number_of r = whole_in (rowid r)
 
+-- one above the last number, and 1 in an empty table
+abbrev pub next_number : List Row → ℤ
+next_number rows = fold (λ _ r. number_of r +ℤ pos 1) (pos 1) rows
+
+-- the rows, with these cells behind them under the next number
+abbrev pub with_cells : List Row → Row → List Row
+with_cells rows cells = rows ++ (Int (next_number rows) ∷ cells) ∷ []
+
 -- the database that a row of a document, a revision or a local document belongs to, and the id
 abbrev pub db_of : Row → ℤ
 db_of r = whole_in (column r 1)
@@ -78,8 +86,11 @@ abbrev pub is_of : ℤ → List ℕ → Row → Bool
 is_of db id r = is_in db r && bytes_eq (id_of r) id
 
 -- databases: the number stands in the place of the rowid
+abbrev pub database_cells : List ℕ → List ℕ → ℕ → Row
+database_cells name security sequence = Null ∷ Blob name ∷ Text security ∷ count sequence ∷ []
+
 abbrev pub database_row : ℤ → List ℕ → List ℕ → ℕ → Row
-database_row num name security sequence = Int num ∷ Null ∷ Blob name ∷ Text security ∷ count sequence ∷ []
+database_row num name security sequence = Int num ∷ database_cells name security sequence
 
 abbrev pub name_of : Row → List ℕ
 name_of r = bytes (column r 2)
@@ -94,8 +105,11 @@ abbrev pub length_of : Row → ℕ
 length_of r = count_in (column r 4)
 
 -- documents: the winner is a text
+abbrev pub document_cells : ℤ → List ℕ → ℕ → List ℕ → Bool → Row
+document_cells db id sequence winner deleted = Int db ∷ Blob id ∷ count sequence ∷ Text winner ∷ flag deleted ∷ []
+
 abbrev pub document_row : ℤ → ℤ → List ℕ → ℕ → List ℕ → Bool → Row
-document_row number db id sequence winner deleted = Int number ∷ Int db ∷ Blob id ∷ count sequence ∷ Text winner ∷ flag deleted ∷ []
+document_row number db id sequence winner deleted = Int number ∷ document_cells db id sequence winner deleted
 
 abbrev pub sequence_of : Row → ℕ
 sequence_of r = count_in (column r 3)
@@ -123,9 +137,12 @@ abbrev pub is_marked : Option Held → Bool
 is_marked None = false
 is_marked (Some held) = held.deleted
 
+abbrev pub revision_cells : ℤ → List ℕ → Revision → Entry → Row
+revision_cells db id r e =
+    Int db ∷ Blob id ∷ count r.number ∷ Text r.hash ∷ parent_cell e.parent ∷ flag (is_held e.held) ∷ flag (is_marked e.held) ∷ body_cell e.held ∷ []
+
 abbrev pub revision_row : ℤ → ℤ → List ℕ → Revision → Entry → Row
-revision_row number db id r e =
-    Int number ∷ Int db ∷ Blob id ∷ count r.number ∷ Text r.hash ∷ parent_cell e.parent ∷ flag (is_held e.held) ∷ flag (is_marked e.held) ∷ body_cell e.held ∷ []
+revision_row number db id r e = Int number ∷ revision_cells db id r e
 
 abbrev pub revision_of : Row → Revision
 revision_of r = record { number = count_in (column r 3); hash = bytes (column r 4) }
@@ -144,8 +161,15 @@ abbrev pub entry_of : Row → Entry
 entry_of r = row_of (parent_in (count_in (column r 3)) (column r 5)) (held_in r)
 
 -- local documents
+abbrev pub local_cells : ℤ → List ℕ → ℕ → List ℕ → Row
+local_cells db id n body = Int db ∷ Blob id ∷ count n ∷ Text body ∷ []
+
 abbrev pub local_row : ℤ → ℤ → List ℕ → ℕ → List ℕ → Row
-local_row number db id n body = Int number ∷ Int db ∷ Blob id ∷ count n ∷ Text body ∷ []
+local_row number db id n body = Int number ∷ local_cells db id n body
+
+-- what a query shows of such a row: the number of the revision, and the text of the body
+abbrev pub shown_local : Row → Row
+shown_local r = column r 3 ∷ column r 4 ∷ []
 
 abbrev pub local_of : Row → LocalDocument
 local_of r = record { number = count_in (column r 3); body = json_in (column r 4) }

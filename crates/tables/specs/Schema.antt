@@ -108,3 +108,19 @@ revs_tree = 6
 
 abbrev pub locals_tree : ℕ
 locals_tree = 8
+
+-- the tables at their places in the schema
+abbrev pub meta_table : Table
+meta_table = record meta { tree = meta_tree }
+
+abbrev pub dbs_table : Table
+dbs_table = record dbs { tree = dbs_tree }
+
+abbrev pub docs_table : Table
+docs_table = record docs { tree = docs_tree }
+
+abbrev pub revs_table : Table
+revs_table = record revs { tree = revs_tree }
+
+abbrev pub locals_table : Table
+locals_table = record locals { tree = locals_tree }

@@ -1,4 +1,4 @@
--- What an INSERT of values makes of its table.
+-- What an INSERT of values, a DELETE and an UPDATE make of their table.
 use Rattle.std.proofs.Common.{◌≡◌, ◌≢◌, ◌⊎◌, inl, inr, ℕ, ◌/◌, List, [], ◌∷◌, ◌++◌, length, drop, ◌-◌, MatchBool, cond, ap₂, ℤ, int_cmp, is_lt, Bool, true, false, None, Some, Option, slice_get, Ok, Err, Result, OnOk, append-nil, refl, sym, ap, subst, ◌∙◌}
 use Rattle.std.specs.List.{AllByRecursion}
 use Rattle.sqlite_value.specs.Order.{Row}
