@@ -6,4 +6,5 @@ pub mod Queries
 pub mod Cells
 pub mod Single
 pub mod Tables
-pub mod Locals
+pub mod Deletes
+pub mod LocalStatements

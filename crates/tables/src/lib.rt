@@ -2,6 +2,7 @@
 #![tactic(auto)]
 
 mod create;
+pub mod locals;
 mod statement;
 
 pub use create::create_tables;
