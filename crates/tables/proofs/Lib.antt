@@ -7,4 +7,7 @@ pub mod Cells
 pub mod Single
 pub mod Tables
 pub mod Deletes
+pub mod Finds
 pub mod LocalStatements
+pub mod DocumentStatements
+pub mod RevisionStatements

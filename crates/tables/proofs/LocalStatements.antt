@@ -1,5 +1,5 @@
 -- What the statements on local documents mean.
-use Rattle.std.proofs.Common.{◌≡◌, ℕ, ℤ, pos, List, [], ◌∷◌, ◌++◌, map, filter, codes, Bool, true, false, not, Ok, Err, Result, OnOk, refl, sym, ap, subst, ◌∙◌}
+use Rattle.std.proofs.Common.{◌≡◌, ℕ, ℤ, pos, List, [], ◌∷◌, ◌++◌, map, filter, codes, Bool, true, false, not, Ok, Err, Result, IfOk, OnOk, IsPermutation, refl, sym, ap, subst, ◌∙◌}
 use Rattle.sqlite_value.specs.declared.value.Value.TheVariants.{Null, Int, Text, Blob}
 use Rattle.sqlite_value.specs.Order.{Row, column}
 use Rattle.sqlite_sql.specs.Term.{Term, lit, col}
@@ -12,13 +12,14 @@ use Rattle.tables.proofs.Cells.{by_db, by_id, cast_null, cast_int, tests_db, tes
 use Rattle.tables.proofs.Queries.{program_on}
 use Rattle.tables.proofs.Writes.{IsCommand, inserts}
 use Rattle.tables.proofs.Deletes.{deletes_where}
+use Rattle.tables.proofs.Finds.{finds_one, finds_where}
 use Rattle.tables.proofs.Numbered.{numbered_from_keyed}
 use Rattle.tables.proofs.Single.{one_row}
-use Rattle.tables.proofs.Tables.{locals_plain}
-use Rattle.tables.specs.Layout.{AreKeyed}
-use Rattle.tables.specs.Rows.{is_in, is_of, local_cells, with_cells}
+use Rattle.tables.proofs.Tables.{locals_plain, locals_keyed, one_of}
+use Rattle.tables.specs.Layout.{AreKeyed, IsStore}
+use Rattle.tables.specs.Rows.{is_in, is_of, shown_local, local_cells, with_cells}
 use Rattle.tables.specs.Steps.{Ran, Changes}
-use Rattle.sqlite.specs.State.{State}
+use Rattle.sqlite.specs.State.{State, Shown}
 use Rattle.sqlite_rules.specs.Cast.{cast_row}
 use Rattle.tables.specs.Schema.{schema, locals_tree, locals_table}
 
@@ -31,9 +32,6 @@ delete_text = codes "DELETE FROM locals WHERE db = ?1 AND id = ?2"
 abbrev pub clear_text : List ℕ
 clear_text = codes "DELETE FROM locals WHERE db = ?1"
 
-abbrev pub find_text : List ℕ
-find_text = codes "SELECT n, body FROM locals WHERE db = ?1 AND id = ?2"
-
 abbrev pub values : List Term
 values = lit Null ∷ col 0 0 ∷ col 0 1 ∷ col 0 2 ∷ col 0 3 ∷ []
 
@@ -42,9 +40,6 @@ delete_program = program_on locals_tree by_id (col 1 0 ∷ []) []
 
 abbrev pub clear_program : Program
 clear_program = program_on locals_tree by_db (col 1 0 ∷ []) []
-
-abbrev pub find_program : Program
-find_program = program_on locals_tree by_id (col 1 3 ∷ col 1 4 ∷ []) []
 
 pub insert_is : IsCommand schema insert_text (Insert 4 (Values values 5))
 unfolding understood everything
@@ -57,14 +52,6 @@ delete_is = record { is = refl; plain = (refl, refl) }
 pub clear_is : IsCommand schema clear_text (Delete 4 clear_program)
 unfolding understood everything
 clear_is = record { is = refl; plain = (refl, refl) }
-
-pub find_is : IsCommand schema find_text (Select find_program (codes "n" ∷ codes "body" ∷ []))
-unfolding understood everything
-find_is = record { is = refl; plain = (refl, refl) }
-
-pub find_unlisted : reads_listing schema find_text ≡ false
-unfolding understood everything
-find_unlisted = refl
 
 cast : (db : ℤ) (id : List ℕ) (n : ℕ) (body : List ℕ) → cast_row locals_table (Null ∷ local_cells db id n body) ≡ Null ∷ local_cells db id n body
 cast db id n body = λ i. cast_null i ∷ cast_int db i ∷ Blob id ∷ cast_int (pos n) i ∷ Text body ∷ []
@@ -86,3 +73,19 @@ module _ {X E : Type 0} (old new : State) (has : old.now.schema ≡ schema) (key
       → OnOk r (Changes locals_tree (filter (λ l. not (is_in db l)) (old.now.trees locals_tree)) old.now new.now)
   clears_locals db r h = deletes_where schema 4 locals_table locals_plain old new has clear_text by_db clear_is (Int db ∷ []) (is_in db) refl
       (numbered_from_keyed _ keyed) (tests_db db _ keyed) r h
+
+abbrev pub find_text : List ℕ
+find_text = codes "SELECT n, body FROM locals WHERE db = ?1 AND id = ?2"
+
+pub find_is : IsCommand schema find_text (Select (program_on locals_tree by_id (col 1 3 ∷ col 1 4 ∷ []) []) (codes "n" ∷ codes "body" ∷ []))
+unfolding understood everything
+find_is = record { is = refl; plain = (refl, refl) }
+
+find_unlisted : reads_listing schema find_text ≡ false
+unfolding understood everything
+find_unlisted = refl
+
+pub finds_local : {X E : Type 0} (old new : State) → IsStore old.now → (db : ℤ) (id : List ℕ) (r : Result X E) (items : X → List Row) → IfOk r (λ x. Shown find_text (Int db ∷ Blob id ∷ []) old new (items x))
+    → IfOk r (λ x. items x ≡ map shown_local (filter (is_of db id) (old.now.trees locals_tree)))
+finds_local old new is db id r items h = finds_one schema old new is.schema_is find_text locals_tree by_id (col 1 3 ∷ col 1 4 ∷ []) (codes "n" ∷ codes "body" ∷ []) find_is find_unlisted (Int db ∷ Blob id ∷ []) (is_of db id) shown_local refl (λ r. refl)
+    (tests_id db id _ (locals_keyed old.now.trees is.laid)) (one_of (old.now.trees locals_tree) is.laid.local_ids_apart db id) r items h

@@ -47,14 +47,14 @@ abbrev pub version_row : Row
 version_row = Int (pos 1) ∷ count 1 ∷ []
 
 pub record IsDatabaseRow (r : Row) : Type 0 where
-  pub is : r ≡ database_row (number_of r) (name_of r) (canonical (security_of r)) (length_of r)
+  pub is : r ≡ database_row (number_of r) (name_of r) (canonical (security_of r)) (pos (length_of r))
   pub named : IsTrue (is_database_name (name_of r))
   pub security : IsTrue (is_security (security_of r))
   pub bounded : length_of r < 2 ^ 63
 
 -- the row of a document of a known database, at its winner
 pub record IsDocumentRow (trees : Trees) (r : Row) : Type 0 where
-  pub is : r ≡ document_row (number_of r) (db_of r) (id_of r) (sequence_of r) (winner_text r) (is_gone r)
+  pub is : r ≡ document_row (number_of r) (db_of r) (id_of r) (pos (sequence_of r)) (winner_text r) (is_gone r)
   pub there : IsDatabaseNumber trees (db_of r)
   pub named : IsTrue (is_document_id (id_of r))
   pub positive : 1 ≤ sequence_of r

@@ -2,3 +2,4 @@ pub mod Schema
 pub mod Steps
 pub mod Rows
 pub mod Layout
+pub mod Calls

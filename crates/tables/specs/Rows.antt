@@ -49,8 +49,7 @@ abbrev pub json_in : Value → json.Value
 json_in v = value_or_null (reading (bytes v))
 
 abbrev pub flag : Bool → Value
-flag true = Int (pos 1)
-flag false = Int (pos 0)
+flag b = Int (if b then pos 1 else pos 0)
 
 abbrev pub count : ℕ → Value
 count n = Int (pos n)
@@ -86,14 +85,21 @@ abbrev pub is_of : ℤ → List ℕ → Row → Bool
 is_of db id r = is_in db r && bytes_eq (id_of r) id
 
 -- databases: the number stands in the place of the rowid
-abbrev pub database_cells : List ℕ → List ℕ → ℕ → Row
-database_cells name security sequence = Null ∷ Blob name ∷ Text security ∷ count sequence ∷ []
+abbrev pub database_cells : List ℕ → List ℕ → ℤ → Row
+database_cells name security sequence = Null ∷ Blob name ∷ Text security ∷ Int sequence ∷ []
 
-abbrev pub database_row : ℤ → List ℕ → List ℕ → ℕ → Row
+abbrev pub database_row : ℤ → List ℕ → List ℕ → ℤ → Row
 database_row num name security sequence = Int num ∷ database_cells name security sequence
 
 abbrev pub name_of : Row → List ℕ
 name_of r = bytes (column r 2)
+
+abbrev pub is_named : List ℕ → Row → Bool
+is_named name r = bytes_eq (name_of r) name
+
+-- what a query shows of such a row: the number, the text of the security object and the sequence
+abbrev pub shown_database : Row → Row
+shown_database r = rowid r ∷ column r 3 ∷ column r 4 ∷ []
 
 abbrev pub security_text : Row → List ℕ
 security_text r = bytes (column r 3)
@@ -105,11 +111,15 @@ abbrev pub length_of : Row → ℕ
 length_of r = count_in (column r 4)
 
 -- documents: the winner is a text
-abbrev pub document_cells : ℤ → List ℕ → ℕ → List ℕ → Bool → Row
-document_cells db id sequence winner deleted = Int db ∷ Blob id ∷ count sequence ∷ Text winner ∷ flag deleted ∷ []
+abbrev pub document_cells : ℤ → List ℕ → ℤ → List ℕ → Bool → Row
+document_cells db id sequence winner deleted = Int db ∷ Blob id ∷ Int sequence ∷ Text winner ∷ flag deleted ∷ []
 
-abbrev pub document_row : ℤ → ℤ → List ℕ → ℕ → List ℕ → Bool → Row
+abbrev pub document_row : ℤ → ℤ → List ℕ → ℤ → List ℕ → Bool → Row
 document_row number db id sequence winner deleted = Int number ∷ document_cells db id sequence winner deleted
+
+-- what a query shows of such a row: the sequence, the winner and whether it is deleted
+abbrev pub shown_document : Row → Row
+shown_document r = column r 3 ∷ column r 4 ∷ column r 5 ∷ []
 
 abbrev pub sequence_of : Row → ℕ
 sequence_of r = count_in (column r 3)
@@ -137,9 +147,18 @@ abbrev pub is_marked : Option Held → Bool
 is_marked None = false
 is_marked (Some held) = held.deleted
 
+-- what a query shows of such a row: all but the database and the id
+abbrev pub shown_revision : Row → Row
+shown_revision r = column r 3 ∷ column r 4 ∷ column r 5 ∷ column r 6 ∷ column r 7 ∷ column r 8 ∷ []
+
+-- the cells as they are handed in: the parent's hash, and the body's text, where they are there
+abbrev pub given_cells : ℤ → List ℕ → ℕ → List ℕ → Value → Bool → Bool → Value → Row
+given_cells db id n hash parent held deleted body =
+    Int db ∷ Blob id ∷ count n ∷ Text hash ∷ parent ∷ flag held ∷ flag deleted ∷ body ∷ []
+
 abbrev pub revision_cells : ℤ → List ℕ → Revision → Entry → Row
 revision_cells db id r e =
-    Int db ∷ Blob id ∷ count r.number ∷ Text r.hash ∷ parent_cell e.parent ∷ flag (is_held e.held) ∷ flag (is_marked e.held) ∷ body_cell e.held ∷ []
+    given_cells db id r.number r.hash (parent_cell e.parent) (is_held e.held) (is_marked e.held) (body_cell e.held)
 
 abbrev pub revision_row : ℤ → ℤ → List ℕ → Revision → Entry → Row
 revision_row number db id r e = Int number ∷ revision_cells db id r e

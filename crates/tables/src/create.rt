@@ -4,7 +4,8 @@ ghost use Rattle.std.specs.Prelude.{◌≡◌, OnOk};
 ghost use Rattle.sqlite.specs.Held.{state};
 ghost use Rattle.sqlite.specs.State.{HasCleanDisk};
 ghost use Rattle.tables.specs.Schema as tables;
-ghost use Rattle.tables.specs.Steps.{AddsTable, Proceeds, StaysInside};
+ghost use Rattle.tables.specs.Calls.{Proceeds, Stays};
+ghost use Rattle.tables.specs.Steps.{AddsTable};
 
 use crate::statement::change;
 use sqlite::{Alter, Error, Transaction};
@@ -14,9 +15,8 @@ fn create_meta<S: Alter>(tx: &mut Transaction<'_, S>) -> Result<(), Error>
     ensures same_reference { tx.new.conn.ghost_name ≡ tx.old.conn.ghost_name }
     ensures ok { HasCleanDisk (state S.Store tx.new.conn.now) → tx.old.conn.now.schema ≡ tables.no_schema
         → OnOk result (AddsTable tables.no_schema tables.meta (state S.Store tx.old.conn.now).now (state S.Store tx.new.conn.now).now) }
-    ensures inside { HasCleanDisk (state S.Store tx.new.conn.now)
-        → OnOk result (StaysInside (state S.Store tx.old.conn.now) (state S.Store tx.new.conn.now)) }
-    ensures proceeds { Proceeds (state S.Store tx.old.conn.now) (state S.Store tx.new.conn.now) }
+    ensures inside { Stays S.Store tx.old.conn.now tx.new.conn.now result }
+    ensures proceeds { Proceeds S.Store tx.old.conn.now tx.new.conn.now }
 {
     change(
         tx,
@@ -30,9 +30,8 @@ fn create_dbs<S: Alter>(tx: &mut Transaction<'_, S>) -> Result<(), Error>
     ensures same_reference { tx.new.conn.ghost_name ≡ tx.old.conn.ghost_name }
     ensures ok { HasCleanDisk (state S.Store tx.new.conn.now) → tx.old.conn.now.schema ≡ tables.schema_1
         → OnOk result (AddsTable tables.schema_1 tables.dbs (state S.Store tx.old.conn.now).now (state S.Store tx.new.conn.now).now) }
-    ensures inside { HasCleanDisk (state S.Store tx.new.conn.now)
-        → OnOk result (StaysInside (state S.Store tx.old.conn.now) (state S.Store tx.new.conn.now)) }
-    ensures proceeds { Proceeds (state S.Store tx.old.conn.now) (state S.Store tx.new.conn.now) }
+    ensures inside { Stays S.Store tx.old.conn.now tx.new.conn.now result }
+    ensures proceeds { Proceeds S.Store tx.old.conn.now tx.new.conn.now }
 {
     change(
         tx,
@@ -46,9 +45,8 @@ fn create_docs<S: Alter>(tx: &mut Transaction<'_, S>) -> Result<(), Error>
     ensures same_reference { tx.new.conn.ghost_name ≡ tx.old.conn.ghost_name }
     ensures ok { HasCleanDisk (state S.Store tx.new.conn.now) → tx.old.conn.now.schema ≡ tables.schema_2
         → OnOk result (AddsTable tables.schema_2 tables.docs (state S.Store tx.old.conn.now).now (state S.Store tx.new.conn.now).now) }
-    ensures inside { HasCleanDisk (state S.Store tx.new.conn.now)
-        → OnOk result (StaysInside (state S.Store tx.old.conn.now) (state S.Store tx.new.conn.now)) }
-    ensures proceeds { Proceeds (state S.Store tx.old.conn.now) (state S.Store tx.new.conn.now) }
+    ensures inside { Stays S.Store tx.old.conn.now tx.new.conn.now result }
+    ensures proceeds { Proceeds S.Store tx.old.conn.now tx.new.conn.now }
 {
     change(
         tx,
@@ -62,9 +60,8 @@ fn create_revs<S: Alter>(tx: &mut Transaction<'_, S>) -> Result<(), Error>
     ensures same_reference { tx.new.conn.ghost_name ≡ tx.old.conn.ghost_name }
     ensures ok { HasCleanDisk (state S.Store tx.new.conn.now) → tx.old.conn.now.schema ≡ tables.schema_3
         → OnOk result (AddsTable tables.schema_3 tables.revs (state S.Store tx.old.conn.now).now (state S.Store tx.new.conn.now).now) }
-    ensures inside { HasCleanDisk (state S.Store tx.new.conn.now)
-        → OnOk result (StaysInside (state S.Store tx.old.conn.now) (state S.Store tx.new.conn.now)) }
-    ensures proceeds { Proceeds (state S.Store tx.old.conn.now) (state S.Store tx.new.conn.now) }
+    ensures inside { Stays S.Store tx.old.conn.now tx.new.conn.now result }
+    ensures proceeds { Proceeds S.Store tx.old.conn.now tx.new.conn.now }
 {
     change(
         tx,
@@ -78,9 +75,8 @@ fn create_locals<S: Alter>(tx: &mut Transaction<'_, S>) -> Result<(), Error>
     ensures same_reference { tx.new.conn.ghost_name ≡ tx.old.conn.ghost_name }
     ensures ok { HasCleanDisk (state S.Store tx.new.conn.now) → tx.old.conn.now.schema ≡ tables.schema_4
         → OnOk result (AddsTable tables.schema_4 tables.locals (state S.Store tx.old.conn.now).now (state S.Store tx.new.conn.now).now) }
-    ensures inside { HasCleanDisk (state S.Store tx.new.conn.now)
-        → OnOk result (StaysInside (state S.Store tx.old.conn.now) (state S.Store tx.new.conn.now)) }
-    ensures proceeds { Proceeds (state S.Store tx.old.conn.now) (state S.Store tx.new.conn.now) }
+    ensures inside { Stays S.Store tx.old.conn.now tx.new.conn.now result }
+    ensures proceeds { Proceeds S.Store tx.old.conn.now tx.new.conn.now }
 {
     change(
         tx,
@@ -92,9 +88,8 @@ fn create_locals<S: Alter>(tx: &mut Transaction<'_, S>) -> Result<(), Error>
 /// Makes all five tables, where there is none.
 pub fn create_tables<S: Alter>(tx: &mut Transaction<'_, S>) -> Result<(), Error>
     ensures same_reference { tx.new.conn.ghost_name ≡ tx.old.conn.ghost_name }
-    ensures inside { HasCleanDisk (state S.Store tx.new.conn.now)
-        → OnOk result (StaysInside (state S.Store tx.old.conn.now) (state S.Store tx.new.conn.now)) }
-    ensures proceeds { Proceeds (state S.Store tx.old.conn.now) (state S.Store tx.new.conn.now) }
+    ensures inside { Stays S.Store tx.old.conn.now tx.new.conn.now result }
+    ensures proceeds { Proceeds S.Store tx.old.conn.now tx.new.conn.now }
 {
     create_meta(tx)?;
     create_dbs(tx)?;

@@ -2,7 +2,9 @@
 #![tactic(auto)]
 
 mod create;
+pub mod documents;
 pub mod locals;
+pub mod revisions;
 mod statement;
 
 pub use create::create_tables;

@@ -1,15 +1,13 @@
 //! The rows of the local documents.
 
-ghost use Rattle.std.specs.Prelude.{◌≡◌, not, filter, OnOk};
-ghost use Rattle.sqlite.specs.Held.{state};
-ghost use Rattle.sqlite.specs.State.{HasCleanDisk};
+ghost use Rattle.std.specs.Prelude.{◌≡◌, not, filter, map};
+ghost use Rattle.tables.specs.Calls.{Alters, Finds, Looks, Proceeds, Stands, Stays};
 ghost use Rattle.tables.specs.Layout.{AreKeyed};
-ghost use Rattle.tables.specs.Rows.{is_in, is_of, local_cells, with_cells};
-ghost use Rattle.tables.specs.Schema.{schema, locals_tree};
-ghost use Rattle.tables.specs.Steps.{Changes, Proceeds, StaysInside};
+ghost use Rattle.tables.specs.Rows.{is_in, is_of, shown_local, local_cells, with_cells};
+ghost use Rattle.tables.specs.Schema.{locals_tree};
 
-use crate::statement::change;
-use sqlite::{Alter, Error, Transaction, params};
+use crate::statement::{change, query};
+use sqlite::{Alter, Connection, Error, Row, Transaction, params};
 
 /// Puts in the row of a local document, behind those that are there.
 pub fn insert_local<S: Alter>(
@@ -20,13 +18,9 @@ pub fn insert_local<S: Alter>(
     body: &str,
 ) -> Result<(), Error>
     ensures same_reference { tx.new.conn.ghost_name ≡ tx.old.conn.ghost_name }
-    ensures ok { HasCleanDisk (state S.Store tx.new.conn.now) → tx.old.conn.now.schema ≡ schema
-        → AreKeyed ((state S.Store tx.old.conn.now).now.trees locals_tree)
-        → OnOk result (Changes locals_tree (with_cells ((state S.Store tx.old.conn.now).now.trees locals_tree) (local_cells db.now id.now number body.now))
-            (state S.Store tx.old.conn.now).now (state S.Store tx.new.conn.now).now) }
-    ensures inside { HasCleanDisk (state S.Store tx.new.conn.now)
-        → OnOk result (StaysInside (state S.Store tx.old.conn.now) (state S.Store tx.new.conn.now)) }
-    ensures proceeds { Proceeds (state S.Store tx.old.conn.now) (state S.Store tx.new.conn.now) }
+    ensures ok { Alters S.Store locals_tree AreKeyed (λ rows. with_cells rows (local_cells db.now id.now number body.now)) tx.old.conn.now tx.new.conn.now result }
+    ensures inside { Stays S.Store tx.old.conn.now tx.new.conn.now result }
+    ensures proceeds { Proceeds S.Store tx.old.conn.now tx.new.conn.now }
 {
     change(
         tx,
@@ -35,20 +29,16 @@ pub fn insert_local<S: Alter>(
     )
 }
 
-/// Takes out the row of a local document, where there is one.
+/// Takes out the row of the local document of this id.
 pub fn delete_local<S: Alter>(
     tx: &mut Transaction<'_, S>,
     db: &i64,
     id: &[u8],
 ) -> Result<(), Error>
     ensures same_reference { tx.new.conn.ghost_name ≡ tx.old.conn.ghost_name }
-    ensures ok { HasCleanDisk (state S.Store tx.new.conn.now) → tx.old.conn.now.schema ≡ schema
-        → AreKeyed ((state S.Store tx.old.conn.now).now.trees locals_tree)
-        → OnOk result (Changes locals_tree (filter (λ r. not (is_of db.now id.now r)) ((state S.Store tx.old.conn.now).now.trees locals_tree))
-            (state S.Store tx.old.conn.now).now (state S.Store tx.new.conn.now).now) }
-    ensures inside { HasCleanDisk (state S.Store tx.new.conn.now)
-        → OnOk result (StaysInside (state S.Store tx.old.conn.now) (state S.Store tx.new.conn.now)) }
-    ensures proceeds { Proceeds (state S.Store tx.old.conn.now) (state S.Store tx.new.conn.now) }
+    ensures ok { Alters S.Store locals_tree AreKeyed (λ rows. filter (λ r. not (is_of db.now id.now r)) rows) tx.old.conn.now tx.new.conn.now result }
+    ensures inside { Stays S.Store tx.old.conn.now tx.new.conn.now result }
+    ensures proceeds { Proceeds S.Store tx.old.conn.now tx.new.conn.now }
 {
     change(
         tx,
@@ -60,13 +50,30 @@ pub fn delete_local<S: Alter>(
 /// Takes out the rows of all local documents of a database.
 pub fn clear_locals<S: Alter>(tx: &mut Transaction<'_, S>, db: &i64) -> Result<(), Error>
     ensures same_reference { tx.new.conn.ghost_name ≡ tx.old.conn.ghost_name }
-    ensures ok { HasCleanDisk (state S.Store tx.new.conn.now) → tx.old.conn.now.schema ≡ schema
-        → AreKeyed ((state S.Store tx.old.conn.now).now.trees locals_tree)
-        → OnOk result (Changes locals_tree (filter (λ r. not (is_in db.now r)) ((state S.Store tx.old.conn.now).now.trees locals_tree))
-            (state S.Store tx.old.conn.now).now (state S.Store tx.new.conn.now).now) }
-    ensures inside { HasCleanDisk (state S.Store tx.new.conn.now)
-        → OnOk result (StaysInside (state S.Store tx.old.conn.now) (state S.Store tx.new.conn.now)) }
-    ensures proceeds { Proceeds (state S.Store tx.old.conn.now) (state S.Store tx.new.conn.now) }
+    ensures ok { Alters S.Store locals_tree AreKeyed (λ rows. filter (λ r. not (is_in db.now r)) rows) tx.old.conn.now tx.new.conn.now result }
+    ensures inside { Stays S.Store tx.old.conn.now tx.new.conn.now result }
+    ensures proceeds { Proceeds S.Store tx.old.conn.now tx.new.conn.now }
 {
-    change(tx, "DELETE FROM locals WHERE db = ?1", params![db])
+    change(
+        tx,
+        "DELETE FROM locals WHERE db = ?1",
+        params![db],
+    )
+}
+
+/// Returns the row of a local document, if there is one: its number and its body.
+pub fn local_rows<S: Alter>(
+    conn: &mut Connection<S>,
+    db: &i64,
+    id: &[u8],
+) -> Result<Vec<Row>, Error>
+    ensures ok { Finds S.Store conn.old conn.new (λ trees rows. rows.items ≡ map shown_local (filter (is_of db.now id.now) (trees locals_tree))) result }
+    ensures stands { Stands S.Store conn.old conn.new result }
+    ensures looks { Looks S.Store conn.old conn.new }
+{
+    query(
+        conn,
+        "SELECT n, body FROM locals WHERE db = ?1 AND id = ?2",
+        params![db, id],
+    )
 }
