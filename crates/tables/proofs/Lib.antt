@@ -11,3 +11,5 @@ pub mod Finds
 pub mod LocalStatements
 pub mod DocumentStatements
 pub mod RevisionStatements
+pub mod Updates
+pub mod DatabaseStatements

@@ -33,7 +33,7 @@ pub next_is : (rows : List Row) → next_rowid rows ≡ next_key number_of rows
 next_is rows = next_same (pos 1) rows
 
 -- a row that is put in comes in by its number
-put_same : (new : Row) (rows : List Row) → AllByRecursion (λ r. rowid r ≡ Int (number_of r)) rows → rowid new ≡ Int (number_of new) → put_row new rows ≡ insert_by number_of rows new
+pub put_same : (new : Row) (rows : List Row) → AllByRecursion (λ r. rowid r ≡ Int (number_of r)) rows → rowid new ≡ Int (number_of new) → put_row new rows ≡ insert_by number_of rows new
 put_same new [] all own = refl
 put_same new (r ∷ rows) all own =
     let tests : value_cmp (rowid r) (rowid new) ≡ int_cmp (number_of r) (number_of new) = ap₂ value_cmp all.0 own ∙ value_cmp-Int (number_of r) (number_of new) in
@@ -87,9 +87,13 @@ without_same rows (id ∷ ids) all =
     ∙ without_same (without_key number_of rows id) ids (all-filter _ _ rows all)
 
 -- to take out the rows that a query found is to keep the others
-pub removes : (p : Row → Bool) (rows found : List Row) → AreNumbered rows → IsPermutation (map (λ r. rowid r ∷ []) (filter p rows)) found → without_all rows (ids_of found) ≡ filter (λ r. not (p r)) rows
-removes p rows found h same =
-    let moved : IsPermutation (ids_of (map (λ r. rowid r ∷ []) (filter p rows))) (ids_of found) = IsPermutation-map (λ r. id_in (rowid r)) _ _ same in
-    let ids : ids_of (map (λ r. rowid r ∷ []) (filter p rows)) ≡ map number_of (filter p rows) =
-    map-map (λ r. id_in (rowid r)) (λ r. rowid r ∷ []) (filter p rows) ∙ map_same _ _ (λ r. same_whole (rowid r)) (filter p rows) in
+pub removes_by : (show : Row → Row) → ((r : Row) → rowid (show r) ≡ rowid r) → (p : Row → Bool) (rows found : List Row) → AreNumbered rows → IsPermutation (map show (filter p rows)) found
+    → without_all rows (ids_of found) ≡ filter (λ r. not (p r)) rows
+removes_by show keeps p rows found h same =
+    let moved : IsPermutation (ids_of (map show (filter p rows))) (ids_of found) = IsPermutation-map (λ r. id_in (rowid r)) _ _ same in
+    let ids : ids_of (map show (filter p rows)) ≡ map number_of (filter p rows) =
+    map-map (λ r. id_in (rowid r)) show (filter p rows) ∙ map_same _ _ (λ r. ap id_in (keeps r) ∙ same_whole (rowid r)) (filter p rows) in
     sym (in_any_order rows _ _ moved) ∙ ap (without_all rows) ids ∙ without_same rows (map number_of (filter p rows)) h.numbers ∙ removes_delete number_of p rows h.rising
+
+pub removes : (p : Row → Bool) (rows found : List Row) → AreNumbered rows → IsPermutation (map (λ r. rowid r ∷ []) (filter p rows)) found → without_all rows (ids_of found) ≡ filter (λ r. not (p r)) rows
+removes = removes_by (λ r. rowid r ∷ []) (λ r. refl)

@@ -34,7 +34,7 @@ fails false h = refl
 abbrev pub HasOneAtMost : (Row → Bool) → List Row → Type 0
 HasOneAtMost p rows = IsAscending (λ a b. p a ≡ true → p b ≡ true → ⊥) rows
 
-few : (p : Row → Bool) (rows : List Row) → HasOneAtMost p rows → (filter p rows ≡ []) ⊎ ((r : Row) × (filter p rows ≡ r ∷ []))
+pub few : (p : Row → Bool) (rows : List Row) → HasOneAtMost p rows → (filter p rows ≡ []) ⊎ ((r : Row) × (filter p rows ≡ r ∷ []))
 few p [] h = inl refl
 few p (r ∷ rows) h = go (p r) refl (few p rows h.1)
   where

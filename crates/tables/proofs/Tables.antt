@@ -1,16 +1,17 @@
 -- The tables are plain ones, and what their layout says of their keys.
-use Rattle.std.proofs.Common.{◌≡◌, ◌≢◌, ℕ, ℤ, List, Bool, true, false, ◌&&◌, bytes_eq, refl, sym, ap, ◌∙◌}
+use Rattle.std.proofs.Common.{◌≡◌, ◌≢◌, ℕ, ℤ, pos, List, Bool, true, false, ◌&&◌, bytes_eq, refl, sym, ap, ◌∙◌}
 use Rattle.std.proofs.lemmas.Slice.Eq.{bytes_eq-Decides}
 use Rattle.sqlite_keyed.proofs.KeyedLemmas.{same_int}
 use Rattle.tables.proofs.Single.{HasOneAtMost}
-use Rattle.tables.specs.Rows.{db_of, id_of, is_in, is_of, is_named, name_of}
+use Rattle.tables.specs.Rows.{db_of, id_of, is_in, is_of, is_named, name_of, number_of, database_row, security_text, length_of}
 use Rattle.sqlite_schema.specs.declared.schema.Schema.{Schema}
+use Rattle.sqlite_value.specs.declared.value.Value.TheVariants.{Int}
 use Rattle.sqlite_value.specs.Order.{Row, column}
 use Rattle.sqlite_trees.specs.Tree.{Trees, IsAscending, rowid}
 use Rattle.sqlite_keyed.proofs.ListLemmas.{all_weaker, ascending_weaker}
 use Rattle.tables.proofs.Writes.{IsPlainTable}
-use Rattle.tables.specs.Schema.{schema, meta_table, dbs_table, docs_table, revs_table, locals_table, docs_tree, revs_tree, locals_tree}
-use Rattle.tables.specs.Layout.{IsLaid, IsKeyed, AreKeyed, IsDocumentRow, IsRevisionRow, IsLocalRow}
+use Rattle.tables.specs.Schema.{schema, meta_table, dbs_table, docs_table, revs_table, locals_table, dbs_tree, docs_tree, revs_tree, locals_tree}
+use Rattle.tables.specs.Layout.{IsLaid, IsKeyed, AreKeyed, AreNumbered, AreDatabaseRows, IsDatabaseRow, IsDocumentRow, IsRevisionRow, IsLocalRow}
 
 both_true : (a b : Bool) → (a && b) ≡ true → (a ≡ true) × (b ≡ true)
 both_true true b h = (refl, h)
@@ -66,3 +67,13 @@ pub one_named : (rows : List Row) → IsAscending (λ a b. name_of a ≢ name_of
 one_named rows apart name =
     ascending_weaker (λ a b. name_of a ≢ name_of b) (λ a b. is_named name a ≡ true → is_named name b ≡ true → ⊥)
     (λ a b h p q. h ((bytes_eq-Decides (name_of a) name).0 p ∙ sym ((bytes_eq-Decides (name_of b) name).0 q))) rows apart
+
+pub databases_laid : (trees : Trees) → IsLaid trees → AreDatabaseRows (trees dbs_tree)
+databases_laid trees h = record {
+  each = all_weaker IsDatabaseRow (λ r. r ≡ database_row (number_of r) (name_of r) (security_text r) (pos (length_of r)))
+  (λ r k. k.is ∙ ap (λ t. database_row (number_of r) (name_of r) t (pos (length_of r))) (sym (ap security_text k.is))) (trees dbs_tree) h.dbs;
+  rising = h.dbs_numbered.rising;
+}
+
+pub numbered_databases : (rows : List Row) → AreDatabaseRows rows → AreNumbered rows
+numbered_databases rows h = record { numbers = all_weaker _ (λ r. rowid r ≡ Int (number_of r)) (λ r k. ap rowid k) rows h.each; rising = h.rising }

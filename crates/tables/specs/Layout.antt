@@ -16,7 +16,7 @@ use Rattle.sqlite_value.specs.Order.{Row, column}
 use Rattle.sqlite_trees.specs.Tree.{Trees, IsAscending, rowid}
 use Rattle.sqlite.specs.Effect as sqlite
 use Rattle.tables.specs.Schema.{schema, meta_tree, dbs_tree, docs_tree, revs_tree, locals_tree}
-use Rattle.tables.specs.Rows.{number_of, db_of, id_of, is_of, count, database_row, name_of, security_of, length_of, document_row, sequence_of, winner_text, is_gone, revision_row, revision_of, entry_of, local_row, local_of, history_in, contents_in}
+use Rattle.tables.specs.Rows.{number_of, db_of, id_of, is_of, count, database_row, name_of, security_text, security_of, length_of, document_row, sequence_of, winner_text, is_gone, revision_row, revision_of, entry_of, local_row, local_of, history_in, contents_in}
 
 -- each row has a number, and the numbers rise
 pub record AreNumbered (rows : List Row) : Type 0 where
@@ -32,6 +32,11 @@ pub record IsKeyed (r : Row) : Type 0 where
 -- each row is so, and the numbers rise
 pub record AreKeyed (rows : List Row) : Type 0 where
   pub keyed : AllByRecursion IsKeyed rows
+  pub rising : IsAscending (λ a b. number_of a <ℤ number_of b) rows
+
+-- each row is that of a database, and the numbers rise
+pub record AreDatabaseRows (rows : List Row) : Type 0 where
+  pub each : AllByRecursion (λ r. r ≡ database_row (number_of r) (name_of r) (security_text r) (pos (length_of r))) rows
   pub rising : IsAscending (λ a b. number_of a <ℤ number_of b) rows
 
 -- some database has this number

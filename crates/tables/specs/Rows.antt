@@ -71,6 +71,9 @@ next_number rows = fold (λ _ r. number_of r +ℤ pos 1) (pos 1) rows
 abbrev pub with_cells : List Row → Row → List Row
 with_cells rows cells = rows ++ (Int (next_number rows) ∷ cells) ∷ []
 
+abbrev pub has_number : ℤ → Row → Bool
+has_number n r = int_eq (number_of r) n
+
 -- the database that a row of a document, a revision or a local document belongs to, and the id
 abbrev pub db_of : Row → ℤ
 db_of r = whole_in (column r 1)

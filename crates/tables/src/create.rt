@@ -1,10 +1,13 @@
 //! The tables, made where there are none.
 
-ghost use Rattle.std.specs.Prelude.{◌≡◌, OnOk};
+ghost use Rattle.std.specs.Prelude.{◌≡◌, [], ◌∷◌, OnOk};
 ghost use Rattle.sqlite.specs.Held.{state};
 ghost use Rattle.sqlite.specs.State.{HasCleanDisk};
 ghost use Rattle.tables.specs.Schema as tables;
-ghost use Rattle.tables.specs.Calls.{Proceeds, Stays};
+ghost use Rattle.tables.specs.Calls.{Alters, Proceeds, Stays};
+ghost use Rattle.tables.specs.Layout.{AreNumbered, IsNew};
+ghost use Rattle.tables.specs.Rows.{count, with_cells};
+ghost use Rattle.tables.specs.Schema.{meta_tree};
 ghost use Rattle.tables.specs.Steps.{AddsTable};
 
 use crate::statement::change;
@@ -85,9 +88,21 @@ fn create_locals<S: Alter>(tx: &mut Transaction<'_, S>) -> Result<(), Error>
     )
 }
 
-/// Makes all five tables, where there is none.
+/// Writes the version of the layout.
+fn insert_version<S: Alter>(tx: &mut Transaction<'_, S>) -> Result<(), Error>
+    ensures same_reference { tx.new.conn.ghost_name ≡ tx.old.conn.ghost_name }
+    ensures ok { Alters S.Store meta_tree AreNumbered (λ rows. with_cells rows (count 1 ∷ [])) tx.old.conn.now tx.new.conn.now result }
+    ensures inside { Stays S.Store tx.old.conn.now tx.new.conn.now result }
+    ensures proceeds { Proceeds S.Store tx.old.conn.now tx.new.conn.now }
+{
+    change(tx, "INSERT INTO meta (version) VALUES (1)", &[])
+}
+
+/// Makes all five tables, where there is none, and writes the version.
 pub fn create_tables<S: Alter>(tx: &mut Transaction<'_, S>) -> Result<(), Error>
     ensures same_reference { tx.new.conn.ghost_name ≡ tx.old.conn.ghost_name }
+    ensures ok { HasCleanDisk (state S.Store tx.new.conn.now) → tx.old.conn.now.schema ≡ tables.no_schema
+        → OnOk result (IsNew (state S.Store tx.new.conn.now).now) }
     ensures inside { Stays S.Store tx.old.conn.now tx.new.conn.now result }
     ensures proceeds { Proceeds S.Store tx.old.conn.now tx.new.conn.now }
 {
@@ -96,5 +111,6 @@ pub fn create_tables<S: Alter>(tx: &mut Transaction<'_, S>) -> Result<(), Error>
     create_docs(tx)?;
     create_revs(tx)?;
     create_locals(tx)?;
+    insert_version(tx)?;
     Ok(())
 }

@@ -2,6 +2,7 @@
 #![tactic(auto)]
 
 mod create;
+pub mod databases;
 pub mod documents;
 pub mod locals;
 pub mod revisions;
