@@ -12,4 +12,5 @@ pub mod LocalStatements
 pub mod DocumentStatements
 pub mod RevisionStatements
 pub mod Updates
+pub mod Sorted
 pub mod DatabaseStatements

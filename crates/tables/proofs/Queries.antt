@@ -32,7 +32,7 @@ abbrev pub program_on : ℕ → List Term → List Term → List (Term × Key) �
 program_on tree tests shown order = record { lets = []; body = query_on tree tests shown order }
 
 module _ (tests : List Term) (params : Row) (p : Row → Bool) where
-  passed : (rows : List Row) → AllByRecursion (λ r. list_all (holds (params ∷ r ∷ [])) tests ≡ p r) rows
+  pub passed : (rows : List Row) → AllByRecursion (λ r. list_all (holds (params ∷ r ∷ [])) tests ≡ p r) rows
       → flat_map (λ r. cond (list_all (holds (params ∷ r ∷ [])) tests) ((params ∷ r ∷ []) ∷ []) []) rows ≡ map (λ r. params ∷ r ∷ []) (filter p rows)
   passed [] all = refl
   passed (r ∷ rows) all = ap (λ b. cond b ((params ∷ r ∷ []) ∷ []) [] ++ flat_map (λ s. cond (list_all (holds (params ∷ s ∷ [])) tests) ((params ∷ s ∷ []) ∷ []) []) rows) all.0 ∙ go (p r) (passed rows all.1)

@@ -26,7 +26,7 @@ none_permutation : {X : Type 0} (ys : List X) → IsPermutation [] ys → ys ≡
 none_permutation [] h = refl
 none_permutation (y ∷ ys) h = absurd (omega (arith, length_permutation [] (y ∷ ys) h))
 
-fails : (b : Bool) → (b ≡ true → ⊥) → b ≡ false
+pub fails : (b : Bool) → (b ≡ true → ⊥) → b ≡ false
 fails true h = absurd (h refl)
 fails false h = refl
 

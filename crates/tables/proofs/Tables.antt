@@ -1,9 +1,10 @@
 -- The tables are plain ones, and what their layout says of their keys.
-use Rattle.std.proofs.Common.{◌≡◌, ◌≢◌, ℕ, ℤ, pos, List, Bool, true, false, ◌&&◌, bytes_eq, refl, sym, ap, ◌∙◌}
+use Rattle.std.proofs.Common.{◌≡◌, ◌≢◌, ℕ, ℤ, ◌<ℤ◌, arith, pos, List, Bool, true, false, ◌&&◌, bytes_eq, refl, sym, ap, ◌∙◌}
+use Rattle.std.proofs.lemmas.Int.{ints}
 use Rattle.std.proofs.lemmas.Slice.Eq.{bytes_eq-Decides}
 use Rattle.sqlite_keyed.proofs.KeyedLemmas.{same_int}
 use Rattle.tables.proofs.Single.{HasOneAtMost}
-use Rattle.tables.specs.Rows.{db_of, id_of, is_in, is_of, is_named, name_of, number_of, database_row, security_text, length_of}
+use Rattle.tables.specs.Rows.{db_of, id_of, is_in, is_of, is_named, has_number, name_of, number_of, database_row, security_text, length_of}
 use Rattle.sqlite_schema.specs.declared.schema.Schema.{Schema}
 use Rattle.sqlite_value.specs.declared.value.Value.TheVariants.{Int}
 use Rattle.sqlite_value.specs.Order.{Row, column}
@@ -77,3 +78,9 @@ databases_laid trees h = record {
 
 pub numbered_databases : (rows : List Row) → AreDatabaseRows rows → AreNumbered rows
 numbered_databases rows h = record { numbers = all_weaker _ (λ r. rowid r ≡ Int (number_of r)) (λ r k. ap rowid k) rows h.each; rising = h.rising }
+
+-- at most one row has this number
+pub one_numbered : (rows : List Row) → IsAscending (λ a b. number_of a <ℤ number_of b) rows → (n : ℤ) → HasOneAtMost (has_number n) rows
+one_numbered rows rising n =
+    ascending_weaker (λ a b. number_of a <ℤ number_of b) (λ a b. has_number n a ≡ true → has_number n b ≡ true → ⊥)
+    (λ a b h p q. let x = same_int (number_of a) n p in let y = same_int (number_of b) n q in omega (arith, ints)) rows rising

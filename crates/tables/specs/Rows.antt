@@ -1,7 +1,9 @@
 -- What the rows of the tables say: the databases that they hold, as a function of all rows; a row that is laid out otherwise says something, whatever it is.
 -- The contents are those of `store`; that a known revision is a row is this server's own layout.
 use Rattle.std.specs.Prelude.{ℕ, ◌-◌, ℤ, pos, negsuc, ◌+ℤ◌, ◌++◌, fold, Bool, true, false, ◌&&◌, nat_lt, bytes_eq, if◌then◌else◌, List, [], ◌∷◌, map, filter, find, Option, Some, None, option_map, Result, Ok, Err}
-use Rattle.std.specs.Ordering.{int_eq}
+use Rattle.std.specs.declared.cmp.Ordering.{Ordering}
+use Rattle.std.specs.Ordering.{int_eq, nat_cmp}
+use Rattle.std.specs.Cmp.Lexicographic.{slice_cmp}
 use Rattle.std.specs.FinMap.{from_entries}
 use Rattle.couch_json.specs.Canonical.{canonical}
 use Rattle.couch_json.specs.Reading.{reading}
@@ -113,6 +115,21 @@ security_of r = json_in (column r 3)
 abbrev pub length_of : Row → ℕ
 length_of r = count_in (column r 4)
 
+-- the rows, where the database of this number has another security object, or another sequence
+abbrev pub secured : ℤ → List ℕ → List Row → List Row
+secured n text rows = map (λ r. if has_number n r then database_row (number_of r) (name_of r) text (pos (length_of r)) else r) rows
+
+abbrev pub advanced : ℤ → ℤ → List Row → List Row
+advanced n sequence rows = map (λ r. if has_number n r then database_row (number_of r) (name_of r) (security_text r) sequence else r) rows
+
+-- databases go by the bytes of their names
+abbrev pub by_name : Row → Row → Ordering
+by_name a b = slice_cmp nat_cmp (name_of a) (name_of b)
+
+-- what the list of names shows
+abbrev pub shown_name : Row → Row
+shown_name r = column r 2 ∷ []
+
 -- documents: the winner is a text
 abbrev pub document_cells : ℤ → List ℕ → ℤ → List ℕ → Bool → Row
 document_cells db id sequence winner deleted = Int db ∷ Blob id ∷ Int sequence ∷ Text winner ∷ flag deleted ∷ []
@@ -126,6 +143,17 @@ shown_document r = column r 3 ∷ column r 4 ∷ column r 5 ∷ []
 
 abbrev pub sequence_of : Row → ℕ
 sequence_of r = count_in (column r 3)
+
+-- documents go by the bytes of their ids, or by their sequences
+abbrev pub by_id : Row → Row → Ordering
+by_id a b = slice_cmp nat_cmp (id_of a) (id_of b)
+
+abbrev pub by_sequence : Row → Row → Ordering
+by_sequence a b = nat_cmp (sequence_of a) (sequence_of b)
+
+-- what a list of documents shows: the id too
+abbrev pub listed_document : Row → Row
+listed_document r = column r 2 ∷ column r 3 ∷ column r 4 ∷ column r 5 ∷ []
 
 abbrev pub winner_text : Row → List ℕ
 winner_text r = bytes (column r 4)

@@ -1,9 +1,10 @@
 //! The rows of the databases.
 
 ghost use Rattle.std.specs.Prelude.{◌≡◌, not, pos, filter, map};
+ghost use Rattle.sqlite_keyed.specs.Lists.{sort_by};
 ghost use Rattle.tables.specs.Calls.{Alters, Finds, Looks, Proceeds, Stands, Stays};
 ghost use Rattle.tables.specs.Layout.{AreDatabaseRows};
-ghost use Rattle.tables.specs.Rows.{database_cells, has_number, is_named, shown_database, with_cells};
+ghost use Rattle.tables.specs.Rows.{advanced, by_name, database_cells, has_number, is_named, secured, shown_database, shown_name, with_cells};
 ghost use Rattle.tables.specs.Schema.{dbs_tree};
 
 use crate::statement::{change, query};
@@ -53,4 +54,49 @@ pub fn delete_database<S: Alter>(tx: &mut Transaction<'_, S>, number: &i64) -> R
         "DELETE FROM dbs WHERE num = ?1",
         params![number],
     )
+}
+
+/// Gives the database of this number another security object.
+pub fn secure_database<S: Alter>(
+    tx: &mut Transaction<'_, S>,
+    number: &i64,
+    security: &str,
+) -> Result<(), Error>
+    ensures same_reference { tx.new.conn.ghost_name ≡ tx.old.conn.ghost_name }
+    ensures ok { Alters S.Store dbs_tree AreDatabaseRows (secured number.now security.now) tx.old.conn.now tx.new.conn.now result }
+    ensures inside { Stays S.Store tx.old.conn.now tx.new.conn.now result }
+    ensures proceeds { Proceeds S.Store tx.old.conn.now tx.new.conn.now }
+{
+    change(
+        tx,
+        "UPDATE dbs SET sec = ?2 WHERE num = ?1",
+        params![number, security],
+    )
+}
+
+/// Gives the database of this number another sequence.
+pub fn advance_database<S: Alter>(
+    tx: &mut Transaction<'_, S>,
+    number: &i64,
+    sequence: &i64,
+) -> Result<(), Error>
+    ensures same_reference { tx.new.conn.ghost_name ≡ tx.old.conn.ghost_name }
+    ensures ok { Alters S.Store dbs_tree AreDatabaseRows (advanced number.now sequence.now) tx.old.conn.now tx.new.conn.now result }
+    ensures inside { Stays S.Store tx.old.conn.now tx.new.conn.now result }
+    ensures proceeds { Proceeds S.Store tx.old.conn.now tx.new.conn.now }
+{
+    change(
+        tx,
+        "UPDATE dbs SET seq = ?2 WHERE num = ?1",
+        params![number, sequence],
+    )
+}
+
+/// Returns the names of all databases, in the order of their bytes.
+pub fn name_rows<S: Alter>(conn: &mut Connection<S>) -> Result<Vec<Row>, Error>
+    ensures ok { Finds S.Store conn.old conn.new (λ trees rows. rows.items ≡ map shown_name (sort_by by_name (trees dbs_tree))) result }
+    ensures stands { Stands S.Store conn.old conn.new result }
+    ensures looks { Looks S.Store conn.old conn.new }
+{
+    query(conn, "SELECT name FROM dbs ORDER BY name", &[])
 }
