@@ -1,9 +1,10 @@
 //! The rows of the documents.
 
 ghost use Rattle.std.specs.Prelude.{◌≡◌, not, filter, map};
+ghost use Rattle.sqlite_keyed.specs.Lists.{sort_by};
 ghost use Rattle.tables.specs.Calls.{Alters, Finds, Looks, Proceeds, Stands, Stays};
 ghost use Rattle.tables.specs.Layout.{AreKeyed};
-ghost use Rattle.tables.specs.Rows.{is_in, is_of, shown_document, document_cells, with_cells};
+ghost use Rattle.tables.specs.Rows.{by_id, by_sequence, is_in, is_of, listed_document, shown_document, document_cells, with_cells};
 ghost use Rattle.tables.specs.Schema.{docs_tree};
 
 use crate::statement::{change, query};
@@ -76,5 +77,33 @@ pub fn document_rows<S: Alter>(
         conn,
         "SELECT seq, winner, del FROM docs WHERE db = ?1 AND id = ?2",
         params![db, id],
+    )
+}
+
+/// Returns the rows of all documents of a database, by the bytes of their ids: the id, the sequence, the
+/// winner and whether that is deleted.
+pub fn rows_by_id<S: Alter>(conn: &mut Connection<S>, db: &i64) -> Result<Vec<Row>, Error>
+    ensures ok { Finds S.Store conn.old conn.new (λ trees rows. rows.items ≡ map listed_document (sort_by by_id (filter (is_in db.now) (trees docs_tree)))) result }
+    ensures stands { Stands S.Store conn.old conn.new result }
+    ensures looks { Looks S.Store conn.old conn.new }
+{
+    query(
+        conn,
+        "SELECT id, seq, winner, del FROM docs WHERE db = ?1 ORDER BY id",
+        params![db],
+    )
+}
+
+/// Returns the rows of all documents of a database, by their sequences: the id, the sequence, the
+/// winner and whether that is deleted.
+pub fn rows_by_sequence<S: Alter>(conn: &mut Connection<S>, db: &i64) -> Result<Vec<Row>, Error>
+    ensures ok { Finds S.Store conn.old conn.new (λ trees rows. rows.items ≡ map listed_document (sort_by by_sequence (filter (is_in db.now) (trees docs_tree)))) result }
+    ensures stands { Stands S.Store conn.old conn.new result }
+    ensures looks { Looks S.Store conn.old conn.new }
+{
+    query(
+        conn,
+        "SELECT id, seq, winner, del FROM docs WHERE db = ?1 ORDER BY seq",
+        params![db],
     )
 }
