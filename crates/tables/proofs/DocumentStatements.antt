@@ -1,18 +1,16 @@
 -- What the statements on documents mean.
-use Rattle.std.proofs.Common.{◌≡◌, ℕ, ℤ, pos, List, [], ◌∷◌, map, filter, codes, Bool, true, false, not, cond, Ok, Err, Result, IfOk, OnOk, IsPermutation, refl, sym, ap, ap₂, subst, ◌∙◌, ◌≢◌, bytes_eq, nat_cmp, int_cmp, is_eq, arith, Equal}
-use Rattle.sqlite_value.specs.declared.value.Value.{Value}
+use Rattle.std.proofs.Common.{◌≡◌, ℕ, ℤ, pos, List, [], ◌∷◌, map, filter, codes, Bool, true, false, not, cond, Ok, Err, Result, IfOk, OnOk, refl, sym, ap, ap₂, subst, ◌∙◌, ◌≢◌, bytes_eq, nat_cmp, int_cmp, is_eq, arith, Equal}
 use Rattle.sqlite_value.specs.declared.value.Value.TheVariants.{Null, Int, Text, Blob}
 use Rattle.sqlite_sql.specs.Term.{Term, lit, col}
-use Rattle.sqlite_rules.specs.Cast.{cast_row, as_text}
+use Rattle.sqlite_rules.specs.Cast.{cast_row}
 use Rattle.sqlite_schema.specs.declared.command.Command.TheVariants.{Insert, Delete, Select}
 use Rattle.sqlite_schema.specs.declared.command.Source.TheVariants.{Values}
-use Rattle.sqlite_schema.specs.declared.program.Program.{Program}
 use Rattle.sqlite_tied.specs.Compute.{everything}
 use Rattle.sqlite.specs.Listing.{understood, reads_listing}
 use Rattle.sqlite.specs.State.{State, Shown}
 use Rattle.tables.proofs.Cells.{by_db, by_id, cast_null, cast_int, tests_db, tests_id}
 use Rattle.tables.proofs.Deletes.{deletes_where}
-use Rattle.tables.proofs.Finds.{finds_one, finds_where}
+use Rattle.tables.proofs.Finds.{finds_one}
 use Rattle.sqlite_value.specs.Order.{Row}
 use Rattle.std.specs.List.{AllByRecursion}
 use Rattle.std.specs.Ordering.{ordering_then}

@@ -1,7 +1,6 @@
 -- What a query by tests on one table finds.
 use Rattle.std.proofs.Common.{◌≡◌, ℕ, List, [], ◌∷◌, map, filter, Bool, false, Ok, Err, Result, IfOk, sym, subst, IsPermutation}
 use Rattle.std.specs.List.{AllByRecursion, list_all}
-use Rattle.sqlite_value.specs.declared.keys.Key.{Key}
 use Rattle.sqlite_value.specs.Order.{Row}
 use Rattle.sqlite_sql.specs.Program.{overlay}
 use Rattle.sqlite_sql.specs.Term.{Term, eval_all, holds}

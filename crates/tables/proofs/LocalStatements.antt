@@ -1,7 +1,7 @@
 -- What the statements on local documents mean.
-use Rattle.std.proofs.Common.{◌≡◌, ℕ, ℤ, pos, List, [], ◌∷◌, ◌++◌, map, filter, codes, Bool, true, false, not, Ok, Err, Result, IfOk, OnOk, IsPermutation, refl, sym, ap, subst, ◌∙◌}
+use Rattle.std.proofs.Common.{◌≡◌, ℕ, ℤ, pos, List, [], ◌∷◌, map, filter, codes, false, not, Ok, Err, Result, IfOk, OnOk, refl, subst}
 use Rattle.sqlite_value.specs.declared.value.Value.TheVariants.{Null, Int, Text, Blob}
-use Rattle.sqlite_value.specs.Order.{Row, column}
+use Rattle.sqlite_value.specs.Order.{Row}
 use Rattle.sqlite_sql.specs.Term.{Term, lit, col}
 use Rattle.sqlite_schema.specs.declared.command.Command.TheVariants.{Insert, Delete, Select}
 use Rattle.sqlite_schema.specs.declared.command.Source.TheVariants.{Values}
@@ -12,7 +12,7 @@ use Rattle.tables.proofs.Cells.{by_db, by_id, cast_null, cast_int, tests_db, tes
 use Rattle.tables.proofs.Queries.{program_on}
 use Rattle.tables.proofs.Writes.{IsCommand, inserts}
 use Rattle.tables.proofs.Deletes.{deletes_where}
-use Rattle.tables.proofs.Finds.{finds_one, finds_where}
+use Rattle.tables.proofs.Finds.{finds_one}
 use Rattle.tables.proofs.Numbered.{numbered_from_keyed}
 use Rattle.tables.proofs.Single.{one_row}
 use Rattle.tables.proofs.Tables.{locals_plain, locals_keyed, one_of}

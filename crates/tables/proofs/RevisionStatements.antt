@@ -1,23 +1,22 @@
 -- What the statements on revisions mean.
-use Rattle.std.proofs.Common.{◌≡◌, ℕ, ℤ, pos, List, [], ◌∷◌, map, filter, codes, Bool, true, false, not, cond, Ok, Err, Result, IfOk, OnOk, IsPermutation, refl, subst}
+use Rattle.std.proofs.Common.{◌≡◌, ℕ, ℤ, pos, List, [], ◌∷◌, map, filter, codes, Bool, false, not, cond, Ok, Err, Result, IfOk, OnOk, IsPermutation, refl, subst}
 use Rattle.sqlite_value.specs.declared.value.Value.{Value}
 use Rattle.sqlite_value.specs.declared.value.Value.TheVariants.{Null, Int, Text, Blob}
 use Rattle.sqlite_sql.specs.Term.{Term, lit, col}
 use Rattle.sqlite_rules.specs.Cast.{cast_row, as_text}
 use Rattle.sqlite_schema.specs.declared.command.Command.TheVariants.{Insert, Delete, Select}
 use Rattle.sqlite_schema.specs.declared.command.Source.TheVariants.{Values}
-use Rattle.sqlite_schema.specs.declared.program.Program.{Program}
 use Rattle.sqlite_tied.specs.Compute.{everything}
 use Rattle.sqlite.specs.Listing.{understood, reads_listing}
 use Rattle.sqlite.specs.State.{State, Shown}
 use Rattle.tables.proofs.Cells.{by_db, by_id, cast_null, cast_int, tests_db, tests_id}
 use Rattle.tables.proofs.Deletes.{deletes_where}
-use Rattle.tables.proofs.Finds.{finds_one, finds_where}
+use Rattle.tables.proofs.Finds.{finds_where}
 use Rattle.sqlite_value.specs.Order.{Row}
 use Rattle.tables.proofs.Numbered.{numbered_from_keyed}
 use Rattle.tables.proofs.Queries.{program_on}
 use Rattle.tables.proofs.Single.{one_row}
-use Rattle.tables.proofs.Tables.{revs_plain, revs_keyed, one_of}
+use Rattle.tables.proofs.Tables.{revs_plain, revs_keyed}
 use Rattle.tables.proofs.Writes.{IsCommand, inserts}
 use Rattle.tables.specs.Layout.{AreKeyed, IsStore}
 use Rattle.tables.specs.Rows.{is_in, is_of, shown_revision, given_cells, with_cells}

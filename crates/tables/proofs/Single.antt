@@ -1,6 +1,5 @@
 -- One row put behind others, and a query that finds one row at most.
-use Rattle.std.proofs.Common.{◌≡◌, ◌⊎◌, inl, inr, ℕ, List, [], ◌∷◌, ◌++◌, map, filter, length, Bool, true, false, not, cond, refl, sym, ap, subst, ◌∙◌, IsPermutation, arith}
-use Rattle.std.specs.List.{AllByRecursion}
+use Rattle.std.proofs.Common.{◌≡◌, ◌⊎◌, inl, inr, List, [], ◌∷◌, ◌++◌, map, filter, Bool, true, false, cond, refl, sym, ap, subst, ◌∙◌, IsPermutation, arith}
 use Rattle.std.proofs.lemmas.List.Sorted.{length_permutation}
 use Rattle.sqlite_value.specs.declared.value.Value.TheVariants.{Null, Int}
 use Rattle.sqlite_value.specs.Order.{Row}
@@ -13,7 +12,7 @@ use Rattle.sqlite_keyed.proofs.ListLemmas.{all_weaker, filter_none}
 use Rattle.sqlite.proofs.Callers.{one_permutation}
 use Rattle.tables.proofs.Numbered.{appends, next_is}
 use Rattle.tables.specs.Layout.{AreNumbered}
-use Rattle.tables.specs.Rows.{next_number, with_cells}
+use Rattle.tables.specs.Rows.{with_cells}
 
 -- one row of values, which is cast to these cells
 pub one_row : (db : Trees) (table : Table) (values cells : Row) → cast_row table values ≡ Null ∷ cells → AreNumbered (db table.tree)

@@ -1,5 +1,5 @@
 -- What a query with an order answers, where no two rows tie.
-use Rattle.std.proofs.Common.{◌≡◌, ℕ, List, [], ◌∷◌, map, filter, flat_map, Bool, true, false, cond, Ok, Err, Result, IfOk, refl, sym, ap, ap₂, subst, ◌∙◌, IsPermutation, Ordering, is_eq, is_gt}
+use Rattle.std.proofs.Common.{◌≡◌, ℕ, List, [], ◌∷◌, map, filter, flat_map, Bool, true, false, cond, Ok, Err, Result, IfOk, refl, ap, ap₂, subst, ◌∙◌, IsPermutation, Ordering, is_eq, is_gt}
 use Rattle.std.specs.List.{AllByRecursion, list_all}
 use Rattle.sqlite_value.specs.declared.value.Value.TheVariants.{Null}
 use Rattle.sqlite_value.specs.declared.keys.Key.{Key}
@@ -14,8 +14,8 @@ use Rattle.sqlite_schema.specs.declared.schema.Schema.{Schema}
 use Rattle.sqlite_keyed.specs.Lists.{insert_sorted, sort_by}
 use Rattle.sqlite_keyed.proofs.ListLemmas.{map-map, map_same, all-filter, ascending-map, ascending-filter}
 use Rattle.sqlite_keyed.proofs.SortLemmas.{sorted_is-sort_by, sort_by-map}
-use Rattle.sqlite.specs.Effect.{Database, Answers}
-use Rattle.sqlite.specs.Listing.{understood, reads_listing}
+use Rattle.sqlite.specs.Effect.{Answers}
+use Rattle.sqlite.specs.Listing.{reads_listing}
 use Rattle.sqlite.specs.State.{State, Shown}
 use Rattle.sqlite.proofs.Callers.{reads_as}
 use Rattle.tables.proofs.Queries.{program_on, query_on, passed}

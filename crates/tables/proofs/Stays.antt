@@ -1,15 +1,13 @@
 -- Statements one after the other, and what a query leaves.
-use Rattle.std.proofs.Common.{◌≡◌, ◌⊎◌, inl, inr, ℕ, ◌≤◌, List, Bool, true, false, Ok, Err, Result, None, Some, IsTrue, OnOk, refl, sym, subst, ◌∙◌, arith}
+use Rattle.std.proofs.Common.{◌≡◌, ◌⊎◌, inl, inr, ℕ, List, false, Ok, Err, Result, None, Some, IsTrue, OnOk, refl, subst, ◌∙◌, arith}
 use Rattle.sqlite_value.specs.Order.{Row}
-use Rattle.sqlite_trees.specs.View.{doubt}
 use Rattle.sqlite.specs.Listing.{understood}
-use Rattle.sqlite.specs.State.{State, HasCleanDisk, Executes, ExecutesInside, KeepsCommit, Survives, IsUnchanged, IsRolledBack, FailsToQuery, FailsToShow, IsNotRun, RunsCommand, Shown, ShowsRows, CommitsShowing}
+use Rattle.sqlite.specs.State.{State, HasCleanDisk, ExecutesInside, KeepsCommit, Survives, IsUnchanged, IsRolledBack, FailsToQuery, FailsToShow, IsNotRun, Shown, ShowsRows, CommitsShowing}
 use Rattle.sqlite.specs.Given.{IsPlain}
 use Rattle.sqlite.specs.declared.error.Error.{Error}
-use Rattle.sqlite_schema.specs.declared.command.Returning.{Returning}
 use Rattle.sqlite_resolve.specs.declared.compiled.Compiled.{Compiled}
 use Rattle.sqlite.proofs.StateLemmas.{survives_then, survives_weaker}
-use Rattle.sqlite.proofs.InsideLemmas.{inside_keeps, keeps_then, unchanged_keeps}
+use Rattle.sqlite.proofs.InsideLemmas.{keeps_then, unchanged_keeps}
 use Rattle.sqlite.proofs.Callers.{never_commits}
 use Rattle.tables.specs.Steps.{Ran, StaysInside, Proceeds, OnlyLooks}
 

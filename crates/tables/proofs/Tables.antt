@@ -1,11 +1,10 @@
 -- The tables are plain ones, and what their layout says of their keys.
-use Rattle.std.proofs.Common.{◌≡◌, ◌≢◌, ℕ, ℤ, ◌<ℤ◌, arith, pos, List, Bool, true, false, ◌&&◌, bytes_eq, refl, sym, ap, ◌∙◌}
+use Rattle.std.proofs.Common.{◌≡◌, ◌≢◌, ℕ, ℤ, ◌<ℤ◌, arith, pos, List, Bool, true, false, ◌&&◌, refl, sym, ap, ◌∙◌}
 use Rattle.std.proofs.lemmas.Int.{ints}
 use Rattle.std.proofs.lemmas.Slice.Eq.{bytes_eq-Decides}
 use Rattle.sqlite_keyed.proofs.KeyedLemmas.{same_int}
 use Rattle.tables.proofs.Single.{HasOneAtMost}
 use Rattle.tables.specs.Rows.{db_of, id_of, is_in, is_of, is_named, has_number, name_of, number_of, database_row, security_text, length_of}
-use Rattle.sqlite_schema.specs.declared.schema.Schema.{Schema}
 use Rattle.sqlite_value.specs.declared.value.Value.TheVariants.{Int}
 use Rattle.sqlite_value.specs.Order.{Row, column}
 use Rattle.sqlite_trees.specs.Tree.{Trees, IsAscending, rowid}
@@ -72,7 +71,7 @@ one_named rows apart name =
 pub databases_laid : (trees : Trees) → IsLaid trees → AreDatabaseRows (trees dbs_tree)
 databases_laid trees h = record {
   each = all_weaker IsDatabaseRow (λ r. r ≡ database_row (number_of r) (name_of r) (security_text r) (pos (length_of r)))
-  (λ r k. k.is ∙ ap (λ t. database_row (number_of r) (name_of r) t (pos (length_of r))) (sym (ap security_text k.is))) (trees dbs_tree) h.dbs;
+      (λ r k. k.is ∙ ap (λ t. database_row (number_of r) (name_of r) t (pos (length_of r))) (sym (ap security_text k.is))) (trees dbs_tree) h.dbs;
   rising = h.dbs_numbered.rising;
 }
 

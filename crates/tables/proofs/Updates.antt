@@ -1,12 +1,12 @@
 -- What an UPDATE of one row makes of its table.
-use Rattle.std.proofs.Common.{◌≡◌, ◌⊎◌, inl, inr, ℕ, ℤ, ◌<ℤ◌, List, [], ◌∷◌, map, filter, fold, drop, Bool, true, false, not, cond, Ok, Err, Result, OnOk, refl, sym, ap, subst, ◌∙◌, arith, int_cmp, IsPermutation, Ordering, Less, Equal, Greater}
+use Rattle.std.proofs.Common.{◌≡◌, inl, inr, ℕ, ◌<ℤ◌, List, [], ◌∷◌, map, filter, fold, drop, Bool, true, false, not, cond, Ok, Err, Result, OnOk, refl, sym, ap, subst, ◌∙◌, arith, int_cmp, Less, Equal, Greater}
 use Rattle.std.specs.List.{AllByRecursion, list_all}
 use Rattle.std.specs.Ordering.{match_ordering}
 use Rattle.std.proofs.lemmas.Int.{ints}
-use Rattle.std.proofs.lemmas.List.Sorted.{IsPermutation-map, IsPermutation-refl}
+use Rattle.std.proofs.lemmas.List.Sorted.{IsPermutation-refl}
 use Rattle.sqlite_value.specs.declared.value.Value.TheVariants.{Int}
 use Rattle.sqlite_value.specs.Order.{Row}
-use Rattle.sqlite_trees.specs.Tree.{IsAscending, rowid, put_row}
+use Rattle.sqlite_trees.specs.Tree.{rowid, put_row}
 use Rattle.sqlite_sql.specs.Program.{overlay}
 use Rattle.sqlite_sql.specs.Term.{Term, eval_all, holds}
 use Rattle.sqlite_rules.specs.declared.error.Rowids.TheVariants.{Given}
@@ -91,15 +91,15 @@ updates_where schema at table it old new has text tests shown command params p s
     let cased : goal (map show (filter p rows)) ≡ fold (insert_by number_of) rows (map f (filter p rows)) = elim (few p rows one) [
       | inl none ↦ ap (λ l. goal (map show l)) none ∙ sym (ap (λ l. fold (insert_by number_of) rows (map f l)) none)
       | inr hit ↦
-        let r = hit.0 in
-        let fact : P r = (subst (AllByRecursion P) hit.1 (all-filter P p rows each)).0 in
-        let left : without_all rows (ids_of (map show (filter p rows))) ≡ filter (λ y. not (p y)) rows = removes_by show ids p rows _ numbered (IsPermutation-refl _) in
-        let left_one : without_all rows (ids_of (show r ∷ [])) ≡ filter (λ y. not (p y)) rows = subst (λ l. without_all rows (ids_of (map show l)) ≡ filter (λ y. not (p y)) rows) hit.1 left in
-        ap (λ l. goal (map show l)) hit.1
-        ∙ ap (λ l. put_row (cast_row table (drop 1 (show r))) l) left_one
-        ∙ ap (λ n. put_row n (filter (λ y. not (p y)) rows)) (casts r fact)
-        ∙ put_same (f r) (filter (λ y. not (p y)) rows) (all-filter _ (λ y. not (p y)) rows numbered.numbers) (owns r)
-        ∙ insert_gone p rows r (f r) numbered.rising hit.1 (keeps r)
-        ∙ sym (ap (λ l. fold (insert_by number_of) rows (map f l)) hit.1)
+          let r = hit.0 in
+          let fact : P r = (subst (AllByRecursion P) hit.1 (all-filter P p rows each)).0 in
+          let left : without_all rows (ids_of (map show (filter p rows))) ≡ filter (λ y. not (p y)) rows = removes_by show ids p rows _ numbered (IsPermutation-refl _) in
+          let left_one : without_all rows (ids_of (show r ∷ [])) ≡ filter (λ y. not (p y)) rows = subst (λ l. without_all rows (ids_of (map show l)) ≡ filter (λ y. not (p y)) rows) hit.1 left in
+          ap (λ l. goal (map show l)) hit.1
+          ∙ ap (λ l. put_row (cast_row table (drop 1 (show r))) l) left_one
+          ∙ ap (λ n. put_row n (filter (λ y. not (p y)) rows)) (casts r fact)
+          ∙ put_same (f r) (filter (λ y. not (p y)) rows) (all-filter _ (λ y. not (p y)) rows numbered.numbers) (owns r)
+          ∙ insert_gone p rows r (f r) numbered.rising hit.1 (keeps r)
+          ∙ sym (ap (λ l. fold (insert_by number_of) rows (map f l)) hit.1)
     ] in
     subst (λ l. Changes table.tree l old.now new.now) (ap goal found ∙ cased ∙ puts_update number_of p f keeps rows numbered.rising) done.2

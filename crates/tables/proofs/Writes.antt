@@ -1,5 +1,5 @@
 -- What an INSERT of values, a DELETE and an UPDATE make of their table.
-use Rattle.std.proofs.Common.{◌≡◌, ◌≢◌, ◌⊎◌, inl, inr, ℕ, ◌/◌, List, [], ◌∷◌, ◌++◌, length, drop, ◌-◌, MatchBool, cond, ap₂, ℤ, int_cmp, is_lt, Bool, true, false, None, Some, Option, slice_get, Ok, Err, Result, OnOk, append-nil, refl, sym, ap, subst, ◌∙◌}
+use Rattle.std.proofs.Common.{◌≡◌, ◌≢◌, ◌⊎◌, inl, inr, ℕ, ◌/◌, List, [], ◌∷◌, ◌++◌, length, drop, ◌-◌, MatchBool, cond, ap₂, ℤ, int_cmp, is_lt, false, None, Some, Option, slice_get, Ok, Err, Result, append-nil, refl, sym, ap, subst, ◌∙◌}
 use Rattle.std.specs.List.{AllByRecursion}
 use Rattle.sqlite_value.specs.Order.{Row}
 use Rattle.sqlite_trees.specs.Tree.{Trees}
@@ -20,7 +20,7 @@ use Rattle.sqlite.specs.Does.{Tally, Does, AtPlace, OnRows, Concludes}
 use Rattle.sqlite.specs.Listing.{understood}
 use Rattle.sqlite.specs.Rows.{Part, Written, Task, Edited, stamped, rowids_for, count_of, sequence, Counts, CountsIn, Gives}
 use Rattle.sqlite.specs.State.{State, Writes, mode_of}
-use Rattle.sqlite.proofs.Callers.{IsPlain, command_of, statement_of, runs_as, one_step}
+use Rattle.sqlite.proofs.Callers.{IsPlain, command_of, runs_as, one_step}
 use Rattle.tables.specs.Steps.{Ran, Changes}
 
 -- a table whose writes set off nothing
@@ -64,7 +64,7 @@ changed schema tree rows old new mid has is now others = record {
   schema = ap (λ (d : Database). d.schema) is ∙ sym has;
   rows = ap (λ (d : Database). d.trees tree) is ∙ now;
   others = subst (λ (s : Schema). AllByRecursion (λ t. t.tree ≢ tree → new.trees t.tree ≡ old.trees t.tree) s.tables) (sym has)
-  (subst (λ (d : Database). AllByRecursion (λ t. t.tree ≢ tree → d.trees t.tree ≡ old.trees t.tree) schema.tables) (sym is) others);
+      (subst (λ (d : Database). AllByRecursion (λ t. t.tree ≢ tree → d.trees t.tree ≡ old.trees t.tree) schema.tables) (sym is) others);
 }
 
 module _ (schema : Schema) (at : ℕ) (table : Table) (it : IsPlainTable schema at table) (old new : State) (has : old.now.schema ≡ schema) (params : Row) where

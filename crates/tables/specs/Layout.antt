@@ -1,6 +1,6 @@
 -- When the rows of the tables are laid out as this server lays them out.
 -- This server's own: what an opened file is held to, and what each write keeps.
-use Rattle.std.specs.Prelude.{◌≡◌, ◌≢◌, ◌≤◌, ◌<◌, ◌^◌, ◌↔◌, IsTrue, ℕ, ℤ, pos, ◌<ℤ◌, Bool, true, List, [], ◌∷◌, find, Option, Some, None, option_map}
+use Rattle.std.specs.Prelude.{◌≡◌, ◌≢◌, ◌≤◌, ◌<◌, ◌^◌, ◌↔◌, IsTrue, ℤ, pos, ◌<ℤ◌, List, [], ◌∷◌, find, Option, Some, None, option_map}
 use Rattle.std.specs.List.{AllByRecursion, list_any}
 use Rattle.std.specs.Ordering.{int_eq}
 use Rattle.couch_json.specs.Canonical.{canonical}

@@ -1,6 +1,6 @@
 -- What the rows of the tables say: the databases that they hold, as a function of all rows; a row that is laid out otherwise says something, whatever it is.
 -- The contents are those of `store`; that a known revision is a row is this server's own layout.
-use Rattle.std.specs.Prelude.{ℕ, ◌-◌, ℤ, pos, negsuc, ◌+ℤ◌, ◌++◌, fold, Bool, true, false, ◌&&◌, nat_lt, bytes_eq, if◌then◌else◌, List, [], ◌∷◌, map, filter, find, Option, Some, None, option_map, Result, Ok, Err}
+use Rattle.std.specs.Prelude.{ℕ, ◌-◌, ℤ, pos, negsuc, ◌+ℤ◌, ◌++◌, fold, Bool, true, false, ◌&&◌, nat_lt, bytes_eq, if◌then◌else◌, List, [], ◌∷◌, map, filter, Option, Some, None, Result, Ok, Err}
 use Rattle.std.specs.declared.cmp.Ordering.{Ordering}
 use Rattle.std.specs.Ordering.{int_eq, nat_cmp}
 use Rattle.std.specs.Cmp.Lexicographic.{slice_cmp}
@@ -10,7 +10,7 @@ use Rattle.couch_json.specs.Reading.{reading}
 use Rattle.couch_json.specs.Value as json
 use Rattle.couch_json.specs.declared.fault.JsonFault.{JsonFault}
 use Rattle.tree.specs.History.{HistoryContent, row_of}
-use Rattle.tree.specs.Revision.{Revision, text_of}
+use Rattle.tree.specs.Revision.{Revision}
 use Rattle.tree.specs.declared.entry.Entry.{Entry}
 use Rattle.tree.specs.declared.entry.Held.{Held}
 use Rattle.store.specs.Contents.{Contents}

@@ -49,11 +49,7 @@ pub fn delete_database<S: Alter>(tx: &mut Transaction<'_, S>, number: &i64) -> R
     ensures inside { Stays S.Store tx.old.conn.now tx.new.conn.now result }
     ensures proceeds { Proceeds S.Store tx.old.conn.now tx.new.conn.now }
 {
-    change(
-        tx,
-        "DELETE FROM dbs WHERE num = ?1",
-        params![number],
-    )
+    change(tx, "DELETE FROM dbs WHERE num = ?1", params![number])
 }
 
 /// Gives the database of this number another security object.

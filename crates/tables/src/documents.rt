@@ -56,11 +56,7 @@ pub fn clear_documents<S: Alter>(tx: &mut Transaction<'_, S>, db: &i64) -> Resul
     ensures inside { Stays S.Store tx.old.conn.now tx.new.conn.now result }
     ensures proceeds { Proceeds S.Store tx.old.conn.now tx.new.conn.now }
 {
-    change(
-        tx,
-        "DELETE FROM docs WHERE db = ?1",
-        params![db],
-    )
+    change(tx, "DELETE FROM docs WHERE db = ?1", params![db])
 }
 
 /// Returns the row of a document, if there is one: its sequence, its winner and whether that is deleted.

@@ -30,11 +30,7 @@ pub fn insert_local<S: Alter>(
 }
 
 /// Takes out the row of the local document of this id.
-pub fn delete_local<S: Alter>(
-    tx: &mut Transaction<'_, S>,
-    db: &i64,
-    id: &[u8],
-) -> Result<(), Error>
+pub fn delete_local<S: Alter>(tx: &mut Transaction<'_, S>, db: &i64, id: &[u8]) -> Result<(), Error>
     ensures same_reference { tx.new.conn.ghost_name ≡ tx.old.conn.ghost_name }
     ensures ok { Alters S.Store locals_tree AreKeyed (λ rows. filter (λ r. not (is_of db.now id.now r)) rows) tx.old.conn.now tx.new.conn.now result }
     ensures inside { Stays S.Store tx.old.conn.now tx.new.conn.now result }
@@ -54,11 +50,7 @@ pub fn clear_locals<S: Alter>(tx: &mut Transaction<'_, S>, db: &i64) -> Result<(
     ensures inside { Stays S.Store tx.old.conn.now tx.new.conn.now result }
     ensures proceeds { Proceeds S.Store tx.old.conn.now tx.new.conn.now }
 {
-    change(
-        tx,
-        "DELETE FROM locals WHERE db = ?1",
-        params![db],
-    )
+    change(tx, "DELETE FROM locals WHERE db = ?1", params![db])
 }
 
 /// Returns the row of a local document, if there is one: its number and its body.

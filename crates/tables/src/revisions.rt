@@ -60,11 +60,7 @@ pub fn clear_revisions<S: Alter>(tx: &mut Transaction<'_, S>, db: &i64) -> Resul
     ensures inside { Stays S.Store tx.old.conn.now tx.new.conn.now result }
     ensures proceeds { Proceeds S.Store tx.old.conn.now tx.new.conn.now }
 {
-    change(
-        tx,
-        "DELETE FROM revs WHERE db = ?1",
-        params![db],
-    )
+    change(tx, "DELETE FROM revs WHERE db = ?1", params![db])
 }
 
 /// Returns the rows of all known revisions of a document, in some order.

@@ -1,5 +1,4 @@
 use Rattle.std.proofs.Common.{◌≡◌, Option, None, Some, refl}
-use Rattle.sqlite_value.specs.declared.value.Value.{Value}
 use Rattle.sqlite_value.specs.declared.value.Value.TheVariants.{Text}
 use Rattle.sqlite_rules.specs.Cast.{as_text}
 use Rattle.sqlite.specs.Held.{state}

@@ -1,9 +1,9 @@
-use Rattle.std.proofs.Common.{◌≡◌, ◌⊎◌, inl, inr, ℕ, List, Ok, Err, Result, IfOk, IfErr, OnOk, refl}
+use Rattle.std.proofs.Common.{◌⊎◌, inl, ℕ, List, Ok, Err, Result, IfOk, IfErr, OnOk}
 use Rattle.sqlite_value.specs.Order.{Row}
 use Rattle.sqlite.specs.Given.{IsPlain}
 use Rattle.sqlite.specs.Held.{state}
 use Rattle.sqlite.specs.Listing.{understood}
-use Rattle.sqlite.specs.State.{State, HasCleanDisk, IsUnchanged, IsRolledBack, Shown, FailsToQuery}
+use Rattle.sqlite.specs.State.{State, IsUnchanged, IsRolledBack, Shown, FailsToQuery}
 use Rattle.sqlite.specs.declared.error.Error.{Error}
 use Rattle.tables.proofs.Stays.{query_stands, query_fails, looks}
 use Rattle.tables.proofs.statement.query.Goals as goal
