@@ -3,3 +3,4 @@ pub mod Steps
 pub mod Rows
 pub mod Layout
 pub mod Calls
+pub mod Shown

@@ -2,6 +2,7 @@
 #![tactic(auto)]
 
 mod create;
+mod decode;
 pub mod databases;
 pub mod documents;
 pub mod locals;
@@ -9,3 +10,4 @@ pub mod revisions;
 mod statement;
 
 pub use create::create_tables;
+pub use decode::{RowFault, read_local};
