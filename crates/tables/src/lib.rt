@@ -10,4 +10,4 @@ pub mod revisions;
 mod statement;
 
 pub use create::create_tables;
-pub use decode::{RowFault, read_local};
+pub use decode::{FoundDatabase, FoundDocument, RowFault, read_database, read_document, read_local};
