@@ -2,12 +2,14 @@
 #![tactic(auto)]
 
 mod create;
-mod decode;
 pub mod databases;
+mod decode;
 pub mod documents;
 pub mod locals;
 pub mod revisions;
 mod statement;
 
 pub use create::create_tables;
-pub use decode::{FoundDatabase, FoundDocument, RowFault, read_database, read_document, read_local};
+pub use decode::{
+    FoundDatabase, FoundDocument, RowFault, read_database, read_document, read_local,
+};
