@@ -14,3 +14,4 @@ pub mod RevisionStatements
 pub mod Updates
 pub mod Sorted
 pub mod DatabaseStatements
+pub mod Kept
