@@ -1,5 +1,5 @@
 -- Rows stay fit for a change as some are taken out, and as one is put in.
-use Rattle.std.proofs.Common.{ℤ, ◌<ℤ◌, Bool, List, [], ◌∷◌, ◌++◌, filter, refl}
+use Rattle.std.proofs.Common.{ℤ, ◌<ℤ◌, Bool, List, [], ◌∷◌, filter, refl}
 use Rattle.std.specs.List.{AllByRecursion}
 use Rattle.sqlite_value.specs.declared.value.Value.TheVariants.{Int, Blob}
 use Rattle.sqlite_value.specs.Order.{Row}
