@@ -80,7 +80,10 @@ fn read_name(alloc: Global, value: Option<&Json>) -> Result<String, QueryFault>
     ensures { Reads string_bytes (option_and_then index_name_in (option_map (λ v. view v.now) value.entry)) result }
 {
     match value {
-        Some(Json::Text(name)) if is_index_name(name) => Ok(String::from_str(alloc, name.as_str())?),
+        Some(Json::Text(name)) if is_index_name(name) => Ok(String::from_str(
+            alloc,
+            name.as_str(),
+        )?),
         _ => Err(QueryFault::Shape),
     }
 }

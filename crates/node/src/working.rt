@@ -86,9 +86,8 @@ fn action_of(work: Work) -> Action
     match work {
         Work::Read(_) | Work::Write(Writing::LocalDocument) => Action::Read,
         Work::Write(Writing::Security) => Action::WriteSecurity,
-        Work::Write(
-            Writing::Documents | Writing::Document | Writing::Deletion | Writing::Index,
-        ) => Action::WriteDocument,
+        Work::Write(Writing::Documents | Writing::Document | Writing::Deletion | Writing::Index) =>
+            Action::WriteDocument,
     }
 }
 

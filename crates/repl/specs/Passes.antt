@@ -134,9 +134,9 @@ abbrev pub stopped_at : Pass → Why → Pass
 stopped_at p why = record p { phase = Stopped why }
 
 -- what a reply says is taken in, or the pass stops
-abbrev pub taken : {A : Type 0} → (Pass → A → Pass) → Pass → Result A Why → Pass
-taken take p (Ok a) = take p a
-taken take p (Err why) = stopped_at p why
+abbrev pub pass_after : {A : Type 0} → (Pass → A → Pass) → Pass → Result A Why → Pass
+pass_after take p (Ok a) = take p a
+pass_after take p (Err why) = stopped_at p why
 
 abbrev pub with_source : Pass → Stored → Pass
 with_source p s = record p { phase = ReadTarget; older = s.checkpoint; source_revision = s.revision }
@@ -206,16 +206,16 @@ with_target_reread p s =
 
 -- the pass after a reply to what it asks in a phase
 abbrev pub answered_in : Phase → Pass → ℕ → List ℕ → Pass
-answered_in ReadSource p status body = taken with_source p (checkpoint_read status body)
-answered_in ReadTarget p status body = taken with_target p (checkpoint_read status body)
-answered_in ListChanges p status body = taken with_changes p (changes_listed status body)
-answered_in Compare p status body = taken with_differences p (differences_read p.leaves status body)
-answered_in Open p status body = taken with_opened p (revisions_opened status body)
-answered_in Push p status body = taken with_failures p (documents_pushed status body)
-answered_in WriteSource p status body = taken with_source_written p (checkpoint_written status body)
-answered_in WriteTarget p status body = taken with_target_written p (checkpoint_written status body)
-answered_in RereadSource p status body = taken with_source_reread p (checkpoint_read status body)
-answered_in RereadTarget p status body = taken with_target_reread p (checkpoint_read status body)
+answered_in ReadSource p status body = pass_after with_source p (checkpoint_read status body)
+answered_in ReadTarget p status body = pass_after with_target p (checkpoint_read status body)
+answered_in ListChanges p status body = pass_after with_changes p (changes_listed status body)
+answered_in Compare p status body = pass_after with_differences p (differences_read p.leaves status body)
+answered_in Open p status body = pass_after with_opened p (revisions_opened status body)
+answered_in Push p status body = pass_after with_failures p (documents_pushed status body)
+answered_in WriteSource p status body = pass_after with_source_written p (checkpoint_written status body)
+answered_in WriteTarget p status body = pass_after with_target_written p (checkpoint_written status body)
+answered_in RereadSource p status body = pass_after with_source_reread p (checkpoint_read status body)
+answered_in RereadTarget p status body = pass_after with_target_reread p (checkpoint_read status body)
 answered_in Done p status body = p
 answered_in (Stopped why) p status body = p
 

@@ -11,12 +11,12 @@ abbrev pub is_unreserved : ℕ → Bool
 is_unreserved b = is_ascii_alphanumeric b || b == 45 || b == 46 || b == 95 || b == 126
 
 -- the ASCII bytes that are reserved: all but letters, digits, `-`, `.`, `_` and `~`; bit b stands for the byte b
-abbrev pub reserved : AsciiSet
-reserved = record { mask = 0xb800000178000001fc009fffffffffff }
+abbrev pub reserved_bytes : AsciiSet
+reserved_bytes = record { mask = 0xb800000178000001fc009fffffffffff }
 
 -- a name as one segment of a path: each reserved byte and each byte outside of ASCII is escaped
 abbrev pub segment : List ℕ → List ℕ
-segment name = percent_encode reserved name
+segment name = percent_encode reserved_bytes name
 
 -- the id of a document: a design document's stands in two segments
 abbrev pub document_segments : List ℕ → List ℕ

@@ -176,7 +176,7 @@ impl Replication {
     fn report(&self) -> Got<Report>
         ensures { IfOk result (λ r. report_of r ≡ summary_of (pass_of self.now)) }
     {
-        Report::copied(
+        Report::from_parts(
             self.alloc,
             self.start_seq,
             self.last_seq,

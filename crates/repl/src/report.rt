@@ -28,7 +28,7 @@ impl Report {
     ghost use Rattle.repl.specs.Passes.{summary_value};
 
     /// Makes the report of these numbers, with a copy of what was refused.
-    pub(crate) fn copied(
+    pub(crate) fn from_parts(
         alloc: Global,
         start_seq: Count,
         last_seq: Count,

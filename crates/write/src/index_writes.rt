@@ -96,7 +96,14 @@ fn admit_index(
         return Ok(None);
     }
     let document = build_document(alloc, find_winning_body(history), name, index)?;
-    let write = admit_edit(alloc, terms, history, id, history.winner().copied(), document)?;
+    let write = admit_edit(
+        alloc,
+        terms,
+        history,
+        id,
+        history.winner().copied(),
+        document,
+    )?;
     Ok(Some(write))
 }
 

@@ -1,0 +1,56 @@
+-- What the tests of a statement say of the cells of a row.
+use Rattle.std.proofs.Common.{◌≡◌, ℕ, ℤ, Bool, true, false, cond, bytes_eq, List, [], ◌∷◌, refl, ap, ◌∙◌, int_eq}
+use Rattle.std.proofs.lemmas.Map.Text.{is_eq-slice_cmp}
+use Rattle.sqlite_value.specs.declared.value.Value.{Value}
+use Rattle.sqlite_value.specs.declared.value.Value.TheVariants.{Null, Int, Blob}
+use Rattle.sqlite_value.specs.declared.keys.Collation.TheVariants.{Binary}
+use Rattle.sqlite_value.specs.Order.{Row, column}
+use Rattle.sqlite_sql.specs.declared.ops.BinaryOp.TheVariants.{Compare}
+use Rattle.sqlite_sql.specs.declared.ops.CompareOp.TheVariants.{Eq}
+use Rattle.sqlite_sql.specs.Ops.{binary, unary, is_true}
+use Rattle.sqlite_sql.specs.Term.{Term, col, op2, holds}
+use Rattle.sqlite_rules.specs.Cast.{cast}
+use Rattle.sqlite_schema.specs.declared.schema.Kind.TheVariants.{Integer}
+use Rattle.sqlite_typed.proofs.TestLemmas.{at_ints, at_blobs, then_term, last_term}
+use Rattle.sqlite_keyed.proofs.ListLemmas.{all_weaker}
+use Rattle.std.specs.List.{AllByRecursion, list_all}
+use Rattle.tables.specs.Layout.{IsKeyed, AreKeyed}
+use Rattle.tables.specs.Rows.{db_of, id_of, is_in, is_of}
+
+-- a cell of the row against a parameter
+abbrev pub is_param : ℕ → ℕ → Term
+is_param at k = op2 (Compare Eq Binary) (col 1 at) (col 0 k)
+
+pub same_int : (v : Value) (m n : ℤ) → v ≡ Int m → is_true (binary (Compare Eq Binary) v (Int n)) ≡ int_eq m n
+same_int v m n is = ap (λ x. is_true (binary (Compare Eq Binary) x (Int n))) is ∙ at_ints false Eq m n
+
+pub same_blob : (v : Value) (a b : List ℕ) → v ≡ Blob a → is_true (binary (Compare Eq Binary) v (Blob b)) ≡ bytes_eq a b
+same_blob v a b is = ap (λ x. is_true (binary (Compare Eq Binary) x (Blob b))) is ∙ at_blobs false Eq a b ∙ is_eq-slice_cmp a b
+
+either : (b : Bool) (x : Value) → cond b x x ≡ x
+either true x = refl
+either false x = refl
+
+pub cast_null : cast Integer Null ≡ Null
+unfolding unary
+cast_null = either _ Null
+
+pub cast_int : (n : ℤ) → cast Integer (Int n) ≡ Int n
+unfolding unary
+cast_int n = either _ (Int n)
+
+-- ---- the tests by database and id, of rows that name them
+
+abbrev pub by_db : List Term
+by_db = is_param 1 0 ∷ []
+
+abbrev pub by_id : List Term
+by_id = is_param 1 0 ∷ is_param 2 1 ∷ []
+
+pub tests_db : (db : ℤ) (rows : List Row) → AreKeyed rows → AllByRecursion (λ r. list_all (holds ((Int db ∷ []) ∷ r ∷ [])) by_db ≡ is_in db r) rows
+tests_db db rows h = all_weaker IsKeyed (λ r. list_all (holds ((Int db ∷ []) ∷ r ∷ [])) by_db ≡ is_in db r) (λ r k. last_term (same_int (column r 1) (db_of r) db k.db)) rows h.keyed
+
+pub tests_id : (db : ℤ) (id : List ℕ) (rows : List Row) → AreKeyed rows → AllByRecursion (λ r. list_all (holds ((Int db ∷ Blob id ∷ []) ∷ r ∷ [])) by_id ≡ is_of db id r) rows
+tests_id db id rows h =
+    all_weaker IsKeyed (λ r. list_all (holds ((Int db ∷ Blob id ∷ []) ∷ r ∷ [])) by_id ≡ is_of db id r)
+    (λ r k. then_term (same_int (column r 1) (db_of r) db k.db) (last_term (same_blob (column r 2) (id_of r) id k.id))) rows h.keyed

@@ -1,0 +1,88 @@
+-- What the texts that make the tables mean.
+use Rattle.std.proofs.Common.{◌≡◌, ◌⊎◌, inl, inr, ℕ, List, [], codes, false, None, Ok, Err, Result, OnOk, refl, sym, ap, subst, ◌∙◌}
+use Rattle.sqlite_catalog.specs.Change.{created, next_tree, KeepsRows}
+use Rattle.sqlite.specs.Effect.{Database}
+use Rattle.sqlite.specs.Does.{Tally, lacks_sequence}
+use Rattle.sqlite.specs.State.{State, Writes}
+use Rattle.tables.specs.Steps.{Ran, AddsTable}
+use Rattle.sqlite_schema.specs.declared.schema.Schema.{Schema}
+use Rattle.sqlite_schema.specs.declared.schema.Table.{Table}
+use Rattle.sqlite_schema.specs.declared.command.Command.TheVariants.{CreateTable}
+use Rattle.sqlite_resolve.specs.Compile.{table_defined_by}
+use Rattle.sqlite_tied.specs.Compute.{everything}
+use Rattle.sqlite.specs.Listing.{understood}
+use Rattle.sqlite.proofs.Callers.{IsPlain, command_of, statement_of, runs_as}
+use Rattle.tables.specs.Schema as tables
+
+-- the text, in this schema, makes this table
+pub record Creates (schema : Schema) (text : List ℕ) (table : Table) : Type 0 where
+  pub command : command_of (understood schema text) ≡ CreateTable
+  pub whole : statement_of text (understood schema text) ≡ text
+  pub defined : table_defined_by text ≡ Ok table
+  pub plain : IsPlain (understood schema text)
+  pub uncounted : lacks_sequence (created schema table) ≡ false
+
+abbrev pub meta_text : List ℕ
+meta_text = codes "CREATE TABLE meta (version INTEGER NOT NULL) STRICT"
+
+abbrev pub dbs_text : List ℕ
+dbs_text = codes "CREATE TABLE dbs (num INTEGER PRIMARY KEY, name BLOB NOT NULL UNIQUE, sec TEXT NOT NULL, seq INTEGER NOT NULL) STRICT"
+
+abbrev pub docs_text : List ℕ
+docs_text = codes "CREATE TABLE docs (db INTEGER NOT NULL, id BLOB NOT NULL, seq INTEGER NOT NULL, winner TEXT NOT NULL, del INTEGER NOT NULL, PRIMARY KEY (db, id), UNIQUE (db, seq)) STRICT"
+
+abbrev pub revs_text : List ℕ
+revs_text = codes "CREATE TABLE revs (db INTEGER NOT NULL, id BLOB NOT NULL, n INTEGER NOT NULL, hash TEXT NOT NULL, parent TEXT, held INTEGER NOT NULL, del INTEGER NOT NULL, body TEXT, PRIMARY KEY (db, id, n, hash)) STRICT"
+
+abbrev pub locals_text : List ℕ
+locals_text = codes "CREATE TABLE locals (db INTEGER NOT NULL, id BLOB NOT NULL, n INTEGER NOT NULL, body TEXT NOT NULL, PRIMARY KEY (db, id)) STRICT"
+
+pub meta_made : Creates tables.no_schema meta_text tables.meta
+unfolding understood everything
+meta_made = record { command = refl; whole = refl; defined = refl; plain = (refl, refl); uncounted = refl }
+
+pub dbs_made : Creates tables.schema_1 dbs_text tables.dbs
+unfolding understood everything
+dbs_made = record { command = refl; whole = refl; defined = refl; plain = (refl, refl); uncounted = refl }
+
+pub docs_made : Creates tables.schema_2 docs_text tables.docs
+unfolding understood everything
+docs_made = record { command = refl; whole = refl; defined = refl; plain = (refl, refl); uncounted = refl }
+
+pub revs_made : Creates tables.schema_3 revs_text tables.revs
+unfolding understood everything
+revs_made = record { command = refl; whole = refl; defined = refl; plain = (refl, refl); uncounted = refl }
+
+pub locals_made : Creates tables.schema_4 locals_text tables.locals
+unfolding understood everything
+locals_made = record { command = refl; whole = refl; defined = refl; plain = (refl, refl); uncounted = refl }
+
+-- a part that gave a value did not stop on the way
+went : {B E R : Type 0} {b : B} {Stops : E → Type 0} → ((stop : E) × Stops stop × (Ok b ≡ Err stop)) ⊎ R → R
+went (inl stopped) = absurd (let e = stopped.2 in cc)
+went (inr on) = on
+
+same_value : {B E : Type 0} {a b : B} → ◌≡◌ {A = Result B E} (Ok a) (Ok b) → a ≡ b
+same_value e = cc
+
+-- a text that makes a table makes it
+pub adds_table : (schema : Schema) (text : List ℕ) (table : Table) (old new : State) → Creates schema text table → old.now.schema ≡ schema → Ran text [] old new → AddsTable schema table old.now new.now
+adds_table schema text table old new creates has ran =
+    let w = subst (λ t. Writes old new None CreateTable t [] ran.0) creates.whole (runs_as text [] old new schema has CreateTable creates.command creates.plain ran.0 ran.1) in
+    let all = went w.changed in
+    let first = went all.1 in
+    let made = first.1 in
+    let both : Ok made.table ≡ Ok table = sym made.defined ∙ creates.defined in
+    let same : made.table ≡ table = cc in
+    let is : first.0.schema ≡ created schema table = made.is ∙ ap (λ s. created s made.table) has ∙ ap (created schema) same in
+    let plain : lacks_sequence first.0.schema ≡ false = ap lacks_sequence is ∙ creates.uncounted in
+    let now : new.now ≡ first.0 = ap (λ (p : Tally × Database). p.1) (same_value all.2) ∙ same_value (rw plain at first.2) in
+    record {
+      schema_is = ap (λ (d : Database). d.schema) now ∙ is;
+      empty = ap (λ (d : Database). d.trees (next_tree schema)) now ∙ subst (λ s. first.0.trees (next_tree s) ≡ []) has made.empty;
+      others = subst (λ (d : Database). KeepsRows schema.tables old.now.trees d.trees) (sym now) (subst (λ (s : Schema). KeepsRows s.tables old.now.trees first.0.trees) has made.others);
+    }
+
+pub adds_if_ran : (schema : Schema) (text : List ℕ) (table : Table) (old new : State) → Creates schema text table → {X E : Type 0} → (r : Result X E) → old.now.schema ≡ schema → OnOk r (Ran text [] old new) → OnOk r (AddsTable schema table old.now new.now)
+adds_if_ran schema text table old new creates (Err e) has h = tt
+adds_if_ran schema text table old new creates (Ok x) has h = adds_table schema text table old new creates has h

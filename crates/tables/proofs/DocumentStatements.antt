@@ -1,0 +1,176 @@
+-- What the statements on documents mean.
+use Rattle.std.proofs.Common.{◌≡◌, ℕ, ℤ, pos, List, [], ◌∷◌, map, filter, codes, Bool, true, false, not, cond, Ok, Err, Result, IfOk, OnOk, refl, sym, ap, ap₂, subst, ◌∙◌, ◌≢◌, bytes_eq, nat_cmp, int_cmp, is_eq, arith, Equal}
+use Rattle.sqlite_value.specs.declared.value.Value.TheVariants.{Null, Int, Text, Blob}
+use Rattle.sqlite_sql.specs.Term.{Term, lit, col}
+use Rattle.sqlite_rules.specs.Cast.{cast_row}
+use Rattle.sqlite_schema.specs.declared.command.Command.TheVariants.{Insert, Delete, Select}
+use Rattle.sqlite_schema.specs.declared.command.Source.TheVariants.{Values}
+use Rattle.sqlite_tied.specs.Compute.{everything}
+use Rattle.sqlite.specs.Listing.{understood, reads_listing}
+use Rattle.sqlite.specs.State.{State, Shown}
+use Rattle.tables.proofs.Cells.{by_db, by_id, cast_null, cast_int, tests_db, tests_id}
+use Rattle.tables.proofs.Deletes.{deletes_where}
+use Rattle.tables.proofs.Finds.{finds_one}
+use Rattle.sqlite_value.specs.Order.{Row}
+use Rattle.std.specs.List.{AllByRecursion}
+use Rattle.std.specs.Ordering.{ordering_then}
+use Rattle.std.proofs.lemmas.Int.{ints}
+use Rattle.std.proofs.lemmas.Bool.Decides.{nat_tests}
+use Rattle.std.proofs.lemmas.Map.Text.{is_eq-slice_cmp}
+use Rattle.std.proofs.lemmas.Slice.Eq.{bytes_eq-Decides}
+use Rattle.sqlite_value.specs.declared.keys.Collation.TheVariants.{Binary}
+use Rattle.sqlite_value.specs.declared.keys.Key.{Key}
+use Rattle.sqlite_value.specs.Order.{column, value_cmp}
+use Rattle.sqlite_value.proofs.OrderLemmas.{value_cmp-Blob, value_cmp-Int, then-Equal}
+use Rattle.sqlite_keyed.specs.Lists.{sort_by}
+use Rattle.sqlite_keyed.proofs.KeyedLemmas.{same_int}
+use Rattle.sqlite_keyed.proofs.ListLemmas.{all_weaker}
+use Rattle.tables.proofs.Sorted.{lists}
+use Rattle.tables.specs.Rows as order
+use Rattle.tables.proofs.Numbered.{numbered_from_keyed}
+use Rattle.tables.proofs.Queries.{program_on}
+use Rattle.tables.proofs.Single.{one_row, fails}
+use Rattle.tables.proofs.Tables.{docs_plain, docs_keyed, one_of}
+use Rattle.tables.proofs.Writes.{IsCommand, inserts}
+use Rattle.tables.specs.Layout.{AreKeyed, IsStore, IsDocumentRow}
+use Rattle.tables.specs.Rows.{is_in, is_of, shown_document, listed_document, number_of, db_of, id_of, sequence_of, winner_text, is_gone, document_row, document_cells, with_cells}
+use Rattle.tables.specs.Schema.{schema, docs_tree, docs_table}
+use Rattle.tables.specs.Steps.{Ran, Changes}
+
+abbrev pub insert_text : List ℕ
+insert_text = codes "INSERT INTO docs (db, id, seq, winner, del) VALUES (?1, ?2, ?3, ?4, ?5)"
+
+abbrev pub delete_text : List ℕ
+delete_text = codes "DELETE FROM docs WHERE db = ?1 AND id = ?2"
+
+abbrev pub clear_text : List ℕ
+clear_text = codes "DELETE FROM docs WHERE db = ?1"
+
+abbrev pub values : List Term
+values = lit Null ∷ col 0 0 ∷ col 0 1 ∷ col 0 2 ∷ col 0 3 ∷ col 0 4 ∷ []
+
+pub insert_is : IsCommand schema insert_text (Insert 2 (Values values 6))
+unfolding understood everything
+insert_is = record { is = refl; plain = (refl, refl) }
+
+pub delete_is : IsCommand schema delete_text (Delete 2 (program_on docs_tree by_id (col 1 0 ∷ []) []))
+unfolding understood everything
+delete_is = record { is = refl; plain = (refl, refl) }
+
+pub clear_is : IsCommand schema clear_text (Delete 2 (program_on docs_tree by_db (col 1 0 ∷ []) []))
+unfolding understood everything
+clear_is = record { is = refl; plain = (refl, refl) }
+
+cast : (db : ℤ) (id : List ℕ) (sequence : ℤ) (winner : List ℕ) (deleted : Bool) → cast_row docs_table (Null ∷ document_cells db id sequence winner deleted) ≡ Null ∷ document_cells db id sequence winner deleted
+cast db id sequence winner deleted = λ i. cast_null i ∷ cast_int db i ∷ Blob id ∷ cast_int sequence i ∷ Text winner ∷ cast_int (cond deleted (pos 1) (pos 0)) i ∷ []
+
+module _ {X E : Type 0} (old new : State) (has : old.now.schema ≡ schema) (keyed : AreKeyed (old.now.trees docs_tree)) where
+  pub inserts_document : (db : ℤ) (id : List ℕ) (sequence : ℤ) (winner : List ℕ) (deleted : Bool) → (r : Result X E) → OnOk r (Ran insert_text (document_cells db id sequence winner deleted) old new)
+      → OnOk r (Changes docs_tree (with_cells (old.now.trees docs_tree) (document_cells db id sequence winner deleted)) old.now new.now)
+  inserts_document db id sequence winner deleted (Err e) h = tt
+  inserts_document db id sequence winner deleted (Ok x) h =
+      let rows = one_row old.now.trees docs_table (Null ∷ document_cells db id sequence winner deleted) (document_cells db id sequence winner deleted) (cast db id sequence winner deleted) (numbered_from_keyed _ keyed) in
+      subst (λ l. Changes docs_tree l old.now new.now) rows (inserts schema 2 docs_table docs_plain old new has insert_text values 6 insert_is (document_cells db id sequence winner deleted) h)
+
+  pub deletes_document : (db : ℤ) (id : List ℕ) (r : Result X E) → OnOk r (Ran delete_text (Int db ∷ Blob id ∷ []) old new)
+      → OnOk r (Changes docs_tree (filter (λ l. not (is_of db id l)) (old.now.trees docs_tree)) old.now new.now)
+  deletes_document db id r h = deletes_where schema 2 docs_table docs_plain old new has delete_text by_id delete_is (Int db ∷ Blob id ∷ []) (is_of db id) refl
+      (numbered_from_keyed _ keyed) (tests_id db id _ keyed) r h
+
+  pub clears_documents : (db : ℤ) (r : Result X E) → OnOk r (Ran clear_text (Int db ∷ []) old new)
+      → OnOk r (Changes docs_tree (filter (λ l. not (is_in db l)) (old.now.trees docs_tree)) old.now new.now)
+  clears_documents db r h = deletes_where schema 2 docs_table docs_plain old new has clear_text by_db clear_is (Int db ∷ []) (is_in db) refl
+      (numbered_from_keyed _ keyed) (tests_db db _ keyed) r h
+
+abbrev pub find_text : List ℕ
+find_text = codes "SELECT seq, winner, del FROM docs WHERE db = ?1 AND id = ?2"
+
+pub find_is : IsCommand schema find_text (Select (program_on docs_tree by_id (col 1 3 ∷ col 1 4 ∷ col 1 5 ∷ []) []) (codes "seq" ∷ codes "winner" ∷ codes "del" ∷ []))
+unfolding understood everything
+find_is = record { is = refl; plain = (refl, refl) }
+
+find_unlisted : reads_listing schema find_text ≡ false
+unfolding understood everything
+find_unlisted = refl
+
+pub finds_document : {X E : Type 0} (old new : State) → IsStore old.now → (db : ℤ) (id : List ℕ) (r : Result X E) (items : X → List Row) → IfOk r (λ x. Shown find_text (Int db ∷ Blob id ∷ []) old new (items x))
+    → IfOk r (λ x. items x ≡ map shown_document (filter (is_of db id) (old.now.trees docs_tree)))
+finds_document old new is db id r items h = finds_one schema old new is.schema_is find_text docs_tree by_id (col 1 3 ∷ col 1 4 ∷ col 1 5 ∷ []) (codes "seq" ∷ codes "winner" ∷ codes "del" ∷ []) find_is find_unlisted (Int db ∷ Blob id ∷ []) (is_of db id) shown_document refl (λ r. refl)
+    (tests_id db id _ (docs_keyed old.now.trees is.laid)) (one_of (old.now.trees docs_tree) is.laid.ids_apart db id) r items h
+
+-- ---- all documents of a database, in order
+
+abbrev listed : List Term
+listed = col 1 2 ∷ col 1 3 ∷ col 1 4 ∷ col 1 5 ∷ []
+
+abbrev headings : List (List ℕ)
+headings = codes "id" ∷ codes "seq" ∷ codes "winner" ∷ codes "del" ∷ []
+
+abbrev pub ids_text : List ℕ
+ids_text = codes "SELECT id, seq, winner, del FROM docs WHERE db = ?1 ORDER BY id"
+
+abbrev pub sequences_text : List ℕ
+sequences_text = codes "SELECT id, seq, winner, del FROM docs WHERE db = ?1 ORDER BY seq"
+
+abbrev id_order : List (Term × Key)
+id_order = (col 1 2, record { collation = Binary; descending = false }) ∷ []
+
+abbrev sequence_order : List (Term × Key)
+sequence_order = (col 1 3, record { collation = Binary; descending = false }) ∷ []
+
+pub ids_is : IsCommand schema ids_text (Select (program_on docs_tree by_db listed id_order) headings)
+unfolding understood everything
+ids_is = record { is = refl; plain = (refl, refl) }
+
+ids_unlisted : reads_listing schema ids_text ≡ false
+unfolding understood everything
+ids_unlisted = refl
+
+pub sequences_is : IsCommand schema sequences_text (Select (program_on docs_tree by_db listed sequence_order) headings)
+unfolding understood everything
+sequences_is = record { is = refl; plain = (refl, refl) }
+
+sequences_unlisted : reads_listing schema sequences_text ≡ false
+unfolding understood everything
+sequences_unlisted = refl
+
+abbrev IsOne : Row → Type 0
+IsOne r = r ≡ document_row (number_of r) (db_of r) (id_of r) (pos (sequence_of r)) (winner_text r) (is_gone r)
+
+ids_agree : (a b : Row) → IsOne a → IsOne b → ordering_then (value_cmp (column a 2) (column b 2)) Equal ≡ order.by_id a b
+ids_agree a b k l =
+    then-Equal (value_cmp (column a 2) (column b 2)) ∙ ap₂ value_cmp (ap (λ x. column x 2) k) (ap (λ x. column x 2) l) ∙ value_cmp-Blob (id_of a) (id_of b)
+
+ints_as_nats : (m n : ℕ) → int_cmp (pos m) (pos n) ≡ nat_cmp m n
+ints_as_nats m n = grind (arith, ints, nat_tests)
+
+sequences_agree : (a b : Row) → IsOne a → IsOne b → ordering_then (value_cmp (column a 3) (column b 3)) Equal ≡ order.by_sequence a b
+sequences_agree a b k l =
+    then-Equal (value_cmp (column a 3) (column b 3)) ∙ ap₂ value_cmp (ap (λ x. column x 3) k) (ap (λ x. column x 3) l) ∙ value_cmp-Int (pos (sequence_of a)) (pos (sequence_of b))
+    ∙ ints_as_nats (sequence_of a) (sequence_of b)
+
+ids_apart : (a b : Row) → (id_of a ≡ id_of b → ⊥) → is_eq (order.by_id a b) ≡ false
+ids_apart a b h = is_eq-slice_cmp (id_of a) (id_of b) ∙ fails (bytes_eq (id_of a) (id_of b)) (λ e. h ((bytes_eq-Decides (id_of a) (id_of b)).0 e))
+
+numbers_apart : (m n : ℕ) → (m ≡ n → ⊥) → is_eq (nat_cmp m n) ≡ false
+numbers_apart m n h = grind (arith, nat_tests)
+
+same_db : (db : ℤ) (a b : Row) → is_in db a ≡ true → is_in db b ≡ true → db_of a ≡ db_of b
+same_db db a b p q = same_int (db_of a) db p ∙ sym (same_int (db_of b) db q)
+
+ones : (old : State) → IsStore old.now → AllByRecursion IsOne (old.now.trees docs_tree)
+ones old is = all_weaker (IsDocumentRow old.now.trees) IsOne (λ x k. k.is) (old.now.trees docs_tree) is.laid.docs
+
+module _ {X E : Type 0} (old new : State) (is : IsStore old.now) (db : ℤ) (r : Result X E) (items : X → List Row) where
+  pub lists_by_id : IfOk r (λ x. Shown ids_text (Int db ∷ []) old new (items x)) → IfOk r (λ x. items x ≡ map listed_document (sort_by order.by_id (filter (is_in db) (old.now.trees docs_tree))))
+  lists_by_id h =
+      lists schema old new is.schema_is ids_text docs_tree by_db listed id_order headings ids_is ids_unlisted (Int db ∷ []) (is_in db) listed_document IsOne order.by_id (λ a b. db_of a ≡ db_of b → id_of a ≢ id_of b)
+      ids_agree (λ a b k l p q apart. ids_apart a b (apart (same_db db a b p q))) refl (λ x. refl) (tests_db db _ (docs_keyed old.now.trees is.laid)) (ones old is) is.laid.ids_apart r items h
+
+  pub lists_by_sequence : IfOk r (λ x. Shown sequences_text (Int db ∷ []) old new (items x))
+      → IfOk r (λ x. items x ≡ map listed_document (sort_by order.by_sequence (filter (is_in db) (old.now.trees docs_tree))))
+  lists_by_sequence h =
+      lists schema old new is.schema_is sequences_text docs_tree by_db listed sequence_order headings sequences_is sequences_unlisted (Int db ∷ []) (is_in db) listed_document IsOne order.by_sequence
+      (λ a b. db_of a ≡ db_of b → sequence_of a ≢ sequence_of b)
+      sequences_agree (λ a b k l p q apart. numbers_apart (sequence_of a) (sequence_of b) (apart (same_db db a b p q))) refl (λ x. refl) (tests_db db _ (docs_keyed old.now.trees is.laid)) (ones old is)
+      is.laid.sequences_apart r items h

@@ -1,0 +1,17 @@
+pub mod Creations
+pub mod Stays
+pub mod Numbered
+pub mod Writes
+pub mod Queries
+pub mod Cells
+pub mod Single
+pub mod Tables
+pub mod Deletes
+pub mod Finds
+pub mod LocalStatements
+pub mod DocumentStatements
+pub mod RevisionStatements
+pub mod Updates
+pub mod Sorted
+pub mod DatabaseStatements
+pub mod Kept

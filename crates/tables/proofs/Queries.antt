@@ -1,0 +1,57 @@
+-- What a SELECT on one table answers.
+use Rattle.std.proofs.Common.{◌≡◌, ℕ, pos, negsuc, List, [], ◌∷◌, ◌++◌, map, filter, flat_map, Bool, true, false, cond, None, refl, sym, ap, subst, ◌∙◌, IsPermutation}
+use Rattle.std.specs.List.{AllByRecursion, list_all}
+use Rattle.std.proofs.lemmas.List.Sorted.{IsPermutation-map}
+use Rattle.sqlite_value.specs.declared.value.Value.TheVariants.{Int}
+use Rattle.sqlite_value.specs.declared.keys.Key.{Key}
+use Rattle.sqlite_value.specs.Order.{Row}
+use Rattle.sqlite_sql.specs.Term.{Term, lit, Env, eval_all, holds}
+use Rattle.sqlite_sql.specs.Program.{overlay}
+use Rattle.sqlite_sql.specs.Query.{Query, Output, inner, end, output, IsAnswer}
+use Rattle.sqlite_schema.specs.declared.program.Program.{Program}
+use Rattle.sqlite_keyed.proofs.ListLemmas.{map-map, map_same}
+use Rattle.sqlite.specs.Effect.{Database, Answers}
+
+-- the rows of one table that pass all tests, in some order
+abbrev pub query_on : ℕ → List Term → List Term → List (Term × Key) → Query
+query_on tree tests shown order =
+    record {
+      from = inner tree end;
+      filter = tests;
+      group = None;
+      project = shown;
+      distinct = false;
+      collations = [];
+      order = order;
+      limit = lit (Int (negsuc 0));
+      offset = lit (Int (pos 0));
+    }
+
+abbrev pub program_on : ℕ → List Term → List Term → List (Term × Key) → Program
+program_on tree tests shown order = record { lets = []; body = query_on tree tests shown order }
+
+module _ (tests : List Term) (params : Row) (p : Row → Bool) where
+  pub passed : (rows : List Row) → AllByRecursion (λ r. list_all (holds (params ∷ r ∷ [])) tests ≡ p r) rows
+      → flat_map (λ r. cond (list_all (holds (params ∷ r ∷ [])) tests) ((params ∷ r ∷ []) ∷ []) []) rows ≡ map (λ r. params ∷ r ∷ []) (filter p rows)
+  passed [] all = refl
+  passed (r ∷ rows) all = ap (λ b. cond b ((params ∷ r ∷ []) ∷ []) [] ++ flat_map (λ s. cond (list_all (holds (params ∷ s ∷ [])) tests) ((params ∷ s ∷ []) ∷ []) []) rows) all.0 ∙ go (p r) (passed rows all.1)
+    where
+      go : (b : Bool) {found : List Env} → found ≡ map (λ s. params ∷ s ∷ []) (filter p rows) → cond b ((params ∷ r ∷ []) ∷ []) [] ++ found ≡ map (λ s. params ∷ s ∷ []) (cond b (r ∷ filter p rows) (filter p rows))
+      go true more = ap (λ l. (params ∷ r ∷ []) ∷ l) more
+      go false more = more
+
+  -- the answer is what is shown of the rows that pass
+  pub selects : (tree : ℕ) (shown : List Term) (order : List (Term × Key)) (show : Row → Row) (db : Database) → overlay db.trees [] tree ≡ db.trees tree
+      → ((r : Row) → eval_all shown (params ∷ r ∷ []) ≡ show r) → AllByRecursion (λ r. list_all (holds (params ∷ r ∷ [])) tests ≡ p r) (db.trees tree)
+      → (rows : List Row) → Answers db (program_on tree tests shown order) params rows → IsPermutation (map show (filter p (db.trees tree))) rows
+  selects tree shown order show db bare shows all rows h =
+      let q = query_on tree tests shown order in
+      let a : IsAnswer q (overlay db.trees []) params rows = h.answer (Rattle.sqlite_value.specs.declared.value.Value.TheVariants.Null) in
+      let found : List Row = db.trees tree in
+      let staged : a.staged ≡ map (λ r. params ∷ r ∷ []) (filter p found) =
+      a.grouped ∙ ap (flat_map (λ r. cond (list_all (holds (params ∷ r ∷ [])) tests) ((params ∷ r ∷ []) ∷ []) [])) bare ∙ passed found all in
+      let moved : IsPermutation (map (λ (o : Output). o.1) a.kept) (map (λ (o : Output). o.1) a.ordered) = IsPermutation-map (λ (o : Output). o.1) a.kept a.ordered a.same in
+      let kept : map (λ (o : Output). o.1) a.kept ≡ map show (filter p found) =
+      ap (map (λ (o : Output). o.1)) (a.distinct ∙ ap (map (output q)) staged)
+      ∙ map-map (λ (o : Output). o.1) (output q) _ ∙ map-map (λ e. (output q e).1) (λ r. params ∷ r ∷ []) (filter p found) ∙ map_same _ show shows (filter p found) in
+      subst (λ l. IsPermutation l rows) kept (subst (IsPermutation (map (λ (o : Output). o.1) a.kept)) (sym a.shown) moved)

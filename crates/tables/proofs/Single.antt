@@ -1,0 +1,50 @@
+-- One row put behind others, and a query that finds one row at most.
+use Rattle.std.proofs.Common.{◌≡◌, ◌⊎◌, inl, inr, List, [], ◌∷◌, ◌++◌, map, filter, Bool, true, false, cond, refl, sym, ap, subst, ◌∙◌, IsPermutation, arith}
+use Rattle.std.proofs.lemmas.List.Sorted.{length_permutation}
+use Rattle.sqlite_value.specs.declared.value.Value.TheVariants.{Null, Int}
+use Rattle.sqlite_value.specs.Order.{Row}
+use Rattle.sqlite_trees.specs.Tree.{Trees, IsAscending, put_row}
+use Rattle.sqlite_schema.specs.declared.schema.Table.{Table}
+use Rattle.sqlite_rules.specs.declared.error.Rowids.TheVariants.{Chosen}
+use Rattle.sqlite_rules.specs.Edit.{edit_of, edited, with_rowid}
+use Rattle.sqlite_rules.specs.Cast.{cast_row}
+use Rattle.sqlite_keyed.proofs.ListLemmas.{all_weaker, filter_none}
+use Rattle.sqlite.proofs.Callers.{one_permutation}
+use Rattle.tables.proofs.Numbered.{appends, next_is}
+use Rattle.tables.specs.Layout.{AreNumbered}
+use Rattle.tables.specs.Rows.{with_cells}
+
+-- one row of values, which is cast to these cells
+pub one_row : (db : Trees) (table : Table) (values cells : Row) → cast_row table values ≡ Null ∷ cells → AreNumbered (db table.tree)
+    → edited db (edit_of db table [] Chosen 0 (values ∷ [])) ≡ with_cells (db table.tree) cells
+one_row db table values cells is h =
+    ap (λ r. put_row (with_rowid Chosen (db table.tree) r) (db table.tree)) is ∙ appends (db table.tree) cells h
+    ∙ ap (λ n. db table.tree ++ (Int n ∷ cells) ∷ []) (next_is (db table.tree))
+
+none_permutation : {X : Type 0} (ys : List X) → IsPermutation [] ys → ys ≡ []
+none_permutation [] h = refl
+none_permutation (y ∷ ys) h = absurd (omega (arith, length_permutation [] (y ∷ ys) h))
+
+pub fails : (b : Bool) → (b ≡ true → ⊥) → b ≡ false
+fails true h = absurd (h refl)
+fails false h = refl
+
+-- no two rows pass
+abbrev pub HasOneAtMost : (Row → Bool) → List Row → Type 0
+HasOneAtMost p rows = IsAscending (λ a b. p a ≡ true → p b ≡ true → ⊥) rows
+
+pub few : (p : Row → Bool) (rows : List Row) → HasOneAtMost p rows → (filter p rows ≡ []) ⊎ ((r : Row) × (filter p rows ≡ r ∷ []))
+few p [] h = inl refl
+few p (r ∷ rows) h = go (p r) refl (few p rows h.1)
+  where
+    go : (b : Bool) → p r ≡ b → (filter p rows ≡ []) ⊎ ((s : Row) × (filter p rows ≡ s ∷ []))
+        → (cond b (r ∷ filter p rows) (filter p rows) ≡ []) ⊎ ((s : Row) × (cond b (r ∷ filter p rows) (filter p rows) ≡ s ∷ []))
+    go true is more = inr (r, ap (λ l. r ∷ l) (filter_none p rows (all_weaker _ (λ s. p s ≡ false) (λ s apart. fails (p s) (apart is)) rows h.0)))
+    go false is more = more
+
+-- of one row at most there is one order
+pub one_order : (show : Row → Row) (p : Row → Bool) (rows found : List Row) → HasOneAtMost p rows → IsPermutation (map show (filter p rows)) found → found ≡ map show (filter p rows)
+one_order show p rows found h same = elim (few p rows h) [
+  | inl none ↦ none_permutation found (subst (λ l. IsPermutation (map show l) found) none same) ∙ ap (map show) (sym none)
+  | inr one ↦ one_permutation (show one.0) found (subst (λ l. IsPermutation (map show l) found) one.1 same) ∙ ap (map show) (sym one.1)
+]

@@ -1,0 +1,65 @@
+-- Statements one after the other, and what a query leaves.
+use Rattle.std.proofs.Common.{◌≡◌, ◌⊎◌, inl, inr, ℕ, List, false, Ok, Err, Result, None, Some, IsTrue, OnOk, refl, subst, ◌∙◌, arith}
+use Rattle.sqlite_value.specs.Order.{Row}
+use Rattle.sqlite.specs.Listing.{understood}
+use Rattle.sqlite.specs.State.{State, HasCleanDisk, ExecutesInside, KeepsCommit, Survives, IsUnchanged, IsRolledBack, FailsToQuery, FailsToShow, IsNotRun, Shown, ShowsRows, CommitsShowing}
+use Rattle.sqlite.specs.Given.{IsPlain}
+use Rattle.sqlite.specs.declared.error.Error.{Error}
+use Rattle.sqlite_resolve.specs.declared.compiled.Compiled.{Compiled}
+use Rattle.sqlite.proofs.StateLemmas.{survives_then, survives_weaker}
+use Rattle.sqlite.proofs.InsideLemmas.{keeps_then, unchanged_keeps}
+use Rattle.sqlite.proofs.Callers.{never_commits}
+use Rattle.tables.specs.Steps.{Ran, StaysInside, Proceeds, OnlyLooks}
+
+pub proceeds_then : (a b c : State) → Proceeds a b → Proceeds b c → Proceeds a c
+proceeds_then a b c p q = record {
+  kept = λ clean. keeps_then a b c (p.kept (omega (arith, q.survives.clean))) (q.kept clean);
+  survives = survives_then a b c _ _ (λ _. ⊥) (λ _ db none. none) (λ _ db none. none) p.survives q.survives;
+}
+
+pub stays_then : (a b c : State) → StaysInside a b → StaysInside b c → StaysInside a c
+stays_then a b c p q = record { is_open = q.is_open; inside = q.inside; committed = q.committed ∙ p.committed }
+
+pub keeps_itself : (a : State) → KeepsCommit a a
+keeps_itself a = record { was_open = λ h. h; committed = λ h. refl }
+
+-- a statement that ended well ran, and the transaction goes on
+pub inside_ran : (sql : List ℕ) (params : Row) (old new : State) (r : Result ℕ Error) → ExecutesInside 0 sql params old new r → OnOk r (Ran sql params old new × StaysInside old new)
+inside_ran sql params old new (Err e) h = tt
+inside_ran sql params old new (Ok count) h = ((count, h.0), record { is_open = h.1.is_open; inside = h.1.mode; committed = h.1.committed_is })
+
+looks_shown : (old new : State) (sql : List ℕ) (c : Compiled) (params : Row) (e : Error) (what : _) → FailsToShow old new sql c params e what → IsUnchanged old new ⊎ IsRolledBack old new
+looks_shown old new sql c params e None h = inl h.3
+looks_shown old new sql c params e (Some what) (inl h) = inl h.1
+looks_shown old new sql c params e (Some what) (inr h) = inr h.3
+
+looks_unrun : (old new : State) (sql : List ℕ) (params : Row) (e : Error) → IsNotRun old new sql params e → IsUnchanged old new ⊎ IsRolledBack old new
+unfolding IsNotRun
+looks_unrun old new sql params e (inl h) = inl h.1
+looks_unrun old new sql params e (inr h) = inr h.3
+
+-- a query that fails leaves all as it was, or the transaction is undone
+pub query_fails : (old new : State) (sql : List ℕ) (params : Row) (e : Error) → FailsToQuery sql params old new e → IsUnchanged old new ⊎ IsRolledBack old new
+unfolding FailsToQuery
+query_fails old new sql params e (inl h) = looks_unrun old new sql params e h
+query_fails old new sql params e (inr h) = looks_shown old new sql h.0 _ e _ h.2
+
+pub query_stands : (old new : State) (sql : List ℕ) (params : Row) (rows : List Row) → IsPlain (understood old.now.schema sql) → Shown sql params old new rows → IsUnchanged old new
+unfolding Shown
+query_stands old new sql params rows plain h =
+    let none = (subst IsPlain h.1.is plain).0 in
+    (subst (ShowsRows old new sql h.0 _ rows) none h.2).3
+
+rows_back : (old new : State) → IsUnchanged old new ⊎ IsRolledBack old new → IsTrue new.is_open → (new.now ≡ old.now) ⊎ (new.now ≡ old.committed)
+rows_back old new (inl h) up = inl h.0.now_is
+rows_back old new (inr h) up = inr (h.undone up).0
+
+-- what a query leaves that ended in one of these two ways
+pub looks : (old new : State) (sql : List ℕ) (params : Row) → IsPlain (understood old.now.schema sql) → (HasCleanDisk new → IsUnchanged old new ⊎ IsRolledBack old new)
+    → (old.in_transaction ≡ false → new.in_transaction ≡ false) → Survives old new (CommitsShowing sql params old) → OnlyLooks old new
+looks old new sql params plain ends mode survives = record {
+  rows = λ clean. rows_back old new (ends clean);
+  kept = λ clean. unchanged_keeps old new (ends clean);
+  mode = mode;
+  survives = survives_weaker old new _ (λ _. ⊥) (λ _ db h. never_commits sql params old db plain h) survives;
+}

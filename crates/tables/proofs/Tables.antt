@@ -1,0 +1,85 @@
+-- The tables are plain ones, and what their layout says of their keys.
+use Rattle.std.proofs.Common.{◌≡◌, ◌≢◌, ℕ, ℤ, ◌<ℤ◌, arith, pos, List, Bool, true, false, ◌&&◌, refl, sym, ap, ◌∙◌}
+use Rattle.std.proofs.lemmas.Int.{ints}
+use Rattle.std.proofs.lemmas.Slice.Eq.{bytes_eq-Decides}
+use Rattle.sqlite_keyed.proofs.KeyedLemmas.{same_int}
+use Rattle.tables.proofs.Single.{HasOneAtMost}
+use Rattle.tables.specs.Rows.{db_of, id_of, is_in, is_of, is_named, has_number, name_of, number_of, database_row, security_text, length_of}
+use Rattle.sqlite_value.specs.declared.value.Value.TheVariants.{Int}
+use Rattle.sqlite_value.specs.Order.{Row, column}
+use Rattle.sqlite_trees.specs.Tree.{Trees, IsAscending, rowid}
+use Rattle.sqlite_keyed.proofs.ListLemmas.{all_weaker, ascending_weaker}
+use Rattle.tables.proofs.Writes.{IsPlainTable}
+use Rattle.tables.specs.Schema.{schema, meta_table, dbs_table, docs_table, revs_table, locals_table, dbs_tree, docs_tree, revs_tree, locals_tree}
+use Rattle.tables.specs.Layout.{IsLaid, IsKeyed, AreKeyed, AreNumbered, AreDatabaseRows, IsDatabaseRow, IsDocumentRow, IsRevisionRow, IsLocalRow}
+
+both_true : (a b : Bool) → (a && b) ≡ true → (a ≡ true) × (b ≡ true)
+both_true true b h = (refl, h)
+both_true false b h = absurd (cc)
+
+pub meta_plain : IsPlainTable schema 0 meta_table
+meta_plain = record { there = refl; uncounted = refl; unstamped = refl; alone = λ olds news. refl }
+
+pub dbs_plain : IsPlainTable schema 1 dbs_table
+dbs_plain = record { there = refl; uncounted = refl; unstamped = refl; alone = λ olds news. refl }
+
+pub docs_plain : IsPlainTable schema 2 docs_table
+docs_plain = record { there = refl; uncounted = refl; unstamped = refl; alone = λ olds news. refl }
+
+pub revs_plain : IsPlainTable schema 3 revs_table
+revs_plain = record { there = refl; uncounted = refl; unstamped = refl; alone = λ olds news. refl }
+
+pub locals_plain : IsPlainTable schema 4 locals_table
+locals_plain = record { there = refl; uncounted = refl; unstamped = refl; alone = λ olds news. refl }
+
+pub docs_keyed : (trees : Trees) → IsLaid trees → AreKeyed (trees docs_tree)
+docs_keyed trees h = record {
+  keyed = all_weaker (IsDocumentRow trees) IsKeyed (λ r k. record { number = ap rowid k.is; db = ap (λ x. column x 1) k.is; id = ap (λ x. column x 2) k.is }) (trees docs_tree) h.docs;
+  rising = h.docs_numbered.rising;
+}
+
+pub revs_keyed : (trees : Trees) → IsLaid trees → AreKeyed (trees revs_tree)
+revs_keyed trees h = record {
+  keyed = all_weaker (IsRevisionRow trees) IsKeyed (λ r k. record { number = ap rowid k.is; db = ap (λ x. column x 1) k.is; id = ap (λ x. column x 2) k.is }) (trees revs_tree) h.revs;
+  rising = h.revs_numbered.rising;
+}
+
+pub locals_keyed : (trees : Trees) → IsLaid trees → AreKeyed (trees locals_tree)
+locals_keyed trees h = record {
+  keyed = all_weaker (IsLocalRow trees) IsKeyed (λ r k. record { number = ap rowid k.is; db = ap (λ x. column x 1) k.is; id = ap (λ x. column x 2) k.is }) (trees locals_tree) h.locals;
+  rising = h.locals_numbered.rising;
+}
+
+both_named : (a b : Row) (db : ℤ) (id : List ℕ) → is_of db id a ≡ true → is_of db id b ≡ true → (db_of a ≡ db_of b) × (id_of a ≡ id_of b)
+both_named a b db id p q =
+    let x = both_true (is_in db a) _ p in
+    let y = both_true (is_in db b) _ q in
+    (same_int (db_of a) db x.0 ∙ sym (same_int (db_of b) db y.0), (bytes_eq-Decides (id_of a) id).0 x.1 ∙ sym ((bytes_eq-Decides (id_of b) id).0 y.1))
+
+-- at most one row has this database and this id
+pub one_of : (rows : List Row) → IsAscending (λ a b. db_of a ≡ db_of b → id_of a ≢ id_of b) rows → (db : ℤ) (id : List ℕ) → HasOneAtMost (is_of db id) rows
+one_of rows apart db id =
+    ascending_weaker (λ a b. db_of a ≡ db_of b → id_of a ≢ id_of b) (λ a b. is_of db id a ≡ true → is_of db id b ≡ true → ⊥)
+    (λ a b h p q. let both = both_named a b db id p q in h both.0 both.1) rows apart
+
+-- at most one row has this name
+pub one_named : (rows : List Row) → IsAscending (λ a b. name_of a ≢ name_of b) rows → (name : List ℕ) → HasOneAtMost (is_named name) rows
+one_named rows apart name =
+    ascending_weaker (λ a b. name_of a ≢ name_of b) (λ a b. is_named name a ≡ true → is_named name b ≡ true → ⊥)
+    (λ a b h p q. h ((bytes_eq-Decides (name_of a) name).0 p ∙ sym ((bytes_eq-Decides (name_of b) name).0 q))) rows apart
+
+pub databases_laid : (trees : Trees) → IsLaid trees → AreDatabaseRows (trees dbs_tree)
+databases_laid trees h = record {
+  each = all_weaker IsDatabaseRow (λ r. r ≡ database_row (number_of r) (name_of r) (security_text r) (pos (length_of r)))
+      (λ r k. k.is ∙ ap (λ t. database_row (number_of r) (name_of r) t (pos (length_of r))) (sym (ap security_text k.is))) (trees dbs_tree) h.dbs;
+  rising = h.dbs_numbered.rising;
+}
+
+pub numbered_databases : (rows : List Row) → AreDatabaseRows rows → AreNumbered rows
+numbered_databases rows h = record { numbers = all_weaker _ (λ r. rowid r ≡ Int (number_of r)) (λ r k. ap rowid k) rows h.each; rising = h.rising }
+
+-- at most one row has this number
+pub one_numbered : (rows : List Row) → IsAscending (λ a b. number_of a <ℤ number_of b) rows → (n : ℤ) → HasOneAtMost (has_number n) rows
+one_numbered rows rising n =
+    ascending_weaker (λ a b. number_of a <ℤ number_of b) (λ a b. has_number n a ≡ true → has_number n b ≡ true → ⊥)
+    (λ a b h p q. let x = same_int (number_of a) n p in let y = same_int (number_of b) n q in omega (arith, ints)) rows rising

@@ -1,0 +1,105 @@
+-- What an UPDATE of one row makes of its table.
+use Rattle.std.proofs.Common.{◌≡◌, inl, inr, ℕ, ◌<ℤ◌, List, [], ◌∷◌, map, filter, fold, drop, Bool, true, false, not, cond, Ok, Err, Result, OnOk, refl, sym, ap, subst, ◌∙◌, arith, int_cmp, Less, Equal, Greater}
+use Rattle.std.specs.List.{AllByRecursion, list_all}
+use Rattle.std.specs.Ordering.{match_ordering}
+use Rattle.std.proofs.lemmas.Int.{ints}
+use Rattle.std.proofs.lemmas.List.Sorted.{IsPermutation-refl}
+use Rattle.sqlite_value.specs.declared.value.Value.TheVariants.{Int}
+use Rattle.sqlite_value.specs.Order.{Row}
+use Rattle.sqlite_trees.specs.Tree.{rowid, put_row}
+use Rattle.sqlite_sql.specs.Program.{overlay}
+use Rattle.sqlite_sql.specs.Term.{Term, eval_all, holds}
+use Rattle.sqlite_rules.specs.declared.error.Rowids.TheVariants.{Given}
+use Rattle.sqlite_rules.specs.Calls.{ids_of}
+use Rattle.sqlite_rules.specs.Cast.{cast_row}
+use Rattle.sqlite_rules.specs.Edit.{edit_of, edited, without_all}
+use Rattle.sqlite_schema.specs.declared.command.Command.TheVariants.{Update}
+use Rattle.sqlite_schema.specs.declared.schema.Schema.{Schema}
+use Rattle.sqlite_schema.specs.declared.schema.Table.{Table}
+use Rattle.sqlite_keyed.specs.Keyed.{IsKeyedBy, insert_by}
+use Rattle.sqlite_keyed.specs.Lists.{update_where}
+use Rattle.sqlite_keyed.proofs.KeyedLemmas.{Less-from_lt}
+use Rattle.sqlite_keyed.proofs.ListLemmas.{all-filter}
+use Rattle.sqlite_keyed.proofs.WriteLemmas.{puts_update}
+use Rattle.sqlite.specs.State.{State}
+use Rattle.tables.proofs.Numbered.{put_same, removes_by}
+use Rattle.tables.proofs.Queries.{program_on, selects}
+use Rattle.tables.proofs.Single.{HasOneAtMost, few, one_order}
+use Rattle.tables.proofs.Writes.{IsPlainTable, IsCommand, updates}
+use Rattle.tables.specs.Layout.{AreNumbered}
+use Rattle.tables.specs.Rows.{number_of}
+use Rattle.tables.specs.Steps.{Ran, Changes}
+
+kept_all : (p : Row → Bool) (xs : List Row) → filter p xs ≡ [] → filter (λ x. not (p x)) xs ≡ xs
+kept_all p [] none = refl
+kept_all p (x ∷ xs) none = go (p x) none (kept_all p xs)
+  where
+    go : (b : Bool) → cond b (x ∷ filter p xs) (filter p xs) ≡ [] → (filter p xs ≡ [] → filter (λ y. not (p y)) xs ≡ xs)
+        → cond (not b) (x ∷ filter (λ y. not (p y)) xs) (filter (λ y. not (p y)) xs) ≡ x ∷ xs
+    go true none more = absurd (cc)
+    go false none more = ap (λ l. x ∷ l) (more none)
+
+first_of_all : (xs : List Row) (new : Row) → AllByRecursion (λ y. number_of new <ℤ number_of y) xs → insert_by number_of xs new ≡ new ∷ xs
+first_of_all [] new above = refl
+first_of_all (y ∷ ys) new above =
+    let h = above.0 in
+    let greater : int_cmp (number_of y) (number_of new) ≡ Greater = grind (arith, ints) in
+    ap (λ o. match_ordering o (y ∷ insert_by number_of ys new) (new ∷ ys) (new ∷ y ∷ ys)) greater
+
+same_head : {x r : Row} {xs : List Row} → ◌≡◌ {A = List Row} (x ∷ xs) (r ∷ []) → (x ≡ r) × (xs ≡ [])
+same_head e = (cc, cc)
+
+-- to put a row in the place of one is the same whether that was taken out before
+insert_gone : (p : Row → Bool) (xs : List Row) (r new : Row) → IsKeyedBy number_of xs → filter p xs ≡ r ∷ [] → number_of new ≡ number_of r
+    → insert_by number_of (filter (λ x. not (p x)) xs) new ≡ insert_by number_of xs new
+insert_gone p [] r new up found same = absurd (cc)
+insert_gone p (x ∷ xs) r new up found same = go (p x) refl found (insert_gone p xs r new up.1)
+  where
+    go : (b : Bool) → p x ≡ b → cond b (x ∷ filter p xs) (filter p xs) ≡ r ∷ []
+        → (filter p xs ≡ r ∷ [] → number_of new ≡ number_of r → insert_by number_of (filter (λ y. not (p y)) xs) new ≡ insert_by number_of xs new)
+        → insert_by number_of (cond (not b) (x ∷ filter (λ y. not (p y)) xs) (filter (λ y. not (p y)) xs)) new ≡ insert_by number_of (x ∷ xs) new
+    go true is one more =
+        let parts = same_head one in
+        let key : number_of x ≡ number_of new = ap number_of parts.0 ∙ sym same in
+        let above : AllByRecursion (λ y. number_of new <ℤ number_of y) xs = subst (λ k. AllByRecursion (λ y. k <ℤ number_of y) xs) key up.0 in
+        let tied : int_cmp (number_of x) (number_of new) ≡ Equal = grind (arith, ints) in
+        ap (λ l. insert_by number_of l new) (kept_all p xs parts.1) ∙ first_of_all xs new above
+        ∙ sym (ap (λ o. match_ordering o (x ∷ insert_by number_of xs new) (new ∷ xs) (new ∷ x ∷ xs)) tied)
+    go false is one more =
+        let below : number_of x <ℤ number_of r = (subst (λ l. AllByRecursion (λ y. number_of x <ℤ number_of y) l) one (all-filter _ p xs up.0)).0 in
+        let less : int_cmp (number_of x) (number_of new) ≡ Less = Less-from_lt (number_of x) (number_of new) (subst (λ k. number_of x <ℤ k) (sym same) below) in
+        ap (λ o. match_ordering o (x ∷ insert_by number_of (filter (λ y. not (p y)) xs) new) (new ∷ filter (λ y. not (p y)) xs) (new ∷ x ∷ filter (λ y. not (p y)) xs)) less
+        ∙ ap (λ l. x ∷ l) (more one same)
+        ∙ sym (ap (λ o. match_ordering o (x ∷ insert_by number_of xs new) (new ∷ xs) (new ∷ x ∷ xs)) less)
+
+-- the row that passes, if there is one, becomes another of its number
+pub updates_where : {X E : Type 0} (schema : Schema) (at : ℕ) (table : Table) → IsPlainTable schema at table → (old new : State) → old.now.schema ≡ schema → (text : List ℕ) (tests shown : List Term)
+    → IsCommand schema text (Update at (program_on table.tree tests shown [])) → (params : Row) (p : Row → Bool) (show f : Row → Row) (P : Row → Type 0) → overlay old.now.trees [] table.tree ≡ old.now.trees table.tree
+    → ((r : Row) → eval_all shown (params ∷ r ∷ []) ≡ show r) → ((r : Row) → rowid (show r) ≡ rowid r) → ((r : Row) → P r → cast_row table (drop 1 (show r)) ≡ f r)
+    → ((r : Row) → number_of (f r) ≡ number_of r) → ((r : Row) → rowid (f r) ≡ Int (number_of (f r)))
+    → AreNumbered (old.now.trees table.tree) → AllByRecursion P (old.now.trees table.tree) → HasOneAtMost p (old.now.trees table.tree)
+    → AllByRecursion (λ r. list_all (holds (params ∷ r ∷ [])) tests ≡ p r) (old.now.trees table.tree)
+    → (r : Result X E) → OnOk r (Ran text params old new) → OnOk r (Changes table.tree (update_where p f (old.now.trees table.tree)) old.now new.now)
+updates_where schema at table it old new has text tests shown command params p show f P bare shows ids casts keeps owns numbered each one passes (Err e) h = tt
+updates_where schema at table it old new has text tests shown command params p show f P bare shows ids casts keeps owns numbered each one passes (Ok x) h =
+    let db = old.now.trees in
+    let rows = db table.tree in
+    let done = updates schema at table it old new has text (program_on table.tree tests shown []) command params h in
+    let found : done.0 ≡ map show (filter p rows) =
+    one_order show p rows done.0 one (selects tests params p table.tree shown [] show (record { schema = schema; trees = db }) bare shows passes done.0 done.1) in
+    let goal = λ (rs : List Row). edited db (edit_of db table (ids_of rs) Given 1 rs) in
+    let cased : goal (map show (filter p rows)) ≡ fold (insert_by number_of) rows (map f (filter p rows)) = elim (few p rows one) [
+      | inl none ↦ ap (λ l. goal (map show l)) none ∙ sym (ap (λ l. fold (insert_by number_of) rows (map f l)) none)
+      | inr hit ↦
+          let r = hit.0 in
+          let fact : P r = (subst (AllByRecursion P) hit.1 (all-filter P p rows each)).0 in
+          let left : without_all rows (ids_of (map show (filter p rows))) ≡ filter (λ y. not (p y)) rows = removes_by show ids p rows _ numbered (IsPermutation-refl _) in
+          let left_one : without_all rows (ids_of (show r ∷ [])) ≡ filter (λ y. not (p y)) rows = subst (λ l. without_all rows (ids_of (map show l)) ≡ filter (λ y. not (p y)) rows) hit.1 left in
+          ap (λ l. goal (map show l)) hit.1
+          ∙ ap (λ l. put_row (cast_row table (drop 1 (show r))) l) left_one
+          ∙ ap (λ n. put_row n (filter (λ y. not (p y)) rows)) (casts r fact)
+          ∙ put_same (f r) (filter (λ y. not (p y)) rows) (all-filter _ (λ y. not (p y)) rows numbered.numbers) (owns r)
+          ∙ insert_gone p rows r (f r) numbered.rising hit.1 (keeps r)
+          ∙ sym (ap (λ l. fold (insert_by number_of) rows (map f l)) hit.1)
+    ] in
+    subst (λ l. Changes table.tree l old.now new.now) (ap goal found ∙ cased ∙ puts_update number_of p f keeps rows numbered.rising) done.2

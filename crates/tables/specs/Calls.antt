@@ -1,0 +1,37 @@
+-- What a statement leaves, over the states of a connection.
+-- This server's own words: a fact holds where the disk was clean, and what a statement does to a table is said where the schema is ours.
+use Rattle.std.specs.Prelude.{◌≡◌, ℕ, List, Result, OnOk, IfOk}
+use Rattle.sqlite_value.specs.Order.{Row}
+use Rattle.sqlite_trees.specs.declared.store.Store.{Ghosts}
+use Rattle.sqlite_trees.specs.Tree.{Trees}
+use Rattle.sqlite.specs.Held.{Held, state}
+use Rattle.sqlite.specs.State.{HasCleanDisk, IsUnchanged}
+use Rattle.tables.specs.Layout.{IsStore}
+use Rattle.tables.specs.Schema.{schema}
+use Rattle.tables.specs.Steps as steps
+
+-- one table has its rows changed so, if it was fit for that; the others stay
+abbrev pub Alters : {S X E : Type 0} → Ghosts S → ℕ → (List Row → Type 0) → (List Row → List Row) → Held S → Held S → Result X E → Type 0
+Alters g tree IsFit change old new r =
+    HasCleanDisk (state g new) → old.schema ≡ schema → IsFit ((state g old).now.trees tree)
+    → OnOk r (steps.Changes tree (change ((state g old).now.trees tree)) (state g old).now (state g new).now)
+
+-- the transaction goes on
+abbrev pub Stays : {S X E : Type 0} → Ghosts S → Held S → Held S → Result X E → Type 0
+Stays g old new r = HasCleanDisk (state g new) → OnOk r (steps.StaysInside (state g old) (state g new))
+
+-- nothing is committed, however the statement ends
+abbrev pub Proceeds : {S : Type 0} → Ghosts S → Held S → Held S → Type 0
+Proceeds g old new = steps.Proceeds (state g old) (state g new)
+
+-- what is answered is so, where the tables are laid out
+abbrev pub Finds : {S X E : Type 0} → Ghosts S → Held S → Held S → (Trees → X → Type 0) → Result X E → Type 0
+Finds g old new Is r = HasCleanDisk (state g new) → IsStore (state g old).now → IfOk r (Is (state g old).now.trees)
+
+-- a query leaves the connection as it is
+abbrev pub Stands : {S X E : Type 0} → Ghosts S → Held S → Held S → Result X E → Type 0
+Stands g old new r = old.schema ≡ schema → HasCleanDisk (state g new) → OnOk r (IsUnchanged (state g old) (state g new))
+
+-- or undoes a transaction, and writes nothing
+abbrev pub Looks : {S : Type 0} → Ghosts S → Held S → Held S → Type 0
+Looks g old new = old.schema ≡ schema → steps.OnlyLooks (state g old) (state g new)

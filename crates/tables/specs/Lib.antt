@@ -1,0 +1,6 @@
+pub mod Schema
+pub mod Steps
+pub mod Rows
+pub mod Layout
+pub mod Calls
+pub mod Shown

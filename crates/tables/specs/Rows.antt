@@ -1,0 +1,257 @@
+-- What the rows of the tables say: the databases that they hold, as a function of all rows; a row that is laid out otherwise says something, whatever it is.
+-- The contents are those of `store`; that a known revision is a row is this server's own layout.
+use Rattle.std.specs.Prelude.{ℕ, ◌-◌, ℤ, pos, negsuc, ◌+ℤ◌, ◌++◌, fold, Bool, true, false, ◌&&◌, nat_lt, bytes_eq, if◌then◌else◌, List, [], ◌∷◌, map, filter, Option, Some, None, Result, Ok, Err}
+use Rattle.std.specs.declared.cmp.Ordering.{Ordering}
+use Rattle.std.specs.Ordering.{int_eq, nat_cmp}
+use Rattle.std.specs.Cmp.Lexicographic.{slice_cmp}
+use Rattle.std.specs.FinMap.{from_entries}
+use Rattle.couch_json.specs.Canonical.{canonical}
+use Rattle.couch_json.specs.Reading.{reading}
+use Rattle.couch_json.specs.Value as json
+use Rattle.couch_json.specs.declared.fault.JsonFault.{JsonFault}
+use Rattle.tree.specs.History.{HistoryContent, row_of}
+use Rattle.tree.specs.Revision.{Revision}
+use Rattle.tree.specs.declared.entry.Entry.{Entry}
+use Rattle.tree.specs.declared.entry.Held.{Held}
+use Rattle.store.specs.Contents.{Contents}
+use Rattle.store.specs.Database.{Database, Document, TextMap}
+use Rattle.store.specs.declared.local_document.LocalDocument.{LocalDocument}
+use Rattle.sqlite_value.specs.declared.value.Value.{Value}
+use Rattle.sqlite_value.specs.declared.value.Value.TheVariants.{Null, Int, Real, Text, Blob}
+use Rattle.sqlite_value.specs.Order.{Row, column, bytes}
+use Rattle.sqlite_trees.specs.Tree.{Trees, rowid}
+use Rattle.tables.specs.Schema.{dbs_tree, docs_tree, revs_tree, locals_tree}
+
+-- ---- cells
+
+abbrev pub whole_in : Value → ℤ
+whole_in Null = pos 0
+whole_in (Int n) = n
+whole_in (Real x) = pos 0
+whole_in (Text t) = pos 0
+whole_in (Blob b) = pos 0
+
+abbrev pub count_in : Value → ℕ
+count_in Null = 0
+count_in (Int (pos n)) = n
+count_in (Int (negsuc n)) = 0
+count_in (Real x) = 0
+count_in (Text t) = 0
+count_in (Blob b) = 0
+
+abbrev pub is_set : Value → Bool
+is_set v = nat_lt 0 (count_in v)
+
+abbrev pub value_or_null : Result json.Value JsonFault → json.Value
+value_or_null (Ok v) = v
+value_or_null (Err fault) = json.null
+
+-- the value that a text in the cell spells
+abbrev pub json_in : Value → json.Value
+json_in v = value_or_null (reading (bytes v))
+
+abbrev pub flag : Bool → Value
+flag b = Int (if b then pos 1 else pos 0)
+
+abbrev pub count : ℕ → Value
+count n = Int (pos n)
+
+abbrev pub text_cell : json.Value → Value
+text_cell v = Text (canonical v)
+
+-- ---- what the rows of each table are
+
+-- the number by which a table's rows are told apart
+abbrev pub number_of : Row → ℤ
+number_of r = whole_in (rowid r)
+
+-- one above the last number, and 1 in an empty table
+abbrev pub next_number : List Row → ℤ
+next_number rows = fold (λ _ r. number_of r +ℤ pos 1) (pos 1) rows
+
+-- the rows, with these cells behind them under the next number
+abbrev pub with_cells : List Row → Row → List Row
+with_cells rows cells = rows ++ (Int (next_number rows) ∷ cells) ∷ []
+
+abbrev pub has_number : ℤ → Row → Bool
+has_number n r = int_eq (number_of r) n
+
+-- the database that a row of a document, a revision or a local document belongs to, and the id
+abbrev pub db_of : Row → ℤ
+db_of r = whole_in (column r 1)
+
+abbrev pub id_of : Row → List ℕ
+id_of r = bytes (column r 2)
+
+abbrev pub is_in : ℤ → Row → Bool
+is_in db r = int_eq (db_of r) db
+
+abbrev pub is_of : ℤ → List ℕ → Row → Bool
+is_of db id r = is_in db r && bytes_eq (id_of r) id
+
+-- databases: the number stands in the place of the rowid
+abbrev pub database_cells : List ℕ → List ℕ → ℤ → Row
+database_cells name security sequence = Null ∷ Blob name ∷ Text security ∷ Int sequence ∷ []
+
+abbrev pub database_row : ℤ → List ℕ → List ℕ → ℤ → Row
+database_row num name security sequence = Int num ∷ database_cells name security sequence
+
+abbrev pub name_of : Row → List ℕ
+name_of r = bytes (column r 2)
+
+abbrev pub is_named : List ℕ → Row → Bool
+is_named name r = bytes_eq (name_of r) name
+
+-- what a query shows of such a row: the number, the text of the security object and the sequence
+abbrev pub shown_database : Row → Row
+shown_database r = rowid r ∷ column r 3 ∷ column r 4 ∷ []
+
+abbrev pub security_text : Row → List ℕ
+security_text r = bytes (column r 3)
+
+abbrev pub security_of : Row → json.Value
+security_of r = json_in (column r 3)
+
+abbrev pub length_of : Row → ℕ
+length_of r = count_in (column r 4)
+
+-- the rows, where the database of this number has another security object, or another sequence
+abbrev pub rows_with_security : ℤ → List ℕ → List Row → List Row
+rows_with_security n text rows = map (λ r. if has_number n r then database_row (number_of r) (name_of r) text (pos (length_of r)) else r) rows
+
+abbrev pub rows_at_sequence : ℤ → ℤ → List Row → List Row
+rows_at_sequence n sequence rows = map (λ r. if has_number n r then database_row (number_of r) (name_of r) (security_text r) sequence else r) rows
+
+-- databases go by the bytes of their names
+abbrev pub by_name : Row → Row → Ordering
+by_name a b = slice_cmp nat_cmp (name_of a) (name_of b)
+
+-- what the list of names shows
+abbrev pub shown_name : Row → Row
+shown_name r = column r 2 ∷ []
+
+-- documents: the winner is a text
+abbrev pub document_cells : ℤ → List ℕ → ℤ → List ℕ → Bool → Row
+document_cells db id sequence winner deleted = Int db ∷ Blob id ∷ Int sequence ∷ Text winner ∷ flag deleted ∷ []
+
+abbrev pub document_row : ℤ → ℤ → List ℕ → ℤ → List ℕ → Bool → Row
+document_row number db id sequence winner deleted = Int number ∷ document_cells db id sequence winner deleted
+
+-- what a query shows of such a row: the sequence, the winner and whether it is deleted
+abbrev pub shown_document : Row → Row
+shown_document r = column r 3 ∷ column r 4 ∷ column r 5 ∷ []
+
+abbrev pub sequence_of : Row → ℕ
+sequence_of r = count_in (column r 3)
+
+-- documents go by the bytes of their ids, or by their sequences
+abbrev pub by_id : Row → Row → Ordering
+by_id a b = slice_cmp nat_cmp (id_of a) (id_of b)
+
+abbrev pub by_sequence : Row → Row → Ordering
+by_sequence a b = nat_cmp (sequence_of a) (sequence_of b)
+
+-- what a list of documents shows: the id too
+abbrev pub listed_document : Row → Row
+listed_document r = column r 2 ∷ column r 3 ∷ column r 4 ∷ column r 5 ∷ []
+
+abbrev pub winner_text : Row → List ℕ
+winner_text r = bytes (column r 4)
+
+abbrev pub is_gone : Row → Bool
+is_gone r = is_set (column r 5)
+
+-- revisions: of the parent there is the hash, since its number is one less
+abbrev pub parent_cell : Option Revision → Value
+parent_cell None = Null
+parent_cell (Some p) = Text p.hash
+
+abbrev pub body_cell : Option Held → Value
+body_cell None = Null
+body_cell (Some held) = text_cell held.body
+
+abbrev pub is_held : Option Held → Bool
+is_held None = false
+is_held (Some held) = true
+
+abbrev pub is_marked : Option Held → Bool
+is_marked None = false
+is_marked (Some held) = held.deleted
+
+-- what a query shows of such a row: all but the database and the id
+abbrev pub shown_revision : Row → Row
+shown_revision r = column r 3 ∷ column r 4 ∷ column r 5 ∷ column r 6 ∷ column r 7 ∷ column r 8 ∷ []
+
+-- the cells as they are handed in: the parent's hash, and the body's text, where they are there
+abbrev pub given_cells : ℤ → List ℕ → ℕ → List ℕ → Value → Bool → Bool → Value → Row
+given_cells db id n hash parent held deleted body =
+    Int db ∷ Blob id ∷ count n ∷ Text hash ∷ parent ∷ flag held ∷ flag deleted ∷ body ∷ []
+
+abbrev pub revision_cells : ℤ → List ℕ → Revision → Entry → Row
+revision_cells db id r e =
+    given_cells db id r.number r.hash (parent_cell e.parent) (is_held e.held) (is_marked e.held) (body_cell e.held)
+
+abbrev pub revision_row : ℤ → ℤ → List ℕ → Revision → Entry → Row
+revision_row number db id r e = Int number ∷ revision_cells db id r e
+
+abbrev pub revision_of : Row → Revision
+revision_of r = record { number = count_in (column r 3); hash = bytes (column r 4) }
+
+abbrev pub parent_in : ℕ → Value → Option Revision
+parent_in n Null = None
+parent_in n (Int m) = None
+parent_in n (Real x) = None
+parent_in n (Text hash) = Some (record { number = n - 1; hash = hash })
+parent_in n (Blob b) = None
+
+abbrev pub held_in : Row → Option (Bool × json.Value)
+held_in r = if is_set (column r 6) then Some (is_set (column r 7), json_in (column r 8)) else None
+
+abbrev pub entry_of : Row → Entry
+entry_of r = row_of (parent_in (count_in (column r 3)) (column r 5)) (held_in r)
+
+-- local documents
+abbrev pub local_cells : ℤ → List ℕ → ℕ → List ℕ → Row
+local_cells db id n body = Int db ∷ Blob id ∷ count n ∷ Text body ∷ []
+
+abbrev pub local_row : ℤ → ℤ → List ℕ → ℕ → List ℕ → Row
+local_row number db id n body = Int number ∷ local_cells db id n body
+
+-- what a query shows of such a row: the number of the revision, and the text of the body
+abbrev pub shown_local : Row → Row
+shown_local r = column r 3 ∷ column r 4 ∷ []
+
+abbrev pub local_of : Row → LocalDocument
+local_of r = record { number = count_in (column r 3); body = json_in (column r 4) }
+
+-- ---- the databases that they hold
+
+-- the local documents of a database
+abbrev pub locals_in : List Row → ℤ → TextMap LocalDocument
+locals_in rows db = from_entries (map (λ r. (id_of r, local_of r)) (filter (is_in db) rows))
+
+-- the history of a document: each of its rows is a known revision
+abbrev pub history_in : List Row → ℤ → List ℕ → HistoryContent
+history_in rows db id = from_entries (map (λ r. (revision_of r, entry_of r)) (filter (is_of db id) rows))
+
+-- the document of a row, whose revisions are among these rows
+abbrev pub document_of : List Row → Row → Document
+document_of revs r = record { sequence = sequence_of r; history = history_in revs (db_of r) (id_of r) }
+
+-- the documents of a database
+abbrev pub documents_in : List Row → List Row → ℤ → TextMap Document
+documents_in docs revs db = from_entries (map (λ r. (id_of r, document_of revs r)) (filter (is_in db) docs))
+
+-- the database of a row
+abbrev pub database_of : Trees → Row → Database
+database_of trees r =
+    record {
+      length = length_of r;
+      security = security_of r;
+      locals = locals_in (trees locals_tree) (number_of r);
+      documents = documents_in (trees docs_tree) (trees revs_tree) (number_of r);
+    }
+
+-- all databases, by name
+abbrev pub contents_in : Trees → Contents
+contents_in trees = from_entries (map (λ r. (name_of r, database_of trees r)) (trees dbs_tree))

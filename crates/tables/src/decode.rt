@@ -1,0 +1,153 @@
+//! Rows that a query shows, as what they say.
+
+ghost use Rattle.std.specs.Prelude.{◌≡◌, ◌<◌, length, Err, IfOk};
+ghost use Rattle.couch_json.specs.View.{view};
+ghost use Rattle.sqlite_value.specs.Order.{bytes, column};
+ghost use Rattle.tree.specs.Revision.{text_of};
+ghost use Rattle.tables.specs.Rows.{count_in, is_set, json_in, whole_in};
+ghost use Rattle.tables.specs.Shown.{IsCount, IsShownDatabase, IsShownDocument, IsShownLocal, IsSmall, IsWhole, SpellsJson, SpellsRevision, local_shown};
+
+use couch_json::{Json, JsonFault};
+use sqlite::{Error, ErrorCode, Row};
+use sqlite_value::value::ValueRef;
+use std::alloc::Global;
+use store::LocalDocument;
+use thiserror::Error as ErrorDerive;
+use tree::{Body, Rev};
+
+/// Why a row was not read.
+#[derive(Clone, Copy, Debug, PartialEq, Eq, ErrorDerive)]
+pub enum RowFault {
+    /// Memory ran out.
+    #[error("out of memory")]
+    Memory = 1,
+    /// The row is not laid out as this server lays it out.
+    #[error("a damaged row")]
+    Damaged = 2,
+}
+
+/// The row of a document, as a query shows it.
+#[derive(Clone, Copy)]
+pub struct FoundDocument {
+    /// The sequence of its latest write.
+    pub sequence: u64,
+    /// Its best revision.
+    pub winner: Rev,
+    /// Whether that is deleted.
+    pub deleted: bool,
+}
+
+/// The row of a database, as a query shows it.
+#[derive(Drop)]
+pub struct FoundDatabase {
+    /// Its number, which the rows of its documents name.
+    pub number: i64,
+    /// Its security object.
+    pub security: Json,
+    /// How many writes it accepted.
+    pub sequence: u64,
+}
+
+fn whole_at(row: &Row, at: usize) -> Result<i64, RowFault>
+    ensures ok { IfOk result (λ n. n ≡ whole_in (column row.now at)) }
+    ensures damaged { result ≡ Err RowFault.Damaged → at < length row.now → ¬ (IsWhole (column row.now at)) }
+{
+    match row.get::<i64>(at) {
+        Ok(number) => Ok(number),
+        Err(Error::SqliteFailure(ErrorCode::OutOfMemory)) => Err(RowFault::Memory),
+        Err(_) => Err(RowFault::Damaged),
+    }
+}
+
+fn count_at(row: &Row, at: usize) -> Result<u64, RowFault>
+    ensures ok { IfOk result (λ n. n ≡ count_in (column row.now at)) }
+    ensures damaged { result ≡ Err RowFault.Damaged → at < length row.now → ¬ (IsCount (column row.now at)) }
+{
+    match row.get::<u64>(at) {
+        Ok(count) => Ok(count),
+        Err(Error::SqliteFailure(ErrorCode::OutOfMemory)) => Err(RowFault::Memory),
+        Err(_) => Err(RowFault::Damaged),
+    }
+}
+
+fn revision_at(row: &Row, at: usize) -> Result<Rev, RowFault>
+    ensures ok { IfOk result (λ r. text_of r ≡ bytes (column row.now at)) }
+    ensures damaged { result ≡ Err RowFault.Damaged → at < length row.now → ¬ (SpellsRevision (column row.now at)) }
+{
+    let Ok(ValueRef::Text(text)) = row.get_ref(at) else {
+        return Err(RowFault::Damaged);
+    };
+    match Rev::parse(text) {
+        Some(rev) => Ok(rev),
+        None => Err(RowFault::Damaged),
+    }
+}
+
+fn number_at(row: &Row, at: usize) -> Result<u32, RowFault>
+    ensures ok { IfOk result (λ n. n ≡ count_in (column row.now at)) }
+    ensures damaged { result ≡ Err RowFault.Damaged → at < length row.now → ¬ (IsSmall (column row.now at)) }
+{
+    match row.get::<u32>(at) {
+        Ok(number) => Ok(number),
+        Err(Error::SqliteFailure(ErrorCode::OutOfMemory)) => Err(RowFault::Memory),
+        Err(_) => Err(RowFault::Damaged),
+    }
+}
+
+fn json_at(alloc: Global, row: &Row, at: usize) -> Result<Json, RowFault>
+    ensures ok { IfOk result (λ json. view json ≡ json_in (column row.now at)) }
+    ensures damaged { result ≡ Err RowFault.Damaged → at < length row.now → ¬ (SpellsJson (column row.now at)) }
+{
+    let Ok(ValueRef::Text(text)) = row.get_ref(at) else {
+        return Err(RowFault::Damaged);
+    };
+    match couch_json::read(alloc, text) {
+        Ok(json) => Ok(json),
+        Err(JsonFault::Memory) => Err(RowFault::Memory),
+        Err(_) => Err(RowFault::Damaged),
+    }
+}
+
+/// Reads the local document that a row of `local_rows` shows.
+pub fn read_local(alloc: Global, row: &Row) -> Result<LocalDocument, RowFault>
+    ensures ok { IfOk result (λ document. document ≡ local_shown row.now) }
+    ensures damaged { result ≡ Err RowFault.Damaged → ¬ (IsShownLocal row.now) }
+{
+    let number = number_at(row, 0)?;
+    let body = Body::new(json_at(alloc, row, 1)?);
+    Ok(LocalDocument { number, body })
+}
+
+/// Reads what a row of `document_rows` shows.
+pub fn read_document(row: &Row) -> Result<FoundDocument, RowFault>
+    ensures sequence { IfOk result (λ d. d.sequence ≡ count_in (column row.now 0)) }
+    ensures winner { IfOk result (λ d. text_of d.winner ≡ bytes (column row.now 1)) }
+    ensures deleted { IfOk result (λ d. d.deleted ≡ is_set (column row.now 2)) }
+    ensures damaged { result ≡ Err RowFault.Damaged → ¬ (IsShownDocument row.now) }
+{
+    let sequence = count_at(row, 0)?;
+    let winner = revision_at(row, 1)?;
+    let deleted = count_at(row, 2)? > 0;
+    Ok(FoundDocument {
+        sequence,
+        winner,
+        deleted,
+    })
+}
+
+/// Reads what a row of `database_rows` shows.
+pub fn read_database(alloc: Global, row: &Row) -> Result<FoundDatabase, RowFault>
+    ensures number { IfOk result (λ d. d.number ≡ whole_in (column row.now 0)) }
+    ensures security { IfOk result (λ d. view d.security ≡ json_in (column row.now 1)) }
+    ensures sequence { IfOk result (λ d. d.sequence ≡ count_in (column row.now 2)) }
+    ensures damaged { result ≡ Err RowFault.Damaged → ¬ (IsShownDatabase row.now) }
+{
+    let number = whole_at(row, 0)?;
+    let security = json_at(alloc, row, 1)?;
+    let sequence = count_at(row, 2)?;
+    Ok(FoundDatabase {
+        number,
+        security,
+        sequence,
+    })
+}

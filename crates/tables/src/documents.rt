@@ -1,0 +1,105 @@
+//! The rows of the documents.
+
+ghost use Rattle.std.specs.Prelude.{◌≡◌, not, filter, map};
+ghost use Rattle.sqlite_keyed.specs.Lists.{sort_by};
+ghost use Rattle.tables.specs.Calls.{Alters, Finds, Looks, Proceeds, Stands, Stays};
+ghost use Rattle.tables.specs.Layout.{AreKeyed};
+ghost use Rattle.tables.specs.Rows.{by_id, by_sequence, is_in, is_of, listed_document, shown_document, document_cells, with_cells};
+ghost use Rattle.tables.specs.Schema.{docs_tree};
+
+use crate::statement::{change, query};
+use sqlite::{Alter, Connection, Error, Row, Transaction, params};
+
+/// Puts in the row of a document, behind those that are there.
+pub fn insert_document<S: Alter>(
+    tx: &mut Transaction<'_, S>,
+    db: &i64,
+    id: &[u8],
+    sequence: &i64,
+    winner: &str,
+    deleted: bool,
+) -> Result<(), Error>
+    ensures same_reference { tx.new.conn.ghost_name ≡ tx.old.conn.ghost_name }
+    ensures ok { Alters S.Store docs_tree AreKeyed (λ rows. with_cells rows (document_cells db.now id.now sequence.now winner.now deleted)) tx.old.conn.now tx.new.conn.now result }
+    ensures inside { Stays S.Store tx.old.conn.now tx.new.conn.now result }
+    ensures proceeds { Proceeds S.Store tx.old.conn.now tx.new.conn.now }
+{
+    change(
+        tx,
+        "INSERT INTO docs (db, id, seq, winner, del) VALUES (?1, ?2, ?3, ?4, ?5)",
+        params![db, id, sequence, winner, deleted],
+    )
+}
+
+/// Takes out the row of the document of this id.
+pub fn delete_document<S: Alter>(
+    tx: &mut Transaction<'_, S>,
+    db: &i64,
+    id: &[u8],
+) -> Result<(), Error>
+    ensures same_reference { tx.new.conn.ghost_name ≡ tx.old.conn.ghost_name }
+    ensures ok { Alters S.Store docs_tree AreKeyed (λ rows. filter (λ r. not (is_of db.now id.now r)) rows) tx.old.conn.now tx.new.conn.now result }
+    ensures inside { Stays S.Store tx.old.conn.now tx.new.conn.now result }
+    ensures proceeds { Proceeds S.Store tx.old.conn.now tx.new.conn.now }
+{
+    change(
+        tx,
+        "DELETE FROM docs WHERE db = ?1 AND id = ?2",
+        params![db, id],
+    )
+}
+
+/// Takes out the rows of all documents of a database.
+pub fn clear_documents<S: Alter>(tx: &mut Transaction<'_, S>, db: &i64) -> Result<(), Error>
+    ensures same_reference { tx.new.conn.ghost_name ≡ tx.old.conn.ghost_name }
+    ensures ok { Alters S.Store docs_tree AreKeyed (λ rows. filter (λ r. not (is_in db.now r)) rows) tx.old.conn.now tx.new.conn.now result }
+    ensures inside { Stays S.Store tx.old.conn.now tx.new.conn.now result }
+    ensures proceeds { Proceeds S.Store tx.old.conn.now tx.new.conn.now }
+{
+    change(tx, "DELETE FROM docs WHERE db = ?1", params![db])
+}
+
+/// Returns the row of a document, if there is one: its sequence, its winner and whether that is deleted.
+pub fn document_rows<S: Alter>(
+    conn: &mut Connection<S>,
+    db: &i64,
+    id: &[u8],
+) -> Result<Vec<Row>, Error>
+    ensures ok { Finds S.Store conn.old conn.new (λ trees rows. rows.items ≡ map shown_document (filter (is_of db.now id.now) (trees docs_tree))) result }
+    ensures stands { Stands S.Store conn.old conn.new result }
+    ensures looks { Looks S.Store conn.old conn.new }
+{
+    query(
+        conn,
+        "SELECT seq, winner, del FROM docs WHERE db = ?1 AND id = ?2",
+        params![db, id],
+    )
+}
+
+/// Returns the rows of all documents of a database, by the bytes of their ids: the id, the sequence, the
+/// winner and whether that is deleted.
+pub fn rows_by_id<S: Alter>(conn: &mut Connection<S>, db: &i64) -> Result<Vec<Row>, Error>
+    ensures ok { Finds S.Store conn.old conn.new (λ trees rows. rows.items ≡ map listed_document (sort_by by_id (filter (is_in db.now) (trees docs_tree)))) result }
+    ensures stands { Stands S.Store conn.old conn.new result }
+    ensures looks { Looks S.Store conn.old conn.new }
+{
+    query(
+        conn,
+        "SELECT id, seq, winner, del FROM docs WHERE db = ?1 ORDER BY id",
+        params![db],
+    )
+}
+
+/// Returns the rows of all documents of a database, by their sequences: the id, the sequence, the
+/// winner and whether that is deleted.
+pub fn rows_by_sequence<S: Alter>(conn: &mut Connection<S>, db: &i64) -> Result<Vec<Row>, Error>
+    ensures ok { Finds S.Store conn.old conn.new (λ trees rows. rows.items ≡ map listed_document (sort_by by_sequence (filter (is_in db.now) (trees docs_tree)))) result }
+    ensures stands { Stands S.Store conn.old conn.new result }
+    ensures looks { Looks S.Store conn.old conn.new }
+{
+    query(
+        conn,
+        "SELECT id, seq, winner, del FROM docs WHERE db = ?1 ORDER BY seq",
+        params![db],
+    )
+}

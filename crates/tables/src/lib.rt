@@ -1,0 +1,15 @@
+//! The databases as rows of SQLite tables.
+#![tactic(auto)]
+
+mod create;
+pub mod databases;
+mod decode;
+pub mod documents;
+pub mod locals;
+pub mod revisions;
+mod statement;
+
+pub use create::create_tables;
+pub use decode::{
+    FoundDatabase, FoundDocument, RowFault, read_database, read_document, read_local,
+};
