@@ -19,8 +19,8 @@ abbrev pub required_column : List ℕ → Kind → Column
 required_column name kind = strict_column name kind true
 
 -- a value of this kind, or NULL
-abbrev pub optional : List ℕ → Kind → Column
-optional name kind = strict_column name kind false
+abbrev pub optional_column : List ℕ → Kind → Column
+optional_column name kind = strict_column name kind false
 
 -- a table with these columns; the places of its unique keys count the rowid as 0
 abbrev pub table_of : List ℕ → List Column → Option ℕ → List ℕ → List (List ℕ) → Table
@@ -48,7 +48,7 @@ meta = table_of (codes "meta") (required_column (codes "version") Integer ∷ []
 abbrev pub dbs : Table
 dbs =
     table_of (codes "dbs")
-    (optional (codes "num") Integer ∷ required_column (codes "name") Blob ∷ required_column (codes "sec") Text ∷ required_column (codes "seq") Integer ∷ [])
+    (optional_column (codes "num") Integer ∷ required_column (codes "name") Blob ∷ required_column (codes "sec") Text ∷ required_column (codes "seq") Integer ∷ [])
     (Some 0) (0 ∷ []) ((2 ∷ []) ∷ [])
 
 -- the documents of each database
@@ -62,8 +62,8 @@ docs =
 abbrev pub revs : Table
 revs =
     table_of (codes "revs")
-    (required_column (codes "db") Integer ∷ required_column (codes "id") Blob ∷ required_column (codes "n") Integer ∷ required_column (codes "hash") Text ∷ optional (codes "parent") Text
-    ∷ required_column (codes "held") Integer ∷ required_column (codes "del") Integer ∷ optional (codes "body") Text ∷ [])
+    (required_column (codes "db") Integer ∷ required_column (codes "id") Blob ∷ required_column (codes "n") Integer ∷ required_column (codes "hash") Text ∷ optional_column (codes "parent") Text
+    ∷ required_column (codes "held") Integer ∷ required_column (codes "del") Integer ∷ optional_column (codes "body") Text ∷ [])
     None (1 ∷ 2 ∷ 3 ∷ 4 ∷ []) ((1 ∷ 2 ∷ 3 ∷ 4 ∷ []) ∷ [])
 
 -- the local documents of each database
