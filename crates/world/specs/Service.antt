@@ -45,7 +45,3 @@ abbrev pub AreAllServed : List SeenReply → Type 0
 AreAllServed [] = Unit {0}
 AreAllServed (t ∷ ts) = IsServed t.reply × AreAllServed ts
 
--- no reply stands for a fault of a store
-abbrev pub AreUnfailing : List SeenReply → Type 0
-AreUnfailing [] = Unit {0}
-AreUnfailing (t ∷ ts) = (t.reply.status ≢ 500) × AreUnfailing ts

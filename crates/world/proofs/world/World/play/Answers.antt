@@ -1,51 +1,76 @@
-use Rattle.std.proofs.Common.{◌∙◌, ◌++◌, map, sym}
-use Rattle.hub.specs.Arrival.{Piece}
-use Rattle.world.proofs.Events.{known_more, ok_only, played_all, played_kept, played_more, played_seen, unknown_at}
-use Rattle.world.proofs.Services.{in_order, in_order_shown}
-use Rattle.world.specs.Turning.{piece_of, replies_on, seen_reply}
+use Rattle.std.proofs.Common.{◌∙◌, ◌++◌, map, sym, subst}
+use Rattle.hub.specs.Answering.{StoreSteps}
+use Rattle.node.specs.Runs.{Steps}
+use Rattle.world.proofs.Events.{known_more, ok_only, plays_all, plays_kept, plays_more, plays_pieces, plays_seen, unknown_at}
+use Rattle.world.proofs.Services.{in_order, played_shown}
+use Rattle.world.proofs.Shown.{plays_shown}
+use Rattle.world.specs.Network.{over_databases}
+use Rattle.world.specs.Playing.{Plays}
+use Rattle.world.specs.Turning.{happening_of, sight_of, sights_of}
 use Rattle.world.proofs.world.World.play.Goals as goal
 
 pub returns-then-is_err-clause-stands : goal.returns-then-is_err-clause-stands
 returns-then-is_err-clause-stands g c = λ honest.
-    let ss = map seen_reply c.loop-place.seen.items in
-    let ts = replies_on c.parts_of-conn.result.0 c.in-Ok.list.items in (
+    let ss = map sight_of c.loop-place.seen.items in
+    let ts = sights_of c.in-Ok.outcome in (
       ss ++ ts,
-      played_more g.S.Store c.args.self.now c.loop-place.self c.take.new.self c.args.events.now c.loop-place.place c.index-events-place.result c.loop-place-test.true c.index-events-place.is
-          (record { conn = c.parts_of-conn.result.0; bytes = c.parts_of-conn.result.1.now }) c.parts_of-conn.ensures ss ts (c.loop-place.invariant.played (c.in-Ok.ensures.honest honest)) (c.in-Ok.ensures.played honest),
+      plays_more (StoreSteps g.S.Store) c.args.self.now c.loop-place.self c.take.new.self c.args.events.now c.loop-place.place c.index-events-place.result c.loop-place-test.true c.index-events-place.is
+          ss ts (c.loop-place.invariant.played (c.in-Ok.ensures.honest honest)) (c.in-Ok.ensures.happens honest),
     )
 
 pub returns-in-Err-clause-stands : goal.returns-in-Err-clause-stands
 returns-in-Err-clause-stands g c = λ honest.
-    let ss = map seen_reply c.loop-place.seen.items in
-    (ss, played_kept g.S.Store c.args.self.now c.loop-place.self c.take.new.self _ ss c.in-Err.ensures.err (c.loop-place.invariant.played (c.in-Err.ensures.honest honest)))
+    let ss = map sight_of c.loop-place.seen.items in
+    (ss, plays_kept (StoreSteps g.S.Store) c.args.self.now c.loop-place.self c.take.new.self _ ss c.in-Err.ensures.err (c.loop-place.invariant.played (c.in-Err.ensures.honest honest)))
 
 pub returns-in-Err-clause-unknown : goal.returns-in-Err-clause-unknown
 returns-in-Err-clause-unknown g c = λ kind.
-    unknown_at c.args.self.now.connections c.loop-place.self.connections c.args.events.now c.loop-place.place c.index-events-place.result
-    (record { conn = c.parts_of-conn.result.0; bytes = c.parts_of-conn.result.1.now }) c.loop-place-test.true c.index-events-place.is c.parts_of-conn.ensures c.loop-place.invariant.opened (c.in-Err.ensures.unknown kind)
+    unknown_at c.args.self.now.connections c.loop-place.self.connections c.args.self.now.transfers c.loop-place.self.transfers c.args.events.now c.loop-place.place c.index-events-place.result
+    c.loop-place-test.true c.index-events-place.is c.loop-place.invariant.opened c.loop-place.invariant.many (c.in-Err.ensures.unknown kind)
 
 pub loop-place-preserved : goal.loop-place-preserved
 loop-place-preserved g c =
-    let ss = map seen_reply c.loop-place.seen.items in
-    let ts = replies_on c.parts_of-conn.result.0 c.in-Ok.list.items in
-    let p : Piece = record { conn = c.parts_of-conn.result.0; bytes = c.parts_of-conn.result.1.now } in
-    let seen = ok_only c.add_seen.result (sym c.is_err.ensures.value ∙ c.if-is_err.false) c.add_seen.ensures in
+    let ss = map sight_of c.loop-place.seen.items in
+    let ts = sights_of c.in-Ok.outcome in
+    let seen = ok_only c.add_outcome.result (sym c.is_err.ensures.value ∙ c.if-is_err.false) c.add_outcome.ensures in
     record {
-      played = λ honest. played_seen g.S.Store c.args.self.now c.take.new.self _ (ss ++ ts) _ seen
-          (played_more g.S.Store c.args.self.now c.loop-place.self c.take.new.self c.args.events.now c.loop-place.place c.index-events-place.result c.loop-place-test.true c.index-events-place.is
-          p c.parts_of-conn.ensures ss ts (c.loop-place.invariant.played (c.in-Ok.ensures.honest honest)) (c.in-Ok.ensures.played honest));
+      played = λ honest. plays_seen (StoreSteps g.S.Store) c.args.self.now c.take.new.self _ (ss ++ ts) _ seen
+          (plays_more (StoreSteps g.S.Store) c.args.self.now c.loop-place.self c.take.new.self c.args.events.now c.loop-place.place c.index-events-place.result c.loop-place-test.true c.index-events-place.is
+          ss ts (c.loop-place.invariant.played (c.in-Ok.ensures.honest honest)) (c.in-Ok.ensures.happens honest));
       opened = c.in-Ok.ensures.opened ∙ c.loop-place.invariant.opened;
-      known = known_more c.args.self.now.connections c.loop-place.self.connections c.args.events.now c.loop-place.place c.index-events-place.result p c.loop-place-test.true c.index-events-place.is
-          c.parts_of-conn.ensures c.loop-place.invariant.opened c.in-Ok.ensures.known c.loop-place.invariant.known;
+      many = c.in-Ok.ensures.many ∙ c.loop-place.invariant.many;
+      known = known_more c.args.self.now.connections c.loop-place.self.connections c.args.self.now.transfers c.loop-place.self.transfers c.args.events.now c.loop-place.place c.index-events-place.result
+          c.loop-place-test.true c.index-events-place.is c.loop-place.invariant.opened c.loop-place.invariant.many c.in-Ok.ensures.known c.loop-place.invariant.known;
     }
 
-pub returns-clause-in_order : goal.returns-clause-in_order
-returns-clause-in_order g c = λ fresh honest.
-    in_order g.S.Store c.args.self.now c.loop-place.self (map piece_of c.args.events.now) (map seen_reply c.loop-place.seen.items) fresh
-    (played_all g.S.Store c.args.self.now c.loop-place.self c.args.events.now c.loop-place.place (map seen_reply c.loop-place.seen.items) c.loop-place-test.false (c.loop-place.invariant.played honest))
+pub returns-clause-played : goal.returns-clause-played
+returns-clause-played g c = λ honest.
+    plays_all (StoreSteps g.S.Store) c.args.self.now c.loop-place.self c.args.events.now c.loop-place.place (map sight_of c.loop-place.seen.items) c.loop-place-test.false
+    (c.loop-place.invariant.played honest)
 
 pub returns-clause-databases : goal.returns-clause-databases
-returns-clause-databases g c = λ fresh honest.
-    in_order_shown g.S.Store c.args.self.now.homes c.args.self.now.nodes c.loop-place.self.nodes (map piece_of c.args.events.now) (map seen_reply c.loop-place.seen.items)
-    (in_order g.S.Store c.args.self.now c.loop-place.self (map piece_of c.args.events.now) (map seen_reply c.loop-place.seen.items) fresh
-    (played_all g.S.Store c.args.self.now c.loop-place.self c.args.events.now c.loop-place.place (map seen_reply c.loop-place.seen.items) c.loop-place-test.false (c.loop-place.invariant.played honest)))
+returns-clause-databases g c = λ honest.
+    plays_shown g.S.Store c.args.self.now c.loop-place.self (map happening_of c.args.events.now) (map sight_of c.loop-place.seen.items)
+    (plays_all (StoreSteps g.S.Store) c.args.self.now c.loop-place.self c.args.events.now c.loop-place.place (map sight_of c.loop-place.seen.items) c.loop-place-test.false
+    (c.loop-place.invariant.played honest))
+
+pub returns-clause-in_order : goal.returns-clause-in_order
+returns-clause-in_order g c = λ pieces same fresh honest.
+    let seen = map sight_of c.loop-place.seen.items in
+    let told = plays_pieces (StoreSteps g.S.Store) c.args.self.now c.loop-place.self pieces seen
+    (subst (λ hs. Plays (StoreSteps g.S.Store) c.args.self.now hs seen c.loop-place.self) same
+    (plays_all (StoreSteps g.S.Store) c.args.self.now c.loop-place.self c.args.events.now c.loop-place.place seen c.loop-place-test.false (c.loop-place.invariant.played honest))) in
+    (told.told, told.seen, in_order (StoreSteps g.S.Store) c.args.self.now c.loop-place.self pieces told.told fresh told.played)
+
+pub returns-clause-by_databases : goal.returns-clause-by_databases
+returns-clause-by_databases g c = λ pieces same fresh honest.
+    let seen = map sight_of c.loop-place.seen.items in
+    let told = plays_pieces (StoreSteps g.S.Store) c.args.self.now c.loop-place.self pieces seen
+    (subst (λ hs. Plays (StoreSteps g.S.Store) c.args.self.now hs seen c.loop-place.self) same
+    (plays_all (StoreSteps g.S.Store) c.args.self.now c.loop-place.self c.args.events.now c.loop-place.place seen c.loop-place-test.false (c.loop-place.invariant.played honest))) in
+    (
+      told.told,
+      told.seen,
+      in_order Steps (over_databases g.S.Store c.args.self.now) (over_databases g.S.Store c.loop-place.self) pieces told.told fresh
+          (played_shown g.S.Store c.args.self.now c.loop-place.self pieces told.told told.played),
+    )
