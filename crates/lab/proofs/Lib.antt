@@ -5,4 +5,5 @@ pub mod Names
 pub mod NamingLemmas
 pub mod PlayLemmas
 pub mod ReplyLemmas
+pub mod RunLemmas
 pub mod SceneLemmas

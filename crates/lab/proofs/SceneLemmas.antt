@@ -7,9 +7,14 @@ use Rattle.std.proofs.KnownBytes.{Appends-kept, Appends-nil}
 use Rattle.auth.specs.Callers.{Configuration}
 use Rattle.store.specs.declared.store.Store.{Ghosts}
 use Rattle.lab.specs.Playing.{Prints, ReadsLines, after_lines}
-use Rattle.lab.specs.Naming.{NamedValue}
-use Rattle.lab.specs.Scene.{BeginsWith, Closes, HasPlayed, NamedNetwork, Opens, Plays, PlaysAll, PlaysBefore, PlaysScript, Scene, Sends, laying, running, first_network}
-use Rattle.lab.specs.Script.{ScriptLine, close_line, conn_line, line_of, send_line}
+use Rattle.world.specs.Happening.{Sight, exchanges}
+use Rattle.world.specs.declared.fate.Fate.{Fate}
+use Rattle.world.specs.declared.fate.Fate.TheVariants.{Answered, ReplyLost, RequestLost}
+use Rattle.lab.specs.Naming.{NamedValue, value_named}
+use Rattle.lab.specs.PassLines.{PassWords}
+use Rattle.lab.specs.Replies.{IsShown}
+use Rattle.lab.specs.Scene.{BeginsWith, Closes, Exchanges, HasPlayed, NamedNetwork, Opens, Plays, PlaysAll, PlaysBefore, PlaysScript, RunsToEnd, Scene, Sends, Starts, laying, running, first_network}
+use Rattle.lab.specs.Script.{ScriptLine, close_line, conn_line, line_of, lose_line, repl_line, run_line, send_line, step_line, unsent_line}
 use Rattle.lab.specs.Stages.{AreBytesPlayed, IsLinePlayed}
 use Rattle.lab.proofs.ReplyLemmas.{Appends-then}
 
@@ -102,6 +107,38 @@ pub plays_first : {S : Type 0} (g : Ghosts S) (c : Configuration) (nodes : List 
 plays_first {S} g c nodes line node name begun after same starts opens =
     subst (λ (l : ScriptLine). Plays g c (laying nodes) l [] (running after)) (sym same)
     (refl, (after, subst (λ (n : NamedNetwork S). Opens n node name after) starts opens, refl))
+
+pub plays_first_pass : {S : Type 0} (g : Ghosts S) (c : Configuration) (nodes : List (NamedValue S)) (line : ScriptLine) (words : PassWords) (begun after : NamedNetwork S)
+    → line ≡ repl_line words → begun ≡ first_network c nodes → Starts c begun words after → Plays g c (laying nodes) line [] (running after)
+plays_first_pass {S} g c nodes line words begun after same starts begins =
+    subst (λ (l : ScriptLine). Plays g c (laying nodes) l [] (running after)) (sym same)
+    (refl, (after, subst (λ (n : NamedNetwork S). Starts c n words after) starts begins, refl))
+
+pub plays_pass : {S : Type 0} (g : Ghosts S) (c : Configuration) (names : NamedNetwork S) (line : ScriptLine) (words : PassWords) (after : NamedNetwork S)
+    → line ≡ repl_line words → Starts c names words after → Plays g c (running names) line [] (running after)
+plays_pass g c names line words after same begins =
+    subst (λ (l : ScriptLine). Plays g c (running names) l [] (running after)) (sym same) (refl, (after, begins, refl))
+
+pub exchanges_of : {S : Type 0} (g : Ghosts S) (before after : NamedNetwork S) (name : List ℕ) (number : ℕ) (fate : Fate) (seen : List Sight) (printed : List ℕ)
+    → value_named name before.passes ≡ Some number → IsShown g before.network (exchanges number fate) name seen printed after.network
+    → after ≡ record before { network = after.network } → Exchanges g before name fate printed after
+exchanges_of g before after name number fate seen printed named shown same = (number, named, (seen, after.network, shown, same))
+
+pub plays_step : {S : Type 0} (g : Ghosts S) (c : Configuration) (names : NamedNetwork S) (line : ScriptLine) (name printed : List ℕ) (after : NamedNetwork S)
+    → line ≡ step_line name → Exchanges g names name Answered printed after → Plays g c (running names) line printed (running after)
+plays_step g c names line name printed after same p = subst (λ (l : ScriptLine). Plays g c (running names) l printed (running after)) (sym same) (after, p, refl)
+
+pub plays_lose : {S : Type 0} (g : Ghosts S) (c : Configuration) (names : NamedNetwork S) (line : ScriptLine) (name printed : List ℕ) (after : NamedNetwork S)
+    → line ≡ lose_line name → Exchanges g names name ReplyLost printed after → Plays g c (running names) line printed (running after)
+plays_lose g c names line name printed after same p = subst (λ (l : ScriptLine). Plays g c (running names) l printed (running after)) (sym same) (after, p, refl)
+
+pub plays_unsent : {S : Type 0} (g : Ghosts S) (c : Configuration) (names : NamedNetwork S) (line : ScriptLine) (name printed : List ℕ) (after : NamedNetwork S)
+    → line ≡ unsent_line name → Exchanges g names name RequestLost printed after → Plays g c (running names) line printed (running after)
+plays_unsent g c names line name printed after same p = subst (λ (l : ScriptLine). Plays g c (running names) l printed (running after)) (sym same) (after, p, refl)
+
+pub plays_run : {S : Type 0} (g : Ghosts S) (c : Configuration) (names : NamedNetwork S) (line : ScriptLine) (name printed : List ℕ) (after : NamedNetwork S)
+    → line ≡ run_line name → RunsToEnd g names name printed after → Plays g c (running names) line printed (running after)
+plays_run g c names line name printed after same p = subst (λ (l : ScriptLine). Plays g c (running names) l printed (running after)) (sym same) (after, p, refl)
 
 pub plays_conn : {S : Type 0} (g : Ghosts S) (c : Configuration) (names : NamedNetwork S) (line : ScriptLine) (node name : List ℕ) (after : NamedNetwork S)
     → line ≡ conn_line node name → Opens names node name after → Plays g c (running names) line [] (running after)

@@ -1,27 +1,35 @@
--- What the lines of a script do: the nodes and connections that they name, and what is printed.
+-- What the lines of a script do: the nodes, connections and passes that they name, and what is printed.
 -- This project's own; the order of replies is RFC 9112, section 9.3.2.
-use Rattle.std.specs.Prelude.{◌≡◌, ℕ, ◌+◌, List, [], ◌∷◌, ◌++◌, length, map, Option, Some, None}
+use Rattle.std.specs.Prelude.{◌≡◌, ℕ, ◌+◌, List, [], ◌∷◌, ◌++◌, length, map, Option, Some, None, option_map}
 use Rattle.std.specs.FinMap.{empty, get, insert}
 use Rattle.std.specs.Io.BufRead.{drop_through, first_piece}
 use Rattle.std.specs.Io.KnownBytes.{Appends}
 use Rattle.couch_json.specs.Value.{object, no_members}
 use Rattle.auth.specs.Callers.{Configuration}
+use Rattle.auth.specs.Hmac.{token_of}
 use Rattle.store.specs.Contents.{new_database, with_security}
 use Rattle.store.specs.Database.{Database}
 use Rattle.store.specs.declared.store.Store.{Ghosts}
 use Rattle.hub.specs.Connections.{next_connection, no_connections, with_connection, without}
+use Rattle.repl.specs.Configuration.{Account, Configuration as PassConfiguration}
+use Rattle.repl.specs.Passes.{first_pass}
+use Rattle.world.specs.Happening.{Sight, exchanges}
 use Rattle.world.specs.Network.{Network}
+use Rattle.world.specs.declared.fate.Fate.{Fate}
+use Rattle.world.specs.declared.fate.Fate.TheVariants.{Answered, ReplyLost, RequestLost}
 use Rattle.lab.specs.Naming.{NamedValue, value_named, with_named, numbers_from}
-use Rattle.lab.specs.Replies.{IsSent}
-use Rattle.lab.specs.Script.{ScriptLine, node_line, public_line, conn_line, send_line, close_line, line_of}
+use Rattle.lab.specs.PassLines.{PassWords}
+use Rattle.lab.specs.Replies.{IsSent, IsShown, Runs}
+use Rattle.lab.specs.Script.{ScriptLine, node_line, public_line, conn_line, send_line, close_line, repl_line, step_line, lose_line, unsent_line, run_line, line_of}
 
--- a network whose nodes and connections have names: the numbers that these have in it
+-- a network whose nodes, connections and passes have names: the numbers that these have in it
 pub record NamedNetwork (S : Type 0) : Type 0 where
   pub nodes : List (NamedValue ℕ)
   pub connections : List (NamedValue ℕ)
+  pub passes : List (NamedValue ℕ)
   pub network : Network S
 
--- how far a script is: before its first connection there are nodes with their stores, and then a network of them
+-- how far a script is: before its first connection or pass there are nodes with their stores, and then a network of them
 pub data Scene (S : Type 0) : Type 0 where
   laying : List (NamedValue S) → Scene S
   running : NamedNetwork S → Scene S
@@ -45,12 +53,13 @@ abbrev pub AddsDatabase : {S : Type 0} → Ghosts S → List (NamedValue S) → 
 AddsDatabase {S} g before node name after =
     (old : S) × (value_named node before ≡ Some old) × ((new : S) × HasOneMore g old name new × (after ≡ with_named node new before))
 
--- the network of these nodes, each with this configuration, and without connections
+-- the network of these nodes, each with this configuration, and without connections or passes
 abbrev pub first_network : {S : Type 0} → Configuration → List (NamedValue S) → NamedNetwork S
 first_network c nodes = record {
   nodes = numbers_from 0 nodes;
   connections = [];
-  network = record { nodes = map (λ n. record { store = n.value; configuration = c }) nodes; homes = []; connections = no_connections };
+  passes = [];
+  network = record { nodes = map (λ n. record { store = n.value; configuration = c }) nodes; homes = []; connections = no_connections; transfers = [] };
 }
 
 -- there is one more connection, of a new name, and it leads to the node of this name
@@ -62,6 +71,54 @@ Opens before node name after =
       connections = before.connections ++ record { name = name; value = next_connection before.network.connections } ∷ [];
       network = record before.network { homes = before.network.homes ++ home ∷ []; connections = with_connection before.network.connections };
     }))
+
+-- the user of this name, without roles, and with the token that vouches for the name
+abbrev pub account_named : Configuration → List ℕ → Account
+account_named c name = record { name = name; roles = []; token = token_of c.secret name }
+
+-- what a pass of these words is told
+abbrev pub pass_configuration : Configuration → PassWords → PassConfiguration
+pass_configuration c words = record {
+  source = words.source.text;
+  source_db = words.source.database;
+  target = words.target.text;
+  target_db = words.target.database;
+  user = option_map (account_named c) words.user;
+  session = words.session;
+}
+
+-- the network with one more pass between the nodes of these numbers
+abbrev pub with_pass : {S : Type 0} → Configuration → NamedNetwork S → PassWords → ℕ → ℕ → NamedNetwork S
+with_pass c before words from to = record before {
+  passes = before.passes ++ record { name = words.name; value = length before.network.transfers + 1 } ∷ [];
+  network = record before.network {
+    transfers = before.network.transfers ++ record { from = from; to = to; pass = first_pass (pass_configuration c words) } ∷ [];
+  };
+}
+
+-- there is one more pass, of a new name, between the nodes of these names
+abbrev pub Starts : {S : Type 0} → Configuration → NamedNetwork S → PassWords → NamedNetwork S → Type 0
+Starts c before words after =
+    (value_named words.name before.passes ≡ None)
+    × ((from to : ℕ) × (value_named words.source.node before.nodes ≡ Some from) × (value_named words.target.node before.nodes ≡ Some to)
+    × (after ≡ with_pass c before words from to))
+
+-- the pass of this name makes an exchange with this fate, and this is printed
+abbrev pub Exchanges : {S : Type 0} → Ghosts S → NamedNetwork S → List ℕ → Fate → List ℕ → NamedNetwork S → Type 0
+Exchanges {S} g before name fate printed after =
+    (number : ℕ) × (value_named name before.passes ≡ Some number)
+    × ((seen : List Sight) × (network : Network S) × IsShown g before.network (exchanges number fate) name seen printed network
+    × (after ≡ record before { network = network }))
+
+-- how many exchanges a run has at most
+abbrev pub most_exchanges : ℕ
+most_exchanges = 10000
+
+-- the pass of this name makes exchanges up to its end, and this is printed
+abbrev pub RunsToEnd : {S : Type 0} → Ghosts S → NamedNetwork S → List ℕ → List ℕ → NamedNetwork S → Type 0
+RunsToEnd {S} g before name printed after =
+    (number : ℕ) × (value_named name before.passes ≡ Some number)
+    × ((network : Network S) × Runs g most_exchanges before.network number name printed network × (after ≡ record before { network = network }))
 
 -- the connection of this name is sent these bytes, and this is printed
 abbrev pub Sends : {S : Type 0} → Ghosts S → NamedNetwork S → List ℕ → List ℕ → List ℕ → NamedNetwork S → Type 0
@@ -75,7 +132,7 @@ Closes before name after =
     (conn : ℕ) × (value_named name before.connections ≡ Some conn)
     × (after ≡ record before { network = record before.network { connections = without before.network.connections conn } })
 
--- what a line does, where all nodes have this configuration; nodes and databases come before the first connection
+-- what a line does, where all nodes have this configuration; nodes and databases come before the first connection or pass
 abbrev pub Plays : {S : Type 0} → Ghosts S → Configuration → Scene S → ScriptLine → List ℕ → Scene S → Type 0
 Plays {S} g c (laying nodes) (node_line name) printed after =
     (printed ≡ []) × ((then : List (NamedValue S)) × AddsNode g nodes name then × (after ≡ laying then))
@@ -83,16 +140,32 @@ Plays {S} g c (laying nodes) (public_line node name) printed after =
     (printed ≡ []) × ((then : List (NamedValue S)) × AddsDatabase g nodes node name then × (after ≡ laying then))
 Plays {S} g c (laying nodes) (conn_line node name) printed after =
     (printed ≡ []) × ((then : NamedNetwork S) × Opens (first_network c nodes) node name then × (after ≡ running then))
+Plays {S} g c (laying nodes) (repl_line words) printed after =
+    (printed ≡ []) × ((then : NamedNetwork S) × Starts c (first_network c nodes) words then × (after ≡ running then))
 Plays g c (laying nodes) (send_line name bytes) printed after = ⊥
 Plays g c (laying nodes) (close_line name) printed after = ⊥
+Plays g c (laying nodes) (step_line name) printed after = ⊥
+Plays g c (laying nodes) (lose_line name) printed after = ⊥
+Plays g c (laying nodes) (unsent_line name) printed after = ⊥
+Plays g c (laying nodes) (run_line name) printed after = ⊥
 Plays g c (running names) (node_line name) printed after = ⊥
 Plays g c (running names) (public_line node name) printed after = ⊥
 Plays {S} g c (running names) (conn_line node name) printed after =
     (printed ≡ []) × ((then : NamedNetwork S) × Opens names node name then × (after ≡ running then))
+Plays {S} g c (running names) (repl_line words) printed after =
+    (printed ≡ []) × ((then : NamedNetwork S) × Starts c names words then × (after ≡ running then))
 Plays {S} g c (running names) (send_line name bytes) printed after =
     (then : NamedNetwork S) × Sends g names name bytes printed then × (after ≡ running then)
 Plays {S} g c (running names) (close_line name) printed after =
     (printed ≡ []) × ((then : NamedNetwork S) × Closes names name then × (after ≡ running then))
+Plays {S} g c (running names) (step_line name) printed after =
+    (then : NamedNetwork S) × Exchanges g names name Answered printed then × (after ≡ running then)
+Plays {S} g c (running names) (lose_line name) printed after =
+    (then : NamedNetwork S) × Exchanges g names name ReplyLost printed then × (after ≡ running then)
+Plays {S} g c (running names) (unsent_line name) printed after =
+    (then : NamedNetwork S) × Exchanges g names name RequestLost printed then × (after ≡ running then)
+Plays {S} g c (running names) (run_line name) printed after =
+    (then : NamedNetwork S) × RunsToEnd g names name printed then × (after ≡ running then)
 
 -- what lines do one after another; they print what each of them prints
 abbrev pub PlaysAll : {S : Type 0} → Ghosts S → Configuration → Scene S → List ScriptLine → List ℕ → Scene S → Type 0

@@ -1,4 +1,4 @@
--- The program's nodes and connections, as the definition's.
+-- The program's nodes, connections and passes, as the definition's.
 -- This project's own.
 use Rattle.std.specs.Prelude.{◌≡◌, ℕ, List, map, string_bytes, Option, Some}
 use Rattle.std.specs.Io.KnownBytes.{Appends}
@@ -21,7 +21,12 @@ abbrev pub nodes_of : Layout → List (NamedValue PlainStore)
 nodes_of layout = map named_of layout.stores.items
 
 abbrev pub names_of : Running → NamedNetwork PlainStore
-names_of r = record { nodes = map named_of r.nodes.items; connections = map named_of r.connections.items; network = r.world }
+names_of r = record {
+  nodes = map named_of r.nodes.items;
+  connections = map named_of r.connections.items;
+  passes = map named_of r.passes.items;
+  network = r.world;
+}
 
 abbrev pub scene_of : Stage → Scene PlainStore
 scene_of (stage.Laying layout) = laying (nodes_of layout)

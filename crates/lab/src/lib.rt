@@ -14,6 +14,7 @@ mod refusal;
 mod running;
 mod scripts;
 mod server;
+mod showing;
 mod stage;
 mod words;
 

@@ -1,33 +1,38 @@
-//! The nodes and connections of a script.
+//! The nodes, connections and passes of a script.
 
-ghost use Rattle.std.specs.Prelude.{◌≡◌, ◌≢◌, ◌++◌, ◌∷◌, [], ℕ, List, Err, IfOk, OnOk, length, map};
+ghost use Rattle.std.specs.Prelude.{◌≡◌, ◌≢◌, ◌++◌, ◌∷◌, [], ℕ, List, Err, Some, IfOk, OnOk, length, map};
 ghost use Rattle.std.specs.Io.KnownBytes.{Appends, Keeps};
-ghost use Rattle.world.specs.Network.{AreHonest};
-ghost use Rattle.world.specs.Turning.{seen_reply};
-ghost use Rattle.lab.specs.Naming.{named_of};
-ghost use Rattle.lab.specs.Printed.{reply_line};
-ghost use Rattle.lab.specs.Replies.{IsSent, seen_lines};
-ghost use Rattle.lab.specs.Scene.{Closes, Opens, Sends, first_network};
+ghost use Rattle.world.specs.Turning.{happening_of};
+ghost use Rattle.world.specs.Happening.{Sight};
+ghost use Rattle.lab.specs.Lines.{pass_said};
+ghost use Rattle.lab.specs.Naming.{named_of, value_named};
+ghost use Rattle.lab.specs.Replies.{IsShown};
+ghost use Rattle.lab.specs.Scene.{Closes, Opens, RunsToEnd, Sends, Starts, first_network};
 ghost use Rattle.lab.specs.Stages.{configuration_of, names_of, nodes_of};
 
 use crate::fault::LineFault;
 use crate::layout::Layout;
 use crate::named::{Named, value_of};
-use crate::printed::{print_closed, print_reply};
+use crate::repl_line::PassWords;
 use crate::server::Server;
+use crate::showing::{run, send, show};
 use couch_json::Got;
 use node::Node;
 use std::alloc::Global;
 use std::io::Write;
 use store::{PlainStore, Store};
-use world::{Event, Seen, World};
+use world::{Event, World};
 
-/// The nodes and connections of a script, by the numbers that they have in a world.
+/// How many exchanges a run has at most.
+const MOST_EXCHANGES: u32 = 10_000;
+
+/// The nodes, connections and passes of a script, by the numbers that they have in a world.
 #[derive(Drop)]
 pub struct Running {
     alloc: Global,
     pub nodes: Vec<Named<usize>>,
     pub connections: Vec<Named<u64>>,
+    pub passes: Vec<Named<u64>>,
     pub world: World<PlainStore>,
 }
 
@@ -45,6 +50,7 @@ impl Running {
             alloc: server.alloc,
             nodes: names,
             connections: Vec::new(server.alloc),
+            passes: Vec::new(server.alloc),
             world: World::new(server.alloc, nodes),
         })
     }
@@ -94,6 +100,72 @@ impl Running {
         self.world.close(conn);
         Ok(())
     }
+
+    /// Starts a pass between two nodes. `Line` where one of them isn't there, or there is a pass of this
+    /// name.
+    pub fn start_pass(&mut self, server: Server<'_>, words: &PassWords<'_>) -> Result<(), LineFault>
+        ensures { OnOk result (Starts (configuration_of server.entry) (names_of self.old) (pass_said words.now) (names_of self.new)) }
+    {
+        let Some(from) = value_of(&self.nodes, words.source.node) else {
+            return Err(LineFault::Line);
+        };
+        let Some(to) = value_of(&self.nodes, words.target.node) else {
+            return Err(LineFault::Line);
+        };
+        if value_of(&self.passes, words.name).is_some() {
+            return Err(LineFault::Line);
+        }
+        let name = Vec::from_slice(self.alloc, words.name)?;
+        let config = server.pass_config(words)?;
+        let value = self.world.start(config, from, to)?;
+        self.passes.push(Named { name, value })?;
+        Ok(())
+    }
+
+    /// Returns the number of a pass. `Line` where there is none of this name.
+    pub fn pass(&self, name: &[u8]) -> Result<u64, LineFault>
+        ensures { IfOk result (λ repl. value_named name.now (names_of self.now).passes ≡ Some repl) }
+    {
+        match value_of(&self.passes, name) {
+            Some(repl) => Ok(repl),
+            None => Err(LineFault::Line),
+        }
+    }
+
+    /// Has an event of a pass happen, and prints what is seen of it.
+    pub fn exchange<W: Write>(
+        &mut self,
+        event: Event,
+        name: &[u8],
+        out: &mut W,
+    ) -> Result<(), LineFault>
+        ensures shown { OnOk result ((seen : List Sight) × (printed : List ℕ)
+            × IsShown ⟦<PlainStore as Store>⟧ (names_of self.old).network (happening_of event) name.now seen printed (names_of self.new).network
+            × (names_of self.new ≡ record (names_of self.old) { network = (names_of self.new).network })
+            × Appends (W.contents out.old) (W.contents out.new) printed) }
+        ensures faults { result ≢ Err LineFault.Line }
+    {
+        show(self.alloc, &mut self.world, event, name, out)?;
+        Ok(())
+    }
+
+    /// Runs a pass to its end, with at most 10,000 exchanges, and prints them. `Line` where there is no pass
+    /// of this name.
+    pub fn run<W: Write>(&mut self, name: &[u8], out: &mut W) -> Result<(), LineFault>
+        ensures ran { OnOk result ((printed : List ℕ) × RunsToEnd ⟦<PlainStore as Store>⟧ (names_of self.old) name.now printed (names_of self.new)
+            × Appends (W.contents out.old) (W.contents out.new) printed) }
+        ensures line { result ≡ Err LineFault.Line → Keeps (W.contents out.old) (W.contents out.new) }
+    {
+        let repl = self.pass(name)?;
+        run(
+            self.alloc,
+            &mut self.world,
+            repl,
+            MOST_EXCHANGES,
+            name,
+            out,
+        )
+    }
 }
 
 /// Adds a node over a store, and its number under the store's name.
@@ -114,49 +186,4 @@ fn push_node(
         value: number,
     })?;
     Ok(())
-}
-
-/// Sends a piece on a connection, and prints each reply, or that the connection has ended.
-fn send<S: Store + Drop, W: Write>(
-    alloc: Global,
-    world: &mut World<S>,
-    conn: u64,
-    name: &[u8],
-    piece: Vec<u8>,
-    out: &mut W,
-) -> Result<(), LineFault>
-    ensures sent { AreHonest S.Store world.new.nodes → OnOk result ((printed : List ℕ)
-        × IsSent S.Store world.old conn piece.items name.now printed world.new × Appends (W.contents out.old) (W.contents out.new) printed) }
-    ensures faults { result ≢ Err LineFault.Line }
-{
-    if !world.is_open(conn) {
-        return print_closed(out, name);
-    }
-    let mut events = Vec::new(alloc);
-    events.push(Event::Piece { conn, bytes: piece })?;
-    match world.play(&events) {
-        Ok(seen) => print_all(out, name, &seen),
-        Err(_) => Err(LineFault::Memory),
-    }
-}
-
-/// Prints what was seen.
-fn print_all<W: Write>(out: &mut W, name: &[u8], seen: &[Seen]) -> Result<(), LineFault>
-    ensures printed { OnOk result (Appends (W.contents out.old) (W.contents out.new) (seen_lines name.now (map seen_reply seen.now))) }
-    ensures faults { result ≢ Err LineFault.Line }
-{
-    for one in seen {
-        print_seen(out, name, one)?;
-    }
-    Ok(())
-}
-
-/// Prints a reply that was seen.
-fn print_seen<W: Write>(out: &mut W, name: &[u8], seen: &Seen) -> Result<(), LineFault>
-    ensures printed { OnOk result (Appends (W.contents out.old) (W.contents out.new) (reply_line name.now (seen_reply seen.now).reply)) }
-    ensures faults { result ≢ Err LineFault.Line }
-{
-    match seen {
-        Seen::Replied { conn: _, response } => print_reply(out, name, response),
-    }
 }

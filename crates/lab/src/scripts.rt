@@ -18,6 +18,7 @@ use crate::stage::Stage;
 use std::alloc::Global;
 use std::io::{BufRead, Write};
 use store::{PlainStore, Store};
+use world::Event;
 
 /// How many reads a script may take.
 const READS: u64 = 1_048_576;
@@ -108,11 +109,11 @@ fn play<W: Write>(
     };
     match stage {
         Stage::Laying(layout) => lay(server, layout, line),
-        Stage::Running(running) => run(running, line, out),
+        Stage::Running(running) => run(server, running, line, out),
     }
 }
 
-/// Plays a line before the first connection.
+/// Plays a line before the first connection or pass.
 fn lay(server: Server<'_>, layout: Layout, line: Line<'_>) -> Result<Stage, LineFault>
     ensures { IfOk result (λ next. Plays ⟦<PlainStore as Store>⟧ (configuration_of server.entry) (laying (nodes_of layout)) (said_by line.entry) [] (scene_of next)) }
 {
@@ -131,13 +132,28 @@ fn lay(server: Server<'_>, layout: Layout, line: Line<'_>) -> Result<Stage, Line
             running.open(node, name)?;
             Ok(Stage::Running(running))
         }
-        Line::Send(_, _) | Line::Close(_) => Err(LineFault::Line),
+        Line::Repl(words) => {
+            let mut running = Running::start(server, layout)?;
+            running.start_pass(server, &words)?;
+            Ok(Stage::Running(running))
+        }
+        Line::Send(_, _)
+        | Line::Close(_)
+        | Line::Step(_)
+        | Line::Lose(_)
+        | Line::Unsent(_)
+        | Line::Run(_) => Err(LineFault::Line),
     }
 }
 
-/// Plays a line after the first connection.
-fn run<W: Write>(names: Running, line: Line<'_>, out: &mut W) -> Result<Stage, LineFault>
-    ensures played { (c : Configuration) → IfOk result (λ next. IsLinePlayed ⟦<PlainStore as Store>⟧ c (running (names_of names)) (said_by line.entry)
+/// Plays a line after the first connection or pass.
+fn run<W: Write>(
+    server: Server<'_>,
+    names: Running,
+    line: Line<'_>,
+    out: &mut W,
+) -> Result<Stage, LineFault>
+    ensures played { IfOk result (λ next. IsLinePlayed ⟦<PlainStore as Store>⟧ (configuration_of server.entry) (running (names_of names)) (said_by line.entry)
         (W.contents out.old) (W.contents out.new) (scene_of next)) }
     ensures stands { result ≡ Err LineFault.Line → Keeps (W.contents out.old) (W.contents out.new) }
 {
@@ -145,6 +161,10 @@ fn run<W: Write>(names: Running, line: Line<'_>, out: &mut W) -> Result<Stage, L
     match line {
         Line::Conn(node, name) => {
             names.open(node, name)?;
+            Ok(Stage::Running(names))
+        }
+        Line::Repl(words) => {
+            names.start_pass(server, &words)?;
             Ok(Stage::Running(names))
         }
         Line::Send(name, piece) => {
@@ -156,5 +176,37 @@ fn run<W: Write>(names: Running, line: Line<'_>, out: &mut W) -> Result<Stage, L
             Ok(Stage::Running(names))
         }
         Line::Node(_) | Line::Public(_, _) => Err(LineFault::Line),
+        other => run_pass(names, other, out),
+    }
+}
+
+/// Plays a line of a pass.
+fn run_pass<W: Write>(names: Running, line: Line<'_>, out: &mut W) -> Result<Stage, LineFault>
+    ensures played { (c : Configuration) → IfOk result (λ next. IsLinePlayed ⟦<PlainStore as Store>⟧ c (running (names_of names)) (said_by line.entry)
+        (W.contents out.old) (W.contents out.new) (scene_of next)) }
+    ensures stands { result ≡ Err LineFault.Line → Keeps (W.contents out.old) (W.contents out.new) }
+{
+    let mut names = names;
+    match line {
+        Line::Step(name) => {
+            let repl = names.pass(name)?;
+            names.exchange(Event::Exchange { repl }, name, out)?;
+            Ok(Stage::Running(names))
+        }
+        Line::Lose(name) => {
+            let repl = names.pass(name)?;
+            names.exchange(Event::Loss { repl }, name, out)?;
+            Ok(Stage::Running(names))
+        }
+        Line::Unsent(name) => {
+            let repl = names.pass(name)?;
+            names.exchange(Event::Unsent { repl }, name, out)?;
+            Ok(Stage::Running(names))
+        }
+        Line::Run(name) => {
+            names.run(name, out)?;
+            Ok(Stage::Running(names))
+        }
+        _ => Err(LineFault::Line),
     }
 }

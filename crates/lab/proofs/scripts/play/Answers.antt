@@ -23,4 +23,4 @@ returns-in-Running-clause-played g c =
     (λ next p. bytes_played ghosts (configuration_of c.args.server) (scene_of c.args.stage) (running (names_of c.in-Running.running)) (said_by c.in-Some.line) c.args.bytes.now
     (g.W.Write.contents c.args.out.now) (g.W.Write.contents c.run.new.out) (scene_of next) (sym c.in_ok-line.ensures ∙ ap (option_map said_by) c.in-Some.is)
     (ap scene_of c.in-Running.is) p)
-    (c.run.ensures.played (configuration_of c.args.server))
+    c.run.ensures.played

@@ -1,5 +1,5 @@
 use Rattle.lab.proofs.ReplyLemmas.{seen_more}
-use Rattle.lab.proofs.running.print_all.Goals as goal
+use Rattle.lab.proofs.showing.print_all.Goals as goal
 
 pub loop-one-preserved : goal.loop-one-preserved
 loop-one-preserved g c =
