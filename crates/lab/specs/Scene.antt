@@ -13,7 +13,7 @@ use Rattle.hub.specs.Connections.{next_connection, no_connections, with_connecti
 use Rattle.world.specs.Network.{Network}
 use Rattle.lab.specs.Naming.{NamedValue, value_named, with_named, numbers_from}
 use Rattle.lab.specs.Replies.{IsSent}
-use Rattle.lab.specs.Script.{ScriptLine, node_line, public_line, conn_line, send_line, close_line, line_of}
+use Rattle.lab.specs.Script.{ScriptLine, node_line, public_line, conn_line, send_line, close_line, repl_line, step_line, lose_line, unsent_line, run_line, line_of}
 
 -- a network whose nodes and connections have names: the numbers that these have in it
 pub record NamedNetwork (S : Type 0) : Type 0 where
@@ -85,6 +85,11 @@ Plays {S} g c (laying nodes) (conn_line node name) printed after =
     (printed ≡ []) × ((then : NamedNetwork S) × Opens (first_network c nodes) node name then × (after ≡ running then))
 Plays g c (laying nodes) (send_line name bytes) printed after = ⊥
 Plays g c (laying nodes) (close_line name) printed after = ⊥
+Plays g c (laying nodes) (repl_line pass) printed after = ⊥
+Plays g c (laying nodes) (step_line name) printed after = ⊥
+Plays g c (laying nodes) (lose_line name) printed after = ⊥
+Plays g c (laying nodes) (unsent_line name) printed after = ⊥
+Plays g c (laying nodes) (run_line name) printed after = ⊥
 Plays g c (running names) (node_line name) printed after = ⊥
 Plays g c (running names) (public_line node name) printed after = ⊥
 Plays {S} g c (running names) (conn_line node name) printed after =
@@ -93,6 +98,11 @@ Plays {S} g c (running names) (send_line name bytes) printed after =
     (then : NamedNetwork S) × Sends g names name bytes printed then × (after ≡ running then)
 Plays {S} g c (running names) (close_line name) printed after =
     (printed ≡ []) × ((then : NamedNetwork S) × Closes names name then × (after ≡ running then))
+Plays g c (running names) (repl_line pass) printed after = ⊥
+Plays g c (running names) (step_line name) printed after = ⊥
+Plays g c (running names) (lose_line name) printed after = ⊥
+Plays g c (running names) (unsent_line name) printed after = ⊥
+Plays g c (running names) (run_line name) printed after = ⊥
 
 -- what lines do one after another; they print what each of them prints
 abbrev pub PlaysAll : {S : Type 0} → Ghosts S → Configuration → Scene S → List ScriptLine → List ℕ → Scene S → Type 0

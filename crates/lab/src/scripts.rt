@@ -132,6 +132,9 @@ fn lay(server: Server<'_>, layout: Layout, line: Line<'_>) -> Result<Stage, Line
             Ok(Stage::Running(running))
         }
         Line::Send(_, _) | Line::Close(_) => Err(LineFault::Line),
+        Line::Repl(_) | Line::Step(_) | Line::Lose(_) | Line::Unsent(_) | Line::Run(_) => {
+            Err(LineFault::Line)
+        }
     }
 }
 
@@ -156,5 +159,8 @@ fn run<W: Write>(names: Running, line: Line<'_>, out: &mut W) -> Result<Stage, L
             Ok(Stage::Running(names))
         }
         Line::Node(_) | Line::Public(_, _) => Err(LineFault::Line),
+        Line::Repl(_) | Line::Step(_) | Line::Lose(_) | Line::Unsent(_) | Line::Run(_) => {
+            Err(LineFault::Line)
+        }
     }
 }
