@@ -1,5 +1,6 @@
 pub mod Words
 pub mod Escapes
+pub mod PassLines
 pub mod Script
 pub mod Lines
 pub mod Plan

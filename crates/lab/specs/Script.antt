@@ -4,6 +4,7 @@ use Rattle.std.specs.Prelude.{ℕ, ◌&&◌, List, codes, Option, Some, None, op
 use Rattle.store.specs.DatabaseName.{is_database_name}
 use Rattle.lab.specs.Words.{parts_at_space, is_word, is_node_name}
 use Rattle.lab.specs.Escapes.{unescaped_text}
+use Rattle.lab.specs.PassLines.{PassWords, pass_words_of}
 
 -- what a line says
 pub data ScriptLine : Type 0 where
@@ -17,6 +18,16 @@ pub data ScriptLine : Type 0 where
   send_line : List ℕ → List ℕ → ScriptLine
   -- a connection is closed
   close_line : List ℕ → ScriptLine
+  -- there is a replication pass
+  repl_line : PassWords → ScriptLine
+  -- a pass makes one exchange
+  step_line : List ℕ → ScriptLine
+  -- a pass makes one exchange, and its reply is lost
+  lose_line : List ℕ → ScriptLine
+  -- a pass makes one exchange, and its request is lost
+  unsent_line : List ℕ → ScriptLine
+  -- a pass makes exchanges to its end
+  run_line : List ℕ → ScriptLine
 
 -- `node A`, where this is `A`
 abbrev pub node_of : List ℕ → Option ScriptLine
@@ -38,6 +49,24 @@ send_of name text = if is_word name then option_map (λ piece. send_line name pi
 abbrev pub close_of : List ℕ → Option ScriptLine
 close_of name = if is_word name then Some (close_line name) else None
 
+-- `repl r A/db B/db SESSION [NAME]`, where this is all but the first word
+abbrev pub repl_of : List ℕ → Option ScriptLine
+repl_of words = option_map (λ pass. repl_line pass) (pass_words_of words)
+
+-- a line of one more word, where this is that word: the name of a pass
+abbrev pub line_of_pass : (List ℕ → ScriptLine) → List ℕ → Option ScriptLine
+line_of_pass line name = if is_word name then Some (line name) else None
+
+-- the line of a replication pass whose first word this is, with what stands behind it
+abbrev pub pass_line_with : List ℕ → List ℕ → Option ScriptLine
+pass_line_with word rest =
+    if bytes_eq word (codes "repl") then repl_of rest
+    else if bytes_eq word (codes "step") then line_of_pass step_line rest
+    else if bytes_eq word (codes "lose") then line_of_pass lose_line rest
+    else if bytes_eq word (codes "unsent") then line_of_pass unsent_line rest
+    else if bytes_eq word (codes "run") then line_of_pass run_line rest
+    else None
+
 -- the line whose first word this is, with what stands behind it
 abbrev pub line_with : List ℕ → List ℕ → Option ScriptLine
 line_with word rest =
@@ -46,7 +75,7 @@ line_with word rest =
     else if bytes_eq word (codes "conn") then option_and_then (λ p. conn_of p.0 p.1) (parts_at_space rest)
     else if bytes_eq word (codes "send") then option_and_then (λ p. send_of p.0 p.1) (parts_at_space rest)
     else if bytes_eq word (codes "close") then close_of rest
-    else None
+    else pass_line_with word rest
 
 -- what the bytes of a line say, without its line feed, or none where they are no line of a script
 abbrev pub line_of : List ℕ → Option ScriptLine

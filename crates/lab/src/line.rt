@@ -1,17 +1,16 @@
 //! The lines of a script.
 
-ghost use Rattle.std.specs.Prelude.{◌≡◌, IfOk, Some, None, option_map, option_and_then, if◌then◌else◌};
-ghost use Rattle.store.specs.DatabaseName.{is_database_name};
+ghost use Rattle.std.specs.Prelude.{◌≡◌, IfOk, option_map, option_and_then};
 ghost use Rattle.lab.specs.Words.{parts_at_space};
-ghost use Rattle.lab.specs.Script.{line_of, line_with, node_of, public_of, conn_of, send_of, close_of};
+ghost use Rattle.lab.specs.Script.{line_of, line_of_pass, line_with, lose_line, node_of, pass_line_with, public_of, conn_of, send_of, close_of, repl_of, run_line, step_line, unsent_line};
 ghost use Rattle.lab.specs.Lines.{said_by};
 
 use crate::escapes::unescape;
-use crate::words::{is_node_name, is_word, split_at_space};
-use couch_json::{Got, NoMemory};
+use crate::repl_line::{PassWords, read_pass};
+use crate::words::{is_node_name, is_word, read_name, split_at_space};
+use couch_json::Got;
 use std::alloc::Global;
-use std::str;
-use store::{DbName, NameFault};
+use store::DbName;
 
 /// A line of a script.
 #[derive(Debug, Drop)]
@@ -26,12 +25,23 @@ pub enum Line<'a> {
     Send(&'a [u8], Vec<u8>),
     /// `close c`: connection c is closed.
     Close(&'a [u8]),
+    /// `repl r A/db B/db SESSION [NAME]`: r is a replication pass.
+    Repl(PassWords<'a>),
+    /// `step r`: pass r makes one exchange.
+    Step(&'a [u8]),
+    /// `lose r`: pass r makes one exchange, and its reply is lost.
+    Lose(&'a [u8]),
+    /// `unsent r`: pass r makes one exchange, and its request is lost.
+    Unsent(&'a [u8]),
+    /// `run r`: pass r makes exchanges to its end.
+    Run(&'a [u8]),
 }
 
 /// Reads a line, without its line feed; `None` where the bytes are no line of a script.
 ///
 /// Words are separated by one space. A node's name is of ASCII letters and digits, a connection's
-/// of any bytes but space. The text of a `send` is the rest of its line, and may be empty.
+/// and a pass's of any bytes but space. The text of a `send` is the rest of its line, and may be
+/// empty. A pass's session and user are UTF-8.
 pub fn read_line<'a>(alloc: Global, bytes: &'a [u8]) -> Got<Option<Line<'a>>>
     ensures { IfOk result (λ line. option_map said_by line ≡ line_of bytes.now) }
 {
@@ -59,6 +69,28 @@ fn read_with<'a>(alloc: Global, word: &[u8], rest: &'a [u8]) -> Got<Option<Line<
     }
     if word == b"close".as_slice() {
         return Ok(read_close(rest));
+    }
+    read_pass_line(alloc, word, rest)
+}
+
+/// Reads the line of a replication pass whose first word this is, with what stands behind it.
+fn read_pass_line<'a>(alloc: Global, word: &[u8], rest: &'a [u8]) -> Got<Option<Line<'a>>>
+    ensures { IfOk result (λ line. option_map said_by line ≡ pass_line_with word.now rest.now) }
+{
+    if word == b"repl".as_slice() {
+        return read_repl(alloc, rest);
+    }
+    if word == b"step".as_slice() {
+        return Ok(read_step(rest));
+    }
+    if word == b"lose".as_slice() {
+        return Ok(read_lose(rest));
+    }
+    if word == b"unsent".as_slice() {
+        return Ok(read_unsent(rest));
+    }
+    if word == b"run".as_slice() {
+        return Ok(read_run(rest));
     }
     Ok(None)
 }
@@ -122,17 +154,51 @@ fn read_close<'a>(name: &'a [u8]) -> Option<Line<'a>>
     }
 }
 
-/// Returns the name of a database that the bytes spell. Its bytes are ASCII, so bytes that are no text are
-/// no name.
-fn read_name(alloc: Global, bytes: &[u8]) -> Got<Option<DbName>>
-    ensures { IfOk result (λ name. name ≡ (if is_database_name bytes.now then Some bytes.now else None)) }
+fn read_repl<'a>(alloc: Global, words: &'a [u8]) -> Got<Option<Line<'a>>>
+    ensures { IfOk result (λ line. option_map said_by line ≡ repl_of words.now) }
 {
-    let Ok(text) = str::from_utf8(bytes) else {
-        return Ok(None);
-    };
-    match DbName::new(alloc, text) {
-        Ok(name) => Ok(Some(name)),
-        Err(NameFault::Shape) => Ok(None),
-        Err(NameFault::Memory) => Err(NoMemory),
+    match read_pass(alloc, words)? {
+        Some(pass) => Ok(Some(Line::Repl(pass))),
+        None => Ok(None),
+    }
+}
+
+fn read_step<'a>(name: &'a [u8]) -> Option<Line<'a>>
+    ensures { option_map said_by result ≡ line_of_pass step_line name.now }
+{
+    if is_word(name) {
+        Some(Line::Step(name))
+    } else {
+        None
+    }
+}
+
+fn read_lose<'a>(name: &'a [u8]) -> Option<Line<'a>>
+    ensures { option_map said_by result ≡ line_of_pass lose_line name.now }
+{
+    if is_word(name) {
+        Some(Line::Lose(name))
+    } else {
+        None
+    }
+}
+
+fn read_unsent<'a>(name: &'a [u8]) -> Option<Line<'a>>
+    ensures { option_map said_by result ≡ line_of_pass unsent_line name.now }
+{
+    if is_word(name) {
+        Some(Line::Unsent(name))
+    } else {
+        None
+    }
+}
+
+fn read_run<'a>(name: &'a [u8]) -> Option<Line<'a>>
+    ensures { option_map said_by result ≡ line_of_pass run_line name.now }
+{
+    if is_word(name) {
+        Some(Line::Run(name))
+    } else {
+        None
     }
 }

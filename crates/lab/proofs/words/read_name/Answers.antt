@@ -1,7 +1,7 @@
 use Rattle.std.proofs.Common.{◌≡◌, Bool, true, false, Some, None, refl, if◌then◌else◌}
 use Rattle.store.specs.DatabaseName.{is_database_name}
 use Rattle.lab.proofs.Names.{database_name_is_text}
-use Rattle.lab.proofs.line.read_name.Goals as goal
+use Rattle.lab.proofs.words.read_name.Goals as goal
 
 pub returns-in_default : goal.returns-in_default
 returns-in_default c = go (is_database_name c.args.bytes.now) refl
