@@ -16,7 +16,9 @@ pub record HasRun {S : Type 0} (g : Ghosts S) (most left : ℕ) (number : ℕ) (
   pub goes_on : (rest : List ℕ) (after : Network S) → Runs g left now number name rest after → Runs g most start number name (shown ++ rest) after
 
 pub run_none : {S : Type 0} (g : Ghosts S) (most number : ℕ) (name : List ℕ) (start : Network S) (old : Option (List ℕ)) → HasRun g most (most - 0) number name start start old old
-run_none g most number name start old = record { shown = []; appended = Appends-nil old; goes_on = λ rest after p. p }
+run_none {S} g most number name start old =
+    let all : most - 0 ≡ most = omega arith in
+    record { shown = []; appended = Appends-nil old; goes_on = λ rest after p. subst (λ (n : ℕ). Runs g n start number name rest after) all p }
 
 -- the last exchange
 runs_end : {S : Type 0} (g : Ghosts S) (left number : ℕ) (name printed : List ℕ) (seen : List Sight) (now after : Network S) → 0 < left
@@ -29,7 +31,9 @@ runs_more : {S : Type 0} (g : Ghosts S) (left number : ℕ) (name printed rest :
     → IsShown g now (exchanges number Answered) name seen printed between → says_end seen ≡ false → Runs g (left - 1) between number name rest after
     → Runs g left now number name (printed ++ rest) after
 runs_more g zero number name printed rest seen now between after some shown is p = absurd (omega (arith, some))
-runs_more g (suc n) number name printed rest seen now between after some shown is p = (seen, printed, between, shown, inr (is, (rest, p, refl)))
+runs_more {S} g (suc n) number name printed rest seen now between after some shown is p =
+    let left : suc n - 1 ≡ n = omega arith in
+    (seen, printed, between, shown, inr (is, (rest, subst (λ (k : ℕ). Runs g k between number name rest after) left p, refl)))
 
 pub run_ended : {S : Type 0} (g : Ghosts S) (most turn number : ℕ) (name printed : List ℕ) (seen : List Sight) (start now after : Network S) (old between new : Option (List ℕ))
     → HasRun g most (most - turn) number name start now old between → turn < most → IsShown g now (exchanges number Answered) name seen printed after → says_end seen ≡ true

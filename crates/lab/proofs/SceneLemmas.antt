@@ -9,12 +9,12 @@ use Rattle.store.specs.declared.store.Store.{Ghosts}
 use Rattle.lab.specs.Playing.{Prints, ReadsLines, after_lines}
 use Rattle.world.specs.Happening.{Sight, exchanges}
 use Rattle.world.specs.declared.fate.Fate.{Fate}
-use Rattle.world.specs.declared.fate.Fate.TheVariants.{Answered, ReplyLost, RequestLost}
 use Rattle.lab.specs.Naming.{NamedValue, value_named}
 use Rattle.lab.specs.PassLines.{PassWords}
 use Rattle.lab.specs.Replies.{IsShown}
-use Rattle.lab.specs.Scene.{BeginsWith, Closes, Exchanges, HasPlayed, NamedNetwork, Opens, Plays, PlaysAll, PlaysBefore, PlaysScript, RunsToEnd, Scene, Sends, Starts, laying, running, first_network}
-use Rattle.lab.specs.Script.{ScriptLine, close_line, conn_line, line_of, lose_line, repl_line, run_line, send_line, step_line, unsent_line}
+use Rattle.lab.specs.Scene.{BeginsWith, Closes, Exchanges, HasPlayed, NamedNetwork, Opens, Plays, PlaysAll, PlaysBefore, PlaysScript, Scene, Sends, Starts, Turns, laying, running, first_network}
+use Rattle.lab.specs.Script.{ScriptLine, close_line, conn_line, line_of, repl_line, send_line, turn_line}
+use Rattle.lab.specs.declared.turn.Turn.{Turn}
 use Rattle.lab.specs.Stages.{AreBytesPlayed, IsLinePlayed}
 use Rattle.lab.proofs.ReplyLemmas.{Appends-then}
 
@@ -124,21 +124,9 @@ pub exchanges_of : {S : Type 0} (g : Ghosts S) (before after : NamedNetwork S) (
     → after ≡ record before { network = after.network } → Exchanges g before name fate printed after
 exchanges_of g before after name number fate seen printed named shown same = (number, named, (seen, after.network, shown, same))
 
-pub plays_step : {S : Type 0} (g : Ghosts S) (c : Configuration) (names : NamedNetwork S) (line : ScriptLine) (name printed : List ℕ) (after : NamedNetwork S)
-    → line ≡ step_line name → Exchanges g names name Answered printed after → Plays g c (running names) line printed (running after)
-plays_step g c names line name printed after same p = subst (λ (l : ScriptLine). Plays g c (running names) l printed (running after)) (sym same) (after, p, refl)
-
-pub plays_lose : {S : Type 0} (g : Ghosts S) (c : Configuration) (names : NamedNetwork S) (line : ScriptLine) (name printed : List ℕ) (after : NamedNetwork S)
-    → line ≡ lose_line name → Exchanges g names name ReplyLost printed after → Plays g c (running names) line printed (running after)
-plays_lose g c names line name printed after same p = subst (λ (l : ScriptLine). Plays g c (running names) l printed (running after)) (sym same) (after, p, refl)
-
-pub plays_unsent : {S : Type 0} (g : Ghosts S) (c : Configuration) (names : NamedNetwork S) (line : ScriptLine) (name printed : List ℕ) (after : NamedNetwork S)
-    → line ≡ unsent_line name → Exchanges g names name RequestLost printed after → Plays g c (running names) line printed (running after)
-plays_unsent g c names line name printed after same p = subst (λ (l : ScriptLine). Plays g c (running names) l printed (running after)) (sym same) (after, p, refl)
-
-pub plays_run : {S : Type 0} (g : Ghosts S) (c : Configuration) (names : NamedNetwork S) (line : ScriptLine) (name printed : List ℕ) (after : NamedNetwork S)
-    → line ≡ run_line name → RunsToEnd g names name printed after → Plays g c (running names) line printed (running after)
-plays_run g c names line name printed after same p = subst (λ (l : ScriptLine). Plays g c (running names) l printed (running after)) (sym same) (after, p, refl)
+pub plays_turn : {S : Type 0} (g : Ghosts S) (c : Configuration) (names : NamedNetwork S) (line : ScriptLine) (turn : Turn) (name printed : List ℕ) (after : NamedNetwork S)
+    → line ≡ turn_line turn name → Turns g turn names name printed after → Plays g c (running names) line printed (running after)
+plays_turn g c names line turn name printed after same p = subst (λ (l : ScriptLine). Plays g c (running names) l printed (running after)) (sym same) (after, p, refl)
 
 pub plays_conn : {S : Type 0} (g : Ghosts S) (c : Configuration) (names : NamedNetwork S) (line : ScriptLine) (node name : List ℕ) (after : NamedNetwork S)
     → line ≡ conn_line node name → Opens names node name after → Plays g c (running names) line [] (running after)

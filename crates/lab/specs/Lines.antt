@@ -2,13 +2,13 @@
 -- This project's own.
 use Rattle.std.specs.Prelude.{option_map}
 use Rattle.lab.specs.declared.line.Line.{Line}
-use Rattle.lab.specs.declared.line.Line.TheVariants.{Node, Public, Conn, Send, Close, Repl, Step, Lose, Unsent, Run}
+use Rattle.lab.specs.declared.line.Line.TheVariants.{Node, Public, Conn, Send, Close, Repl, Turn}
 use Rattle.lab.specs.declared.repl_line.PassSession.{PassSession as ReadSession}
 use Rattle.lab.specs.declared.repl_line.PassSide.{PassSide as ReadSide}
 use Rattle.lab.specs.declared.repl_line.SideThen.{SideThen as ReadSideThen}
 use Rattle.lab.specs.declared.repl_line.PassWords.{PassWords as ReadWords}
 use Rattle.lab.specs.PassLines.{PassSession, PassSide, PassWords, SideThen}
-use Rattle.lab.specs.Script.{ScriptLine, node_line, public_line, conn_line, send_line, close_line, repl_line, step_line, lose_line, unsent_line, run_line}
+use Rattle.lab.specs.Script.{ScriptLine, node_line, public_line, conn_line, send_line, close_line, repl_line, turn_line}
 
 abbrev pub side_said : ReadSide → PassSide
 side_said s = record { text = s.text.now; node = s.node.now; database = s.database }
@@ -35,7 +35,4 @@ said_by (Conn node name) = conn_line node.now name.now
 said_by (Send name piece) = send_line name.now piece.items
 said_by (Close name) = close_line name.now
 said_by (Repl pass) = repl_line (pass_said pass)
-said_by (Step name) = step_line name.now
-said_by (Lose name) = lose_line name.now
-said_by (Unsent name) = unsent_line name.now
-said_by (Run name) = run_line name.now
+said_by (Turn turn name) = turn_line turn name.now

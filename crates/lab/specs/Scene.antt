@@ -20,7 +20,9 @@ use Rattle.world.specs.declared.fate.Fate.TheVariants.{Answered, ReplyLost, Requ
 use Rattle.lab.specs.Naming.{NamedValue, value_named, with_named, numbers_from}
 use Rattle.lab.specs.PassLines.{PassWords}
 use Rattle.lab.specs.Replies.{IsSent, IsShown, Runs}
-use Rattle.lab.specs.Script.{ScriptLine, node_line, public_line, conn_line, send_line, close_line, repl_line, step_line, lose_line, unsent_line, run_line, line_of}
+use Rattle.lab.specs.Script.{ScriptLine, node_line, public_line, conn_line, send_line, close_line, repl_line, turn_line, line_of}
+use Rattle.lab.specs.declared.turn.Turn.{Turn}
+use Rattle.lab.specs.declared.turn.Turn.TheVariants.{Step, Lose, Unsent, Run}
 
 -- a network whose nodes, connections and passes have names: the numbers that these have in it
 pub record NamedNetwork (S : Type 0) : Type 0 where
@@ -120,6 +122,13 @@ RunsToEnd {S} g before name printed after =
     (number : ℕ) × (value_named name before.passes ≡ Some number)
     × ((network : Network S) × Runs g most_exchanges before.network number name printed network × (after ≡ record before { network = network }))
 
+-- what a pass is to do, and what is printed of it
+abbrev pub Turns : {S : Type 0} → Ghosts S → Turn → NamedNetwork S → List ℕ → List ℕ → NamedNetwork S → Type 0
+Turns g Step before name printed after = Exchanges g before name Answered printed after
+Turns g Lose before name printed after = Exchanges g before name ReplyLost printed after
+Turns g Unsent before name printed after = Exchanges g before name RequestLost printed after
+Turns g Run before name printed after = RunsToEnd g before name printed after
+
 -- the connection of this name is sent these bytes, and this is printed
 abbrev pub Sends : {S : Type 0} → Ghosts S → NamedNetwork S → List ℕ → List ℕ → List ℕ → NamedNetwork S → Type 0
 Sends {S} g before name bytes printed after =
@@ -144,10 +153,7 @@ Plays {S} g c (laying nodes) (repl_line words) printed after =
     (printed ≡ []) × ((then : NamedNetwork S) × Starts c (first_network c nodes) words then × (after ≡ running then))
 Plays g c (laying nodes) (send_line name bytes) printed after = ⊥
 Plays g c (laying nodes) (close_line name) printed after = ⊥
-Plays g c (laying nodes) (step_line name) printed after = ⊥
-Plays g c (laying nodes) (lose_line name) printed after = ⊥
-Plays g c (laying nodes) (unsent_line name) printed after = ⊥
-Plays g c (laying nodes) (run_line name) printed after = ⊥
+Plays g c (laying nodes) (turn_line turn name) printed after = ⊥
 Plays g c (running names) (node_line name) printed after = ⊥
 Plays g c (running names) (public_line node name) printed after = ⊥
 Plays {S} g c (running names) (conn_line node name) printed after =
@@ -158,14 +164,8 @@ Plays {S} g c (running names) (send_line name bytes) printed after =
     (then : NamedNetwork S) × Sends g names name bytes printed then × (after ≡ running then)
 Plays {S} g c (running names) (close_line name) printed after =
     (printed ≡ []) × ((then : NamedNetwork S) × Closes names name then × (after ≡ running then))
-Plays {S} g c (running names) (step_line name) printed after =
-    (then : NamedNetwork S) × Exchanges g names name Answered printed then × (after ≡ running then)
-Plays {S} g c (running names) (lose_line name) printed after =
-    (then : NamedNetwork S) × Exchanges g names name ReplyLost printed then × (after ≡ running then)
-Plays {S} g c (running names) (unsent_line name) printed after =
-    (then : NamedNetwork S) × Exchanges g names name RequestLost printed then × (after ≡ running then)
-Plays {S} g c (running names) (run_line name) printed after =
-    (then : NamedNetwork S) × RunsToEnd g names name printed then × (after ≡ running then)
+Plays {S} g c (running names) (turn_line turn name) printed after =
+    (then : NamedNetwork S) × Turns g turn names name printed then × (after ≡ running then)
 
 -- what lines do one after another; they print what each of them prints
 abbrev pub PlaysAll : {S : Type 0} → Ghosts S → Configuration → Scene S → List ScriptLine → List ℕ → Scene S → Type 0

@@ -5,6 +5,8 @@ use Rattle.store.specs.DatabaseName.{is_database_name}
 use Rattle.lab.specs.Words.{parts_at_space, is_word, is_node_name}
 use Rattle.lab.specs.Escapes.{unescaped_text}
 use Rattle.lab.specs.PassLines.{PassWords, pass_words_of}
+use Rattle.lab.specs.declared.turn.Turn.{Turn}
+use Rattle.lab.specs.declared.turn.Turn.TheVariants.{Step, Lose, Unsent, Run}
 
 -- what a line says
 pub data ScriptLine : Type 0 where
@@ -20,14 +22,8 @@ pub data ScriptLine : Type 0 where
   close_line : List ℕ → ScriptLine
   -- there is a replication pass
   repl_line : PassWords → ScriptLine
-  -- a pass makes one exchange
-  step_line : List ℕ → ScriptLine
-  -- a pass makes one exchange, and its reply is lost
-  lose_line : List ℕ → ScriptLine
-  -- a pass makes one exchange, and its request is lost
-  unsent_line : List ℕ → ScriptLine
-  -- a pass makes exchanges to its end
-  run_line : List ℕ → ScriptLine
+  -- a pass makes exchanges
+  turn_line : Turn → List ℕ → ScriptLine
 
 -- `node A`, where this is `A`
 abbrev pub node_of : List ℕ → Option ScriptLine
@@ -53,19 +49,24 @@ close_of name = if is_word name then Some (close_line name) else None
 abbrev pub repl_of : List ℕ → Option ScriptLine
 repl_of words = option_map (λ pass. repl_line pass) (pass_words_of words)
 
--- a line of one more word, where this is that word: the name of a pass
-abbrev pub line_of_pass : (List ℕ → ScriptLine) → List ℕ → Option ScriptLine
-line_of_pass line name = if is_word name then Some (line name) else None
+-- what the first word of a line has a pass do
+abbrev pub turn_named : List ℕ → Option Turn
+turn_named word =
+    if bytes_eq word (codes "step") then Some Step
+    else if bytes_eq word (codes "lose") then Some Lose
+    else if bytes_eq word (codes "unsent") then Some Unsent
+    else if bytes_eq word (codes "run") then Some Run
+    else None
+
+-- `step r`, where this is `r`; or `lose r`, `unsent r` or `run r`
+abbrev pub turn_of : Turn → List ℕ → Option ScriptLine
+turn_of turn name = if is_word name then Some (turn_line turn name) else None
 
 -- the line of a replication pass whose first word this is, with what stands behind it
 abbrev pub pass_line_with : List ℕ → List ℕ → Option ScriptLine
 pass_line_with word rest =
     if bytes_eq word (codes "repl") then repl_of rest
-    else if bytes_eq word (codes "step") then line_of_pass step_line rest
-    else if bytes_eq word (codes "lose") then line_of_pass lose_line rest
-    else if bytes_eq word (codes "unsent") then line_of_pass unsent_line rest
-    else if bytes_eq word (codes "run") then line_of_pass run_line rest
-    else None
+    else option_and_then (λ turn. turn_of turn rest) (turn_named word)
 
 -- the line whose first word this is, with what stands behind it
 abbrev pub line_with : List ℕ → List ℕ → Option ScriptLine

@@ -18,6 +18,7 @@ mod scripts;
 mod server;
 mod showing;
 mod stage;
+mod turn;
 mod words;
 
 pub use command_line::plan;

@@ -2,11 +2,12 @@
 
 ghost use Rattle.std.specs.Prelude.{◌≡◌, IfOk, option_map, option_and_then};
 ghost use Rattle.lab.specs.Words.{parts_at_space};
-ghost use Rattle.lab.specs.Script.{line_of, line_of_pass, line_with, lose_line, node_of, pass_line_with, public_of, conn_of, send_of, close_of, repl_of, run_line, step_line, unsent_line};
+ghost use Rattle.lab.specs.Script.{line_of, line_with, node_of, pass_line_with, public_of, conn_of, send_of, close_of, repl_of, turn_named, turn_of};
 ghost use Rattle.lab.specs.Lines.{said_by};
 
 use crate::escapes::unescape;
 use crate::repl_line::{PassWords, read_pass};
+use crate::turn::Turn;
 use crate::words::{is_node_name, is_word, read_name, split_at_space};
 use couch_json::Got;
 use std::alloc::Global;
@@ -27,14 +28,8 @@ pub enum Line<'a> {
     Close(&'a [u8]),
     /// `repl r A/db B/db SESSION [NAME]`: r is a replication pass.
     Repl(PassWords<'a>),
-    /// `step r`: pass r makes one exchange.
-    Step(&'a [u8]),
-    /// `lose r`: pass r makes one exchange, and its reply is lost.
-    Lose(&'a [u8]),
-    /// `unsent r`: pass r makes one exchange, and its request is lost.
-    Unsent(&'a [u8]),
-    /// `run r`: pass r makes exchanges to its end.
-    Run(&'a [u8]),
+    /// `step r`, `lose r`, `unsent r` or `run r`: pass r makes exchanges.
+    Turn(Turn, &'a [u8]),
 }
 
 /// Reads a line, without its line feed; `None` where the bytes are no line of a script.
@@ -80,19 +75,39 @@ fn read_pass_line<'a>(alloc: Global, word: &[u8], rest: &'a [u8]) -> Got<Option<
     if word == b"repl".as_slice() {
         return read_repl(alloc, rest);
     }
+    match turn_of(word) {
+        Some(turn) => Ok(read_turn(turn, rest)),
+        None => Ok(None),
+    }
+}
+
+/// Returns what the first word of a line has a pass do.
+fn turn_of(word: &[u8]) -> Option<Turn>
+    ensures { result ≡ turn_named word.now }
+{
     if word == b"step".as_slice() {
-        return Ok(read_step(rest));
+        return Some(Turn::Step);
     }
     if word == b"lose".as_slice() {
-        return Ok(read_lose(rest));
+        return Some(Turn::Lose);
     }
     if word == b"unsent".as_slice() {
-        return Ok(read_unsent(rest));
+        return Some(Turn::Unsent);
     }
     if word == b"run".as_slice() {
-        return Ok(read_run(rest));
+        return Some(Turn::Run);
     }
-    Ok(None)
+    None
+}
+
+fn read_turn<'a>(turn: Turn, name: &'a [u8]) -> Option<Line<'a>>
+    ensures { option_map said_by result ≡ turn_of turn name.now }
+{
+    if is_word(name) {
+        Some(Line::Turn(turn, name))
+    } else {
+        None
+    }
 }
 
 fn read_node<'a>(name: &'a [u8]) -> Option<Line<'a>>
@@ -160,45 +175,5 @@ fn read_repl<'a>(alloc: Global, words: &'a [u8]) -> Got<Option<Line<'a>>>
     match read_pass(alloc, words)? {
         Some(pass) => Ok(Some(Line::Repl(pass))),
         None => Ok(None),
-    }
-}
-
-fn read_step<'a>(name: &'a [u8]) -> Option<Line<'a>>
-    ensures { option_map said_by result ≡ line_of_pass step_line name.now }
-{
-    if is_word(name) {
-        Some(Line::Step(name))
-    } else {
-        None
-    }
-}
-
-fn read_lose<'a>(name: &'a [u8]) -> Option<Line<'a>>
-    ensures { option_map said_by result ≡ line_of_pass lose_line name.now }
-{
-    if is_word(name) {
-        Some(Line::Lose(name))
-    } else {
-        None
-    }
-}
-
-fn read_unsent<'a>(name: &'a [u8]) -> Option<Line<'a>>
-    ensures { option_map said_by result ≡ line_of_pass unsent_line name.now }
-{
-    if is_word(name) {
-        Some(Line::Unsent(name))
-    } else {
-        None
-    }
-}
-
-fn read_run<'a>(name: &'a [u8]) -> Option<Line<'a>>
-    ensures { option_map said_by result ≡ line_of_pass run_line name.now }
-{
-    if is_word(name) {
-        Some(Line::Run(name))
-    } else {
-        None
     }
 }

@@ -6,8 +6,8 @@ ghost use Rattle.world.specs.Turning.{happening_of};
 ghost use Rattle.world.specs.Happening.{Sight};
 ghost use Rattle.lab.specs.Lines.{pass_said};
 ghost use Rattle.lab.specs.Naming.{named_of, value_named};
-ghost use Rattle.lab.specs.Replies.{IsShown};
-ghost use Rattle.lab.specs.Scene.{Closes, Opens, RunsToEnd, Sends, Starts, first_network};
+ghost use Rattle.lab.specs.Replies.{IsShown, Runs};
+ghost use Rattle.lab.specs.Scene.{Closes, Opens, Sends, Starts, Turns, first_network, most_exchanges};
 ghost use Rattle.lab.specs.Stages.{configuration_of, names_of, nodes_of};
 
 use crate::fault::LineFault;
@@ -16,6 +16,7 @@ use crate::named::{Named, value_of};
 use crate::repl_line::PassWords;
 use crate::server::Server;
 use crate::showing::{run, send, show};
+use crate::turn::Turn;
 use couch_json::Got;
 use node::Node;
 use std::alloc::Global;
@@ -123,7 +124,7 @@ impl Running {
     }
 
     /// Returns the number of a pass. `Line` where there is none of this name.
-    pub fn pass(&self, name: &[u8]) -> Result<u64, LineFault>
+    fn pass(&self, name: &[u8]) -> Result<u64, LineFault>
         ensures { IfOk result (λ repl. value_named name.now (names_of self.now).passes ≡ Some repl) }
     {
         match value_of(&self.passes, name) {
@@ -133,7 +134,7 @@ impl Running {
     }
 
     /// Has an event of a pass happen, and prints what is seen of it.
-    pub fn exchange<W: Write>(
+    fn exchange<W: Write>(
         &mut self,
         event: Event,
         name: &[u8],
@@ -149,22 +150,35 @@ impl Running {
         Ok(())
     }
 
-    /// Runs a pass to its end, with at most 10,000 exchanges, and prints them. `Line` where there is no pass
-    /// of this name.
-    pub fn run<W: Write>(&mut self, name: &[u8], out: &mut W) -> Result<(), LineFault>
-        ensures ran { OnOk result ((printed : List ℕ) × RunsToEnd ⟦<PlainStore as Store>⟧ (names_of self.old) name.now printed (names_of self.new)
+    /// Has a pass do what a line says, and prints it. `Line` where there is no pass of this name.
+    pub fn take_turn<W: Write>(
+        &mut self,
+        turn: Turn,
+        name: &[u8],
+        out: &mut W,
+    ) -> Result<(), LineFault>
+        ensures turned { OnOk result ((printed : List ℕ) × Turns ⟦<PlainStore as Store>⟧ turn (names_of self.old) name.now printed (names_of self.new)
             × Appends (W.contents out.old) (W.contents out.new) printed) }
         ensures line { result ≡ Err LineFault.Line → Keeps (W.contents out.old) (W.contents out.new) }
     {
         let repl = self.pass(name)?;
-        run(
-            self.alloc,
-            &mut self.world,
-            repl,
-            MOST_EXCHANGES,
-            name,
-            out,
-        )
+        match turn {
+            Turn::Step => self.exchange(Event::Exchange { repl }, name, out),
+            Turn::Lose => self.exchange(Event::Loss { repl }, name, out),
+            Turn::Unsent => self.exchange(Event::Unsent { repl }, name, out),
+            Turn::Run => self.run(repl, name, out),
+        }
+    }
+
+    /// Runs a pass to its end, with at most 10,000 exchanges, and prints them.
+    fn run<W: Write>(&mut self, repl: u64, name: &[u8], out: &mut W) -> Result<(), LineFault>
+        ensures ran { OnOk result ((printed : List ℕ)
+            × Runs ⟦<PlainStore as Store>⟧ most_exchanges (names_of self.old).network repl name.now printed (names_of self.new).network
+            × (names_of self.new ≡ record (names_of self.old) { network = (names_of self.new).network })
+            × Appends (W.contents out.old) (W.contents out.new) printed) }
+        ensures faults { result ≢ Err LineFault.Line }
+    {
+        run(self.alloc, &mut self.world, repl, MOST_EXCHANGES, name, out)
     }
 }
 

@@ -5,7 +5,6 @@ ghost use Rattle.std.specs.Io.BufRead.{drop_through, strip_last, take_through};
 ghost use Rattle.std.specs.Io.KnownBytes.{IsAtEnd, Keeps};
 ghost use Rattle.lab.specs.Playing.{AreLines, IsOfNoLine, Prints, ReadsLines};
 ghost use Rattle.lab.specs.Lines.{said_by};
-ghost use Rattle.auth.specs.Callers.{Configuration};
 ghost use Rattle.lab.specs.Scene.{Plays, PlaysBefore, PlaysScript, laying, running};
 ghost use Rattle.lab.specs.Stages.{AreBytesPlayed, IsLinePlayed, configuration_of, nodes_of, names_of, scene_of};
 
@@ -18,7 +17,6 @@ use crate::stage::Stage;
 use std::alloc::Global;
 use std::io::{BufRead, Write};
 use store::{PlainStore, Store};
-use world::Event;
 
 /// How many reads a script may take.
 const READS: u64 = 1_048_576;
@@ -137,12 +135,7 @@ fn lay(server: Server<'_>, layout: Layout, line: Line<'_>) -> Result<Stage, Line
             running.start_pass(server, &words)?;
             Ok(Stage::Running(running))
         }
-        Line::Send(_, _)
-        | Line::Close(_)
-        | Line::Step(_)
-        | Line::Lose(_)
-        | Line::Unsent(_)
-        | Line::Run(_) => Err(LineFault::Line),
+        Line::Send(_, _) | Line::Close(_) | Line::Turn(_, _) => Err(LineFault::Line),
     }
 }
 
@@ -175,38 +168,10 @@ fn run<W: Write>(
             names.close(name)?;
             Ok(Stage::Running(names))
         }
+        Line::Turn(turn, name) => {
+            names.take_turn(turn, name, out)?;
+            Ok(Stage::Running(names))
+        }
         Line::Node(_) | Line::Public(_, _) => Err(LineFault::Line),
-        other => run_pass(names, other, out),
-    }
-}
-
-/// Plays a line of a pass.
-fn run_pass<W: Write>(names: Running, line: Line<'_>, out: &mut W) -> Result<Stage, LineFault>
-    ensures played { (c : Configuration) → IfOk result (λ next. IsLinePlayed ⟦<PlainStore as Store>⟧ c (running (names_of names)) (said_by line.entry)
-        (W.contents out.old) (W.contents out.new) (scene_of next)) }
-    ensures stands { result ≡ Err LineFault.Line → Keeps (W.contents out.old) (W.contents out.new) }
-{
-    let mut names = names;
-    match line {
-        Line::Step(name) => {
-            let repl = names.pass(name)?;
-            names.exchange(Event::Exchange { repl }, name, out)?;
-            Ok(Stage::Running(names))
-        }
-        Line::Lose(name) => {
-            let repl = names.pass(name)?;
-            names.exchange(Event::Loss { repl }, name, out)?;
-            Ok(Stage::Running(names))
-        }
-        Line::Unsent(name) => {
-            let repl = names.pass(name)?;
-            names.exchange(Event::Unsent { repl }, name, out)?;
-            Ok(Stage::Running(names))
-        }
-        Line::Run(name) => {
-            names.run(name, out)?;
-            Ok(Stage::Running(names))
-        }
-        _ => Err(LineFault::Line),
     }
 }

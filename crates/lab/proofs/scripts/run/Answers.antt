@@ -1,7 +1,7 @@
 use Rattle.std.proofs.Common.{[], ap}
 use Rattle.std.proofs.KnownBytes.{Appends-nil}
 use Rattle.store.specs.contracts.plain_store.PlainStoreStore.TheImpl.{ghosts}
-use Rattle.lab.proofs.SceneLemmas.{plays_close, plays_conn, plays_pass, plays_send}
+use Rattle.lab.proofs.SceneLemmas.{plays_close, plays_conn, plays_pass, plays_send, plays_turn}
 use Rattle.lab.specs.Lines.{pass_said, said_by}
 use Rattle.lab.specs.Stages.{configuration_of, names_of}
 use Rattle.lab.proofs.scripts.run.Goals as goal
@@ -36,3 +36,11 @@ returns-in-Close-clause-played g c = (
   plays_close ghosts (configuration_of c.args.server) (names_of c.args.names) (said_by c.args.line) c.in-Close.name.now (names_of c.close.new.self) (ap said_by c.in-Close.is) c.in_ok-close-in-Close.ensures,
   Appends-nil (g.W.Write.contents c.args.out.now),
 )
+
+pub returns-in-Turn-clause-played : goal.returns-in-Turn-clause-played
+returns-in-Turn-clause-played g c =
+    let turned = c.in_ok-take_turn-in-Turn.ensures.turned in (
+      turned.0,
+      plays_turn ghosts (configuration_of c.args.server) (names_of c.args.names) (said_by c.args.line) c.in-Turn.turn c.in-Turn.name.now turned.0 (names_of c.take_turn.new.self) (ap said_by c.in-Turn.is) turned.1,
+      turned.2,
+    )
