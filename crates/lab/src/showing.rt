@@ -69,9 +69,7 @@ pub fn show<S: Store + Drop, W: Write>(
         × Appends (W.contents out.old) (W.contents out.new) printed) }
     ensures faults { result ≢ Err LineFault.Line }
 {
-    let mut events = Vec::new(alloc);
-    events.push(event)?;
-    match world.play(&events) {
+    match world.play(&[event]) {
         Ok(seen) => {
             print_all(alloc, out, name, &seen)?;
             Ok(says_end(&seen))

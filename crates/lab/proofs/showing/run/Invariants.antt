@@ -4,4 +4,4 @@ use Rattle.lab.proofs.RunLemmas.{HasRun}
 use Rattle.lab.proofs.showing.run.Given as goal
 
 abbrev pub invariant-loop-turn : goal.invariant-loop-turn
-invariant-loop-turn g l = HasRun ghosts l.most (l.most - l.turn) l.repl l.name l.fn.world l.world (g.W.Write.contents l.initial.out) (g.W.Write.contents l.out)
+invariant-loop-turn g l = HasRun ghosts l.most (l.most - l._turn) l.repl l.name l.fn.world l.world (g.W.Write.contents l.initial.out) (g.W.Write.contents l.out)
