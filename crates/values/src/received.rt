@@ -1,5 +1,5 @@
 use crate::pieces::{join, pieces_of, single_bytes, two_pieces};
-use crate::texts::{answer, spell, text_of};
+use crate::texts::{spell, text_of};
 use couch_http::{HttpFault, ReplyCutter, Response};
 use rows::{Joint, Kind, RowsFault};
 use std::alloc::Global;
@@ -65,10 +65,8 @@ impl Received {
         for place in 0..bytes.len() {
             let pieces = two_pieces(self.alloc, bytes, place)?;
             let other = self.end(&pieces)?;
-            let other = other.as_str();
-            if other != end {
-                let line = format!(in self.alloc; "\ncut at {place}: {other}")?;
-                text.push_str(line.as_str())?;
+            if other.as_str() != end {
+                put_place(self.alloc, text, place, other.as_str())?;
             }
         }
         Ok(())
@@ -97,6 +95,12 @@ impl Received {
         }
         Ok(text)
     }
+}
+
+/// Adds a line that tells what bytes that are cut at a place come to.
+fn put_place(alloc: Global, text: &mut String, place: usize, end: &str) -> Result<(), RowsFault> {
+    text.push_str(format!(in alloc; "\ncut at {place}: {end}")?.as_str())?;
+    Ok(())
 }
 
 /// Returns what lines come to: the first that doesn't wait, behind which all is closed.
@@ -140,16 +144,22 @@ fn show_reply(alloc: Global, reply: &Response, come: &[u8]) -> Result<String, Ro
         return Ok(String::from_str(alloc, "other bytes")?);
     }
     let status = reply.status();
-    let length = reply.body().len();
+    let body = show_body(alloc, reply.body())?;
+    Ok(format!(in alloc; "{status}{body}")?)
+}
+
+/// Returns a body behind a blank, or how long it is; nothing where it is empty.
+fn show_body(alloc: Global, body: &[u8]) -> Result<String, RowsFault> {
+    let length = body.len();
     if length == 0 {
-        return Ok(format!(in alloc; "{status}")?);
+        return Ok(String::new(alloc));
     }
     if length > SHOWN {
-        return Ok(format!(in alloc; "{status} {length} bytes")?);
+        return Ok(format!(in alloc; " {length} bytes")?);
     }
-    let body = spell(alloc, reply.body())?;
-    let body = body.as_str();
-    Ok(format!(in alloc; "{status} {body}")?)
+    let mut text = spell(alloc, body)?;
+    text.insert(0, ' ')?;
+    Ok(text)
 }
 
 /// Returns the name of a fault.
@@ -169,9 +179,7 @@ impl Kind for Received {
     }
 
     fn answer(&mut self, question: &[u8]) -> Result<Vec<u8>, RowsFault> {
-        match pieces_of(self.alloc, text_of(question))? {
-            Some(pieces) => answer(self.alloc, self.play_all(&pieces)?.as_str()),
-            None => answer(self.alloc, "a backslash that begins no escape"),
-        }
+        let pieces = pieces_of(self.alloc, text_of(question))?;
+        Ok(self.play_all(&pieces)?.into_bytes())
     }
 }
