@@ -1,7 +1,7 @@
 use crate::pieces::{join, pieces_of, single_bytes, two_pieces};
 use crate::texts::{spell, text_of};
 use couch_http::{HttpFault, ReplyCutter, Response};
-use rows::{Joint, Kind, RowsFault};
+use rows::{Joint, Kind, RowsFault, push_all};
 use std::alloc::Global;
 
 /// Pieces of a stream that begins with a reply, one a line, written as in `.stream`.
@@ -54,53 +54,43 @@ impl Received {
         }
     }
 
-    /// Returns what pieces come to.
-    fn end(&self, pieces: &[Vec<u8>]) -> Result<String, RowsFault> {
-        let lines = self.play(pieces)?;
-        Ok(String::from_str(self.alloc, end_of(&lines))?)
-    }
-
-    /// Adds a line for each place where two pieces come to something else.
-    fn put_places(&self, text: &mut String, bytes: &[u8], end: &str) -> Result<(), RowsFault> {
-        for place in 0..bytes.len() {
-            let pieces = two_pieces(self.alloc, bytes, place)?;
-            let other = self.end(&pieces)?;
-            if other.as_str() != end {
-                put_place(self.alloc, text, place, other.as_str())?;
-            }
-        }
-        Ok(())
-    }
-
-    /// Adds a line where single bytes come to something else.
-    fn put_bytes(&self, text: &mut String, bytes: &[u8], end: &str) -> Result<(), RowsFault> {
-        let pieces = single_bytes(self.alloc, bytes)?;
-        let other = self.end(&pieces)?;
-        if other.as_str() != end {
-            text.push_str("\nbyte by byte: ")?;
-            text.push_str(other.as_str())?;
-        }
-        Ok(())
-    }
-
     /// Plays the pieces and, where they are short, their bytes cut at each place.
     fn play_all(&self, pieces: &[Vec<u8>]) -> Result<String, RowsFault> {
         let lines = self.play(pieces)?;
         let mut text = text_of_lines(self.alloc, &lines)?;
         let bytes = join(self.alloc, pieces)?;
         if bytes.len() <= SHORT {
-            let end = end_of(&lines);
-            self.put_places(&mut text, &bytes, end)?;
-            self.put_bytes(&mut text, &bytes, end)?;
+            self.put_others(&mut text, &bytes, end_of(&lines))?;
         }
         Ok(text)
     }
-}
 
-/// Adds a line that tells what bytes that are cut at a place come to.
-fn put_place(alloc: Global, text: &mut String, place: usize, end: &str) -> Result<(), RowsFault> {
-    text.push_str(format!(in alloc; "\ncut at {place}: {end}")?.as_str())?;
-    Ok(())
+    /// Adds a line for each cut of bytes that comes to something else.
+    fn put_others(&self, text: &mut String, bytes: &[u8], end: &str) -> Result<(), RowsFault> {
+        for place in 0..bytes.len() {
+            let pieces = two_pieces(self.alloc, bytes, place)?;
+            let cut = format!(in self.alloc; "cut at {place}")?;
+            self.put_other(text, &pieces, end, cut.as_str())?;
+        }
+        let pieces = single_bytes(self.alloc, bytes)?;
+        self.put_other(text, &pieces, end, "byte by byte")
+    }
+
+    /// Adds a line where pieces come to something else: how they are cut, and what they come to.
+    fn put_other(
+        &self,
+        text: &mut String,
+        pieces: &[Vec<u8>],
+        end: &str,
+        cut: &str,
+    ) -> Result<(), RowsFault> {
+        let lines = self.play(pieces)?;
+        let other = end_of(&lines);
+        if other == end {
+            return Ok(());
+        }
+        push_all(text, &["\n", cut, ": ", other])
+    }
 }
 
 /// Returns what lines come to: the first that doesn't wait, behind which all is closed.

@@ -113,15 +113,24 @@ fn is_header(header: &Header, name: &[u8], value: &[u8]) -> bool {
 fn request_of(alloc: Global, question: &str) -> Result<Request, RowsFault> {
     let (head, body) = question.split_once("\n\n").unwrap_or((question, ""));
     let (line, lines) = head.split_once('\n').unwrap_or((head, ""));
+    let mut request = line_of(alloc, line)?;
+    request.headers = headers_of(alloc, lines)?;
+    request.body = unescaped(alloc, body)?;
+    Ok(request)
+}
+
+/// Returns the request of a first line, without headers and without a body.
+fn line_of(alloc: Global, line: &str) -> Result<Request, RowsFault> {
     let (method, rest) = first_word(line);
     let (target, last) = first_word(rest);
+    let method = method_of(alloc, method)?;
     let (path, query) = target_of(alloc, target)?;
     Ok(Request {
-        method: method_of(alloc, method)?,
+        method,
         path,
         query,
-        headers: headers_of(alloc, lines)?,
-        body: unescaped(alloc, body)?,
+        headers: Vec::new(alloc),
+        body: Vec::new(alloc),
         last: last == "last",
     })
 }

@@ -95,14 +95,25 @@ fn put_requests(alloc: Global, text: &mut String, requests: &[Request]) -> Resul
 
 /// Adds the line of a request.
 fn put_request(alloc: Global, text: &mut String, request: &Request) -> Result<(), RowsFault> {
-    push_all(text, &[request.method.as_str(), " ", request.path.as_str()])?;
-    if let Some(query) = &request.query {
-        push_all(text, &[" ? ", query.as_str()])?;
-    }
-    let headers = request.headers.len();
-    text.push_str(format!(in alloc; ", {headers} headers")?.as_str())?;
+    put_target(text, request)?;
+    put_count(alloc, text, request.headers.len(), "headers")?;
     put_body(alloc, text, &request.body)?;
     text.push_str(if request.last { ", last\n" } else { "\n" })?;
+    Ok(())
+}
+
+/// Adds the method of a request, its path, and its query, if it has one.
+fn put_target(text: &mut String, request: &Request) -> Result<(), RowsFault> {
+    push_all(text, &[request.method.as_str(), " ", request.path.as_str()])?;
+    match &request.query {
+        Some(query) => push_all(text, &[" ? ", query.as_str()]),
+        None => Ok(()),
+    }
+}
+
+/// Adds how many there are of something.
+fn put_count(alloc: Global, text: &mut String, count: usize, what: &str) -> Result<(), RowsFault> {
+    text.push_str(format!(in alloc; ", {count} {what}")?.as_str())?;
     Ok(())
 }
 
@@ -113,8 +124,7 @@ fn put_body(alloc: Global, text: &mut String, body: &[u8]) -> Result<(), RowsFau
         return Ok(());
     }
     if length > SHOWN {
-        text.push_str(format!(in alloc; ", {length} bytes")?.as_str())?;
-        return Ok(());
+        return put_count(alloc, text, length, "bytes");
     }
     let body = escape(alloc, body)?;
     push_all(text, &[", ", body.as_str()])
