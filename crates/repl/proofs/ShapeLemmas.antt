@@ -1,6 +1,6 @@
 -- A list that is read one element at a time.
 use Rattle.std.proofs.Common.{◌≡◌, List, [], ◌∷◌, ◌++◌, Option, Some, None, option_map, map, refl, ap, sym, append_assoc, ◌∙◌}
-use Rattle.std.proofs.lemmas.List.{map-append}
+use Rattle.std.proofs.lemmas.List.{append-nil, map-append}
 use Rattle.couch_json.specs.Value.{Value}
 use Rattle.couch_json.specs.View.{items_view, view}
 use Rattle.couch_json.specs.declared.value.Json.{Json}
@@ -26,3 +26,17 @@ one_more shown read j here next found more x first there pushed =
     ∙ goes_on (map shown found) (shown x) rest
     ∙ ap (λ a. found_before (map shown found) (before a rest)) there
     ∙ ap (λ js. found_before (map shown found) (each_in read (items_view js))) (sym first)
+
+-- an element is of another shape
+pub none_read : {T A : Type 0} (shown : T → A) (read : Value → Option A) (j : Json) (here next : List Json) (found : List T)
+    → here ≡ j ∷ next → None ≡ read (view j) → None ≡ found_before (map shown found) (each_in read (items_view here))
+none_read shown read j here next found first absent =
+    ap (λ a. found_before (map shown found) (before a (each_in read (items_view next)))) absent
+    ∙ ap (λ js. found_before (map shown found) (each_in read (items_view js))) (sym first)
+
+-- no element is left
+pub all_read : {T A : Type 0} (shown : T → A) (read : Value → Option A) (here : List Json) (found : List T)
+    → here ≡ [] → Some (map shown found) ≡ found_before (map shown found) (each_in read (items_view here))
+all_read shown read here found none =
+    ap Some (sym (append-nil (map shown found)))
+    ∙ ap (λ js. found_before (map shown found) (each_in read (items_view js))) (sym none)

@@ -9,7 +9,6 @@ ghost use Rattle.repl.specs.Calls.{documents_value, revisions_query, revisions_v
 ghost use Rattle.repl.specs.Joined.{after_commas};
 ghost use Rattle.repl.specs.Listed.{revisions_of};
 
-use crate::members::push_text;
 use crate::revisions::DocumentRevisions;
 use couch_json::{Got, Json, canon, put_member};
 use form_urlencoded::Serializer;
@@ -52,7 +51,7 @@ fn text_items(alloc: Global, texts: &[String]) -> Got<Vec<Json>>
 {
     let mut values = Vec::with_capacity(alloc, texts.len())?;
     for text in texts {
-        push_text(&mut values, text)?;
+        values.push(Json::Text(text.clone()?))?;
     }
     Ok(values)
 }

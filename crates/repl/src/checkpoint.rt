@@ -13,7 +13,7 @@ ghost use Rattle.repl.specs.Shapes.{count_at, each_in, list_at, list_in, text_at
 
 use crate::config::{Config, User};
 use crate::count::Count;
-use crate::members::{count_at, push_text, put_text, text_at};
+use crate::members::{count_at, put_text, text_at};
 use couch_json::{Got, Json, canon, put_member};
 use md5::{Digest, Md5};
 use std::alloc::Global;
@@ -281,8 +281,8 @@ fn replication_value(alloc: Global, config: &Config) -> Got<Json>
     ensures { IfOk result (λ v. view v ≡ replication_value (configuration_of config.now)) }
 {
     let mut items = Vec::with_capacity(alloc, 3)?;
-    push_text(&mut items, &config.source)?;
-    push_text(&mut items, &config.target)?;
+    items.push(Json::Text(config.source.clone()?))?;
+    items.push(Json::Text(config.target.clone()?))?;
     items.push(name_or_null(&config.user)?)?;
     Ok(Json::Array(items))
 }

@@ -1,6 +1,6 @@
 //! Members of objects, read and put.
 
-ghost use Rattle.std.specs.Prelude.{◌≡◌, ◌++◌, ◌∷◌, [], OnOk, map, option_copied, option_map, string_bytes};
+ghost use Rattle.std.specs.Prelude.{◌≡◌, OnOk, option_copied, option_map};
 ghost use Rattle.couch_json.specs.Value.{put, text as text_value};
 ghost use Rattle.couch_json.specs.View.{members_view, view};
 ghost use Rattle.repl.specs.Shapes.{count_at, text_at};
@@ -28,14 +28,6 @@ pub fn count_at(value: &Json, name: &str) -> Option<Count>
         Some(member) => Count::read(member),
         None => None,
     }
-}
-
-/// Adds a text to a list of values.
-pub fn push_text(values: &mut Vec<Json>, text: &String) -> Got<()>
-    ensures { OnOk result (map view values.new.items ≡ map view values.old.items ++ (text_value (string_bytes text.now) ∷ [])) }
-{
-    values.push(Json::Text(text.clone()?))?;
-    Ok(())
 }
 
 /// Puts a text at a name into the members of an object.
