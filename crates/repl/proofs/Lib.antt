@@ -2,6 +2,7 @@ pub mod Joins
 pub mod PushedTexts
 pub mod ShapeLemmas
 pub mod SessionLemmas
+pub mod MadeLemmas
 pub mod PendingLemmas
 pub mod Segments
 pub mod IndexLemmas

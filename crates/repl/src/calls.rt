@@ -1,6 +1,6 @@
 //! The requests that the calls of a pass are.
 
-ghost use Rattle.std.specs.Prelude.{◌≡◌, ◌++◌, [], IfOk, OnOk, Some, None, map, option_map, string_bytes, codes};
+ghost use Rattle.std.specs.Prelude.{◌≡◌, ◌++◌, [], ◌∷◌, IfOk, OnOk, Some, None, map, option_map, string_bytes, codes};
 ghost use Rattle.std.specs.List.{join_with_byte};
 ghost use Rattle.couch_json.specs.Canonical.{canonical};
 ghost use Rattle.couch_json.specs.View.{view};
@@ -192,20 +192,32 @@ fn user_headers(alloc: Global, user: &User) -> Got<Vec<Header>>
 {
     let roles = join_roles(alloc, &user.roles)?;
     let mut headers = Vec::with_capacity(alloc, 3)?;
-    headers.push(header(alloc, "X-Auth-CouchDB-UserName", user.name.as_str())?)?;
-    headers.push(header(alloc, "X-Auth-CouchDB-Roles", roles.as_str())?)?;
-    headers.push(header(alloc, "X-Auth-CouchDB-Token", user.token.as_str())?)?;
+    push_header(
+        &mut headers,
+        alloc,
+        "X-Auth-CouchDB-UserName",
+        user.name.as_str(),
+    )?;
+    push_header(&mut headers, alloc, "X-Auth-CouchDB-Roles", roles.as_str())?;
+    push_header(
+        &mut headers,
+        alloc,
+        "X-Auth-CouchDB-Token",
+        user.token.as_str(),
+    )?;
     Ok(headers)
 }
 
-/// Makes a header.
-fn header(alloc: Global, name: &str, value: &str) -> Got<Header>
-    ensures { IfOk result (λ header. header_field header ≡ record { name = name.now; value = value.now }) }
+/// Adds a header.
+fn push_header(headers: &mut Vec<Header>, alloc: Global, name: &str, value: &str) -> Got<()>
+    ensures { OnOk result (map header_field headers.new.items
+        ≡ map header_field headers.old.items ++ (record { name = name.now; value = value.now } ∷ [])) }
 {
-    Ok(Header {
+    headers.push(Header {
         name: Vec::from_slice(alloc, name.as_bytes())?,
         value: Vec::from_slice(alloc, value.as_bytes())?,
-    })
+    })?;
+    Ok(())
 }
 
 /// Joins roles by commas.

@@ -23,14 +23,14 @@ use std::collections::BTreeMap;
 const MOST_SESSIONS: usize = 50;
 
 /// A session, and the sequence of the source up to which it came.
-#[derive(Debug, Drop)]
+#[derive(Drop)]
 pub struct KeptSession {
     pub session: String,
     pub sequence: Count,
 }
 
 /// The last session, its sequence, and the sessions, newest first.
-#[derive(Debug, Drop)]
+#[derive(Drop)]
 pub struct KeptCheckpoint {
     pub session: String,
     pub sequence: Count,

@@ -6,7 +6,7 @@ ghost use Rattle.repl.specs.Shapes.{count_in, count_of, greatest_count};
 use couch_json::{Json, Number};
 
 /// A number of things, or a sequence: whole, from 0 to 2^63 - 1.
-#[derive(Clone, Copy, Debug, PartialEq, Eq)]
+#[derive(Clone, Copy)]
 pub struct Count {
     value: u64,
     ghost in_range: { value < 2 ^ 63 },

@@ -17,7 +17,7 @@ use std::alloc::Global;
 use std::collections::{BTreeMap, VecDeque};
 
 /// A revision that was opened.
-#[derive(Debug, Drop)]
+#[derive(Drop)]
 pub enum OpenedRevision {
     /// Its document.
     Document(Json),

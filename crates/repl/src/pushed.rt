@@ -88,20 +88,26 @@ fn failure_report(
 {
     let mut members = BTreeMap::new(alloc);
     put_text(alloc, &mut members, "error", error)?;
-    put_member(alloc, &mut members, "id", label_value(alloc, id)?)?;
+    put_label(alloc, &mut members, "id", id)?;
     put_text(alloc, &mut members, "reason", reason)?;
-    put_member(alloc, &mut members, "rev", label_value(alloc, rev)?)?;
+    put_label(alloc, &mut members, "rev", rev)?;
     put_rule(alloc, &mut members, rule)?;
     Ok(Json::Object(members))
 }
 
-/// Makes a text a value, and null where there is none.
-fn label_value(alloc: Global, label: Option<&str>) -> Got<Json>
-    ensures { IfOk result (λ value. view value ≡ label_value (option_copied label.entry)) }
+/// Puts a text at a name, and null where there is none.
+fn put_label(
+    alloc: Global,
+    members: &mut BTreeMap<String, Json>,
+    name: &str,
+    label: Option<&str>,
+) -> Got<()>
+    ensures { OnOk result (members_view members.new.entries
+        ≡ put name.now (label_value (option_copied label.entry)) (members_view members.old.entries)) }
 {
     match label {
-        Some(label) => Ok(Json::Text(String::from_str(alloc, label)?)),
-        None => Ok(Json::Null),
+        Some(label) => put_text(alloc, members, name, label),
+        None => put_member(alloc, members, name, Json::Null),
     }
 }
 

@@ -9,7 +9,7 @@ ghost use Rattle.repl.specs.Checkpoints.{checkpoint_id, history_of};
 ghost use Rattle.repl.specs.Configuration.{configuration_of};
 ghost use Rattle.repl.specs.Kept.{checkpoint_of, session_of};
 ghost use Rattle.repl.specs.Listed.{revisions_of};
-ghost use Rattle.repl.specs.Passes.{answered_in, answered_of, asked_of, checkpoint_after, first_of_pending, first_pass, is_written, lost_of, phase_after_list, with_failures, with_opened, phase_after_loss, phase_with, summary_of, with_loss};
+ghost use Rattle.repl.specs.Passes.{answered_in, answered_of, asked_of, checkpoint_after, first_of_pending, first_pass, is_written, lost_of, phase_after_list, with_failures, with_opened, phase_after_loss, phase_with, sent_to, summary_of, with_loss};
 ghost use Rattle.repl.specs.Taken.{opened_of};
 
 use crate::ask::Ask;
@@ -84,8 +84,8 @@ impl Replication {
         ensures { IfOk result (λ a. ask_of a ≡ asked_of (pass_of self.now)) }
     {
         match self.phase {
-            Phase::ReadSource => Ok(Ask::ToSource(self.checkpoint_read(Side::Source)?)),
-            Phase::ReadTarget => Ok(Ask::ToTarget(self.checkpoint_read(Side::Target)?)),
+            Phase::ReadSource => self.ask_checkpoint(Side::Source),
+            Phase::ReadTarget => self.ask_checkpoint(Side::Target),
             Phase::ListChanges => Ok(Ask::ToSource(list_changes(
                 self.alloc,
                 &self.config,
@@ -105,33 +105,28 @@ impl Replication {
                 Side::Target,
                 &self.documents,
             )?)),
-            Phase::WriteSource => Ok(Ask::ToSource(self.checkpoint_write(
-                Side::Source,
-                &self.source_revision,
-            )?)),
-            Phase::WriteTarget => Ok(Ask::ToTarget(self.checkpoint_write(
-                Side::Target,
-                &self.target_revision,
-            )?)),
-            Phase::RereadSource => Ok(Ask::ToSource(self.checkpoint_read(Side::Source)?)),
-            Phase::RereadTarget => Ok(Ask::ToTarget(self.checkpoint_read(Side::Target)?)),
+            Phase::WriteSource => self.ask_write(Side::Source, &self.source_revision),
+            Phase::WriteTarget => self.ask_write(Side::Target, &self.target_revision),
+            Phase::RereadSource => self.ask_checkpoint(Side::Source),
+            Phase::RereadTarget => self.ask_checkpoint(Side::Target),
             Phase::Done => Ok(Ask::Done(self.report()?)),
             Phase::Stopped(why) => Ok(Ask::Stopped(why, self.report()?)),
         }
     }
 
-    /// Makes the request that reads the checkpoint of a side.
-    fn checkpoint_read(&self, side: Side) -> Got<Request>
-        ensures { IfOk result (λ r. let c = configuration_of self.now.config in message_of r ≡ request_of c side (read_checkpoint (checkpoint_id c))) }
+    /// Asks a side for its checkpoint.
+    fn ask_checkpoint(&self, side: Side) -> Got<Ask>
+        ensures { IfOk result (λ a. let c = configuration_of self.now.config in ask_of a ≡ sent_to side (request_of c side (read_checkpoint (checkpoint_id c)))) }
     {
         let id = checkpoint_id(self.alloc, &self.config)?;
-        read_checkpoint(self.alloc, &self.config, side, id.as_str())
+        let request = read_checkpoint(self.alloc, &self.config, side, id.as_str())?;
+        Ok(send_to(side, request))
     }
 
-    /// Makes the request that writes the checkpoint of a side in place of a revision.
-    fn checkpoint_write(&self, side: Side, revision: &Option<String>) -> Got<Request>
-        ensures { IfOk result (λ r. let c = configuration_of self.now.config in message_of r
-            ≡ request_of c side (write_checkpoint (checkpoint_id c) (checkpoint_after (pass_of self.now) (option_map string_bytes revision.now)))) }
+    /// Asks a side to write the checkpoint in place of a revision.
+    fn ask_write(&self, side: Side, revision: &Option<String>) -> Got<Ask>
+        ensures { IfOk result (λ a. let c = configuration_of self.now.config in ask_of a
+            ≡ sent_to side (request_of c side (write_checkpoint (checkpoint_id c) (checkpoint_after (pass_of self.now) (option_map string_bytes revision.now))))) }
     {
         let id = checkpoint_id(self.alloc, &self.config)?;
         let checkpoint = next_checkpoint(
@@ -141,7 +136,8 @@ impl Replication {
             self.history(),
             revision,
         )?;
-        write_checkpoint(self.alloc, &self.config, side, id.as_str(), &checkpoint)
+        let request = write_checkpoint(self.alloc, &self.config, side, id.as_str(), &checkpoint)?;
+        Ok(send_to(side, request))
     }
 
     /// Returns the sessions that the source's checkpoint had when the pass began.
@@ -484,6 +480,16 @@ impl Replication {
 
 /// How many losses a pass bears.
 const MOST_LOSSES: u32 = 100;
+
+/// Makes a request to a side what is asked.
+fn send_to(side: Side, request: Request) -> Ask
+    ensures { ask_of result ≡ sent_to side (message_of request) }
+{
+    match side {
+        Side::Source => Ask::ToSource(request),
+        Side::Target => Ask::ToTarget(request),
+    }
+}
 
 /// Returns the phase that follows the changes.
 fn phase_after_list(leaves: &[DocumentRevisions]) -> Phase

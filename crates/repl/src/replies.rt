@@ -1,11 +1,11 @@
 //! What the reply to each call of a pass says.
 
-ghost use Rattle.std.specs.Prelude.{◌≡◌, IfOk, map, option_and_then, option_map, string_bytes, codes};
+ghost use Rattle.std.specs.Prelude.{◌≡◌, IfOk, map, option_map, string_bytes, codes};
 ghost use Rattle.couch_json.specs.View.{members_view, view};
 ghost use Rattle.repl.specs.Kept.{checkpoint_of};
 ghost use Rattle.repl.specs.Listed.{revisions_of};
-ghost use Rattle.repl.specs.Replies.{change_in, changes_in, changes_listed, checkpoint_read, checkpoint_written, revision_in, says_missing, stored_in, value_in};
-ghost use Rattle.repl.specs.Shapes.{list_at, text_at};
+ghost use Rattle.repl.specs.Replies.{change_in, changes_in, changes_listed, checkpoint_read, checkpoint_written, is_missing, revision_in, stored_in, value_in};
+ghost use Rattle.repl.specs.Shapes.{list_at};
 ghost use Rattle.repl.specs.Taken.{changes_of, said_as, stored_of};
 
 use crate::checkpoint::{KeptCheckpoint, checkpoint_in};
@@ -18,7 +18,7 @@ use couch_json::{Got, Json, JsonFault, NoMemory, read};
 use std::alloc::Global;
 
 /// A checkpoint as a side has it.
-#[derive(Debug, Drop)]
+#[derive(Drop)]
 pub struct Found {
     /// The revision of its document, if there is one.
     pub revision: Option<String>,
@@ -27,7 +27,7 @@ pub struct Found {
 }
 
 /// The changes that a source lists.
-#[derive(Debug, Drop)]
+#[derive(Drop)]
 pub struct ChangesListed {
     /// The sequence up to which they come.
     pub sequence: Count,
@@ -50,8 +50,7 @@ pub fn value_in(alloc: Global, body: &[u8]) -> Got<Option<Json>>
 pub fn checkpoint_read(alloc: Global, status: u16, body: &[u8]) -> Got<Result<Found, Why>>
     ensures { IfOk result (λ reply. said_as stored_of reply ≡ checkpoint_read status body.now) }
 {
-    let value = value_in(alloc, body)?;
-    if status == 404 && is_missing(&value) {
+    if status == 404 && is_missing(alloc, body)? {
         return Ok(Ok(Found {
             revision: None,
             checkpoint: None,
@@ -60,22 +59,22 @@ pub fn checkpoint_read(alloc: Global, status: u16, body: &[u8]) -> Got<Result<Fo
     if status != 200 {
         return Ok(Err(Why::Status(status)));
     }
-    match value {
+    match value_in(alloc, body)? {
         Some(value) => Ok(stored_in(alloc, &value)?.ok_or(Why::Reply)),
         None => Ok(Err(Why::Reply)),
     }
 }
 
 /// Tells whether a refusal's reason is `missing`.
-fn is_missing(value: &Option<Json>) -> bool
-    ensures { result ≡ says_missing (option_and_then (λ v. text_at (codes "reason") v) (option_map view value.now)) }
+fn is_missing(alloc: Global, body: &[u8]) -> Got<bool>
+    ensures { IfOk result (λ missing. missing ≡ is_missing body.now) }
 {
-    match value {
-        Some(value) => match text_at(value, "reason") {
-            Some(reason) => reason == "missing",
-            None => false,
+    match value_in(alloc, body)? {
+        Some(value) => match text_at(&value, "reason") {
+            Some(reason) => Ok(reason == "missing"),
+            None => Ok(false),
         },
-        None => false,
+        None => Ok(false),
     }
 }
 

@@ -1,5 +1,5 @@
 /// Revisions of a document.
-#[derive(Debug, Drop)]
+#[derive(Drop)]
 pub struct DocumentRevisions {
     /// The document's id.
     pub id: String,

@@ -1,6 +1,6 @@
-use crate::texts::{answer, text_of};
+use crate::texts::text_of;
 use lab::{Plan, PlanFault, Refusal, plan};
-use rows::{Kind, RowsFault};
+use rows::{Kind, RowsFault, push_all};
 use std::alloc::Global;
 
 /// A command line, whose words stand between single blanks: what it asks for, or the status and the
@@ -12,26 +12,35 @@ pub struct CommandLines {
 
 impl Kind for CommandLines {
     fn answer(&mut self, question: &[u8]) -> Result<Vec<u8>, RowsFault> {
-        let alloc = self.alloc;
-        let mut words = Vec::new(alloc);
-        for word in text_of(question).split(' ') {
-            words.push(String::from_str(alloc, word)?)?;
-        }
-        match plan(alloc, &words) {
-            Ok(Plan::Lab { secret, admins }) => {
-                let mut text = format!(in alloc; "lab, secret {secret}")?;
-                for admin in &admins {
-                    text.push_str(format!(in alloc; ", admin {admin}")?.as_str())?;
-                }
-                answer(alloc, text.as_str())
-            }
+        let words = words_of(self.alloc, text_of(question))?;
+        match plan(self.alloc, &words) {
+            Ok(Plan::Lab { secret, admins }) => show_lab(self.alloc, secret.as_str(), &admins),
             Err(PlanFault::Memory) => Err(RowsFault::Memory),
-            Err(fault) => {
-                let refusal = Refusal::from(fault);
-                let status = refusal.status();
-                let text = format!(in alloc; "status {status}, couchd: {refusal}")?;
-                answer(alloc, text.as_str())
-            }
+            Err(fault) => show_refusal(self.alloc, Refusal::from(fault)),
         }
     }
+}
+
+/// Returns the words of a command line.
+fn words_of(alloc: Global, line: &str) -> Result<Vec<String>, RowsFault> {
+    let mut words = Vec::new(alloc);
+    for word in line.split(' ') {
+        words.push(String::from_str(alloc, word)?)?;
+    }
+    Ok(words)
+}
+
+/// Answers with the laboratory that a command line asks for.
+fn show_lab(alloc: Global, secret: &str, admins: &[String]) -> Result<Vec<u8>, RowsFault> {
+    let mut text = format!(in alloc; "lab, secret {secret}")?;
+    for admin in admins {
+        push_all(&mut text, &[", admin ", admin.as_str()])?;
+    }
+    Ok(text.into_bytes())
+}
+
+/// Answers with the status and the words of a refusal.
+fn show_refusal(alloc: Global, refusal: Refusal) -> Result<Vec<u8>, RowsFault> {
+    let status = refusal.status();
+    Ok(format!(in alloc; "status {status}, couchd: {refusal}")?.into_bytes())
 }

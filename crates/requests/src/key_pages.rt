@@ -1,11 +1,11 @@
 //! Pages of an index, as rows of documentation ask for them and show them.
 
-use crate::pages::{has_word, number_behind};
-use crate::texts::{answer, first_word};
+use crate::pages::{has_word, name_of, number_behind, put_counts, show_fault};
+use crate::texts::first_word;
 use couch_json::{canon, read};
-use rows::RowsFault;
+use rows::{RowsFault, push_all};
 use std::alloc::Global;
-use store::{CutSide, DbName, IndexKey, KeyCut, KeyRange, PageByKey, PlainStore, Store};
+use store::{CutSide, IndexKey, KeyCut, KeyRange, PageByKey, PlainStore, Store};
 use tree::DocId;
 
 /// Answers with rows of the index of a design document, in words `NAME DESIGN INDEX WORD ..`.
@@ -13,17 +13,15 @@ pub fn by_key(alloc: Global, store: &mut PlainStore, text: &str) -> Result<Vec<u
     let (name, rest) = first_word(text);
     let (design, rest) = first_word(rest);
     let (index, words) = first_word(rest);
-    let Ok(name) = DbName::new(alloc, name) else {
-        return answer(alloc, "no name");
-    };
+    let name = name_of(alloc, name)?;
     let Ok(design) = DocId::new(alloc, design) else {
-        return answer(alloc, "no id");
+        return Err(RowsFault::Refused("no id"));
     };
     let range = key_range(alloc, words);
     match store.page_by_key(&name, &design, index, &range) {
-        Ok(Some(page)) => answer(alloc, shown_by_key(alloc, &page)?.as_str()),
-        Ok(None) => answer(alloc, "no index"),
-        Err(fault) => answer(alloc, format!(in alloc; "{fault:?}")?.as_str()),
+        Ok(Some(page)) => shown_by_key(alloc, &page),
+        Ok(None) => Err(RowsFault::Refused("no index")),
+        Err(fault) => show_fault(alloc, fault),
     }
 }
 
@@ -58,21 +56,16 @@ fn cut_behind(alloc: Global, words: &str, name: &str) -> Option<KeyCut> {
     })
 }
 
-/// Returns a page by key as text.
-fn shown_by_key(alloc: Global, page: &PageByKey) -> Result<String, RowsFault> {
+/// Answers with a page by key.
+fn shown_by_key(alloc: Global, page: &PageByKey) -> Result<Vec<u8>, RowsFault> {
     let mut text = String::new(alloc);
     for row in &page.rows {
-        text.push_str(canon(alloc, row.key().json())?.as_str())?;
-        text.push_str(" ")?;
-        text.push_str(row.id().as_str())?;
-        text.push_str(", ")?;
+        let key = canon(alloc, row.key().json())?;
+        push_all(&mut text, &[key.as_str(), " ", row.id().as_str(), ", "])?;
     }
     match &page.counts {
-        Some(counts) => {
-            let (offset, total) = (counts.offset, counts.total);
-            text.push_str(format!(in alloc; "offset {offset} of {total}")?.as_str())?;
-        }
+        Some(counts) => put_counts(alloc, &mut text, counts.offset, counts.total)?,
         None => text.push_str("uncounted")?,
     }
-    Ok(text)
+    Ok(text.into_bytes())
 }

@@ -23,11 +23,11 @@ pub fn send(
     asked: Asked<'_>,
 ) -> Result<Vec<u8>, RowsFault> {
     let Some(request) = request_of(alloc, asked)? else {
-        return Ok(Vec::from_slice(alloc, b"no request")?);
+        return Err(RowsFault::Refused("no request"));
     };
     let reply = node.handle(&request);
     let status = reply.status();
-    let mut text = Vec::from_slice(alloc, format!(in alloc; "{status} ")?.as_bytes())?;
+    let mut text = format!(in alloc; "{status} ")?.into_bytes();
     text.extend_from_slice(reply.body())?;
     Ok(text)
 }

@@ -1,10 +1,12 @@
 use crate::key_pages::by_key;
 use crate::nodes::{Asked, send};
 use crate::setup::Setup;
-use crate::texts::{answer, first_word, text_of};
+use crate::texts::{first_word, text_of};
 use rows::{Kind, RowsFault};
 use std::alloc::Global;
-use store::{DbName, IdRange, PageById, PageBySeq, PlainStore, RangeKey, SeqRange, Store};
+use store::{
+    DbName, IdRange, PageById, PageBySeq, PlainStore, RangeKey, SeqRange, SeqRow, Store, StoreFault,
+};
 
 /// Pages of the store of one node, which its users write by requests: `USER METHOD TARGET BODY`.
 ///
@@ -37,7 +39,7 @@ impl Pages {
         let (method, rest) = first_word(rest);
         let (target, body) = first_word(rest);
         let Some(headers) = self.setup.headers_of(user) else {
-            return answer(self.alloc, "the head has no such user");
+            return Err(RowsFault::Refused("the head has no such user"));
         };
         let asked = Asked {
             method,
@@ -59,16 +61,14 @@ impl Pages {
     fn by_sequence(&mut self, text: &str) -> Result<Vec<u8>, RowsFault> {
         let alloc = self.alloc;
         let (name, words) = first_word(text);
-        let Ok(name) = DbName::new(alloc, name) else {
-            return answer(alloc, "no name");
-        };
+        let name = name_of(alloc, name)?;
         let range = sequence_range(words);
         let Some(store) = &mut self.store else {
-            return answer(alloc, "nothing written");
+            return Err(RowsFault::Refused("nothing written"));
         };
         match store.page_by_seq(&name, &range) {
-            Ok(page) => answer(alloc, shown_by_sequence(alloc, &page)?.as_str()),
-            Err(fault) => answer(alloc, format!(in alloc; "{fault:?}")?.as_str()),
+            Ok(page) => shown_by_sequence(alloc, &page),
+            Err(fault) => show_fault(alloc, fault),
         }
     }
 
@@ -76,7 +76,7 @@ impl Pages {
     fn by_key(&mut self, text: &str) -> Result<Vec<u8>, RowsFault> {
         match &mut self.store {
             Some(store) => by_key(self.alloc, store, text),
-            None => answer(self.alloc, "nothing written"),
+            None => Err(RowsFault::Refused("nothing written")),
         }
     }
 
@@ -84,16 +84,14 @@ impl Pages {
     fn by_id(&mut self, text: &str) -> Result<Vec<u8>, RowsFault> {
         let alloc = self.alloc;
         let (name, words) = first_word(text);
-        let Ok(name) = DbName::new(alloc, name) else {
-            return answer(alloc, "no name");
-        };
+        let name = name_of(alloc, name)?;
         let range = id_range(alloc, words)?;
         let Some(store) = &mut self.store else {
-            return answer(alloc, "nothing written");
+            return Err(RowsFault::Refused("nothing written"));
         };
         match store.page_by_id(&name, &range) {
-            Ok(page) => answer(alloc, shown_by_id(alloc, &page)?.as_str()),
-            Err(fault) => answer(alloc, format!(in alloc; "{fault:?}")?.as_str()),
+            Ok(page) => shown_by_id(alloc, &page),
+            Err(fault) => show_fault(alloc, fault),
         }
     }
 }
@@ -152,15 +150,24 @@ fn id_range(alloc: Global, words: &str) -> Result<IdRange, RowsFault> {
     })
 }
 
-/// Returns a page by sequence as text.
-fn shown_by_sequence(alloc: Global, page: &PageBySeq) -> Result<String, RowsFault> {
+/// Returns the name of a database.
+pub(crate) fn name_of(alloc: Global, text: &str) -> Result<DbName, RowsFault> {
+    match DbName::new(alloc, text) {
+        Ok(name) => Ok(name),
+        Err(_) => Err(RowsFault::Refused("no name")),
+    }
+}
+
+/// Answers with the name of a fault.
+pub(crate) fn show_fault(alloc: Global, fault: StoreFault) -> Result<Vec<u8>, RowsFault> {
+    Ok(format!(in alloc; "{fault:?}")?.into_bytes())
+}
+
+/// Answers with a page by sequence.
+fn shown_by_sequence(alloc: Global, page: &PageBySeq) -> Result<Vec<u8>, RowsFault> {
     let mut text = String::new(alloc);
     for row in &page.rows {
-        text.push_str(format!(in alloc; "{} {}", row.sequence, row.id.as_str())?.as_str())?;
-        for rev in &row.revs {
-            text.push_str(format!(in alloc; " {rev}")?.as_str())?;
-        }
-        text.push_str(if row.deleted { " deleted, " } else { ", " })?;
+        put_change(alloc, &mut text, row)?;
     }
     let last = page.last_seq;
     let sequence = page.sequence;
@@ -170,23 +177,41 @@ fn shown_by_sequence(alloc: Global, page: &PageBySeq) -> Result<String, RowsFaul
         let text_of_counts = format!(in alloc; ", {documents} documents, {deleted} deleted")?;
         text.push_str(text_of_counts.as_str())?;
     }
-    Ok(text)
+    Ok(text.into_bytes())
 }
 
-/// Returns a page by id as text.
-fn shown_by_id(alloc: Global, page: &PageById) -> Result<String, RowsFault> {
+/// Adds a row by sequence.
+fn put_change(alloc: Global, text: &mut String, row: &SeqRow) -> Result<(), RowsFault> {
+    text.push_str(format!(in alloc; "{} {}", row.sequence, row.id.as_str())?.as_str())?;
+    for rev in &row.revs {
+        text.push_str(format!(in alloc; " {rev}")?.as_str())?;
+    }
+    text.push_str(if row.deleted { " deleted, " } else { ", " })?;
+    Ok(())
+}
+
+/// Answers with a page by id.
+fn shown_by_id(alloc: Global, page: &PageById) -> Result<Vec<u8>, RowsFault> {
     let mut text = String::new(alloc);
     for row in &page.rows {
         text.push_str(format!(in alloc; "{} {}, ", row.id.as_str(), row.rev)?.as_str())?;
     }
     match &page.counts {
-        Some(counts) => {
-            let (offset, total) = (counts.offset, counts.total);
-            text.push_str(format!(in alloc; "offset {offset} of {total}")?.as_str())?;
-        }
+        Some(counts) => put_counts(alloc, &mut text, counts.offset, counts.total)?,
         None => text.push_str("uncounted")?,
     }
-    Ok(text)
+    Ok(text.into_bytes())
+}
+
+/// Adds how many rows stand before a page, and how many there are.
+pub(crate) fn put_counts(
+    alloc: Global,
+    text: &mut String,
+    offset: u64,
+    total: u64,
+) -> Result<(), RowsFault> {
+    text.push_str(format!(in alloc; "offset {offset} of {total}")?.as_str())?;
+    Ok(())
 }
 
 impl Kind for Pages {

@@ -1,6 +1,6 @@
 use crate::nodes::{Asked, send};
 use crate::setup::Setup;
-use crate::texts::{answer, first_word, text_of};
+use crate::texts::{first_word, text_of};
 use node::Node;
 use rows::{Kind, RowsFault};
 use std::alloc::Global;
@@ -57,7 +57,7 @@ impl Kind for Requests {
         };
         self.add_node(name)?;
         let Some(headers) = self.setup.headers_of(user) else {
-            return answer(self.alloc, "the head has no such user");
+            return Err(RowsFault::Refused("the head has no such user"));
         };
         let asked = Asked {
             method,
@@ -70,6 +70,6 @@ impl Kind for Requests {
                 return send(self.alloc, &mut entry.1, asked);
             }
         }
-        answer(self.alloc, "no such node")
+        Err(RowsFault::Refused("no such node"))
     }
 }

@@ -53,13 +53,15 @@ impl Kind for Scripts {
         );
         let ending = match result {
             Ok(status) => format!(in alloc; "status {status}")?,
-            Err(fault) => {
-                let refusal = Refusal::from(fault);
-                let status = refusal.status();
-                format!(in alloc; "status {status}, couchd: {refusal}")?
-            }
+            Err(fault) => ending_of(alloc, Refusal::from(fault))?,
         };
         printed.extend_from_slice(ending.as_bytes())?;
         answer(alloc, String::from_utf8_lossy(alloc, &printed)?.as_str())
     }
+}
+
+/// Returns the last line of a script that was refused.
+fn ending_of(alloc: Global, refusal: Refusal) -> Result<String, RowsFault> {
+    let status = refusal.status();
+    Ok(format!(in alloc; "status {status}, couchd: {refusal}")?)
 }

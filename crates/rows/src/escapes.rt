@@ -77,13 +77,29 @@ fn digit_of(digit: u8) -> Option<u8> {
 pub fn escape(alloc: Global, bytes: &[u8]) -> Result<String, RowsFault> {
     let mut text = String::new(alloc);
     for letter in String::from_utf8_lossy(alloc, bytes)?.chars() {
-        match letter {
-            '\r' => text.push_str("\\r")?,
-            '\n' => text.push_str("\\n")?,
-            '\t' => text.push_str("\\t")?,
-            '\\' => text.push_str("\\\\")?,
-            _ => text.push(letter)?,
+        match escape_of(letter) {
+            Some(escape) => text.push_str(escape)?,
+            None => text.push(letter)?,
         }
     }
     Ok(text)
+}
+
+/// Returns the escape that stands for a letter, if it needs one.
+pub fn escape_of(letter: char) -> Option<&'static str> {
+    match letter {
+        '\r' => Some("\\r"),
+        '\n' => Some("\\n"),
+        '\t' => Some("\\t"),
+        '\\' => Some("\\\\"),
+        _ => None,
+    }
+}
+
+/// Adds texts one after another.
+pub fn push_all(text: &mut String, parts: &[&str]) -> Result<(), RowsFault> {
+    for part in parts {
+        text.push_str(part)?;
+    }
+    Ok(())
 }

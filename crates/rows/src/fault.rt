@@ -15,6 +15,9 @@ pub enum RowsFault {
     /// The line of this number, counted from 1, has no place in a file of rows.
     #[error("line {0}: {1}")]
     Line(usize, &'static str),
+    /// The question can't be read, or is refused: this word is its answer.
+    #[error("{0}")]
+    Refused(&'static str),
 }
 
 impl From<NoMemory> for RowsFault {

@@ -28,6 +28,6 @@ pub trait Kind {
         Ok(())
     }
 
-    /// Answers a question. A question that this kind can't read has an answer that says so.
+    /// Answers a question. A question that this kind can't read is `Refused`, in a word that says so.
     fn answer(&mut self, question: &[u8]) -> Result<Vec<u8>, RowsFault>;
 }

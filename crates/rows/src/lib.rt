@@ -22,7 +22,7 @@ mod listing;
 mod names;
 mod report;
 
-pub use escapes::{escape, unescape};
+pub use escapes::{escape, escape_of, push_all, unescape};
 pub use fault::RowsFault;
 pub use file::{Row, RowFile, Table, read_file};
 pub use kind::{Joint, Kind};

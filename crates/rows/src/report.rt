@@ -1,6 +1,6 @@
 //! Playing the rows of a file, and telling what differs.
 
-use crate::escapes::escape;
+use crate::escapes::{escape, push_all};
 use crate::fault::RowsFault;
 use crate::file::{Row, Table, read_file};
 use crate::kind::Kind;
@@ -57,24 +57,21 @@ impl Report {
         let question = escape(self.alloc, &row.question)?;
         self.object(file, row.line, question.as_str())?;
         if is_wrong {
-            self.tell(
+            return self.tell(
                 "is right",
                 got,
                 "in a table of rows that are wrong on purpose",
-            )
-        } else {
-            self.tell("wanted", &row.answer, "")?;
-            self.tell("got   ", got, "")
+            );
         }
+        self.tell("wanted", &row.answer, "")?;
+        self.tell("got   ", got, "")
     }
 
     /// Tells bytes behind a word.
     fn tell(&mut self, word: &str, bytes: &[u8], more: &str) -> Result<(), RowsFault> {
         let bytes = escape(self.alloc, bytes)?;
-        let bytes = bytes.as_str();
-        let text = format!(in self.alloc; "  {word} {bytes} {more}\n")?;
-        self.differences.push_str(text.as_str())?;
-        Ok(())
+        let line = ["  ", word, " ", bytes.as_str(), " ", more, "\n"];
+        push_all(&mut self.differences, &line)
     }
 }
 
@@ -111,8 +108,16 @@ fn play_table<K: Kind>(
 ) -> Result<(), RowsFault> {
     kind.begin()?;
     for row in &table.rows {
-        let got = kind.answer(&row.question)?;
+        let got = answer_of(report.alloc, kind, &row.question)?;
         report.compare(name, row, &got, table.is_wrong)?;
     }
     report.count(name, table)
+}
+
+/// Returns the answer to a question: of a refusal its word.
+fn answer_of<K: Kind>(alloc: Global, kind: &mut K, question: &[u8]) -> Result<Vec<u8>, RowsFault> {
+    match kind.answer(question) {
+        Err(RowsFault::Refused(word)) => Ok(Vec::from_slice(alloc, word.as_bytes())?),
+        answer => answer,
+    }
 }

@@ -42,17 +42,30 @@ impl Kind for Callers {
 
     fn answer(&mut self, question: &[u8]) -> Result<Vec<u8>, RowsFault> {
         let auth = Auth::new(self.alloc, self.secret.as_bytes(), &self.admins)?;
-        let mut headers = Vec::new(self.alloc);
-        for line in question.split(|byte| *byte == b'\n') {
-            headers.push(header_of(self.alloc, line)?)?;
-        }
+        let headers = headers_of(self.alloc, question)?;
         match auth.caller(&headers) {
-            Ok(caller) => answer(self.alloc, show(self.alloc, &caller)?.as_str()),
-            Err(AuthFault::Token) => answer(self.alloc, "Token"),
-            Err(AuthFault::Repeated) => answer(self.alloc, "Repeated"),
-            Err(AuthFault::Memory) => Err(RowsFault::Memory),
+            Ok(caller) => show(self.alloc, &caller),
+            Err(fault) => Err(refusal_of(fault)),
         }
     }
+}
+
+/// Returns how a fault is answered.
+fn refusal_of(fault: AuthFault) -> RowsFault {
+    match fault {
+        AuthFault::Token => RowsFault::Refused("Token"),
+        AuthFault::Repeated => RowsFault::Refused("Repeated"),
+        AuthFault::Memory => RowsFault::Memory,
+    }
+}
+
+/// Returns the headers of lines.
+fn headers_of(alloc: Global, lines: &[u8]) -> Result<Vec<(Vec<u8>, Vec<u8>)>, RowsFault> {
+    let mut headers = Vec::new(alloc);
+    for line in lines.split(|byte| *byte == b'\n') {
+        headers.push(header_of(alloc, line)?)?;
+    }
+    Ok(headers)
 }
 
 /// Returns the name and the value of a header line: what stands before and behind `: `.
@@ -67,15 +80,15 @@ fn header_of(alloc: Global, line: &[u8]) -> Result<(Vec<u8>, Vec<u8>), RowsFault
     ))
 }
 
-/// Returns a caller as its name and its roles.
-fn show(alloc: Global, caller: &Caller) -> Result<String, RowsFault> {
+/// Answers with a caller as its name and its roles.
+fn show(alloc: Global, caller: &Caller) -> Result<Vec<u8>, RowsFault> {
     let Some(name) = caller.name() else {
-        return Ok(String::from_str(alloc, "anonymous")?);
+        return answer(alloc, "anonymous");
     };
     let mut text = String::from_str(alloc, name)?;
     for (place, role) in caller.roles().iter().enumerate() {
         text.push_str(if place == 0 { " with " } else { "; " })?;
         text.push_str(role.as_str())?;
     }
-    Ok(text)
+    Ok(text.into_bytes())
 }

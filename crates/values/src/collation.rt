@@ -38,9 +38,7 @@ impl Kind for Ascending {
     }
 
     fn answer(&mut self, question: &[u8]) -> Result<Vec<u8>, RowsFault> {
-        let Some(value) = value_of(self.alloc, text_of(question))? else {
-            return answer(self.alloc, "not JSON");
-        };
+        let value = value_of(self.alloc, text_of(question))?;
         let is_behind = self.is_behind_all(&value);
         self.above.push(value)?;
         answer(self.alloc, if is_behind { "after" } else { "not after" })

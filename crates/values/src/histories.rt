@@ -1,4 +1,4 @@
-use crate::texts::{answer, first_word, text_of, value_of};
+use crate::texts::{answer, edit_of, first_word, text_of, value_of};
 use couch_json::canon;
 use rows::{Kind, RowsFault};
 use std::alloc::Global;
@@ -27,29 +27,19 @@ impl Histories {
     /// Offers a write to the history.
     fn insert(&mut self, text: &str) -> Result<Vec<u8>, RowsFault> {
         let (path, rest) = first_word(text);
-        let Some(path) = path_of(self.alloc, path)? else {
-            return answer(self.alloc, "no path");
-        };
-        let (deleted, body) = match rest.strip_prefix("deleted ") {
-            Some(body) => (true, body),
-            None => (false, rest),
-        };
-        let Some(body) = value_of(self.alloc, body)? else {
-            return answer(self.alloc, "not JSON");
-        };
+        let (deleted, body) = edit_of(rest);
+        let path = path_of(self.alloc, path)?;
+        let body = value_of(self.alloc, body)?;
         match self.history.insert(&path, deleted, &body) {
-            Ok(Placed::Added) => answer(self.alloc, "Added"),
-            Ok(Placed::Known) => answer(self.alloc, "Known"),
-            Err(TreeFault::BadPath) => answer(self.alloc, "BadPath"),
-            Err(TreeFault::OtherParent) => answer(self.alloc, "OtherParent"),
-            Err(TreeFault::Memory) => Err(RowsFault::Memory),
+            Ok(placed) => answer(self.alloc, name_of(placed)),
+            Err(fault) => Err(refusal_of(fault)),
         }
     }
 
     /// Answers with the winner.
     fn winner(&self) -> Result<Vec<u8>, RowsFault> {
         match self.history.winner() {
-            Some(rev) => answer(self.alloc, rev.text(self.alloc)?.as_str()),
+            Some(rev) => Ok(rev.text(self.alloc)?.into_bytes()),
             None => answer(self.alloc, "none"),
         }
     }
@@ -58,7 +48,7 @@ impl Histories {
     fn leaves(&self) -> Result<Vec<u8>, RowsFault> {
         let leaves = self.history.leaves()?;
         if self.history.copy()?.leaves()?.as_slice() != leaves.as_slice() {
-            return answer(self.alloc, "the copy has others");
+            return Err(RowsFault::Refused("the copy has others"));
         }
         show(self.alloc, &leaves)
     }
@@ -74,54 +64,70 @@ impl Histories {
     /// Answers with the body that is held for a revision.
     fn body(&self, rev: &Rev) -> Result<Vec<u8>, RowsFault> {
         let Some((deleted, body)) = self.history.body(rev) else {
-            return answer(self.alloc, "none");
+            return Err(RowsFault::Refused("none"));
         };
         let body = canon(self.alloc, body)?;
         let mark = if deleted { "deleted " } else { "" };
-        answer(self.alloc, format!(in self.alloc; "{mark}{body}")?.as_str())
+        Ok(format!(in self.alloc; "{mark}{body}")?.into_bytes())
     }
 
-    /// Answers whether a revision is known, and whether it is a leaf.
-    fn state(&self, rev: &Rev) -> Result<Vec<u8>, RowsFault> {
-        let text = match (self.history.knows(rev), self.history.is_leaf(rev)) {
+    /// Tells whether a revision is known, and whether it is a leaf.
+    fn state(&self, rev: &Rev) -> &'static str {
+        match (self.history.knows(rev), self.history.is_leaf(rev)) {
             (true, true) => "leaf",
             (true, false) => "inner",
             (false, false) => "unknown",
             (false, true) => "unknown leaf",
-        };
-        answer(self.alloc, text)
+        }
     }
 
     /// Answers a question about one revision.
     fn tell(&self, verb: &str, rev: &str) -> Result<Vec<u8>, RowsFault> {
         let Some(rev) = Rev::parse(rev.as_bytes()) else {
-            return answer(self.alloc, "no revision");
+            return Err(RowsFault::Refused("no revision"));
         };
         match verb {
             "chain" => self.chain(&rev),
             "body" => self.body(&rev),
-            "state" => self.state(&rev),
-            _ => answer(self.alloc, "insert, winner, leaves, chain, body or state"),
+            "state" => answer(self.alloc, self.state(&rev)),
+            _ => Err(RowsFault::Refused("insert, winner, leaves, chain, body or state")),
         }
     }
 }
 
-/// Returns the revisions of a path; `None` where one is none.
-fn path_of(alloc: Global, text: &str) -> Result<Option<Vec<Rev>>, RowsFault> {
+/// Returns the name of what came of a write.
+fn name_of(placed: Placed) -> &'static str {
+    match placed {
+        Placed::Added => "Added",
+        Placed::Known => "Known",
+    }
+}
+
+/// Returns how a fault is answered.
+fn refusal_of(fault: TreeFault) -> RowsFault {
+    match fault {
+        TreeFault::BadPath => RowsFault::Refused("BadPath"),
+        TreeFault::OtherParent => RowsFault::Refused("OtherParent"),
+        TreeFault::Memory => RowsFault::Memory,
+    }
+}
+
+/// Returns the revisions of a path.
+fn path_of(alloc: Global, text: &str) -> Result<Vec<Rev>, RowsFault> {
     let mut revs = Vec::new(alloc);
     if text == "-" {
-        return Ok(Some(revs));
+        return Ok(revs);
     }
     for text in text.split(',') {
         let Some(rev) = Rev::parse(text.as_bytes()) else {
-            return Ok(None);
+            return Err(RowsFault::Refused("no path"));
         };
         revs.push(rev)?;
     }
-    Ok(Some(revs))
+    Ok(revs)
 }
 
-/// Returns revisions with blanks between them.
+/// Answers with revisions, with blanks between them.
 fn show(alloc: Global, revs: &[Rev]) -> Result<Vec<u8>, RowsFault> {
     let mut text = String::new(alloc);
     for (place, rev) in revs.iter().enumerate() {
@@ -130,7 +136,7 @@ fn show(alloc: Global, revs: &[Rev]) -> Result<Vec<u8>, RowsFault> {
         }
         text.push_str(rev.text(alloc)?.as_str())?;
     }
-    answer(alloc, text.as_str())
+    Ok(text.into_bytes())
 }
 
 impl Kind for Histories {

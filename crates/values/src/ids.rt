@@ -15,17 +15,22 @@ impl Kind for Ids {
         let text = text_of(question);
         let id = match DocId::new(alloc, text) {
             Ok(id) => id,
-            Err(IdFault::Shape) => return answer(alloc, "Shape"),
+            Err(IdFault::Shape) => return Err(RowsFault::Refused("Shape")),
             Err(IdFault::Memory) => return Err(RowsFault::Memory),
         };
         if id.as_str() != text || id.copy(alloc)? != id {
-            return answer(alloc, "another id");
+            return Err(RowsFault::Refused("another id"));
         }
-        match (id.is_design(), id.is_local()) {
-            (false, false) => answer(alloc, "id"),
-            (true, false) => answer(alloc, "design"),
-            (false, true) => answer(alloc, "local"),
-            (true, true) => answer(alloc, "design and local"),
-        }
+        answer(alloc, name_of(&id))
+    }
+}
+
+/// Returns the name of the kind of an id.
+fn name_of(id: &DocId) -> &'static str {
+    match (id.is_design(), id.is_local()) {
+        (false, false) => "id",
+        (true, false) => "design",
+        (false, true) => "local",
+        (true, true) => "design and local",
     }
 }

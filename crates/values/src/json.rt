@@ -1,5 +1,5 @@
-use crate::texts::{answer, canonical};
-use couch_json::{JsonFault, read};
+use crate::texts::canonical;
+use couch_json::{Json, JsonFault, read};
 use rows::{Kind, RowsFault};
 use std::alloc::Global;
 
@@ -11,17 +11,30 @@ pub struct Texts {
 
 impl Kind for Texts {
     fn answer(&mut self, question: &[u8]) -> Result<Vec<u8>, RowsFault> {
-        let value = match read(self.alloc, question) {
-            Ok(value) => value,
-            Err(JsonFault::Syntax) => return answer(self.alloc, "Syntax"),
-            Err(JsonFault::Number) => return answer(self.alloc, "Number"),
-            Err(JsonFault::Depth) => return answer(self.alloc, "Depth"),
-            Err(JsonFault::Memory) => return Err(RowsFault::Memory),
-        };
+        match read(self.alloc, question) {
+            Ok(value) => self.show(&value),
+            Err(fault) => Err(refusal_of(fault)),
+        }
+    }
+}
+
+impl Texts {
+    /// Answers with the text of a value, which its copy has too.
+    fn show(&self, value: &Json) -> Result<Vec<u8>, RowsFault> {
         let copy = value.copy(self.alloc)?;
-        if copy != value {
-            return answer(self.alloc, "the copy differs");
+        if copy != *value {
+            return Err(RowsFault::Refused("the copy differs"));
         }
         canonical(self.alloc, &copy)
+    }
+}
+
+/// Returns how a fault is answered.
+fn refusal_of(fault: JsonFault) -> RowsFault {
+    match fault {
+        JsonFault::Syntax => RowsFault::Refused("Syntax"),
+        JsonFault::Number => RowsFault::Refused("Number"),
+        JsonFault::Depth => RowsFault::Refused("Depth"),
+        JsonFault::Memory => RowsFault::Memory,
     }
 }

@@ -22,7 +22,7 @@ mod texts;
 mod tokens;
 mod users;
 
-use rows::{Report, RowsFault, file_names, play};
+use rows::{Kind, Report, RowsFault, file_names, play};
 use std::alloc::Global;
 use std::env::Env;
 use std::fs::read_to_string;
@@ -65,52 +65,33 @@ fn play_file(alloc: Global, name: &str, text: &str, report: &mut Report) -> Resu
         None => "",
     };
     match ending {
-        "callers" => play(alloc, name, text, &mut callers::Callers::new(alloc), report),
-        "collation" => play(
-            alloc,
-            name,
-            text,
-            &mut collation::Ascending::new(alloc),
-            report,
-        ),
-        "histories" => play(
-            alloc,
-            name,
-            text,
-            &mut histories::Histories::new(alloc),
-            report,
-        ),
-        "ids" => play(alloc, name, text, &mut ids::Ids { alloc }, report),
-        "json" => play(alloc, name, text, &mut json::Texts { alloc }, report),
-        "numbers" => play(alloc, name, text, &mut numbers::Numbers { alloc }, report),
-        "paths" => play(alloc, name, text, &mut paths::Paths { alloc }, report),
-        "received" => play(alloc, name, text, &mut received::Received { alloc }, report),
-        "replies" => play(alloc, name, text, &mut replies::Replies { alloc }, report),
-        "revisions" => play(
-            alloc,
-            name,
-            text,
-            &mut revisions::Revisions::new(alloc),
-            report,
-        ),
-        "rules" => play(alloc, name, text, &mut rules::Rules::new(alloc), report),
-        "security" => play(
-            alloc,
-            name,
-            text,
-            &mut security::Verdicts::new(alloc),
-            report,
-        ),
-        "selectors" => play(
-            alloc,
-            name,
-            text,
-            &mut selectors::Selectors { alloc },
-            report,
-        ),
-        "sent" => play(alloc, name, text, &mut sent::Sent { alloc }, report),
-        "stream" => play(alloc, name, text, &mut streams::Streams { alloc }, report),
-        "tokens" => play(alloc, name, text, &mut tokens::Tokens { alloc }, report),
+        "callers" => play_as(alloc, name, text, callers::Callers::new(alloc), report),
+        "collation" => play_as(alloc, name, text, collation::Ascending::new(alloc), report),
+        "histories" => play_as(alloc, name, text, histories::Histories::new(alloc), report),
+        "ids" => play_as(alloc, name, text, ids::Ids { alloc }, report),
+        "json" => play_as(alloc, name, text, json::Texts { alloc }, report),
+        "numbers" => play_as(alloc, name, text, numbers::Numbers { alloc }, report),
+        "paths" => play_as(alloc, name, text, paths::Paths { alloc }, report),
+        "received" => play_as(alloc, name, text, received::Received { alloc }, report),
+        "replies" => play_as(alloc, name, text, replies::Replies { alloc }, report),
+        "revisions" => play_as(alloc, name, text, revisions::Revisions::new(alloc), report),
+        "rules" => play_as(alloc, name, text, rules::Rules::new(alloc), report),
+        "security" => play_as(alloc, name, text, security::Verdicts::new(alloc), report),
+        "selectors" => play_as(alloc, name, text, selectors::Selectors { alloc }, report),
+        "sent" => play_as(alloc, name, text, sent::Sent { alloc }, report),
+        "stream" => play_as(alloc, name, text, streams::Streams { alloc }, report),
+        "tokens" => play_as(alloc, name, text, tokens::Tokens { alloc }, report),
         _ => report.object(name, 1, "no kind of rows has this ending"),
     }
+}
+
+/// Plays a file by a kind of rows.
+fn play_as<K: Kind + Drop>(
+    alloc: Global,
+    name: &str,
+    text: &str,
+    mut kind: K,
+    report: &mut Report,
+) -> Result<(), RowsFault> {
+    play(alloc, name, text, &mut kind, report)
 }

@@ -12,19 +12,17 @@ pub struct Numbers {
 impl Kind for Numbers {
     fn answer(&mut self, question: &[u8]) -> Result<Vec<u8>, RowsFault> {
         let Ok(wanted) = text_of(question).parse::<i128>() else {
-            return answer(self.alloc, "not a number of 128 bits");
+            return Err(RowsFault::Refused("not a number of 128 bits"));
         };
-        let found = Number::new(wanted).map(|number| number.value());
-        if found.is_none() {
-            return answer(self.alloc, "none");
-        }
-        answer(
-            self.alloc,
-            if found == Some(wanted) {
-                "number"
-            } else {
-                "another number"
-            },
-        )
+        answer(self.alloc, name_of(wanted))
+    }
+}
+
+/// Tells whether a JSON value may hold a number.
+fn name_of(wanted: i128) -> &'static str {
+    match Number::new(wanted).map(|number| number.value()) {
+        Some(value) if value == wanted => "number",
+        Some(_) => "another number",
+        None => "none",
     }
 }

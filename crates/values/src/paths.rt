@@ -1,4 +1,4 @@
-use crate::texts::{answer, canonical, text_of, value_of};
+use crate::texts::{canonical, text_of, value_of};
 use couch_json::{FieldPath, PathFault, at};
 use rows::{Kind, RowsFault};
 use std::alloc::Global;
@@ -11,23 +11,23 @@ pub struct Paths {
 
 impl Kind for Paths {
     fn answer(&mut self, question: &[u8]) -> Result<Vec<u8>, RowsFault> {
-        let alloc = self.alloc;
         let (value, text) = parts_of(text_of(question));
-        let Some(value) = value_of(alloc, value)? else {
-            return answer(alloc, "not JSON");
-        };
-        let path = match FieldPath::parse(alloc, text) {
-            Ok(path) => path,
-            Err(PathFault::Shape) => return answer(alloc, "Shape"),
-            Err(PathFault::Memory) => return Err(RowsFault::Memory),
-        };
-        if path.as_str() != text {
-            return answer(alloc, "the path has another text");
-        }
+        let value = value_of(self.alloc, value)?;
+        let path = path_of(self.alloc, text)?;
         match at(&value, &path) {
-            Some(found) => canonical(alloc, found),
-            None => answer(alloc, "nothing"),
+            Some(found) => canonical(self.alloc, found),
+            None => Err(RowsFault::Refused("nothing")),
         }
+    }
+}
+
+/// Returns the path of a text, which is its text.
+fn path_of(alloc: Global, text: &str) -> Result<FieldPath, RowsFault> {
+    match FieldPath::parse(alloc, text) {
+        Ok(path) if path.as_str() == text => Ok(path),
+        Ok(_) => Err(RowsFault::Refused("the path has another text")),
+        Err(PathFault::Shape) => Err(RowsFault::Refused("Shape")),
+        Err(PathFault::Memory) => Err(RowsFault::Memory),
     }
 }
 

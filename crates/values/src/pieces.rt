@@ -1,24 +1,28 @@
 //! Pieces of a stream, as rows write them.
 
-use rows::{RowsFault, unescape};
+use crate::texts::unescaped;
+use rows::RowsFault;
 use std::alloc::Global;
 
 /// Returns the pieces of a question, one a line, with escapes; `cut N TEXT` is the text in pieces of
-/// N bytes. `None` where a backslash begins no escape.
-pub fn pieces_of(alloc: Global, question: &str) -> Result<Option<Vec<Vec<u8>>>, RowsFault> {
+/// N bytes.
+pub fn pieces_of(alloc: Global, question: &str) -> Result<Vec<Vec<u8>>, RowsFault> {
     let mut pieces = Vec::new(alloc);
     for line in question.split('\n') {
-        let (size, text) = size_of(line);
-        let Some(bytes) = unescape(alloc, text.as_bytes())? else {
-            return Ok(None);
-        };
-        if size == 0 {
-            pieces.push(bytes)?;
-        } else {
-            put_pieces(alloc, &mut pieces, &bytes, size)?;
-        }
+        put_line(alloc, &mut pieces, line)?;
     }
-    Ok(Some(pieces))
+    Ok(pieces)
+}
+
+/// Adds the pieces of a line.
+fn put_line(alloc: Global, pieces: &mut Vec<Vec<u8>>, line: &str) -> Result<(), RowsFault> {
+    let (size, text) = size_of(line);
+    let bytes = unescaped(alloc, text)?;
+    if size == 0 {
+        pieces.push(bytes)?;
+        return Ok(());
+    }
+    put_pieces(alloc, pieces, &bytes, size)
 }
 
 /// Adds bytes in pieces of one size.

@@ -1,7 +1,7 @@
 use crate::pieces::{join, pieces_of, single_bytes, two_pieces};
-use crate::texts::{answer, spell, text_of};
+use crate::texts::{spell, text_of};
 use couch_http::{HttpFault, ReplyCutter, Response};
-use rows::{Joint, Kind, RowsFault};
+use rows::{Joint, Kind, RowsFault, push_all};
 use std::alloc::Global;
 
 /// Pieces of a stream that begins with a reply, one a line, written as in `.stream`.
@@ -54,48 +54,42 @@ impl Received {
         }
     }
 
-    /// Returns what pieces come to.
-    fn end(&self, pieces: &[Vec<u8>]) -> Result<String, RowsFault> {
-        let lines = self.play(pieces)?;
-        Ok(String::from_str(self.alloc, end_of(&lines))?)
-    }
-
-    /// Adds a line for each place where two pieces come to something else.
-    fn put_places(&self, text: &mut String, bytes: &[u8], end: &str) -> Result<(), RowsFault> {
-        for place in 0..bytes.len() {
-            let pieces = two_pieces(self.alloc, bytes, place)?;
-            let other = self.end(&pieces)?;
-            let other = other.as_str();
-            if other != end {
-                let line = format!(in self.alloc; "\ncut at {place}: {other}")?;
-                text.push_str(line.as_str())?;
-            }
-        }
-        Ok(())
-    }
-
-    /// Adds a line where single bytes come to something else.
-    fn put_bytes(&self, text: &mut String, bytes: &[u8], end: &str) -> Result<(), RowsFault> {
-        let pieces = single_bytes(self.alloc, bytes)?;
-        let other = self.end(&pieces)?;
-        if other.as_str() != end {
-            text.push_str("\nbyte by byte: ")?;
-            text.push_str(other.as_str())?;
-        }
-        Ok(())
-    }
-
     /// Plays the pieces and, where they are short, their bytes cut at each place.
     fn play_all(&self, pieces: &[Vec<u8>]) -> Result<String, RowsFault> {
         let lines = self.play(pieces)?;
         let mut text = text_of_lines(self.alloc, &lines)?;
         let bytes = join(self.alloc, pieces)?;
         if bytes.len() <= SHORT {
-            let end = end_of(&lines);
-            self.put_places(&mut text, &bytes, end)?;
-            self.put_bytes(&mut text, &bytes, end)?;
+            self.put_others(&mut text, &bytes, end_of(&lines))?;
         }
         Ok(text)
+    }
+
+    /// Adds a line for each cut of bytes that comes to something else.
+    fn put_others(&self, text: &mut String, bytes: &[u8], end: &str) -> Result<(), RowsFault> {
+        for place in 0..bytes.len() {
+            let pieces = two_pieces(self.alloc, bytes, place)?;
+            let cut = format!(in self.alloc; "cut at {place}")?;
+            self.put_other(text, &pieces, end, cut.as_str())?;
+        }
+        let pieces = single_bytes(self.alloc, bytes)?;
+        self.put_other(text, &pieces, end, "byte by byte")
+    }
+
+    /// Adds a line where pieces come to something else: how they are cut, and what they come to.
+    fn put_other(
+        &self,
+        text: &mut String,
+        pieces: &[Vec<u8>],
+        end: &str,
+        cut: &str,
+    ) -> Result<(), RowsFault> {
+        let lines = self.play(pieces)?;
+        let other = end_of(&lines);
+        if other == end {
+            return Ok(());
+        }
+        push_all(text, &["\n", cut, ": ", other])
     }
 }
 
@@ -140,16 +134,22 @@ fn show_reply(alloc: Global, reply: &Response, come: &[u8]) -> Result<String, Ro
         return Ok(String::from_str(alloc, "other bytes")?);
     }
     let status = reply.status();
-    let length = reply.body().len();
+    let body = show_body(alloc, reply.body())?;
+    Ok(format!(in alloc; "{status}{body}")?)
+}
+
+/// Returns a body behind a blank, or how long it is; nothing where it is empty.
+fn show_body(alloc: Global, body: &[u8]) -> Result<String, RowsFault> {
+    let length = body.len();
     if length == 0 {
-        return Ok(format!(in alloc; "{status}")?);
+        return Ok(String::new(alloc));
     }
     if length > SHOWN {
-        return Ok(format!(in alloc; "{status} {length} bytes")?);
+        return Ok(format!(in alloc; " {length} bytes")?);
     }
-    let body = spell(alloc, reply.body())?;
-    let body = body.as_str();
-    Ok(format!(in alloc; "{status} {body}")?)
+    let mut text = spell(alloc, body)?;
+    text.insert(0, ' ')?;
+    Ok(text)
 }
 
 /// Returns the name of a fault.
@@ -169,9 +169,7 @@ impl Kind for Received {
     }
 
     fn answer(&mut self, question: &[u8]) -> Result<Vec<u8>, RowsFault> {
-        match pieces_of(self.alloc, text_of(question))? {
-            Some(pieces) => answer(self.alloc, self.play_all(&pieces)?.as_str()),
-            None => answer(self.alloc, "a backslash that begins no escape"),
-        }
+        let pieces = pieces_of(self.alloc, text_of(question))?;
+        Ok(self.play_all(&pieces)?.into_bytes())
     }
 }

@@ -1,4 +1,4 @@
-use crate::texts::{answer, first_word, text_of, value_of};
+use crate::texts::{first_word, text_of, value_of};
 use couch_http::{Fixed, HttpFault, Response};
 use rows::{Kind, RowsFault};
 use std::alloc::Global;
@@ -15,27 +15,32 @@ impl Replies {
     /// Answers with the bytes of a reply that is made.
     fn build_reply(&self, status: &str, rest: &str) -> Result<Vec<u8>, RowsFault> {
         let Ok(status) = status.parse::<u16>() else {
-            return answer(self.alloc, "no status");
+            return Err(RowsFault::Refused("no status"));
         };
         let (last, value) = match rest.strip_prefix("last ") {
             Some(value) => (true, value),
             None => (false, rest),
         };
-        let Some(value) = value_of(self.alloc, value)? else {
-            return answer(self.alloc, "not JSON");
-        };
+        let value = value_of(self.alloc, value)?;
         match Response::made(self.alloc, status, &value, last) {
-            Ok(reply) if reply.status() != status => answer(self.alloc, "another status"),
-            Ok(reply) => self.bytes(&reply),
+            Ok(reply) => self.bytes_at(status, &reply),
             Err(HttpFault::Memory) => Err(RowsFault::Memory),
-            Err(_) => answer(self.alloc, "another fault"),
+            Err(_) => Err(RowsFault::Refused("another fault")),
         }
+    }
+
+    /// Answers with the bytes of a reply of this status.
+    fn bytes_at(&self, status: u16, reply: &Response) -> Result<Vec<u8>, RowsFault> {
+        if reply.status() != status {
+            return Err(RowsFault::Refused("another status"));
+        }
+        self.bytes(reply)
     }
 
     /// Answers with the bytes of a reply, whose end its body is.
     fn bytes(&self, reply: &Response) -> Result<Vec<u8>, RowsFault> {
         if !reply.bytes().ends_with(reply.body()) {
-            return answer(self.alloc, "another body");
+            return Err(RowsFault::Refused("another body"));
         }
         Ok(Vec::from_slice(self.alloc, reply.bytes())?)
     }
@@ -63,7 +68,7 @@ impl Kind for Replies {
         }
         match fixed_of(rest) {
             Some(fixed) => self.bytes(&Response::fixed(fixed)),
-            None => answer(self.alloc, "no such fixed reply"),
+            None => Err(RowsFault::Refused("no such fixed reply")),
         }
     }
 }

@@ -1,4 +1,4 @@
-use crate::texts::{answer, first_word, text_of, value_of};
+use crate::texts::{answer, edit_of, first_word, text_of, value_of};
 use rows::{Kind, RowsFault};
 use std::alloc::Global;
 use std::cmp::Ordering;
@@ -26,23 +26,20 @@ impl Revisions {
     /// Answers with a revision's number and hash.
     fn read(&self, text: &str) -> Result<Vec<u8>, RowsFault> {
         let Some(rev) = Rev::parse(text.as_bytes()) else {
-            return answer(self.alloc, "none");
+            return Err(RowsFault::Refused("none"));
         };
         if rev.text(self.alloc)?.as_str() != text {
-            return answer(self.alloc, "another text");
+            return Err(RowsFault::Refused("another text"));
         }
         let number = rev.number();
         let hash = rev.hash();
-        answer(
-            self.alloc,
-            format!(in self.alloc; "{number} {hash}")?.as_str(),
-        )
+        Ok(format!(in self.alloc; "{number} {hash}")?.into_bytes())
     }
 
     /// Answers whether a revision is behind those above.
     fn order(&mut self, text: &str) -> Result<Vec<u8>, RowsFault> {
         let Some(rev) = Rev::parse(text.as_bytes()) else {
-            return answer(self.alloc, "no revision");
+            return Err(RowsFault::Refused("no revision"));
         };
         let is_behind = is_behind_all(&self.above, &rev);
         self.above.push(rev)?;
@@ -53,16 +50,11 @@ impl Revisions {
     fn next(&self, text: &str) -> Result<Vec<u8>, RowsFault> {
         let (parent, rest) = first_word(text);
         let parent = Rev::parse(parent.as_bytes());
-        let (deleted, body) = match rest.strip_prefix("deleted ") {
-            Some(body) => (true, body),
-            None => (false, rest),
-        };
-        let Some(body) = value_of(self.alloc, body)? else {
-            return answer(self.alloc, "not JSON");
-        };
+        let (deleted, body) = edit_of(rest);
+        let body = value_of(self.alloc, body)?;
         match next_rev(self.alloc, parent.as_ref(), deleted, &body) {
-            Ok(rev) => answer(self.alloc, rev.text(self.alloc)?.as_str()),
-            Err(RevFault::Generation) => answer(self.alloc, "Generation"),
+            Ok(rev) => Ok(rev.text(self.alloc)?.into_bytes()),
+            Err(RevFault::Generation) => Err(RowsFault::Refused("Generation")),
             Err(RevFault::Memory) => Err(RowsFault::Memory),
         }
     }
@@ -90,7 +82,7 @@ impl Kind for Revisions {
             "read" => self.read(rest),
             "order" => self.order(rest),
             "next" => self.next(rest),
-            _ => answer(self.alloc, "read, order or next"),
+            _ => Err(RowsFault::Refused("read, order or next")),
         }
     }
 }

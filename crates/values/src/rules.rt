@@ -1,7 +1,8 @@
-use crate::texts::{answer, canonical, first_word, text_of, value_of};
+use crate::security::security_of;
+use crate::texts::{answer, canonical, edit_of, first_word, text_of, value_of};
 use crate::users::Users;
 use couch_json::Json;
-use policy::{RuleSet, Security, SecurityFault, argument, check_design, show_new};
+use policy::{RuleSet, argument, check_design, show_new};
 use rows::{Kind, RowsFault};
 use std::alloc::Global;
 use std::collections::BTreeMap;
@@ -36,22 +37,17 @@ impl Rules {
 
     /// Answers whether a design document may have a body.
     fn check(&self, body: &str) -> Result<Vec<u8>, RowsFault> {
-        match value_of(self.alloc, body)? {
-            Some(body) if check_design(self.alloc, &body)? => answer(self.alloc, "good"),
-            Some(_) => answer(self.alloc, "bad"),
-            None => answer(self.alloc, "not JSON"),
-        }
+        let body = value_of(self.alloc, body)?;
+        let is_good = check_design(self.alloc, &body)?;
+        answer(self.alloc, if is_good { "good" } else { "bad" })
     }
 
     /// Takes in a design document.
     fn design(&mut self, text: &str) -> Result<Vec<u8>, RowsFault> {
         let (id, body) = first_word(text);
-        let Some(id) = self.id_of(id)? else {
-            return answer(self.alloc, "no id");
-        };
-        if let Some(value) = value_of(self.alloc, body)? {
-            self.documents.push((id, value))?;
-        }
+        let id = id_of(self.alloc, id)?;
+        let value = value_of(self.alloc, body)?;
+        self.documents.push((id, value))?;
         self.check(body)
     }
 
@@ -59,95 +55,70 @@ impl Rules {
     fn judge(&self, write: &str) -> Result<Vec<u8>, RowsFault> {
         let rules = RuleSet::of(self.alloc, &self.documents)?;
         if rules.is_empty() {
-            return answer(self.alloc, "no rules");
+            return Err(RowsFault::Refused("no rules"));
         }
-        match self.argument_of(write)? {
-            Ok(argument) => match rules.refusal(&argument) {
-                Some(id) => answer(self.alloc, id.as_str()),
-                None => answer(self.alloc, "allowed"),
-            },
-            Err(cause) => answer(self.alloc, cause),
+        let argument = self.argument_of(write)?;
+        match rules.refusal(&argument) {
+            Some(id) => answer(self.alloc, id.as_str()),
+            None => answer(self.alloc, "allowed"),
         }
     }
 
-    /// Answers what the rules are asked of.
-    fn show_argument(&self, write: &str) -> Result<Vec<u8>, RowsFault> {
-        match self.argument_of(write)? {
-            Ok(argument) => canonical(self.alloc, &argument),
-            Err(cause) => answer(self.alloc, cause),
-        }
-    }
-
-    /// Builds the argument of a write, or tells why there is none.
-    fn argument_of(&self, text: &str) -> Result<Result<Json, &'static str>, RowsFault> {
+    /// Builds the argument of a write.
+    fn argument_of(&self, text: &str) -> Result<Json, RowsFault> {
         let (name, write) = first_word(text);
-        let Some(caller) = self.users.caller(name)? else {
-            return Ok(Err("the head has no such user"));
-        };
-        let (write, before) = match write.split_once(" after ") {
-            Some((write, before)) => (write, Some(before)),
-            None => (write, None),
-        };
-        let (action, document) = first_word(write);
-        let (id, body) = first_word(document);
-        let Some(id) = self.id_of(id)? else {
-            return Ok(Err("no id"));
-        };
-        let Some(new) = self.new_document(action, &id, body)? else {
-            return Ok(Err("no document"));
-        };
-        let old = match before {
-            Some(before) => self.old_document(&id, before)?,
-            None => None,
-        };
-        let security = match Security::read(self.alloc, &self.security) {
-            Ok(security) => security,
-            Err(SecurityFault::Shape) => return Ok(Err("no security object")),
-            Err(SecurityFault::Memory) => return Err(RowsFault::Memory),
-        };
-        Ok(Ok(argument(self.alloc, new, old, &caller, "db", &security)?))
+        let caller = self.users.caller(name)?;
+        let security = security_of(self.alloc, &self.security)?;
+        let (new, old) = documents_of(self.alloc, write)?;
+        Ok(argument(self.alloc, new, old, &caller, "db", &security)?)
     }
+}
 
-    /// Shows the document that is put or deleted.
-    fn new_document(
-        &self,
-        action: &str,
-        id: &DocId,
-        body: &str,
-    ) -> Result<Option<Json>, RowsFault> {
-        if action == "deletes" {
-            let body = Json::Object(BTreeMap::new(self.alloc));
-            return Ok(Some(show_new(self.alloc, id, true, &body)?));
-        }
-        match value_of(self.alloc, body)? {
-            Some(body) if action == "puts" => { Ok(Some(show_new(self.alloc, id, false, &body)?)) }
-            _ => Ok(None),
-        }
-    }
+/// Shows the document of a write, and the revision that it follows, if it follows one.
+fn documents_of(alloc: Global, write: &str) -> Result<(Json, Option<Json>), RowsFault> {
+    let (write, before) = match write.split_once(" after ") {
+        Some((write, before)) => (write, Some(before)),
+        None => (write, None),
+    };
+    let (action, document) = first_word(write);
+    let (id, body) = first_word(document);
+    let id = id_of(alloc, id)?;
+    let new = new_document(alloc, action, &id, body)?;
+    let old = match before {
+        Some(before) => Some(old_document(alloc, &id, before)?),
+        None => None,
+    };
+    Ok((new, old))
+}
 
-    /// Shows the revision that is followed, if the text is one.
-    fn old_document(&self, id: &DocId, text: &str) -> Result<Option<Json>, RowsFault> {
-        let (deleted, text) = match text.strip_prefix("deleted ") {
-            Some(text) => (true, text),
-            None => (false, text),
-        };
-        let (rev, body) = first_word(text);
-        let Some(body) = value_of(self.alloc, body)? else {
-            return Ok(None);
-        };
-        match Rev::parse(rev.as_bytes()) {
-            Some(rev) => Ok(Some(show(self.alloc, id, &rev, deleted, &body)?)),
-            None => Ok(None),
-        }
-    }
+/// Shows the document that is put or deleted.
+fn new_document(alloc: Global, action: &str, id: &DocId, body: &str) -> Result<Json, RowsFault> {
+    let (deleted, body) = match action {
+        "puts" => (false, body),
+        "deletes" => (true, "{}"),
+        _ => return Err(RowsFault::Refused("no document")),
+    };
+    let body = value_of(alloc, body)?;
+    Ok(show_new(alloc, id, deleted, &body)?)
+}
 
-    /// Returns the id of a text, if it is one.
-    fn id_of(&self, text: &str) -> Result<Option<DocId>, RowsFault> {
-        match DocId::new(self.alloc, text) {
-            Ok(id) => Ok(Some(id)),
-            Err(IdFault::Shape) => Ok(None),
-            Err(IdFault::Memory) => Err(RowsFault::Memory),
-        }
+/// Shows the revision that is followed.
+fn old_document(alloc: Global, id: &DocId, text: &str) -> Result<Json, RowsFault> {
+    let (deleted, text) = edit_of(text);
+    let (rev, body) = first_word(text);
+    let body = value_of(alloc, body)?;
+    let Some(rev) = Rev::parse(rev.as_bytes()) else {
+        return Err(RowsFault::Refused("no revision"));
+    };
+    Ok(show(alloc, id, &rev, deleted, &body)?)
+}
+
+/// Returns the id of a text.
+fn id_of(alloc: Global, text: &str) -> Result<DocId, RowsFault> {
+    match DocId::new(alloc, text) {
+        Ok(id) => Ok(id),
+        Err(IdFault::Shape) => Err(RowsFault::Refused("no id")),
+        Err(IdFault::Memory) => Err(RowsFault::Memory),
     }
 }
 
@@ -156,13 +127,8 @@ impl Kind for Rules {
         let Some(value) = line.strip_prefix("security ") else {
             return self.users.set(line);
         };
-        match value_of(self.alloc, value)? {
-            Some(value) => {
-                self.security = value;
-                Ok(true)
-            }
-            None => Ok(false),
-        }
+        self.security = value_of(self.alloc, value)?;
+        Ok(true)
     }
 
     fn begin(&mut self) -> Result<(), RowsFault> {
@@ -179,7 +145,7 @@ impl Kind for Rules {
             return self.design(document);
         }
         match question.strip_prefix("argument ") {
-            Some(write) => self.show_argument(write),
+            Some(write) => canonical(self.alloc, &self.argument_of(write)?),
             None => self.judge(question),
         }
     }

@@ -1,6 +1,7 @@
 use crate::texts::{answer, canonical, first_word, text_of, value_of};
 use crate::users::Users;
 use auth::Caller;
+use couch_json::Json;
 use policy::{Action, Rule, Security, SecurityFault, refusal};
 use rows::{Kind, RowsFault};
 use std::alloc::Global;
@@ -27,32 +28,30 @@ impl Verdicts {
     /// Answers what the rules say of an action.
     fn judge(&self, who: &str, value: &str) -> Result<Vec<u8>, RowsFault> {
         let (name, action) = first_word(who);
-        let Some(caller) = self.users.caller(name)? else {
-            return answer(self.alloc, "the head has no such user");
-        };
         let Some(action) = action_of(action) else {
-            return answer(self.alloc, "no such action");
+            return Err(RowsFault::Refused("no such action"));
         };
-        let security = match self.security(value)? {
-            Ok(security) => security,
-            Err(fault) => return answer(self.alloc, fault),
-        };
+        let caller = self.users.caller(name)?;
+        let security = self.security(value)?;
         answer(self.alloc, verdict(action, &caller, &security))
     }
 
-    /// Returns the security object of a text, or why there is none. It is a copy of what was read.
-    fn security(&self, text: &str) -> Result<Result<Security, &'static str>, RowsFault> {
-        if text == "closed" {
-            return Ok(Ok(Security::closed(self.alloc)?.copy(self.alloc)?));
-        }
-        let Some(value) = value_of(self.alloc, text)? else {
-            return Ok(Err("not JSON"));
+    /// Returns a copy of the security object of a text.
+    fn security(&self, text: &str) -> Result<Security, RowsFault> {
+        let security = match text {
+            "closed" => Security::closed(self.alloc)?,
+            _ => security_of(self.alloc, &value_of(self.alloc, text)?)?,
         };
-        match Security::read(self.alloc, &value) {
-            Ok(security) => Ok(Ok(security.copy(self.alloc)?)),
-            Err(SecurityFault::Shape) => Ok(Err("Shape")),
-            Err(SecurityFault::Memory) => Err(RowsFault::Memory),
-        }
+        Ok(security.copy(self.alloc)?)
+    }
+}
+
+/// Returns the security object of a value.
+pub fn security_of(alloc: Global, value: &Json) -> Result<Security, RowsFault> {
+    match Security::read(alloc, value) {
+        Ok(security) => Ok(security),
+        Err(SecurityFault::Shape) => Err(RowsFault::Refused("Shape")),
+        Err(SecurityFault::Memory) => Err(RowsFault::Memory),
     }
 }
 
@@ -90,9 +89,6 @@ impl Kind for Verdicts {
         if let Some((who, value)) = question.split_once(" on ") {
             return self.judge(who, value);
         }
-        match self.security(question)? {
-            Ok(security) => canonical(self.alloc, security.value()),
-            Err(fault) => answer(self.alloc, fault),
-        }
+        canonical(self.alloc, self.security(question)?.value())
     }
 }

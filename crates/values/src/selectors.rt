@@ -21,54 +21,54 @@ impl Kind for Selectors {
         if let Some((selector, value)) = question.split_once(" on ") {
             return self.try_one(selector, value);
         }
-        match self.selector_of(question)? {
-            Ok(_) => answer(self.alloc, "selector"),
-            Err(fault) => answer(self.alloc, fault),
-        }
+        self.selector_of(question)?;
+        answer(self.alloc, "selector")
     }
 }
 
 impl Selectors {
-    /// Returns the selector of a text, or why it is none.
-    fn selector_of(&self, text: &str) -> Result<Result<Selector, &'static str>, RowsFault> {
-        let Some(value) = value_of(self.alloc, text)? else {
-            return Ok(Err("not JSON"));
-        };
+    /// Returns the selector of a text.
+    fn selector_of(&self, text: &str) -> Result<Selector, RowsFault> {
+        let value = value_of(self.alloc, text)?;
         match Selector::parse(self.alloc, &value) {
-            Ok(selector) => Ok(Ok(selector)),
-            Err(SelectorFault::Operator) => Ok(Err("Operator")),
-            Err(SelectorFault::Argument) => Ok(Err("Argument")),
-            Err(SelectorFault::Depth) => Ok(Err("Depth")),
-            Err(SelectorFault::Memory) => Err(RowsFault::Memory),
+            Ok(selector) => Ok(selector),
+            Err(fault) => Err(refusal_of(fault)),
         }
     }
 
     /// Answers whether a selector is true of a value.
     fn try_one(&self, selector: &str, value: &str) -> Result<Vec<u8>, RowsFault> {
-        let selector = match self.selector_of(selector)? {
-            Ok(selector) => selector,
-            Err(fault) => return answer(self.alloc, fault),
-        };
-        match value_of(self.alloc, value)? {
-            Some(value) if selector.matches(&value) => answer(self.alloc, "true"),
-            Some(_) => answer(self.alloc, "false"),
-            None => answer(self.alloc, "not JSON"),
-        }
+        let selector = self.selector_of(selector)?;
+        let value = value_of(self.alloc, value)?;
+        let is_true = selector.matches(&value);
+        answer(self.alloc, if is_true { "true" } else { "false" })
     }
 
     /// Answers of which values of a list a selector is true.
     fn try_each(&self, selector: &str, values: &str) -> Result<Vec<u8>, RowsFault> {
-        let selector = match self.selector_of(selector)? {
-            Ok(selector) => selector,
-            Err(fault) => return answer(self.alloc, fault),
-        };
-        let Some(Json::Array(values)) = value_of(self.alloc, values)? else {
-            return answer(self.alloc, "not a list");
-        };
-        let mut answers = Vec::new(self.alloc);
-        for value in &values {
-            answers.push(if selector.matches(value) { b'T' } else { b'-' })?;
+        let selector = self.selector_of(selector)?;
+        match value_of(self.alloc, values)? {
+            Json::Array(values) => marks_of(self.alloc, &selector, &values),
+            _ => Err(RowsFault::Refused("not a list")),
         }
-        Ok(answers)
     }
+}
+
+/// Returns how a fault is answered.
+fn refusal_of(fault: SelectorFault) -> RowsFault {
+    match fault {
+        SelectorFault::Operator => RowsFault::Refused("Operator"),
+        SelectorFault::Argument => RowsFault::Refused("Argument"),
+        SelectorFault::Depth => RowsFault::Refused("Depth"),
+        SelectorFault::Memory => RowsFault::Memory,
+    }
+}
+
+/// Marks of which values a selector is true.
+fn marks_of(alloc: Global, selector: &Selector, values: &[Json]) -> Result<Vec<u8>, RowsFault> {
+    let mut marks = Vec::new(alloc);
+    for value in values {
+        marks.push(if selector.matches(value) { b'T' } else { b'-' })?;
+    }
+    Ok(marks)
 }

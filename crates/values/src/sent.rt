@@ -1,9 +1,9 @@
 use crate::streams::Streams;
-use crate::texts::{answer, first_word, spell, text_of};
+use crate::texts::{first_word, spell, text_of, unescaped};
 use couch_http::{Cut, Cutter, Ending, Header, HttpFault, Request, request_bytes};
 use http::Method;
 use http::method::MethodError;
-use rows::{Joint, Kind, RowsFault, unescape};
+use rows::{Joint, Kind, RowsFault};
 use std::alloc::Global;
 use std::str;
 
@@ -28,18 +28,21 @@ impl Sent {
 
     /// Tells what is read back of the bytes of a request.
     fn read_back(&self, request: &Request, bytes: Vec<u8>) -> Result<String, RowsFault> {
-        let mut cutter = Cutter::new(self.alloc);
-        match cutter.feed(&bytes) {
-            Ok(cut) if is_alone(self.alloc, request, &cut)? => {
-                Ok(String::from_str(self.alloc, "same")?)
-            }
-            Err(HttpFault::Memory) => Err(RowsFault::Memory),
-            _ => {
-                let mut pieces = Vec::new(self.alloc);
-                pieces.push(bytes)?;
-                Streams { alloc: self.alloc }.play_both(&pieces)
-            }
+        if is_read_back(self.alloc, request, &bytes)? {
+            return Ok(String::from_str(self.alloc, "same")?);
         }
+        let mut pieces = Vec::new(self.alloc);
+        pieces.push(bytes)?;
+        Streams { alloc: self.alloc }.play_both(&pieces)
+    }
+}
+
+/// Tells whether a cutter reads a request of bytes, and nothing else.
+fn is_read_back(alloc: Global, request: &Request, bytes: &[u8]) -> Result<bool, RowsFault> {
+    match Cutter::new(alloc).feed(bytes) {
+        Ok(cut) => is_alone(alloc, request, &cut),
+        Err(HttpFault::Memory) => Err(RowsFault::Memory),
+        Err(_) => Ok(false),
     }
 }
 
@@ -106,81 +109,79 @@ fn is_header(header: &Header, name: &[u8], value: &[u8]) -> bool {
     header.name.as_slice() == name && header.value.as_slice() == value
 }
 
-/// Returns the request of a question, if it is one.
-fn request_of(alloc: Global, question: &str) -> Result<Option<Request>, RowsFault> {
+/// Returns the request of a question.
+fn request_of(alloc: Global, question: &str) -> Result<Request, RowsFault> {
     let (head, body) = question.split_once("\n\n").unwrap_or((question, ""));
     let (line, lines) = head.split_once('\n').unwrap_or((head, ""));
+    let mut request = line_of(alloc, line)?;
+    request.headers = headers_of(alloc, lines)?;
+    request.body = unescaped(alloc, body)?;
+    Ok(request)
+}
+
+/// Returns the request of a first line, without headers and without a body.
+fn line_of(alloc: Global, line: &str) -> Result<Request, RowsFault> {
     let (method, rest) = first_word(line);
     let (target, last) = first_word(rest);
-    let (path, query) = match target.split_once('?') {
-        Some((path, query)) => (path, Some(query)),
-        None => (target, None),
-    };
     let method = method_of(alloc, method)?;
-    let path = unescape_text(alloc, path)?;
-    let query = match query {
-        Some(query) => unescape_text(alloc, query)?.map(Some),
-        None => Some(None),
-    };
-    let headers = headers_of(alloc, lines)?;
-    let body = unescape(alloc, body.as_bytes())?;
-    match (method, path, query, headers, body) {
-        (Some(method), Some(path), Some(query), Some(headers), Some(body)) => Ok(Some(Request {
-            method,
-            path,
-            query,
-            headers,
-            body,
-            last: last == "last",
-        })),
-        _ => Ok(None),
+    let (path, query) = target_of(alloc, target)?;
+    Ok(Request {
+        method,
+        path,
+        query,
+        headers: Vec::new(alloc),
+        body: Vec::new(alloc),
+        last: last == "last",
+    })
+}
+
+/// Returns the path of a target, and its query, if it has one.
+fn target_of(alloc: Global, target: &str) -> Result<(String, Option<String>), RowsFault> {
+    match target.split_once('?') {
+        Some((path, query)) => Ok((
+            unescaped_text(alloc, path)?,
+            Some(unescaped_text(alloc, query)?),
+        )),
+        None => Ok((unescaped_text(alloc, target)?, None)),
     }
 }
 
-/// Returns the method of this name, if it is one.
-fn method_of(alloc: Global, name: &str) -> Result<Option<Method>, RowsFault> {
+/// Returns the method of this name.
+fn method_of(alloc: Global, name: &str) -> Result<Method, RowsFault> {
     match Method::from_bytes(alloc, name.as_bytes()) {
-        Ok(method) => Ok(Some(method)),
+        Ok(method) => Ok(method),
         Err(MethodError::OutOfMemory) => Err(RowsFault::Memory),
-        Err(MethodError::Invalid) => Ok(None),
+        Err(MethodError::Invalid) => Err(RowsFault::Refused("no method")),
     }
 }
 
-/// Returns the text that a text with escapes spells, if it is one.
-fn unescape_text(alloc: Global, text: &str) -> Result<Option<String>, RowsFault> {
-    let Some(bytes) = unescape(alloc, text.as_bytes())? else {
-        return Ok(None);
-    };
-    match str::from_utf8(&bytes) {
-        Ok(text) => Ok(Some(String::from_str(alloc, text)?)),
-        Err(_) => Ok(None),
+/// Returns the text that a text with escapes spells.
+fn unescaped_text(alloc: Global, text: &str) -> Result<String, RowsFault> {
+    match str::from_utf8(&unescaped(alloc, text)?) {
+        Ok(text) => Ok(String::from_str(alloc, text)?),
+        Err(_) => Err(RowsFault::Refused("no text")),
     }
 }
 
-/// Returns the headers of lines, if each is one.
-fn headers_of(alloc: Global, lines: &str) -> Result<Option<Vec<Header>>, RowsFault> {
+/// Returns the headers of lines.
+fn headers_of(alloc: Global, lines: &str) -> Result<Vec<Header>, RowsFault> {
     let mut headers = Vec::new(alloc);
     for line in lines.lines() {
-        match header_of(alloc, line)? {
-            Some(header) => headers.push(header)?,
-            None => return Ok(None),
-        }
+        headers.push(header_of(alloc, line)?)?;
     }
-    Ok(Some(headers))
+    Ok(headers)
 }
 
 /// Returns the header of a line: what stands before and behind its first `:` and a space.
-fn header_of(alloc: Global, line: &str) -> Result<Option<Header>, RowsFault> {
+fn header_of(alloc: Global, line: &str) -> Result<Header, RowsFault> {
     let Some((name, value)) = line.split_once(':') else {
-        return Ok(None);
+        return Err(RowsFault::Refused("no header"));
     };
     let value = value.strip_prefix(' ').unwrap_or(value);
-    let name = unescape(alloc, name.as_bytes())?;
-    let value = unescape(alloc, value.as_bytes())?;
-    match (name, value) {
-        (Some(name), Some(value)) => Ok(Some(Header { name, value })),
-        _ => Ok(None),
-    }
+    Ok(Header {
+        name: unescaped(alloc, name)?,
+        value: unescaped(alloc, value)?,
+    })
 }
 
 impl Kind for Sent {
@@ -189,9 +190,7 @@ impl Kind for Sent {
     }
 
     fn answer(&mut self, question: &[u8]) -> Result<Vec<u8>, RowsFault> {
-        match request_of(self.alloc, text_of(question))? {
-            Some(request) => answer(self.alloc, self.tell(&request)?.as_str()),
-            None => answer(self.alloc, "no request"),
-        }
+        let request = request_of(self.alloc, text_of(question))?;
+        Ok(self.tell(&request)?.into_bytes())
     }
 }

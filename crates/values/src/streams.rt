@@ -1,7 +1,7 @@
 use crate::pieces::{join, pieces_of, single_bytes, size};
-use crate::texts::{answer, text_of};
+use crate::texts::text_of;
 use couch_http::{Cutter, Ending, HttpFault, Request};
-use rows::{Joint, Kind, RowsFault, escape};
+use rows::{Joint, Kind, RowsFault, escape, push_all};
 use std::alloc::Global;
 
 /// Pieces of a stream, one a line, with escapes; `cut N TEXT` is the text in pieces of N bytes.
@@ -47,11 +47,8 @@ impl Streams {
     fn feed(&self, cutter: &mut Cutter, piece: &[u8], flow: &mut Flow) -> Result<(), RowsFault> {
         match cutter.feed(piece) {
             Ok(cut) => {
-                for request in &cut.requests {
-                    put_request(self.alloc, &mut flow.requests, request)?;
-                }
                 flow.ending = cut.ending;
-                Ok(())
+                put_requests(self.alloc, &mut flow.requests, &cut.requests)
             }
             Err(HttpFault::Closed) => {
                 flow.pieces_behind_end = flow.pieces_behind_end.saturating_add(1);
@@ -66,30 +63,57 @@ impl Streams {
         let flow = self.play(pieces)?;
         let mut text = show(self.alloc, &flow)?;
         if size(pieces) <= SHORT {
-            let bytes = join(self.alloc, pieces)?;
-            let slow = self.play(&single_bytes(self.alloc, &bytes)?)?;
-            if slow.requests.as_str() != flow.requests.as_str() || slow.ending != flow.ending {
-                text.push_str("\nbyte by byte:\n")?;
-                text.push_str(show(self.alloc, &slow)?.as_str())?;
-            }
+            self.put_slow(&mut text, pieces, &flow)?;
         }
         Ok(text)
     }
+
+    /// Adds what single bytes of the pieces come to, where that is something else.
+    fn put_slow(
+        &self,
+        text: &mut String,
+        pieces: &[Vec<u8>],
+        flow: &Flow,
+    ) -> Result<(), RowsFault> {
+        let bytes = join(self.alloc, pieces)?;
+        let slow = self.play(&single_bytes(self.alloc, &bytes)?)?;
+        if slow.requests.as_str() == flow.requests.as_str() && slow.ending == flow.ending {
+            return Ok(());
+        }
+        let slow = show(self.alloc, &slow)?;
+        push_all(text, &["\nbyte by byte:\n", slow.as_str()])
+    }
+}
+
+/// Adds the lines of requests.
+fn put_requests(alloc: Global, text: &mut String, requests: &[Request]) -> Result<(), RowsFault> {
+    for request in requests {
+        put_request(alloc, text, request)?;
+    }
+    Ok(())
 }
 
 /// Adds the line of a request.
 fn put_request(alloc: Global, text: &mut String, request: &Request) -> Result<(), RowsFault> {
-    text.push_str(request.method.as_str())?;
-    text.push(' ')?;
-    text.push_str(request.path.as_str())?;
-    if let Some(query) = &request.query {
-        text.push_str(" ? ")?;
-        text.push_str(query.as_str())?;
-    }
-    let headers = request.headers.len();
-    text.push_str(format!(in alloc; ", {headers} headers")?.as_str())?;
+    put_target(text, request)?;
+    put_count(alloc, text, request.headers.len(), "headers")?;
     put_body(alloc, text, &request.body)?;
     text.push_str(if request.last { ", last\n" } else { "\n" })?;
+    Ok(())
+}
+
+/// Adds the method of a request, its path, and its query, if it has one.
+fn put_target(text: &mut String, request: &Request) -> Result<(), RowsFault> {
+    push_all(text, &[request.method.as_str(), " ", request.path.as_str()])?;
+    match &request.query {
+        Some(query) => push_all(text, &[" ? ", query.as_str()]),
+        None => Ok(()),
+    }
+}
+
+/// Adds how many there are of something.
+fn put_count(alloc: Global, text: &mut String, count: usize, what: &str) -> Result<(), RowsFault> {
+    text.push_str(format!(in alloc; ", {count} {what}")?.as_str())?;
     Ok(())
 }
 
@@ -100,12 +124,10 @@ fn put_body(alloc: Global, text: &mut String, body: &[u8]) -> Result<(), RowsFau
         return Ok(());
     }
     if length > SHOWN {
-        text.push_str(format!(in alloc; ", {length} bytes")?.as_str())?;
-        return Ok(());
+        return put_count(alloc, text, length, "bytes");
     }
-    text.push_str(", ")?;
-    text.push_str(escape(alloc, body)?.as_str())?;
-    Ok(())
+    let body = escape(alloc, body)?;
+    push_all(text, &[", ", body.as_str()])
 }
 
 /// Returns what came of a stream as text.
@@ -131,9 +153,7 @@ impl Kind for Streams {
     }
 
     fn answer(&mut self, question: &[u8]) -> Result<Vec<u8>, RowsFault> {
-        match pieces_of(self.alloc, text_of(question))? {
-            Some(pieces) => answer(self.alloc, self.play_both(&pieces)?.as_str()),
-            None => answer(self.alloc, "a backslash that begins no escape"),
-        }
+        let pieces = pieces_of(self.alloc, text_of(question))?;
+        Ok(self.play_both(&pieces)?.into_bytes())
     }
 }

@@ -1,7 +1,7 @@
 //! Questions and answers as texts.
 
 use couch_json::{Json, JsonFault, canon, read};
-use rows::RowsFault;
+use rows::{RowsFault, escape_of, unescape};
 use std::alloc::Global;
 use std::str;
 
@@ -18,18 +18,26 @@ pub fn answer(alloc: Global, text: &str) -> Result<Vec<u8>, RowsFault> {
     Ok(Vec::from_slice(alloc, text.as_bytes())?)
 }
 
-/// Returns the value of a text, if it is JSON.
-pub fn value_of(alloc: Global, text: &str) -> Result<Option<Json>, RowsFault> {
+/// Returns the value of a text. `Refused` where it isn't JSON.
+pub fn value_of(alloc: Global, text: &str) -> Result<Json, RowsFault> {
     match read(alloc, text.as_bytes()) {
-        Ok(value) => Ok(Some(value)),
+        Ok(value) => Ok(value),
         Err(JsonFault::Memory) => Err(RowsFault::Memory),
-        Err(_) => Ok(None),
+        Err(_) => Err(RowsFault::Refused("not JSON")),
     }
 }
 
 /// Returns a value's canonical text as an answer.
 pub fn canonical(alloc: Global, value: &Json) -> Result<Vec<u8>, RowsFault> {
-    answer(alloc, canon(alloc, value)?.as_str())
+    Ok(canon(alloc, value)?.into_bytes())
+}
+
+/// Returns the bytes that a text with escapes spells. `Refused` where a backslash begins no escape.
+pub fn unescaped(alloc: Global, text: &str) -> Result<Vec<u8>, RowsFault> {
+    match unescape(alloc, text.as_bytes())? {
+        Some(bytes) => Ok(bytes),
+        None => Err(RowsFault::Refused("a backslash that begins no escape")),
+    }
 }
 
 /// Returns a text of printable ASCII that spells bytes: all others, and backslashes, stand escaped.
@@ -43,15 +51,20 @@ pub fn spell(alloc: Global, bytes: &[u8]) -> Result<String, RowsFault> {
 
 /// Adds what spells a byte.
 fn put_byte(alloc: Global, text: &mut String, byte: u8) -> Result<(), RowsFault> {
-    match byte {
-        b'\r' => text.push_str("\\r")?,
-        b'\n' => text.push_str("\\n")?,
-        b'\t' => text.push_str("\\t")?,
-        b'\\' => text.push_str("\\\\")?,
-        b' '..=b'~' => text.push(char::from(byte))?,
-        _ => text.push_str(format!(in alloc; "\\x{byte:02x}")?.as_str())?,
+    match escape_of(char::from(byte)) {
+        Some(escape) => text.push_str(escape)?,
+        None if matches!(byte, b' '..=b'~') => text.push(char::from(byte))?,
+        None => text.push_str(format!(in alloc; "\\x{byte:02x}")?.as_str())?,
     }
     Ok(())
+}
+
+/// Returns whether an edit deletes, by its first word, and what stands behind that.
+pub fn edit_of(text: &str) -> (bool, &str) {
+    match text.strip_prefix("deleted ") {
+        Some(body) => (true, body),
+        None => (false, text),
+    }
 }
 
 /// Returns the first word of a text, and what stands behind it.

@@ -1,4 +1,4 @@
-use crate::texts::{answer, text_of, two_parts};
+use crate::texts::{text_of, two_parts};
 use auth::Auth;
 use rows::{Kind, RowsFault};
 use std::alloc::Global;
@@ -12,9 +12,9 @@ pub struct Tokens {
 impl Kind for Tokens {
     fn answer(&mut self, question: &[u8]) -> Result<Vec<u8>, RowsFault> {
         let Some((secret, name)) = two_parts(question) else {
-            return answer(self.alloc, "no secret and name");
+            return Err(RowsFault::Refused("no secret and name"));
         };
         let auth = Auth::new(self.alloc, secret, &[])?;
-        answer(self.alloc, auth.token(text_of(name))?.as_str())
+        Ok(auth.token(text_of(name))?.into_bytes())
     }
 }

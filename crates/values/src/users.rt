@@ -33,38 +33,54 @@ impl Users {
         Ok(true)
     }
 
-    /// Returns the caller of this name, if the head has it.
-    pub fn caller(&self, name: &str) -> Result<Option<Caller>, RowsFault> {
+    /// Returns the caller of this name.
+    pub fn caller(&self, name: &str) -> Result<Caller, RowsFault> {
         if name == "anybody" {
-            return Ok(Some(Caller::anonymous(self.alloc)));
+            return Ok(Caller::anonymous(self.alloc));
         }
         for user in &self.users {
             if user.0.as_str() == name {
                 return caller_of(self.alloc, name, user.1.as_str());
             }
         }
-        Ok(None)
+        Err(RowsFault::Refused("the head has no such user"))
     }
 }
 
-/// Returns a caller for whom a proxy vouches; `None` where the name is none.
-fn caller_of(alloc: Global, name: &str, roles: &str) -> Result<Option<Caller>, RowsFault> {
+/// Returns a caller for whom a proxy vouches.
+fn caller_of(alloc: Global, name: &str, roles: &str) -> Result<Caller, RowsFault> {
     let auth = Auth::new(alloc, b"Jefe", &[])?;
+    let headers = headers_of(alloc, &auth, name, roles)?;
+    match auth.caller(&headers) {
+        Ok(caller) => Ok(caller),
+        Err(_) => Err(RowsFault::Refused("the head has no such user")),
+    }
+}
+
+/// Returns the headers by which a proxy vouches for a name and its roles.
+fn headers_of(
+    alloc: Global,
+    auth: &Auth,
+    name: &str,
+    roles: &str,
+) -> Result<Vec<(String, String)>, RowsFault> {
     let token = auth.token(name)?;
     let mut headers = Vec::new(alloc);
-    headers.push(header(alloc, "X-Auth-CouchDB-UserName", name)?)?;
-    headers.push(header(alloc, "X-Auth-CouchDB-Roles", roles)?)?;
-    headers.push(header(alloc, "X-Auth-CouchDB-Token", token.as_str())?)?;
-    match auth.caller(&headers) {
-        Ok(caller) => Ok(Some(caller)),
-        Err(_) => Ok(None),
-    }
+    push_header(&mut headers, alloc, "X-Auth-CouchDB-UserName", name)?;
+    push_header(&mut headers, alloc, "X-Auth-CouchDB-Roles", roles)?;
+    push_header(&mut headers, alloc, "X-Auth-CouchDB-Token", token.as_str())?;
+    Ok(headers)
 }
 
-/// Returns a header.
-fn header(alloc: Global, name: &str, value: &str) -> Result<(String, String), RowsFault> {
-    Ok((
-        String::from_str(alloc, name)?,
-        String::from_str(alloc, value)?,
-    ))
+/// Adds a header.
+fn push_header(
+    headers: &mut Vec<(String, String)>,
+    alloc: Global,
+    name: &str,
+    value: &str,
+) -> Result<(), RowsFault> {
+    let name = String::from_str(alloc, name)?;
+    let value = String::from_str(alloc, value)?;
+    headers.push((name, value))?;
+    Ok(())
 }
