@@ -1,5 +1,5 @@
 -- What the statements on databases mean.
-use Rattle.std.proofs.Common.{◌≡◌, ℕ, ℤ, pos, List, [], ◌∷◌, map, filter, codes, true, false, not, Ok, Err, Result, IfOk, OnOk, bytes_eq, refl, ap, ap₂, subst, drop, ◌∙◌, ◌≢◌, is_eq, Equal}
+use Rattle.std.proofs.Common.{◌≡◌, ℕ, ℤ, pos, List, [], ◌∷◌, map, filter, codes, true, false, not, Ok, Err, Result, IfErr, IfOk, OnOk, ◌⊎◌, bytes_eq, refl, ap, ap₂, subst, drop, ◌∙◌, ◌≢◌, is_eq, Equal}
 use Rattle.std.specs.List.{AllByRecursion, list_all}
 use Rattle.sqlite_value.specs.declared.value.Value.TheVariants.{Null, Int, Text, Blob}
 use Rattle.sqlite_value.specs.Order.{Row, column}
@@ -21,7 +21,10 @@ use Rattle.sqlite_schema.specs.declared.command.Command.TheVariants.{Insert, Del
 use Rattle.sqlite_schema.specs.declared.command.Source.TheVariants.{Values}
 use Rattle.sqlite_tied.specs.Compute.{everything}
 use Rattle.sqlite.specs.Listing.{understood, reads_listing}
-use Rattle.sqlite.specs.State.{State, Shown}
+use Rattle.sqlite.specs.State.{State, Shown, FailsToQuery}
+use Rattle.sqlite.specs.declared.error.Error.{Error}
+use Rattle.tables.proofs.Failures.{IsWhole, looks_fail}
+use Rattle.tables.specs.Causes.{IsFault, IsInterrupted}
 use Rattle.tables.proofs.Cells.{is_param, same_int, same_blob, cast_null, cast_int}
 use Rattle.tables.proofs.Deletes.{deletes_where}
 use Rattle.tables.proofs.Finds.{finds_one}
@@ -103,6 +106,13 @@ pub finds_database : {X E : Type 0} (old new : State) → IsStore old.now → (n
 finds_database old new is name r items h =
     finds_one schema old new is.schema_is find_text dbs_tree with_name (col 1 0 ∷ col 1 3 ∷ col 1 4 ∷ []) (codes "num" ∷ codes "sec" ∷ codes "seq" ∷ []) find_is find_unlisted (Blob name ∷ []) (is_named name) shown_database
     refl (λ r. refl) (tests_name name _ (databases_laid old.now.trees is.laid)) (one_named (old.now.trees dbs_tree) is.laid.names_apart name) r items h
+
+find_whole : IsWhole schema find_text 1
+unfolding understood everything
+find_whole = record { ends = refl; given = refl }
+
+pub find_fails : {X : Type 0} (old new : State) → old.now.schema ≡ schema → (name : List ℕ) (r : Result X Error) → IfErr r (FailsToQuery find_text (Blob name ∷ []) old new) → IfErr r (λ e. IsFault old new e ⊎ IsInterrupted old e)
+find_fails old new has name r h = looks_fail schema old new has find_text dbs_tree with_name (col 1 0 ∷ col 1 3 ∷ col 1 4 ∷ []) [] (codes "num" ∷ codes "sec" ∷ codes "seq" ∷ []) find_is find_unlisted (Blob name ∷ []) find_whole refl r h
 
 cast : (name security : List ℕ) → cast_row dbs_table (Null ∷ database_cells name security (pos 0)) ≡ Null ∷ database_cells name security (pos 0)
 cast name security = λ i. cast_null i ∷ cast_null i ∷ Blob name ∷ Text security ∷ cast_int (pos 0) i ∷ []
@@ -199,3 +209,10 @@ lists_names {X} old new is r items h =
     (lists schema old new is.schema_is names_text dbs_tree [] (col 1 2 ∷ []) name_order (codes "name" ∷ []) names_is names_unlisted [] (λ x. true) shown_name IsOne by_name (λ a b. name_of a ≢ name_of b)
     names_agree (λ a b k l p q apart. names_apart a b apart) refl (λ x. refl) (all_of (λ x. true ≡ true) (λ x. refl) (old.now.trees dbs_tree))
     (databases_laid old.now.trees is.laid).each is.laid.names_apart r items h)
+
+names_whole : IsWhole schema names_text 0
+unfolding understood everything
+names_whole = record { ends = refl; given = refl }
+
+pub names_fails : {X : Type 0} (old new : State) → old.now.schema ≡ schema → (r : Result X Error) → IfErr r (FailsToQuery names_text ([]) old new) → IfErr r (λ e. IsFault old new e ⊎ IsInterrupted old e)
+names_fails old new has r h = looks_fail schema old new has names_text dbs_tree [] (col 1 2 ∷ []) name_order (codes "name" ∷ []) names_is names_unlisted ([]) names_whole refl r h

@@ -1,5 +1,5 @@
 -- What the statements on documents mean.
-use Rattle.std.proofs.Common.{◌≡◌, ℕ, ℤ, pos, List, [], ◌∷◌, map, filter, codes, Bool, true, false, not, cond, Ok, Err, Result, IfOk, OnOk, refl, sym, ap, ap₂, subst, ◌∙◌, ◌≢◌, bytes_eq, nat_cmp, int_cmp, is_eq, arith, Equal}
+use Rattle.std.proofs.Common.{◌≡◌, ℕ, ℤ, pos, List, [], ◌∷◌, map, filter, codes, Bool, true, false, not, cond, Ok, Err, Result, IfErr, IfOk, OnOk, ◌⊎◌, refl, sym, ap, ap₂, subst, ◌∙◌, ◌≢◌, bytes_eq, nat_cmp, int_cmp, is_eq, arith, Equal}
 use Rattle.sqlite_value.specs.declared.value.Value.TheVariants.{Null, Int, Text, Blob}
 use Rattle.sqlite_sql.specs.Term.{Term, lit, col}
 use Rattle.sqlite_rules.specs.Cast.{cast_row}
@@ -7,7 +7,10 @@ use Rattle.sqlite_schema.specs.declared.command.Command.TheVariants.{Insert, Del
 use Rattle.sqlite_schema.specs.declared.command.Source.TheVariants.{Values}
 use Rattle.sqlite_tied.specs.Compute.{everything}
 use Rattle.sqlite.specs.Listing.{understood, reads_listing}
-use Rattle.sqlite.specs.State.{State, Shown}
+use Rattle.sqlite.specs.State.{State, Shown, FailsToQuery}
+use Rattle.sqlite.specs.declared.error.Error.{Error}
+use Rattle.tables.proofs.Failures.{IsWhole, looks_fail}
+use Rattle.tables.specs.Causes.{IsFault, IsInterrupted}
 use Rattle.tables.proofs.Cells.{by_db, by_id, cast_null, cast_int, tests_db, tests_id}
 use Rattle.tables.proofs.Deletes.{deletes_where}
 use Rattle.tables.proofs.Finds.{finds_one}
@@ -98,6 +101,15 @@ pub finds_document : {X E : Type 0} (old new : State) → IsStore old.now → (d
 finds_document old new is db id r items h = finds_one schema old new is.schema_is find_text docs_tree by_id (col 1 3 ∷ col 1 4 ∷ col 1 5 ∷ []) (codes "seq" ∷ codes "winner" ∷ codes "del" ∷ []) find_is find_unlisted (Int db ∷ Blob id ∷ []) (is_of db id) shown_document refl (λ r. refl)
     (tests_id db id _ (docs_keyed old.now.trees is.laid)) (one_of (old.now.trees docs_tree) is.laid.ids_apart db id) r items h
 
+find_whole : IsWhole schema find_text 2
+unfolding understood everything
+find_whole = record { ends = refl; given = refl }
+
+pub find_fails : {X : Type 0} (old new : State) → old.now.schema ≡ schema → (db : ℤ) (id : List ℕ) (r : Result X Error) → IfErr r (FailsToQuery find_text (Int db ∷ Blob id ∷ []) old new)
+    → IfErr r (λ e. IsFault old new e ⊎ IsInterrupted old e)
+find_fails old new has db id r h =
+    looks_fail schema old new has find_text docs_tree by_id (col 1 3 ∷ col 1 4 ∷ col 1 5 ∷ []) [] (codes "seq" ∷ codes "winner" ∷ codes "del" ∷ []) find_is find_unlisted (Int db ∷ Blob id ∷ []) find_whole refl r h
+
 -- ---- all documents of a database, in order
 
 abbrev listed : List Term
@@ -160,6 +172,20 @@ same_db db a b p q = same_int (db_of a) db p ∙ sym (same_int (db_of b) db q)
 
 ones : (old : State) → IsStore old.now → AllByRecursion IsOne (old.now.trees docs_tree)
 ones old is = all_weaker (IsDocumentRow old.now.trees) IsOne (λ x k. k.is) (old.now.trees docs_tree) is.laid.docs
+
+ids_whole : IsWhole schema ids_text 1
+unfolding understood everything
+ids_whole = record { ends = refl; given = refl }
+
+pub ids_fails : {X : Type 0} (old new : State) → old.now.schema ≡ schema → (db : ℤ) (r : Result X Error) → IfErr r (FailsToQuery ids_text (Int db ∷ []) old new) → IfErr r (λ e. IsFault old new e ⊎ IsInterrupted old e)
+ids_fails old new has db r h = looks_fail schema old new has ids_text docs_tree by_db listed id_order headings ids_is ids_unlisted (Int db ∷ []) ids_whole refl r h
+
+sequences_whole : IsWhole schema sequences_text 1
+unfolding understood everything
+sequences_whole = record { ends = refl; given = refl }
+
+pub sequences_fails : {X : Type 0} (old new : State) → old.now.schema ≡ schema → (db : ℤ) (r : Result X Error) → IfErr r (FailsToQuery sequences_text (Int db ∷ []) old new) → IfErr r (λ e. IsFault old new e ⊎ IsInterrupted old e)
+sequences_fails old new has db r h = looks_fail schema old new has sequences_text docs_tree by_db listed sequence_order headings sequences_is sequences_unlisted (Int db ∷ []) sequences_whole refl r h
 
 module _ {X E : Type 0} (old new : State) (is : IsStore old.now) (db : ℤ) (r : Result X E) (items : X → List Row) where
   pub lists_by_id : IfOk r (λ x. Shown ids_text (Int db ∷ []) old new (items x)) → IfOk r (λ x. items x ≡ map listed_document (sort_by order.by_id (filter (is_in db) (old.now.trees docs_tree))))

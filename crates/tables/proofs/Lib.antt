@@ -15,3 +15,4 @@ pub mod Updates
 pub mod Sorted
 pub mod DatabaseStatements
 pub mod Kept
+pub mod Failures

@@ -1,5 +1,5 @@
 -- What the statements on local documents mean.
-use Rattle.std.proofs.Common.{◌≡◌, ℕ, ℤ, pos, List, [], ◌∷◌, map, filter, codes, false, not, Ok, Err, Result, IfOk, OnOk, refl, subst}
+use Rattle.std.proofs.Common.{◌≡◌, ℕ, ℤ, pos, List, [], ◌∷◌, map, filter, codes, false, not, Ok, Err, Result, IfErr, IfOk, OnOk, ◌⊎◌, refl, subst}
 use Rattle.sqlite_value.specs.declared.value.Value.TheVariants.{Null, Int, Text, Blob}
 use Rattle.sqlite_value.specs.Order.{Row}
 use Rattle.sqlite_sql.specs.Term.{Term, lit, col}
@@ -19,7 +19,10 @@ use Rattle.tables.proofs.Tables.{locals_plain, locals_keyed, one_of}
 use Rattle.tables.specs.Layout.{AreKeyed, IsStore}
 use Rattle.tables.specs.Rows.{is_in, is_of, shown_local, local_cells, with_cells}
 use Rattle.tables.specs.Steps.{Ran, Changes}
-use Rattle.sqlite.specs.State.{State, Shown}
+use Rattle.sqlite.specs.State.{State, Shown, FailsToQuery}
+use Rattle.sqlite.specs.declared.error.Error.{Error}
+use Rattle.tables.proofs.Failures.{IsWhole, looks_fail}
+use Rattle.tables.specs.Causes.{IsFault, IsInterrupted}
 use Rattle.sqlite_rules.specs.Cast.{cast_row}
 use Rattle.tables.specs.Schema.{schema, locals_tree, locals_table}
 
@@ -89,3 +92,10 @@ pub finds_local : {X E : Type 0} (old new : State) → IsStore old.now → (db :
     → IfOk r (λ x. items x ≡ map shown_local (filter (is_of db id) (old.now.trees locals_tree)))
 finds_local old new is db id r items h = finds_one schema old new is.schema_is find_text locals_tree by_id (col 1 3 ∷ col 1 4 ∷ []) (codes "n" ∷ codes "body" ∷ []) find_is find_unlisted (Int db ∷ Blob id ∷ []) (is_of db id) shown_local refl (λ r. refl)
     (tests_id db id _ (locals_keyed old.now.trees is.laid)) (one_of (old.now.trees locals_tree) is.laid.local_ids_apart db id) r items h
+
+find_whole : IsWhole schema find_text 2
+unfolding understood everything
+find_whole = record { ends = refl; given = refl }
+
+pub find_fails : {X : Type 0} (old new : State) → old.now.schema ≡ schema → (db : ℤ) (id : List ℕ) (r : Result X Error) → IfErr r (FailsToQuery find_text (Int db ∷ Blob id ∷ []) old new) → IfErr r (λ e. IsFault old new e ⊎ IsInterrupted old e)
+find_fails old new has db id r h = looks_fail schema old new has find_text locals_tree by_id (col 1 3 ∷ col 1 4 ∷ []) [] (codes "n" ∷ codes "body" ∷ []) find_is find_unlisted (Int db ∷ Blob id ∷ []) find_whole refl r h

@@ -1,5 +1,5 @@
 -- What the statements on revisions mean.
-use Rattle.std.proofs.Common.{◌≡◌, ℕ, ℤ, pos, List, [], ◌∷◌, map, filter, codes, Bool, false, not, cond, Ok, Err, Result, IfOk, OnOk, IsPermutation, refl, subst}
+use Rattle.std.proofs.Common.{◌≡◌, ℕ, ℤ, pos, List, [], ◌∷◌, map, filter, codes, Bool, false, not, cond, Ok, Err, Result, IfErr, IfOk, OnOk, ◌⊎◌, IsPermutation, refl, subst}
 use Rattle.sqlite_value.specs.declared.value.Value.{Value}
 use Rattle.sqlite_value.specs.declared.value.Value.TheVariants.{Null, Int, Text, Blob}
 use Rattle.sqlite_sql.specs.Term.{Term, lit, col}
@@ -8,7 +8,10 @@ use Rattle.sqlite_schema.specs.declared.command.Command.TheVariants.{Insert, Del
 use Rattle.sqlite_schema.specs.declared.command.Source.TheVariants.{Values}
 use Rattle.sqlite_tied.specs.Compute.{everything}
 use Rattle.sqlite.specs.Listing.{understood, reads_listing}
-use Rattle.sqlite.specs.State.{State, Shown}
+use Rattle.sqlite.specs.State.{State, Shown, FailsToQuery}
+use Rattle.sqlite.specs.declared.error.Error.{Error}
+use Rattle.tables.proofs.Failures.{IsWhole, looks_fail}
+use Rattle.tables.specs.Causes.{IsFault, IsInterrupted}
 use Rattle.tables.proofs.Cells.{by_db, by_id, cast_null, cast_int, tests_db, tests_id}
 use Rattle.tables.proofs.Deletes.{deletes_where}
 use Rattle.tables.proofs.Finds.{finds_where}
@@ -83,3 +86,10 @@ pub finds_revisions : {X E : Type 0} (old new : State) → IsStore old.now → (
     → IfOk r (λ x. IsPermutation (map shown_revision (filter (is_of db id) (old.now.trees revs_tree))) (items x))
 finds_revisions old new is db id r items h = finds_where schema old new is.schema_is find_text revs_tree by_id (col 1 3 ∷ col 1 4 ∷ col 1 5 ∷ col 1 6 ∷ col 1 7 ∷ col 1 8 ∷ []) (codes "n" ∷ codes "hash" ∷ codes "parent" ∷ codes "held" ∷ codes "del" ∷ codes "body" ∷ []) find_is find_unlisted (Int db ∷ Blob id ∷ []) (is_of db id) shown_revision refl (λ r. refl)
     (tests_id db id _ (revs_keyed old.now.trees is.laid)) r items h
+
+find_whole : IsWhole schema find_text 2
+unfolding understood everything
+find_whole = record { ends = refl; given = refl }
+
+pub find_fails : {X : Type 0} (old new : State) → old.now.schema ≡ schema → (db : ℤ) (id : List ℕ) (r : Result X Error) → IfErr r (FailsToQuery find_text (Int db ∷ Blob id ∷ []) old new) → IfErr r (λ e. IsFault old new e ⊎ IsInterrupted old e)
+find_fails old new has db id r h = looks_fail schema old new has find_text revs_tree by_id (col 1 3 ∷ col 1 4 ∷ col 1 5 ∷ col 1 6 ∷ col 1 7 ∷ col 1 8 ∷ []) [] (codes "n" ∷ codes "hash" ∷ codes "parent" ∷ codes "held" ∷ codes "del" ∷ codes "body" ∷ []) find_is find_unlisted (Int db ∷ Blob id ∷ []) find_whole refl r h

@@ -1,11 +1,13 @@
 -- What a statement leaves, over the states of a connection.
 -- This server's own words: a fact holds where the disk was clean, and what a statement does to a table is said where the schema is ours.
-use Rattle.std.specs.Prelude.{◌≡◌, ℕ, List, Result, OnOk, IfOk}
+use Rattle.std.specs.Prelude.{◌≡◌, ℕ, List, Result, ◌⊎◌, OnOk, IfOk, IfErr}
 use Rattle.sqlite_value.specs.Order.{Row}
 use Rattle.sqlite_trees.specs.declared.store.Store.{Ghosts}
 use Rattle.sqlite_trees.specs.Tree.{Trees}
 use Rattle.sqlite.specs.Held.{Held, state}
 use Rattle.sqlite.specs.State.{HasCleanDisk, IsUnchanged}
+use Rattle.sqlite.specs.declared.error.Error.{Error}
+use Rattle.tables.specs.Causes.{IsFault, IsInterrupted}
 use Rattle.tables.specs.Layout.{IsStore}
 use Rattle.tables.specs.Schema.{schema}
 use Rattle.tables.specs.Steps as steps
@@ -35,3 +37,7 @@ Stands g old new r = old.schema ≡ schema → HasCleanDisk (state g new) → On
 -- or undoes a transaction, and writes nothing
 abbrev pub Looks : {S : Type 0} → Ghosts S → Held S → Held S → Type 0
 Looks g old new = old.schema ≡ schema → steps.OnlyLooks (state g old) (state g new)
+
+-- an error of a query tells of memory, of the disk or of the connection
+abbrev pub Fails : {S X : Type 0} → Ghosts S → Held S → Held S → Result X Error → Type 0
+Fails g old new r = HasCleanDisk (state g new) → old.schema ≡ schema → IfErr r (λ e. IsFault (state g old) (state g new) e ⊎ IsInterrupted (state g old) e)

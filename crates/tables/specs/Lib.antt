@@ -1,5 +1,6 @@
 pub mod Schema
 pub mod Steps
+pub mod Causes
 pub mod Rows
 pub mod Layout
 pub mod Calls

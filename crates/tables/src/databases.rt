@@ -2,7 +2,7 @@
 
 ghost use Rattle.std.specs.Prelude.{◌≡◌, not, pos, filter, map};
 ghost use Rattle.sqlite_keyed.specs.Lists.{sort_by};
-ghost use Rattle.tables.specs.Calls.{Alters, Finds, Looks, Proceeds, Stands, Stays};
+ghost use Rattle.tables.specs.Calls.{Alters, Fails, Finds, Looks, Proceeds, Stands, Stays};
 ghost use Rattle.tables.specs.Layout.{AreDatabaseRows};
 ghost use Rattle.tables.specs.Rows.{rows_at_sequence, by_name, database_cells, has_number, is_named, rows_with_security, shown_database, shown_name, with_cells};
 ghost use Rattle.tables.specs.Schema.{dbs_tree};
@@ -14,6 +14,7 @@ use sqlite::{Alter, Connection, Error, Row, Transaction, params};
 /// and its sequence.
 pub fn database_rows<S: Alter>(conn: &mut Connection<S>, name: &[u8]) -> Result<Vec<Row>, Error>
     ensures ok { Finds S.Store conn.old conn.new (λ trees rows. rows.items ≡ map shown_database (filter (is_named name.now) (trees dbs_tree))) result }
+    ensures err { Fails S.Store conn.old conn.new result }
     ensures stands { Stands S.Store conn.old conn.new result }
     ensures looks { Looks S.Store conn.old conn.new }
 {
@@ -91,6 +92,7 @@ pub fn advance_database<S: Alter>(
 /// Returns the names of all databases, in the order of their bytes.
 pub fn name_rows<S: Alter>(conn: &mut Connection<S>) -> Result<Vec<Row>, Error>
     ensures ok { Finds S.Store conn.old conn.new (λ trees rows. rows.items ≡ map shown_name (sort_by by_name (trees dbs_tree))) result }
+    ensures err { Fails S.Store conn.old conn.new result }
     ensures stands { Stands S.Store conn.old conn.new result }
     ensures looks { Looks S.Store conn.old conn.new }
 {

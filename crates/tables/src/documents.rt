@@ -2,7 +2,7 @@
 
 ghost use Rattle.std.specs.Prelude.{◌≡◌, not, filter, map};
 ghost use Rattle.sqlite_keyed.specs.Lists.{sort_by};
-ghost use Rattle.tables.specs.Calls.{Alters, Finds, Looks, Proceeds, Stands, Stays};
+ghost use Rattle.tables.specs.Calls.{Alters, Fails, Finds, Looks, Proceeds, Stands, Stays};
 ghost use Rattle.tables.specs.Layout.{AreKeyed};
 ghost use Rattle.tables.specs.Rows.{by_id, by_sequence, is_in, is_of, listed_document, shown_document, document_cells, with_cells};
 ghost use Rattle.tables.specs.Schema.{docs_tree};
@@ -66,6 +66,7 @@ pub fn document_rows<S: Alter>(
     id: &[u8],
 ) -> Result<Vec<Row>, Error>
     ensures ok { Finds S.Store conn.old conn.new (λ trees rows. rows.items ≡ map shown_document (filter (is_of db.now id.now) (trees docs_tree))) result }
+    ensures err { Fails S.Store conn.old conn.new result }
     ensures stands { Stands S.Store conn.old conn.new result }
     ensures looks { Looks S.Store conn.old conn.new }
 {
@@ -80,6 +81,7 @@ pub fn document_rows<S: Alter>(
 /// winner and whether that is deleted.
 pub fn rows_by_id<S: Alter>(conn: &mut Connection<S>, db: &i64) -> Result<Vec<Row>, Error>
     ensures ok { Finds S.Store conn.old conn.new (λ trees rows. rows.items ≡ map listed_document (sort_by by_id (filter (is_in db.now) (trees docs_tree)))) result }
+    ensures err { Fails S.Store conn.old conn.new result }
     ensures stands { Stands S.Store conn.old conn.new result }
     ensures looks { Looks S.Store conn.old conn.new }
 {
@@ -94,6 +96,7 @@ pub fn rows_by_id<S: Alter>(conn: &mut Connection<S>, db: &i64) -> Result<Vec<Ro
 /// winner and whether that is deleted.
 pub fn rows_by_sequence<S: Alter>(conn: &mut Connection<S>, db: &i64) -> Result<Vec<Row>, Error>
     ensures ok { Finds S.Store conn.old conn.new (λ trees rows. rows.items ≡ map listed_document (sort_by by_sequence (filter (is_in db.now) (trees docs_tree)))) result }
+    ensures err { Fails S.Store conn.old conn.new result }
     ensures stands { Stands S.Store conn.old conn.new result }
     ensures looks { Looks S.Store conn.old conn.new }
 {

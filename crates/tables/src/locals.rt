@@ -1,7 +1,7 @@
 //! The rows of the local documents.
 
 ghost use Rattle.std.specs.Prelude.{◌≡◌, not, filter, map};
-ghost use Rattle.tables.specs.Calls.{Alters, Finds, Looks, Proceeds, Stands, Stays};
+ghost use Rattle.tables.specs.Calls.{Alters, Fails, Finds, Looks, Proceeds, Stands, Stays};
 ghost use Rattle.tables.specs.Layout.{AreKeyed};
 ghost use Rattle.tables.specs.Rows.{is_in, is_of, shown_local, local_cells, with_cells};
 ghost use Rattle.tables.specs.Schema.{locals_tree};
@@ -60,6 +60,7 @@ pub fn local_rows<S: Alter>(
     id: &[u8],
 ) -> Result<Vec<Row>, Error>
     ensures ok { Finds S.Store conn.old conn.new (λ trees rows. rows.items ≡ map shown_local (filter (is_of db.now id.now) (trees locals_tree))) result }
+    ensures err { Fails S.Store conn.old conn.new result }
     ensures stands { Stands S.Store conn.old conn.new result }
     ensures looks { Looks S.Store conn.old conn.new }
 {

@@ -3,7 +3,7 @@
 ghost use Rattle.std.specs.Prelude.{◌≡◌, not, filter, map, IsPermutation};
 ghost use Rattle.sqlite.specs.Values.{or_null};
 ghost use Rattle.sqlite_value.specs.declared.value.Value.TheVariants.{Text};
-ghost use Rattle.tables.specs.Calls.{Alters, Finds, Looks, Proceeds, Stands, Stays};
+ghost use Rattle.tables.specs.Calls.{Alters, Fails, Finds, Looks, Proceeds, Stands, Stays};
 ghost use Rattle.tables.specs.Layout.{AreKeyed};
 ghost use Rattle.tables.specs.Rows.{is_in, is_of, shown_revision, given_cells, with_cells};
 ghost use Rattle.tables.specs.Schema.{revs_tree};
@@ -70,6 +70,7 @@ pub fn revision_rows<S: Alter>(
     id: &[u8],
 ) -> Result<Vec<Row>, Error>
     ensures ok { Finds S.Store conn.old conn.new (λ trees rows. IsPermutation (map shown_revision (filter (is_of db.now id.now) (trees revs_tree))) rows.items) result }
+    ensures err { Fails S.Store conn.old conn.new result }
     ensures stands { Stands S.Store conn.old conn.new result }
     ensures looks { Looks S.Store conn.old conn.new }
 {
