@@ -20,7 +20,7 @@ use Rattle.sqlite.specs.State.{State, IsStatement, IsNoStatement, IsNotRun, Fail
 use Rattle.sqlite.specs.declared.error.Error.{Error}
 use Rattle.sqlite.specs.declared.error.Error.TheVariants.{SqliteFailure}
 use Rattle.sqlite.specs.declared.error.ErrorCode.TheVariants as code
-use Rattle.sqlite.proofs.Callers.{IsPlain, command_of}
+use Rattle.sqlite.proofs.Callers.{IsPlain, command_of, statement_of}
 use Rattle.tables.proofs.Queries.{program_on}
 use Rattle.tables.proofs.Writes.{IsCommand}
 use Rattle.tables.specs.Causes.{IsFault, IsInterrupted}
@@ -38,6 +38,7 @@ count_of (Err e) = 0
 pub record IsWhole (schema : Schema) (text : List ℕ) (count : ℕ) : Type 0 where
   pub ends : tail_of (understood schema text) ≡ length text
   pub given : count_of (understood schema text) ≡ count
+  pub same : statement_of text (understood schema text) ≡ text
 
 never : (r : Result Compiled CompileError) (fault : CompileError) → IsPlain r → r ≡ Err fault → ⊥
 never (Ok c) fault plain is = cc

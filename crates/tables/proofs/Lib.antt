@@ -16,3 +16,6 @@ pub mod Sorted
 pub mod DatabaseStatements
 pub mod Kept
 pub mod Failures
+pub mod Refusals
+pub mod Inserts
+pub mod Clears

@@ -1,14 +1,17 @@
 -- What a statement leaves, over the states of a connection.
 -- This server's own words: a fact holds where the disk was clean, and what a statement does to a table is said where the schema is ours.
-use Rattle.std.specs.Prelude.{◌≡◌, ℕ, List, Result, ◌⊎◌, OnOk, IfOk, IfErr}
+use Rattle.std.specs.Prelude.{◌≡◌, ℕ, Bool, not, List, [], ◌∷◌, filter, Result, ◌⊎◌, OnOk, IfOk, IfErr}
 use Rattle.sqlite_value.specs.Order.{Row}
 use Rattle.sqlite_trees.specs.declared.store.Store.{Ghosts}
+use Rattle.sqlite_value.specs.declared.value.Value.TheVariants.{Int}
 use Rattle.sqlite_trees.specs.Tree.{Trees}
+use Rattle.sqlite_schema.specs.declared.schema.Table.{Table}
 use Rattle.sqlite.specs.Held.{Held, state}
 use Rattle.sqlite.specs.State.{HasCleanDisk, IsUnchanged}
 use Rattle.sqlite.specs.declared.error.Error.{Error}
-use Rattle.tables.specs.Causes.{IsFault, IsInterrupted}
+use Rattle.tables.specs.Causes.{IsFault, IsInterrupted, IsEnded, IsRefused}
 use Rattle.tables.specs.Layout.{IsStore}
+use Rattle.tables.specs.Rows.{next_number, with_cells}
 use Rattle.tables.specs.Schema.{schema}
 use Rattle.tables.specs.Steps as steps
 
@@ -41,3 +44,18 @@ Looks g old new = old.schema ≡ schema → steps.OnlyLooks (state g old) (state
 -- an error of a query tells of memory, of the disk or of the connection
 abbrev pub Fails : {S X : Type 0} → Ghosts S → Held S → Held S → Result X Error → Type 0
 Fails g old new r = HasCleanDisk (state g new) → old.schema ≡ schema → IfErr r (λ e. IsFault (state g old) (state g new) e ⊎ IsInterrupted (state g old) e)
+
+-- an error of a change tells of them too, or that the table is refused with its new rows, of which these were put in
+abbrev pub FailsToAlter : {S X : Type 0} → Ghosts S → Table → (List Row → Type 0) → (List Row → List Row) → (List Row → List Row) → Held S → Held S → Result X Error → Type 0
+FailsToAlter g table IsFit change news old new r =
+    HasCleanDisk (state g new) → old.schema ≡ schema → IsFit ((state g old).now.trees table.tree)
+    → IfErr r (λ e. IsFault (state g old) (state g new) e ⊎ (IsEnded (state g old) e ⊎ (IsInterrupted (state g old) e
+    ⊎ IsRefused table (state g old).now.trees (change ((state g old).now.trees table.tree)) (news ((state g old).now.trees table.tree)) e)))
+
+-- the same, where one row of these cells is put in
+abbrev pub FailsToInsert : {S X : Type 0} → Ghosts S → Table → (List Row → Type 0) → Row → Held S → Held S → Result X Error → Type 0
+FailsToInsert g table IsFit cells = FailsToAlter g table IsFit (λ rows. with_cells rows cells) (λ rows. (Int (next_number rows) ∷ cells) ∷ [])
+
+-- the same, where the rows of a kind are taken out
+abbrev pub FailsToDelete : {S X : Type 0} → Ghosts S → Table → (List Row → Type 0) → (Row → Bool) → Held S → Held S → Result X Error → Type 0
+FailsToDelete g table IsFit p = FailsToAlter g table IsFit (filter (λ r. not (p r))) (λ rows. [])

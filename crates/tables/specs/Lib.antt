@@ -1,7 +1,7 @@
 pub mod Schema
-pub mod Steps
-pub mod Causes
 pub mod Rows
+pub mod Causes
+pub mod Steps
 pub mod Layout
 pub mod Calls
 pub mod Shown

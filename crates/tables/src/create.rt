@@ -4,10 +4,10 @@ ghost use Rattle.std.specs.Prelude.{◌≡◌, [], ◌∷◌, OnOk};
 ghost use Rattle.sqlite.specs.Held.{state};
 ghost use Rattle.sqlite.specs.State.{HasCleanDisk};
 ghost use Rattle.tables.specs.Schema as tables;
-ghost use Rattle.tables.specs.Calls.{Alters, Proceeds, Stays};
+ghost use Rattle.tables.specs.Calls.{Alters, FailsToInsert, Proceeds, Stays};
 ghost use Rattle.tables.specs.Layout.{AreNumbered, IsNew};
 ghost use Rattle.tables.specs.Rows.{count, with_cells};
-ghost use Rattle.tables.specs.Schema.{meta_tree};
+ghost use Rattle.tables.specs.Schema.{meta_table, meta_tree};
 ghost use Rattle.tables.specs.Steps.{AddsTable};
 
 use crate::statement::change;
@@ -92,6 +92,7 @@ fn create_locals<S: Alter>(tx: &mut Transaction<'_, S>) -> Result<(), Error>
 fn insert_version<S: Alter>(tx: &mut Transaction<'_, S>) -> Result<(), Error>
     ensures same_reference { tx.new.conn.ghost_name ≡ tx.old.conn.ghost_name }
     ensures ok { Alters S.Store meta_tree AreNumbered (λ rows. with_cells rows (count 1 ∷ [])) tx.old.conn.now tx.new.conn.now result }
+    ensures err { FailsToInsert S.Store meta_table AreNumbered (count 1 ∷ []) tx.old.conn.now tx.new.conn.now result }
     ensures inside { Stays S.Store tx.old.conn.now tx.new.conn.now result }
     ensures proceeds { Proceeds S.Store tx.old.conn.now tx.new.conn.now }
 {

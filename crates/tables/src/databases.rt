@@ -2,10 +2,10 @@
 
 ghost use Rattle.std.specs.Prelude.{◌≡◌, not, pos, filter, map};
 ghost use Rattle.sqlite_keyed.specs.Lists.{sort_by};
-ghost use Rattle.tables.specs.Calls.{Alters, Fails, Finds, Looks, Proceeds, Stands, Stays};
+ghost use Rattle.tables.specs.Calls.{Alters, Fails, FailsToDelete, FailsToInsert, Finds, Looks, Proceeds, Stands, Stays};
 ghost use Rattle.tables.specs.Layout.{AreDatabaseRows};
 ghost use Rattle.tables.specs.Rows.{rows_at_sequence, by_name, database_cells, has_number, is_named, rows_with_security, shown_database, shown_name, with_cells};
-ghost use Rattle.tables.specs.Schema.{dbs_tree};
+ghost use Rattle.tables.specs.Schema.{dbs_table, dbs_tree};
 
 use crate::statement::{change, query};
 use sqlite::{Alter, Connection, Error, Row, Transaction, params};
@@ -33,6 +33,7 @@ pub fn insert_database<S: Alter>(
 ) -> Result<(), Error>
     ensures same_reference { tx.new.conn.ghost_name ≡ tx.old.conn.ghost_name }
     ensures ok { Alters S.Store dbs_tree AreDatabaseRows (λ rows. with_cells rows (database_cells name.now security.now (pos 0))) tx.old.conn.now tx.new.conn.now result }
+    ensures err { FailsToInsert S.Store dbs_table AreDatabaseRows (database_cells name.now security.now (pos 0)) tx.old.conn.now tx.new.conn.now result }
     ensures inside { Stays S.Store tx.old.conn.now tx.new.conn.now result }
     ensures proceeds { Proceeds S.Store tx.old.conn.now tx.new.conn.now }
 {
@@ -47,6 +48,7 @@ pub fn insert_database<S: Alter>(
 pub fn delete_database<S: Alter>(tx: &mut Transaction<'_, S>, number: &i64) -> Result<(), Error>
     ensures same_reference { tx.new.conn.ghost_name ≡ tx.old.conn.ghost_name }
     ensures ok { Alters S.Store dbs_tree AreDatabaseRows (λ rows. filter (λ r. not (has_number number.now r)) rows) tx.old.conn.now tx.new.conn.now result }
+    ensures err { FailsToDelete S.Store dbs_table AreDatabaseRows (has_number number.now) tx.old.conn.now tx.new.conn.now result }
     ensures inside { Stays S.Store tx.old.conn.now tx.new.conn.now result }
     ensures proceeds { Proceeds S.Store tx.old.conn.now tx.new.conn.now }
 {

@@ -6,7 +6,7 @@ ghost use Rattle.sqlite.specs.Held.{state};
 ghost use Rattle.sqlite.specs.Listing.{understood};
 ghost use Rattle.sqlite.specs.State.{FailsToQuery, HasCleanDisk, IsUnchanged, Shown};
 ghost use Rattle.sqlite.specs.Values.{bound};
-ghost use Rattle.tables.specs.Steps.{OnlyLooks, Proceeds, Ran, StaysInside};
+ghost use Rattle.tables.specs.Steps.{FailsToRun, OnlyLooks, Proceeds, Ran, StaysInside};
 
 use sqlite::{Alter, Connection, Error, Row, Transaction};
 use sqlite_value::value::ValueRef;
@@ -20,6 +20,8 @@ pub(crate) fn change<S: Alter>(
     ensures same_reference { tx.new.conn.ghost_name ≡ tx.old.conn.ghost_name }
     ensures ok { HasCleanDisk (state S.Store tx.new.conn.now)
         → OnOk result (Ran sql.now (bound params.now) (state S.Store tx.old.conn.now) (state S.Store tx.new.conn.now)) }
+    ensures err { HasCleanDisk (state S.Store tx.new.conn.now)
+        → IfErr result (FailsToRun sql.now (bound params.now) (state S.Store tx.old.conn.now) (state S.Store tx.new.conn.now)) }
     ensures inside { HasCleanDisk (state S.Store tx.new.conn.now)
         → OnOk result (StaysInside (state S.Store tx.old.conn.now) (state S.Store tx.new.conn.now)) }
     ensures proceeds { Proceeds (state S.Store tx.old.conn.now) (state S.Store tx.new.conn.now) }
