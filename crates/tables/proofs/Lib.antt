@@ -19,3 +19,5 @@ pub mod Failures
 pub mod Refusals
 pub mod Inserts
 pub mod Clears
+pub mod Makes
+pub mod Names

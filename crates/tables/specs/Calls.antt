@@ -5,6 +5,7 @@ use Rattle.sqlite_value.specs.Order.{Row}
 use Rattle.sqlite_trees.specs.declared.store.Store.{Ghosts}
 use Rattle.sqlite_value.specs.declared.value.Value.TheVariants.{Int}
 use Rattle.sqlite_trees.specs.Tree.{Trees}
+use Rattle.sqlite_schema.specs.declared.schema.Schema.{Schema}
 use Rattle.sqlite_schema.specs.declared.schema.Table.{Table}
 use Rattle.sqlite.specs.Held.{Held, state}
 use Rattle.sqlite.specs.State.{HasCleanDisk, IsUnchanged}
@@ -51,6 +52,10 @@ FailsToAlter g table IsFit change news old new r =
     HasCleanDisk (state g new) → old.schema ≡ schema → IsFit ((state g old).now.trees table.tree)
     → IfErr r (λ e. IsFault (state g old) (state g new) e ⊎ (IsEnded (state g old) e ⊎ (IsInterrupted (state g old) e
     ⊎ IsRefused table (state g old).now.trees (change ((state g old).now.trees table.tree)) (news ((state g old).now.trees table.tree)) e)))
+
+-- where there is nothing yet, an error tells of memory, of the disk or of an ended transaction
+abbrev pub FailsToCreate : {S X : Type 0} → Ghosts S → Schema → Held S → Held S → Result X Error → Type 0
+FailsToCreate g was old new r = HasCleanDisk (state g new) → old.schema ≡ was → IfErr r (λ e. IsFault (state g old) (state g new) e ⊎ IsEnded (state g old) e)
 
 -- the same, where one row of these cells is put in
 abbrev pub FailsToInsert : {S X : Type 0} → Ghosts S → Table → (List Row → Type 0) → Row → Held S → Held S → Result X Error → Type 0
