@@ -11,5 +11,5 @@ mod statement;
 
 pub use create::create_tables;
 pub use decode::{
-    FoundDatabase, FoundDocument, RowFault, read_database, read_document, read_local,
+    FoundDatabase, FoundDocument, FoundRevision, RowFault, read_database, read_document, read_local, read_revision,
 };
