@@ -29,7 +29,7 @@ use Rattle.tables.specs.Schema.{schema}
 use Rattle.tables.specs.Steps.{FailsToRun}
 
 -- the rows that stay are refused for a key alone
-delete_refused : (db : Trees) (table : Table) (ids : List _) (left : List Row) → IsUnreferred table → without_all (db table.tree) ids ≡ left → (stop : Option Error)
+pub delete_refused : (db : Trees) (table : Table) (ids : List _) (left : List Row) → IsUnreferred table → without_all (db table.tree) ids ≡ left → (stop : Option Error)
     → StopsEdit schema db (edit_of db table ids Given 0 []) stop → IsRefused table db left [] (told stop)
 delete_refused db table ids left unreferred is stop (inl (Violates Datatype, h, same)) = absurd (cc)
 delete_refused db table ids left unreferred is stop (inl (Violates NotNull, h, same)) = absurd (cc)

@@ -27,7 +27,9 @@ use Rattle.tables.proofs.Failures.{IsWhole, looks_fail}
 use Rattle.tables.specs.Causes.{IsFault, IsEnded, IsInterrupted, IsRefused}
 use Rattle.tables.proofs.Cells.{is_param, same_int, same_blob, cast_null, cast_int}
 use Rattle.tables.proofs.Deletes.{deletes_where}
+use Rattle.sqlite_keyed.specs.Lists.{update_where}
 use Rattle.tables.proofs.Clears.{fails_to_delete}
+use Rattle.tables.proofs.Replaces.{fails_to_update}
 use Rattle.tables.proofs.Inserts.{FitsTable, IsUnreferred, fails_to_insert}
 use Rattle.tables.proofs.Finds.{finds_one}
 use Rattle.tables.proofs.Queries.{program_on}
@@ -36,7 +38,7 @@ use Rattle.tables.proofs.Tables.{meta_plain, dbs_plain, databases_laid, numbered
 use Rattle.tables.proofs.Updates.{updates_where}
 use Rattle.tables.proofs.Writes.{IsCommand, inserts}
 use Rattle.tables.specs.Layout.{AreNumbered, AreDatabaseRows, IsStore}
-use Rattle.tables.specs.Rows.{number_of, has_number, name_of, is_named, security_text, length_of, database_row, database_cells, rows_with_security, rows_at_sequence, by_name, shown_name, shown_database, count, next_number, with_cells}
+use Rattle.tables.specs.Rows.{number_of, has_number, name_of, is_named, security_text, length_of, database_row, database_cells, rows_with_security, rows_at_sequence, row_with_security, row_at_sequence, by_name, shown_name, shown_database, count, next_number, with_cells}
 use Rattle.tables.specs.Schema.{schema, meta_tree, meta_table, dbs_tree, dbs_table}
 use Rattle.tables.specs.Steps.{Ran, Changes, FailsToRun}
 
@@ -273,3 +275,27 @@ pub delete_fails : {X : Type 0} (old new : State) → old.now.schema ≡ schema 
     → IfErr r (λ e. IsFault old new e ⊎ (IsEnded old e ⊎ (IsInterrupted old e ⊎ IsRefused dbs_table old.now.trees (filter (λ l. not (has_number n l)) (old.now.trees dbs_tree)) ([]) e)))
 delete_fails old new has fit n r h =
     fails_to_delete old new has 1 dbs_table dbs_plain dbs_unreferred delete_text by_number delete_is (Int n ∷ []) delete_text_whole refl (has_number n) refl (numbered_databases _ fit) (tests_number n [] _ (numbered_databases _ fit)) r h
+
+secure_whole : IsWhole schema secure_text 2
+unfolding understood everything
+secure_whole = record { ends = refl; given = refl; same = refl }
+
+pub secure_fails : {X : Type 0} (old new : State) → old.now.schema ≡ schema → AreDatabaseRows (old.now.trees dbs_tree) → (n : ℤ) → (text : List ℕ) → (r : Result X Error) → IfErr r (FailsToRun secure_text (Int n ∷ Text text ∷ []) old new)
+    → IfErr r (λ e. IsFault old new e ⊎ (IsEnded old e ⊎ (IsInterrupted old e ⊎ IsRefused dbs_table old.now.trees (update_where (has_number n) (row_with_security text) (old.now.trees dbs_tree)) (map (row_with_security text) (filter (has_number n) (old.now.trees dbs_tree))) e)))
+secure_fails old new has laid n text r h =
+    fails_to_update 1 dbs_table dbs_plain old new has secure_text by_number (col 1 0 ∷ col 1 0 ∷ lit Null ∷ col 1 2 ∷ col 0 1 ∷ col 1 4 ∷ []) secure_is (Int n ∷ Text text ∷ []) (has_number n)
+    (shown_secured text) (row_with_security text) IsOne refl (λ x. refl) (λ x. refl) (λ x k. ap (λ y. cast_row dbs_table (drop 1 (shown_secured text y))) k ∙ cast_secured text (number_of x) (name_of x) (security_text x) (pos (length_of x))) (λ x. refl) (λ x. refl)
+    (numbered_databases _ laid) laid.each (one_numbered _ laid.rising n) (tests_number n (Text text ∷ []) _ (numbered_databases _ laid))
+    (λ x k. record { typed = λ trees. refl; present = λ trees. refl; checked = λ trees. refl }) dbs_unreferred secure_whole refl r h
+
+advance_whole : IsWhole schema advance_text 2
+unfolding understood everything
+advance_whole = record { ends = refl; given = refl; same = refl }
+
+pub advance_fails : {X : Type 0} (old new : State) → old.now.schema ≡ schema → AreDatabaseRows (old.now.trees dbs_tree) → (n : ℤ) → (sequence : ℤ) → (r : Result X Error) → IfErr r (FailsToRun advance_text (Int n ∷ Int sequence ∷ []) old new)
+    → IfErr r (λ e. IsFault old new e ⊎ (IsEnded old e ⊎ (IsInterrupted old e ⊎ IsRefused dbs_table old.now.trees (update_where (has_number n) (row_at_sequence sequence) (old.now.trees dbs_tree)) (map (row_at_sequence sequence) (filter (has_number n) (old.now.trees dbs_tree))) e)))
+advance_fails old new has laid n sequence r h =
+    fails_to_update 1 dbs_table dbs_plain old new has advance_text by_number (col 1 0 ∷ col 1 0 ∷ lit Null ∷ col 1 2 ∷ col 1 3 ∷ col 0 1 ∷ []) advance_is (Int n ∷ Int sequence ∷ []) (has_number n)
+    (shown_advanced sequence) (row_at_sequence sequence) IsOne refl (λ x. refl) (λ x. refl) (λ x k. ap (λ y. cast_row dbs_table (drop 1 (shown_advanced sequence y))) k ∙ cast_advanced sequence (number_of x) (name_of x) (security_text x) (pos (length_of x))) (λ x. refl) (λ x. refl)
+    (numbered_databases _ laid) laid.each (one_numbered _ laid.rising n) (tests_number n (Int sequence ∷ []) _ (numbered_databases _ laid))
+    (λ x k. record { typed = λ trees. refl; present = λ trees. refl; checked = λ trees. refl }) dbs_unreferred advance_whole refl r h

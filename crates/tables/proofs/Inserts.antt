@@ -1,10 +1,11 @@
 -- Why an INSERT of one row is refused.
-use Rattle.std.proofs.Common.{◌≡◌, ◌⊎◌, inl, inr, ℕ, ℤ, ◌<ℤ◌, ◌/◌, List, [], ◌∷◌, ◌++◌, length, Bool, true, false, not, ◌&&◌, ◌||◌, Option, None, Some, Result, Ok, Err, IfErr, is_eq, refl, sym, ap, ap₂, subst, ◌∙◌}
+use Rattle.std.proofs.Common.{◌≡◌, ◌⊎◌, inl, inr, ℕ, ℤ, ◌<ℤ◌, ◌/◌, List, [], ◌∷◌, ◌++◌, length, Bool, true, false, not, nat_lt, ◌&&◌, ◌||◌, Option, None, Some, Result, Ok, Err, IfErr, is_eq, refl, sym, ap, ap₂, subst, ◌∙◌}
 use Rattle.std.specs.List.{AllByRecursion, list_any}
 use Rattle.sqlite_value.specs.declared.value.Value.TheVariants.{Null, Int}
 use Rattle.sqlite_value.specs.Order.{Row, value_cmp}
 use Rattle.sqlite_value.proofs.OrderLemmas.{value_cmp-Int}
 use Rattle.sqlite_trees.specs.Tree.{Trees, rowid, put_row, with_tree}
+use Rattle.sqlite_trees.specs.View.{is_int}
 use Rattle.sqlite_sql.specs.Ops.{fits_i64}
 use Rattle.sqlite_sql.specs.Term.{Term}
 use Rattle.sqlite_typing.specs.Types.{accepts_terms}
@@ -18,7 +19,7 @@ use Rattle.sqlite_schema.specs.Rules.{Keeps, passes, references_fit, Refers}
 use Rattle.sqlite_rules.specs.declared.error.Refusal.TheVariants.{Violates, Mismatch, NoRowid, BadReference, TooDeep}
 use Rattle.sqlite_rules.specs.declared.error.Rowids.TheVariants.{Chosen}
 use Rattle.sqlite_rules.specs.Cast.{cast_row}
-use Rattle.sqlite_rules.specs.Edit.{Edit, edit_of, is_taken, with_rowid}
+use Rattle.sqlite_rules.specs.Edit.{Edit, edit_of, is_taken, with_rowid, without_all}
 use Rattle.sqlite.specs.Effect.{value_rows}
 use Rattle.sqlite.specs.State.{State}
 use Rattle.sqlite.specs.declared.error.Error.{Error}
@@ -26,7 +27,7 @@ use Rattle.sqlite_keyed.proofs.KeyedLemmas.{Less-from_lt}
 use Rattle.sqlite_keyed.proofs.ListLemmas.{all_of}
 use Rattle.tables.proofs.Failures.{IsWhole}
 use Rattle.tables.proofs.Kept.{below_next}
-use Rattle.tables.proofs.Numbered.{appends, next_is}
+use Rattle.tables.proofs.Numbered.{appends, next_is, same_whole}
 use Rattle.tables.proofs.Refusals.{StopsEdit, told, change_fails, insert_stops}
 use Rattle.tables.proofs.Writes.{IsCommand, IsPlainTable}
 use Rattle.tables.specs.Causes.{IsFault, IsEnded, IsInterrupted, IsRefused}
@@ -72,32 +73,34 @@ edit_is db table values cells is =
     ap (λ r. record { table = table; gone = []; news = with_rowid Chosen (db table.tree) r ∷ [] }) is
     ∙ ap (λ n. record { table = table; gone = []; news = (Int n ∷ cells) ∷ [] }) (next_is (db table.tree))
 
-module _ (db : Trees) (table : Table) (cells : Row) (numbered : AreNumbered (db table.tree)) (fits : FitsTable table (Int (next_number (db table.tree)) ∷ cells)) (unreferred : IsUnreferred table) where
-  abbrev rows : List Row
-  rows = db table.tree
-
-  abbrev new : Row
-  new = Int (next_number (db table.tree)) ∷ cells
-
-  put : put_row new rows ≡ with_cells rows cells
-  put = subst (λ n. put_row (Int n ∷ cells) rows ≡ rows ++ (Int n ∷ cells) ∷ []) (next_is rows) (appends rows cells numbered)
-
-  free : is_taken rows new ≡ false
-  free = none_taken rows (next_number rows) cells numbered.numbers (below_next rows numbered.rising)
-
+-- one row is put in where those of these numbers were taken out
+module _ (db : Trees) (table : Table) (gone : List ℤ) (new : Row) (target : List Row) (own : rowid new ≡ Int (number_of new)) (free : is_taken (without_all (db table.tree) gone) new ≡ false)
+    (put : put_row new (without_all (db table.tree) gone) ≡ target) (fits : FitsTable table new) (unreferred : IsUnreferred table) where
   -- the row is refused for its key, or has no room
-  pub insert_refused : (stop : Option Error) → StopsEdit schema db (edit_with table rows cells) stop → IsRefused table db (with_cells rows cells) (new ∷ []) (told stop)
-  insert_refused stop (inl (Violates Datatype, h, is)) = absurd (let a = fits.typed db in let b = alone_false _ h in cc)
-  insert_refused stop (inl (Violates NotNull, h, is)) = absurd (let a = fits.present db in let b = alone_false _ h in cc)
-  insert_refused stop (inl (Violates Check, h, is)) = absurd (let a = fits.checked db in let b = alone_false _ h in cc)
-  insert_refused stop (inl (Violates PrimaryKey, h, is)) = absurd (let a = free in let b = alone_false _ h in let c : not (is_taken rows new) ≡ true = ap not free in cc)
-  insert_refused stop (inl (Violates Unique, h, is)) = inl (ap told is, λ keeps. h (subst (λ l. Keeps Unique schema (with_tree db table.tree l)) (sym put) keeps))
-  insert_refused stop (inl (Violates ForeignKey, h, is)) = absurd h
-  insert_refused stop (inl (Mismatch, h, is)) = absurd (cc)
-  insert_refused stop (inl (NoRowid, h, is)) = inr (new, inl refl, inl (ap told is, alone_false _ h))
-  insert_refused stop (inl (BadReference, h, is)) = absurd (let a = unreferred.fits true false in cc)
-  insert_refused stop (inl (TooDeep, h, is)) = absurd h
-  insert_refused stop (inr (row, has, big, is)) = inr (row, has, inr (ap told is, big))
+  pub put_refused : (stop : Option Error) → StopsEdit schema db (record { table = table; gone = gone; news = new ∷ [] }) stop → IsRefused table db target (new ∷ []) (told stop)
+  put_refused stop (inl (Violates Datatype, h, is)) = absurd (let a = fits.typed db in let b = alone_false _ h in cc)
+  put_refused stop (inl (Violates NotNull, h, is)) = absurd (let a = fits.present db in let b = alone_false _ h in cc)
+  put_refused stop (inl (Violates Check, h, is)) = absurd (let a = fits.checked db in let b = alone_false _ h in cc)
+  put_refused stop (inl (Violates PrimaryKey, h, is)) =
+      absurd (let a = free in let b = alone_false _ h in let c : not (is_taken (without_all (db table.tree) gone) new) ≡ true = ap not free in cc)
+  put_refused stop (inl (Violates Unique, h, is)) = inl (ap told is, λ keeps. h (subst (λ l. Keeps Unique schema (with_tree db table.tree l)) (sym put) keeps))
+  put_refused stop (inl (Violates ForeignKey, h, is)) = absurd h
+  put_refused stop (inl (Mismatch, h, is)) = absurd (let a = ap is_int own in let b = alone_false _ h in cc)
+  put_refused stop (inl (NoRowid, h, is)) = inr (new, inl refl, inl (ap told is, ap fits_i64 (sym (same_whole (rowid new))) ∙ alone_false _ h))
+  put_refused stop (inl (BadReference, h, is)) = absurd (let a = unreferred.fits true (nat_lt 0 (length gone)) in cc)
+  put_refused stop (inl (TooDeep, h, is)) = absurd h
+  put_refused stop (inr (row, has, big, is)) = inr (row, has, inr (ap told is, big))
+
+module _ (db : Trees) (table : Table) (cells : Row) (numbered : AreNumbered (db table.tree)) (fits : FitsTable table (Int (next_number (db table.tree)) ∷ cells)) (unreferred : IsUnreferred table) where
+  put : put_row (Int (next_number (db table.tree)) ∷ cells) (db table.tree) ≡ with_cells (db table.tree) cells
+  put = subst (λ n. put_row (Int n ∷ cells) (db table.tree) ≡ db table.tree ++ (Int n ∷ cells) ∷ []) (next_is (db table.tree)) (appends (db table.tree) cells numbered)
+
+  free : is_taken (db table.tree) (Int (next_number (db table.tree)) ∷ cells) ≡ false
+  free = none_taken (db table.tree) (next_number (db table.tree)) cells numbered.numbers (below_next (db table.tree) numbered.rising)
+
+  pub insert_refused : (stop : Option Error) → StopsEdit schema db (edit_with table (db table.tree) cells) stop
+      → IsRefused table db (with_cells (db table.tree) cells) ((Int (next_number (db table.tree)) ∷ cells) ∷ []) (told stop)
+  insert_refused = put_refused db table [] (Int (next_number (db table.tree)) ∷ cells) (with_cells (db table.tree) cells) refl free put fits unreferred
 
 module _ (old new : State) (has : old.now.schema ≡ schema) (at : ℕ) (table : Table) (it : IsPlainTable schema at table) (unreferred : IsUnreferred table) (text : List ℕ) (terms : List Term) (width : ℕ)
     (command : IsCommand schema text (Insert at (Values terms width))) (params : Row) (whole : IsWhole schema text (length params))

@@ -21,3 +21,4 @@ pub mod Inserts
 pub mod Clears
 pub mod Makes
 pub mod Names
+pub mod Replaces

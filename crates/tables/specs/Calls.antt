@@ -1,6 +1,6 @@
 -- What a statement leaves, over the states of a connection.
 -- This server's own words: a fact holds where the disk was clean, and what a statement does to a table is said where the schema is ours.
-use Rattle.std.specs.Prelude.{◌≡◌, ℕ, Bool, not, List, [], ◌∷◌, filter, Result, ◌⊎◌, OnOk, IfOk, IfErr}
+use Rattle.std.specs.Prelude.{◌≡◌, ℕ, Bool, not, List, if◌then◌else◌, [], ◌∷◌, filter, map, Result, ◌⊎◌, OnOk, IfOk, IfErr}
 use Rattle.sqlite_value.specs.Order.{Row}
 use Rattle.sqlite_trees.specs.declared.store.Store.{Ghosts}
 use Rattle.sqlite_value.specs.declared.value.Value.TheVariants.{Int}
@@ -64,3 +64,7 @@ FailsToInsert g table IsFit cells = FailsToAlter g table IsFit (λ rows. with_ce
 -- the same, where the rows of a kind are taken out
 abbrev pub FailsToDelete : {S X : Type 0} → Ghosts S → Table → (List Row → Type 0) → (Row → Bool) → Held S → Held S → Result X Error → Type 0
 FailsToDelete g table IsFit p = FailsToAlter g table IsFit (filter (λ r. not (p r))) (λ rows. [])
+
+-- the same, where the rows of a kind become others
+abbrev pub FailsToUpdate : {S X : Type 0} → Ghosts S → Table → (List Row → Type 0) → (Row → Bool) → (Row → Row) → Held S → Held S → Result X Error → Type 0
+FailsToUpdate g table IsFit p f = FailsToAlter g table IsFit (map (λ r. if p r then f r else r)) (λ rows. map f (filter p rows))

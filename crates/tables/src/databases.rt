@@ -2,9 +2,9 @@
 
 ghost use Rattle.std.specs.Prelude.{◌≡◌, not, pos, filter, map};
 ghost use Rattle.sqlite_keyed.specs.Lists.{sort_by};
-ghost use Rattle.tables.specs.Calls.{Alters, Fails, FailsToDelete, FailsToInsert, Finds, Looks, Proceeds, Stands, Stays};
+ghost use Rattle.tables.specs.Calls.{Alters, Fails, FailsToDelete, FailsToInsert, FailsToUpdate, Finds, Looks, Proceeds, Stands, Stays};
 ghost use Rattle.tables.specs.Layout.{AreDatabaseRows};
-ghost use Rattle.tables.specs.Rows.{rows_at_sequence, by_name, database_cells, has_number, is_named, rows_with_security, shown_database, shown_name, with_cells};
+ghost use Rattle.tables.specs.Rows.{rows_at_sequence, by_name, database_cells, has_number, is_named, row_at_sequence, row_with_security, rows_with_security, shown_database, shown_name, with_cells};
 ghost use Rattle.tables.specs.Schema.{dbs_table, dbs_tree};
 
 use crate::statement::{change, query};
@@ -63,6 +63,7 @@ pub fn secure_database<S: Alter>(
 ) -> Result<(), Error>
     ensures same_reference { tx.new.conn.ghost_name ≡ tx.old.conn.ghost_name }
     ensures ok { Alters S.Store dbs_tree AreDatabaseRows (rows_with_security number.now security.now) tx.old.conn.now tx.new.conn.now result }
+    ensures err { FailsToUpdate S.Store dbs_table AreDatabaseRows (has_number number.now) (row_with_security security.now) tx.old.conn.now tx.new.conn.now result }
     ensures inside { Stays S.Store tx.old.conn.now tx.new.conn.now result }
     ensures proceeds { Proceeds S.Store tx.old.conn.now tx.new.conn.now }
 {
@@ -81,6 +82,7 @@ pub fn advance_database<S: Alter>(
 ) -> Result<(), Error>
     ensures same_reference { tx.new.conn.ghost_name ≡ tx.old.conn.ghost_name }
     ensures ok { Alters S.Store dbs_tree AreDatabaseRows (rows_at_sequence number.now sequence.now) tx.old.conn.now tx.new.conn.now result }
+    ensures err { FailsToUpdate S.Store dbs_table AreDatabaseRows (has_number number.now) (row_at_sequence sequence.now) tx.old.conn.now tx.new.conn.now result }
     ensures inside { Stays S.Store tx.old.conn.now tx.new.conn.now result }
     ensures proceeds { Proceeds S.Store tx.old.conn.now tx.new.conn.now }
 {
