@@ -22,3 +22,4 @@ pub mod Clears
 pub mod Makes
 pub mod Names
 pub mod Replaces
+pub mod MetaStatements

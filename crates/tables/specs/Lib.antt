@@ -5,3 +5,4 @@ pub mod Steps
 pub mod Layout
 pub mod Calls
 pub mod Shown
+pub mod Presence

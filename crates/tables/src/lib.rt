@@ -6,10 +6,12 @@ pub mod databases;
 mod decode;
 pub mod documents;
 pub mod locals;
+mod meta;
 pub mod revisions;
 mod statement;
 
 pub use create::create_tables;
+pub use meta::{FoundTables, is_first_version, tables_in};
 pub use decode::{
     FoundDatabase, FoundDocument, FoundRevision, RowFault, read_database, read_document, read_local, read_revision,
 };
