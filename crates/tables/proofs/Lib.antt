@@ -23,3 +23,4 @@ pub mod Makes
 pub mod Names
 pub mod Replaces
 pub mod MetaStatements
+pub mod Laid

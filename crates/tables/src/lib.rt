@@ -5,6 +5,7 @@ mod create;
 pub mod databases;
 mod decode;
 pub mod documents;
+pub mod laws;
 pub mod locals;
 mod meta;
 pub mod revisions;

@@ -1,0 +1,32 @@
+//! What follows from the definitions alone. Each function has an empty body: its contract is the law.
+
+ghost use Rattle.std.specs.Prelude.{◌≡◌, true};
+ghost use Rattle.std.specs.FinMap.{empty};
+ghost use Rattle.std.specs.List.{AllByRecursion};
+ghost use Rattle.sqlite.specs.Effect as sqlite;
+ghost use Rattle.sqlite_trees.specs.Tree.{Trees};
+ghost use Rattle.tables.specs.Layout.{IsLaid, IsNew, IsStore};
+ghost use Rattle.tables.specs.Presence.{has_all, is_first};
+ghost use Rattle.tables.specs.Rows.{contents_in, shown_database, shown_local, shown_revision};
+ghost use Rattle.tables.specs.Schema as tables;
+ghost use Rattle.tables.specs.Schema.{dbs_tree, locals_tree, meta_tree, revs_tree};
+ghost use Rattle.tables.specs.Shown.{IsShownDatabase, IsShownLocal, IsShownRevision};
+
+/// What `create_tables` makes holds a store, and no database.
+pub fn new_tables()
+    ensures store { (db : sqlite.Database) → IsNew db → IsStore db }
+    ensures nothing { (db : sqlite.Database) → IsNew db → contents_in db.trees ≡ empty }
+{}
+
+/// Tables that are laid out are told to be there, at the version of this layout.
+pub fn tables_of_a_store()
+    ensures tables { (db : sqlite.Database) → IsStore db → has_all db.schema ≡ true }
+    ensures version { (db : sqlite.Database) → IsStore db → is_first (db.trees meta_tree) ≡ true }
+{}
+
+/// No reader of a row finds a row damaged where the tables are laid out.
+pub fn rows_of_a_store()
+    ensures databases { (trees : Trees) → IsLaid trees → AllByRecursion (λ r. IsShownDatabase (shown_database r)) (trees dbs_tree) }
+    ensures revisions { (trees : Trees) → IsLaid trees → AllByRecursion (λ r. IsShownRevision (shown_revision r)) (trees revs_tree) }
+    ensures locals { (trees : Trees) → IsLaid trees → AllByRecursion (λ r. IsShownLocal (shown_local r)) (trees locals_tree) }
+{}
