@@ -1,5 +1,5 @@
 -- What the layout says of new tables and of the rows that are shown.
-use Rattle.std.proofs.Common.{◌≡◌, ◌<◌, ◌≤◌, ◌^◌, ◌-◌, ◌⊎◌, inl, inr, ℕ, ℤ, pos, List, [], ◌∷◌, map, filter, Bool, true, false, ◌&&◌, nat_le, cond, if◌then◌else◌, is_some, option_map, is_eq, Option, None, Some, Result, Ok, Err, IsTrue, refl, sym, ap, subst, ◌∙◌, arith}
+use Rattle.std.proofs.Common.{◌≡◌, ◌<◌, ◌≤◌, ◌^◌, ◌-◌, ◌⊎◌, inl, inr, ℕ, ℤ, pos, List, [], ◌∷◌, map, filter, Bool, true, false, ◌&&◌, nat_le, cond, if◌then◌else◌, is_some, option_map, is_eq, MatchOption, Option, None, Some, Result, Ok, Err, IsTrue, refl, sym, ap, subst, ◌∙◌, arith}
 use Rattle.std.proofs.lemmas.Bool.Decides.{nat_tests}
 use Rattle.std.specs.FinMap as map
 use Rattle.std.specs.List.{AllByRecursion}
@@ -10,11 +10,12 @@ use Rattle.couch_json.specs.Reading.{reading}
 use Rattle.couch_json.specs.Value as json
 use Rattle.couch_json.specs.declared.fault.JsonFault.{JsonFault}
 use Rattle.couch_json.proofs.ReadingBack.{reading-canonical}
-use Rattle.tree.specs.History.{is_known}
-use Rattle.tree.specs.Revision.{Revision, is_revision, revision_cmp, greatest_number}
+use Rattle.tree.specs.History.{HistoryContent, is_known, is_leaf, winner, IsBetter}
+use Rattle.tree.specs.Revision.{Revision, is_revision, text_of, revision_cmp, greatest_number}
 use Rattle.tree.specs.declared.entry.Entry.{Entry}
 use Rattle.tree.specs.declared.entry.Held.{Held}
 use Rattle.tree.proofs.Kept.{revision_cmp_total}
+use Rattle.tree.proofs.Leaves.{winner_is_best}
 use Rattle.tree.proofs.Revisions.{same}
 use Rattle.store.specs.Contents.{Contents}
 use Rattle.store.specs.Database.{Database}
@@ -26,12 +27,12 @@ use Rattle.sqlite_trees.specs.Tree.{Trees, IsAscending, rowid}
 use Rattle.sqlite_keyed.proofs.ListLemmas.{all-filter, all_weaker}
 use Rattle.sqlite.specs.Effect as sqlite
 use Rattle.tables.specs.Layout.{AreNumbered, IsDatabaseRow, IsDocumentRow, IsRevisionRow, IsLocalRow, IsLaid, IsStore, IsNew}
-use Rattle.tables.specs.Rows.{number_of, count_in, json_in, value_or_null, security_of, length_of, shown_database, shown_local, shown_revision, local_of, revision_of, entry_of, parent_in, parent_cell, held_in, body_cell, is_held, is_marked, is_set, is_of, db_of, id_of, history_in, contents_in, database_of, name_of}
+use Rattle.tables.specs.Rows.{number_of, count_in, json_in, value_or_null, security_of, length_of, shown_database, shown_local, shown_revision, local_of, shown_document, sequence_of, winner_text, is_gone, revision_of, entry_of, parent_in, parent_cell, held_in, body_cell, is_held, is_marked, is_set, is_of, db_of, id_of, history_in, contents_in, database_of, name_of}
 use Rattle.sqlite_schema.specs.Names.{same_name}
 use Rattle.sqlite_trees.specs.Sound.{same_name as same_text}
 use Rattle.tables.specs.Presence.{has_all}
 use Rattle.tables.specs.Schema.{schema, meta_tree, dbs_tree, docs_tree, revs_tree, locals_tree}
-use Rattle.tables.specs.Shown.{IsCount, SpellsJson, SpellsHashOf, SpellsParentOf, ShowsHeld, IsShownDatabase, IsShownLocal, IsShownRevision}
+use Rattle.tables.specs.Shown.{IsCount, SpellsRevision, SpellsJson, SpellsHashOf, SpellsParentOf, ShowsHeld, IsShownDatabase, IsShownDocument, IsShownLocal, IsShownRevision}
 
 -- ---- new tables
 
@@ -158,3 +159,36 @@ module _ (trees : Trees) (laid : AllByRecursion (IsRevisionRow trees) (trees rev
 
 pub shown_revisions : (trees : Trees) → IsLaid trees → AllByRecursion (λ r. IsShownRevision (shown_revision r)) (trees revs_tree)
 shown_revisions trees h = all_weaker (IsRevisionRow trees) (λ r. IsShownRevision (shown_revision r)) (shown_revision_is trees h.revs) (trees revs_tree) h.revs
+
+-- ---- the winner of a document
+
+same_texts : (a b : List ℕ) → ◌≡◌ {A = Option (List ℕ)} (Some a) (Some b) → a ≡ b
+same_texts a b e = cc
+
+first : (a b : Bool) → (a && b) ≡ true → a ≡ true
+first true b h = refl
+first false b h = cc
+
+winner_known : (h : HistoryContent) (w : Revision) → winner h ≡ Some w → is_known h w ≡ true
+winner_known h w is = first _ _ (subst (λ o. MatchOption o ((r : Revision) → IsTrue (is_leaf h r) → ⊥) (λ r. IsTrue (is_leaf h r) × ((s : Revision) → IsTrue (is_leaf h s) → (s ≡ r) ⊎ IsBetter h r s))) is (winner_is_best h)).0
+
+module _ (trees : Trees) (laid : AllByRecursion (IsRevisionRow trees) (trees revs_tree)) (r : Row) (k : IsDocumentRow trees r) where
+  abbrev history : HistoryContent
+  history = history_in (trees revs_tree) (db_of r) (id_of r)
+
+  shown_winner : (won : Option Revision) → winner history ≡ won → SpellsRevision (column r 4)
+  shown_winner None is = absurd (let text = sym (ap (option_map text_of) is) ∙ k.won in cc)
+  shown_winner (Some w) is =
+      let text : text_of w ≡ winner_text r = same_texts _ _ (sym (ap (option_map text_of) is) ∙ k.won) in
+      (w, known_lawful trees (trees revs_tree) (db_of r) (id_of r) w laid (winner_known history w is), ap (λ x. column x 4) k.is ∙ ap Text (sym text))
+
+  shown_document_is : IsShownDocument (shown_document r)
+  shown_document_is = record {
+    width = refl;
+    sequence = (sequence_of r, ap (λ x. column x 3) k.is);
+    winner = shown_winner (winner history) refl;
+    mark = counted (column r 5) (is_gone r) (ap (λ x. column x 5) k.is);
+  }
+
+pub shown_documents : (trees : Trees) → IsLaid trees → AllByRecursion (λ r. IsShownDocument (shown_document r)) (trees docs_tree)
+shown_documents trees h = all_weaker (IsDocumentRow trees) (λ r. IsShownDocument (shown_document r)) (shown_document_is trees h.revs) (trees docs_tree) h.docs
