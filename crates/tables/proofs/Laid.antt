@@ -51,21 +51,21 @@ holds db h =
     record {
       schema_is = h.schema_is;
       laid = record {
-          version = h.version;
-          dbs_numbered = none _ h.dbs;
-          docs_numbered = none _ h.docs;
-          revs_numbered = none _ h.revs;
-          locals_numbered = none _ h.locals;
-          dbs = subst (AllByRecursion IsDatabaseRow) (sym h.dbs) tt;
-          names_apart = subst (IsAscending _) (sym h.dbs) tt;
-          docs = subst (AllByRecursion (IsDocumentRow db.trees)) (sym h.docs) tt;
-          ids_apart = subst (IsAscending _) (sym h.docs) tt;
-          sequences_apart = subst (IsAscending _) (sym h.docs) tt;
-          revs = subst (AllByRecursion (IsRevisionRow db.trees)) (sym h.revs) tt;
-          revisions_apart = subst (IsAscending _) (sym h.revs) tt;
-          locals = subst (AllByRecursion (IsLocalRow db.trees)) (sym h.locals) tt;
-          local_ids_apart = subst (IsAscending _) (sym h.locals) tt;
-          lawful = subst (λ c. ∥ AreLawful c ∥₁) (sym (nothing db h)) ∣ (λ name d is. absurd (none_there name d is)) ∣₁;
+        version = h.version;
+        dbs_numbered = none _ h.dbs;
+        docs_numbered = none _ h.docs;
+        revs_numbered = none _ h.revs;
+        locals_numbered = none _ h.locals;
+        dbs = subst (AllByRecursion IsDatabaseRow) (sym h.dbs) tt;
+        names_apart = subst (IsAscending _) (sym h.dbs) tt;
+        docs = subst (AllByRecursion (IsDocumentRow db.trees)) (sym h.docs) tt;
+        ids_apart = subst (IsAscending _) (sym h.docs) tt;
+        sequences_apart = subst (IsAscending _) (sym h.docs) tt;
+        revs = subst (AllByRecursion (IsRevisionRow db.trees)) (sym h.revs) tt;
+        revisions_apart = subst (IsAscending _) (sym h.revs) tt;
+        locals = subst (AllByRecursion (IsLocalRow db.trees)) (sym h.locals) tt;
+        local_ids_apart = subst (IsAscending _) (sym h.locals) tt;
+        lawful = subst (λ c. ∥ AreLawful c ∥₁) (sym (nothing db h)) ∣ (λ name d is. absurd (none_there name d is)) ∣₁;
       };
     }
 
@@ -81,6 +81,7 @@ spells v is = go (reading (bytes v)) refl
   where
     own : v ≡ Text (bytes v)
     own = is ∙ ap Text (sym (ap bytes is))
+
     go : (r : Result json.Value JsonFault) → reading (bytes v) ≡ r → SpellsJson v
     go (Ok w) read = (bytes v, w, own, read)
     go (Err fault) read =

@@ -24,3 +24,4 @@ pub mod Names
 pub mod Replaces
 pub mod MetaStatements
 pub mod Laid
+pub mod Setup

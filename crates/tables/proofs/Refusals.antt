@@ -185,6 +185,7 @@ module _ (schema : Schema) (at : ℕ) (table : Table) (it : IsPlainTable schema 
     where
       stamps : stamped table params ≡ params
       stamps = ap (λ ts. params ++ eval_all ts (drop (length params - length table.stamps.formats) params ∷ [])) it.unstamped ∙ append-nil params
+
       inserts : Inserts task (Values terms width) old.now.trees (Err stop)
           → StopsShort old.step_limit stop ⊎ StopsEdit schema old.now.trees (edit_of old.now.trees table [] Chosen 0 (value_rows params width (length terms / width) terms)) stop
       inserts (inl (None, refused, is)) = absurd refused

@@ -82,25 +82,25 @@ module _ (db : Trees) (table : Table) (p : Row → Bool) (show f : Row → Row) 
   update_refused stop h =
       let made = updated_rows db table p show f P ids casts keeps owns rises each one in
       elim (few p rows one) [
-      | inl none ↦
-          let left : without_all rows [] ≡ update_where p f rows = subst (λ l. edited db (edit_of db table (ids_of (map show l)) Given 1 (map show l)) ≡ update_where p f rows) none made in
-          subst (λ l. IsRefused table db (update_where p f rows) (map f l) (told stop)) (sym none)
-          (delete_refused db table [] (update_where p f rows) unreferred left stop (subst (λ l. StopsEdit schema db (edit_of db table (ids_of (map show l)) Given 1 (map show l)) stop) none h))
-      | inr hit ↦
-          let r = hit.0 in
-          let fact : P r = (subst (AllByRecursion P) hit.1 (all-filter P p rows each)).0 in
-          let gone : without_all rows (ids_of (show r ∷ [])) ≡ filter (λ y. not (p y)) rows =
-          subst (λ l. without_all rows (ids_of (map show l)) ≡ filter (λ y. not (p y)) rows) hit.1 (removes_by show ids p rows _ rises (IsPermutation-refl _)) in
-          let put : put_row (f r) (without_all rows (ids_of (show r ∷ []))) ≡ update_where p f rows =
-          ap (λ x. put_row x (without_all rows (ids_of (show r ∷ [])))) (sym (casts r fact)) ∙ subst (λ l. edited db (edit_of db table (ids_of (map show l)) Given 1 (map show l)) ≡ update_where p f rows) hit.1 made in
-          let apart : AllByRecursion (λ y. number_of y ≢ number_of (f r)) (filter (λ y. not (p y)) rows) = subst (λ n. AllByRecursion (λ y. number_of y ≢ n) (filter (λ y. not (p y)) rows)) (sym (keeps r)) (others p rows r rises.rising hit.1) in
-          let free : is_taken (without_all rows (ids_of (show r ∷ []))) (f r) ≡ false =
-          ap (λ l. is_taken l (f r)) gone ∙ none_taken (filter (λ y. not (p y)) rows) (f r) (owns r) (all-filter _ (λ y. not (p y)) rows rises.numbers) apart in
-          let stopped : StopsEdit schema db (record { table = table; gone = ids_of (show r ∷ []); news = cast_row table (drop 1 (show r)) ∷ [] }) stop =
-          subst (λ l. StopsEdit schema db (edit_of db table (ids_of (map show l)) Given 1 (map show l)) stop) hit.1 h in
-          subst (λ l. IsRefused table db (update_where p f rows) (map f l) (told stop)) (sym hit.1)
-          (put_refused db table (ids_of (show r ∷ [])) (f r) (update_where p f rows) (owns r) free put (fits r fact) unreferred stop
-          (subst (λ x. StopsEdit schema db (record { table = table; gone = ids_of (show r ∷ []); news = x ∷ [] }) stop) (casts r fact) stopped))
+        | inl none ↦
+            let left : without_all rows [] ≡ update_where p f rows = subst (λ l. edited db (edit_of db table (ids_of (map show l)) Given 1 (map show l)) ≡ update_where p f rows) none made in
+            subst (λ l. IsRefused table db (update_where p f rows) (map f l) (told stop)) (sym none)
+            (delete_refused db table [] (update_where p f rows) unreferred left stop (subst (λ l. StopsEdit schema db (edit_of db table (ids_of (map show l)) Given 1 (map show l)) stop) none h))
+        | inr hit ↦
+            let r = hit.0 in
+            let fact : P r = (subst (AllByRecursion P) hit.1 (all-filter P p rows each)).0 in
+            let gone : without_all rows (ids_of (show r ∷ [])) ≡ filter (λ y. not (p y)) rows =
+            subst (λ l. without_all rows (ids_of (map show l)) ≡ filter (λ y. not (p y)) rows) hit.1 (removes_by show ids p rows _ rises (IsPermutation-refl _)) in
+            let put : put_row (f r) (without_all rows (ids_of (show r ∷ []))) ≡ update_where p f rows =
+            ap (λ x. put_row x (without_all rows (ids_of (show r ∷ [])))) (sym (casts r fact)) ∙ subst (λ l. edited db (edit_of db table (ids_of (map show l)) Given 1 (map show l)) ≡ update_where p f rows) hit.1 made in
+            let apart : AllByRecursion (λ y. number_of y ≢ number_of (f r)) (filter (λ y. not (p y)) rows) = subst (λ n. AllByRecursion (λ y. number_of y ≢ n) (filter (λ y. not (p y)) rows)) (sym (keeps r)) (others p rows r rises.rising hit.1) in
+            let free : is_taken (without_all rows (ids_of (show r ∷ []))) (f r) ≡ false =
+            ap (λ l. is_taken l (f r)) gone ∙ none_taken (filter (λ y. not (p y)) rows) (f r) (owns r) (all-filter _ (λ y. not (p y)) rows rises.numbers) apart in
+            let stopped : StopsEdit schema db (record { table = table; gone = ids_of (show r ∷ []); news = cast_row table (drop 1 (show r)) ∷ [] }) stop =
+            subst (λ l. StopsEdit schema db (edit_of db table (ids_of (map show l)) Given 1 (map show l)) stop) hit.1 h in
+            subst (λ l. IsRefused table db (update_where p f rows) (map f l) (told stop)) (sym hit.1)
+            (put_refused db table (ids_of (show r ∷ [])) (f r) (update_where p f rows) (owns r) free put (fits r fact) unreferred stop
+            (subst (λ x. StopsEdit schema db (record { table = table; gone = ids_of (show r ∷ []); news = x ∷ [] }) stop) (casts r fact) stopped))
       ]
 
 module _ (at : ℕ) (table : Table) (it : IsPlainTable schema at table) (old new : State) (has : old.now.schema ≡ schema) (text : List ℕ) (tests shown : List Term)

@@ -10,10 +10,10 @@ use Rattle.sqlite_schema.specs.declared.schema.Table.{Table}
 use Rattle.sqlite.specs.Held.{Held, state}
 use Rattle.sqlite.specs.State.{HasCleanDisk, IsUnchanged}
 use Rattle.sqlite.specs.declared.error.Error.{Error}
-use Rattle.tables.specs.Causes.{IsFault, IsInterrupted, IsEnded, IsRefused}
-use Rattle.tables.specs.Layout.{IsStore}
+use Rattle.tables.specs.Causes.{IsFault, IsInterrupted, IsEnded, IsRefused, LacksRoom}
+use Rattle.tables.specs.Layout.{IsStore, version_row}
 use Rattle.tables.specs.Rows.{next_number, with_cells}
-use Rattle.tables.specs.Schema.{schema}
+use Rattle.tables.specs.Schema.{schema, no_schema, meta_table}
 use Rattle.tables.specs.Steps as steps
 
 -- one table has its rows changed so, if it was fit for that; the others stay
@@ -68,3 +68,9 @@ FailsToDelete g table IsFit p = FailsToAlter g table IsFit (filter (λ r. not (p
 -- the same, where the rows of a kind become others
 abbrev pub FailsToUpdate : {S X : Type 0} → Ghosts S → Table → (List Row → Type 0) → (Row → Bool) → (Row → Row) → Held S → Held S → Result X Error → Type 0
 FailsToUpdate g table IsFit p f = FailsToAlter g table IsFit (map (λ r. if p r then f r else r)) (λ rows. map f (filter p rows))
+
+-- the same, where the row of the version is written too
+abbrev pub FailsToBegin : {S X : Type 0} → Ghosts S → Held S → Held S → Result X Error → Type 0
+FailsToBegin g old new r =
+    HasCleanDisk (state g new) → old.schema ≡ no_schema
+    → IfErr r (λ e. IsFault (state g old) (state g new) e ⊎ (IsEnded (state g old) e ⊎ (IsInterrupted (state g old) e ⊎ LacksRoom meta_table version_row e)))

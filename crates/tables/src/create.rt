@@ -4,8 +4,8 @@ ghost use Rattle.std.specs.Prelude.{◌≡◌, [], ◌∷◌, OnOk};
 ghost use Rattle.sqlite.specs.Held.{state};
 ghost use Rattle.sqlite.specs.State.{HasCleanDisk};
 ghost use Rattle.tables.specs.Schema as tables;
-ghost use Rattle.tables.specs.Calls.{Alters, FailsToCreate, FailsToInsert, Proceeds, Stays};
-ghost use Rattle.tables.specs.Layout.{AreNumbered, IsNew};
+ghost use Rattle.tables.specs.Calls.{Alters, FailsToBegin, FailsToCreate, FailsToInsert, Proceeds, Stays};
+ghost use Rattle.tables.specs.Layout.{AreNumbered, IsEmpty, IsNew};
 ghost use Rattle.tables.specs.Rows.{count, with_cells};
 ghost use Rattle.tables.specs.Schema.{meta_table, meta_tree};
 ghost use Rattle.tables.specs.Steps.{AddsTable};
@@ -104,11 +104,12 @@ fn insert_version<S: Alter>(tx: &mut Transaction<'_, S>) -> Result<(), Error>
     change(tx, "INSERT INTO meta (version) VALUES (1)", &[])
 }
 
-/// Makes all five tables, where there is none, and writes the version.
-pub fn create_tables<S: Alter>(tx: &mut Transaction<'_, S>) -> Result<(), Error>
+/// Makes all five tables, where there is none.
+fn make_tables<S: Alter>(tx: &mut Transaction<'_, S>) -> Result<(), Error>
     ensures same_reference { tx.new.conn.ghost_name ≡ tx.old.conn.ghost_name }
     ensures ok { HasCleanDisk (state S.Store tx.new.conn.now) → tx.old.conn.now.schema ≡ tables.no_schema
-        → OnOk result (IsNew (state S.Store tx.new.conn.now).now) }
+        → OnOk result (IsEmpty (state S.Store tx.new.conn.now).now) }
+    ensures err { FailsToCreate S.Store tables.no_schema tx.old.conn.now tx.new.conn.now result }
     ensures inside { Stays S.Store tx.old.conn.now tx.new.conn.now result }
     ensures proceeds { Proceeds S.Store tx.old.conn.now tx.new.conn.now }
 {
@@ -116,7 +117,18 @@ pub fn create_tables<S: Alter>(tx: &mut Transaction<'_, S>) -> Result<(), Error>
     create_dbs(tx)?;
     create_docs(tx)?;
     create_revs(tx)?;
-    create_locals(tx)?;
-    insert_version(tx)?;
-    Ok(())
+    create_locals(tx)
+}
+
+/// Makes all five tables, where there is none, and writes the version.
+pub fn create_tables<S: Alter>(tx: &mut Transaction<'_, S>) -> Result<(), Error>
+    ensures same_reference { tx.new.conn.ghost_name ≡ tx.old.conn.ghost_name }
+    ensures ok { HasCleanDisk (state S.Store tx.new.conn.now) → tx.old.conn.now.schema ≡ tables.no_schema
+        → OnOk result (IsNew (state S.Store tx.new.conn.now).now) }
+    ensures err { FailsToBegin S.Store tx.old.conn.now tx.new.conn.now result }
+    ensures inside { Stays S.Store tx.old.conn.now tx.new.conn.now result }
+    ensures proceeds { Proceeds S.Store tx.old.conn.now tx.new.conn.now }
+{
+    make_tables(tx)?;
+    insert_version(tx)
 }

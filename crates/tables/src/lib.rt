@@ -12,7 +12,8 @@ pub mod revisions;
 mod statement;
 
 pub use create::create_tables;
-pub use meta::{FoundTables, is_first_version, tables_in};
 pub use decode::{
-    FoundDatabase, FoundDocument, FoundRevision, RowFault, read_database, read_document, read_local, read_revision,
+    FoundDatabase, FoundDocument, FoundRevision, RowFault, read_database, read_document,
+    read_local, read_revision,
 };
+pub use meta::{FoundTables, is_first_version, tables_in};
