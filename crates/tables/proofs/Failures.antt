@@ -1,8 +1,8 @@
 -- Why a statement ends in an error.
-use Rattle.std.proofs.Common.{◌≡◌, ◌≢◌, ◌≤◌, ◌⊎◌, inl, inr, ℕ, zero, suc, List, [], ◌∷◌, ◌++◌, length, Bool, true, false, not, MatchBool, Option, None, Some, Result, Ok, Err, IfErr, IsSome, IsTrue, refl, sym, ap, subst, ◌∙◌, arith, append-nil, length-append}
+use Rattle.std.proofs.Common.{◌≡◌, ◌⊎◌, inl, inr, ℕ, List, [], ◌∷◌, length, true, false, Option, Result, Ok, Err, IfErr, IsSome, refl, sym, ap, subst, ◌∙◌, arith, append-nil}
 use Rattle.sqlite_value.specs.Order.{Row}
 use Rattle.sqlite_sql.specs.Term.{Term}
-use Rattle.sqlite_sql.specs.Program.{overlay, ProgramOverflows}
+use Rattle.sqlite_sql.specs.Program.{overlay}
 use Rattle.sqlite_sql.specs.Query.{end, inner}
 use Rattle.sqlite_sql.proofs.QueryLemmas.{no_fold_overflows}
 use Rattle.sqlite_value.specs.declared.keys.Key.{Key}
@@ -13,10 +13,9 @@ use Rattle.sqlite_schema.specs.declared.command.Command.{Command}
 use Rattle.sqlite_schema.specs.declared.command.Command.TheVariants.{Select}
 use Rattle.sqlite_schema.specs.declared.schema.Schema.{Schema}
 use Rattle.sqlite_schema.specs.Program.{lets_of}
-use Rattle.sqlite.specs.Clock.{timed}
-use Rattle.sqlite.specs.Effect.{Database, RefusesToRead, RefusesQuery}
+use Rattle.sqlite.specs.Effect.{Database, RefusesQuery}
 use Rattle.sqlite.specs.Listing.{understood, reads_listing, IsSourceOf}
-use Rattle.sqlite.specs.State.{State, IsStatement, IsNoStatement, IsNotRun, FailsToQuery, FailsToShow, Fails}
+use Rattle.sqlite.specs.State.{State, IsNoStatement, IsNotRun, FailsToQuery}
 use Rattle.sqlite.specs.declared.error.Error.{Error}
 use Rattle.sqlite.specs.declared.error.Error.TheVariants.{SqliteFailure}
 use Rattle.sqlite.specs.declared.error.ErrorCode.TheVariants as code

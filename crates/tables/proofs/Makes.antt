@@ -1,7 +1,7 @@
 -- Why a statement that makes a table fails.
-use Rattle.std.proofs.Common.{◌≡◌, ◌⊎◌, inl, inr, ℕ, ◌+◌, ◌*◌, ◌^◌, ◌<◌, ◌≤◌, List, [], ◌∷◌, length, codes, Bool, true, false, Option, None, Some, Result, Ok, Err, IfErr, refl, sym, ap, subst, ◌∙◌, arith, IsUtf8}
+use Rattle.std.proofs.Common.{◌≡◌, ◌⊎◌, inl, inr, ℕ, ◌+◌, ◌*◌, ◌^◌, ◌<◌, ◌≤◌, List, [], ◌∷◌, length, codes, true, false, Option, None, Some, Result, Ok, Err, IfErr, refl, sym, ap, subst, ◌∙◌, arith, IsUtf8}
 use Rattle.std.specs.Str.{is_utf8}
-use Rattle.std.specs.List.{list_all, AllByRecursion}
+use Rattle.std.specs.List.{AllByRecursion}
 use Rattle.std.proofs.lemmas.Str.{IsUtf8-from_is_utf8}
 use Rattle.sqlite_value.specs.declared.value.Value.TheVariants.{Text}
 use Rattle.sqlite_catalog.specs.Change.{created, next_tree, is_used, is_reserved, automatics}
@@ -22,7 +22,6 @@ use Rattle.sqlite.specs.declared.error.Error.{Error}
 use Rattle.tables.proofs.Creations.{Creates}
 use Rattle.tables.proofs.Failures.{IsWhole}
 use Rattle.tables.proofs.Refusals.{change_fails}
-use Rattle.tables.proofs.Writes.{IsCommand}
 use Rattle.tables.specs.Causes.{IsFault, IsEnded}
 use Rattle.tables.specs.Steps.{FailsToRun}
 

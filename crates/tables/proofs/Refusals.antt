@@ -1,17 +1,14 @@
 -- Why a change of a table ends in an error.
-use Rattle.std.proofs.Common.{◌≡◌, ◌⊎◌, inl, inr, ℕ, zero, suc, ◌/◌, List, [], ◌∷◌, ◌++◌, length, drop, Bool, true, false, ◌||◌, ◌&&◌, is_some, Option, None, Some, Result, Ok, Err, IsSome, option_map, slice_get, refl, sym, ap, subst, ◌∙◌, arith, append-nil, length-append, ap₂, subst₂, ◌-◌, cond}
+use Rattle.std.proofs.Common.{◌≡◌, ◌⊎◌, inl, inr, ℕ, zero, suc, ◌/◌, List, [], ◌∷◌, ◌++◌, length, drop, Bool, true, false, ◌||◌, is_some, Option, None, Some, Result, Ok, Err, IsSome, option_map, slice_get, refl, sym, ap, subst, ◌∙◌, arith, append-nil, length-append, ap₂, subst₂, ◌-◌, cond}
 use Rattle.sqlite_value.specs.Order.{Row}
-use Rattle.sqlite_trees.specs.declared.error.StoreError.{StoreError}
 use Rattle.sqlite_trees.specs.declared.error.StoreError.TheVariants.{OutOfMemory, Io, Corrupt, Full, Broken, Unstorable}
 use Rattle.sqlite_trees.specs.Tree.{Trees}
 use Rattle.sqlite_sql.specs.Term.{Term, col, eval_all}
-use Rattle.sqlite_value.specs.declared.keys.Key.{Key}
 use Rattle.sqlite_typing.specs.Types.{accepts_program, accepts_terms}
 use Rattle.sqlite_resolve.specs.declared.compiled.Compiled.{Compiled}
 use Rattle.sqlite_schema.specs.declared.command.Command.{Command}
 use Rattle.sqlite_schema.specs.declared.command.Command.TheVariants.{Insert, Update, Delete, CreateTable, Begin, Commit, Rollback, Release, RollbackTo}
 use Rattle.sqlite_schema.specs.declared.command.Source.TheVariants.{Values}
-use Rattle.sqlite_schema.specs.declared.program.Program.{Program}
 use Rattle.sqlite_schema.specs.declared.schema.Among.TheVariants.{All}
 use Rattle.sqlite_schema.specs.declared.schema.Keys.TheVariants.{Enforced}
 use Rattle.sqlite_schema.specs.declared.schema.Schema.{Schema}
@@ -26,10 +23,10 @@ use Rattle.sqlite_rules.specs.Edit.{Edit, edit_of, taken_by, IsRefused, IsOversi
 use Rattle.sqlite_rules.specs.Lists.{Has}
 use Rattle.sqlite.specs.Clock.{timed}
 use Rattle.sqlite.specs.Does.{Does, Concludes, OnRows, WritesRows}
-use Rattle.sqlite.specs.Effect.{Database, Answers, RefusesQuery, edit_error, value_rows, is_query}
-use Rattle.sqlite.specs.Rows.{Part, Then, Written, Task, Edited, Counts, CountsIn, Gives, Inserts, Deletes, Updates, rowids_for, count_of, stamped, sequence}
+use Rattle.sqlite.specs.Effect.{Answers, edit_error, value_rows, is_query}
+use Rattle.sqlite.specs.Rows.{Part, Then, Written, Task, Edited, Inserts, Deletes, Updates, rowids_for, count_of, stamped}
 use Rattle.sqlite.specs.Listing.{understood}
-use Rattle.sqlite.specs.State.{State, Escapes, EndsScope, IsMisplaced, ExecutesIn, ExecutesInside, RunsCommand, MayChange, mode_of, text_of, is_pragma, shows_rows, store_error}
+use Rattle.sqlite.specs.State.{State, Escapes, EndsScope, IsMisplaced, ExecutesIn, RunsCommand, mode_of, text_of, is_pragma, shows_rows}
 use Rattle.sqlite.specs.declared.error.Error.{Error}
 use Rattle.sqlite.specs.declared.error.Error.TheVariants.{SqliteFailure}
 use Rattle.sqlite.specs.declared.error.ErrorCode.TheVariants as code
@@ -37,7 +34,7 @@ use Rattle.sqlite.proofs.Callers.{IsPlain, command_of, statement_of}
 use Rattle.tables.proofs.Failures.{IsWhole, unrun, refuses_query}
 use Rattle.tables.proofs.Queries.{program_on}
 use Rattle.tables.proofs.Writes.{IsCommand, IsPlainTable, at_place, task_of}
-use Rattle.tables.specs.Causes.{IsFault, IsInterrupted, IsEnded}
+use Rattle.tables.specs.Causes.{IsFault, IsEnded}
 use Rattle.tables.specs.Steps.{FailsToRun}
 
 -- a command that changes rows or makes a table

@@ -1,5 +1,5 @@
 -- Why an UPDATE of one row is refused.
-use Rattle.std.proofs.Common.{◌≡◌, ◌≢◌, ◌⊎◌, inl, inr, ℕ, ℤ, ◌<ℤ◌, List, [], ◌∷◌, map, filter, drop, length, Bool, true, false, not, ◌||◌, cond, Option, None, Some, Result, Ok, Err, IfErr, is_eq, int_cmp, refl, sym, ap, ap₂, subst, ◌∙◌, arith}
+use Rattle.std.proofs.Common.{◌≡◌, ◌≢◌, ◌⊎◌, inl, inr, ℕ, ℤ, ◌<ℤ◌, List, [], ◌∷◌, map, filter, drop, length, Bool, true, false, not, ◌||◌, cond, Option, Result, Ok, Err, IfErr, is_eq, int_cmp, refl, sym, ap, ap₂, subst, ◌∙◌, arith}
 use Rattle.std.specs.List.{AllByRecursion, list_all}
 use Rattle.std.proofs.lemmas.Int.{ints}
 use Rattle.std.proofs.lemmas.List.Sorted.{IsPermutation-refl}
@@ -16,7 +16,7 @@ use Rattle.sqlite_schema.specs.Program.{lets_of}
 use Rattle.sqlite_rules.specs.declared.error.Rowids.TheVariants.{Given}
 use Rattle.sqlite_rules.specs.Calls.{ids_of}
 use Rattle.sqlite_rules.specs.Cast.{cast_row}
-use Rattle.sqlite_rules.specs.Edit.{edit_of, edited, is_taken, without_all, numbered}
+use Rattle.sqlite_rules.specs.Edit.{edit_of, edited, is_taken, without_all}
 use Rattle.sqlite_keyed.specs.Keyed.{IsKeyedBy}
 use Rattle.sqlite_keyed.specs.Lists.{update_where}
 use Rattle.sqlite_keyed.proofs.ListLemmas.{all-filter, all_weaker}

@@ -1,6 +1,6 @@
 -- Which of the tables a schema has, and whether the version is that of this layout.
 -- This server's own: tables go by their names, and there is one row of the version.
-use Rattle.std.specs.Prelude.{Bool, true, false, ℕ, pos, List, [], ◌∷◌, codes, is_some}
+use Rattle.std.specs.Prelude.{Bool, false, ℕ, pos, List, [], ◌∷◌, codes, is_some}
 use Rattle.std.specs.List.{list_all, list_any}
 use Rattle.std.specs.Ordering.{int_eq}
 use Rattle.sqlite_value.specs.Order.{Row, column}

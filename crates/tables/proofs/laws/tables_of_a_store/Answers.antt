@@ -1,4 +1,4 @@
-use Rattle.std.proofs.Common.{refl, ap, ◌∙◌}
+use Rattle.std.proofs.Common.{ap, ◌∙◌}
 use Rattle.tables.specs.Presence.{has_all}
 use Rattle.tables.proofs.Laid.{ours_has_all}
 use Rattle.tables.proofs.laws.tables_of_a_store.Goals as goal
