@@ -1,5 +1,5 @@
 -- What the statements on documents mean.
-use Rattle.std.proofs.Common.{◌≡◌, ℕ, ℤ, pos, List, [], ◌∷◌, map, filter, codes, Bool, true, false, not, cond, Ok, Err, Result, IfOk, OnOk, refl, sym, ap, ap₂, subst, ◌∙◌, ◌≢◌, bytes_eq, nat_cmp, int_cmp, is_eq, arith, Equal}
+use Rattle.std.proofs.Common.{◌≡◌, ℕ, ℤ, pos, List, [], ◌∷◌, map, filter, codes, Bool, true, false, not, cond, Ok, Err, Result, IfErr, IfOk, OnOk, ◌⊎◌, refl, sym, ap, ap₂, subst, ◌∙◌, ◌≢◌, bytes_eq, nat_cmp, int_cmp, is_eq, arith, Equal, ◌||◌, ◌&&◌}
 use Rattle.sqlite_value.specs.declared.value.Value.TheVariants.{Null, Int, Text, Blob}
 use Rattle.sqlite_sql.specs.Term.{Term, lit, col}
 use Rattle.sqlite_rules.specs.Cast.{cast_row}
@@ -7,9 +7,14 @@ use Rattle.sqlite_schema.specs.declared.command.Command.TheVariants.{Insert, Del
 use Rattle.sqlite_schema.specs.declared.command.Source.TheVariants.{Values}
 use Rattle.sqlite_tied.specs.Compute.{everything}
 use Rattle.sqlite.specs.Listing.{understood, reads_listing}
-use Rattle.sqlite.specs.State.{State, Shown}
+use Rattle.sqlite.specs.State.{State, Shown, FailsToQuery}
+use Rattle.sqlite.specs.declared.error.Error.{Error}
+use Rattle.tables.proofs.Failures.{IsWhole, looks_fail}
+use Rattle.tables.specs.Causes.{IsFault, IsEnded, IsInterrupted, IsRefused}
 use Rattle.tables.proofs.Cells.{by_db, by_id, cast_null, cast_int, tests_db, tests_id}
 use Rattle.tables.proofs.Deletes.{deletes_where}
+use Rattle.tables.proofs.Clears.{fails_to_delete}
+use Rattle.tables.proofs.Inserts.{FitsTable, IsUnreferred, fails_to_insert}
 use Rattle.tables.proofs.Finds.{finds_one}
 use Rattle.sqlite_value.specs.Order.{Row}
 use Rattle.std.specs.List.{AllByRecursion}
@@ -33,9 +38,9 @@ use Rattle.tables.proofs.Single.{one_row, fails}
 use Rattle.tables.proofs.Tables.{docs_plain, docs_keyed, one_of}
 use Rattle.tables.proofs.Writes.{IsCommand, inserts}
 use Rattle.tables.specs.Layout.{AreKeyed, IsStore, IsDocumentRow}
-use Rattle.tables.specs.Rows.{is_in, is_of, shown_document, listed_document, number_of, db_of, id_of, sequence_of, winner_text, is_gone, document_row, document_cells, with_cells}
+use Rattle.tables.specs.Rows.{is_in, is_of, shown_document, listed_document, number_of, db_of, id_of, sequence_of, winner_text, is_gone, document_row, document_cells, next_number, with_cells}
 use Rattle.tables.specs.Schema.{schema, docs_tree, docs_table}
-use Rattle.tables.specs.Steps.{Ran, Changes}
+use Rattle.tables.specs.Steps.{Ran, Changes, FailsToRun}
 
 abbrev pub insert_text : List ℕ
 insert_text = codes "INSERT INTO docs (db, id, seq, winner, del) VALUES (?1, ?2, ?3, ?4, ?5)"
@@ -97,6 +102,15 @@ pub finds_document : {X E : Type 0} (old new : State) → IsStore old.now → (d
     → IfOk r (λ x. items x ≡ map shown_document (filter (is_of db id) (old.now.trees docs_tree)))
 finds_document old new is db id r items h = finds_one schema old new is.schema_is find_text docs_tree by_id (col 1 3 ∷ col 1 4 ∷ col 1 5 ∷ []) (codes "seq" ∷ codes "winner" ∷ codes "del" ∷ []) find_is find_unlisted (Int db ∷ Blob id ∷ []) (is_of db id) shown_document refl (λ r. refl)
     (tests_id db id _ (docs_keyed old.now.trees is.laid)) (one_of (old.now.trees docs_tree) is.laid.ids_apart db id) r items h
+
+find_whole : IsWhole schema find_text 2
+unfolding understood everything
+find_whole = record { ends = refl; given = refl; same = refl }
+
+pub find_fails : {X : Type 0} (old new : State) → old.now.schema ≡ schema → (db : ℤ) (id : List ℕ) (r : Result X Error) → IfErr r (FailsToQuery find_text (Int db ∷ Blob id ∷ []) old new)
+    → IfErr r (λ e. IsFault old new e ⊎ IsInterrupted old e)
+find_fails old new has db id r h =
+    looks_fail schema old new has find_text docs_tree by_id (col 1 3 ∷ col 1 4 ∷ col 1 5 ∷ []) [] (codes "seq" ∷ codes "winner" ∷ codes "del" ∷ []) find_is find_unlisted (Int db ∷ Blob id ∷ []) find_whole refl r h
 
 -- ---- all documents of a database, in order
 
@@ -161,6 +175,20 @@ same_db db a b p q = same_int (db_of a) db p ∙ sym (same_int (db_of b) db q)
 ones : (old : State) → IsStore old.now → AllByRecursion IsOne (old.now.trees docs_tree)
 ones old is = all_weaker (IsDocumentRow old.now.trees) IsOne (λ x k. k.is) (old.now.trees docs_tree) is.laid.docs
 
+ids_whole : IsWhole schema ids_text 1
+unfolding understood everything
+ids_whole = record { ends = refl; given = refl; same = refl }
+
+pub ids_fails : {X : Type 0} (old new : State) → old.now.schema ≡ schema → (db : ℤ) (r : Result X Error) → IfErr r (FailsToQuery ids_text (Int db ∷ []) old new) → IfErr r (λ e. IsFault old new e ⊎ IsInterrupted old e)
+ids_fails old new has db r h = looks_fail schema old new has ids_text docs_tree by_db listed id_order headings ids_is ids_unlisted (Int db ∷ []) ids_whole refl r h
+
+sequences_whole : IsWhole schema sequences_text 1
+unfolding understood everything
+sequences_whole = record { ends = refl; given = refl; same = refl }
+
+pub sequences_fails : {X : Type 0} (old new : State) → old.now.schema ≡ schema → (db : ℤ) (r : Result X Error) → IfErr r (FailsToQuery sequences_text (Int db ∷ []) old new) → IfErr r (λ e. IsFault old new e ⊎ IsInterrupted old e)
+sequences_fails old new has db r h = looks_fail schema old new has sequences_text docs_tree by_db listed sequence_order headings sequences_is sequences_unlisted (Int db ∷ []) sequences_whole refl r h
+
 module _ {X E : Type 0} (old new : State) (is : IsStore old.now) (db : ℤ) (r : Result X E) (items : X → List Row) where
   pub lists_by_id : IfOk r (λ x. Shown ids_text (Int db ∷ []) old new (items x)) → IfOk r (λ x. items x ≡ map listed_document (sort_by order.by_id (filter (is_in db) (old.now.trees docs_tree))))
   lists_by_id h =
@@ -174,3 +202,45 @@ module _ {X E : Type 0} (old new : State) (is : IsStore old.now) (db : ℤ) (r :
       (λ a b. db_of a ≡ db_of b → sequence_of a ≢ sequence_of b)
       sequences_agree (λ a b k l p q apart. numbers_apart (sequence_of a) (sequence_of b) (apart (same_db db a b p q))) refl (λ x. refl) (tests_db db _ (docs_keyed old.now.trees is.laid)) (ones old is)
       is.laid.sequences_apart r items h
+
+-- ---- why the changes fail
+
+insert_text_whole : IsWhole schema insert_text 5
+unfolding understood everything
+insert_text_whole = record { ends = refl; given = refl; same = refl }
+
+delete_text_whole : IsWhole schema delete_text 2
+unfolding understood everything
+delete_text_whole = record { ends = refl; given = refl; same = refl }
+
+clear_text_whole : IsWhole schema clear_text 1
+unfolding understood everything
+clear_text_whole = record { ends = refl; given = refl; same = refl }
+
+docs_unreferred : IsUnreferred docs_table
+docs_unreferred = record { fits = both }
+  where
+    both : (a b : Bool) → ((not a || true) && (not b || true)) ≡ true
+    both true true = refl
+    both true false = refl
+    both false true = refl
+    both false false = refl
+
+insert_fits : (n : ℤ) (db : ℤ) (id : List ℕ) (sequence : ℤ) (winner : List ℕ) (deleted : Bool) → FitsTable docs_table (Int n ∷ document_cells db id sequence winner deleted)
+insert_fits n db id sequence winner deleted = record { typed = λ trees. refl; present = λ trees. refl; checked = λ trees. refl }
+
+pub insert_fails : {X : Type 0} (old new : State) → old.now.schema ≡ schema → AreKeyed (old.now.trees docs_tree) → (db : ℤ) (id : List ℕ) (sequence : ℤ) (winner : List ℕ) (deleted : Bool) → (r : Result X Error) → IfErr r (FailsToRun insert_text (document_cells db id sequence winner deleted) old new)
+    → IfErr r (λ e. IsFault old new e ⊎ (IsEnded old e ⊎ (IsInterrupted old e ⊎ IsRefused docs_table old.now.trees (with_cells (old.now.trees docs_tree) (document_cells db id sequence winner deleted)) ((Int (next_number (old.now.trees docs_tree)) ∷ document_cells db id sequence winner deleted) ∷ []) e)))
+insert_fails old new has fit db id sequence winner deleted r h =
+    fails_to_insert old new has 2 docs_table docs_plain docs_unreferred insert_text values 6 insert_is (document_cells db id sequence winner deleted) insert_text_whole refl (Null ∷ document_cells db id sequence winner deleted) (document_cells db id sequence winner deleted) refl (cast db id sequence winner deleted)
+    (insert_fits _ db id sequence winner deleted) (numbered_from_keyed _ fit) r h
+
+pub delete_fails : {X : Type 0} (old new : State) → old.now.schema ≡ schema → AreKeyed (old.now.trees docs_tree) → (db : ℤ) (id : List ℕ) → (r : Result X Error) → IfErr r (FailsToRun delete_text (Int db ∷ Blob id ∷ []) old new)
+    → IfErr r (λ e. IsFault old new e ⊎ (IsEnded old e ⊎ (IsInterrupted old e ⊎ IsRefused docs_table old.now.trees (filter (λ l. not (is_of db id l)) (old.now.trees docs_tree)) ([]) e)))
+delete_fails old new has fit db id r h =
+    fails_to_delete old new has 2 docs_table docs_plain docs_unreferred delete_text by_id delete_is (Int db ∷ Blob id ∷ []) delete_text_whole refl (is_of db id) refl (numbered_from_keyed _ fit) (tests_id db id _ fit) r h
+
+pub clear_fails : {X : Type 0} (old new : State) → old.now.schema ≡ schema → AreKeyed (old.now.trees docs_tree) → (db : ℤ) → (r : Result X Error) → IfErr r (FailsToRun clear_text (Int db ∷ []) old new)
+    → IfErr r (λ e. IsFault old new e ⊎ (IsEnded old e ⊎ (IsInterrupted old e ⊎ IsRefused docs_table old.now.trees (filter (λ l. not (is_in db l)) (old.now.trees docs_tree)) ([]) e)))
+clear_fails old new has fit db r h =
+    fails_to_delete old new has 2 docs_table docs_plain docs_unreferred clear_text by_db clear_is (Int db ∷ []) clear_text_whole refl (is_in db) refl (numbered_from_keyed _ fit) (tests_db db _ fit) r h

@@ -15,3 +15,13 @@ pub mod Updates
 pub mod Sorted
 pub mod DatabaseStatements
 pub mod Kept
+pub mod Failures
+pub mod Refusals
+pub mod Inserts
+pub mod Clears
+pub mod Makes
+pub mod Names
+pub mod Replaces
+pub mod MetaStatements
+pub mod Laid
+pub mod Setup

@@ -18,7 +18,7 @@ use Rattle.std.proofs.lemmas.List.Sorted.{list_any-IsPermutation, IsPermutation-
 use Rattle.tables.specs.Layout.{AreNumbered, AreKeyed}
 use Rattle.tables.specs.Rows.{number_of, whole_in}
 
-same_whole : (v : Value) → id_in v ≡ whole_in v
+pub same_whole : (v : Value) → id_in v ≡ whole_in v
 same_whole Null = refl
 same_whole (Int n) = refl
 same_whole (Real x) = refl

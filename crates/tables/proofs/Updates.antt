@@ -6,7 +6,7 @@ use Rattle.std.proofs.lemmas.Int.{ints}
 use Rattle.std.proofs.lemmas.List.Sorted.{IsPermutation-refl}
 use Rattle.sqlite_value.specs.declared.value.Value.TheVariants.{Int}
 use Rattle.sqlite_value.specs.Order.{Row}
-use Rattle.sqlite_trees.specs.Tree.{rowid, put_row}
+use Rattle.sqlite_trees.specs.Tree.{Trees, rowid, put_row}
 use Rattle.sqlite_sql.specs.Program.{overlay}
 use Rattle.sqlite_sql.specs.Term.{Term, eval_all, holds}
 use Rattle.sqlite_rules.specs.declared.error.Rowids.TheVariants.{Given}
@@ -21,6 +21,7 @@ use Rattle.sqlite_keyed.specs.Lists.{update_where}
 use Rattle.sqlite_keyed.proofs.KeyedLemmas.{Less-from_lt}
 use Rattle.sqlite_keyed.proofs.ListLemmas.{all-filter}
 use Rattle.sqlite_keyed.proofs.WriteLemmas.{puts_update}
+use Rattle.sqlite.specs.Effect.{Answers}
 use Rattle.sqlite.specs.State.{State}
 use Rattle.tables.proofs.Numbered.{put_same, removes_by}
 use Rattle.tables.proofs.Queries.{program_on, selects}
@@ -72,21 +73,12 @@ insert_gone p (x ∷ xs) r new up found same = go (p x) refl found (insert_gone 
         ∙ ap (λ l. x ∷ l) (more one same)
         ∙ sym (ap (λ o. match_ordering o (x ∷ insert_by number_of xs new) (new ∷ xs) (new ∷ x ∷ xs)) less)
 
--- the row that passes, if there is one, becomes another of its number
-pub updates_where : {X E : Type 0} (schema : Schema) (at : ℕ) (table : Table) → IsPlainTable schema at table → (old new : State) → old.now.schema ≡ schema → (text : List ℕ) (tests shown : List Term)
-    → IsCommand schema text (Update at (program_on table.tree tests shown [])) → (params : Row) (p : Row → Bool) (show f : Row → Row) (P : Row → Type 0) → overlay old.now.trees [] table.tree ≡ old.now.trees table.tree
-    → ((r : Row) → eval_all shown (params ∷ r ∷ []) ≡ show r) → ((r : Row) → rowid (show r) ≡ rowid r) → ((r : Row) → P r → cast_row table (drop 1 (show r)) ≡ f r)
-    → ((r : Row) → number_of (f r) ≡ number_of r) → ((r : Row) → rowid (f r) ≡ Int (number_of (f r)))
-    → AreNumbered (old.now.trees table.tree) → AllByRecursion P (old.now.trees table.tree) → HasOneAtMost p (old.now.trees table.tree)
-    → AllByRecursion (λ r. list_all (holds (params ∷ r ∷ [])) tests ≡ p r) (old.now.trees table.tree)
-    → (r : Result X E) → OnOk r (Ran text params old new) → OnOk r (Changes table.tree (update_where p f (old.now.trees table.tree)) old.now new.now)
-updates_where schema at table it old new has text tests shown command params p show f P bare shows ids casts keeps owns numbered each one passes (Err e) h = tt
-updates_where schema at table it old new has text tests shown command params p show f P bare shows ids casts keeps owns numbered each one passes (Ok x) h =
-    let db = old.now.trees in
+-- what the edit of an UPDATE makes of the rows: the row that passes, if there is one, becomes another of its number
+pub updated_rows : (db : Trees) (table : Table) (p : Row → Bool) (show f : Row → Row) (P : Row → Type 0) → ((r : Row) → rowid (show r) ≡ rowid r) → ((r : Row) → P r → cast_row table (drop 1 (show r)) ≡ f r)
+    → ((r : Row) → number_of (f r) ≡ number_of r) → ((r : Row) → rowid (f r) ≡ Int (number_of (f r))) → AreNumbered (db table.tree) → AllByRecursion P (db table.tree) → HasOneAtMost p (db table.tree)
+    → edited db (edit_of db table (ids_of (map show (filter p (db table.tree)))) Given 1 (map show (filter p (db table.tree)))) ≡ update_where p f (db table.tree)
+updated_rows db table p show f P ids casts keeps owns numbered each one =
     let rows = db table.tree in
-    let done = updates schema at table it old new has text (program_on table.tree tests shown []) command params h in
-    let found : done.0 ≡ map show (filter p rows) =
-    one_order show p rows done.0 one (selects tests params p table.tree shown [] show (record { schema = schema; trees = db }) bare shows passes done.0 done.1) in
     let goal = λ (rs : List Row). edited db (edit_of db table (ids_of rs) Given 1 rs) in
     let cased : goal (map show (filter p rows)) ≡ fold (insert_by number_of) rows (map f (filter p rows)) = elim (few p rows one) [
       | inl none ↦ ap (λ l. goal (map show l)) none ∙ sym (ap (λ l. fold (insert_by number_of) rows (map f l)) none)
@@ -102,4 +94,22 @@ updates_where schema at table it old new has text tests shown command params p s
           ∙ insert_gone p rows r (f r) numbered.rising hit.1 (keeps r)
           ∙ sym (ap (λ l. fold (insert_by number_of) rows (map f l)) hit.1)
     ] in
-    subst (λ l. Changes table.tree l old.now new.now) (ap goal found ∙ cased ∙ puts_update number_of p f keeps rows numbered.rising) done.2
+    cased ∙ puts_update number_of p f keeps rows numbered.rising
+
+module _ (schema : Schema) (at : ℕ) (table : Table) (it : IsPlainTable schema at table) (old new : State) (has : old.now.schema ≡ schema) (text : List ℕ) (tests shown : List Term)
+    (command : IsCommand schema text (Update at (program_on table.tree tests shown []))) (params : Row) (p : Row → Bool) (show f : Row → Row) (P : Row → Type 0)
+    (bare : overlay old.now.trees [] table.tree ≡ old.now.trees table.tree) (shows : (r : Row) → eval_all shown (params ∷ r ∷ []) ≡ show r) (ids : (r : Row) → rowid (show r) ≡ rowid r)
+    (casts : (r : Row) → P r → cast_row table (drop 1 (show r)) ≡ f r) (keeps : (r : Row) → number_of (f r) ≡ number_of r) (owns : (r : Row) → rowid (f r) ≡ Int (number_of (f r)))
+    (numbered : AreNumbered (old.now.trees table.tree)) (each : AllByRecursion P (old.now.trees table.tree)) (one : HasOneAtMost p (old.now.trees table.tree))
+    (passes : AllByRecursion (λ r. list_all (holds (params ∷ r ∷ [])) tests ≡ p r) (old.now.trees table.tree)) where
+  -- the rows that the query of an UPDATE finds
+  pub found_rows : (rows : List Row) → Answers (record { schema = schema; trees = old.now.trees }) (program_on table.tree tests shown []) params rows → rows ≡ map show (filter p (old.now.trees table.tree))
+  found_rows rows asked =
+      one_order show p (old.now.trees table.tree) rows one (selects tests params p table.tree shown [] show (record { schema = schema; trees = old.now.trees }) bare shows passes rows asked)
+
+  pub updates_where : {X E : Type 0} (r : Result X E) → OnOk r (Ran text params old new) → OnOk r (Changes table.tree (update_where p f (old.now.trees table.tree)) old.now new.now)
+  updates_where (Err e) h = tt
+  updates_where (Ok x) h =
+      let done = updates schema at table it old new has text (program_on table.tree tests shown []) command params h in
+      let goal = λ (rs : List Row). edited old.now.trees (edit_of old.now.trees table (ids_of rs) Given 1 rs) in
+      subst (λ l. Changes table.tree l old.now new.now) (ap goal (found_rows done.0 done.1) ∙ updated_rows old.now.trees table p show f P ids casts keeps owns numbered each one) done.2

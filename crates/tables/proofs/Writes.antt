@@ -43,7 +43,7 @@ went (inr on) = on
 pub same_value : {B E : Type 0} {a b : B} → ◌≡◌ {A = Result B E} (Ok a) (Ok b) → a ≡ b
 same_value e = cc
 
-at_place : {X A : Type 0} (P : X → Part A) (o : Option X) (x : X) (out : _) → o ≡ Some x → AtPlace P o out → P x out
+pub at_place : {X A : Type 0} (P : X → Part A) (o : Option X) (x : X) (out : _) → o ≡ Some x → AtPlace P o out → P x out
 at_place P o x out is h = subst (λ q. AtPlace P q out) is h
 
 abbrev pub task_of : State → Schema → Table → Row → Task

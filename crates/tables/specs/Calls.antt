@@ -1,13 +1,19 @@
 -- What a statement leaves, over the states of a connection.
 -- This server's own words: a fact holds where the disk was clean, and what a statement does to a table is said where the schema is ours.
-use Rattle.std.specs.Prelude.{◌≡◌, ℕ, List, Result, OnOk, IfOk}
+use Rattle.std.specs.Prelude.{◌≡◌, ℕ, Bool, not, List, if◌then◌else◌, [], ◌∷◌, filter, map, Result, ◌⊎◌, OnOk, IfOk, IfErr}
 use Rattle.sqlite_value.specs.Order.{Row}
 use Rattle.sqlite_trees.specs.declared.store.Store.{Ghosts}
+use Rattle.sqlite_value.specs.declared.value.Value.TheVariants.{Int}
 use Rattle.sqlite_trees.specs.Tree.{Trees}
+use Rattle.sqlite_schema.specs.declared.schema.Schema.{Schema}
+use Rattle.sqlite_schema.specs.declared.schema.Table.{Table}
 use Rattle.sqlite.specs.Held.{Held, state}
 use Rattle.sqlite.specs.State.{HasCleanDisk, IsUnchanged}
-use Rattle.tables.specs.Layout.{IsStore}
-use Rattle.tables.specs.Schema.{schema}
+use Rattle.sqlite.specs.declared.error.Error.{Error}
+use Rattle.tables.specs.Causes.{IsFault, IsInterrupted, IsEnded, IsRefused, LacksRoom}
+use Rattle.tables.specs.Layout.{IsStore, version_row}
+use Rattle.tables.specs.Rows.{next_number, with_cells}
+use Rattle.tables.specs.Schema.{schema, no_schema, meta_table}
 use Rattle.tables.specs.Steps as steps
 
 -- one table has its rows changed so, if it was fit for that; the others stay
@@ -35,3 +41,36 @@ Stands g old new r = old.schema ≡ schema → HasCleanDisk (state g new) → On
 -- or undoes a transaction, and writes nothing
 abbrev pub Looks : {S : Type 0} → Ghosts S → Held S → Held S → Type 0
 Looks g old new = old.schema ≡ schema → steps.OnlyLooks (state g old) (state g new)
+
+-- an error of a query tells of memory, of the disk or of the connection
+abbrev pub Fails : {S X : Type 0} → Ghosts S → Held S → Held S → Result X Error → Type 0
+Fails g old new r = HasCleanDisk (state g new) → old.schema ≡ schema → IfErr r (λ e. IsFault (state g old) (state g new) e ⊎ IsInterrupted (state g old) e)
+
+-- an error of a change tells of them too, or that the table is refused with its new rows, of which these were put in
+abbrev pub FailsToAlter : {S X : Type 0} → Ghosts S → Table → (List Row → Type 0) → (List Row → List Row) → (List Row → List Row) → Held S → Held S → Result X Error → Type 0
+FailsToAlter g table IsFit change news old new r =
+    HasCleanDisk (state g new) → old.schema ≡ schema → IsFit ((state g old).now.trees table.tree)
+    → IfErr r (λ e. IsFault (state g old) (state g new) e ⊎ (IsEnded (state g old) e ⊎ (IsInterrupted (state g old) e
+    ⊎ IsRefused table (state g old).now.trees (change ((state g old).now.trees table.tree)) (news ((state g old).now.trees table.tree)) e)))
+
+-- where there is nothing yet, an error tells of memory, of the disk or of an ended transaction
+abbrev pub FailsToCreate : {S X : Type 0} → Ghosts S → Schema → Held S → Held S → Result X Error → Type 0
+FailsToCreate g was old new r = HasCleanDisk (state g new) → old.schema ≡ was → IfErr r (λ e. IsFault (state g old) (state g new) e ⊎ IsEnded (state g old) e)
+
+-- the same, where one row of these cells is put in
+abbrev pub FailsToInsert : {S X : Type 0} → Ghosts S → Table → (List Row → Type 0) → Row → Held S → Held S → Result X Error → Type 0
+FailsToInsert g table IsFit cells = FailsToAlter g table IsFit (λ rows. with_cells rows cells) (λ rows. (Int (next_number rows) ∷ cells) ∷ [])
+
+-- the same, where the rows of a kind are taken out
+abbrev pub FailsToDelete : {S X : Type 0} → Ghosts S → Table → (List Row → Type 0) → (Row → Bool) → Held S → Held S → Result X Error → Type 0
+FailsToDelete g table IsFit p = FailsToAlter g table IsFit (filter (λ r. not (p r))) (λ rows. [])
+
+-- the same, where the rows of a kind become others
+abbrev pub FailsToUpdate : {S X : Type 0} → Ghosts S → Table → (List Row → Type 0) → (Row → Bool) → (Row → Row) → Held S → Held S → Result X Error → Type 0
+FailsToUpdate g table IsFit p f = FailsToAlter g table IsFit (map (λ r. if p r then f r else r)) (λ rows. map f (filter p rows))
+
+-- the same, where the row of the version is written too
+abbrev pub FailsToBegin : {S X : Type 0} → Ghosts S → Held S → Held S → Result X Error → Type 0
+FailsToBegin g old new r =
+    HasCleanDisk (state g new) → old.schema ≡ no_schema
+    → IfErr r (λ e. IsFault (state g old) (state g new) e ⊎ (IsEnded (state g old) e ⊎ (IsInterrupted (state g old) e ⊎ LacksRoom meta_table version_row e)))

@@ -108,6 +108,15 @@ pub record IsStore (db : sqlite.Database) : Type 0 where
   pub schema_is : db.schema ≡ schema
   pub laid : IsLaid db.trees
 
+-- the tables with no row at all
+pub record IsEmpty (db : sqlite.Database) : Type 0 where
+  pub schema_is : db.schema ≡ schema
+  pub meta : db.trees meta_tree ≡ []
+  pub dbs : db.trees dbs_tree ≡ []
+  pub docs : db.trees docs_tree ≡ []
+  pub revs : db.trees revs_tree ≡ []
+  pub locals : db.trees locals_tree ≡ []
+
 -- the tables as they are made: with the version, and no other row
 pub record IsNew (db : sqlite.Database) : Type 0 where
   pub schema_is : db.schema ≡ schema

@@ -115,12 +115,19 @@ security_of r = json_in (column r 3)
 abbrev pub length_of : Row → ℕ
 length_of r = count_in (column r 4)
 
--- the rows, where the database of this number has another security object, or another sequence
+-- the row of a database with another security object, or another sequence
+abbrev pub row_with_security : List ℕ → Row → Row
+row_with_security text r = database_row (number_of r) (name_of r) text (pos (length_of r))
+
+abbrev pub row_at_sequence : ℤ → Row → Row
+row_at_sequence sequence r = database_row (number_of r) (name_of r) (security_text r) sequence
+
+-- the rows, where the database of this number has another
 abbrev pub rows_with_security : ℤ → List ℕ → List Row → List Row
-rows_with_security n text rows = map (λ r. if has_number n r then database_row (number_of r) (name_of r) text (pos (length_of r)) else r) rows
+rows_with_security n text rows = map (λ r. if has_number n r then row_with_security text r else r) rows
 
 abbrev pub rows_at_sequence : ℤ → ℤ → List Row → List Row
-rows_at_sequence n sequence rows = map (λ r. if has_number n r then database_row (number_of r) (name_of r) (security_text r) sequence else r) rows
+rows_at_sequence n sequence rows = map (λ r. if has_number n r then row_at_sequence sequence r else r) rows
 
 -- databases go by the bytes of their names
 abbrev pub by_name : Row → Row → Ordering

@@ -4,10 +4,10 @@ ghost use Rattle.std.specs.Prelude.{◌≡◌, [], ◌∷◌, OnOk};
 ghost use Rattle.sqlite.specs.Held.{state};
 ghost use Rattle.sqlite.specs.State.{HasCleanDisk};
 ghost use Rattle.tables.specs.Schema as tables;
-ghost use Rattle.tables.specs.Calls.{Alters, Proceeds, Stays};
-ghost use Rattle.tables.specs.Layout.{AreNumbered, IsNew};
+ghost use Rattle.tables.specs.Calls.{Alters, FailsToBegin, FailsToCreate, FailsToInsert, Proceeds, Stays};
+ghost use Rattle.tables.specs.Layout.{AreNumbered, IsEmpty, IsNew};
 ghost use Rattle.tables.specs.Rows.{count, with_cells};
-ghost use Rattle.tables.specs.Schema.{meta_tree};
+ghost use Rattle.tables.specs.Schema.{meta_table, meta_tree};
 ghost use Rattle.tables.specs.Steps.{AddsTable};
 
 use crate::statement::change;
@@ -18,6 +18,7 @@ fn create_meta<S: Alter>(tx: &mut Transaction<'_, S>) -> Result<(), Error>
     ensures same_reference { tx.new.conn.ghost_name ≡ tx.old.conn.ghost_name }
     ensures ok { HasCleanDisk (state S.Store tx.new.conn.now) → tx.old.conn.now.schema ≡ tables.no_schema
         → OnOk result (AddsTable tables.no_schema tables.meta (state S.Store tx.old.conn.now).now (state S.Store tx.new.conn.now).now) }
+    ensures err { FailsToCreate S.Store tables.no_schema tx.old.conn.now tx.new.conn.now result }
     ensures inside { Stays S.Store tx.old.conn.now tx.new.conn.now result }
     ensures proceeds { Proceeds S.Store tx.old.conn.now tx.new.conn.now }
 {
@@ -33,6 +34,7 @@ fn create_dbs<S: Alter>(tx: &mut Transaction<'_, S>) -> Result<(), Error>
     ensures same_reference { tx.new.conn.ghost_name ≡ tx.old.conn.ghost_name }
     ensures ok { HasCleanDisk (state S.Store tx.new.conn.now) → tx.old.conn.now.schema ≡ tables.schema_1
         → OnOk result (AddsTable tables.schema_1 tables.dbs (state S.Store tx.old.conn.now).now (state S.Store tx.new.conn.now).now) }
+    ensures err { FailsToCreate S.Store tables.schema_1 tx.old.conn.now tx.new.conn.now result }
     ensures inside { Stays S.Store tx.old.conn.now tx.new.conn.now result }
     ensures proceeds { Proceeds S.Store tx.old.conn.now tx.new.conn.now }
 {
@@ -48,6 +50,7 @@ fn create_docs<S: Alter>(tx: &mut Transaction<'_, S>) -> Result<(), Error>
     ensures same_reference { tx.new.conn.ghost_name ≡ tx.old.conn.ghost_name }
     ensures ok { HasCleanDisk (state S.Store tx.new.conn.now) → tx.old.conn.now.schema ≡ tables.schema_2
         → OnOk result (AddsTable tables.schema_2 tables.docs (state S.Store tx.old.conn.now).now (state S.Store tx.new.conn.now).now) }
+    ensures err { FailsToCreate S.Store tables.schema_2 tx.old.conn.now tx.new.conn.now result }
     ensures inside { Stays S.Store tx.old.conn.now tx.new.conn.now result }
     ensures proceeds { Proceeds S.Store tx.old.conn.now tx.new.conn.now }
 {
@@ -63,6 +66,7 @@ fn create_revs<S: Alter>(tx: &mut Transaction<'_, S>) -> Result<(), Error>
     ensures same_reference { tx.new.conn.ghost_name ≡ tx.old.conn.ghost_name }
     ensures ok { HasCleanDisk (state S.Store tx.new.conn.now) → tx.old.conn.now.schema ≡ tables.schema_3
         → OnOk result (AddsTable tables.schema_3 tables.revs (state S.Store tx.old.conn.now).now (state S.Store tx.new.conn.now).now) }
+    ensures err { FailsToCreate S.Store tables.schema_3 tx.old.conn.now tx.new.conn.now result }
     ensures inside { Stays S.Store tx.old.conn.now tx.new.conn.now result }
     ensures proceeds { Proceeds S.Store tx.old.conn.now tx.new.conn.now }
 {
@@ -78,6 +82,7 @@ fn create_locals<S: Alter>(tx: &mut Transaction<'_, S>) -> Result<(), Error>
     ensures same_reference { tx.new.conn.ghost_name ≡ tx.old.conn.ghost_name }
     ensures ok { HasCleanDisk (state S.Store tx.new.conn.now) → tx.old.conn.now.schema ≡ tables.schema_4
         → OnOk result (AddsTable tables.schema_4 tables.locals (state S.Store tx.old.conn.now).now (state S.Store tx.new.conn.now).now) }
+    ensures err { FailsToCreate S.Store tables.schema_4 tx.old.conn.now tx.new.conn.now result }
     ensures inside { Stays S.Store tx.old.conn.now tx.new.conn.now result }
     ensures proceeds { Proceeds S.Store tx.old.conn.now tx.new.conn.now }
 {
@@ -92,17 +97,19 @@ fn create_locals<S: Alter>(tx: &mut Transaction<'_, S>) -> Result<(), Error>
 fn insert_version<S: Alter>(tx: &mut Transaction<'_, S>) -> Result<(), Error>
     ensures same_reference { tx.new.conn.ghost_name ≡ tx.old.conn.ghost_name }
     ensures ok { Alters S.Store meta_tree AreNumbered (λ rows. with_cells rows (count 1 ∷ [])) tx.old.conn.now tx.new.conn.now result }
+    ensures err { FailsToInsert S.Store meta_table AreNumbered (count 1 ∷ []) tx.old.conn.now tx.new.conn.now result }
     ensures inside { Stays S.Store tx.old.conn.now tx.new.conn.now result }
     ensures proceeds { Proceeds S.Store tx.old.conn.now tx.new.conn.now }
 {
     change(tx, "INSERT INTO meta (version) VALUES (1)", &[])
 }
 
-/// Makes all five tables, where there is none, and writes the version.
-pub fn create_tables<S: Alter>(tx: &mut Transaction<'_, S>) -> Result<(), Error>
+/// Makes all five tables, where there is none.
+fn make_tables<S: Alter>(tx: &mut Transaction<'_, S>) -> Result<(), Error>
     ensures same_reference { tx.new.conn.ghost_name ≡ tx.old.conn.ghost_name }
     ensures ok { HasCleanDisk (state S.Store tx.new.conn.now) → tx.old.conn.now.schema ≡ tables.no_schema
-        → OnOk result (IsNew (state S.Store tx.new.conn.now).now) }
+        → OnOk result (IsEmpty (state S.Store tx.new.conn.now).now) }
+    ensures err { FailsToCreate S.Store tables.no_schema tx.old.conn.now tx.new.conn.now result }
     ensures inside { Stays S.Store tx.old.conn.now tx.new.conn.now result }
     ensures proceeds { Proceeds S.Store tx.old.conn.now tx.new.conn.now }
 {
@@ -110,7 +117,18 @@ pub fn create_tables<S: Alter>(tx: &mut Transaction<'_, S>) -> Result<(), Error>
     create_dbs(tx)?;
     create_docs(tx)?;
     create_revs(tx)?;
-    create_locals(tx)?;
-    insert_version(tx)?;
-    Ok(())
+    create_locals(tx)
+}
+
+/// Makes all five tables, where there is none, and writes the version.
+pub fn create_tables<S: Alter>(tx: &mut Transaction<'_, S>) -> Result<(), Error>
+    ensures same_reference { tx.new.conn.ghost_name ≡ tx.old.conn.ghost_name }
+    ensures ok { HasCleanDisk (state S.Store tx.new.conn.now) → tx.old.conn.now.schema ≡ tables.no_schema
+        → OnOk result (IsNew (state S.Store tx.new.conn.now).now) }
+    ensures err { FailsToBegin S.Store tx.old.conn.now tx.new.conn.now result }
+    ensures inside { Stays S.Store tx.old.conn.now tx.new.conn.now result }
+    ensures proceeds { Proceeds S.Store tx.old.conn.now tx.new.conn.now }
+{
+    make_tables(tx)?;
+    insert_version(tx)
 }

@@ -1,16 +1,18 @@
 //! Rows that a query shows, as what they say.
 
-ghost use Rattle.std.specs.Prelude.{◌≡◌, ◌<◌, length, Err, IfOk};
+ghost use Rattle.std.specs.Prelude.{◌≡◌, ◌<◌, length, Err, IfOk, option_map};
 ghost use Rattle.couch_json.specs.View.{view};
 ghost use Rattle.sqlite_value.specs.Order.{bytes, column};
+ghost use Rattle.sqlite_value.specs.declared.value.Value.TheVariants.{Text};
 ghost use Rattle.tree.specs.Revision.{text_of};
-ghost use Rattle.tables.specs.Rows.{count_in, is_set, json_in, whole_in};
-ghost use Rattle.tables.specs.Shown.{IsCount, IsShownDatabase, IsShownDocument, IsShownLocal, IsSmall, IsWhole, SpellsJson, SpellsRevision, local_shown};
+ghost use Rattle.tables.specs.Rows.{count_in, is_set, json_in, parent_in, whole_in};
+ghost use Rattle.tables.specs.Shown.{IsCount, IsShownDatabase, IsShownDocument, IsShownLocal, IsShownRevision, IsSmall, IsWhole, ShowsHeld, SpellsHash, SpellsHashOf, SpellsJson, SpellsParentOf, SpellsRevision, held_shown, local_shown, parent_shown, revision_shown};
 
 use couch_json::{Json, JsonFault};
 use sqlite::{Error, ErrorCode, Row};
 use sqlite_value::value::ValueRef;
 use std::alloc::Global;
+use std::str;
 use store::LocalDocument;
 use thiserror::Error as ErrorDerive;
 use tree::{Body, Rev};
@@ -35,6 +37,17 @@ pub struct FoundDocument {
     pub winner: Rev,
     /// Whether that is deleted.
     pub deleted: bool,
+}
+
+/// The row of a revision, as a query shows it.
+#[derive(Drop)]
+pub struct FoundRevision {
+    /// The revision.
+    pub rev: Rev,
+    /// The revision before it, or `None` at a root.
+    pub parent: Option<Rev>,
+    /// Whether it is deleted, and its body; `None` where it only came inside a path.
+    pub held: Option<(bool, Json)>,
 }
 
 /// The row of a database, as a query shows it.
@@ -106,6 +119,66 @@ fn json_at(alloc: Global, row: &Row, at: usize) -> Result<Json, RowFault>
         Err(JsonFault::Memory) => Err(RowFault::Memory),
         Err(_) => Err(RowFault::Damaged),
     }
+}
+
+fn hash_at(row: &Row, at: usize) -> Result<&str, RowFault>
+    ensures ok { IfOk result (λ hash. column row.now at ≡ Text hash.now) }
+    ensures damaged { result ≡ Err RowFault.Damaged → at < length row.now → ¬ (SpellsHash (column row.now at)) }
+{
+    let Ok(ValueRef::Text(text)) = row.get_ref(at) else {
+        return Err(RowFault::Damaged);
+    };
+    match str::from_utf8(text) {
+        Ok(hash) => Ok(hash),
+        Err(_) => Err(RowFault::Damaged),
+    }
+}
+
+fn named_at(row: &Row, number: u32, at: usize) -> Result<Rev, RowFault>
+    ensures number { IfOk result (λ r. r.number ≡ number) }
+    ensures hash { IfOk result (λ r. column row.now at ≡ Text r.hash) }
+    ensures damaged { result ≡ Err RowFault.Damaged → at < length row.now → ¬ (SpellsHashOf number (column row.now at)) }
+{
+    match Rev::new(number, hash_at(row, at)?) {
+        Some(rev) => Ok(rev),
+        None => Err(RowFault::Damaged),
+    }
+}
+
+fn parent_at(row: &Row, number: u32, at: usize) -> Result<Option<Rev>, RowFault>
+    ensures ok { IfOk result (λ parent. parent ≡ parent_in number (column row.now at)) }
+    ensures damaged { result ≡ Err RowFault.Damaged → at < length row.now → ¬ (SpellsParentOf number (column row.now at)) }
+{
+    match row.get_ref(at) {
+        Ok(ValueRef::Null) => Ok(None),
+        _ => Ok(Some(named_at(row, number.saturating_sub(1), at)?)),
+    }
+}
+
+fn held_in(alloc: Global, row: &Row) -> Result<Option<(bool, Json)>, RowFault>
+    ensures ok { IfOk result (λ held. option_map (λ h. (h.0, view h.1)) held ≡ held_shown row.now) }
+    ensures damaged { result ≡ Err RowFault.Damaged → length row.now ≡ 6 → ¬ (ShowsHeld row.now) }
+{
+    if count_at(row, 3)? == 0 {
+        return Ok(None);
+    }
+    let deleted = count_at(row, 4)? > 0;
+    let body = json_at(alloc, row, 5)?;
+    Ok(Some((deleted, body)))
+}
+
+/// Reads what a row of `revision_rows` shows.
+pub fn read_revision(alloc: Global, row: &Row) -> Result<FoundRevision, RowFault>
+    ensures revision { IfOk result (λ d. d.rev ≡ revision_shown row.now) }
+    ensures parent { IfOk result (λ d. d.parent ≡ parent_shown row.now) }
+    ensures held { IfOk result (λ d. option_map (λ h. (h.0, view h.1)) d.held ≡ held_shown row.now) }
+    ensures damaged { result ≡ Err RowFault.Damaged → ¬ (IsShownRevision row.now) }
+{
+    let number = number_at(row, 0)?;
+    let rev = named_at(row, number, 1)?;
+    let parent = parent_at(row, number, 2)?;
+    let held = held_in(alloc, row)?;
+    Ok(FoundRevision { rev, parent, held })
 }
 
 /// Reads the local document that a row of `local_rows` shows.

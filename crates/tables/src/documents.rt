@@ -2,10 +2,10 @@
 
 ghost use Rattle.std.specs.Prelude.{◌≡◌, not, filter, map};
 ghost use Rattle.sqlite_keyed.specs.Lists.{sort_by};
-ghost use Rattle.tables.specs.Calls.{Alters, Finds, Looks, Proceeds, Stands, Stays};
+ghost use Rattle.tables.specs.Calls.{Alters, Fails, FailsToDelete, FailsToInsert, Finds, Looks, Proceeds, Stands, Stays};
 ghost use Rattle.tables.specs.Layout.{AreKeyed};
 ghost use Rattle.tables.specs.Rows.{by_id, by_sequence, is_in, is_of, listed_document, shown_document, document_cells, with_cells};
-ghost use Rattle.tables.specs.Schema.{docs_tree};
+ghost use Rattle.tables.specs.Schema.{docs_table, docs_tree};
 
 use crate::statement::{change, query};
 use sqlite::{Alter, Connection, Error, Row, Transaction, params};
@@ -21,6 +21,7 @@ pub fn insert_document<S: Alter>(
 ) -> Result<(), Error>
     ensures same_reference { tx.new.conn.ghost_name ≡ tx.old.conn.ghost_name }
     ensures ok { Alters S.Store docs_tree AreKeyed (λ rows. with_cells rows (document_cells db.now id.now sequence.now winner.now deleted)) tx.old.conn.now tx.new.conn.now result }
+    ensures err { FailsToInsert S.Store docs_table AreKeyed (document_cells db.now id.now sequence.now winner.now deleted) tx.old.conn.now tx.new.conn.now result }
     ensures inside { Stays S.Store tx.old.conn.now tx.new.conn.now result }
     ensures proceeds { Proceeds S.Store tx.old.conn.now tx.new.conn.now }
 {
@@ -39,6 +40,7 @@ pub fn delete_document<S: Alter>(
 ) -> Result<(), Error>
     ensures same_reference { tx.new.conn.ghost_name ≡ tx.old.conn.ghost_name }
     ensures ok { Alters S.Store docs_tree AreKeyed (λ rows. filter (λ r. not (is_of db.now id.now r)) rows) tx.old.conn.now tx.new.conn.now result }
+    ensures err { FailsToDelete S.Store docs_table AreKeyed (is_of db.now id.now) tx.old.conn.now tx.new.conn.now result }
     ensures inside { Stays S.Store tx.old.conn.now tx.new.conn.now result }
     ensures proceeds { Proceeds S.Store tx.old.conn.now tx.new.conn.now }
 {
@@ -53,6 +55,7 @@ pub fn delete_document<S: Alter>(
 pub fn clear_documents<S: Alter>(tx: &mut Transaction<'_, S>, db: &i64) -> Result<(), Error>
     ensures same_reference { tx.new.conn.ghost_name ≡ tx.old.conn.ghost_name }
     ensures ok { Alters S.Store docs_tree AreKeyed (λ rows. filter (λ r. not (is_in db.now r)) rows) tx.old.conn.now tx.new.conn.now result }
+    ensures err { FailsToDelete S.Store docs_table AreKeyed (is_in db.now) tx.old.conn.now tx.new.conn.now result }
     ensures inside { Stays S.Store tx.old.conn.now tx.new.conn.now result }
     ensures proceeds { Proceeds S.Store tx.old.conn.now tx.new.conn.now }
 {
@@ -66,6 +69,7 @@ pub fn document_rows<S: Alter>(
     id: &[u8],
 ) -> Result<Vec<Row>, Error>
     ensures ok { Finds S.Store conn.old conn.new (λ trees rows. rows.items ≡ map shown_document (filter (is_of db.now id.now) (trees docs_tree))) result }
+    ensures err { Fails S.Store conn.old conn.new result }
     ensures stands { Stands S.Store conn.old conn.new result }
     ensures looks { Looks S.Store conn.old conn.new }
 {
@@ -80,6 +84,7 @@ pub fn document_rows<S: Alter>(
 /// winner and whether that is deleted.
 pub fn rows_by_id<S: Alter>(conn: &mut Connection<S>, db: &i64) -> Result<Vec<Row>, Error>
     ensures ok { Finds S.Store conn.old conn.new (λ trees rows. rows.items ≡ map listed_document (sort_by by_id (filter (is_in db.now) (trees docs_tree)))) result }
+    ensures err { Fails S.Store conn.old conn.new result }
     ensures stands { Stands S.Store conn.old conn.new result }
     ensures looks { Looks S.Store conn.old conn.new }
 {
@@ -94,6 +99,7 @@ pub fn rows_by_id<S: Alter>(conn: &mut Connection<S>, db: &i64) -> Result<Vec<Ro
 /// winner and whether that is deleted.
 pub fn rows_by_sequence<S: Alter>(conn: &mut Connection<S>, db: &i64) -> Result<Vec<Row>, Error>
     ensures ok { Finds S.Store conn.old conn.new (λ trees rows. rows.items ≡ map listed_document (sort_by by_sequence (filter (is_in db.now) (trees docs_tree)))) result }
+    ensures err { Fails S.Store conn.old conn.new result }
     ensures stands { Stands S.Store conn.old conn.new result }
     ensures looks { Looks S.Store conn.old conn.new }
 {

@@ -5,11 +5,15 @@ mod create;
 pub mod databases;
 mod decode;
 pub mod documents;
+pub mod laws;
 pub mod locals;
+mod meta;
 pub mod revisions;
 mod statement;
 
 pub use create::create_tables;
 pub use decode::{
-    FoundDatabase, FoundDocument, RowFault, read_database, read_document, read_local,
+    FoundDatabase, FoundDocument, FoundRevision, RowFault, read_database, read_document,
+    read_local, read_revision,
 };
+pub use meta::{FoundTables, is_first_version, tables_in};

@@ -1,12 +1,12 @@
 //! One statement at a time: a query of a connection, and a change in a transaction.
 
-ghost use Rattle.std.specs.Prelude.{◌≡◌, IfOk, OnOk};
+ghost use Rattle.std.specs.Prelude.{◌≡◌, IfErr, IfOk, OnOk};
 ghost use Rattle.sqlite.specs.Given.{IsPlain};
 ghost use Rattle.sqlite.specs.Held.{state};
 ghost use Rattle.sqlite.specs.Listing.{understood};
-ghost use Rattle.sqlite.specs.State.{HasCleanDisk, IsUnchanged, Shown};
+ghost use Rattle.sqlite.specs.State.{FailsToQuery, HasCleanDisk, IsUnchanged, Shown};
 ghost use Rattle.sqlite.specs.Values.{bound};
-ghost use Rattle.tables.specs.Steps.{OnlyLooks, Proceeds, Ran, StaysInside};
+ghost use Rattle.tables.specs.Steps.{FailsToRun, OnlyLooks, Proceeds, Ran, StaysInside};
 
 use sqlite::{Alter, Connection, Error, Row, Transaction};
 use sqlite_value::value::ValueRef;
@@ -20,6 +20,8 @@ pub(crate) fn change<S: Alter>(
     ensures same_reference { tx.new.conn.ghost_name ≡ tx.old.conn.ghost_name }
     ensures ok { HasCleanDisk (state S.Store tx.new.conn.now)
         → OnOk result (Ran sql.now (bound params.now) (state S.Store tx.old.conn.now) (state S.Store tx.new.conn.now)) }
+    ensures err { HasCleanDisk (state S.Store tx.new.conn.now)
+        → IfErr result (FailsToRun sql.now (bound params.now) (state S.Store tx.old.conn.now) (state S.Store tx.new.conn.now)) }
     ensures inside { HasCleanDisk (state S.Store tx.new.conn.now)
         → OnOk result (StaysInside (state S.Store tx.old.conn.now) (state S.Store tx.new.conn.now)) }
     ensures proceeds { Proceeds (state S.Store tx.old.conn.now) (state S.Store tx.new.conn.now) }
@@ -36,6 +38,8 @@ pub(crate) fn query<S: Alter>(
 ) -> Result<Vec<Row>, Error>
     ensures ok { HasCleanDisk (state S.Store conn.new)
         → IfOk result (λ rows. Shown sql.now (bound params.now) (state S.Store conn.old) (state S.Store conn.new) rows.items) }
+    ensures err { HasCleanDisk (state S.Store conn.new)
+        → IfErr result (FailsToQuery sql.now (bound params.now) (state S.Store conn.old) (state S.Store conn.new)) }
     ensures stands { IsPlain (understood conn.old.schema sql.now) → HasCleanDisk (state S.Store conn.new)
         → OnOk result (IsUnchanged (state S.Store conn.old) (state S.Store conn.new)) }
     ensures looks { IsPlain (understood conn.old.schema sql.now) → OnlyLooks (state S.Store conn.old) (state S.Store conn.new) }

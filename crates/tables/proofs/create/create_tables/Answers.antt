@@ -1,7 +1,6 @@
-use Rattle.tables.proofs.Stays.{proceeds_then}
+use Rattle.tables.proofs.Setup.{version_fails}
 use Rattle.tables.proofs.create.create_tables.Goals as goal
 
-pub returns-clause-proceeds : goal.returns-clause-proceeds
-returns-clause-proceeds g c =
-    proceeds_then _ _ _ c.create_meta.ensures.proceeds (proceeds_then _ _ _ c.create_dbs.ensures.proceeds (proceeds_then _ _ _ c.create_docs.ensures.proceeds
-    (proceeds_then _ _ _ c.create_revs.ensures.proceeds (proceeds_then _ _ _ c.create_locals.ensures.proceeds c.insert_version.ensures.proceeds))))
+pub returns-clause-err : goal.returns-clause-err
+returns-clause-err g c =
+    version_fails _ _ _ c.insert_version.result c.in_ok-make_tables.ensures.proceeds c.in_ok-make_tables.ensures.inside c.in_ok-make_tables.ensures.ok c.insert_version.ensures.proceeds c.insert_version.ensures.err

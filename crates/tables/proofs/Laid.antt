@@ -1,0 +1,192 @@
+-- What the layout says of new tables and of the rows that are shown.
+use Rattle.std.proofs.Common.{◌≡◌, ◌<◌, ◌^◌, ◌-◌, ◌⊎◌, inl, inr, ℕ, ℤ, pos, List, [], ◌∷◌, map, filter, Bool, true, false, ◌&&◌, nat_le, cond, if◌then◌else◌, is_some, option_map, MatchOption, Option, None, Some, Result, Ok, Err, IsTrue, refl, sym, ap, subst, ◌∙◌, arith}
+use Rattle.std.proofs.lemmas.Bool.Decides.{nat_tests}
+use Rattle.std.specs.FinMap as map
+use Rattle.std.specs.List.{AllByRecursion}
+use Rattle.std.specs.Ordering.{eq_by_cmp, nat_cmp}
+use Rattle.std.specs.Cmp.Lexicographic.{slice_cmp}
+use Rattle.couch_json.specs.Canonical.{canonical}
+use Rattle.couch_json.specs.Reading.{reading}
+use Rattle.couch_json.specs.Value as json
+use Rattle.couch_json.specs.declared.fault.JsonFault.{JsonFault}
+use Rattle.couch_json.proofs.ReadingBack.{reading-canonical}
+use Rattle.tree.specs.History.{HistoryContent, is_known, is_leaf, winner, IsBetter}
+use Rattle.tree.specs.Revision.{Revision, is_revision, text_of, revision_cmp, greatest_number}
+use Rattle.tree.proofs.Kept.{revision_cmp_total}
+use Rattle.tree.proofs.Leaves.{winner_is_best}
+use Rattle.tree.proofs.Revisions.{same}
+use Rattle.store.specs.Database.{Database}
+use Rattle.store.specs.Lawful.{AreLawful}
+use Rattle.sqlite_value.specs.declared.value.Value.{Value}
+use Rattle.sqlite_value.specs.declared.value.Value.TheVariants.{Int, Text}
+use Rattle.sqlite_value.specs.Order.{Row, column, bytes}
+use Rattle.sqlite_trees.specs.Tree.{Trees, IsAscending, rowid}
+use Rattle.sqlite_keyed.proofs.ListLemmas.{all-filter, all_weaker}
+use Rattle.sqlite.specs.Effect as sqlite
+use Rattle.tables.specs.Layout.{AreNumbered, IsDatabaseRow, IsDocumentRow, IsRevisionRow, IsLocalRow, IsLaid, IsStore, IsNew}
+use Rattle.tables.specs.Rows.{number_of, count_in, json_in, value_or_null, length_of, shown_database, shown_local, shown_revision, local_of, shown_document, sequence_of, winner_text, is_gone, revision_of, entry_of, parent_in, parent_cell, body_cell, is_held, is_marked, is_set, is_of, db_of, id_of, history_in, contents_in, database_of, name_of}
+use Rattle.sqlite_schema.specs.Names.{same_name}
+use Rattle.sqlite_trees.specs.Sound.{same_name as same_text}
+use Rattle.tables.specs.Presence.{has_all}
+use Rattle.tables.specs.Schema.{schema, dbs_tree, docs_tree, revs_tree, locals_tree}
+use Rattle.tables.specs.Shown.{IsCount, SpellsRevision, SpellsJson, SpellsParentOf, IsShownDatabase, IsShownDocument, IsShownLocal, IsShownRevision}
+
+-- ---- new tables
+
+none_there : (name : List ℕ) (db : Database) → map.get {R = slice_cmp nat_cmp} map.empty name ≡ Some db → ⊥
+none_there name db is = let none = map.get-empty {X = Database} (slice_cmp nat_cmp) name in absurd (cc)
+
+pub nothing : (db : sqlite.Database) → IsNew db → contents_in db.trees ≡ map.empty
+nothing db h = ap (λ rows. map.from_entries (map (λ r. (name_of r, database_of db.trees r)) rows)) h.dbs
+
+none_numbered : AreNumbered []
+none_numbered = record { numbers = tt; rising = tt }
+
+pub holds : (db : sqlite.Database) → IsNew db → IsStore db
+holds db h =
+    let none : (rows : List Row) → rows ≡ [] → AreNumbered rows = λ rows is. subst AreNumbered (sym is) none_numbered in
+    record {
+      schema_is = h.schema_is;
+      laid = record {
+        version = h.version;
+        dbs_numbered = none _ h.dbs;
+        docs_numbered = none _ h.docs;
+        revs_numbered = none _ h.revs;
+        locals_numbered = none _ h.locals;
+        dbs = subst (AllByRecursion IsDatabaseRow) (sym h.dbs) tt;
+        names_apart = subst (IsAscending _) (sym h.dbs) tt;
+        docs = subst (AllByRecursion (IsDocumentRow db.trees)) (sym h.docs) tt;
+        ids_apart = subst (IsAscending _) (sym h.docs) tt;
+        sequences_apart = subst (IsAscending _) (sym h.docs) tt;
+        revs = subst (AllByRecursion (IsRevisionRow db.trees)) (sym h.revs) tt;
+        revisions_apart = subst (IsAscending _) (sym h.revs) tt;
+        locals = subst (AllByRecursion (IsLocalRow db.trees)) (sym h.locals) tt;
+        local_ids_apart = subst (IsAscending _) (sym h.locals) tt;
+        lawful = subst (λ c. ∥ AreLawful c ∥₁) (sym (nothing db h)) ∣ (λ name d is. absurd (none_there name d is)) ∣₁;
+      };
+    }
+
+pub ours_has_all : has_all schema ≡ true
+unfolding same_name same_text
+ours_has_all = refl
+
+-- ---- what is shown
+
+-- a cell with the text of what it says spells that
+spells : (v : Value) → v ≡ Text (canonical (json_in v)) → SpellsJson v
+spells v is = go (reading (bytes v)) refl
+  where
+    own : v ≡ Text (bytes v)
+    own = is ∙ ap Text (sym (ap bytes is))
+
+    go : (r : Result json.Value JsonFault) → reading (bytes v) ≡ r → SpellsJson v
+    go (Ok w) read = (bytes v, w, own, read)
+    go (Err fault) read =
+        let empty : json_in v ≡ json.null = ap value_or_null read in
+        let text : bytes v ≡ canonical json.null = ap bytes is ∙ ap canonical empty in
+        let back = sym (ap reading text) ∙ read in
+        let whole = reading-canonical json.null tt (omega arith) in
+        absurd (cc)
+
+pub shown_databases : (trees : Trees) → IsLaid trees → AllByRecursion (λ r. IsShownDatabase (shown_database r)) (trees dbs_tree)
+shown_databases trees h =
+    all_weaker IsDatabaseRow (λ r. IsShownDatabase (shown_database r))
+    (λ r k. record { width = refl; number = (number_of r, ap rowid k.is); security = spells (column r 3) (ap (λ x. column x 3) k.is); sequence = (length_of r, ap (λ x. column x 4) k.is) }) (trees dbs_tree) h.dbs
+
+pub shown_locals : (trees : Trees) → IsLaid trees → AllByRecursion (λ r. IsShownLocal (shown_local r)) (trees locals_tree)
+shown_locals trees h =
+    all_weaker (IsLocalRow trees) (λ r. IsShownLocal (shown_local r))
+    (λ r k. record { width = refl; number = ((local_of r).number, ap (λ x. column x 3) k.is, k.small); body = spells (column r 4) (ap (λ x. column x 4) k.is) }) (trees locals_tree) h.locals
+
+-- ---- known revisions are lawful
+
+abbrev IsLawfulRow : Row → Type 0
+IsLawfulRow r = is_revision (revision_of r) ≡ true
+
+found_lawful : (rows : List Row) (q : Revision) → AllByRecursion IsLawfulRow rows → is_some (map.find revision_cmp q (map (λ r. (revision_of r, entry_of r)) rows)) ≡ true → is_revision q ≡ true
+found_lawful [] q all found = absurd (cc)
+found_lawful (r ∷ rows) q all found = go (eq_by_cmp revision_cmp q (revision_of r)) refl found (found_lawful rows q all.1)
+  where
+    go : (b : Bool) → eq_by_cmp revision_cmp q (revision_of r) ≡ b → is_some (cond b (Some (entry_of r)) (map.find revision_cmp q (map (λ s. (revision_of s, entry_of s)) rows))) ≡ true
+        → (is_some (map.find revision_cmp q (map (λ s. (revision_of s, entry_of s)) rows)) ≡ true → is_revision q ≡ true) → is_revision q ≡ true
+    go true tied more rest = ap is_revision (same q (revision_of r) tied) ∙ all.0
+    go false tied more rest = rest more
+
+-- a known revision of laid rows is lawful
+pub known_lawful : (trees : Trees) (rows : List Row) (db : ℤ) (id : List ℕ) (q : Revision) → AllByRecursion (IsRevisionRow trees) rows → is_known (history_in rows db id) q ≡ true → is_revision q ≡ true
+known_lawful trees rows db id q all known =
+    found_lawful (filter (is_of db id) rows) q (all-filter IsLawfulRow (is_of db id) rows (all_weaker (IsRevisionRow trees) IsLawfulRow (λ r k. k.lawful) rows all))
+    (ap is_some (sym (map.get-from_entries revision_cmp_total (map (λ r. (revision_of r, entry_of r)) (filter (is_of db id) rows)) q)) ∙ known)
+
+second : (a b c : Bool) → ((a && b) && c) ≡ true → b ≡ true
+second true true c h = refl
+second true false c h = cc
+second false b c h = cc
+
+small : (n : ℕ) → nat_le n greatest_number ≡ true → n < 2 ^ 32
+small n h = grind (arith, nat_tests)
+
+same_parent : (n : ℕ) (p : Revision) → ◌≡◌ {A = Option Revision} (Some (record { number = n; hash = p.hash })) (Some p) → p.number ≡ n
+same_parent n p e = cc
+
+counted : (v : Value) (b : Bool) → v ≡ Int (if b then pos 1 else pos 0) → IsCount v
+counted v true is = (1, is)
+counted v false is = (0, is)
+
+module _ (trees : Trees) (laid : AllByRecursion (IsRevisionRow trees) (trees revs_tree)) (r : Row) (k : IsRevisionRow trees r) where
+  shown_parent : (parent : Option Revision) → (entry_of r).parent ≡ parent → SpellsParentOf (count_in (column r 3)) (column r 5)
+  shown_parent None is = inl (ap (λ x. column x 5) k.is ∙ ap parent_cell is)
+  shown_parent (Some p) is =
+      let cell : column r 5 ≡ Text p.hash = ap (λ x. column x 5) k.is ∙ ap parent_cell is in
+      let number = same_parent (count_in (column r 3) - 1) p (sym (ap (parent_in (count_in (column r 3))) cell) ∙ is) in
+      inr (p, known_lawful trees (trees revs_tree) (db_of r) (id_of r) p laid (k.follows p is), number, cell)
+
+  shown_body : is_set (column r 6) ≡ true → SpellsJson (column r 8)
+  shown_body set =
+      spells (column r 8)
+      (ap (λ x. column x 8) k.is ∙ ap (λ b. body_cell (option_map (λ (d : Bool × json.Value). record { deleted = d.0; body = d.1 }) (if b then Some (is_set (column r 7), json_in (column r 8)) else None))) set)
+
+  shown_revision_is : IsShownRevision (shown_revision r)
+  shown_revision_is = record {
+    width = refl;
+    number = ((revision_of r).number, ap (λ x. column x 3) k.is, small (revision_of r).number (second _ _ _ k.lawful));
+    hash = (revision_of r, k.lawful, refl, ap (λ x. column x 4) k.is);
+    parent = shown_parent (entry_of r).parent refl;
+    held = record { held = counted (column r 6) (is_held (entry_of r).held) (ap (λ x. column x 6) k.is); mark = λ set. counted (column r 7) (is_marked (entry_of r).held) (ap (λ x. column x 7) k.is); body = shown_body };
+  }
+
+pub shown_revisions : (trees : Trees) → IsLaid trees → AllByRecursion (λ r. IsShownRevision (shown_revision r)) (trees revs_tree)
+shown_revisions trees h = all_weaker (IsRevisionRow trees) (λ r. IsShownRevision (shown_revision r)) (shown_revision_is trees h.revs) (trees revs_tree) h.revs
+
+-- ---- the winner of a document
+
+same_texts : (a b : List ℕ) → ◌≡◌ {A = Option (List ℕ)} (Some a) (Some b) → a ≡ b
+same_texts a b e = cc
+
+first : (a b : Bool) → (a && b) ≡ true → a ≡ true
+first true b h = refl
+first false b h = cc
+
+winner_known : (h : HistoryContent) (w : Revision) → winner h ≡ Some w → is_known h w ≡ true
+winner_known h w is = first _ _ (subst (λ o. MatchOption o ((r : Revision) → IsTrue (is_leaf h r) → ⊥) (λ r. IsTrue (is_leaf h r) × ((s : Revision) → IsTrue (is_leaf h s) → (s ≡ r) ⊎ IsBetter h r s))) is (winner_is_best h)).0
+
+module _ (trees : Trees) (laid : AllByRecursion (IsRevisionRow trees) (trees revs_tree)) (r : Row) (k : IsDocumentRow trees r) where
+  abbrev history : HistoryContent
+  history = history_in (trees revs_tree) (db_of r) (id_of r)
+
+  shown_winner : (won : Option Revision) → winner history ≡ won → SpellsRevision (column r 4)
+  shown_winner None is = absurd (let text = sym (ap (option_map text_of) is) ∙ k.won in cc)
+  shown_winner (Some w) is =
+      let text : text_of w ≡ winner_text r = same_texts _ _ (sym (ap (option_map text_of) is) ∙ k.won) in
+      (w, known_lawful trees (trees revs_tree) (db_of r) (id_of r) w laid (winner_known history w is), ap (λ x. column x 4) k.is ∙ ap Text (sym text))
+
+  shown_document_is : IsShownDocument (shown_document r)
+  shown_document_is = record {
+    width = refl;
+    sequence = (sequence_of r, ap (λ x. column x 3) k.is);
+    winner = shown_winner (winner history) refl;
+    mark = counted (column r 5) (is_gone r) (ap (λ x. column x 5) k.is);
+  }
+
+pub shown_documents : (trees : Trees) → IsLaid trees → AllByRecursion (λ r. IsShownDocument (shown_document r)) (trees docs_tree)
+shown_documents trees h = all_weaker (IsDocumentRow trees) (λ r. IsShownDocument (shown_document r)) (shown_document_is trees h.revs) (trees docs_tree) h.docs

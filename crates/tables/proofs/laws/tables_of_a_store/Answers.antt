@@ -1,0 +1,7 @@
+use Rattle.std.proofs.Common.{ap, ◌∙◌}
+use Rattle.tables.specs.Presence.{has_all}
+use Rattle.tables.proofs.Laid.{ours_has_all}
+use Rattle.tables.proofs.laws.tables_of_a_store.Goals as goal
+
+pub returns-clause-tables : goal.returns-clause-tables
+returns-clause-tables c db is = ap has_all is.schema_is ∙ ours_has_all
