@@ -44,4 +44,3 @@ IsService {S} step homes old (a ∷ ars) (t ∷ ts) new = (between : List (Servi
 abbrev pub AreAllServed : List SeenReply → Type 0
 AreAllServed [] = Unit {0}
 AreAllServed (t ∷ ts) = IsServed t.reply × AreAllServed ts
-

@@ -110,8 +110,10 @@ impl<S: Store + Drop> World<S> {
     /// `Unknown` comes where there is no such node, and `Memory` where a growth was refused; `played` is 0.
     pub fn start(&mut self, config: Config, from: usize, to: usize) -> Result<u64, WorldFault>
         ensures number { IfOk result (λ repl. repl ≡ length self.old.transfers + 1) }
-        ensures ok { OnOk result (self.new ≡ record self.old { transfers = self.old.transfers
-            ++ record { from = from; to = to; pass = first_pass (configuration_of config) } ∷ [] }) }
+        ensures ok { OnOk result (self.new ≡ record self.old {
+          transfers = self.old.transfers
+              ++ record { from = from; to = to; pass = first_pass (configuration_of config) } ∷ [];
+        }) }
 
         // Nothing changes at a refusal.
         ensures err { OnErr result (self.new ≡ self.old) }
@@ -137,8 +139,10 @@ impl<S: Store + Drop> World<S> {
     /// Adds a pass that has asked nothing.
     fn add_transfer(&mut self, config: Config, from: usize, to: usize) -> Got<()>
         requires { (from < length self.old.nodes) × (to < length self.old.nodes) }
-        ensures ok { OnOk result (self.new ≡ record self.old { transfers = self.old.transfers
-            ++ record { from = from; to = to; pass = first_pass (configuration_of config) } ∷ [] }) }
+        ensures ok { OnOk result (self.new ≡ record self.old {
+          transfers = self.old.transfers
+              ++ record { from = from; to = to; pass = first_pass (configuration_of config) } ∷ [];
+        }) }
         ensures err { OnErr result (self.new ≡ self.old) }
     {
         let pass = Replication::new(self.alloc, config)?;
