@@ -9,4 +9,6 @@ mod client;
 #[cfg(test)]
 mod scripts;
 #[cfg(test)]
+mod services;
+#[cfg(test)]
 mod stores;

@@ -1,3 +1,5 @@
 pub mod Rests
 pub mod Arrivals
 pub mod Serving
+pub mod ServiceBytes
+pub mod ServiceLemmas

@@ -6,3 +6,4 @@ pub mod Feeding
 pub mod Cutters
 pub mod Faults
 pub mod Codes
+pub mod Service

@@ -8,8 +8,12 @@ mod fault;
 mod hub;
 pub mod laws;
 mod replies;
+mod service;
+mod service_end;
 
 pub use connections::Connections;
 pub use fault::HubFault;
 pub use hub::Hub;
 pub use replies::Replies;
+pub use service::serve_connection;
+pub use service_end::ServiceEnd;

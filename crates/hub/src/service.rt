@@ -1,0 +1,179 @@
+//! One connection, served from the bytes of a reader to those of a writer.
+
+ghost use Rattle.std.specs.Prelude.{◌≡◌, ◌≢◌, ◌<◌, ◌≤◌, ℕ, Bool, List, drop, length, true, false, None, Some};
+ghost use Rattle.store.specs.Calls.{GoesOn};
+ghost use Rattle.hub.specs.Connections.{is_open, next_connection};
+ghost use Rattle.hub.specs.Service.{IsServed, Serves, ServesOrTurnsAway, Takes, bytes_of, end_after_farewell, end_after_replies, farewell, greatest_piece, greatest_reads};
+ghost use Rattle.std.specs.Io.KnownBytes.{Appends};
+
+use crate::fault::HubFault;
+use crate::hub::Hub;
+use crate::replies::Replies;
+use crate::service_end::ServiceEnd;
+use couch_http::{Fixed, Response};
+use std::io::{Read, Write};
+use store::Store;
+
+/// How many bytes a piece has at most.
+const PIECE: usize = 8_192;
+
+/// How many times a connection is read at most.
+const READS: u64 = 1_048_576;
+
+/// Serves one connection of a hub: reads pieces of up to 8,192 bytes, and writes the replies to them in
+/// order. Returns why it ended; the connection is closed then.
+///
+/// A write that takes no byte has failed. Where memory runs out, the fixed reply with status 503 is
+/// written, and the connection ends. See RFC 9112, section 9.3.
+pub fn serve_connection<S: Store + Drop, R: Read, W: Write>(
+    hub: &mut Hub<S>,
+    reader: &mut R,
+    writer: &mut W,
+) -> ServiceEnd
+    ensures served { ServesOrTurnsAway S.Store hub.old result (R.remaining reader.old) (R.remaining reader.new)
+        (W.contents writer.old) (W.contents writer.new) hub.new }
+    ensures ended { is_open hub.new.connections (next_connection hub.old.connections) ≡ false }
+    ensures configuration { hub.new.node.configuration ≡ hub.old.node.configuration }
+    ensures onward { GoesOn S.Store hub.old.node.store hub.new.node.store }
+{
+    match hub.open() {
+        Ok(conn) => {
+            let end = serve_pieces(hub, conn, reader, writer);
+            hub.close(conn);
+            end
+        }
+        Err(HubFault::Full) => ServiceEnd::Full,
+        Err(HubFault::Unknown | HubFault::Closed | HubFault::Memory) => write_farewell(writer),
+    }
+}
+
+/// Serves an open connection, piece by piece.
+fn serve_pieces<S: Store + Drop, R: Read, W: Write>(
+    hub: &mut Hub<S>,
+    conn: u64,
+    reader: &mut R,
+    writer: &mut W,
+) -> ServiceEnd
+    requires { is_open hub.old.connections conn ≡ true }
+    ensures served { (count : ℕ) × (result ≡ ServiceEnd.TooManyReads → count ≡ greatest_reads) × Serves S.Store hub.old conn (Some result) count
+        (R.remaining reader.old) (R.remaining reader.new) (W.contents writer.old) (W.contents writer.new) hub.new }
+    ensures configuration { hub.new.node.configuration ≡ hub.old.node.configuration }
+    ensures onward { GoesOn S.Store hub.old.node.store hub.new.node.store }
+{
+    let mut room = [0; PIECE];
+    for _number in 0..READS {
+        if let Some(end) = serve_read(hub, conn, reader, &mut room, writer) {
+            return end;
+        }
+    }
+    ServiceEnd::TooManyReads
+}
+
+/// Reads one piece of an open connection, and writes the replies to it. Returns why the service ends, or
+/// `None` where it goes on.
+fn serve_read<S: Store + Drop, R: Read, W: Write>(
+    hub: &mut Hub<S>,
+    conn: u64,
+    reader: &mut R,
+    room: &mut [u8],
+    writer: &mut W,
+) -> Option<ServiceEnd>
+    requires open { is_open hub.old.connections conn ≡ true }
+    requires room { length room.old ≡ greatest_piece }
+    ensures room { length room.new ≡ greatest_piece }
+    ensures served { (count : ℕ) × (result ≡ None → count ≡ 1) × Serves S.Store hub.old conn result count
+        (R.remaining reader.old) (R.remaining reader.new) (W.contents writer.old) (W.contents writer.new) hub.new }
+    ensures reads { result ≢ Some ServiceEnd.TooManyReads }
+    ensures configuration { hub.new.node.configuration ≡ hub.old.node.configuration }
+    ensures onward { GoesOn S.Store hub.old.node.store hub.new.node.store }
+{
+    match reader.read(room) {
+        Ok(0) => Some(ServiceEnd::EndOfInput),
+        Ok(count) => serve_piece(hub, conn, &room[..count], writer),
+        Err(_) => Some(ServiceEnd::ReadFailed),
+    }
+}
+
+/// Feeds a piece to an open connection, and writes the replies to it.
+fn serve_piece<S: Store + Drop, W: Write>(
+    hub: &mut Hub<S>,
+    conn: u64,
+    piece: &[u8],
+    writer: &mut W,
+) -> Option<ServiceEnd>
+    requires open { is_open hub.old.connections conn ≡ true }
+    requires size { length piece.now ≤ greatest_piece }
+    ensures served { (count : ℕ) × (result ≡ None → count ≡ 1) × (written : List ℕ) × Appends (W.contents writer.old) (W.contents writer.new) written
+        × IsServed S.Store hub.old conn result count piece.now written hub.new }
+    ensures reads { (result ≢ Some ServiceEnd.TooManyReads) × (result ≢ Some ServiceEnd.EndOfInput) }
+    ensures configuration { hub.new.node.configuration ≡ hub.old.node.configuration }
+    ensures onward { GoesOn S.Store hub.old.node.store hub.new.node.store }
+{
+    match hub.feed(conn, piece) {
+        Ok(replies) => write_replies(writer, &replies),
+        Err(HubFault::Memory) => Some(write_farewell(writer)),
+        Err(HubFault::Unknown | HubFault::Closed | HubFault::Full) => unreachable!(),
+    }
+}
+
+/// Writes replies. Returns why the service ends, or `None` where it goes on.
+fn write_replies<W: Write>(writer: &mut W, replies: &Replies) -> Option<ServiceEnd>
+    ensures { (whole : Bool) × (result ≡ end_after_replies whole replies.now.last)
+        × Takes (W.contents writer.old) (W.contents writer.new) (bytes_of replies.now.list.items) whole }
+{
+    if !write_all(writer, &replies.list) {
+        return Some(ServiceEnd::WriteFailed);
+    }
+    if replies.last {
+        Some(ServiceEnd::LastReply)
+    } else {
+        None
+    }
+}
+
+/// Writes the fixed reply where memory ran out. Returns why the service ends.
+fn write_farewell<W: Write>(writer: &mut W) -> ServiceEnd
+    ensures { (whole : Bool) × (result ≡ end_after_farewell whole) × Takes (W.contents writer.old) (W.contents writer.new) farewell whole }
+{
+    let farewell = Response::fixed(Fixed::NoRoom { last: true });
+    if write_bytes(writer, farewell.bytes()) {
+        ServiceEnd::Memory
+    } else {
+        ServiceEnd::WriteFailed
+    }
+}
+
+/// Writes replies one after another, up to a write that fails. Returns whether all were written.
+fn write_all<W: Write>(writer: &mut W, replies: &[Response]) -> bool
+    ensures { Takes (W.contents writer.old) (W.contents writer.new) (bytes_of replies.now) result }
+{
+    for reply in replies {
+        if !write_bytes(writer, reply.bytes()) {
+            return false;
+        }
+    }
+    true
+}
+
+/// Writes bytes, up to a write that fails or takes none. Returns whether all were written.
+fn write_bytes<W: Write>(writer: &mut W, bytes: &[u8]) -> bool
+    ensures { Takes (W.contents writer.old) (W.contents writer.new) bytes.now result }
+{
+    let mut rest = bytes;
+    while !rest.is_empty() {
+        match writer.write(rest) {
+            Ok(0) => return false,
+            Ok(count) => rest = skip(rest, count),
+            Err(_) => return false,
+        }
+    }
+    true
+}
+
+/// Returns the bytes behind the first ones.
+fn skip(bytes: &[u8], count: usize) -> &[u8]
+    requires { count ≤ length bytes.now }
+    ensures { result.now ≡ drop count bytes.now }
+{
+    &bytes[count..]
+}
