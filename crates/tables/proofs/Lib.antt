@@ -25,3 +25,5 @@ pub mod Replaces
 pub mod MetaStatements
 pub mod Laid
 pub mod Setup
+pub mod DocumentWriteSteps
+pub mod DocumentWriteEntries
