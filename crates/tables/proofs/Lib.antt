@@ -25,3 +25,4 @@ pub mod Replaces
 pub mod MetaStatements
 pub mod Laid
 pub mod Setup
+pub mod RowMaps
