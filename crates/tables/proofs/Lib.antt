@@ -27,3 +27,5 @@ pub mod Laid
 pub mod Setup
 pub mod DocumentWriteSteps
 pub mod DocumentWriteEntries
+pub mod RowMaps
+pub mod DocumentWriteHistories
