@@ -26,3 +26,4 @@ pub mod MetaStatements
 pub mod Laid
 pub mod Setup
 pub mod RowMaps
+pub mod Lookups
