@@ -11,7 +11,7 @@ use Rattle.std.specs.FinMap.{FinMap, IsAntisymmetric, slice_cmp-IsAntisymmetric,
 use Rattle.std.specs.List.{AllByRecursion, list_any}
 use Rattle.std.specs.Ordering.{eq_by_cmp}
 use Rattle.sqlite_trees.specs.Tree.{IsAscending}
-use Rattle.sqlite_keyed.proofs.ListLemmas.{all_weaker, all_both, filter-filter, filter_same, slice_get-filter}
+use Rattle.sqlite_keyed.proofs.ListLemmas.{all_of, all_weaker, all_both, filter-filter, filter_same, slice_get-filter}
 
 -- ---- lists
 
@@ -31,6 +31,9 @@ find_found {A} P p (s ∷ rows) r all is = go (p s) refl is (find_found P p rows
     go : (b : Bool) → p s ≡ b → cond b (Some s) (find p rows) ≡ Some r → (find p rows ≡ Some r → P r × (p r ≡ true)) → P r × (p r ≡ true)
     go true passes is more = let same : s ≡ r = cc in subst (λ x. P x × (p x ≡ true)) same (all.0, passes)
     go false passes is more = more is
+
+pub find_passes : {A : Type 0} (p : A → Bool) (rows : List A) (r : A) → find p rows ≡ Some r → p r ≡ true
+find_passes p rows r is = (find_found (λ x. p x ≡ p x) p rows r (all_of (λ x. p x ≡ p x) (λ x. refl) rows) is).1
 
 pub filter_push : {A : Type 0} (p : A → Bool) (rows : List A) (new : A) → filter p (rows ++ new ∷ []) ≡ filter p rows ++ cond (p new) (new ∷ []) []
 filter_push p [] new = refl
