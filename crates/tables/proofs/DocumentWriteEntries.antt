@@ -76,7 +76,7 @@ entries_apart (r ∷ rest) d counts =
 
 -- ---- the row of an entry
 
-flag_again : (b : Bool) → is_set (flag b) ≡ b
+pub flag_again : (b : Bool) → is_set (flag b) ≡ b
 flag_again true = refl
 flag_again false = refl
 

@@ -18,7 +18,9 @@ use Rattle.sqlite_value.specs.Order.{Row}
 use Rattle.sqlite_trees.specs.Tree.{IsAscending}
 use Rattle.sqlite_keyed.proofs.ListLemmas.{all_weaker, all_both, all-append, all_unmap, all_kept, ascending-append, none_from_any}
 use Rattle.tables.specs.Edits.{with_revisions}
+use Rattle.tables.specs.Layout.{AreNumbered}
 use Rattle.tables.specs.Rows.{next_number, with_cells, db_of, id_of, is_of, revision_of, entry_of, revision_cells, revision_row, history_in}
+use Rattle.tables.proofs.DocumentWriteDocuments.{numbered-with_cells}
 use Rattle.tables.proofs.RowMaps.{filter_push}
 
 abbrev node : Row → Node
@@ -92,12 +94,16 @@ pub history_others : (es : List Node) (rows : List Row) (db : ℤ) (id : List �
     → history_in (with_revisions rows db id es) other name ≡ history_in rows other name
 history_others es rows db id other name apart = ap (λ l. from_entries (map node l)) (rows_others (is_of other name) es rows db id (λ k e. apart))
 
+pub revisions_stay_numbered : (es : List Node) (rows : List Row) (db : ℤ) (id : List ℕ) → AreNumbered rows → AreNumbered (with_revisions rows db id es)
+revisions_stay_numbered [] rows db id h = h
+revisions_stay_numbered (e ∷ es) rows db id h = revisions_stay_numbered es (with_cells rows (revision_cells db id e.0 e.1)) db id (numbered-with_cells rows (revision_cells db id e.0 e.1) h)
+
 -- ---- no revision has two rows
 
-abbrev IsOther : ℤ → List ℕ → Revision → Row → Type 0
+abbrev pub IsOther : ℤ → List ℕ → Revision → Row → Type 0
 IsOther db id q x = db_of x ≡ db → id_of x ≡ id → revision_of x ≢ q
 
-abbrev AreApart : Row → Row → Type 0
+abbrev pub AreApart : Row → Row → Type 0
 AreApart a b = db_of a ≡ db_of b → id_of a ≡ id_of b → revision_of a ≢ revision_of b
 
 pub unknown_apart : (rows : List Row) (db : ℤ) (id : List ℕ) (q : Revision) → is_known (history_in rows db id) q ≡ false → AllByRecursion (IsOther db id q) rows

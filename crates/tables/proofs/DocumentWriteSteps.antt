@@ -1,14 +1,18 @@
 -- Revisions that are put in one after another are one change, and what a change leaves of the other tables.
-use Rattle.std.proofs.Common.{◌≡◌, ◌≢◌, ℕ, ℤ, List, [], ◌∷◌, refl, sym, ap, subst, ◌∙◌, arith}
+use Rattle.std.proofs.Common.{◌≡◌, ◌≢◌, ◌+◌, ℕ, ℤ, pos, not, List, [], ◌∷◌, filter, refl, sym, ap, subst, ◌∙◌, arith}
 use Rattle.std.specs.List.{AllByRecursion}
 use Rattle.sqlite_value.specs.Order.{Row}
 use Rattle.sqlite_schema.specs.declared.schema.Schema.{Schema}
 use Rattle.sqlite_keyed.proofs.ListLemmas.{all_of, all_both}
+use Rattle.sqlite_trees.specs.Tree.{Trees}
 use Rattle.sqlite.specs.Effect.{Database}
-use Rattle.tree.specs.Revision.{Revision}
+use Rattle.store.specs.Database.{DocumentWrite}
+use Rattle.tree.specs.History.{is_deleted, held_of}
+use Rattle.tree.specs.Revision.{Revision, text_of}
 use Rattle.tree.specs.declared.entry.Entry.{Entry}
-use Rattle.tables.specs.Edits.{AreInserted, with_revisions}
-use Rattle.tables.specs.Schema.{schema, revs_tree}
+use Rattle.tables.specs.Edits.{AreInserted, IsWrite, with_revisions, new_entries, history_before, history_after}
+use Rattle.tables.specs.Rows.{number_of, length_of, is_of, with_cells, document_cells, rows_at_sequence}
+use Rattle.tables.specs.Schema.{schema, meta_tree, dbs_tree, docs_tree, revs_tree, locals_tree}
 use Rattle.tables.specs.Steps.{Changes}
 
 -- two changes of one table are one
@@ -34,3 +38,32 @@ revisions_changed (e ∷ es) db id a c h =
 -- where the schema is ours, each table but that one is as it was
 pub other_tables : (tree : ℕ) (now : List Row) (a b : Database) → a.schema ≡ schema → Changes tree now a b → AllByRecursion (λ t. t.tree ≢ tree → b.trees t.tree ≡ a.trees t.tree) schema.tables
 other_tables tree now a b is h = subst (λ (s : Schema). AllByRecursion (λ t. t.tree ≢ tree → b.trees t.tree ≡ a.trees t.tree) s.tables) is h.others
+
+-- the tables after a write, by those before it
+pub record IsAfter (t u : Trees) (r : Row) (w : DocumentWrite) (best : Revision) : Type 0 where
+  pub meta : u meta_tree ≡ t meta_tree
+  pub dbs : u dbs_tree ≡ rows_at_sequence (number_of r) (pos (length_of r + 1)) (t dbs_tree)
+  pub docs : u docs_tree
+      ≡ with_cells (filter (λ x. not (is_of (number_of r) w.id x)) (t docs_tree)) (document_cells (number_of r) w.id (pos (length_of r + 1)) (text_of best) (is_deleted (held_of (history_after t r w) best)))
+  pub revs : u revs_tree ≡ with_revisions (t revs_tree) (number_of r) w.id (new_entries (history_before t r w) w.write)
+  pub locals : u locals_tree ≡ t locals_tree
+
+pub written : (r : Row) (w : DocumentWrite) (a e : Database) → a.schema ≡ schema → (h : IsWrite r w a e) → IsAfter a.trees e.trees r w h.best
+written r w a e is h =
+    let one = revisions_changed (new_entries (history_before a.trees r w) w.write) (number_of r) w.id a h.inserted h.revisions in
+    let schema_b = one.schema ∙ is in
+    let schema_c = h.removes.schema ∙ schema_b in
+    let schema_d = h.places.schema ∙ schema_c in
+    let b = other_tables revs_tree _ a h.inserted is one in
+    let c = other_tables docs_tree _ h.inserted h.removed schema_b h.removes in
+    let d = other_tables docs_tree _ h.removed h.placed schema_c h.places in
+    let f = other_tables dbs_tree _ h.placed e schema_d h.advances in
+    let cells = document_cells (number_of r) w.id (pos (length_of r + 1)) (text_of h.best) (is_deleted (held_of (history_after a.trees r w) h.best)) in
+    record {
+      meta = f.0 (λ same. omega arith) ∙ d.0 (λ same. omega arith) ∙ c.0 (λ same. omega arith) ∙ b.0 (λ same. omega arith);
+      dbs = h.advances.rows ∙ ap (rows_at_sequence (number_of r) (pos (length_of r + 1))) (d.1.0 (λ same. omega arith) ∙ c.1.0 (λ same. omega arith) ∙ b.1.0 (λ same. omega arith));
+      docs = f.1.1.0 (λ same. omega arith) ∙ h.places.rows
+          ∙ ap (λ rows. with_cells rows cells) (h.removes.rows ∙ ap (filter (λ x. not (is_of (number_of r) w.id x))) (b.1.1.0 (λ same. omega arith)));
+      revs = f.1.1.1.0 (λ same. omega arith) ∙ d.1.1.1.0 (λ same. omega arith) ∙ c.1.1.1.0 (λ same. omega arith) ∙ one.rows;
+      locals = f.1.1.1.1.0 (λ same. omega arith) ∙ d.1.1.1.1.0 (λ same. omega arith) ∙ c.1.1.1.1.0 (λ same. omega arith) ∙ b.1.1.1.1.0 (λ same. omega arith);
+    }

@@ -26,6 +26,7 @@ pub mod DocumentWriteEntries
 pub mod DocumentWriteHistories
 pub mod DocumentWriteDatabases
 pub mod DocumentWriteDocuments
+pub mod DocumentWrite
 pub mod Replaces
 pub mod MetaStatements
 pub mod Laid
