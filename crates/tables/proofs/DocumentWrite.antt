@@ -187,7 +187,7 @@ module _ (t u : Trees) (laid : IsLaid t) (name : List ℕ) (r : Row) (w : Docume
 
   -- ---- the databases
 
-  own_database : database_of u (row_at_sequence (pos sequence) r) ≡ with_one (database_of t r) w
+  pub own_database : database_of u (row_at_sequence (pos sequence) r) ≡ with_one (database_of t r) w
   own_database =
       let made : documents_in (u docs_tree) (u revs_tree) db ≡ finite.insert (documents_in (t docs_tree) (t revs_tree) db) w.id (record { sequence = sequence; history = with_write (history_at (database_of t r) w.id) w.write }) =
       ap (λ rows. documents_in rows (u revs_tree) db) after.docs
@@ -234,9 +234,6 @@ module _ (t u : Trees) (laid : IsLaid t) (name : List ℕ) (r : Row) (w : Docume
   pub named_row : slice_get (filter (is_named name) (u dbs_tree)) 0 ≡ Some (row_at_sequence (pos sequence) r)
   named_row = ap (λ rows. slice_get (filter (is_named name) rows) 0) after.dbs ∙ dbs.named_now db sequence (t dbs_tree) name r ok.found ∙ ap Some (dbs.advanced_own db sequence r own_number)
 
-  pub own_database_now : database_of u (row_at_sequence (pos sequence) r) ≡ with_one (database_of t r) w
-  own_database_now = own_database
-
   pub laid_out : IsLaid u
   laid_out = record {
     version = after.meta ∙ laid.version;
@@ -271,5 +268,8 @@ module _ (a e : sqlite.Database) (name : List ℕ) (r : Row) (w : DocumentWrite)
   pub one_write-contents : contents_in e.trees ≡ finite.insert (contents_in a.trees) name (with_one (database_of a.trees r) w)
   one_write-contents = contents a.trees e.trees is.laid name r w h.best ok h.best_is after
 
-  pub one_write-row : (slice_get (filter (is_named name) (e.trees dbs_tree)) 0 ≡ Some (row_at_sequence (pos (length_of r + 1)) r)) × (database_of e.trees (row_at_sequence (pos (length_of r + 1)) r) ≡ with_one (database_of a.trees r) w)
-  one_write-row = (named_row a.trees e.trees is.laid name r w h.best ok h.best_is after, own_database_now a.trees e.trees is.laid name r w h.best ok h.best_is after)
+  pub one_write-row : slice_get (filter (is_named name) (e.trees dbs_tree)) 0 ≡ Some (row_at_sequence (pos (length_of r + 1)) r)
+  one_write-row = named_row a.trees e.trees is.laid name r w h.best ok h.best_is after
+
+  pub one_write-database : database_of e.trees (row_at_sequence (pos (length_of r + 1)) r) ≡ with_one (database_of a.trees r) w
+  one_write-database = own_database a.trees e.trees is.laid name r w h.best ok h.best_is after
