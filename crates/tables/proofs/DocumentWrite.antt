@@ -1,10 +1,9 @@
 -- One write of a document: the tables are laid out after it, and hold the database with the write.
-use Rattle.std.proofs.Common.{◌≡◌, ◌≢◌, ◌≤◌, ◌<◌, ◌+◌, ℕ, ℤ, pos, Bool, true, false, not, ◌&&◌, List, [], ◌∷◌, map, filter, slice_get, find, Option, Some, None, option_map, int_eq, is_some, nat_cmp, bytes_eq, refl, sym, ap, ap₂, subst, ◌∙◌, arith}
+use Rattle.std.proofs.Common.{◌≡◌, ◌≢◌, ◌<◌, ◌+◌, ℕ, ℤ, pos, Bool, true, false, not, List, [], ◌∷◌, map, filter, slice_get, Some, None, option_map, int_eq, is_some, bytes_eq, refl, sym, ap, ap₂, subst, ◌∙◌, arith}
 use Rattle.std.proofs.Math.Logic.{∥∥₁_map}
 use Rattle.std.proofs.lemmas.Bool.{both_ways}
 use Rattle.std.proofs.lemmas.Bool.Decides.{Decides-int_eq}
 use Rattle.std.proofs.lemmas.Cmp.{nat_list_cmp_total}
-use Rattle.std.specs.Cmp.Lexicographic.{slice_cmp}
 use Rattle.std.specs.FinMap as finite
 use Rattle.std.specs.List.{AllByRecursion, list_any}
 use Rattle.std.specs.Prelude.{◌↔◌}
@@ -12,12 +11,10 @@ use Rattle.tree.specs.History.{HistoryContent, is_known, is_deleted, held_of, pl
 use Rattle.tree.specs.Revision.{Revision, text_of}
 use Rattle.tree.specs.Write.{StandsIn, counts_down, held_by}
 use Rattle.tree.specs.declared.entry.Entry.{Entry}
-use Rattle.tree.specs.declared.entry.Held.{Held}
 use Rattle.tree.proofs.Contents.{entry_kept, write_shows}
-use Rattle.tree.proofs.Continued.{IsAdded, added_is}
+use Rattle.tree.proofs.Continued.{added_is}
 use Rattle.tree.proofs.Shown.{inside, right_some, stands_found, whole_counts}
-use Rattle.store.specs.Contents.{Contents}
-use Rattle.store.specs.Database.{Database, Document, DocumentWrite, history_at, with_one}
+use Rattle.store.specs.Database.{Database, DocumentWrite, history_at, with_one}
 use Rattle.store.specs.Lawful.{AreLawful}
 use Rattle.store.proofs.Lawfuls.{lawful_by_one, lawful_insert}
 use Rattle.sqlite_value.specs.Order.{Row}
@@ -26,8 +23,8 @@ use Rattle.sqlite_keyed.proofs.ListLemmas.{all_of, all_both, all_weaker, all-app
 use Rattle.sqlite.specs.Effect as sqlite
 use Rattle.tables.specs.Edits.{IsWritable, IsWrite, new_entries, history_before, history_after}
 use Rattle.tables.specs.Layout.{AreNumbered, IsDatabaseNumber, IsDatabaseRow, IsDocumentRow, IsRevisionRow, IsLocalRow, IsLaid, IsStore, database_at}
-use Rattle.tables.specs.Rows.{number_of, name_of, db_of, id_of, is_of, is_named, has_number, length_of, security_of, sequence_of, is_set, flag, document_row, revision_row, entry_of, row_at_sequence, history_in, locals_in, documents_in, database_of, contents_in}
-use Rattle.tables.specs.Schema.{meta_tree, dbs_tree, docs_tree, revs_tree, locals_tree}
+use Rattle.tables.specs.Rows.{number_of, name_of, db_of, id_of, is_of, is_named, has_number, length_of, security_of, sequence_of, document_row, revision_row, entry_of, row_at_sequence, history_in, locals_in, documents_in, database_of, contents_in}
+use Rattle.tables.specs.Schema.{dbs_tree, docs_tree, revs_tree, locals_tree}
 use Rattle.tables.proofs.DocumentWriteDatabases as dbs
 use Rattle.tables.proofs.DocumentWriteDocuments as docs
 use Rattle.tables.proofs.DocumentWriteEntries.{IsKept, IsPathEntry, path_entries_are, entries_apart, entry_again, flag_again}
@@ -61,12 +58,12 @@ module _ (t u : Trees) (laid : IsLaid t) (name : List ℕ) (r : Row) (w : Docume
   counts = whole_counts w.write.path (added_is before w.write.path (ap (λ (h : HistoryContent). placement h w.write.path) (sym (document_found t r w.id laid)) ∙ ok.acceptable.placed)).whole
 
   kept : IsKept (held_by w.write)
-  kept = record { body = record { object = ok.acceptable.body; shallow = ok.acceptable.shallow }; lawful = ok.body }
+  kept = record { body = record { object = ok.acceptable.body; shallow = ok.acceptable.shallow }; lawful = ok.storable.body }
 
   entries_are : AllByRecursion (IsPathEntry w.write.path) entries
   entries_are =
       all-filter (IsPathEntry w.write.path) (λ e. not (is_known before e.0)) (write_entries w.write)
-      (path_entries_are w.write.path w.write.path (Some (held_by w.write)) (λ p stands. stands) counts ok.revisions (λ held is. subst IsKept (inside (held_by w.write) held is) kept))
+      (path_entries_are w.write.path w.write.path (Some (held_by w.write)) (λ p stands. stands) counts ok.storable.revisions (λ held is. subst IsKept (inside (held_by w.write) held is) kept))
 
   own_history : history_in (u revs_tree) db w.id ≡ history_after t r w
   own_history =
@@ -125,7 +122,7 @@ module _ (t u : Trees) (laid : IsLaid t) (name : List ℕ) (r : Row) (w : Docume
   new_document = record {
     is = ap (λ b. document_row (number_of row) db w.id (pos sequence) (text_of best) b) (sym (flag_again gone));
     there = number_still db (dbs.is_there (t dbs_tree) name r laid.dbs_numbered laid.names_apart ok.found);
-    named = ok.named;
+    named = ok.storable.named;
     positive = omega arith;
     within = λ d is. let now = dbs.now_at (t dbs_tree) name r laid.dbs_numbered laid.names_apart ok.found sequence d (ap (λ rows. database_at rows db) (sym after.dbs) ∙ is) in omega (arith, now);
     won = ap (λ (h : HistoryContent). option_map text_of (winner h)) own_history ∙ ap (option_map text_of) best_is;

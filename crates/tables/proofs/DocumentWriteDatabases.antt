@@ -1,14 +1,13 @@
 -- The databases' rows, where the one of this number has another sequence.
-use Rattle.std.proofs.Common.{◌≡◌, ◌≢◌, ◌≤◌, ◌<◌, ◌^◌, ◌<ℤ◌, ℕ, ℤ, pos, Bool, true, false, cond, if◌then◌else◌, List, [], ◌∷◌, map, filter, find, slice_get, Option, Some, None, option_map, int_eq, is_some, refl, sym, ap, ap₂, subst, subst₂, ◌∙◌, arith}
+use Rattle.std.proofs.Common.{◌≡◌, ◌≢◌, ◌≤◌, ◌<◌, ◌^◌, ℕ, ℤ, pos, Bool, true, false, cond, if◌then◌else◌, List, [], ◌∷◌, map, filter, find, slice_get, Option, Some, None, option_map, int_eq, is_some, refl, sym, ap, ap₂, subst, subst₂, ◌∙◌, arith}
 use Rattle.std.proofs.lemmas.Bool.Decides.{Decides-int_eq}
 use Rattle.std.specs.List.{AllByRecursion, list_any}
-use Rattle.sqlite_value.specs.declared.value.Value.TheVariants.{Int}
 use Rattle.sqlite_value.specs.Order.{Row}
-use Rattle.sqlite_trees.specs.Tree.{IsAscending, rowid}
-use Rattle.sqlite_keyed.proofs.ListLemmas.{all_of, all_weaker, all_map, all-slice_get, ascending-map, ascending_weaker, slice_get-filter}
+use Rattle.sqlite_trees.specs.Tree.{IsAscending}
+use Rattle.sqlite_keyed.proofs.ListLemmas.{all_weaker, all_map, ascending-map, ascending_weaker, slice_get-filter}
 use Rattle.tables.specs.Layout.{AreNumbered, IsDatabaseRow, database_at}
 use Rattle.tables.specs.Rows.{number_of, name_of, length_of, security_text, database_row, has_number, is_named, row_at_sequence, rows_at_sequence}
-use Rattle.tables.proofs.RowMaps.{any_found, find_found, find_passes, only_found, one_test}
+use Rattle.tables.proofs.RowMaps.{any_found, find_found, only_found, one_test}
 use Rattle.tables.proofs.Tables.{one_named, one_numbered}
 
 find-map : (q : Row → Bool) (f : Row → Row) (rows : List Row) → find q (map f rows) ≡ option_map f (find (λ r. q (f r)) rows)

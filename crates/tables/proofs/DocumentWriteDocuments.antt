@@ -10,7 +10,7 @@ use Rattle.std.specs.Cmp.Lexicographic.{slice_cmp}
 use Rattle.std.specs.FinMap as finite
 use Rattle.std.specs.List.{AllByRecursion, list_any}
 use Rattle.std.specs.Ordering.{eq_by_cmp}
-use Rattle.store.specs.Database.{Document, TextMap}
+use Rattle.store.specs.Database.{TextMap}
 use Rattle.sqlite_value.specs.Order.{Row}
 use Rattle.sqlite_value.specs.declared.value.Value.TheVariants.{Int}
 use Rattle.sqlite_trees.specs.Tree.{IsAscending, rowid}
@@ -85,14 +85,17 @@ and_false : (a : Bool) → (a && false) ≡ false
 and_false true = refl
 and_false false = refl
 
-insert_removed : {X : Type 0} (m : TextMap X) (k : List ℕ) (x : X) → finite.insert (finite.remove m k) k x ≡ finite.insert m k x
-insert_removed {X} m k x = finite.same_map nat_list_cmp_total text_exact _ _ (λ q.
-    finite.get-insert nat_list_cmp_total (finite.remove m k) k x q ∙ ap (cond (eq_by_cmp (slice_cmp nat_cmp) q k) (Some x)) (finite.get-remove nat_list_cmp_total m k q)
-    ∙ shadowed (eq_by_cmp (slice_cmp nat_cmp) q k) (Some x) None (finite.get m q) ∙ sym (finite.get-insert nat_list_cmp_total m k x q))
+-- what stands at a key does not matter to what is put in there
+pub insert_over : {X : Type 0} (m n : TextMap X) (k : List ℕ) (x : X) → ((q : List ℕ) → eq_by_cmp (slice_cmp nat_cmp) q k ≡ false → finite.get m q ≡ finite.get n q) → finite.insert m k x ≡ finite.insert n k x
+insert_over {X} m n k x alike =
+    finite.same_map nat_list_cmp_total text_exact _ _ (λ q. finite.get-insert nat_list_cmp_total m k x q ∙ go q (eq_by_cmp (slice_cmp nat_cmp) q k) refl ∙ sym (finite.get-insert nat_list_cmp_total n k x q))
   where
-    shadowed : (b : Bool) (x y z : Option X) → cond b x (cond b y z) ≡ cond b x z
-    shadowed true x y z = refl
-    shadowed false x y z = refl
+    go : (q : List ℕ) (b : Bool) → eq_by_cmp (slice_cmp nat_cmp) q k ≡ b → cond (eq_by_cmp (slice_cmp nat_cmp) q k) (Some x) (finite.get m q) ≡ cond (eq_by_cmp (slice_cmp nat_cmp) q k) (Some x) (finite.get n q)
+    go q true ties = ap (λ b. cond b (Some x) (finite.get m q)) ties ∙ ap (λ b. cond b (Some x) (finite.get n q)) (sym ties)
+    go q false apart = ap (cond (eq_by_cmp (slice_cmp nat_cmp) q k) (Some x)) (alike q apart)
+
+insert_removed : {X : Type 0} (m : TextMap X) (k : List ℕ) (x : X) → finite.insert (finite.remove m k) k x ≡ finite.insert m k x
+insert_removed m k x = insert_over (finite.remove m k) m k x (λ q apart. finite.get-remove nat_list_cmp_total m k q ∙ ap (λ b. cond b None (finite.get m q)) apart)
 
 -- the documents' rows after a write
 module _ (rows : List Row) (db : ℤ) (id : List ℕ) (sequence : ℕ) (text : List ℕ) (gone : Bool) where

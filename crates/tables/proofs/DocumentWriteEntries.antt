@@ -1,6 +1,6 @@
 -- What a path says of its revisions is read back from the rows that are put in for them.
-use Rattle.std.proofs.Common.{◌≡◌, ◌≢◌, ◌≤◌, ◌-◌, suc, ℕ, ℤ, Bool, true, false, not, length, List, [], ◌∷◌, Option, Some, None, option_map, inl, inr, refl, sym, ap, ap₂, subst, ◌∙◌, arith, eqb-true, if◌then◌else◌}
-use Rattle.std.specs.Prelude.{◌↔◌, IsTrue}
+use Rattle.std.proofs.Common.{◌≡◌, ◌≢◌, ◌≤◌, ◌-◌, suc, ℕ, ℤ, Bool, true, false, length, List, [], ◌∷◌, Option, Some, None, option_map, inl, inr, refl, ap, ap₂, arith, eqb-true, if◌then◌else◌}
+use Rattle.std.specs.Prelude.{◌↔◌}
 use Rattle.std.specs.List.{AllByRecursion}
 use Rattle.couch_json.specs.Lawful as lawful
 use Rattle.couch_json.specs.Value as json
@@ -30,18 +30,24 @@ pub record IsPathEntry (path : List Revision) (e : Revision × Entry) : Type 0 w
   pub follows : (p : Revision) → e.1.parent ≡ Some p → StandsIn path p
   pub kept : (held : Held) → e.1.held ≡ Some held → IsKept held
 
+first_number : (r : Revision) (rest : List Revision) → counts_down (r ∷ rest) ≡ true → r.number ≡ suc (length rest)
+first_number r rest counts = eqb-true r.number (suc (length rest)) (parts _ _ counts).0
+
+rest_counts : (r : Revision) (rest : List Revision) → counts_down (r ∷ rest) ≡ true → counts_down rest ≡ true
+rest_counts r rest counts = (parts _ _ counts).1
+
 parent_again : (r : Revision) (rest : List Revision) → counts_down (r ∷ rest) ≡ true → parent_in r.number (parent_cell (head rest)) ≡ head rest
 parent_again r [] counts = refl
 parent_again r (s ∷ rest) counts =
-    let n : r.number ≡ suc (length (s ∷ rest)) = eqb-true r.number (suc (length (s ∷ rest))) (parts _ _ counts).0 in
-    let m : s.number ≡ suc (length rest) = eqb-true s.number (suc (length rest)) (parts _ _ (parts _ _ counts).1).0 in
-    let less : r.number - 1 ≡ s.number = omega arith in
+    let n : r.number ≡ suc (length (s ∷ rest)) = first_number r (s ∷ rest) counts in
+    let m : s.number ≡ suc (length rest) = first_number s rest (rest_counts r (s ∷ rest) counts) in
+    let less : r.number - 1 ≡ s.number = omega (arith, n, m) in
     ap (λ (k : ℕ). Some (record { number = k; hash = s.hash })) less
 
 first_is : (r : Revision) (rest : List Revision) → counts_down (r ∷ rest) ≡ true → (head rest ≡ None) ↔ (r.number ≡ 1)
-first_is r [] counts = (λ _. eqb-true r.number 1 (parts _ _ counts).0, λ _. refl)
+first_is r [] counts = (λ _. first_number r [] counts, λ _. refl)
 first_is r (s ∷ rest) counts =
-    let n : r.number ≡ suc (length (s ∷ rest)) = eqb-true r.number (suc (length (s ∷ rest))) (parts _ _ counts).0 in
+    let n : r.number ≡ suc (length (s ∷ rest)) = first_number r (s ∷ rest) counts in
     (λ none. absurd (cc), λ one. absurd (omega arith))
 
 head_stands : (rest : List Revision) (p : Revision) → head rest ≡ Some p → StandsIn rest p
@@ -54,7 +60,7 @@ pub path_entries_are : (whole path : List Revision) (d : Option Held) → ((p : 
 path_entries_are whole [] d within counts lawful kept = tt
 path_entries_are whole (r ∷ rest) d within counts lawful kept = (
   record { lawful = lawful.0; again = parent_again r rest counts; first = first_is r rest counts; follows = λ p up. within p (inr (head_stands rest p up)); kept = kept },
-  path_entries_are whole rest None (λ p stands. within p (inr stands)) (parts _ _ counts).1 lawful.1 (λ held none. cc),
+  path_entries_are whole rest None (λ p stands. within p (inr stands)) (rest_counts r rest counts) lawful.1 (λ held none. cc),
 )
 
 -- ---- no revision stands twice in a path
@@ -62,14 +68,14 @@ path_entries_are whole (r ∷ rest) d within counts lawful kept = (
 numbers_below : (path : List Revision) (d : Option Held) → counts_down path ≡ true → AllByRecursion (λ e. e.0.number ≤ length path) (path_entries d path)
 numbers_below [] d counts = tt
 numbers_below (r ∷ rest) d counts =
-    let n : r.number ≡ suc (length rest) = eqb-true r.number (suc (length rest)) (parts _ _ counts).0 in
-    (omega arith, all_weaker (λ e. e.0.number ≤ length rest) (λ e. e.0.number ≤ length (r ∷ rest)) (λ e k. omega arith) _ (numbers_below rest None (parts _ _ counts).1))
+    let n : r.number ≡ suc (length rest) = first_number r rest counts in
+    (omega arith, all_weaker (λ e. e.0.number ≤ length rest) (λ e. e.0.number ≤ length (r ∷ rest)) (λ e k. omega arith) _ (numbers_below rest None (rest_counts r rest counts)))
 
 pub entries_apart : (path : List Revision) (d : Option Held) → counts_down path ≡ true → IsAscending (λ a b. a.0 ≢ b.0) (path_entries d path)
 entries_apart [] d counts = tt
 entries_apart (r ∷ rest) d counts =
-    let n : r.number ≡ suc (length rest) = eqb-true r.number (suc (length rest)) (parts _ _ counts).0 in
-    let less = (parts _ _ counts).1 in (
+    let n : r.number ≡ suc (length rest) = first_number r rest counts in
+    let less : counts_down rest ≡ true = rest_counts r rest counts in (
       all_weaker (λ e. e.0.number ≤ length rest) (λ e. r ≢ e.0) (λ e k same. omega (arith, ap (λ (x : Revision). x.number) same)) _ (numbers_below rest None less),
       entries_apart rest None less,
     )

@@ -1,5 +1,5 @@
 -- Revisions that are put in one after another are one change, and what a change leaves of the other tables.
-use Rattle.std.proofs.Common.{◌≡◌, ◌≢◌, ◌+◌, ℕ, ℤ, pos, not, List, [], ◌∷◌, filter, refl, sym, ap, subst, ◌∙◌, arith}
+use Rattle.std.proofs.Common.{◌≡◌, ◌≢◌, ◌+◌, ℕ, ℤ, pos, not, List, [], ◌∷◌, ◌++◌, filter, refl, sym, ap, subst, ◌∙◌, arith}
 use Rattle.std.specs.List.{AllByRecursion}
 use Rattle.sqlite_value.specs.Order.{Row}
 use Rattle.sqlite_schema.specs.declared.schema.Schema.{Schema}
@@ -11,9 +11,11 @@ use Rattle.tree.specs.History.{is_deleted, held_of}
 use Rattle.tree.specs.Revision.{Revision, text_of}
 use Rattle.tree.specs.declared.entry.Entry.{Entry}
 use Rattle.tables.specs.Edits.{AreInserted, IsWrite, with_revisions, new_entries, history_before, history_after}
-use Rattle.tables.specs.Rows.{number_of, length_of, is_of, with_cells, document_cells, rows_at_sequence}
+use Rattle.tables.specs.Layout.{AreKeyed}
+use Rattle.tables.specs.Rows.{number_of, length_of, is_of, with_cells, document_cells, revision_cells, rows_at_sequence}
 use Rattle.tables.specs.Schema.{schema, meta_tree, dbs_tree, docs_tree, revs_tree, locals_tree}
 use Rattle.tables.specs.Steps.{Changes}
+use Rattle.tables.proofs.Kept.{keyed-with_cells}
 
 -- two changes of one table are one
 pub changes_then : (tree : ℕ) (mid now : List Row) (a b c : Database) → Changes tree mid a b → Changes tree now b c → Changes tree now a c
@@ -34,6 +36,18 @@ revisions_changed [] db id a c same = subst (Changes revs_tree (a.trees revs_tre
 revisions_changed (e ∷ es) db id a c h =
     changes_then revs_tree _ _ a h.0 c h.1
     (subst (λ (rows : List Row). Changes revs_tree (with_revisions rows db id es) h.0 c) h.1.rows (revisions_changed es db id h.0 c h.2))
+
+pub inserted_more : (es : List (Revision × Entry)) (e : Revision × Entry) (db : ℤ) (id : List ℕ) (a b c : Database) → AreInserted es db id a b → Changes revs_tree (with_cells (b.trees revs_tree) (revision_cells db id e.0 e.1)) b c
+    → AreInserted (es ++ e ∷ []) db id a c
+inserted_more [] e db id a b c same h = (c, subst (λ (x : Database). Changes revs_tree (with_cells (x.trees revs_tree) (revision_cells db id e.0 e.1)) x c) (sym same) h, refl)
+inserted_more (f ∷ es) e db id a b c h k = (h.0, h.1, inserted_more es e db id h.0 b c h.2 k)
+
+keyed-with_revisions : (es : List (Revision × Entry)) (rows : List Row) (db : ℤ) (id : List ℕ) → AreKeyed rows → AreKeyed (with_revisions rows db id es)
+keyed-with_revisions [] rows db id h = h
+keyed-with_revisions (e ∷ es) rows db id h = keyed-with_revisions es (with_cells rows (revision_cells db id e.0 e.1)) db id (keyed-with_cells rows db id _ h)
+
+pub inserted_fit : (es : List (Revision × Entry)) (db : ℤ) (id : List ℕ) (a c : Database) → AreInserted es db id a c → AreKeyed (a.trees revs_tree) → AreKeyed (c.trees revs_tree)
+inserted_fit es db id a c h fit = subst AreKeyed (sym (revisions_changed es db id a c h).rows) (keyed-with_revisions es (a.trees revs_tree) db id fit)
 
 -- where the schema is ours, each table but that one is as it was
 pub other_tables : (tree : ℕ) (now : List Row) (a b : Database) → a.schema ≡ schema → Changes tree now a b → AllByRecursion (λ t. t.tree ≢ tree → b.trees t.tree ≡ a.trees t.tree) schema.tables

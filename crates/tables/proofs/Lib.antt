@@ -27,6 +27,7 @@ pub mod DocumentWriteHistories
 pub mod DocumentWriteDatabases
 pub mod DocumentWriteDocuments
 pub mod DocumentWrite
+pub mod DocumentWrites
 pub mod Replaces
 pub mod MetaStatements
 pub mod Laid

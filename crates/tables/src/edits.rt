@@ -1,14 +1,38 @@
-//! What one write of a document, done as statements, makes of the tables. Each function has an empty body: its contract is the law.
+//! What writes of documents, done as statements, make of the tables. Each function has an empty body: its contract is the law.
 
-ghost use Rattle.std.specs.Prelude.{◌≡◌, ◌+◌, ℕ, pos, List, Some, filter, slice_get};
+ghost use Rattle.std.specs.Prelude.{◌≡◌, ◌+◌, ◌<◌, ◌^◌, ◌++◌, ◌∷◌, [], ℕ, ℤ, pos, List, Some, filter, length, slice_get};
 ghost use Rattle.std.specs.FinMap as map;
 ghost use Rattle.sqlite.specs.Effect as sqlite;
+ghost use Rattle.sqlite_trees.specs.Tree.{Trees};
 ghost use Rattle.sqlite_value.specs.Order.{Row};
-ghost use Rattle.store.specs.Database.{DocumentWrite, with_one};
-ghost use Rattle.tables.specs.Edits.{IsWritable, IsWrite};
-ghost use Rattle.tables.specs.Layout.{IsStore};
-ghost use Rattle.tables.specs.Rows.{contents_in, database_of, is_named, length_of, row_at_sequence};
-ghost use Rattle.tables.specs.Schema.{dbs_tree};
+ghost use Rattle.store.specs.Contents.{AreAcceptable, IsAcceptable};
+ghost use Rattle.store.specs.Database.{Database, DocumentWrite, with_all, with_one};
+ghost use Rattle.tables.specs.Edits.{AreInserted, HasWritten, IsStorable, IsWritable, IsWrite, row_after, with_revisions};
+ghost use Rattle.tables.specs.Layout.{AreDatabaseRows, AreKeyed, IsLaid, IsStore};
+ghost use Rattle.tables.specs.Rows.{contents_in, database_of, is_named, length_of, revision_cells, row_at_sequence, with_cells};
+ghost use Rattle.tables.specs.Schema.{dbs_tree, docs_tree, locals_tree, revs_tree};
+ghost use Rattle.tables.specs.Steps.{Changes};
+ghost use Rattle.tree.specs.Revision.{Revision};
+ghost use Rattle.tree.specs.declared.entry.Entry.{Entry};
+
+/// Where rows are laid out, each table is fit for a change.
+pub fn rows_of_a_layout()
+    ensures databases { (trees : Trees) → IsLaid trees → AreDatabaseRows (trees dbs_tree) }
+    ensures documents { (trees : Trees) → IsLaid trees → AreKeyed (trees docs_tree) }
+    ensures revisions { (trees : Trees) → IsLaid trees → AreKeyed (trees revs_tree) }
+    ensures locals { (trees : Trees) → IsLaid trees → AreKeyed (trees locals_tree) }
+{}
+
+/// Revisions that are put in one after another are one change of their table, which stays fit for more.
+pub fn inserted_revisions()
+    ensures none { (db : ℤ) (id : List ℕ) (a : sqlite.Database) → AreInserted [] db id a a }
+    ensures more { (es : List (Revision × Entry)) (e : Revision × Entry) (db : ℤ) (id : List ℕ) (a b c : sqlite.Database) → AreInserted es db id a b
+        → Changes revs_tree (with_cells (b.trees revs_tree) (revision_cells db id e.0 e.1)) b c → AreInserted (es ++ e ∷ []) db id a c }
+    ensures change { (es : List (Revision × Entry)) (db : ℤ) (id : List ℕ) (a c : sqlite.Database) → AreInserted es db id a c
+        → Changes revs_tree (with_revisions (a.trees revs_tree) db id es) a c }
+    ensures fit { (es : List (Revision × Entry)) (db : ℤ) (id : List ℕ) (a c : sqlite.Database) → AreInserted es db id a c
+        → AreKeyed (a.trees revs_tree) → AreKeyed (c.trees revs_tree) }
+{}
 
 /// A write of a document makes the database with that write, and leaves the tables laid out; the
 /// database's row has the next sequence.
@@ -21,4 +45,16 @@ pub fn one_write()
         → slice_get (filter (is_named name) (e.trees dbs_tree)) 0 ≡ Some (row_at_sequence (pos (length_of r + 1)) r) }
     ensures database { (a e : sqlite.Database) (name : List ℕ) (r : Row) (w : DocumentWrite) → IsStore a → IsWritable a.trees name r w → IsWrite r w a e
         → database_of e.trees (row_at_sequence (pos (length_of r + 1)) r) ≡ with_one (database_of a.trees r) w }
+{}
+
+/// Writes that are done one after another are all of them in the database: none at first, and then
+/// one more each time. Of writes that may be accepted in turn, each may be accepted after those before it.
+pub fn more_writes()
+    ensures none { (a : sqlite.Database) (name : List ℕ) (r : Row) → IsStore a → slice_get (filter (is_named name) (a.trees dbs_tree)) 0 ≡ Some r
+        → HasWritten [] name r a a }
+    ensures one_more { (ws : List DocumentWrite) (w : DocumentWrite) (name : List ℕ) (r : Row) (a b c : sqlite.Database) → HasWritten ws name r a b
+        → IsAcceptable (with_all (database_of a.trees r) ws) w → IsStorable w → length_of r + length ws + 1 < 2 ^ 63 → IsWrite (row_after r (length ws)) w b c
+        → HasWritten (ws ++ w ∷ []) name r a c }
+    ensures in_turn { (ws : List DocumentWrite) (db : Database) (w : DocumentWrite) (more : List DocumentWrite) → AreAcceptable db (ws ++ w ∷ more)
+        → IsAcceptable (with_all db ws) w }
 {}
