@@ -28,6 +28,7 @@ pub mod DocumentWriteDatabases
 pub mod DocumentWriteDocuments
 pub mod DocumentWrite
 pub mod DocumentWrites
+pub mod DocumentWriteNews
 pub mod Replaces
 pub mod MetaStatements
 pub mod Laid

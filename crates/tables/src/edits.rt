@@ -1,18 +1,22 @@
 //! What writes of documents, done as statements, make of the tables. Each function has an empty body: its contract is the law.
 
-ghost use Rattle.std.specs.Prelude.{◌≡◌, ◌+◌, ◌<◌, ◌^◌, ◌++◌, ◌∷◌, [], ℕ, ℤ, pos, List, Some, filter, length, slice_get};
+ghost use Rattle.std.specs.Prelude.{◌≡◌, ◌+◌, ◌<◌, ◌^◌, ◌++◌, ◌∷◌, [], ℕ, ℤ, pos, IsTrue, List, None, Some, filter, if◌then◌else◌, length, not, slice_get};
 ghost use Rattle.std.specs.FinMap as map;
 ghost use Rattle.sqlite.specs.Effect as sqlite;
 ghost use Rattle.sqlite_trees.specs.Tree.{Trees};
 ghost use Rattle.sqlite_value.specs.Order.{Row};
 ghost use Rattle.store.specs.Contents.{AreAcceptable, IsAcceptable};
 ghost use Rattle.store.specs.Database.{Database, DocumentWrite, with_all, with_one};
-ghost use Rattle.tables.specs.Edits.{AreInserted, HasWritten, IsStorable, IsWritable, IsWrite, row_after, with_revisions};
+ghost use Rattle.store.specs.Writing.{Addition, written_in};
+ghost use Rattle.tables.specs.Edits.{AreInserted, HasWritten, IsStorable, IsWritable, IsWrite, new_entries, row_after, with_revisions};
 ghost use Rattle.tables.specs.Layout.{AreDatabaseRows, AreKeyed, IsLaid, IsStore};
 ghost use Rattle.tables.specs.Rows.{contents_in, database_of, is_named, length_of, revision_cells, row_at_sequence, with_cells};
 ghost use Rattle.tables.specs.Schema.{dbs_tree, docs_tree, locals_tree, revs_tree};
 ghost use Rattle.tables.specs.Steps.{Changes};
-ghost use Rattle.tree.specs.Revision.{Revision};
+ghost use Rattle.tree.specs.History.{HistoryContent, behind, is_known};
+ghost use Rattle.tree.specs.Nodes.{entries_before};
+ghost use Rattle.tree.specs.Revision.{Revision, is_revision};
+ghost use Rattle.tree.specs.Write.{head};
 ghost use Rattle.tree.specs.declared.entry.Entry.{Entry};
 
 /// Where rows are laid out, each table is fit for a change.
@@ -21,6 +25,15 @@ pub fn rows_of_a_layout()
     ensures documents { (trees : Trees) → IsLaid trees → AreKeyed (trees docs_tree) }
     ensures revisions { (trees : Trees) → IsLaid trees → AreKeyed (trees revs_tree) }
     ensures locals { (trees : Trees) → IsLaid trees → AreKeyed (trees locals_tree) }
+{}
+
+/// The revisions that a write of the code brings are those of its own path that are not known yet. The
+/// last of the path follows the parent that the write names, where that is known.
+pub fn new_revisions()
+    ensures entries { (h : HistoryContent) (a : Addition) → new_entries h (written_in h a).write
+        ≡ filter (λ e. not (is_known h e.0)) (entries_before (Some (record { deleted = a.deleted; body = a.body })) a.path (head (behind h a.parent))) }
+    ensures parent { (h : HistoryContent) (p : Revision) → IsTrue (is_revision p) → head (behind h (Some p)) ≡ (if is_known h p then Some p else None) }
+    ensures no_parent { (h : HistoryContent) → head (behind h None) ≡ None }
 {}
 
 /// Revisions that are put in one after another are one change of their table, which stays fit for more.
