@@ -1,6 +1,9 @@
--- What a write of the code brings: the revisions of its own path that are not known, since all that stands behind its parent is.
-use Rattle.std.proofs.Common.{◌≡◌, ◌≤◌, ℕ, zero, suc, Bool, true, false, not, cond, List, [], ◌∷◌, ◌++◌, filter, Option, Some, None, refl, ap, ◌∙◌, arith, leb-true}
+-- What a write of the code brings: the revisions of its own path that are not known, since all that stands behind its parent is known and so lawful.
+use Rattle.std.proofs.Common.{◌≡◌, ◌≤◌, ℕ, ℤ, zero, suc, Bool, true, false, not, cond, List, [], ◌∷◌, ◌++◌, filter, Option, Some, None, refl, ap, ◌∙◌, arith, leb-true}
 use Rattle.std.specs.Prelude.{IsTrue}
+use Rattle.std.specs.List.{AllByRecursion}
+use Rattle.couch_json.specs.Lawful as json
+use Rattle.tree.specs.DocumentId.{is_document_id}
 use Rattle.tree.specs.History.{HistoryContent, is_known, parent_of, path_entries, line, onward, behind}
 use Rattle.tree.specs.Nodes.{entries_before, next_of}
 use Rattle.tree.specs.Revision.{Revision, is_revision}
@@ -10,7 +13,13 @@ use Rattle.tree.specs.declared.entry.Held.{Held}
 use Rattle.tree.proofs.Behind.{AllKnown, behind_known}
 use Rattle.tree.proofs.RevisionText.{parts}
 use Rattle.store.specs.Writing.{Addition, written_in}
-use Rattle.tables.specs.Edits.{new_entries}
+use Rattle.sqlite_trees.specs.Tree.{Trees}
+use Rattle.sqlite_keyed.proofs.ListLemmas.{all-append}
+use Rattle.tables.specs.Edits.{IsStorable, new_entries}
+use Rattle.tables.specs.Layout.{IsLaid}
+use Rattle.tables.specs.Rows.{history_in}
+use Rattle.tables.specs.Schema.{revs_tree}
+use Rattle.tables.proofs.Laid.{known_lawful}
 
 module _ (h : HistoryContent) where
   abbrev is_new : Revision × Entry → Bool
@@ -40,3 +49,17 @@ known_parent h p lawful = by p.number (leb-true 1 p.number (parts _ _ (parts _ _
     by : (n : ℕ) → 1 ≤ n → head (line h n p) ≡ cond (is_known h p) (Some p) None
     by zero low = absurd (omega arith)
     by (suc n) low = elim (is_known h p) as (λ b. head (cond b (p ∷ onward (λ q. line h n q) (parent_of h p)) []) ≡ cond b (Some p) None) [ true ↦ refl | false ↦ refl ]
+
+all_lawful : (h : HistoryContent) (rs : List Revision) → AllKnown h rs → ((q : Revision) → is_known h q ≡ true → is_revision q ≡ true) → AllByRecursion (λ v. IsTrue (is_revision v)) rs
+all_lawful h [] known lawful = tt
+all_lawful h (r ∷ rs) known lawful = (lawful r known.0, all_lawful h rs known.1 lawful)
+
+pub storable_addition : (trees : Trees) (db : ℤ) (a : Addition) → IsLaid trees → IsTrue (is_document_id a.id) → AllByRecursion (λ v. IsTrue (is_revision v)) a.path → json.IsLawful a.body
+    → IsStorable (written_in (history_in (trees revs_tree) db a.id) a)
+storable_addition trees db a laid named path body =
+    let h : HistoryContent = history_in (trees revs_tree) db a.id in
+    record {
+      named = named;
+      revisions = all-append (λ (v : Revision). IsTrue (is_revision v)) a.path (behind h a.parent) path (all_lawful h (behind h a.parent) (behind_known h a.parent) (λ q. known_lawful trees (trees revs_tree) db a.id q laid.revs));
+      body = body;
+    }

@@ -2,6 +2,8 @@
 
 ghost use Rattle.std.specs.Prelude.{◌≡◌, ◌+◌, ◌<◌, ◌^◌, ◌++◌, ◌∷◌, [], ℕ, ℤ, pos, IsTrue, List, None, Some, filter, if◌then◌else◌, length, not, slice_get};
 ghost use Rattle.std.specs.FinMap as map;
+ghost use Rattle.std.specs.List.{AllByRecursion};
+ghost use Rattle.couch_json.specs.Lawful.{IsLawful};
 ghost use Rattle.sqlite.specs.Effect as sqlite;
 ghost use Rattle.sqlite_trees.specs.Tree.{Trees};
 ghost use Rattle.sqlite_value.specs.Order.{Row};
@@ -10,9 +12,10 @@ ghost use Rattle.store.specs.Database.{Database, DocumentWrite, with_all, with_o
 ghost use Rattle.store.specs.Writing.{Addition, written_in};
 ghost use Rattle.tables.specs.Edits.{AreInserted, HasWritten, IsStorable, IsWritable, IsWrite, new_entries, row_after, with_revisions};
 ghost use Rattle.tables.specs.Layout.{AreDatabaseRows, AreKeyed, IsLaid, IsStore};
-ghost use Rattle.tables.specs.Rows.{contents_in, database_of, is_named, length_of, revision_cells, row_at_sequence, with_cells};
+ghost use Rattle.tables.specs.Rows.{contents_in, database_of, history_in, is_named, length_of, revision_cells, row_at_sequence, with_cells};
 ghost use Rattle.tables.specs.Schema.{dbs_tree, docs_tree, locals_tree, revs_tree};
 ghost use Rattle.tables.specs.Steps.{Changes};
+ghost use Rattle.tree.specs.DocumentId.{is_document_id};
 ghost use Rattle.tree.specs.History.{HistoryContent, behind, is_known};
 ghost use Rattle.tree.specs.Nodes.{entries_before};
 ghost use Rattle.tree.specs.Revision.{Revision, is_revision};
@@ -34,6 +37,13 @@ pub fn new_revisions()
         ≡ filter (λ e. not (is_known h e.0)) (entries_before (Some (record { deleted = a.deleted; body = a.body })) a.path (head (behind h a.parent))) }
     ensures parent { (h : HistoryContent) (p : Revision) → IsTrue (is_revision p) → head (behind h (Some p)) ≡ (if is_known h p then Some p else None) }
     ensures no_parent { (h : HistoryContent) → head (behind h None) ≡ None }
+{}
+
+/// Rows can say what a write of the code says: what it brings itself is lawful, and so is all that
+/// the rows know.
+pub fn storable_writes()
+    ensures { (trees : Trees) (db : ℤ) (a : Addition) → IsLaid trees → IsTrue (is_document_id a.id) → AllByRecursion (λ v. IsTrue (is_revision v)) a.path
+        → IsLawful a.body → IsStorable (written_in (history_in (trees revs_tree) db a.id) a) }
 {}
 
 /// Revisions that are put in one after another are one change of their table, which stays fit for more.
