@@ -27,3 +27,4 @@ pub mod Laid
 pub mod Setup
 pub mod RowMaps
 pub mod Lookups
+pub mod Rests
