@@ -28,3 +28,5 @@ pub mod Setup
 pub mod RowMaps
 pub mod Lookups
 pub mod Rests
+pub mod NewDatabases
+pub mod Secured

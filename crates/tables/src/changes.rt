@@ -1,15 +1,21 @@
 //! What the tables say by name and by id, and what the databases that they hold become as rows are
 //! changed. Each function has an empty body: its contract is the law.
 
-ghost use Rattle.std.specs.Prelude.{◌≡◌, ◌⊎◌, ◌∷◌, [], List, filter, map, option_map, slice_get, ℕ};
+ghost use Rattle.std.specs.Prelude.{◌≡◌, ◌⊎◌, ◌∷◌, [], IsTrue, List, None, filter, map, option_map, pos, slice_get, ℕ};
 ghost use Rattle.std.specs.FinMap as finite;
+ghost use Rattle.couch_json.specs.Canonical.{canonical};
+ghost use Rattle.policy.specs.Security.{closed_security};
+ghost use Rattle.store.specs.Contents as store;
 ghost use Rattle.store.specs.Database.{history_at};
+ghost use Rattle.store.specs.DatabaseName.{is_database_name};
+ghost use Rattle.sqlite.specs.Effect as sqlite;
 ghost use Rattle.sqlite_keyed.specs.Lists.{sort_by};
 ghost use Rattle.sqlite_trees.specs.Tree.{Trees};
 ghost use Rattle.sqlite_value.specs.Order.{Row};
-ghost use Rattle.tables.specs.Layout.{IsLaid};
-ghost use Rattle.tables.specs.Rows.{by_name, contents_in, database_of, history_in, is_named, is_of, local_of, name_of, number_of};
+ghost use Rattle.tables.specs.Layout.{IsLaid, IsStore};
+ghost use Rattle.tables.specs.Rows.{by_name, contents_in, database_cells, database_of, history_in, is_named, is_of, local_of, name_of, number_of, with_cells};
 ghost use Rattle.tables.specs.Schema.{dbs_tree, locals_tree, revs_tree};
+ghost use Rattle.tables.specs.Steps.{Changes};
 
 /// The database of a name is that of the row of this name, and at most one row has it.
 pub fn database_found()
@@ -33,4 +39,16 @@ pub fn document_found()
 /// The names of all databases are those of their rows, sorted.
 pub fn names_found()
     ensures { (trees : Trees) → IsLaid trees → finite.keys (contents_in trees) ≡ map name_of (sort_by by_name (trees dbs_tree)) }
+{}
+
+/// A row that is put behind the others, of a name that no database has, is a new database.
+pub fn new_database()
+    ensures store { (old new : sqlite.Database) (name : List ℕ) → IsStore old → IsTrue (is_database_name name)
+        → finite.get (contents_in old.trees) name ≡ None
+        → Changes dbs_tree (with_cells (old.trees dbs_tree) (database_cells name (canonical closed_security) (pos 0))) old new
+        → IsStore new }
+    ensures contents { (old new : sqlite.Database) (name : List ℕ) → IsStore old → IsTrue (is_database_name name)
+        → finite.get (contents_in old.trees) name ≡ None
+        → Changes dbs_tree (with_cells (old.trees dbs_tree) (database_cells name (canonical closed_security) (pos 0))) old new
+        → contents_in new.trees ≡ finite.insert (contents_in old.trees) name store.new_database }
 {}
