@@ -30,3 +30,4 @@ pub mod Lookups
 pub mod Rests
 pub mod NewDatabases
 pub mod Secured
+pub mod LocalChanges

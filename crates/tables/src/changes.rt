@@ -1,10 +1,12 @@
 //! What the tables say by name and by id, and what the databases that they hold become as rows are
 //! changed. Each function has an empty body: its contract is the law.
 
-ghost use Rattle.std.specs.Prelude.{◌≡◌, ◌⊎◌, ◌∷◌, [], IsTrue, List, None, filter, map, option_map, pos, slice_get, ℕ};
+ghost use Rattle.std.specs.Prelude.{◌≡◌, ◌⊎◌, ◌∷◌, [], IsTrue, List, None, Some, filter, map, option_map, pos, slice_get, ℕ};
 ghost use Rattle.std.specs.FinMap as finite;
 ghost use Rattle.couch_json.specs.Canonical.{canonical};
-ghost use Rattle.policy.specs.Security.{closed_security};
+ghost use Rattle.couch_json.specs.Lawful.{IsLawful};
+ghost use Rattle.couch_json.specs.Value.{Value};
+ghost use Rattle.policy.specs.Security.{closed_security, is_security};
 ghost use Rattle.store.specs.Contents as store;
 ghost use Rattle.store.specs.Database.{history_at};
 ghost use Rattle.store.specs.DatabaseName.{is_database_name};
@@ -13,7 +15,7 @@ ghost use Rattle.sqlite_keyed.specs.Lists.{sort_by};
 ghost use Rattle.sqlite_trees.specs.Tree.{Trees};
 ghost use Rattle.sqlite_value.specs.Order.{Row};
 ghost use Rattle.tables.specs.Layout.{IsLaid, IsStore};
-ghost use Rattle.tables.specs.Rows.{by_name, contents_in, database_cells, database_of, history_in, is_named, is_of, local_of, name_of, number_of, with_cells};
+ghost use Rattle.tables.specs.Rows.{by_name, contents_in, database_cells, database_of, history_in, is_named, is_of, local_of, name_of, number_of, rows_with_security, with_cells};
 ghost use Rattle.tables.specs.Schema.{dbs_tree, locals_tree, revs_tree};
 ghost use Rattle.tables.specs.Steps.{Changes};
 
@@ -51,4 +53,16 @@ pub fn new_database()
         → finite.get (contents_in old.trees) name ≡ None
         → Changes dbs_tree (with_cells (old.trees dbs_tree) (database_cells name (canonical closed_security) (pos 0))) old new
         → contents_in new.trees ≡ finite.insert (contents_in old.trees) name store.new_database }
+{}
+
+/// A database whose row has the text of another security object has that object.
+pub fn another_security()
+    ensures store { (old new : sqlite.Database) (name : List ℕ) (d : Row) (v : Value) → IsStore old
+        → slice_get (filter (is_named name) (old.trees dbs_tree)) 0 ≡ Some d → IsTrue (is_security v) → IsLawful v
+        → Changes dbs_tree (rows_with_security (number_of d) (canonical v) (old.trees dbs_tree)) old new
+        → IsStore new }
+    ensures contents { (old new : sqlite.Database) (name : List ℕ) (d : Row) (v : Value) → IsStore old
+        → slice_get (filter (is_named name) (old.trees dbs_tree)) 0 ≡ Some d → IsTrue (is_security v) → IsLawful v
+        → Changes dbs_tree (rows_with_security (number_of d) (canonical v) (old.trees dbs_tree)) old new
+        → option_map (λ db. finite.insert (contents_in old.trees) name (store.with_security db v)) (finite.get (contents_in old.trees) name) ≡ Some (contents_in new.trees) }
 {}
