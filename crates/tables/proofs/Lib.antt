@@ -31,3 +31,4 @@ pub mod Rests
 pub mod NewDatabases
 pub mod Secured
 pub mod LocalChanges
+pub mod Removed
