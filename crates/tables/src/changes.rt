@@ -18,8 +18,8 @@ ghost use Rattle.sqlite_keyed.specs.Lists.{sort_by};
 ghost use Rattle.sqlite_trees.specs.Tree.{Trees};
 ghost use Rattle.sqlite_value.specs.Order.{Row};
 ghost use Rattle.tables.specs.Layout.{IsLaid, IsStore};
-ghost use Rattle.tables.specs.Rows.{by_name, contents_in, database_cells, database_of, history_in, is_named, is_of, local_cells, local_of, name_of, number_of, rows_with_security, with_cells};
-ghost use Rattle.tables.specs.Schema.{dbs_tree, locals_tree, revs_tree};
+ghost use Rattle.tables.specs.Rows.{by_name, contents_in, database_cells, database_of, has_number, history_in, is_in, is_named, is_of, local_cells, local_of, name_of, number_of, rows_with_security, with_cells};
+ghost use Rattle.tables.specs.Schema.{dbs_tree, docs_tree, locals_tree, revs_tree};
 ghost use Rattle.tables.specs.Steps.{Changes};
 
 /// The database of a name is that of the row of this name, and at most one row has it.
@@ -84,4 +84,22 @@ pub fn another_local()
         → Changes locals_tree (filter (λ r. not (is_of (number_of d) id r)) (a.trees locals_tree)) a b
         → Changes locals_tree (with_cells (b.trees locals_tree) (local_cells (number_of d) id document.number (canonical document.body))) b c
         → option_map (λ db. finite.insert (contents_in a.trees) name (store.with_local db id document)) (finite.get (contents_in a.trees) name) ≡ Some (contents_in c.trees) }
+{}
+
+/// A database whose rows are all deleted is removed.
+pub fn fewer_databases()
+    ensures store { (a b c d e : sqlite.Database) (name : List ℕ) (w : Row) → IsStore a
+        → slice_get (filter (is_named name) (a.trees dbs_tree)) 0 ≡ Some w
+        → Changes docs_tree (filter (λ r. not (is_in (number_of w) r)) (a.trees docs_tree)) a b
+        → Changes revs_tree (filter (λ r. not (is_in (number_of w) r)) (b.trees revs_tree)) b c
+        → Changes locals_tree (filter (λ r. not (is_in (number_of w) r)) (c.trees locals_tree)) c d
+        → Changes dbs_tree (filter (λ r. not (has_number (number_of w) r)) (d.trees dbs_tree)) d e
+        → IsStore e }
+    ensures contents { (a b c d e : sqlite.Database) (name : List ℕ) (w : Row) → IsStore a
+        → slice_get (filter (is_named name) (a.trees dbs_tree)) 0 ≡ Some w
+        → Changes docs_tree (filter (λ r. not (is_in (number_of w) r)) (a.trees docs_tree)) a b
+        → Changes revs_tree (filter (λ r. not (is_in (number_of w) r)) (b.trees revs_tree)) b c
+        → Changes locals_tree (filter (λ r. not (is_in (number_of w) r)) (c.trees locals_tree)) c d
+        → Changes dbs_tree (filter (λ r. not (has_number (number_of w) r)) (d.trees dbs_tree)) d e
+        → contents_in e.trees ≡ finite.remove (contents_in a.trees) name }
 {}
