@@ -1,11 +1,10 @@
 -- The databases that the tables hold after a local document of one is written.
-use Rattle.std.proofs.Common.{◌≡◌, ◌≢◌, ◌≤◌, ◌<◌, ◌^◌, ℕ, ℤ, Bool, true, false, not, ◌&&◌, List, [], ◌∷◌, ◌++◌, map, filter, slice_get, cond, Option, Some, option_map, bytes_eq, nat_cmp, IsTrue, refl, sym, ap, ap₂, subst, ◌∙◌, arith, append-nil}
+use Rattle.std.proofs.Common.{◌≡◌, ◌≢◌, ◌<◌, ◌^◌, ℕ, ℤ, true, false, not, List, [], ◌∷◌, ◌++◌, map, filter, slice_get, cond, Some, option_map, bytes_eq, IsTrue, refl, sym, ap, ap₂, subst, ◌∙◌, arith, append-nil}
 use Rattle.std.proofs.Math.Logic.{∥∥₁_map}
 use Rattle.std.proofs.lemmas.Bool.{and_from, and_left, both_ways, not-true}
 use Rattle.std.proofs.lemmas.Bool.Decides.{Decides-int_eq}
 use Rattle.std.proofs.lemmas.Cmp.{nat_list_cmp_total}
 use Rattle.std.proofs.lemmas.Slice.Eq.{bytes_eq-Decides}
-use Rattle.std.specs.Cmp.Lexicographic.{slice_cmp}
 use Rattle.std.specs.FinMap as finite
 use Rattle.std.specs.List.{AllByRecursion}
 use Rattle.std.specs.Ordering.{int_eq}
@@ -13,17 +12,16 @@ use Rattle.couch_json.specs.Canonical.{canonical}
 use Rattle.couch_json.specs.Lawful.{IsLawful}
 use Rattle.tree.specs.DocumentId.{is_document_id}
 use Rattle.store.specs.Contents.{with_local}
-use Rattle.store.specs.Database.{Database}
 use Rattle.store.specs.Lawful.{AreLawful, IsBody}
 use Rattle.store.specs.declared.local_document.LocalDocument.{LocalDocument}
 use Rattle.store.proofs.Lawfuls.{lawful_insert, lawful_local}
 use Rattle.sqlite_value.specs.Order.{Row}
-use Rattle.sqlite_trees.specs.Tree.{Trees, IsAscending}
+use Rattle.sqlite_trees.specs.Tree.{Trees}
 use Rattle.sqlite_keyed.proofs.KeyedLemmas.{same_int}
 use Rattle.sqlite_keyed.proofs.ListLemmas.{all-append, all-filter, all_weaker, ascending-append, ascending-filter}
 use Rattle.sqlite.specs.Effect as sqlite
 use Rattle.tables.specs.Layout.{IsDocumentRow, IsLocalRow, IsRevisionRow, IsLaid, IsStore}
-use Rattle.tables.specs.Rows.{contents_in, database_of, db_of, has_number, id_of, is_in, is_named, is_of, local_cells, local_of, local_row, locals_in, next_number, number_of, with_cells}
+use Rattle.tables.specs.Rows.{contents_in, database_of, db_of, id_of, is_in, is_named, is_of, local_cells, local_of, local_row, locals_in, next_number, number_of, with_cells}
 use Rattle.tables.specs.Schema.{dbs_tree, docs_tree, revs_tree, locals_tree, meta_tree}
 use Rattle.tables.specs.Steps.{Changes}
 use Rattle.tables.proofs.Kept.{keyed-filter, keyed-with_cells}

@@ -1,5 +1,5 @@
 -- The databases that the tables hold after one is made.
-use Rattle.std.proofs.Common.{◌≡◌, ◌≢◌, ◌<◌, ◌^◌, ℕ, ℤ, pos, ◌<ℤ◌, Bool, true, false, not, ◌||◌, List, [], ◌∷◌, ◌++◌, codes, map, filter, find, slice_get, cond, if◌then◌else◌, Option, Some, None, option_map, bytes_eq, nat_cmp, IsTrue, refl, sym, ap, subst, ◌∙◌, arith}
+use Rattle.std.proofs.Common.{◌≡◌, ◌≢◌, ℕ, ℤ, pos, ◌<ℤ◌, Bool, true, false, ◌||◌, List, [], ◌∷◌, ◌++◌, codes, map, filter, find, cond, Option, Some, None, option_map, bytes_eq, IsTrue, refl, sym, ap, subst, ◌∙◌, arith}
 use Rattle.std.proofs.Math.Logic.{∥∥₁_map}
 use Rattle.std.proofs.lemmas.Bool.{both_ways}
 use Rattle.std.proofs.lemmas.Cmp.{nat_list_cmp_total}
@@ -10,24 +10,22 @@ use Rattle.std.specs.List.{AllByRecursion, list_any}
 use Rattle.std.specs.Ordering.{int_eq}
 use Rattle.couch_json.specs.Canonical.{canonical}
 use Rattle.couch_json.specs.Lawful.{IsLawful}
-use Rattle.couch_json.specs.Value as json
 use Rattle.policy.specs.Security.{admins_only, closed_security, is_security}
-use Rattle.store.specs.Contents.{Contents, new_database}
-use Rattle.store.specs.Database.{Database}
+use Rattle.store.specs.Contents.{new_database}
 use Rattle.store.specs.DatabaseName.{is_database_name}
 use Rattle.store.specs.Lawful.{AreLawful}
 use Rattle.store.proofs.Lawfuls.{lawful_empty, lawful_insert}
 use Rattle.sqlite_value.specs.Order.{Row}
-use Rattle.sqlite_trees.specs.Tree.{Trees, IsAscending}
+use Rattle.sqlite_trees.specs.Tree.{Trees}
 use Rattle.sqlite_keyed.proofs.KeyedLemmas.{same_int}
 use Rattle.sqlite_keyed.proofs.ListLemmas.{all-append, all_weaker, ascending-append, filter_none}
 use Rattle.sqlite.specs.Effect as sqlite
-use Rattle.tables.specs.Layout.{AreNumbered, IsDatabaseNumber, IsDatabaseRow, IsDocumentRow, IsLocalRow, IsRevisionRow, IsLaid, IsStore, database_at}
-use Rattle.tables.specs.Rows.{contents_in, database_cells, database_of, database_row, db_of, documents_in, document_of, history_in, id_of, is_in, is_named, is_of, length_of, local_of, locals_in, name_of, next_number, number_of, security_of, with_cells}
+use Rattle.tables.specs.Layout.{IsDatabaseNumber, IsDatabaseRow, IsDocumentRow, IsLocalRow, IsRevisionRow, IsLaid, IsStore}
+use Rattle.tables.specs.Rows.{contents_in, database_cells, database_of, database_row, db_of, document_of, id_of, is_in, length_of, local_of, name_of, next_number, number_of, security_of, with_cells}
 use Rattle.tables.specs.Schema.{dbs_tree, docs_tree, revs_tree, locals_tree, meta_tree}
 use Rattle.tables.specs.Steps.{Changes}
 use Rattle.tables.proofs.Kept.{below_next, databases-with_cells}
-use Rattle.tables.proofs.RowMaps.{any_found, find_push, get_rows, rows_pushed, text_exact, text_tests}
+use Rattle.tables.proofs.RowMaps.{find_push, get_rows, rows_pushed, text_exact, text_tests}
 use Rattle.tables.proofs.Rests.{Leaves, contents_same, document_kept, laid_same, leaves, length_at, local_kept, revision_kept, spelled, trees_of}
 use Rattle.tables.proofs.Single.{fails}
 use Rattle.tables.proofs.Tables.{databases_laid, numbered_databases}

@@ -1,21 +1,20 @@
 -- The databases that the tables hold after one is removed with all its rows.
-use Rattle.std.proofs.Common.{◌≡◌, ◌≢◌, ℕ, ℤ, Bool, true, false, not, List, map, filter, slice_get, Option, Some, is_some, option_map, bytes_eq, nat_cmp, refl, sym, ap, ap₂, ◌∙◌, subst, arith}
+use Rattle.std.proofs.Common.{◌≡◌, ◌≢◌, ℕ, ℤ, true, false, not, List, map, filter, slice_get, Some, is_some, option_map, bytes_eq, sym, ap, ap₂, ◌∙◌, subst, arith}
 use Rattle.std.proofs.Math.Logic.{∥∥₁_map}
 use Rattle.std.proofs.lemmas.Bool.{and_parts, not-true}
 use Rattle.std.proofs.lemmas.Cmp.{nat_list_cmp_total}
 use Rattle.std.specs.FinMap as finite
 use Rattle.std.specs.List.{AllByRecursion, list_any}
 use Rattle.std.specs.Ordering.{int_eq}
-use Rattle.store.specs.Database.{Database}
 use Rattle.store.specs.Lawful.{AreLawful}
 use Rattle.store.proofs.Lawfuls.{lawful_remove}
 use Rattle.sqlite_value.specs.Order.{Row}
-use Rattle.sqlite_trees.specs.Tree.{Trees, IsAscending}
+use Rattle.sqlite_trees.specs.Tree.{Trees}
 use Rattle.sqlite_keyed.proofs.KeyedLemmas.{same_int}
 use Rattle.sqlite_keyed.proofs.ListLemmas.{all-filter, all_both, all_weaker, ascending-filter}
 use Rattle.sqlite.specs.Effect as sqlite
-use Rattle.tables.specs.Layout.{IsDatabaseRow, IsDocumentRow, IsLocalRow, IsRevisionRow, IsLaid, IsStore, database_at}
-use Rattle.tables.specs.Rows.{contents_in, database_of, db_of, document_of, documents_in, entry_of, has_number, history_in, id_of, is_in, is_named, is_of, length_of, local_of, locals_in, name_of, number_of, revision_of, security_of}
+use Rattle.tables.specs.Layout.{IsDatabaseRow, IsDocumentRow, IsLocalRow, IsRevisionRow, IsLaid, IsStore}
+use Rattle.tables.specs.Rows.{contents_in, database_of, db_of, document_of, documents_in, entry_of, has_number, history_in, id_of, is_in, is_named, is_of, length_of, local_of, name_of, number_of, revision_of, security_of}
 use Rattle.tables.specs.Schema.{dbs_tree, docs_tree, revs_tree, locals_tree, meta_tree}
 use Rattle.tables.specs.Steps.{Changes}
 use Rattle.tables.proofs.Kept.{databases-filter, keyed-filter}

@@ -1,27 +1,23 @@
 -- The databases that the tables hold after one has another security object.
-use Rattle.std.proofs.Common.{◌≡◌, ◌≢◌, ◌≤◌, ◌^◌, ◌<◌, ℕ, ℤ, pos, Bool, true, false, List, [], ◌∷◌, map, filter, find, slice_get, cond, if◌then◌else◌, Option, Some, option_map, nat_cmp, nat_le, IsTrue, refl, sym, ap, ap₂, subst, subst₂, ◌∙◌, arith}
+use Rattle.std.proofs.Common.{◌≡◌, ◌≢◌, ◌≤◌, ℕ, ℤ, pos, true, false, List, [], ◌∷◌, map, filter, find, slice_get, cond, if◌then◌else◌, Some, option_map, nat_le, IsTrue, refl, sym, ap, ap₂, subst, subst₂, ◌∙◌, arith}
 use Rattle.std.proofs.Math.Logic.{∥∥₁_map}
 use Rattle.std.proofs.lemmas.Bool.{and_parts}
 use Rattle.std.proofs.lemmas.Bool.Decides.{Decides-int_eq, nat_tests}
-use Rattle.std.specs.Cmp.Lexicographic.{slice_cmp}
 use Rattle.std.specs.FinMap as finite
-use Rattle.std.specs.List.{AllByRecursion}
 use Rattle.std.specs.Ordering.{int_eq}
 use Rattle.couch_json.specs.Canonical.{canonical}
 use Rattle.couch_json.specs.Lawful.{IsLawful}
-use Rattle.couch_json.specs.Nesting.{max_open}
 use Rattle.couch_json.specs.Value as json
 use Rattle.policy.specs.Security.{is_security}
 use Rattle.store.specs.Contents.{with_security}
-use Rattle.store.specs.Database.{Database}
 use Rattle.store.specs.Lawful.{AreLawful}
 use Rattle.store.proofs.Lawfuls.{lawful_insert, lawful_secured}
 use Rattle.sqlite_value.specs.Order.{Row}
-use Rattle.sqlite_trees.specs.Tree.{Trees, IsAscending}
+use Rattle.sqlite_trees.specs.Tree.{Trees}
 use Rattle.sqlite_keyed.proofs.ListLemmas.{all_map, all_weaker, ascending-map, ascending_weaker, map-map, map_same}
 use Rattle.sqlite.specs.Effect as sqlite
 use Rattle.tables.specs.Layout.{IsDatabaseRow, IsDocumentRow, IsLocalRow, IsRevisionRow, IsLaid, IsStore}
-use Rattle.tables.specs.Rows.{contents_in, database_of, database_row, db_of, has_number, id_of, is_named, length_of, name_of, number_of, row_with_security, rows_with_security, security_of}
+use Rattle.tables.specs.Rows.{contents_in, database_of, database_row, db_of, has_number, is_named, length_of, name_of, number_of, row_with_security, rows_with_security, security_of}
 use Rattle.tables.specs.Schema.{dbs_tree, docs_tree, revs_tree, locals_tree, meta_tree}
 use Rattle.tables.specs.Steps.{Changes}
 use Rattle.tables.proofs.Kept.{databases-secured}
