@@ -28,12 +28,12 @@ use Rattle.tables.specs.Schema.{dbs_tree, docs_tree, revs_tree, locals_tree}
 use Rattle.tables.proofs.DocumentWriteDatabases as dbs
 use Rattle.tables.proofs.DocumentWriteDocuments as docs
 use Rattle.tables.proofs.DocumentWriteEntries.{IsKept, IsPathEntry, path_entries_are, entries_apart, entry_again, flag_again}
-use Rattle.tables.proofs.DocumentWriteHistories.{IsOther, AreApart, all-with_revisions, history_own, history_others, with_new_entries, unknown_apart, revisions_stay_apart, revisions_stay_numbered}
-use Rattle.tables.proofs.DocumentWriteSteps.{IsAfter, written, revisions_changed}
-use Rattle.tables.proofs.Lookups.{database_found, document_found, of_these}
-use Rattle.tables.proofs.RowMaps.{any_found, rows_changed, text_exact, text_tests}
+use Rattle.tables.proofs.DocumentWriteHistories.{IsOther, AreApart, all-with_revisions, history_own, history_others, with_new_entries, unknown_apart, revisions_stay_apart}
+use Rattle.tables.proofs.DocumentWriteSteps.{IsAfter, written, revisions_changed, keyed-with_revisions}
+use Rattle.tables.proofs.Lookups.{database_there, document_found, number_there, of_these, one_changed}
 use Rattle.tables.proofs.Single.{fails}
-use Rattle.tables.proofs.Tables.{databases_laid, numbered_databases}
+use Rattle.tables.proofs.Tables.{databases_laid, docs_keyed, numbered_databases, revs_keyed}
+use Rattle.tables.proofs.Numbered.{numbered_from_keyed}
 use Rattle.tables.proofs.Kept.{databases-advanced}
 
 module _ (t u : Trees) (laid : IsLaid t) (name : List ℕ) (r : Row) (w : DocumentWrite) (best : Revision) (ok : IsWritable t name r w) (best_is : winner (history_after t r w) ≡ Some best) (after : IsAfter t u r w best) where
@@ -97,7 +97,7 @@ module _ (t u : Trees) (laid : IsLaid t) (name : List ℕ) (r : Row) (w : Docume
   number_still m h = ap (list_any (λ x. int_eq (number_of x) m)) after.dbs ∙ dbs.number_stays db sequence (t dbs_tree) m ∙ h
 
   at_number : database_at (t dbs_tree) db ≡ Some r
-  at_number = dbs.at_number (t dbs_tree) name r laid.dbs_numbered laid.names_apart ok.found
+  at_number = dbs.at_number t laid name r ok.found
 
   -- ---- the rows of documents
 
@@ -108,7 +108,7 @@ module _ (t u : Trees) (laid : IsLaid t) (name : List ℕ) (r : Row) (w : Docume
     named = k.named;
     positive = k.positive;
     within = λ d is.
-        let was = dbs.later (t dbs_tree) name r laid.dbs_numbered laid.names_apart ok.found sequence (db_of x) d (omega arith) (ap (λ rows. database_at rows (db_of x)) (sym after.dbs) ∙ is) in
+        let was = dbs.later t laid name r ok.found sequence (db_of x) d (omega arith) (ap (λ rows. database_at rows (db_of x)) (sym after.dbs) ∙ is) in
         let low = k.within was.0 was.1 in
         omega (arith, low, was.2);
     won = ap (λ (h : HistoryContent). option_map text_of (winner h)) (other_history x out) ∙ k.won;
@@ -121,10 +121,10 @@ module _ (t u : Trees) (laid : IsLaid t) (name : List ℕ) (r : Row) (w : Docume
   new_document : IsDocumentRow u row
   new_document = record {
     is = ap (λ b. document_row (number_of row) db w.id (pos sequence) (text_of best) b) (sym (flag_again gone));
-    there = number_still db (dbs.is_there (t dbs_tree) name r laid.dbs_numbered laid.names_apart ok.found);
+    there = number_still db (number_there t laid name r ok.found);
     named = ok.storable.named;
     positive = omega arith;
-    within = λ d is. let now = dbs.now_at (t dbs_tree) name r laid.dbs_numbered laid.names_apart ok.found sequence d (ap (λ rows. database_at rows db) (sym after.dbs) ∙ is) in omega (arith, now);
+    within = λ d is. let now = dbs.now_at t laid name r ok.found sequence d (ap (λ rows. database_at rows db) (sym after.dbs) ∙ is) in omega (arith, now);
     won = ap (λ (h : HistoryContent). option_map text_of (winner h)) own_history ∙ ap (option_map text_of) best_is;
     gone = λ v is.
         flag_again gone ∙ ap (λ (x : Revision). is_deleted (held_of (history_after t r w) x)) (inside best v (sym best_is ∙ sym (ap winner own_history) ∙ is))
@@ -199,9 +199,6 @@ module _ (t u : Trees) (laid : IsLaid t) (name : List ℕ) (r : Row) (w : Docume
       ap₂ (λ l d. record { length = length_of x; security = security_of x; locals = l; documents = d }) (ap (λ rows. locals_in rows (number_of x)) after.locals)
       (ap (λ rows. documents_in rows (u revs_tree) (number_of x)) after.docs ∙ docs.other_documents (t docs_tree) db w.id sequence (text_of best) gone (t revs_tree) (u revs_tree) other_history (number_of x) apart)
 
-  own_number : has_number db r ≡ true
-  own_number = dbs.own_number (t dbs_tree) name r laid.dbs_numbered laid.names_apart ok.found
-
   abbrev now : Row → Database
   now x = database_of u (dbs.advanced db sequence x)
 
@@ -209,34 +206,25 @@ module _ (t u : Trees) (laid : IsLaid t) (name : List ℕ) (r : Row) (w : Docume
   contents =
       ap (λ rows. finite.from_entries (map (λ x. (name_of x, database_of u x)) rows)) after.dbs
       ∙ ap finite.from_entries (map-map (λ x. (name_of x, database_of u x)) (dbs.advanced db sequence) (t dbs_tree) ∙ map_same _ (λ x. (name_of x, now x)) (λ x. ap (λ n. (n, now x)) (dbs.name_kept db sequence x)) (t dbs_tree))
-      ∙ rows_changed nat_list_cmp_total text_exact name_of (λ q x. bytes_eq (name_of x) q) (text_tests name_of) (database_of t) now name (with_one (database_of t r) w) (t dbs_tree) each any
-    where
-      each : AllByRecursion (λ x. (bytes_eq (name_of x) name ≡ true → now x ≡ with_one (database_of t r) w) × (bytes_eq (name_of x) name ≡ false → now x ≡ database_of t x)) (t dbs_tree)
-      each = all_both (λ x. is_named name x ≡ has_number db x) (λ x. is_named name x ≡ true → x ≡ r) (λ x. (bytes_eq (name_of x) name ≡ true → now x ≡ with_one (database_of t r) w) × (bytes_eq (name_of x) name ≡ false → now x ≡ database_of t x))
-          (λ x tests own. (
-            λ here. ap now (own here) ∙ ap (database_of u) (dbs.advanced_own db sequence r own_number) ∙ own_database,
-            λ out. ap (database_of u) (dbs.advanced_other db sequence x (sym tests ∙ out)) ∙ other_database x (sym tests ∙ out),
-          )) (t dbs_tree) (dbs.same_tests (t dbs_tree) name r laid.dbs_numbered laid.names_apart ok.found) (dbs.only_named (t dbs_tree) name r laid.dbs_numbered laid.names_apart ok.found)
-
-      any : list_any (is_named name) (t dbs_tree) ≡ true
-      any = any_found (is_named name) (t dbs_tree) ∙ ap is_some (dbs.found (t dbs_tree) name r laid.dbs_numbered laid.names_apart ok.found)
+      ∙ one_changed t laid name r ok.found now (with_one (database_of t r) w) (ap (database_of u) (dbs.advanced_own db sequence r (dbs.own_number r)) ∙ own_database)
+      (λ x out. ap (database_of u) (dbs.advanced_other db sequence x out) ∙ other_database x out)
 
   lawful : ∥ AreLawful (contents_in u) ∥₁
   lawful =
       ∥∥₁_map laid.lawful (λ was.
       subst AreLawful (sym contents)
       (lawful_insert (contents_in t) name (with_one (database_of t r) w) was
-      (lawful_by_one (database_of t r) w (was name (database_of t r) (database_found t name ∙ ap (option_map (database_of t)) ok.found)) ok.acceptable)))
+      (lawful_by_one (database_of t r) w (was name (database_of t r) (database_there t laid name r ok.found)) ok.acceptable)))
 
   pub named_row : slice_get (filter (is_named name) (u dbs_tree)) 0 ≡ Some (row_at_sequence (pos sequence) r)
-  named_row = ap (λ rows. slice_get (filter (is_named name) rows) 0) after.dbs ∙ dbs.named_now db sequence (t dbs_tree) name r ok.found ∙ ap Some (dbs.advanced_own db sequence r own_number)
+  named_row = ap (λ rows. slice_get (filter (is_named name) rows) 0) after.dbs ∙ dbs.named_now db sequence (t dbs_tree) name r ok.found ∙ ap Some (dbs.advanced_own db sequence r (dbs.own_number r))
 
   pub laid_out : IsLaid u
   laid_out = record {
     version = after.meta ∙ laid.version;
     dbs_numbered = subst AreNumbered (sym after.dbs) (numbered_databases _ (databases-advanced (t dbs_tree) db sequence (databases_laid t laid)));
-    docs_numbered = subst AreNumbered (sym after.docs) (docs.docs_stay_numbered (t docs_tree) db w.id sequence (text_of best) gone laid.docs_numbered);
-    revs_numbered = subst AreNumbered (sym after.revs) (revisions_stay_numbered entries (t revs_tree) db w.id laid.revs_numbered);
+    docs_numbered = subst AreNumbered (sym after.docs) (docs.docs_stay_numbered (t docs_tree) db w.id sequence (text_of best) gone (docs_keyed t laid));
+    revs_numbered = subst AreNumbered (sym after.revs) (numbered_from_keyed _ (keyed-with_revisions entries (t revs_tree) db w.id (revs_keyed t laid)));
     locals_numbered = subst AreNumbered (sym after.locals) laid.locals_numbered;
     dbs = subst (AllByRecursion IsDatabaseRow) (sym after.dbs) (dbs.rows_stay db sequence (t dbs_tree) ok.room laid.dbs);
     names_apart = subst (IsAscending _) (sym after.dbs) (dbs.names_stay_apart db sequence (t dbs_tree) laid.names_apart);

@@ -2,13 +2,15 @@
 use Rattle.std.proofs.Common.{◌≡◌, ◌≢◌, ◌≤◌, ◌<◌, ◌^◌, ℕ, ℤ, pos, Bool, true, false, cond, if◌then◌else◌, List, [], ◌∷◌, map, filter, find, slice_get, Option, Some, None, option_map, int_eq, is_some, refl, sym, ap, ap₂, subst, subst₂, ◌∙◌, arith}
 use Rattle.std.proofs.lemmas.Bool.Decides.{Decides-int_eq}
 use Rattle.std.specs.List.{AllByRecursion, list_any}
+use Rattle.tree.proofs.Shown.{inside}
 use Rattle.sqlite_value.specs.Order.{Row}
-use Rattle.sqlite_trees.specs.Tree.{IsAscending}
-use Rattle.sqlite_keyed.proofs.ListLemmas.{all_weaker, all_map, ascending-map, ascending_weaker, slice_get-filter}
-use Rattle.tables.specs.Layout.{AreNumbered, IsDatabaseRow, database_at}
+use Rattle.sqlite_trees.specs.Tree.{Trees, IsAscending}
+use Rattle.sqlite_keyed.proofs.ListLemmas.{all_both, all_weaker, all_map, ascending-map, ascending_weaker, slice_get-filter}
+use Rattle.tables.specs.Layout.{IsDatabaseRow, IsLaid, database_at}
+use Rattle.tables.specs.Schema.{dbs_tree}
 use Rattle.tables.specs.Rows.{number_of, name_of, length_of, security_text, database_row, has_number, is_named, row_at_sequence, rows_at_sequence}
-use Rattle.tables.proofs.RowMaps.{any_found, find_found, only_found, one_test}
-use Rattle.tables.proofs.Tables.{one_named, one_numbered}
+use Rattle.tables.proofs.Lookups.{by_number, only_named}
+use Rattle.tables.proofs.RowMaps.{any_found, find_found}
 
 find-map : (q : Row → Bool) (f : Row → Row) (rows : List Row) → find q (map f rows) ≡ option_map f (find (λ r. q (f r)) rows)
 find-map q f [] = refl
@@ -82,40 +84,30 @@ module _ (n : ℤ) (sequence : ℕ) where
 
 -- ---- the row of a name
 
--- the row of this name is the one of its number
-module _ (rows : List Row) (name : List ℕ) (r : Row) (numbered : AreNumbered rows) (apart : IsAscending (λ a b. name_of a ≢ name_of b) rows) (is : slice_get (filter (is_named name) rows) 0 ≡ Some r) where
-  pub found : find (is_named name) rows ≡ Some r
-  found = sym (slice_get-filter (is_named name) rows) ∙ is
+pub own_number : (r : Row) → has_number (number_of r) r ≡ true
+own_number r = (Decides-int_eq (number_of r) (number_of r)).1 refl
 
-  pub own_number : has_number (number_of r) r ≡ true
-  own_number = (Decides-int_eq (number_of r) (number_of r)).1 refl
-
-  pub same_tests : AllByRecursion (λ x. is_named name x ≡ has_number (number_of r) x) rows
-  same_tests = one_test (is_named name) (has_number (number_of r)) r rows (one_named rows apart name) (one_numbered rows numbered.rising (number_of r)) found own_number
-
-  pub only_named : AllByRecursion (λ x. is_named name x ≡ true → x ≡ r) rows
-  only_named = only_found (is_named name) r rows (one_named rows apart name) found
-
+module _ (trees : Trees) (h : IsLaid trees) (name : List ℕ) (r : Row) (is : slice_get (filter (is_named name) (trees dbs_tree)) 0 ≡ Some r) where
   same_found : (p q : Row → Bool) (xs : List Row) → AllByRecursion (λ x. p x ≡ q x) xs → find p xs ≡ find q xs
   same_found p q [] all = refl
   same_found p q (x ∷ xs) all = ap₂ (λ b o. cond b (Some x) o) all.0 (same_found p q xs all.1)
 
-  pub at_number : database_at rows (number_of r) ≡ Some r
-  at_number = sym (same_found (is_named name) (has_number (number_of r)) rows same_tests) ∙ found
+  -- the row of this name is the one of its number
+  pub at_number : database_at (trees dbs_tree) (number_of r) ≡ Some r
+  at_number = sym (same_found (is_named name) (has_number (number_of r)) (trees dbs_tree) (by_number trees h name r is)) ∙ sym (slice_get-filter (is_named name) (trees dbs_tree)) ∙ is
 
-  pub is_there : list_any (λ x. int_eq (number_of x) (number_of r)) rows ≡ true
-  is_there = any_found (has_number (number_of r)) rows ∙ ap is_some at_number
-
-  only_numbered : AllByRecursion (λ x. has_number (number_of r) x ≡ true → x ≡ r) rows
-  only_numbered = only_found (has_number (number_of r)) r rows (one_numbered rows numbered.rising (number_of r)) at_number
+  only_numbered : AllByRecursion (λ x. has_number (number_of r) x ≡ true → x ≡ r) (trees dbs_tree)
+  only_numbered =
+      all_both (λ x. is_named name x ≡ true → x ≡ r) (λ x. is_named name x ≡ has_number (number_of r) x) (λ x. has_number (number_of r) x ≡ true → x ≡ r)
+      (λ x only tests here. only (tests ∙ here)) (trees dbs_tree) (only_named trees h name r is) (by_number trees h name r is)
 
   -- no sequence falls
-  pub later : (sequence : ℕ) (m : ℤ) (d : Row) → length_of r ≤ sequence → database_at (rows_at_sequence (number_of r) (pos sequence) rows) m ≡ Some d
-      → (x : Row) × (database_at rows m ≡ Some x) × (length_of x ≤ length_of d)
+  pub later : (sequence : ℕ) (m : ℤ) (d : Row) → length_of r ≤ sequence → database_at (rows_at_sequence (number_of r) (pos sequence) (trees dbs_tree)) m ≡ Some d
+      → (x : Row) × (database_at (trees dbs_tree) m ≡ Some x) × (length_of x ≤ length_of d)
   later sequence m d above now =
-      let x = database_now (number_of r) sequence rows m d now in
-      let each = all_weaker (λ y. has_number (number_of r) y ≡ true → y ≡ r) (λ y. length_of y ≤ length_of (advanced (number_of r) sequence y)) (λ y own. grows y own (has_number (number_of r) y) refl) rows only_numbered in
-      let low = (find_found (λ y. length_of y ≤ length_of (advanced (number_of r) sequence y)) (λ y. int_eq (number_of y) m) rows x.0 each x.1).0 in
+      let x = database_now (number_of r) sequence (trees dbs_tree) m d now in
+      let each = all_weaker (λ y. has_number (number_of r) y ≡ true → y ≡ r) (λ y. length_of y ≤ length_of (advanced (number_of r) sequence y)) (λ y own. grows y own (has_number (number_of r) y) refl) (trees dbs_tree) only_numbered in
+      let low = (find_found (λ y. length_of y ≤ length_of (advanced (number_of r) sequence y)) (λ y. int_eq (number_of y) m) (trees dbs_tree) x.0 each x.1).0 in
       (x.0, x.1, subst (λ (y : Row). length_of x.0 ≤ length_of y) x.2 low)
     where
       grows : (y : Row) → (has_number (number_of r) y ≡ true → y ≡ r) → (b : Bool) → has_number (number_of r) y ≡ b → length_of y ≤ length_of (if b then row_at_sequence (pos sequence) y else y)
@@ -123,11 +115,8 @@ module _ (rows : List Row) (name : List ℕ) (r : Row) (numbered : AreNumbered r
       grows y own false out = omega arith
 
   -- and the database's own is the new one
-  pub now_at : (sequence : ℕ) (d : Row) → database_at (rows_at_sequence (number_of r) (pos sequence) rows) (number_of r) ≡ Some d → length_of d ≡ sequence
+  pub now_at : (sequence : ℕ) (d : Row) → database_at (rows_at_sequence (number_of r) (pos sequence) (trees dbs_tree)) (number_of r) ≡ Some d → length_of d ≡ sequence
   now_at sequence d now =
-      let x = database_now (number_of r) sequence rows (number_of r) d now in
-      let same : r ≡ x.0 = one r x.0 (sym at_number ∙ x.1) in
-      ap length_of (sym x.2) ∙ ap (λ y. length_of (advanced (number_of r) sequence y)) (sym same) ∙ ap length_of (advanced_own (number_of r) sequence r own_number)
-    where
-      one : (x y : Row) → Some x ≡ Some y → x ≡ y
-      one x y e = cc
+      let x = database_now (number_of r) sequence (trees dbs_tree) (number_of r) d now in
+      let same : r ≡ x.0 = inside r x.0 (sym at_number ∙ x.1) in
+      ap length_of (sym x.2) ∙ ap (λ y. length_of (advanced (number_of r) sequence y)) (sym same) ∙ ap length_of (advanced_own (number_of r) sequence r (own_number r))

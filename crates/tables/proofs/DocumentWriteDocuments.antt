@@ -1,6 +1,6 @@
 -- The documents' rows, where the one of this id is put in anew, and the documents that they hold.
 use Rattle.std.proofs.Common.{◌≡◌, ◌≢◌, ◌<◌, ◌<ℤ◌, ℕ, ℤ, pos, Bool, true, false, not, ◌&&◌, ◌||◌, cond, List, [], ◌∷◌, ◌++◌, map, filter, Option, Some, None, int_eq, bytes_eq, nat_cmp, refl, sym, ap, ap₂, ◌∙◌, append-nil, arith}
-use Rattle.std.proofs.lemmas.Bool.{both_ways}
+use Rattle.std.proofs.lemmas.Bool.{and_parts, both_ways}
 use Rattle.std.proofs.lemmas.Bool.Decides.{Decides-int_eq}
 use Rattle.std.proofs.lemmas.Cmp.{nat_list_cmp_total}
 use Rattle.std.proofs.lemmas.List.Folds.{list_any-append}
@@ -15,10 +15,11 @@ use Rattle.sqlite_value.specs.Order.{Row}
 use Rattle.sqlite_value.specs.declared.value.Value.TheVariants.{Int}
 use Rattle.sqlite_trees.specs.Tree.{IsAscending, rowid}
 use Rattle.sqlite_keyed.proofs.ListLemmas.{all_weaker, all-append, all-filter, ascending-append, ascending-filter}
-use Rattle.tables.specs.Layout.{AreNumbered}
+use Rattle.tables.specs.Layout.{AreKeyed, AreNumbered}
 use Rattle.tables.specs.Rows.{number_of, next_number, with_cells, db_of, id_of, is_in, is_of, document_cells, document_row, sequence_of, history_in, document_of, documents_in}
-use Rattle.tables.proofs.Kept.{below_next}
+use Rattle.tables.proofs.Kept.{keyed-filter, keyed-with_cells}
 use Rattle.tables.proofs.Lookups.{of_these}
+use Rattle.tables.proofs.Numbered.{numbered_from_keyed}
 use Rattle.tables.proofs.RowMaps.{filter_push, filter_left, filter_apart, rows_alike, rows_pushed, rows_removed, text_exact, text_tests}
 use Rattle.tables.proofs.Single.{fails}
 
@@ -40,21 +41,6 @@ not_true false h = refl
 pub all_left : {A : Type 0} (P : A → Type 0) (p : A → Bool) (xs : List A) → AllByRecursion (λ x. p x ≡ false → P x) xs → AllByRecursion P (filter (λ x. not (p x)) xs)
 all_left P p xs all = all_filtered P (λ x. not (p x)) xs (all_weaker (λ x. p x ≡ false → P x) (λ x. not (p x) ≡ true → P x) (λ x h k. h (not_true (p x) k)) xs all)
 
--- ---- rows with a number
-
-pub numbered-filter : (p : Row → Bool) (rows : List Row) → AreNumbered rows → AreNumbered (filter p rows)
-numbered-filter p rows h = record { numbers = all-filter (λ r. rowid r ≡ Int (number_of r)) p rows h.numbers; rising = ascending-filter (λ a b. number_of a <ℤ number_of b) p rows h.rising }
-
-pub numbered-with_cells : (rows : List Row) (cells : Row) → AreNumbered rows → AreNumbered (with_cells rows cells)
-numbered-with_cells rows cells h =
-    let new : Row = Int (next_number rows) ∷ cells in
-    let over : AllByRecursion (λ r. AllByRecursion (λ b. number_of r <ℤ number_of b) (new ∷ [])) rows =
-    all_weaker (λ r. number_of r <ℤ next_number rows) (λ r. AllByRecursion (λ b. number_of r <ℤ number_of b) (new ∷ [])) (λ r k. (k, tt)) rows (below_next rows h.rising) in
-    record {
-      numbers = all-append (λ r. rowid r ≡ Int (number_of r)) rows (new ∷ []) h.numbers (refl, tt);
-      rising = ascending-append (λ a b. number_of a <ℤ number_of b) rows (new ∷ []) h.rising (tt, tt) over;
-    }
-
 -- ---- rows of one document
 
 pub same_of : (db : ℤ) (id : List ℕ) (other : ℤ) (name : List ℕ) (x : Row) → is_of db id x ≡ true → is_of other name x ≡ true → (int_eq db other && bytes_eq id name) ≡ true
@@ -63,14 +49,10 @@ same_of db id other name x here there =
     let b = of_these other name x there in
     ap₂ ◌&&◌ ((Decides-int_eq db other).1 (sym a.0 ∙ b.0)) ((bytes_eq-Decides id name).1 (sym a.1 ∙ b.1))
 
-both_parts : (a b : Bool) → (a && b) ≡ true → (a ≡ true) × (b ≡ true)
-both_parts true b h = (refl, h)
-both_parts false b h = cc
-
 -- the tests of a row's key against this one, and of this one against the row's
 pub apart_of : (db : ℤ) (id : List ℕ) (x : Row) → is_of db id x ≡ false → (int_eq db (db_of x) && bytes_eq id (id_of x)) ≡ false
 apart_of db id x out = fails _ (λ same.
-    let both = both_parts (int_eq db (db_of x)) _ same in
+    let both = and_parts (int_eq db (db_of x)) _ same in
     both_ways (is_of db id x) out (ap₂ ◌&&◌ ((Decides-int_eq (db_of x) db).1 (sym ((Decides-int_eq db (db_of x)).0 both.0))) ((bytes_eq-Decides (id_of x) id).1 (sym ((bytes_eq-Decides id (id_of x)).0 both.1)))))
 
 or_true : (a : Bool) → (a || (true || false)) ≡ true
@@ -110,8 +92,8 @@ module _ (rows : List Row) (db : ℤ) (id : List ℕ) (sequence : ℕ) (text : L
 
   -- ---- the layout
 
-  pub docs_stay_numbered : AreNumbered rows → AreNumbered rewritten
-  docs_stay_numbered h = numbered-with_cells left _ (numbered-filter (λ x. not (is_of db id x)) rows h)
+  pub docs_stay_numbered : AreKeyed rows → AreNumbered rewritten
+  docs_stay_numbered h = numbered_from_keyed rewritten (keyed-with_cells left db id _ (keyed-filter (λ x. not (is_of db id x)) rows h))
 
   pub ids_stay_apart : IsAscending (λ a b. db_of a ≡ db_of b → id_of a ≢ id_of b) rows → IsAscending (λ a b. db_of a ≡ db_of b → id_of a ≢ id_of b) rewritten
   ids_stay_apart apart =
@@ -155,7 +137,6 @@ module _ (rows : List Row) (db : ℤ) (id : List ℕ) (sequence : ℕ) (text : L
         let others : List Row = filter (λ x. not (bytes_eq (id_of x) id)) mine in
         let found : filter (is_in db) rewritten ≡ others ++ new_row ∷ [] =
         filter_push (is_in db) left new_row ∙ ap (λ b. filter (is_in db) left ++ cond b (new_row ∷ []) []) ((Decides-int_eq db db).1 refl) ∙ ap (λ l. l ++ new_row ∷ []) (filter_left (is_in db) (λ x. bytes_eq (id_of x) id) rows) in
-        let at : List ℕ → Row → Bool = λ q r. bytes_eq (id_of r) q in
         ap (λ l. finite.from_entries (map (λ r. (id_of r, document_of new r)) l)) found
         ∙ rows_pushed nat_list_cmp_total text_exact id_of (λ q r. bytes_eq (id_of r) q) (text_tests id_of) (document_of new) others new_row (all_left (λ r. bytes_eq (id_of r) id ≡ false) (λ r. bytes_eq (id_of r) id) mine (fresh mine))
         ∙ ap (λ m. finite.insert m id (record { sequence = sequence; history = history_in new db id }))

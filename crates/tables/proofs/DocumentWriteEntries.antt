@@ -4,7 +4,6 @@ use Rattle.std.specs.Prelude.{◌↔◌}
 use Rattle.std.specs.List.{AllByRecursion}
 use Rattle.couch_json.specs.Lawful as lawful
 use Rattle.couch_json.specs.Value as json
-use Rattle.couch_json.proofs.ReadingBack.{reading-canonical}
 use Rattle.tree.specs.History.{path_entries}
 use Rattle.tree.specs.Revision.{Revision, is_revision}
 use Rattle.tree.specs.Write.{StandsIn, counts_down, head}
@@ -15,7 +14,8 @@ use Rattle.tree.proofs.Shown.{inside}
 use Rattle.store.specs.Lawful.{IsBody}
 use Rattle.sqlite_trees.specs.Tree.{IsAscending}
 use Rattle.sqlite_keyed.proofs.ListLemmas.{all_weaker}
-use Rattle.tables.specs.Rows.{parent_in, parent_cell, body_cell, is_held, is_marked, is_set, flag, json_in, text_cell, value_or_null, revision_row, entry_of}
+use Rattle.tables.specs.Rows.{parent_in, parent_cell, body_cell, is_held, is_marked, is_set, flag, json_in, text_cell, revision_row, entry_of}
+use Rattle.tables.proofs.Rests.{spelled}
 
 -- a body that a row can hold
 pub record IsKept (held : Held) : Type 0 where
@@ -87,7 +87,7 @@ flag_again true = refl
 flag_again false = refl
 
 body_again : (held : Held) → IsKept held → json_in (text_cell held.body) ≡ held.body
-body_again held kept = ap value_or_null (reading-canonical held.body kept.lawful (omega (arith, kept.body.shallow)))
+body_again held kept = spelled held.body kept.lawful (omega (arith, kept.body.shallow))
 
 held_again : (held : Option Held) → ((some : Held) → held ≡ Some some → IsKept some)
     → option_map (λ (d : Bool × json.Value). record { deleted = d.0; body = d.1 }) (if is_set (flag (is_held held)) then Some (is_set (flag (is_marked held)), json_in (body_cell held)) else None) ≡ held

@@ -18,9 +18,7 @@ use Rattle.sqlite_value.specs.Order.{Row}
 use Rattle.sqlite_trees.specs.Tree.{IsAscending}
 use Rattle.sqlite_keyed.proofs.ListLemmas.{all_weaker, all_both, all-append, all_unmap, all_kept, ascending-append, none_from_any}
 use Rattle.tables.specs.Edits.{with_revisions}
-use Rattle.tables.specs.Layout.{AreNumbered}
 use Rattle.tables.specs.Rows.{next_number, with_cells, db_of, id_of, is_of, revision_of, entry_of, revision_cells, revision_row, history_in}
-use Rattle.tables.proofs.DocumentWriteDocuments.{numbered-with_cells}
 use Rattle.tables.proofs.RowMaps.{filter_push}
 
 abbrev node : Row → Node
@@ -93,10 +91,6 @@ history_own es rows db id again = ap from_entries (rows_own es rows db id again)
 pub history_others : (es : List Node) (rows : List Row) (db : ℤ) (id : List ℕ) (other : ℤ) (name : List ℕ) → (int_eq db other && bytes_eq id name) ≡ false
     → history_in (with_revisions rows db id es) other name ≡ history_in rows other name
 history_others es rows db id other name apart = ap (λ l. from_entries (map node l)) (rows_others (is_of other name) es rows db id (λ k e. apart))
-
-pub revisions_stay_numbered : (es : List Node) (rows : List Row) (db : ℤ) (id : List ℕ) → AreNumbered rows → AreNumbered (with_revisions rows db id es)
-revisions_stay_numbered [] rows db id h = h
-revisions_stay_numbered (e ∷ es) rows db id h = revisions_stay_numbered es (with_cells rows (revision_cells db id e.0 e.1)) db id (numbered-with_cells rows (revision_cells db id e.0 e.1) h)
 
 -- ---- no revision has two rows
 

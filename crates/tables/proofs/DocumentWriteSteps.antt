@@ -1,4 +1,4 @@
--- Revisions that are put in one after another are one change, and what a change leaves of the other tables.
+-- Revisions that are put in one after another are one change, and what the statements of a write make of all tables.
 use Rattle.std.proofs.Common.{◌≡◌, ◌≢◌, ◌+◌, ℕ, ℤ, pos, not, List, [], ◌∷◌, ◌++◌, filter, refl, sym, ap, subst, ◌∙◌, arith}
 use Rattle.std.specs.List.{AllByRecursion}
 use Rattle.sqlite_value.specs.Order.{Row}
@@ -16,6 +16,7 @@ use Rattle.tables.specs.Rows.{number_of, length_of, is_of, with_cells, document_
 use Rattle.tables.specs.Schema.{schema, meta_tree, dbs_tree, docs_tree, revs_tree, locals_tree}
 use Rattle.tables.specs.Steps.{Changes}
 use Rattle.tables.proofs.Kept.{keyed-with_cells}
+use Rattle.tables.proofs.Rests.{leaves}
 
 -- two changes of one table are one
 pub changes_then : (tree : ℕ) (mid now : List Row) (a b c : Database) → Changes tree mid a b → Changes tree now b c → Changes tree now a c
@@ -42,16 +43,12 @@ pub inserted_more : (es : List (Revision × Entry)) (e : Revision × Entry) (db 
 inserted_more [] e db id a b c same h = (c, subst (λ (x : Database). Changes revs_tree (with_cells (x.trees revs_tree) (revision_cells db id e.0 e.1)) x c) (sym same) h, refl)
 inserted_more (f ∷ es) e db id a b c h k = (h.0, h.1, inserted_more es e db id h.0 b c h.2 k)
 
-keyed-with_revisions : (es : List (Revision × Entry)) (rows : List Row) (db : ℤ) (id : List ℕ) → AreKeyed rows → AreKeyed (with_revisions rows db id es)
+pub keyed-with_revisions : (es : List (Revision × Entry)) (rows : List Row) (db : ℤ) (id : List ℕ) → AreKeyed rows → AreKeyed (with_revisions rows db id es)
 keyed-with_revisions [] rows db id h = h
 keyed-with_revisions (e ∷ es) rows db id h = keyed-with_revisions es (with_cells rows (revision_cells db id e.0 e.1)) db id (keyed-with_cells rows db id _ h)
 
 pub inserted_fit : (es : List (Revision × Entry)) (db : ℤ) (id : List ℕ) (a c : Database) → AreInserted es db id a c → AreKeyed (a.trees revs_tree) → AreKeyed (c.trees revs_tree)
 inserted_fit es db id a c h fit = subst AreKeyed (sym (revisions_changed es db id a c h).rows) (keyed-with_revisions es (a.trees revs_tree) db id fit)
-
--- where the schema is ours, each table but that one is as it was
-pub other_tables : (tree : ℕ) (now : List Row) (a b : Database) → a.schema ≡ schema → Changes tree now a b → AllByRecursion (λ t. t.tree ≢ tree → b.trees t.tree ≡ a.trees t.tree) schema.tables
-other_tables tree now a b is h = subst (λ (s : Schema). AllByRecursion (λ t. t.tree ≢ tree → b.trees t.tree ≡ a.trees t.tree) s.tables) is h.others
 
 -- the tables after a write, by those before it
 pub record IsAfter (t u : Trees) (r : Row) (w : DocumentWrite) (best : Revision) : Type 0 where
@@ -68,16 +65,15 @@ written r w a e is h =
     let schema_b = one.schema ∙ is in
     let schema_c = h.removes.schema ∙ schema_b in
     let schema_d = h.places.schema ∙ schema_c in
-    let b = other_tables revs_tree _ a h.inserted is one in
-    let c = other_tables docs_tree _ h.inserted h.removed schema_b h.removes in
-    let d = other_tables docs_tree _ h.removed h.placed schema_c h.places in
-    let f = other_tables dbs_tree _ h.placed e schema_d h.advances in
+    let b = leaves revs_tree _ a h.inserted is one in
+    let c = leaves docs_tree _ h.inserted h.removed schema_b h.removes in
+    let d = leaves docs_tree _ h.removed h.placed schema_c h.places in
+    let f = leaves dbs_tree _ h.placed e schema_d h.advances in
     let cells = document_cells (number_of r) w.id (pos (length_of r + 1)) (text_of h.best) (is_deleted (held_of (history_after a.trees r w) h.best)) in
     record {
-      meta = f.0 (λ same. omega arith) ∙ d.0 (λ same. omega arith) ∙ c.0 (λ same. omega arith) ∙ b.0 (λ same. omega arith);
-      dbs = h.advances.rows ∙ ap (rows_at_sequence (number_of r) (pos (length_of r + 1))) (d.1.0 (λ same. omega arith) ∙ c.1.0 (λ same. omega arith) ∙ b.1.0 (λ same. omega arith));
-      docs = f.1.1.0 (λ same. omega arith) ∙ h.places.rows
-          ∙ ap (λ rows. with_cells rows cells) (h.removes.rows ∙ ap (filter (λ x. not (is_of (number_of r) w.id x))) (b.1.1.0 (λ same. omega arith)));
-      revs = f.1.1.1.0 (λ same. omega arith) ∙ d.1.1.1.0 (λ same. omega arith) ∙ c.1.1.1.0 (λ same. omega arith) ∙ one.rows;
-      locals = f.1.1.1.1.0 (λ same. omega arith) ∙ d.1.1.1.1.0 (λ same. omega arith) ∙ c.1.1.1.1.0 (λ same. omega arith) ∙ b.1.1.1.1.0 (λ same. omega arith);
+      meta = f.meta (omega arith) ∙ d.meta (omega arith) ∙ c.meta (omega arith) ∙ b.meta (omega arith);
+      dbs = h.advances.rows ∙ ap (rows_at_sequence (number_of r) (pos (length_of r + 1))) (d.dbs (omega arith) ∙ c.dbs (omega arith) ∙ b.dbs (omega arith));
+      docs = f.docs (omega arith) ∙ h.places.rows ∙ ap (λ rows. with_cells rows cells) (h.removes.rows ∙ ap (filter (λ x. not (is_of (number_of r) w.id x))) (b.docs (omega arith)));
+      revs = f.revs (omega arith) ∙ d.revs (omega arith) ∙ c.revs (omega arith) ∙ one.rows;
+      locals = f.locals (omega arith) ∙ d.locals (omega arith) ∙ c.locals (omega arith) ∙ b.locals (omega arith);
     }

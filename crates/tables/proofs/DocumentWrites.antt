@@ -17,7 +17,7 @@ use Rattle.tables.specs.Rows.{number_of, name_of, security_text, length_of, is_n
 use Rattle.tables.specs.Schema.{dbs_tree}
 use Rattle.tables.proofs.DocumentWrite.{one_write-store, one_write-contents, one_write-row, one_write-database}
 use Rattle.tables.proofs.DocumentWriteDocuments.{insert_over}
-use Rattle.tables.proofs.Lookups.{database_found}
+use Rattle.tables.proofs.Lookups.{database_there}
 use Rattle.tables.proofs.RowMaps.{text_exact}
 use Rattle.tables.proofs.Tables.{databases_laid}
 
@@ -49,7 +49,7 @@ none_written a name r is found =
       store = is;
       row = found ∙ ap Some own;
       database = ap (database_of a.trees) (sym own);
-      contents = sym (insert_same (contents_in a.trees) name (database_of a.trees r) (database_found a.trees name ∙ ap (option_map (database_of a.trees)) found));
+      contents = sym (insert_same (contents_in a.trees) name (database_of a.trees r) (database_there a.trees is.laid name r found));
     }
 
 pub one_more_written : (ws : List DocumentWrite) (w : DocumentWrite) (name : List ℕ) (r : Row) (a b c : sqlite.Database) → HasWritten ws name r a b → IsAcceptable (with_all (database_of a.trees r) ws) w → IsStorable w
