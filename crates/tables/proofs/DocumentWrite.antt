@@ -1,9 +1,8 @@
 -- One write of a document: the tables are laid out after it, and hold the database with the write.
-use Rattle.std.proofs.Common.{◌≡◌, ◌≢◌, ◌<◌, ◌+◌, ℕ, ℤ, pos, Bool, true, false, not, List, [], ◌∷◌, map, filter, slice_get, Some, None, option_map, int_eq, is_some, bytes_eq, refl, sym, ap, ap₂, subst, ◌∙◌, arith}
+use Rattle.std.proofs.Common.{◌≡◌, ◌≢◌, ◌<◌, ◌+◌, ℕ, ℤ, pos, Bool, true, false, not, List, [], ◌∷◌, map, filter, slice_get, Some, None, option_map, int_eq, is_some, refl, sym, ap, ap₂, subst, ◌∙◌, arith}
 use Rattle.std.proofs.Math.Logic.{∥∥₁_map}
 use Rattle.std.proofs.lemmas.Bool.{both_ways}
 use Rattle.std.proofs.lemmas.Bool.Decides.{Decides-int_eq}
-use Rattle.std.proofs.lemmas.Cmp.{nat_list_cmp_total}
 use Rattle.std.specs.FinMap as finite
 use Rattle.std.specs.List.{AllByRecursion, list_any}
 use Rattle.std.specs.Prelude.{◌↔◌}
@@ -19,7 +18,7 @@ use Rattle.store.specs.Lawful.{AreLawful}
 use Rattle.store.proofs.Lawfuls.{lawful_by_one, lawful_insert}
 use Rattle.sqlite_value.specs.Order.{Row}
 use Rattle.sqlite_trees.specs.Tree.{Trees, IsAscending}
-use Rattle.sqlite_keyed.proofs.ListLemmas.{all_of, all_both, all_weaker, all-append, all-filter, ascending-filter, map-map, map_same}
+use Rattle.sqlite_keyed.proofs.ListLemmas.{all_of, all_weaker, all-append, all-filter, ascending-filter, map-map, map_same}
 use Rattle.sqlite.specs.Effect as sqlite
 use Rattle.tables.specs.Edits.{IsWritable, IsWrite, new_entries, history_before, history_after}
 use Rattle.tables.specs.Layout.{AreNumbered, IsDatabaseNumber, IsDatabaseRow, IsDocumentRow, IsRevisionRow, IsLocalRow, IsLaid, IsStore, database_at}

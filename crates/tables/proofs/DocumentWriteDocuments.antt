@@ -1,5 +1,5 @@
 -- The documents' rows, where the one of this id is put in anew, and the documents that they hold.
-use Rattle.std.proofs.Common.{◌≡◌, ◌≢◌, ◌<◌, ◌<ℤ◌, ℕ, ℤ, pos, Bool, true, false, not, ◌&&◌, ◌||◌, cond, List, [], ◌∷◌, ◌++◌, map, filter, Option, Some, None, int_eq, bytes_eq, nat_cmp, refl, sym, ap, ap₂, ◌∙◌, append-nil, arith}
+use Rattle.std.proofs.Common.{◌≡◌, ◌≢◌, ◌<◌, ℕ, ℤ, pos, Bool, true, false, not, ◌&&◌, ◌||◌, cond, List, [], ◌∷◌, ◌++◌, map, filter, Some, None, int_eq, bytes_eq, nat_cmp, refl, sym, ap, ap₂, ◌∙◌, append-nil, arith}
 use Rattle.std.proofs.lemmas.Bool.{and_parts, both_ways}
 use Rattle.std.proofs.lemmas.Bool.Decides.{Decides-int_eq}
 use Rattle.std.proofs.lemmas.Cmp.{nat_list_cmp_total}
@@ -12,11 +12,10 @@ use Rattle.std.specs.List.{AllByRecursion, list_any}
 use Rattle.std.specs.Ordering.{eq_by_cmp}
 use Rattle.store.specs.Database.{TextMap}
 use Rattle.sqlite_value.specs.Order.{Row}
-use Rattle.sqlite_value.specs.declared.value.Value.TheVariants.{Int}
-use Rattle.sqlite_trees.specs.Tree.{IsAscending, rowid}
-use Rattle.sqlite_keyed.proofs.ListLemmas.{all_weaker, all-append, all-filter, ascending-append, ascending-filter}
+use Rattle.sqlite_trees.specs.Tree.{IsAscending}
+use Rattle.sqlite_keyed.proofs.ListLemmas.{all_weaker, all-filter, ascending-append, ascending-filter}
 use Rattle.tables.specs.Layout.{AreKeyed, AreNumbered}
-use Rattle.tables.specs.Rows.{number_of, next_number, with_cells, db_of, id_of, is_in, is_of, document_cells, document_row, sequence_of, history_in, document_of, documents_in}
+use Rattle.tables.specs.Rows.{next_number, with_cells, db_of, id_of, is_in, is_of, document_cells, document_row, sequence_of, history_in, document_of, documents_in}
 use Rattle.tables.proofs.Kept.{keyed-filter, keyed-with_cells}
 use Rattle.tables.proofs.Lookups.{of_these}
 use Rattle.tables.proofs.Numbered.{numbered_from_keyed}

@@ -117,5 +117,5 @@ revisions_stay_apart (e ∷ es) rows db id up new distinct =
     let row : Row = revision_row (next_number rows) db id e.0 e.1 in
     let over = all_weaker (IsOther db id e.0) (λ x. AllByRecursion (AreApart x) (row ∷ [])) (λ x k. (k, tt)) rows new.0 in
     let still = all_both (λ (f : Node). e.0 ≢ f.0) (λ f. AllByRecursion (IsOther db id f.0) rows) (λ f. AllByRecursion (IsOther db id f.0) (rows ++ row ∷ []))
-        (λ f differs k. all-append (IsOther db id f.0) rows (row ∷ []) k ((λ _ _. differs), tt)) es distinct.0 new.1 in
+    (λ f differs k. all-append (IsOther db id f.0) rows (row ∷ []) k ((λ _ _. differs), tt)) es distinct.0 new.1 in
     revisions_stay_apart es (rows ++ row ∷ []) db id (ascending-append AreApart rows (row ∷ []) up (tt, tt) over) still distinct.1
