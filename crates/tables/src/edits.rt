@@ -11,9 +11,9 @@ ghost use Rattle.store.specs.Contents.{AreAcceptable, IsAcceptable};
 ghost use Rattle.store.specs.Database.{Database, DocumentWrite, with_all, with_one};
 ghost use Rattle.store.specs.Writing.{Addition, written_in};
 ghost use Rattle.tables.specs.Edits.{AreInserted, HasWritten, IsStorable, IsWritable, IsWrite, new_entries, row_after, with_revisions};
-ghost use Rattle.tables.specs.Layout.{AreDatabaseRows, AreKeyed, IsLaid, IsStore};
+ghost use Rattle.tables.specs.Layout.{AreKeyed, IsLaid, IsStore};
 ghost use Rattle.tables.specs.Rows.{contents_in, database_of, history_in, is_named, length_of, revision_cells, row_at_sequence, with_cells};
-ghost use Rattle.tables.specs.Schema.{dbs_tree, docs_tree, locals_tree, revs_tree};
+ghost use Rattle.tables.specs.Schema.{dbs_tree, revs_tree};
 ghost use Rattle.tables.specs.Steps.{Changes};
 ghost use Rattle.tree.specs.DocumentId.{is_document_id};
 ghost use Rattle.tree.specs.History.{HistoryContent, behind, is_known};
@@ -21,14 +21,6 @@ ghost use Rattle.tree.specs.Nodes.{entries_before};
 ghost use Rattle.tree.specs.Revision.{Revision, is_revision};
 ghost use Rattle.tree.specs.Write.{head};
 ghost use Rattle.tree.specs.declared.entry.Entry.{Entry};
-
-/// Where rows are laid out, each table is fit for a change.
-pub fn rows_of_a_layout()
-    ensures databases { (trees : Trees) → IsLaid trees → AreDatabaseRows (trees dbs_tree) }
-    ensures documents { (trees : Trees) → IsLaid trees → AreKeyed (trees docs_tree) }
-    ensures revisions { (trees : Trees) → IsLaid trees → AreKeyed (trees revs_tree) }
-    ensures locals { (trees : Trees) → IsLaid trees → AreKeyed (trees locals_tree) }
-{}
 
 /// The revisions that a write of the code brings are those of its own path that are not known yet. The
 /// last of the path follows the parent that the write names, where that is known.
