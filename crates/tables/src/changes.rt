@@ -1,8 +1,9 @@
 //! What the tables say by name and by id, and what the databases that they hold become as rows are
 //! changed. Each function has an empty body: its contract is the law.
 
-ghost use Rattle.std.specs.Prelude.{◌≡◌, ◌<◌, ◌^◌, ◌⊎◌, ◌∷◌, [], IsTrue, List, None, Some, filter, map, not, option_map, pos, slice_get, ℕ};
+ghost use Rattle.std.specs.Prelude.{◌≡◌, ◌≢◌, ◌<◌, ◌^◌, ◌⊎◌, ◌∷◌, [], IsTrue, List, None, Some, filter, map, not, option_map, pos, slice_get, ℕ};
 ghost use Rattle.std.specs.FinMap as finite;
+ghost use Rattle.std.specs.List.{AllByRecursion};
 ghost use Rattle.couch_json.specs.Canonical.{canonical};
 ghost use Rattle.couch_json.specs.Lawful.{IsLawful};
 ghost use Rattle.couch_json.specs.Value.{Value};
@@ -17,9 +18,9 @@ ghost use Rattle.sqlite.specs.Effect as sqlite;
 ghost use Rattle.sqlite_keyed.specs.Lists.{sort_by};
 ghost use Rattle.sqlite_trees.specs.Tree.{Trees};
 ghost use Rattle.sqlite_value.specs.Order.{Row};
-ghost use Rattle.tables.specs.Layout.{IsLaid, IsStore};
+ghost use Rattle.tables.specs.Layout.{AreDatabaseRows, AreKeyed, IsLaid, IsStore};
 ghost use Rattle.tables.specs.Rows.{by_name, contents_in, database_cells, database_of, has_number, history_in, is_in, is_named, is_of, local_cells, local_of, name_of, number_of, rows_with_security, with_cells};
-ghost use Rattle.tables.specs.Schema.{dbs_tree, docs_tree, locals_tree, revs_tree};
+ghost use Rattle.tables.specs.Schema.{dbs_tree, docs_tree, locals_tree, meta_tree, revs_tree, schema};
 ghost use Rattle.tables.specs.Steps.{Changes};
 
 /// The database of a name is that of the row of this name, and at most one row has it.
@@ -44,6 +45,20 @@ pub fn document_found()
 /// The names of all databases are those of their rows, sorted.
 pub fn names_found()
     ensures { (trees : Trees) → IsLaid trees → finite.keys (contents_in trees) ≡ map name_of (sort_by by_name (trees dbs_tree)) }
+{}
+
+/// The rows of tables that are laid out are fit for each change of their table.
+pub fn rows_before_a_change()
+    ensures databases { (trees : Trees) → IsLaid trees → AreDatabaseRows (trees dbs_tree) }
+    ensures documents { (trees : Trees) → IsLaid trees → AreKeyed (trees docs_tree) }
+    ensures revisions { (trees : Trees) → IsLaid trees → AreKeyed (trees revs_tree) }
+    ensures locals { (trees : Trees) → IsLaid trees → AreKeyed (trees locals_tree) }
+{}
+
+/// A change of one table leaves the rows of the others.
+pub fn rows_of_other_tables()
+    ensures { (tree : ℕ) (rows : List Row) (old new : sqlite.Database) → old.schema ≡ schema → Changes tree rows old new
+        → AllByRecursion (λ t. t ≢ tree → new.trees t ≡ old.trees t) (meta_tree ∷ dbs_tree ∷ docs_tree ∷ revs_tree ∷ locals_tree ∷ []) }
 {}
 
 /// A row that is put behind the others, of a name that no database has, is a new database.
