@@ -28,7 +28,7 @@ all_inserted P cmp new [] own all = (own, tt)
 all_inserted P cmp new (r ∷ rows) own all =
     elim (is_gt (cmp new r)) as (λ b. AllByRecursion P (cond b (r ∷ insert_sorted cmp new rows) (new ∷ r ∷ rows))) [ true ↦ (all.0, all_inserted P cmp new rows own all.1) | false ↦ (own, all) ]
 
-all_sorted : (P : Row → Type 0) (cmp : Row → Row → Ordering) (rows : List Row) → AllByRecursion P rows → AllByRecursion P (sort_by cmp rows)
+pub all_sorted : (P : Row → Type 0) (cmp : Row → Row → Ordering) (rows : List Row) → AllByRecursion P rows → AllByRecursion P (sort_by cmp rows)
 all_sorted P cmp [] all = tt
 all_sorted P cmp (r ∷ rows) all = all_inserted P cmp r (sort_by cmp rows) all.0 (all_sorted P cmp rows all.1)
 
@@ -51,7 +51,7 @@ both_in P R S weaker (r ∷ rows) all up = (each rows all.1 up.0, both_in P R S 
     each [] own over = tt
     each (x ∷ xs) own over = (weaker r x all.0 own.0 over.0, each xs own.1 over.1)
 
-passing : (p : Row → Bool) (rows : List Row) → AllByRecursion (λ r. p r ≡ true) (filter p rows)
+pub passing : (p : Row → Bool) (rows : List Row) → AllByRecursion (λ r. p r ≡ true) (filter p rows)
 passing p [] = tt
 passing p (r ∷ rows) = go (p r) refl (passing p rows)
   where

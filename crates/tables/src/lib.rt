@@ -1,10 +1,12 @@
 //! The databases as rows of SQLite tables.
 #![tactic(auto)]
 
+pub mod changes;
 mod create;
 pub mod databases;
 mod decode;
 pub mod documents;
+pub mod edits;
 pub mod laws;
 pub mod locals;
 mod meta;
