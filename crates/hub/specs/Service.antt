@@ -84,19 +84,19 @@ pub record Serves {S : Type 0} (g : Ghosts S) (old : HubState S) (conn : ℕ) (e
 
 -- ---- the whole service
 
-abbrev pub opened : {S : Type 0} → HubState S → HubState S
-opened s = record s { connections = with_connection s.connections }
+abbrev pub hub_with_connection : {S : Type 0} → HubState S → HubState S
+hub_with_connection s = record s { connections = with_connection s.connections }
 
-abbrev pub closed : {S : Type 0} → ℕ → HubState S → HubState S
-closed conn s = record s { connections = without s.connections conn }
+abbrev pub hub_without : {S : Type 0} → ℕ → HubState S → HubState S
+hub_without conn s = record s { connections = without s.connections conn }
 
 -- the next connection was opened, served up to this end, and closed
 pub record ServesWhole {S : Type 0} (g : Ghosts S) (old : HubState S) (end : ServiceEnd) (input rest output after : Option (List ℕ)) (new : HubState S) : Type 0 where
   pub count : ℕ
   pub state : HubState S
-  pub serves : Serves g (opened old) (next_connection old.connections) (Some end) count input rest output after state
+  pub serves : Serves g (hub_with_connection old) (next_connection old.connections) (Some end) count input rest output after state
   pub reads : end ≡ TooManyReads → count ≡ greatest_reads
-  pub closes : new ≡ closed (next_connection old.connections) state
+  pub closes : new ≡ hub_without (next_connection old.connections) state
 
 -- no connection was opened, and nothing read: memory ran out, and the farewell was written, or a first part of it; or there was no number left
 pub record TurnsAway {S : Type 0} (old : HubState S) (end : ServiceEnd) (input rest output after : Option (List ℕ)) (new : HubState S) : Type 0 where

@@ -1,6 +1,6 @@
 //! Pieces of a stream, as rows write them.
 
-use crate::texts::unescaped;
+use crate::texts::decode_bytes;
 use rows::RowsFault;
 use std::alloc::Global;
 
@@ -17,7 +17,7 @@ pub fn pieces_of(alloc: Global, question: &str) -> Result<Vec<Vec<u8>>, RowsFaul
 /// Adds the pieces of a line.
 fn put_line(alloc: Global, pieces: &mut Vec<Vec<u8>>, line: &str) -> Result<(), RowsFault> {
     let (size, text) = size_of(line);
-    let bytes = unescaped(alloc, text)?;
+    let bytes = decode_bytes(alloc, text)?;
     if size == 0 {
         pieces.push(bytes)?;
         return Ok(());

@@ -1,5 +1,5 @@
 use crate::streams::Streams;
-use crate::texts::{first_word, spell, text_of, unescaped};
+use crate::texts::{decode_bytes, first_word, spell, text_of};
 use couch_http::{Cut, Cutter, Ending, Header, HttpFault, Request, request_bytes};
 use http::Method;
 use http::method::MethodError;
@@ -115,7 +115,7 @@ fn request_of(alloc: Global, question: &str) -> Result<Request, RowsFault> {
     let (line, lines) = head.split_once('\n').unwrap_or((head, ""));
     let mut request = line_of(alloc, line)?;
     request.headers = headers_of(alloc, lines)?;
-    request.body = unescaped(alloc, body)?;
+    request.body = decode_bytes(alloc, body)?;
     Ok(request)
 }
 
@@ -138,11 +138,8 @@ fn line_of(alloc: Global, line: &str) -> Result<Request, RowsFault> {
 /// Returns the path of a target, and its query, if it has one.
 fn target_of(alloc: Global, target: &str) -> Result<(String, Option<String>), RowsFault> {
     match target.split_once('?') {
-        Some((path, query)) => Ok((
-            unescaped_text(alloc, path)?,
-            Some(unescaped_text(alloc, query)?),
-        )),
-        None => Ok((unescaped_text(alloc, target)?, None)),
+        Some((path, query)) => Ok((decode_text(alloc, path)?, Some(decode_text(alloc, query)?))),
+        None => Ok((decode_text(alloc, target)?, None)),
     }
 }
 
@@ -156,8 +153,8 @@ fn method_of(alloc: Global, name: &str) -> Result<Method, RowsFault> {
 }
 
 /// Returns the text that a text with escapes spells.
-fn unescaped_text(alloc: Global, text: &str) -> Result<String, RowsFault> {
-    match str::from_utf8(&unescaped(alloc, text)?) {
+fn decode_text(alloc: Global, text: &str) -> Result<String, RowsFault> {
+    match str::from_utf8(&decode_bytes(alloc, text)?) {
         Ok(text) => Ok(String::from_str(alloc, text)?),
         Err(_) => Err(RowsFault::Refused("no text")),
     }
@@ -179,8 +176,8 @@ fn header_of(alloc: Global, line: &str) -> Result<Header, RowsFault> {
     };
     let value = value.strip_prefix(' ').unwrap_or(value);
     Ok(Header {
-        name: unescaped(alloc, name)?,
-        value: unescaped(alloc, value)?,
+        name: decode_bytes(alloc, name)?,
+        value: decode_bytes(alloc, value)?,
     })
 }
 

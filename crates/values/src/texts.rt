@@ -33,7 +33,7 @@ pub fn canonical(alloc: Global, value: &Json) -> Result<Vec<u8>, RowsFault> {
 }
 
 /// Returns the bytes that a text with escapes spells. `Refused` where a backslash begins no escape.
-pub fn unescaped(alloc: Global, text: &str) -> Result<Vec<u8>, RowsFault> {
+pub fn decode_bytes(alloc: Global, text: &str) -> Result<Vec<u8>, RowsFault> {
     match unescape(alloc, text.as_bytes())? {
         Some(bytes) => Ok(bytes),
         None => Err(RowsFault::Refused("a backslash that begins no escape")),

@@ -2,7 +2,7 @@ use Rattle.std.proofs.Common.{◌≡◌, ◌∙◌, inl, ℕ, Bool, true, List, 
 use Rattle.hub.proofs.ServiceLemmas.{ended_here, new_is_open}
 use Rattle.hub.specs.Connections.{ConnectionTable, is_open, next_connection, without}
 use Rattle.hub.specs.Feeding.{HubState}
-use Rattle.hub.specs.Service.{Serves, closed, opened}
+use Rattle.hub.specs.Service.{Serves, hub_with_connection, hub_without}
 use Rattle.hub.proofs.service.serve_connection.Goals as goal
 
 pub serve_pieces-end-requires : goal.serve_pieces-end-requires
@@ -26,11 +26,11 @@ returns-in-Ok-clause-served g c =
       state = state;
       serves = rw (sym c.in-Ok.ensures.ok) numbered;
       reads = served.1;
-      closes = c.close.ensures ∙ ap (λ (k : ℕ). closed k state) c.in-Ok.ensures.number;
+      closes = c.close.ensures ∙ ap (λ (k : ℕ). hub_without k state) c.in-Ok.ensures.number;
     })
 
 pub returns-in-Ok-clause-ended : goal.returns-in-Ok-clause-ended
 returns-in-Ok-clause-ended g c =
     let next = next_connection c.args.hub.now.connections in
-    ap (λ (s : HubState _). is_open s.connections next) (c.close.ensures ∙ ap (λ (k : ℕ). closed k c.serve_pieces-end.new.hub) c.in-Ok.ensures.number)
+    ap (λ (s : HubState _). is_open s.connections next) (c.close.ensures ∙ ap (λ (k : ℕ). hub_without k c.serve_pieces-end.new.hub) c.in-Ok.ensures.number)
     ∙ ended_here c.serve_pieces-end.new.hub.connections next
