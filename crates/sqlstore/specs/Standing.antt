@@ -1,0 +1,18 @@
+-- What a store keeps true of its connection: as the store opened it, as the last change left it, and as it is.
+-- This server's own: facts hold where the disk returned what was written and the tables were laid out when they were opened.
+use Rattle.std.specs.Prelude.{◌≡◌, IsTrue}
+use Rattle.sqlite_trees.specs.declared.store.Store.{Ghosts}
+use Rattle.sqlite.specs.Held.{Held, state}
+use Rattle.sqlite.specs.State.{HasCleanDisk}
+use Rattle.tables.specs.Layout.{IsStore}
+
+module _ {S : Type 0} (g : Ghosts S) where
+  -- the tables are laid out as the last change left them, and an open connection has those rows, with nothing that waits for a commit
+  pub record Holds (conn last : Held S) : Type 0 where
+    pub store : IsStore (state g last).now
+    pub now : IsTrue (state g conn).is_open → (state g conn).now ≡ (state g last).now
+    pub committed : IsTrue (state g conn).is_open → (state g conn).committed ≡ (state g last).now
+
+  -- where the connection is honest, it is so
+  abbrev pub IsHeld : Held S → Held S → Held S → Type 0
+  IsHeld conn origin last = HasCleanDisk (state g conn) → IsStore (state g origin).now → ∥ Holds conn last ∥₁

@@ -1,0 +1,7 @@
+//! The store of databases over SQLite tables.
+#![tactic(auto)]
+
+mod fault;
+mod sql_store;
+
+pub use sql_store::SqlStore;
