@@ -25,3 +25,6 @@ pub mod Replaces
 pub mod MetaStatements
 pub mod Laid
 pub mod Setup
+pub mod RowMaps
+pub mod Lookups
+pub mod Rests

@@ -28,7 +28,7 @@ all_inserted P cmp new [] own all = (own, tt)
 all_inserted P cmp new (r ∷ rows) own all =
     elim (is_gt (cmp new r)) as (λ b. AllByRecursion P (cond b (r ∷ insert_sorted cmp new rows) (new ∷ r ∷ rows))) [ true ↦ (all.0, all_inserted P cmp new rows own all.1) | false ↦ (own, all) ]
 
-all_sorted : (P : Row → Type 0) (cmp : Row → Row → Ordering) (rows : List Row) → AllByRecursion P rows → AllByRecursion P (sort_by cmp rows)
+pub all_sorted : (P : Row → Type 0) (cmp : Row → Row → Ordering) (rows : List Row) → AllByRecursion P rows → AllByRecursion P (sort_by cmp rows)
 all_sorted P cmp [] all = tt
 all_sorted P cmp (r ∷ rows) all = all_inserted P cmp r (sort_by cmp rows) all.0 (all_sorted P cmp rows all.1)
 

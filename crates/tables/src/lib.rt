@@ -1,6 +1,7 @@
 //! The databases as rows of SQLite tables.
 #![tactic(auto)]
 
+pub mod changes;
 mod create;
 pub mod databases;
 mod decode;

@@ -1,0 +1,113 @@
+-- What the tables answer by name and by id is what the databases that they hold have there.
+use Rattle.std.proofs.Common.{◌≡◌, ◌⊎◌, ℕ, ℤ, Bool, true, false, ◌&&◌, List, [], ◌∷◌, map, filter, find, slice_get, Option, Some, None, option_map, is_some, cond, Ordering, is_eq, is_gt, bytes_eq, nat_cmp, refl, sym, ap, ap₂, subst, ◌∙◌}
+use Rattle.std.proofs.lemmas.Bool.{both_ways, and_parts}
+use Rattle.std.proofs.lemmas.Cmp.{nat_list_cmp_total}
+use Rattle.std.proofs.lemmas.Map.Text.{is_eq-slice_cmp}
+use Rattle.std.proofs.lemmas.Slice.Eq.{bytes_eq-Decides}
+use Rattle.std.specs.Cmp.{IsTotalOrder}
+use Rattle.std.specs.Cmp.Lexicographic.{slice_cmp}
+use Rattle.std.specs.FinMap as finite
+use Rattle.std.specs.FinMap.Entries.{by_order}
+use Rattle.std.specs.declared.cmp.Ordering.TheVariants.{Less, Equal, Greater}
+use Rattle.std.specs.List.{AllByRecursion, list_any}
+use Rattle.tree.specs.History.{HistoryContent}
+use Rattle.store.specs.Database as store
+use Rattle.store.specs.Database.{Document}
+use Rattle.store.proofs.Pagings.{no_length}
+use Rattle.sqlite_value.specs.Order.{Row}
+use Rattle.sqlite_trees.specs.Tree.{Trees, IsAscending}
+use Rattle.sqlite_keyed.specs.Lists.{insert_sorted, sort_by}
+use Rattle.sqlite_keyed.proofs.KeyedLemmas.{same_int}
+use Rattle.sqlite_keyed.proofs.ListLemmas.{all_weaker, ascending_weaker, map-map, slice_get-filter, filter_none}
+use Rattle.tables.specs.Layout.{IsLaid, IsRevisionRow}
+use Rattle.tables.specs.Rows.{db_of, id_of, is_in, is_of, is_named, name_of, number_of, by_name, revision_of, entry_of, local_of, document_of, database_of, history_in, contents_in}
+use Rattle.tables.specs.Schema.{dbs_tree, docs_tree, revs_tree, locals_tree}
+use Rattle.tables.proofs.RowMaps.{get_filtered, text_exact, text_tests, filter_both, find_none, find_passes, any_found}
+use Rattle.tables.proofs.Single.{few, fails}
+use Rattle.tables.proofs.Sorted.{all_sorted}
+use Rattle.tables.proofs.Tables.{one_named, one_of}
+
+-- ---- databases by name
+
+pub database_found : (trees : Trees) (name : List ℕ) → finite.get (contents_in trees) name ≡ option_map (database_of trees) (slice_get (filter (is_named name) (trees dbs_tree)) 0)
+database_found trees name = get_filtered nat_list_cmp_total text_exact name_of (λ q r. bytes_eq (name_of r) q) (text_tests name_of) (database_of trees) (trees dbs_tree) name
+
+pub one_database : (trees : Trees) (name : List ℕ) → IsLaid trees → (filter (is_named name) (trees dbs_tree) ≡ []) ⊎ ((d : Row) × (filter (is_named name) (trees dbs_tree) ≡ d ∷ []))
+one_database trees name h = few (is_named name) (trees dbs_tree) (one_named (trees dbs_tree) h.names_apart name)
+
+-- ---- documents and local documents by id
+
+module _ (db : ℤ) (id : List ℕ) where
+  -- a row of a database's id is of these
+  pub of_these : (r : Row) → is_of db id r ≡ true → (db_of r ≡ db) × (id_of r ≡ id)
+  of_these r is = let parts = and_parts (is_in db r) _ is in (same_int (db_of r) db parts.0, (bytes_eq-Decides (id_of r) id).0 parts.1)
+
+  -- the value at an id among the rows of a database
+  pub get_id : {X : Type 0} (value : Row → X) (rows : List Row)
+      → finite.get {R = slice_cmp nat_cmp} (finite.from_entries (map (λ r. (id_of r, value r)) (filter (is_in db) rows))) id ≡ option_map value (slice_get (filter (is_of db id) rows) 0)
+  get_id value rows =
+      get_filtered nat_list_cmp_total text_exact id_of (λ q r. bytes_eq (id_of r) q) (text_tests id_of) value (filter (is_in db) rows) id
+      ∙ ap (λ l. option_map value (slice_get l 0)) (filter_both (λ r. bytes_eq (id_of r) id) (is_in db) rows)
+
+pub local_found : (trees : Trees) (d : Row) (id : List ℕ) → finite.get (database_of trees d).locals id ≡ option_map local_of (slice_get (filter (is_of (number_of d) id) (trees locals_tree)) 0)
+local_found trees d id = get_id (number_of d) id local_of (trees locals_tree)
+
+pub one_local : (trees : Trees) (d : Row) (id : List ℕ) → IsLaid trees
+    → (filter (is_of (number_of d) id) (trees locals_tree) ≡ []) ⊎ ((r : Row) × (filter (is_of (number_of d) id) (trees locals_tree) ≡ r ∷ []))
+one_local trees d id h = few (is_of (number_of d) id) (trees locals_tree) (one_of (trees locals_tree) h.local_ids_apart (number_of d) id)
+
+module _ (trees : Trees) (db : ℤ) (id : List ℕ) where
+  -- where no row of a document is of the id, no row of a revision is
+  unwritten : IsLaid trees → find (is_of db id) (trees docs_tree) ≡ None → history_in (trees revs_tree) db id ≡ finite.empty
+  unwritten h none =
+      ap (λ l. finite.from_entries (map (λ r. (revision_of r, entry_of r)) l))
+      (filter_none (is_of db id) (trees revs_tree) (all_weaker (IsRevisionRow trees) (λ r. is_of db id r ≡ false) (λ r k. fails (is_of db id r) (apart r k)) (trees revs_tree) h.revs))
+    where
+      absent : list_any (is_of db id) (trees docs_tree) ≡ false
+      absent = any_found (is_of db id) (trees docs_tree) ∙ ap is_some none
+
+      apart : (r : Row) → IsRevisionRow trees r → is_of db id r ≡ true → ⊥
+      apart r k is =
+          let own = of_these db id r is in
+          both_ways (list_any (is_of db id) (trees docs_tree)) absent (subst (λ (n : ℤ). list_any (is_of n id) (trees docs_tree) ≡ true) own.0 (subst (λ (k : List ℕ). list_any (is_of (db_of r) k) (trees docs_tree) ≡ true) own.1 k.there))
+
+  history_by : IsLaid trees → (o : Option Row) → find (is_of db id) (trees docs_tree) ≡ o → store.history_in (option_map (document_of (trees revs_tree)) o) ≡ history_in (trees revs_tree) db id
+  history_by h None is = sym (unwritten h is)
+  history_by h (Some r) is =
+      let own = of_these db id r (find_passes (is_of db id) (trees docs_tree) r is) in
+      ap₂ (λ (n : ℤ) (k : List ℕ). history_in (trees revs_tree) n k) own.0 own.1
+
+pub document_found : (trees : Trees) (d : Row) (id : List ℕ) → IsLaid trees → store.history_at (database_of trees d) id ≡ history_in (trees revs_tree) (number_of d) id
+document_found trees d id h =
+    ap store.history_in (get_id (number_of d) id (document_of (trees revs_tree)) (trees docs_tree) ∙ ap (option_map (document_of (trees revs_tree))) (slice_get-filter (is_of (number_of d) id) (trees docs_tree)))
+    ∙ history_by trees (number_of d) id h (find (is_of (number_of d) id) (trees docs_tree)) refl
+
+-- ---- names in order
+
+module _ {X : Type 0} (value : Row → X) where
+  put_inserted : (r : Row) (rows : List Row) → AllByRecursion (λ s. is_eq (by_name r s) ≡ false) rows
+      → finite.put (slice_cmp nat_cmp) (name_of r) (value r) (map (λ s. (name_of s, value s)) rows) ≡ map (λ s. (name_of s, value s)) (insert_sorted by_name r rows)
+  put_inserted r [] apart = refl
+  put_inserted r (s ∷ rows) apart = go (by_name r s) apart.0 (put_inserted r rows apart.1)
+    where
+      go : (o : Ordering) → is_eq o ≡ false → finite.put (slice_cmp nat_cmp) (name_of r) (value r) (map (λ t. (name_of t, value t)) rows) ≡ map (λ t. (name_of t, value t)) (insert_sorted by_name r rows)
+          → by_order o ((name_of r, value r) ∷ (name_of s, value s) ∷ map (λ t. (name_of t, value t)) rows) ((name_of s, value r) ∷ map (λ t. (name_of t, value t)) rows) ((name_of s, value s) ∷ finite.put (slice_cmp nat_cmp) (name_of r) (value r) (map (λ t. (name_of t, value t)) rows))
+          ≡ map (λ t. (name_of t, value t)) (cond (is_gt o) (s ∷ insert_sorted by_name r rows) (r ∷ s ∷ rows))
+      go Less apart more = refl
+      go Equal apart more = absurd (cc)
+      go Greater apart more = ap (λ l. (name_of s, value s) ∷ l) more
+
+  pub entries_sorted : (rows : List Row) → IsAscending (λ a b. is_eq (by_name a b) ≡ false) rows
+      → finite.entries {R = slice_cmp nat_cmp} (finite.from_entries (map (λ s. (name_of s, value s)) rows)) ≡ map (λ s. (name_of s, value s)) (sort_by by_name rows)
+  entries_sorted [] apart = no_length _ (sym (finite.len-entries {R = slice_cmp nat_cmp} (finite.empty {X = X})) ∙ finite.len-empty (slice_cmp nat_cmp) X)
+  entries_sorted (r ∷ rows) apart =
+      finite.entries-insert nat_list_cmp_total (finite.from_entries (map (λ s. (name_of s, value s)) rows)) (name_of r) (value r)
+      ∙ ap (finite.put (slice_cmp nat_cmp) (name_of r) (value r)) (entries_sorted rows apart.1)
+      ∙ put_inserted r (sort_by by_name rows) (all_sorted (λ s. is_eq (by_name r s) ≡ false) by_name rows apart.0)
+
+pub names_found : (trees : Trees) → IsLaid trees → finite.keys (contents_in trees) ≡ map name_of (sort_by by_name (trees dbs_tree))
+names_found trees h =
+    ap (map (λ e. e.0))
+    (entries_sorted (database_of trees) (trees dbs_tree)
+    (ascending_weaker _ (λ a b. is_eq (by_name a b) ≡ false) (λ a b apart. is_eq-slice_cmp (name_of a) (name_of b) ∙ fails (bytes_eq (name_of a) (name_of b)) (λ same. apart ((bytes_eq-Decides (name_of a) (name_of b)).0 same))) (trees dbs_tree) h.names_apart))
+    ∙ map-map (λ (e : List ℕ × _). e.0) (λ s. (name_of s, database_of trees s)) (sort_by by_name (trees dbs_tree))

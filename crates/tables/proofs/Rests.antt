@@ -1,0 +1,139 @@
+-- What a change leaves of other tables and of rows that it doesn't touch, and tables that say the same.
+use Rattle.std.proofs.Common.{◌≡◌, ◌≢◌, ◌≤◌, ℕ, ℤ, Bool, true, false, List, [], ◌∷◌, map, find, cond, eqb, Option, Some, None, is_some, option_map, Ok, refl, sym, ap, subst, ◌∙◌, arith}
+use Rattle.std.specs.FinMap.{from_entries}
+use Rattle.std.specs.List.{AllByRecursion, list_any}
+use Rattle.std.specs.Ordering.{int_eq}
+use Rattle.couch_json.specs.Canonical.{canonical}
+use Rattle.couch_json.specs.Lawful.{IsLawful}
+use Rattle.couch_json.specs.Nesting.{max_open}
+use Rattle.couch_json.specs.Value as json
+use Rattle.couch_json.proofs.ReadingBack.{reading-canonical}
+use Rattle.tree.specs.History.{HistoryContent, held_of, is_deleted, is_known, winner}
+use Rattle.tree.specs.Revision.{Revision, text_of}
+use Rattle.store.specs.Contents.{Contents}
+use Rattle.store.specs.Lawful.{AreLawful}
+use Rattle.sqlite_value.specs.Order.{Row}
+use Rattle.sqlite_trees.specs.Tree.{Trees, IsAscending}
+use Rattle.sqlite_schema.specs.declared.schema.Schema.{Schema}
+use Rattle.sqlite_keyed.proofs.ListLemmas.{all_weaker}
+use Rattle.sqlite.specs.Effect as sqlite
+use Rattle.tables.specs.Layout.{AreNumbered, IsDatabaseNumber, IsDatabaseRow, IsDocumentRow, IsLocalRow, IsRevisionRow, IsLaid, database_at, version_row}
+use Rattle.tables.specs.Rows.{contents_in, database_of, db_of, documents_in, history_in, id_of, is_gone, is_of, json_in, length_of, locals_in, name_of, number_of, security_of, sequence_of, text_cell, value_or_null, winner_text}
+use Rattle.tables.specs.Schema.{schema, meta_tree, dbs_tree, docs_tree, revs_tree, locals_tree}
+use Rattle.tables.specs.Steps.{Changes}
+use Rattle.tables.proofs.RowMaps.{any_found}
+
+-- ---- the other tables
+
+pub record Leaves (tree : ℕ) (old new : Trees) : Type 0 where
+  pub meta : meta_tree ≢ tree → new meta_tree ≡ old meta_tree
+  pub dbs : dbs_tree ≢ tree → new dbs_tree ≡ old dbs_tree
+  pub docs : docs_tree ≢ tree → new docs_tree ≡ old docs_tree
+  pub revs : revs_tree ≢ tree → new revs_tree ≡ old revs_tree
+  pub locals : locals_tree ≢ tree → new locals_tree ≡ old locals_tree
+
+pub leaves : (tree : ℕ) (rows : List Row) (old new : sqlite.Database) → old.schema ≡ schema → Changes tree rows old new → Leaves tree old.trees new.trees
+leaves tree rows old new is c =
+    let others = subst (λ (s : Schema). AllByRecursion (λ t. t.tree ≢ tree → new.trees t.tree ≡ old.trees t.tree) s.tables) is c.others in
+    record { meta = others.0; dbs = others.1.0; docs = others.1.1.0; revs = others.1.1.1.0; locals = others.1.1.1.1.0 }
+
+-- ---- rows that stay
+
+is_some-map : {A B : Type 0} (f : A → B) (o : Option A) → is_some (option_map f o) ≡ is_some o
+is_some-map f None = refl
+is_some-map f (Some x) = refl
+
+-- the length of the database of a number
+abbrev pub length_at : List Row → ℤ → Option ℕ
+length_at rows n = option_map length_of (database_at rows n)
+
+number_kept : (rows now : List Row) (n : ℤ) → length_at now n ≡ length_at rows n → list_any (λ r. int_eq (number_of r) n) rows ≡ true
+    → list_any (λ r. int_eq (number_of r) n) now ≡ true
+number_kept rows now n same there =
+    any_found _ now ∙ sym (is_some-map length_of (database_at now n)) ∙ ap is_some same ∙ is_some-map length_of (database_at rows n) ∙ sym (any_found _ rows) ∙ there
+
+within_kept : (o p : Option Row) (d : Row) (n : ℕ) → option_map length_of p ≡ option_map length_of o → ((e : Row) → o ≡ Some e → n ≤ length_of e) → p ≡ Some d → n ≤ length_of d
+within_kept None p d n same within is = absurd (let none = sym same ∙ ap (option_map length_of) is in cc)
+within_kept (Some e) p d n same within is =
+    let both : ◌≡◌ {A = Option ℕ} (Some (length_of e)) (Some (length_of d)) = sym same ∙ ap (option_map length_of) is in
+    let one : length_of e ≡ length_of d = cc in
+    omega (arith, within e refl, one)
+
+module _ (old new : Trees) where
+  pub document_kept : (r : Row) → length_at (new dbs_tree) (db_of r) ≡ length_at (old dbs_tree) (db_of r)
+      → history_in (new revs_tree) (db_of r) (id_of r) ≡ history_in (old revs_tree) (db_of r) (id_of r) → IsDocumentRow old r → IsDocumentRow new r
+  document_kept r same history k = record {
+    is = k.is;
+    there = number_kept (old dbs_tree) (new dbs_tree) (db_of r) same k.there;
+    named = k.named;
+    positive = k.positive;
+    within = λ d. within_kept (database_at (old dbs_tree) (db_of r)) (database_at (new dbs_tree) (db_of r)) d (sequence_of r) same k.within;
+    won = subst (λ (h : HistoryContent). option_map text_of (winner h) ≡ Some (winner_text r)) (sym history) k.won;
+    gone = subst (λ (h : HistoryContent). (w : Revision) → winner h ≡ Some w → is_gone r ≡ is_deleted (held_of h w)) (sym history) k.gone;
+  }
+
+  pub revision_kept : (r : Row) → list_any (is_of (db_of r) (id_of r)) (new docs_tree) ≡ list_any (is_of (db_of r) (id_of r)) (old docs_tree)
+      → history_in (new revs_tree) (db_of r) (id_of r) ≡ history_in (old revs_tree) (db_of r) (id_of r) → IsRevisionRow old r → IsRevisionRow new r
+  revision_kept r same history k = record {
+    is = k.is;
+    there = same ∙ k.there;
+    lawful = k.lawful;
+    first = k.first;
+    follows = λ p up. ap (λ (h : HistoryContent). is_known h p) history ∙ k.follows p up;
+    body = k.body;
+  }
+
+  pub local_kept : (r : Row) → length_at (new dbs_tree) (db_of r) ≡ length_at (old dbs_tree) (db_of r) → IsLocalRow old r → IsLocalRow new r
+  local_kept r same k = record {
+    is = k.is;
+    there = number_kept (old dbs_tree) (new dbs_tree) (db_of r) same k.there;
+    named = k.named;
+    small = k.small;
+    body = k.body;
+  }
+
+-- ---- tables that say the same
+
+-- the databases that rows of these tables hold
+abbrev pub contents_of : List Row → List Row → List Row → List Row → Contents
+contents_of dbs docs revs locals =
+    from_entries (map (λ r. (name_of r, record { length = length_of r; security = security_of r; locals = locals_in locals (number_of r); documents = documents_in docs revs (number_of r) })) dbs)
+
+-- tables of these rows
+abbrev pub trees_of : List Row → List Row → List Row → List Row → List Row → Trees
+trees_of meta dbs docs revs locals t = cond (eqb t meta_tree) meta (cond (eqb t dbs_tree) dbs (cond (eqb t docs_tree) docs (cond (eqb t revs_tree) revs locals)))
+
+module _ (a b : Trees) (meta : b meta_tree ≡ a meta_tree) (dbs : b dbs_tree ≡ a dbs_tree) (docs : b docs_tree ≡ a docs_tree) (revs : b revs_tree ≡ a revs_tree) (locals : b locals_tree ≡ a locals_tree) where
+  pub contents_same : contents_in b ≡ contents_in a
+  contents_same = λ i. contents_of (dbs i) (docs i) (revs i) (locals i)
+
+  pub laid_same : IsLaid a → IsLaid b
+  laid_same h =
+      let lengths : (n : ℤ) → length_at (b dbs_tree) n ≡ length_at (a dbs_tree) n = λ n. ap (λ l. length_at l n) dbs in
+      let histories : (n : ℤ) (id : List ℕ) → history_in (b revs_tree) n id ≡ history_in (a revs_tree) n id = λ n id. ap (λ l. history_in l n id) revs in
+      record {
+        version = meta ∙ h.version;
+        dbs_numbered = subst AreNumbered (sym dbs) h.dbs_numbered;
+        docs_numbered = subst AreNumbered (sym docs) h.docs_numbered;
+        revs_numbered = subst AreNumbered (sym revs) h.revs_numbered;
+        locals_numbered = subst AreNumbered (sym locals) h.locals_numbered;
+        dbs = subst (AllByRecursion IsDatabaseRow) (sym dbs) h.dbs;
+        names_apart = subst (IsAscending _) (sym dbs) h.names_apart;
+        docs = subst (AllByRecursion (IsDocumentRow b)) (sym docs)
+            (all_weaker (IsDocumentRow a) (IsDocumentRow b) (λ r. document_kept a b r (lengths (db_of r)) (histories (db_of r) (id_of r))) (a docs_tree) h.docs);
+        ids_apart = subst (IsAscending _) (sym docs) h.ids_apart;
+        sequences_apart = subst (IsAscending _) (sym docs) h.sequences_apart;
+        revs = subst (AllByRecursion (IsRevisionRow b)) (sym revs)
+            (all_weaker (IsRevisionRow a) (IsRevisionRow b) (λ r. revision_kept a b r (ap (list_any (is_of (db_of r) (id_of r))) docs) (histories (db_of r) (id_of r))) (a revs_tree) h.revs);
+        revisions_apart = subst (IsAscending _) (sym revs) h.revisions_apart;
+        locals = subst (AllByRecursion (IsLocalRow b)) (sym locals)
+            (all_weaker (IsLocalRow a) (IsLocalRow b) (λ r. local_kept a b r (lengths (db_of r))) (a locals_tree) h.locals);
+        local_ids_apart = subst (IsAscending _) (sym locals) h.local_ids_apart;
+        lawful = subst (λ c. ∥ AreLawful c ∥₁) (sym contents_same) h.lawful;
+      }
+
+-- ---- texts
+
+-- the canonical text of a lawful value spells it
+pub spelled : (v : json.Value) → IsLawful v → json.depth v ≤ max_open → json_in (text_cell v) ≡ v
+spelled v lawful shallow = ap value_or_null (reading-canonical v lawful shallow)
