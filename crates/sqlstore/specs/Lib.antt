@@ -1,3 +1,4 @@
 pub mod Causes
 pub mod Standing
 pub mod Model
+pub mod Reading

@@ -2,6 +2,7 @@
 #![tactic(auto)]
 
 mod fault;
+mod shown;
 mod sql_store;
 
 pub use sql_store::SqlStore;
