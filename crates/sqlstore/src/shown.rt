@@ -1,11 +1,14 @@
 //! What the rows that a query shows say.
 
-ghost use Rattle.std.specs.Prelude.{◌≡◌, Some, option_map, slice_get};
+ghost use Rattle.std.specs.Prelude.{◌≡◌, IsTrue, Some, option_map, slice_get};
 ghost use Rattle.std.specs.List.{AllByRecursion};
 ghost use Rattle.couch_json.specs.View.{view};
+ghost use Rattle.policy.specs.Security.{is_security};
 ghost use Rattle.tables.specs.Shown.{IsShownDatabase, IsShownLocal, local_shown};
 ghost use Rattle.sqlstore.specs.Reading.{IsRead, found_shown};
 
+use couch_json::Json;
+use policy::{Security, SecurityFault};
 use sqlite::Row;
 use std::alloc::Global;
 use store::{LocalDocument, StoreFault};
@@ -39,5 +42,16 @@ pub(crate) fn first_local(
         Ok(document) => Ok(Some(document)),
         Err(RowFault::Memory) => Err(StoreFault::Memory),
         Err(RowFault::Damaged) => Err(StoreFault::Damaged),
+    }
+}
+
+/// Reads the security object that a value is.
+pub(crate) fn read_security(alloc: Global, value: &Json) -> Result<Security, StoreFault>
+    ensures { IsRead (λ security. security) (Some (view value.now)) (IsTrue (is_security (view value.now))) result }
+{
+    match Security::read(alloc, value) {
+        Ok(security) => Ok(security),
+        Err(SecurityFault::Memory) => Err(StoreFault::Memory),
+        Err(SecurityFault::Shape) => Err(StoreFault::Damaged),
     }
 }

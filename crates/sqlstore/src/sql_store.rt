@@ -1,6 +1,8 @@
 ghost use Rattle.std.specs.Prelude.{◌≡◌, false, None};
 ghost use Rattle.sqlstore.specs.Standing.{IsHeld};
 
+mod find;
+mod reading;
 mod rows;
 
 use sqlite::{Alter, Connection};

@@ -15,7 +15,7 @@ impl<S: Alter> SqlStore<S> {
     ghost use Rattle.sqlstore.specs.Model.{Stands, is_honest, trees_of};
 
     /// Returns the row of the database of this name, if there is one.
-    fn database_rows(&mut self, name: &[u8]) -> Result<Vec<Row>, StoreFault>
+    pub(crate) fn database_rows(&mut self, name: &[u8]) -> Result<Vec<Row>, StoreFault>
         ensures ok { is_honest S.Store self.new → IfOk result (λ rows. rows.items ≡ map shown_database (filter (is_named name.now) (trees_of S.Store self.old dbs_tree))) }
         ensures judged { IfErr result (IsJudged self.old.faults self.new.faults) }
         ensures stands { Stands S.Store self.old self.new }
@@ -27,7 +27,7 @@ impl<S: Alter> SqlStore<S> {
     }
 
     /// Returns the rows of the names of all databases, in the order of their bytes.
-    fn name_rows(&mut self) -> Result<Vec<Row>, StoreFault>
+    pub(crate) fn name_rows(&mut self) -> Result<Vec<Row>, StoreFault>
         ensures ok { is_honest S.Store self.new → IfOk result (λ rows. rows.items ≡ map shown_name (sort_by by_name (trees_of S.Store self.old dbs_tree))) }
         ensures judged { IfErr result (IsJudged self.old.faults self.new.faults) }
         ensures stands { Stands S.Store self.old self.new }
@@ -39,7 +39,7 @@ impl<S: Alter> SqlStore<S> {
     }
 
     /// Returns the rows of the known revisions of a document, in some order.
-    fn revision_rows(&mut self, db: &i64, id: &[u8]) -> Result<Vec<Row>, StoreFault>
+    pub(crate) fn revision_rows(&mut self, db: &i64, id: &[u8]) -> Result<Vec<Row>, StoreFault>
         ensures ok { is_honest S.Store self.new → IfOk result (λ rows. ∥ IsPermutation (map shown_revision (filter (is_of db.now id.now) (trees_of S.Store self.old revs_tree))) rows.items ∥₁) }
         ensures judged { IfErr result (IsJudged self.old.faults self.new.faults) }
         ensures stands { Stands S.Store self.old self.new }
@@ -51,7 +51,7 @@ impl<S: Alter> SqlStore<S> {
     }
 
     /// Returns the row of a local document, if there is one.
-    fn local_rows(&mut self, db: &i64, id: &[u8]) -> Result<Vec<Row>, StoreFault>
+    pub(crate) fn local_rows(&mut self, db: &i64, id: &[u8]) -> Result<Vec<Row>, StoreFault>
         ensures ok { is_honest S.Store self.new → IfOk result (λ rows. rows.items ≡ map shown_local (filter (is_of db.now id.now) (trees_of S.Store self.old locals_tree))) }
         ensures judged { IfErr result (IsJudged self.old.faults self.new.faults) }
         ensures stands { Stands S.Store self.old self.new }

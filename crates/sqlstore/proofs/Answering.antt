@@ -1,0 +1,107 @@
+-- What a reader of a store answers, from what it read, and what it leaves.
+use Rattle.std.proofs.Common.{◌≡◌, ◌≤◌, ◌<◌, ◌+◌, ◌^◌, ◌-◌, ℕ, length, ◌⊎◌, inl, inr, List, [], ◌∷◌, filter, map, slice_get, Option, Some, None, option_map, Result, Ok, Err, Bool, true, false, IsTrue, if◌then◌else◌, refl, sym, ap, subst, ◌∙◌, arith}
+use Rattle.std.specs.List.{AllByRecursion}
+use Rattle.std.proofs.Math.Logic.{∥∥₁_elim, ∥∥₁_map}
+use Rattle.std.specs.FinMap.{get}
+use Rattle.store.specs.Causes.{HasFailed}
+use Rattle.store.specs.Database.{Database}
+use Rattle.store.specs.declared.fault.StoreFault.{StoreFault}
+use Rattle.store.specs.declared.fault.StoreFault.TheVariants.{Memory, Failed, NoDatabase, Exists, Damaged, Full}
+use Rattle.sqlite_value.specs.Order.{Row}
+use Rattle.sqlite_sql.specs.Ops.{fits_i64}
+use Rattle.sqlite_trees.specs.declared.store.Store.{Ghosts}
+use Rattle.sqlite.specs.Held.{Held, state}
+use Rattle.tables.specs.Layout.{IsLaid, IsStore}
+use Rattle.tables.specs.Rows.{contents_in, is_named, next_number, shown_database}
+use Rattle.tables.specs.Schema.{dbs_tree}
+use Rattle.tables.specs.Shown.{IsShownDatabase}
+use Rattle.tables.proofs.Laid.{shown_databases}
+use Rattle.sqlstore.specs.Causes.{IsJudged}
+use Rattle.sqlstore.specs.Model.{Answers, OnlyReads, Stands, contents_of, is_honest, lacks_room, trees_of}
+use Rattle.sqlstore.specs.Reading.{IsRead, found_in, found_shown}
+use Rattle.sqlstore.specs.declared.sql_store.SqlStore.{SqlStore}
+
+-- rows that all are so are so where some are left out
+all_with : (P : Row → Type 0) (b : Bool) (r : Row) (rows : List Row) → P r → AllByRecursion P rows → AllByRecursion P (if b then r ∷ rows else rows)
+all_with P true r rows one all = (one, all)
+all_with P false r rows one all = all
+
+pub all_left : (P : Row → Type 0) (p : Row → Bool) (rows : List Row) → AllByRecursion P rows → AllByRecursion P (filter p rows)
+all_left P p [] all = tt
+all_left P p (r ∷ rows) all = all_with P (p r) r (filter p rows) all.0 (all_left P p rows all.1)
+
+pub all_shown : (P : Row → Type 0) (show : Row → Row) (rows : List Row) → AllByRecursion (λ r. P (show r)) rows → AllByRecursion P (map show rows)
+all_shown P show [] all = tt
+all_shown P show (r ∷ rows) all = (all.0, all_shown P show rows all.1)
+
+-- what is said of the first of the shown rows is what is said of the first row
+pub first_shown : {A : Type 0} (show : Row → Row) (read : Row → A) (said : Row → A) → ((r : Row) → read (show r) ≡ said r) → (rows : List Row) → option_map said (slice_get rows 0) ≡ option_map read (slice_get (map show rows) 0)
+first_shown show read said same [] = refl
+first_shown show read said same (r ∷ rows) = ap Some (sym (same r))
+
+module _ {S : Type 0} (g : Ghosts S) (old new : SqlStore S g) where
+  pub judged : {X A : Type 0} (view : X → A) (defined : Option A) (fault : StoreFault) → IsJudged old.faults new.faults fault → Answers g old new view defined (Err fault)
+  judged view defined Memory h = tt
+  judged view defined Failed h = h
+  judged view defined NoDatabase h = absurd h
+  judged view defined Exists h = absurd h
+  judged view defined Damaged h = absurd h
+  judged view defined Full h = absurd h
+
+  pub answered : {X A : Type 0} (view : X → A) (defined said : Option A) (intact : Type 0) (r : Result X StoreFault) → IsRead view said intact r → (is_honest g new → (¬ ¬ intact) × (defined ≡ said)) → Answers g old new view defined r
+  answered view defined said intact (Ok x) h is = λ honest. (is honest).1 ∙ h
+  answered view defined said intact (Err Memory) h is = tt
+  answered view defined said intact (Err Failed) h is = absurd h
+  answered view defined said intact (Err NoDatabase) h is = λ honest. (is honest).1 ∙ h
+  answered view defined said intact (Err Exists) h is = absurd h
+  answered view defined said intact (Err Damaged) h is = λ honest. (is honest).0 h
+  answered view defined said intact (Err Full) h is = absurd h
+
+  -- a fault of one answer is one of another that is defined where the first is
+  pub refused : {X Y A B : Type 0} (view : X → A) (other : Y → B) (defined : Option A) (further : Option B) (fault : StoreFault) → (defined ≡ None → further ≡ None)
+      → Answers g {X = X} old new view defined (Err fault) → Answers g {X = Y} old new other further (Err fault)
+  refused view other defined further Memory none h = tt
+  refused view other defined further Failed none h = h
+  refused view other defined further NoDatabase none h = λ honest. none (h honest)
+  refused view other defined further Exists none h = absurd h
+  refused view other defined further Damaged none h = h
+  refused view other defined further Full none h = absurd h
+
+  -- what stands was honest
+  pub was_honest : Stands g old new → is_honest g new → is_honest g old
+  was_honest s honest = (s.clean honest.0, subst (λ h. IsStore (state g h).now) s.origin honest.1)
+
+  pub same_contents : Stands g old new → contents_of g new ≡ contents_of g old
+  same_contents s = ap (λ h. contents_in (state g h).now.trees) s.last
+
+  pub reads : Stands g old new → OnlyReads g old new
+  reads s = record {
+    goes_on = record {
+      counted = s.counted;
+      honest = was_honest s;
+      clean = s.clean;
+      steady = λ honest clean. (clean, subst (λ h. IsStore (state g h).now) (sym s.origin) honest.1);
+    };
+    same = λ honest. same_contents s;
+    room = λ honest name ws lacks. subst (λ h. (db : Database) × (get (contents_in (state g h).now.trees) name ≡ Some db) × ¬ (db.length + length ws < 2 ^ 63)) s.last lacks;
+    numbers = λ honest lacks. subst (λ h. fits_i64 (next_number ((state g h).now.trees dbs_tree)) ≡ false) s.last lacks;
+  }
+
+module _ {S : Type 0} (g : Ghosts S) where
+  pub stands_then : (a b c : SqlStore S g) → Stands g a b → Stands g b c → Stands g a c
+  stands_then a b c p q = record { origin = q.origin ∙ p.origin; last = q.last ∙ p.last; counted = omega (arith, p.counted, q.counted); clean = λ clean. p.clean (q.clean clean) }
+
+  pub failed_later : (a b c : ℕ) → a ≤ b → HasFailed b c → HasFailed a c
+  failed_later a b c up (inl h) = inl (omega (arith, up, h))
+  failed_later a b c up (inr h) = inr h
+
+  -- the rows of an honest store are laid out
+  pub laid : (s : SqlStore S g) → is_honest g s → ∥ IsLaid (trees_of g s) ∥₁
+  laid s honest = ∥∥₁_map (s.held honest.0 honest.1) (λ holds. holds.store.laid)
+
+-- the rows that the query of a database shows are intact, and say what is found
+pub database_read : {S : Type 0} (g : Ghosts S) (s : SqlStore S g) (name : List ℕ) (rows : List Row) → is_honest g s → rows ≡ map shown_database (filter (is_named name) (trees_of g s dbs_tree))
+    → (¬ ¬ AllByRecursion IsShownDatabase rows) × (option_map found_in (slice_get (filter (is_named name) (trees_of g s dbs_tree)) 0) ≡ option_map found_shown (slice_get rows 0))
+database_read g s name rows honest is =
+    (λ none. ∥∥₁_elim (laid g s honest) (λ p q. absurd p) (λ l. none (subst (AllByRecursion IsShownDatabase) (sym is) (all_shown IsShownDatabase shown_database _ (all_left _ (is_named name) _ (shown_databases _ l))))),
+    first_shown shown_database found_shown found_in (λ r. refl) _ ∙ ap (λ l. option_map found_shown (slice_get l 0)) (sym is))
