@@ -11,14 +11,20 @@ use Rattle.sqlite_value.specs.Order.{Row}
 use Rattle.sqlite_sql.specs.Ops.{fits_i64}
 use Rattle.sqlite_trees.specs.declared.store.Store.{Ghosts}
 use Rattle.sqlite.specs.Held.{Held, state}
-use Rattle.tables.specs.Layout.{IsLaid, IsStore}
-use Rattle.tables.specs.Rows.{contents_in, is_named, next_number, shown_database}
-use Rattle.tables.specs.Schema.{dbs_tree}
-use Rattle.tables.specs.Shown.{IsShownDatabase}
-use Rattle.tables.proofs.Laid.{shown_databases}
+use Rattle.policy.specs.Security.{is_security}
+use Rattle.sqlite_trees.specs.Tree.{Trees}
+use Rattle.store.specs.Contents.{local_at}
+use Rattle.couch_json.specs.View.{view}
+use Rattle.tables.specs.declared.decode.FoundDatabase.{FoundDatabase}
+use Rattle.tables.specs.Layout.{IsDatabaseRow, IsLaid, IsStore}
+use Rattle.tables.specs.Rows.{contents_in, database_of, is_named, is_of, local_of, next_number, shown_database, shown_local}
+use Rattle.tables.specs.Schema.{dbs_tree, locals_tree}
+use Rattle.tables.specs.Shown.{IsShownDatabase, IsShownLocal, local_shown}
+use Rattle.tables.proofs.Laid.{shown_databases, shown_locals}
+use Rattle.tables.proofs.Lookups.{database_found, local_found}
 use Rattle.sqlstore.specs.Causes.{IsJudged}
 use Rattle.sqlstore.specs.Model.{Answers, OnlyReads, Stands, contents_of, is_honest, lacks_room, trees_of}
-use Rattle.sqlstore.specs.Reading.{IsRead, found_in, found_shown}
+use Rattle.sqlstore.specs.Reading.{FoundValues, IsRead, found_in, found_shown}
 use Rattle.sqlstore.specs.declared.sql_store.SqlStore.{SqlStore}
 
 -- rows that all are so are so where some are left out
@@ -105,3 +111,57 @@ pub database_read : {S : Type 0} (g : Ghosts S) (s : SqlStore S g) (name : List 
 database_read g s name rows honest is =
     (λ none. ∥∥₁_elim (laid g s honest) (λ p q. absurd p) (λ l. none (subst (AllByRecursion IsShownDatabase) (sym is) (all_shown IsShownDatabase shown_database _ (all_left _ (is_named name) _ (shown_databases _ l))))),
     first_shown shown_database found_shown found_in (λ r. refl) _ ∙ ap (λ l. option_map found_shown (slice_get l 0)) (sym is))
+
+pub at_first : (P : Row → Type 0) (rows : List Row) (r : Row) → AllByRecursion P rows → slice_get rows 0 ≡ Some r → P r
+at_first P [] r all is = absurd (cc)
+at_first P (s ∷ rows) r all is = subst P (some_same s r is) all.0
+  where
+    some_same : (a b : Row) → Some a ≡ Some b → a ≡ b
+    some_same a b h = cc
+
+-- the row of a database that is found, and the database
+pub record IsThere (trees : Trees) (name : List ℕ) (k : FoundValues) : Type 0 where
+  pub row : Row
+  pub first : slice_get (filter (is_named name) (trees dbs_tree)) 0 ≡ Some row
+  pub values : found_in row ≡ k
+  pub database : get (contents_in trees) name ≡ Some (database_of trees row)
+
+pub there : (trees : Trees) (name : List ℕ) (k : FoundValues) → option_map found_in (slice_get (filter (is_named name) (trees dbs_tree)) 0) ≡ Some k → IsThere trees name k
+there trees name k h = go (slice_get (filter (is_named name) (trees dbs_tree)) 0) refl h
+  where
+    go : (o : Option Row) → slice_get (filter (is_named name) (trees dbs_tree)) 0 ≡ o → option_map found_in o ≡ Some k → IsThere trees name k
+    go None is h = absurd (cc)
+    go (Some r) is h = record { row = r; first = is; values = cc; database = database_found trees name ∙ ap (option_map (database_of trees)) is }
+
+-- where no row is found there is no database
+pub none_there : {B : Type 0} (trees : Trees) (name : List ℕ) (f : Database → B) → option_map found_in (slice_get (filter (is_named name) (trees dbs_tree)) 0) ≡ None → option_map f (get (contents_in trees) name) ≡ None
+none_there trees name f h = ap (option_map f) (database_found trees name) ∙ go (slice_get (filter (is_named name) (trees dbs_tree)) 0) h
+  where
+    go : (o : Option Row) → option_map found_in o ≡ None → option_map f (option_map (database_of trees) o) ≡ None
+    go None h = refl
+    go (Some r) h = absurd (cc)
+
+-- the security object of a database that is found
+pub security_there : (trees : Trees) (name : List ℕ) (k : FoundValues) → IsThere trees name k → option_map (λ (db : Database). db.security) (get (contents_in trees) name) ≡ Some k.1
+security_there trees name k t = ap (option_map (λ (db : Database). db.security)) t.database ∙ ap (λ (v : FoundValues). Some v.1) t.values
+
+pub security_intact : (trees : Trees) (name : List ℕ) (k : FoundValues) → IsLaid trees → IsThere trees name k → IsTrue (is_security k.1)
+security_intact trees name k l t = subst (λ (v : FoundValues). IsTrue (is_security v.1)) t.values (at_first IsDatabaseRow _ t.row (all_left IsDatabaseRow (is_named name) _ l.dbs) t.first).security
+
+-- a local document of a database that is found
+pub local_there : (trees : Trees) (name id : List ℕ) (k : FoundValues) (rows : List Row) → IsThere trees name k → rows ≡ map shown_local (filter (is_of k.0 id) (trees locals_tree))
+    → option_map (λ (db : Database). local_at db id) (get (contents_in trees) name) ≡ Some (option_map local_shown (slice_get rows 0))
+local_there trees name id k rows t is =
+    ap (option_map (λ (db : Database). local_at db id)) t.database
+    ∙ ap Some (local_found trees t.row id ∙ ap (λ (v : FoundValues). option_map local_of (slice_get (filter (is_of v.0 id) (trees locals_tree)) 0)) t.values
+    ∙ first_shown shown_local local_shown local_of (λ r. refl) _ ∙ ap (λ l. option_map local_shown (slice_get l 0)) (sym is))
+
+pub local_intact : (trees : Trees) (p : Row → Bool) (rows : List Row) → IsLaid trees → rows ≡ map shown_local (filter p (trees locals_tree)) → AllByRecursion IsShownLocal rows
+local_intact trees p rows l is = subst (AllByRecursion IsShownLocal) (sym is) (all_shown IsShownLocal shown_local _ (all_left _ p _ (shown_locals trees l)))
+
+-- what a reader of a database answers where none was found
+pub not_found : {S Y B : Type 0} (g : Ghosts S) (old new : SqlStore S g) (name : List ℕ) (other : Y → B) (f : Database → B) (fault : StoreFault)
+    → Answers g {X = FoundDatabase} old new (λ d. (d.number, view d.security, d.sequence)) (option_map found_in (slice_get (filter (is_named name) (trees_of g old dbs_tree)) 0)) (Err fault)
+    → Answers g {X = Y} old new other (option_map f (get (contents_of g old) name)) (Err fault)
+not_found g old new name other f fault h =
+    refused g old new {X = FoundDatabase} (λ d. (d.number, view d.security, d.sequence)) other _ _ fault (none_there (trees_of g old) name f) h
