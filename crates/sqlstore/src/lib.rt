@@ -3,6 +3,7 @@
 
 mod fault;
 mod shown;
+mod transactions;
 mod sql_store;
 
 pub use sql_store::SqlStore;
