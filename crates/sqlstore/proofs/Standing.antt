@@ -1,11 +1,8 @@
 -- What calls of a store leave, one after the other.
-use base.Stored.{Coded-set}
 use Rattle.std.proofs.Common.{◌≡◌, ◌⊎◌, inl, inr, ℕ, ◌≤◌, List, Result, Ok, Err, IsTrue, OnOk, IfOk, refl, sym, ap, subst, ◌∙◌}
 use Rattle.std.proofs.Math.Logic.{∥∥₁_elim, ∥∥₁_map}
-use Rattle.std.specs.Coded.{coded_list}
-use Rattle.sqlite_value.specs.Order.{Row}
-use Rattle.sqlite_value.specs.contracts.row.Row as row
 use Rattle.sqlite_trees.specs.declared.store.Store.{Ghosts}
+use Rattle.sqlite_trees.specs.Props.{Trees-set}
 use Rattle.sqlite_trees.specs.Tree.{Trees}
 use Rattle.sqlite.specs.Held.{Held, state}
 use Rattle.sqlite.specs.State.{State, HasCleanDisk, IsUnchanged}
@@ -40,5 +37,6 @@ module _ {S : Type 0} (g : Ghosts S) (old new origin last : Held S) where
   found P prop held asks clean is up finds =
       ∥∥₁_elim (held (asks.clean clean) is) prop (λ h. subst (λ (d : Rattle.sqlite.specs.Effect.Database). P d.trees) (h.now up) (finds (subst IsStore (sym (h.now up)) h.store)))
 
-pub rows_prop : (a b : List Row) → IsProp (a ≡ b)
-rows_prop = Coded-set (coded_list row.the_row.coded)
+  -- an open connection has the rows that the last change left
+  pub same_trees : IsHeld g old origin last → HasCleanDisk (state g old) → IsStore (state g origin).now → IsTrue (state g old).is_open → (state g old).now.trees ≡ (state g last).now.trees
+  same_trees held clean is up = ∥∥₁_elim (held clean is) (Trees-set _ _) (λ h. ap (λ (d : Rattle.sqlite.specs.Effect.Database). d.trees) (h.now up))

@@ -41,3 +41,24 @@ fn make_tables<S: Alter>(conn: &mut Connection<S>) -> Result<(), OpenFault>
         Err(error) => Err(open_fault(error)),
     }
 }
+
+/// Finds the tables of a store, or makes them where there is none of them.
+pub(crate) fn find_tables<S: Alter>(conn: &mut Connection<S>) -> Result<(), OpenFault>
+    requires { conn.old.in_transaction ≡ false }
+    // Where there was a store it is found as it was, and where there was nothing it is made.
+    ensures found { HasCleanDisk (state S.Store conn.new) → IsStore (state S.Store conn.old).now → OnOk result ((state S.Store conn.new).now ≡ (state S.Store conn.old).now) }
+    ensures made { HasCleanDisk (state S.Store conn.new) → conn.old.schema ≡ no_schema → OnOk result (IsNew (state S.Store conn.new).now) }
+    ensures not_ours { result ≡ Err OpenFault.NotOurs → HasCleanDisk (state S.Store conn.new) → ¬ IsStore (state S.Store conn.old).now }
+
+    // Where it is refused the rows are as they were, if tables of these names are those of this layout.
+    ensures refused { (has_all conn.old.schema ≡ true → conn.old.schema ≡ schema) → HasCleanDisk (state S.Store conn.new) → IsTrue (state S.Store conn.new).is_open
+        → OnErr result (((state S.Store conn.new).now ≡ (state S.Store conn.old).now) ⊎ ((state S.Store conn.new).now ≡ (state S.Store conn.old).committed)) }
+    ensures turns { Turns S.Store conn.old conn.new }
+{
+    match tables_in(conn.schema()) {
+        FoundTables::All => check_version(conn),
+        FoundTables::Part => Err(OpenFault::NotOurs),
+        FoundTables::Nothing => make_tables(conn),
+        FoundTables::Others => make_tables(conn),
+    }
+}

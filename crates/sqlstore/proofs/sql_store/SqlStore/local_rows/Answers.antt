@@ -1,7 +1,8 @@
 use Rattle.std.proofs.Common.{◌≡◌, ◌∙◌, filter, map}
+use Rattle.sqlite_trees.specs.Props.{rows_set}
 use Rattle.tables.specs.Rows.{is_of, shown_local}
 use Rattle.tables.specs.Schema.{locals_tree}
-use Rattle.sqlstore.proofs.Standing.{found, held_on, rows_prop}
+use Rattle.sqlstore.proofs.Standing.{found, held_on}
 use Rattle.sqlstore.proofs.sql_store.SqlStore.local_rows.Goals as goal
 
 pub invariant_of-self : goal.invariant_of-self
@@ -27,5 +28,5 @@ invariant_of-self-in-Err g c =
 pub returns-in-Ok-clause-ok : goal.returns-in-Ok-clause-ok
 returns-in-Ok-clause-ok g c honest =
     let s = c.args.self.now in
-    found g.S.Store s.conn c.local_rows.new.conn s.origin.value s.last.value (λ trees. c.in-Ok.rows.items ≡ map shown_local (filter (is_of c.args.db.now c.args.id.now) (trees locals_tree))) (rows_prop _ _)
+    found g.S.Store s.conn c.local_rows.new.conn s.origin.value s.last.value (λ trees. c.in-Ok.rows.items ≡ map shown_local (filter (is_of c.args.db.now c.args.id.now) (trees locals_tree))) (rows_set _ _)
     s.held c.in-Ok.ensures.asks honest.0 honest.1 (c.in-Ok.ensures.served honest.0) (c.in-Ok.ensures.ok honest.0)
