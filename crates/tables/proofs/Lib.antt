@@ -28,3 +28,7 @@ pub mod Setup
 pub mod RowMaps
 pub mod Lookups
 pub mod Rests
+pub mod NewDatabases
+pub mod Secured
+pub mod LocalChanges
+pub mod Removed

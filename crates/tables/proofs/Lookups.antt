@@ -1,31 +1,30 @@
 -- What the tables answer by name and by id is what the databases that they hold have there.
-use Rattle.std.proofs.Common.{◌≡◌, ◌⊎◌, ℕ, ℤ, Bool, true, false, ◌&&◌, List, [], ◌∷◌, map, filter, find, slice_get, Option, Some, None, option_map, is_some, cond, Ordering, is_eq, is_gt, bytes_eq, nat_cmp, refl, sym, ap, ap₂, subst, ◌∙◌}
+use Rattle.std.proofs.Common.{◌≡◌, ◌⊎◌, ℕ, ℤ, Bool, true, false, ◌||◌, List, [], ◌∷◌, map, filter, find, slice_get, Option, Some, None, option_map, is_some, cond, Ordering, is_eq, is_gt, bytes_eq, nat_cmp, refl, sym, ap, ap₂, subst, ◌∙◌}
 use Rattle.std.proofs.lemmas.Bool.{both_ways, and_parts}
+use Rattle.std.proofs.lemmas.Bool.Decides.{Decides-int_eq}
 use Rattle.std.proofs.lemmas.Cmp.{nat_list_cmp_total}
 use Rattle.std.proofs.lemmas.Map.Text.{is_eq-slice_cmp}
 use Rattle.std.proofs.lemmas.Slice.Eq.{bytes_eq-Decides}
-use Rattle.std.specs.Cmp.{IsTotalOrder}
 use Rattle.std.specs.Cmp.Lexicographic.{slice_cmp}
 use Rattle.std.specs.FinMap as finite
 use Rattle.std.specs.FinMap.Entries.{by_order}
 use Rattle.std.specs.declared.cmp.Ordering.TheVariants.{Less, Equal, Greater}
 use Rattle.std.specs.List.{AllByRecursion, list_any}
-use Rattle.tree.specs.History.{HistoryContent}
 use Rattle.store.specs.Database as store
-use Rattle.store.specs.Database.{Document}
+use Rattle.store.specs.Database.{Database}
 use Rattle.store.proofs.Pagings.{no_length}
 use Rattle.sqlite_value.specs.Order.{Row}
 use Rattle.sqlite_trees.specs.Tree.{Trees, IsAscending}
 use Rattle.sqlite_keyed.specs.Lists.{insert_sorted, sort_by}
 use Rattle.sqlite_keyed.proofs.KeyedLemmas.{same_int}
-use Rattle.sqlite_keyed.proofs.ListLemmas.{all_weaker, ascending_weaker, map-map, slice_get-filter, filter_none}
-use Rattle.tables.specs.Layout.{IsLaid, IsRevisionRow}
-use Rattle.tables.specs.Rows.{db_of, id_of, is_in, is_of, is_named, name_of, number_of, by_name, revision_of, entry_of, local_of, document_of, database_of, history_in, contents_in}
+use Rattle.sqlite_keyed.proofs.ListLemmas.{all_both, all_weaker, ascending_weaker, map-map, slice_get-filter, filter_none}
+use Rattle.tables.specs.Layout.{IsDatabaseNumber, IsLaid, IsRevisionRow}
+use Rattle.tables.specs.Rows.{db_of, has_number, id_of, is_in, is_of, is_named, name_of, number_of, by_name, revision_of, entry_of, local_of, document_of, database_of, history_in, contents_in}
 use Rattle.tables.specs.Schema.{dbs_tree, docs_tree, revs_tree, locals_tree}
-use Rattle.tables.proofs.RowMaps.{get_filtered, text_exact, text_tests, filter_both, find_none, find_passes, any_found}
+use Rattle.tables.proofs.RowMaps.{any_found, filter_both, find_passes, get_filtered, one_test, only_found, rows_changed, text_exact, text_tests}
 use Rattle.tables.proofs.Single.{few, fails}
 use Rattle.tables.proofs.Sorted.{all_sorted}
-use Rattle.tables.proofs.Tables.{one_named, one_of}
+use Rattle.tables.proofs.Tables.{one_named, one_numbered, one_of}
 
 -- ---- databases by name
 
@@ -111,3 +110,41 @@ names_found trees h =
     (entries_sorted (database_of trees) (trees dbs_tree)
     (ascending_weaker _ (λ a b. is_eq (by_name a b) ≡ false) (λ a b apart. is_eq-slice_cmp (name_of a) (name_of b) ∙ fails (bytes_eq (name_of a) (name_of b)) (λ same. apart ((bytes_eq-Decides (name_of a) (name_of b)).0 same))) (trees dbs_tree) h.names_apart))
     ∙ map-map (λ (e : List ℕ × _). e.0) (λ s. (name_of s, database_of trees s)) (sort_by by_name (trees dbs_tree))
+
+-- ---- the row of a name
+
+any_on : {A : Type 0} (p q : A → Bool) (rows : List A) → AllByRecursion (λ r. p r ≡ q r) rows → list_any p rows ≡ list_any q rows
+any_on p q [] all = refl
+any_on p q (r ∷ rows) all = ap₂ (λ a b. a || b) all.0 (any_on p q rows all.1)
+
+module _ (trees : Trees) (h : IsLaid trees) (name : List ℕ) (d : Row) (is : slice_get (filter (is_named name) (trees dbs_tree)) 0 ≡ Some d) where
+  named_row : find (is_named name) (trees dbs_tree) ≡ Some d
+  named_row = sym (slice_get-filter (is_named name) (trees dbs_tree)) ∙ is
+
+  -- no other row has its name
+  pub only_named : AllByRecursion (λ r. is_named name r ≡ true → r ≡ d) (trees dbs_tree)
+  only_named = only_found (is_named name) d (trees dbs_tree) (one_named (trees dbs_tree) h.names_apart name) named_row
+
+  -- the rows of its name are those of its number
+  pub by_number : AllByRecursion (λ r. is_named name r ≡ has_number (number_of d) r) (trees dbs_tree)
+  by_number =
+      one_test (is_named name) (has_number (number_of d)) d (trees dbs_tree) (one_named (trees dbs_tree) h.names_apart name)
+      (one_numbered (trees dbs_tree) h.dbs_numbered.rising (number_of d)) named_row ((Decides-int_eq (number_of d) (number_of d)).1 refl)
+
+  pub name_there : list_any (is_named name) (trees dbs_tree) ≡ true
+  name_there = any_found (is_named name) (trees dbs_tree) ∙ ap is_some named_row
+
+  pub number_there : IsDatabaseNumber trees (number_of d)
+  number_there = sym (any_on (is_named name) (has_number (number_of d)) (trees dbs_tree) by_number) ∙ name_there
+
+  pub database_there : finite.get (contents_in trees) name ≡ Some (database_of trees d)
+  database_there = database_found trees name ∙ ap (option_map (database_of trees)) is
+
+  -- the contents, where the databases of other rows are as they were
+  pub one_changed : (w : Row → Database) (x : Database) → w d ≡ x → ((r : Row) → has_number (number_of d) r ≡ false → w r ≡ database_of trees r)
+      → finite.from_entries {R = slice_cmp nat_cmp} (map (λ r. (name_of r, w r)) (trees dbs_tree)) ≡ finite.insert (contents_in trees) name x
+  one_changed w x own others =
+      rows_changed nat_list_cmp_total text_exact name_of (λ q r. bytes_eq (name_of r) q) (text_tests name_of) (database_of trees) w name x (trees dbs_tree)
+      (all_both (λ r. is_named name r ≡ true → r ≡ d) (λ r. is_named name r ≡ has_number (number_of d) r)
+      (λ r. (is_named name r ≡ true → w r ≡ x) × (is_named name r ≡ false → w r ≡ database_of trees r))
+      (λ r only same. (λ here. ap w (only here) ∙ own, λ away. others r (sym same ∙ away))) (trees dbs_tree) only_named by_number) name_there

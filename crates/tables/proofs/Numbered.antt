@@ -49,7 +49,7 @@ numbered_from_keyed rows h = record { numbers = all_weaker _ (λ r. rowid r ≡ 
 
 -- ---- rows that are taken out
 
-filter_on : (p q : Row → Bool) (rows : List Row) → AllByRecursion (λ r. p r ≡ q r) rows → filter p rows ≡ filter q rows
+pub filter_on : (p q : Row → Bool) (rows : List Row) → AllByRecursion (λ r. p r ≡ q r) rows → filter p rows ≡ filter q rows
 filter_on p q [] all = refl
 filter_on p q (r ∷ rows) all = ap₂ (λ b l. cond b (r ∷ l) l) all.0 (filter_on p q rows all.1)
 

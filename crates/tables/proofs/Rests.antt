@@ -1,9 +1,8 @@
 -- What a change leaves of other tables and of rows that it doesn't touch, and tables that say the same.
-use Rattle.std.proofs.Common.{◌≡◌, ◌≢◌, ◌≤◌, ℕ, ℤ, Bool, true, false, List, [], ◌∷◌, map, find, cond, eqb, Option, Some, None, is_some, option_map, Ok, refl, sym, ap, subst, ◌∙◌, arith}
+use Rattle.std.proofs.Common.{◌≡◌, ◌≢◌, ◌≤◌, ℕ, ℤ, true, List, map, cond, eqb, Option, Some, None, is_some, option_map, refl, sym, ap, subst, ◌∙◌, arith}
 use Rattle.std.specs.FinMap.{from_entries}
 use Rattle.std.specs.List.{AllByRecursion, list_any}
 use Rattle.std.specs.Ordering.{int_eq}
-use Rattle.couch_json.specs.Canonical.{canonical}
 use Rattle.couch_json.specs.Lawful.{IsLawful}
 use Rattle.couch_json.specs.Nesting.{max_open}
 use Rattle.couch_json.specs.Value as json
@@ -17,8 +16,8 @@ use Rattle.sqlite_trees.specs.Tree.{Trees, IsAscending}
 use Rattle.sqlite_schema.specs.declared.schema.Schema.{Schema}
 use Rattle.sqlite_keyed.proofs.ListLemmas.{all_weaker}
 use Rattle.sqlite.specs.Effect as sqlite
-use Rattle.tables.specs.Layout.{AreNumbered, IsDatabaseNumber, IsDatabaseRow, IsDocumentRow, IsLocalRow, IsRevisionRow, IsLaid, database_at, version_row}
-use Rattle.tables.specs.Rows.{contents_in, database_of, db_of, documents_in, history_in, id_of, is_gone, is_of, json_in, length_of, locals_in, name_of, number_of, security_of, sequence_of, text_cell, value_or_null, winner_text}
+use Rattle.tables.specs.Layout.{AreNumbered, IsDatabaseRow, IsDocumentRow, IsLocalRow, IsRevisionRow, IsLaid, database_at}
+use Rattle.tables.specs.Rows.{contents_in, db_of, documents_in, history_in, id_of, is_gone, is_of, json_in, length_of, locals_in, name_of, number_of, security_of, sequence_of, text_cell, value_or_null, winner_text}
 use Rattle.tables.specs.Schema.{schema, meta_tree, dbs_tree, docs_tree, revs_tree, locals_tree}
 use Rattle.tables.specs.Steps.{Changes}
 use Rattle.tables.proofs.RowMaps.{any_found}

@@ -51,7 +51,7 @@ both_in P R S weaker (r ∷ rows) all up = (each rows all.1 up.0, both_in P R S 
     each [] own over = tt
     each (x ∷ xs) own over = (weaker r x all.0 own.0 over.0, each xs own.1 over.1)
 
-passing : (p : Row → Bool) (rows : List Row) → AllByRecursion (λ r. p r ≡ true) (filter p rows)
+pub passing : (p : Row → Bool) (rows : List Row) → AllByRecursion (λ r. p r ≡ true) (filter p rows)
 passing p [] = tt
 passing p (r ∷ rows) = go (p r) refl (passing p rows)
   where

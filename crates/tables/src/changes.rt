@@ -1,15 +1,27 @@
 //! What the tables say by name and by id, and what the databases that they hold become as rows are
 //! changed. Each function has an empty body: its contract is the law.
 
-ghost use Rattle.std.specs.Prelude.{◌≡◌, ◌⊎◌, ◌∷◌, [], List, filter, map, option_map, slice_get, ℕ};
+ghost use Rattle.std.specs.Prelude.{◌≡◌, ◌≢◌, ◌<◌, ◌^◌, ◌⊎◌, ◌∷◌, [], IsTrue, List, None, Some, filter, map, not, option_map, pos, slice_get, ℕ};
 ghost use Rattle.std.specs.FinMap as finite;
+ghost use Rattle.std.specs.List.{AllByRecursion};
+ghost use Rattle.couch_json.specs.Canonical.{canonical};
+ghost use Rattle.couch_json.specs.Lawful.{IsLawful};
+ghost use Rattle.couch_json.specs.Value.{Value};
+ghost use Rattle.policy.specs.Security.{closed_security, is_security};
+ghost use Rattle.store.specs.Contents as store;
 ghost use Rattle.store.specs.Database.{history_at};
+ghost use Rattle.store.specs.DatabaseName.{is_database_name};
+ghost use Rattle.store.specs.Lawful.{IsBody};
+ghost use Rattle.store.specs.declared.local_document.LocalDocument.{LocalDocument};
+ghost use Rattle.tree.specs.DocumentId.{is_document_id};
+ghost use Rattle.sqlite.specs.Effect as sqlite;
 ghost use Rattle.sqlite_keyed.specs.Lists.{sort_by};
 ghost use Rattle.sqlite_trees.specs.Tree.{Trees};
 ghost use Rattle.sqlite_value.specs.Order.{Row};
-ghost use Rattle.tables.specs.Layout.{IsLaid};
-ghost use Rattle.tables.specs.Rows.{by_name, contents_in, database_of, history_in, is_named, is_of, local_of, name_of, number_of};
-ghost use Rattle.tables.specs.Schema.{dbs_tree, locals_tree, revs_tree};
+ghost use Rattle.tables.specs.Layout.{AreDatabaseRows, AreKeyed, IsLaid, IsStore};
+ghost use Rattle.tables.specs.Rows.{by_name, contents_in, database_cells, database_of, has_number, history_in, is_in, is_named, is_of, local_cells, local_of, name_of, number_of, rows_with_security, with_cells};
+ghost use Rattle.tables.specs.Schema.{dbs_tree, docs_tree, locals_tree, meta_tree, revs_tree, schema};
+ghost use Rattle.tables.specs.Steps.{Changes};
 
 /// The database of a name is that of the row of this name, and at most one row has it.
 pub fn database_found()
@@ -33,4 +45,76 @@ pub fn document_found()
 /// The names of all databases are those of their rows, sorted.
 pub fn names_found()
     ensures { (trees : Trees) → IsLaid trees → finite.keys (contents_in trees) ≡ map name_of (sort_by by_name (trees dbs_tree)) }
+{}
+
+/// The rows of tables that are laid out are fit for each change of their table.
+pub fn rows_before_a_change()
+    ensures databases { (trees : Trees) → IsLaid trees → AreDatabaseRows (trees dbs_tree) }
+    ensures documents { (trees : Trees) → IsLaid trees → AreKeyed (trees docs_tree) }
+    ensures revisions { (trees : Trees) → IsLaid trees → AreKeyed (trees revs_tree) }
+    ensures locals { (trees : Trees) → IsLaid trees → AreKeyed (trees locals_tree) }
+{}
+
+/// A change of one table leaves the rows of the others.
+pub fn rows_of_other_tables()
+    ensures { (tree : ℕ) (rows : List Row) (old new : sqlite.Database) → old.schema ≡ schema → Changes tree rows old new
+        → AllByRecursion (λ t. t ≢ tree → new.trees t ≡ old.trees t) (meta_tree ∷ dbs_tree ∷ docs_tree ∷ revs_tree ∷ locals_tree ∷ []) }
+{}
+
+/// A row that is put behind the others, of a name that no database has, is a new database.
+pub fn new_database()
+    ensures store { (old new : sqlite.Database) (name : List ℕ) → IsStore old → IsTrue (is_database_name name)
+        → finite.get (contents_in old.trees) name ≡ None
+        → Changes dbs_tree (with_cells (old.trees dbs_tree) (database_cells name (canonical closed_security) (pos 0))) old new
+        → IsStore new }
+    ensures contents { (old new : sqlite.Database) (name : List ℕ) → IsStore old → IsTrue (is_database_name name)
+        → finite.get (contents_in old.trees) name ≡ None
+        → Changes dbs_tree (with_cells (old.trees dbs_tree) (database_cells name (canonical closed_security) (pos 0))) old new
+        → contents_in new.trees ≡ finite.insert (contents_in old.trees) name store.new_database }
+{}
+
+/// A database whose row has the text of another security object has that object.
+pub fn another_security()
+    ensures store { (old new : sqlite.Database) (name : List ℕ) (d : Row) (v : Value) → IsStore old
+        → slice_get (filter (is_named name) (old.trees dbs_tree)) 0 ≡ Some d → IsTrue (is_security v) → IsLawful v
+        → Changes dbs_tree (rows_with_security (number_of d) (canonical v) (old.trees dbs_tree)) old new
+        → IsStore new }
+    ensures contents { (old new : sqlite.Database) (name : List ℕ) (d : Row) (v : Value) → IsStore old
+        → slice_get (filter (is_named name) (old.trees dbs_tree)) 0 ≡ Some d → IsTrue (is_security v) → IsLawful v
+        → Changes dbs_tree (rows_with_security (number_of d) (canonical v) (old.trees dbs_tree)) old new
+        → option_map (λ db. finite.insert (contents_in old.trees) name (store.with_security db v)) (finite.get (contents_in old.trees) name) ≡ Some (contents_in new.trees) }
+{}
+
+/// A row that takes the place of those of its database and id is that local document of the database.
+pub fn another_local()
+    ensures store { (a b c : sqlite.Database) (name : List ℕ) (d : Row) (id : List ℕ) (document : LocalDocument) → IsStore a
+        → slice_get (filter (is_named name) (a.trees dbs_tree)) 0 ≡ Some d
+        → IsTrue (is_document_id id) → IsBody document.body → IsLawful document.body → document.number < 2 ^ 32
+        → Changes locals_tree (filter (λ r. not (is_of (number_of d) id r)) (a.trees locals_tree)) a b
+        → Changes locals_tree (with_cells (b.trees locals_tree) (local_cells (number_of d) id document.number (canonical document.body))) b c
+        → IsStore c }
+    ensures contents { (a b c : sqlite.Database) (name : List ℕ) (d : Row) (id : List ℕ) (document : LocalDocument) → IsStore a
+        → slice_get (filter (is_named name) (a.trees dbs_tree)) 0 ≡ Some d
+        → IsTrue (is_document_id id) → IsBody document.body → IsLawful document.body → document.number < 2 ^ 32
+        → Changes locals_tree (filter (λ r. not (is_of (number_of d) id r)) (a.trees locals_tree)) a b
+        → Changes locals_tree (with_cells (b.trees locals_tree) (local_cells (number_of d) id document.number (canonical document.body))) b c
+        → option_map (λ db. finite.insert (contents_in a.trees) name (store.with_local db id document)) (finite.get (contents_in a.trees) name) ≡ Some (contents_in c.trees) }
+{}
+
+/// A database whose rows are all deleted is removed.
+pub fn fewer_databases()
+    ensures store { (a b c d e : sqlite.Database) (name : List ℕ) (w : Row) → IsStore a
+        → slice_get (filter (is_named name) (a.trees dbs_tree)) 0 ≡ Some w
+        → Changes docs_tree (filter (λ r. not (is_in (number_of w) r)) (a.trees docs_tree)) a b
+        → Changes revs_tree (filter (λ r. not (is_in (number_of w) r)) (b.trees revs_tree)) b c
+        → Changes locals_tree (filter (λ r. not (is_in (number_of w) r)) (c.trees locals_tree)) c d
+        → Changes dbs_tree (filter (λ r. not (has_number (number_of w) r)) (d.trees dbs_tree)) d e
+        → IsStore e }
+    ensures contents { (a b c d e : sqlite.Database) (name : List ℕ) (w : Row) → IsStore a
+        → slice_get (filter (is_named name) (a.trees dbs_tree)) 0 ≡ Some w
+        → Changes docs_tree (filter (λ r. not (is_in (number_of w) r)) (a.trees docs_tree)) a b
+        → Changes revs_tree (filter (λ r. not (is_in (number_of w) r)) (b.trees revs_tree)) b c
+        → Changes locals_tree (filter (λ r. not (is_in (number_of w) r)) (c.trees locals_tree)) c d
+        → Changes dbs_tree (filter (λ r. not (has_number (number_of w) r)) (d.trees dbs_tree)) d e
+        → contents_in e.trees ≡ finite.remove (contents_in a.trees) name }
 {}

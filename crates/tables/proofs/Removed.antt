@@ -1,0 +1,162 @@
+-- The databases that the tables hold after one is removed with all its rows.
+use Rattle.std.proofs.Common.{◌≡◌, ◌≢◌, ℕ, ℤ, true, false, not, List, map, filter, slice_get, Some, is_some, option_map, bytes_eq, sym, ap, ap₂, ◌∙◌, subst, arith}
+use Rattle.std.proofs.Math.Logic.{∥∥₁_map}
+use Rattle.std.proofs.lemmas.Bool.{and_parts, not-true}
+use Rattle.std.proofs.lemmas.Cmp.{nat_list_cmp_total}
+use Rattle.std.specs.FinMap as finite
+use Rattle.std.specs.List.{AllByRecursion, list_any}
+use Rattle.std.specs.Ordering.{int_eq}
+use Rattle.store.specs.Lawful.{AreLawful}
+use Rattle.store.proofs.Lawfuls.{lawful_remove}
+use Rattle.sqlite_value.specs.Order.{Row}
+use Rattle.sqlite_trees.specs.Tree.{Trees}
+use Rattle.sqlite_keyed.proofs.KeyedLemmas.{same_int}
+use Rattle.sqlite_keyed.proofs.ListLemmas.{all-filter, all_both, all_weaker, ascending-filter}
+use Rattle.sqlite.specs.Effect as sqlite
+use Rattle.tables.specs.Layout.{IsDatabaseRow, IsDocumentRow, IsLocalRow, IsRevisionRow, IsLaid, IsStore}
+use Rattle.tables.specs.Rows.{contents_in, database_of, db_of, document_of, documents_in, entry_of, has_number, history_in, id_of, is_in, is_named, is_of, length_of, local_of, name_of, number_of, revision_of, security_of}
+use Rattle.tables.specs.Schema.{dbs_tree, docs_tree, revs_tree, locals_tree, meta_tree}
+use Rattle.tables.specs.Steps.{Changes}
+use Rattle.tables.proofs.Kept.{databases-filter, keyed-filter}
+use Rattle.tables.proofs.Lookups.{by_number}
+use Rattle.tables.proofs.Numbered.{filter_on, numbered_from_keyed}
+use Rattle.tables.proofs.RowMaps.{any_found, filter_apart, find_apart, rows_alike, rows_removed, text_exact, text_tests}
+use Rattle.tables.proofs.Rests.{Leaves, contents_same, document_kept, laid_same, leaves, length_at, local_kept, revision_kept, trees_of}
+use Rattle.tables.proofs.Sorted.{passing}
+use Rattle.tables.proofs.Tables.{databases_laid, docs_keyed, locals_keyed, numbered_databases, revs_keyed}
+
+module _ (n : ℤ) where
+  -- the rows that aren't the database's
+  abbrev outside : List Row → List Row
+  outside rows = filter (λ r. not (is_in n r)) rows
+
+  module _ (m : ℤ) (apart : int_eq m n ≡ false) where
+    in_other : (r : Row) → is_in m r ≡ true → is_in n r ≡ false
+    in_other r here = ap (λ k. int_eq k n) (same_int (db_of r) m here) ∙ apart
+
+    of_other : (id : List ℕ) (r : Row) → is_of m id r ≡ true → is_in n r ≡ false
+    of_other id r here = in_other r (and_parts (is_in m r) (bytes_eq (id_of r) id) here).0
+
+    -- of another database they are all there
+    others_in : (rows : List Row) → filter (is_in m) (outside rows) ≡ filter (is_in m) rows
+    others_in = filter_apart (is_in m) (is_in n) in_other
+
+    others_of : (id : List ℕ) (rows : List Row) → filter (is_of m id) (outside rows) ≡ filter (is_of m id) rows
+    others_of id = filter_apart (is_of m id) (is_in n) (of_other id)
+
+    any_other : (id : List ℕ) (rows : List Row) → list_any (is_of m id) (outside rows) ≡ list_any (is_of m id) rows
+    any_other id rows = any_found (is_of m id) (outside rows) ∙ ap is_some (find_apart (is_of m id) (is_in n) (of_other id) rows) ∙ sym (any_found (is_of m id) rows)
+
+    other_length : (rows : List Row) → length_at (filter (λ r. not (has_number n r)) rows) m ≡ length_at rows m
+    other_length rows = ap (option_map length_of) (find_apart (λ r. int_eq (number_of r) m) (has_number n) (λ r here. ap (λ k. int_eq k n) (same_int (number_of r) m here) ∙ apart) rows)
+
+    other_history : (id : List ℕ) (rows : List Row) → history_in (outside rows) m id ≡ history_in rows m id
+    other_history id rows = ap (λ l. finite.from_entries (map (λ r. (revision_of r, entry_of r)) l)) (others_of id rows)
+
+    other_document : (revs : List Row) (r : Row) → is_in m r ≡ true → document_of (outside revs) r ≡ document_of revs r
+    other_document revs r here =
+        let own : db_of r ≡ m = same_int (db_of r) m here in
+        ap (λ h. record (document_of revs r) { history = h }) (subst (λ k. history_in (outside revs) k (id_of r) ≡ history_in revs k (id_of r)) (sym own) (other_history (id_of r) revs))
+
+    other_documents : (docs revs : List Row) → documents_in (outside docs) (outside revs) m ≡ documents_in docs revs m
+    other_documents docs revs =
+        ap (λ l. finite.from_entries (map (λ r. (id_of r, document_of (outside revs) r)) l)) (others_in docs)
+        ∙ rows_alike nat_list_cmp_total text_exact id_of (λ q r. bytes_eq (id_of r) q) (text_tests id_of) (document_of (outside revs)) (document_of revs) (filter (is_in m) docs)
+        (all_weaker (λ r. is_in m r ≡ true) (λ r. document_of (outside revs) r ≡ document_of revs r) (other_document revs) (filter (is_in m) docs) (passing (is_in m) docs))
+
+module _ (trees : Trees) (h : IsLaid trees) (name : List ℕ) (d : Row) (is : slice_get (filter (is_named name) (trees dbs_tree)) 0 ≡ Some d) where
+  abbrev n : ℤ
+  n = number_of d
+
+  abbrev rows : List Row
+  rows = filter (λ r. not (has_number (number_of d) r)) (trees dbs_tree)
+
+  abbrev removed : Trees
+  removed = trees_of (trees meta_tree) rows (outside n (trees docs_tree)) (outside n (trees revs_tree)) (outside n (trees locals_tree))
+
+  -- ---- contents
+
+  same_database : (r : Row) → not (has_number n r) ≡ true → database_of removed r ≡ database_of trees r
+  same_database r out =
+      let apart = not-true (has_number n r) out in
+      ap₂ (λ locals documents. record { length = length_of r; security = security_of r; locals = locals; documents = documents })
+      (ap (λ l. finite.from_entries (map (λ s. (id_of s, local_of s)) l)) (others_in n (number_of r) apart (trees locals_tree)))
+      (other_documents n (number_of r) apart (trees docs_tree) (trees revs_tree))
+
+  pub removed_contents : contents_in removed ≡ finite.remove (contents_in trees) name
+  removed_contents =
+      rows_alike nat_list_cmp_total text_exact name_of (λ q r. bytes_eq (name_of r) q) (text_tests name_of) (database_of removed) (database_of trees) rows
+      (all_weaker (λ r. not (has_number n r) ≡ true) (λ r. database_of removed r ≡ database_of trees r) same_database rows (passing (λ r. not (has_number n r)) (trees dbs_tree)))
+      ∙ ap (λ l. finite.from_entries (map (λ r. (name_of r, database_of trees r)) l))
+      (filter_on (λ r. not (has_number n r)) (λ r. not (is_named name r)) (trees dbs_tree)
+      (all_weaker (λ r. is_named name r ≡ has_number n r) (λ r. not (has_number n r) ≡ not (is_named name r)) (λ r same. ap not (sym same)) (trees dbs_tree) (by_number trees h name d is)))
+      ∙ rows_removed nat_list_cmp_total text_exact name_of (λ q r. bytes_eq (name_of r) q) (text_tests name_of) (database_of trees) name (trees dbs_tree)
+
+  -- ---- layout
+
+  outside_all : (P Q : Row → Type 0) (all : List Row) → ((r : Row) → P r → int_eq (db_of r) n ≡ false → Q r) → AllByRecursion P all → AllByRecursion Q (outside n all)
+  outside_all P Q all keeps each =
+      all_both P (λ r. not (is_in n r) ≡ true) Q (λ r k out. keeps r k (not-true (is_in n r) out)) (outside n all) (all-filter P (λ r. not (is_in n r)) all each) (passing (λ r. not (is_in n r)) all)
+
+  pub removed_laid : IsLaid removed
+  removed_laid = record {
+    version = h.version;
+    dbs_numbered = numbered_databases rows (databases-filter (λ r. not (has_number n r)) (trees dbs_tree) (databases_laid trees h));
+    docs_numbered = numbered_from_keyed (outside n (trees docs_tree)) (keyed-filter (λ r. not (is_in n r)) (trees docs_tree) (docs_keyed trees h));
+    revs_numbered = numbered_from_keyed (outside n (trees revs_tree)) (keyed-filter (λ r. not (is_in n r)) (trees revs_tree) (revs_keyed trees h));
+    locals_numbered = numbered_from_keyed (outside n (trees locals_tree)) (keyed-filter (λ r. not (is_in n r)) (trees locals_tree) (locals_keyed trees h));
+    dbs = all-filter IsDatabaseRow (λ r. not (has_number n r)) (trees dbs_tree) h.dbs;
+    names_apart = ascending-filter (λ a b. name_of a ≢ name_of b) (λ r. not (has_number n r)) (trees dbs_tree) h.names_apart;
+    docs = outside_all (IsDocumentRow trees) (IsDocumentRow removed) (trees docs_tree)
+        (λ r k out. document_kept trees removed r (other_length n (db_of r) out (trees dbs_tree)) (other_history n (db_of r) out (id_of r) (trees revs_tree)) k) h.docs;
+    ids_apart = ascending-filter _ (λ r. not (is_in n r)) (trees docs_tree) h.ids_apart;
+    sequences_apart = ascending-filter _ (λ r. not (is_in n r)) (trees docs_tree) h.sequences_apart;
+    revs = outside_all (IsRevisionRow trees) (IsRevisionRow removed) (trees revs_tree)
+        (λ r k out. revision_kept trees removed r (any_other n (db_of r) out (id_of r) (trees docs_tree)) (other_history n (db_of r) out (id_of r) (trees revs_tree)) k) h.revs;
+    revisions_apart = ascending-filter _ (λ r. not (is_in n r)) (trees revs_tree) h.revisions_apart;
+    locals = outside_all (IsLocalRow trees) (IsLocalRow removed) (trees locals_tree) (λ r k out. local_kept trees removed r (other_length n (db_of r) out (trees dbs_tree)) k) h.locals;
+    local_ids_apart = ascending-filter _ (λ r. not (is_in n r)) (trees locals_tree) h.local_ids_apart;
+    lawful = ∥∥₁_map h.lawful (λ l. subst AreLawful (sym removed_contents) (lawful_remove (contents_in trees) name l));
+  }
+
+module _ (a b c d e : sqlite.Database) (name : List ℕ) (w : Row) (h : IsStore a) (is : slice_get (filter (is_named name) (a.trees dbs_tree)) 0 ≡ Some w)
+    (docs : Changes docs_tree (filter (λ r. not (is_in (number_of w) r)) (a.trees docs_tree)) a b) (revs : Changes revs_tree (filter (λ r. not (is_in (number_of w) r)) (b.trees revs_tree)) b c)
+    (locals : Changes locals_tree (filter (λ r. not (is_in (number_of w) r)) (c.trees locals_tree)) c d) (dbs : Changes dbs_tree (filter (λ r. not (has_number (number_of w) r)) (d.trees dbs_tree)) d e) where
+  abbrev after : Trees
+  after = removed a.trees h.laid name w is
+
+  one : Leaves docs_tree a.trees b.trees
+  one = leaves docs_tree (outside (number_of w) (a.trees docs_tree)) a b h.schema_is docs
+
+  two : Leaves revs_tree b.trees c.trees
+  two = leaves revs_tree (outside (number_of w) (b.trees revs_tree)) b c (docs.schema ∙ h.schema_is) revs
+
+  three : Leaves locals_tree c.trees d.trees
+  three = leaves locals_tree (outside (number_of w) (c.trees locals_tree)) c d (revs.schema ∙ docs.schema ∙ h.schema_is) locals
+
+  four : Leaves dbs_tree d.trees e.trees
+  four = leaves dbs_tree (filter (λ r. not (has_number (number_of w) r)) (d.trees dbs_tree)) d e (locals.schema ∙ revs.schema ∙ docs.schema ∙ h.schema_is) dbs
+
+  meta_is : e.trees meta_tree ≡ after meta_tree
+  meta_is = four.meta (omega arith) ∙ three.meta (omega arith) ∙ two.meta (omega arith) ∙ one.meta (omega arith)
+
+  dbs_are : e.trees dbs_tree ≡ after dbs_tree
+  dbs_are = dbs.rows ∙ ap (λ l. filter (λ r. not (has_number (number_of w) r)) l) (three.dbs (omega arith) ∙ two.dbs (omega arith) ∙ one.dbs (omega arith))
+
+  docs_are : e.trees docs_tree ≡ after docs_tree
+  docs_are = four.docs (omega arith) ∙ three.docs (omega arith) ∙ two.docs (omega arith) ∙ docs.rows
+
+  revs_are : e.trees revs_tree ≡ after revs_tree
+  revs_are = four.revs (omega arith) ∙ three.revs (omega arith) ∙ revs.rows ∙ ap (λ l. outside (number_of w) l) (one.revs (omega arith))
+
+  locals_are : e.trees locals_tree ≡ after locals_tree
+  locals_are = four.locals (omega arith) ∙ locals.rows ∙ ap (λ l. outside (number_of w) l) (two.locals (omega arith) ∙ one.locals (omega arith))
+
+  pub removed_store : IsStore e
+  removed_store = record {
+    schema_is = dbs.schema ∙ locals.schema ∙ revs.schema ∙ docs.schema ∙ h.schema_is;
+    laid = laid_same after e.trees meta_is dbs_are docs_are revs_are locals_are (removed_laid a.trees h.laid name w is);
+  }
+
+  pub fewer_databases : contents_in e.trees ≡ finite.remove (contents_in a.trees) name
+  fewer_databases = contents_same after e.trees meta_is dbs_are docs_are revs_are locals_are ∙ removed_contents a.trees h.laid name w is
