@@ -73,6 +73,9 @@ module _ {S : Type 0} (g : Ghosts S) (old new : SqlStore S g) where
   refused view other defined further Damaged none h = h
   refused view other defined further Full none h = absurd h
 
+  pub told_none : {X A : Type 0} (view : X → A) (defined : Option A) (fault : StoreFault) → fault ≡ NoDatabase → Answers g {X = X} old new view defined (Err fault) → is_honest g new → defined ≡ None
+  told_none {X} view defined fault is h = subst (λ f. Answers g {X = X} old new view defined (Err f)) is h
+
   -- what stands was honest
   pub was_honest : Stands g old new → is_honest g new → is_honest g old
   was_honest s honest = (s.clean honest.0, subst (λ h. IsStore (state g h).now) s.origin honest.1)
@@ -138,6 +141,13 @@ pub none_there : {B : Type 0} (trees : Trees) (name : List ℕ) (f : Database �
 none_there trees name f h = ap (option_map f) (database_found trees name) ∙ go (slice_get (filter (is_named name) (trees dbs_tree)) 0) h
   where
     go : (o : Option Row) → option_map found_in o ≡ None → option_map f (option_map (database_of trees) o) ≡ None
+    go None h = refl
+    go (Some r) h = absurd (cc)
+
+pub absent : (trees : Trees) (name : List ℕ) → option_map found_in (slice_get (filter (is_named name) (trees dbs_tree)) 0) ≡ None → get (contents_in trees) name ≡ None
+absent trees name h = database_found trees name ∙ go (slice_get (filter (is_named name) (trees dbs_tree)) 0) h
+  where
+    go : (o : Option Row) → option_map found_in o ≡ None → option_map (database_of trees) o ≡ None
     go None h = refl
     go (Some r) h = absurd (cc)
 

@@ -55,3 +55,12 @@ module _ {S : Type 0} (g : Ghosts S) where
 
   abbrev pub Answers : {X A : Type 0} → SqlStore S g → SqlStore S g → (X → A) → Option A → Result X StoreFault → Type 0
   Answers old new shown defined result = leaving.Answers is_honest fault_count old new shown defined result
+
+  -- a change keeps what the store was opened with, and the count of faults
+  pub record Moves (old new : SqlStore S g) : Type 0 where
+    pub origin : new.origin.value ≡ old.origin.value
+    pub counted : old.faults ≤ new.faults
+    pub clean : is_clean new → is_clean old
+
+  abbrev pub ChangesWhole : {X F : Type 0} → SqlStore S g → SqlStore S g → Result X F → Type 0
+  ChangesWhole old new result = leaving.ChangesWhole contents_of is_honest is_clean fault_count old new result

@@ -1,6 +1,7 @@
 ghost use Rattle.std.specs.Prelude.{◌≡◌, false, None};
 ghost use Rattle.sqlstore.specs.Standing.{IsHeld};
 
+mod changing;
 mod find;
 mod reading;
 mod rows;
