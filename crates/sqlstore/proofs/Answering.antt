@@ -111,9 +111,10 @@ module _ {S : Type 0} (g : Ghosts S) where
 -- the rows that the query of a database shows are intact, and say what is found
 pub database_read : {S : Type 0} (g : Ghosts S) (s : SqlStore S g) (name : List ℕ) (rows : List Row) → is_honest g s → rows ≡ map shown_database (filter (is_named name) (trees_of g s dbs_tree))
     → (¬ ¬ AllByRecursion IsShownDatabase rows) × (option_map found_in (slice_get (filter (is_named name) (trees_of g s dbs_tree)) 0) ≡ option_map found_shown (slice_get rows 0))
-database_read g s name rows honest is =
-    (λ none. ∥∥₁_elim (laid g s honest) (λ p q. absurd p) (λ l. none (subst (AllByRecursion IsShownDatabase) (sym is) (all_shown IsShownDatabase shown_database _ (all_left _ (is_named name) _ (shown_databases _ l))))),
-    first_shown shown_database found_shown found_in (λ r. refl) _ ∙ ap (λ l. option_map found_shown (slice_get l 0)) (sym is))
+database_read g s name rows honest is = (
+  λ none. ∥∥₁_elim (laid g s honest) (λ p q. absurd p) (λ l. none (subst (AllByRecursion IsShownDatabase) (sym is) (all_shown IsShownDatabase shown_database _ (all_left _ (is_named name) _ (shown_databases _ l))))),
+  first_shown shown_database found_shown found_in (λ r. refl) _ ∙ ap (λ l. option_map found_shown (slice_get l 0)) (sym is),
+)
 
 pub at_first : (P : Row → Type 0) (rows : List Row) (r : Row) → AllByRecursion P rows → slice_get rows 0 ≡ Some r → P r
 at_first P [] r all is = absurd (cc)
@@ -175,3 +176,13 @@ pub not_found : {S Y B : Type 0} (g : Ghosts S) (old new : SqlStore S g) (name :
     → Answers g {X = Y} old new other (option_map f (get (contents_of g old) name)) (Err fault)
 not_found g old new name other f fault h =
     refused g old new {X = FoundDatabase} (λ d. (d.number, view d.security, d.sequence)) other _ _ fault (none_there (trees_of g old) name f) h
+
+-- a change of a database says that there is none only where there is none
+pub missing : {S X : Type 0} (g : Ghosts S) (old new : SqlStore S g) (name : List ℕ) (r : Result X StoreFault) (fault : StoreFault) → r ≡ Err fault → r ≡ Err NoDatabase
+    → Answers g {X = FoundDatabase} old new (λ d. (d.number, view d.security, d.sequence)) (option_map found_in (slice_get (filter (is_named name) (trees_of g old dbs_tree)) 0)) (Err fault)
+    → is_honest g new → get (contents_of g old) name ≡ None
+missing g old new name r fault is told h honest =
+    absent (trees_of g old) name (told_none g old new {X = FoundDatabase} (λ d. (d.number, view d.security, d.sequence)) _ fault (same_fault (sym is ∙ told)) h honest)
+  where
+    same_fault : {Y : Type 0} {a b : StoreFault} → ◌≡◌ {A = Result Y StoreFault} (Err a) (Err b) → a ≡ b
+    same_fault e = cc

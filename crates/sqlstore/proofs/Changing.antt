@@ -1,5 +1,5 @@
 -- What a change of a store leaves.
-use Rattle.std.proofs.Common.{◌≡◌, ℕ, pos, ◌≤◌, List, Bool, false, Option, None, Some, is_some, Result, Ok, Err, IsTrue, OnOk, OnErr, refl, sym, ap, subst, ◌∙◌, arith}
+use Rattle.std.proofs.Common.{◌≡◌, ℕ, ℤ, pos, ◌≤◌, List, Bool, false, Option, None, Some, is_some, Result, Ok, Err, IsTrue, OnOk, OnErr, refl, sym, ap, subst, ◌∙◌, arith}
 use Rattle.std.proofs.Math.Logic.{∥∥₁_elim, ∥∥₁_map}
 use Rattle.couch_json.specs.Canonical.{canonical}
 use Rattle.policy.specs.Security.{closed_security}
@@ -8,10 +8,13 @@ use Rattle.sqlite.specs.Effect.{Database}
 use Rattle.sqlite.specs.Held.{Held, state}
 use Rattle.sqlite.specs.State.{HasCleanDisk}
 use Rattle.tables.specs.Layout.{IsStore}
-use Rattle.tables.specs.Rows.{contents_in, database_cells, with_cells}
+use Rattle.tables.specs.Rows.{contents_in, database_cells, rows_with_security, with_cells}
 use Rattle.tables.specs.Schema.{dbs_tree}
 use Rattle.tables.specs.Steps.{Changes}
 use Rattle.sqlstore.specs.Model.{ChangesWhole, Moves, Stands, contents_of, is_honest}
+use Rattle.sqlite_trees.specs.Tree.{Trees}
+use Rattle.sqlstore.specs.Reading.{HasNumber}
+use Rattle.sqlstore.specs.Sequences.{Replaces}
 use Rattle.sqlstore.specs.Standing.{Holds, IsHeld, Turns}
 use Rattle.sqlstore.specs.declared.sql_store.SqlStore.{SqlStore}
 
@@ -90,3 +93,17 @@ pub new_row : (old new : Database) (name given text : List ℕ) → given ≡ na
 new_row old new name given text named spelled change =
     subst (λ t. Changes dbs_tree (with_cells (old.trees dbs_tree) (database_cells name t (pos 0))) old new) spelled
     (subst (λ n. Changes dbs_tree (with_cells (old.trees dbs_tree) (database_cells n text (pos 0))) old new) named change)
+
+-- the number of a database, in the same rows
+pub number_at : (trees others : Trees) (name : List ℕ) (n : ℤ) → trees ≡ others → HasNumber others name n → HasNumber trees name n
+number_at trees others name n same has = subst (λ t. HasNumber t name n) (sym same) has
+
+-- the rows with another security object, by the same number and the same text
+pub secured_row : (old new : Database) (n m : ℤ) (t u : List ℕ) → m ≡ n → t ≡ u → Changes dbs_tree (rows_with_security n t (old.trees dbs_tree)) old new → Changes dbs_tree (rows_with_security m u (old.trees dbs_tree)) old new
+secured_row old new n m t u same text change =
+    subst (λ k. Changes dbs_tree (rows_with_security k u (old.trees dbs_tree)) old new) (sym same) (subst (λ x. Changes dbs_tree (rows_with_security n x (old.trees dbs_tree)) old new) text change)
+
+-- a local document put in, by the same number, id and text
+pub local_row : (old new : Database) (n m : ℤ) (i j : List ℕ) (number : ℕ) (t u : List ℕ) → m ≡ n → i ≡ j → t ≡ u → Replaces n i number t old new → Replaces m j number u old new
+local_row old new n m i j number t u same named text change =
+    subst (λ k. Replaces k j number u old new) (sym same) (subst (λ x. Replaces n x number u old new) named (subst (λ x. Replaces n i number x old new) text change))

@@ -1,7 +1,7 @@
 -- Contents are told apart by numbers, so any two proofs that they are equal are one.
 use base.Stored.{Coded-set}
-use Rattle.std.proofs.Common.{ℕ, List, refl}
-use Rattle.std.specs.Coded.{Coded, code_by, coded×, coded_list, coded_ℕ}
+use Rattle.std.proofs.Common.{ℕ, List, Option, refl}
+use Rattle.std.specs.Coded.{Coded, code_by, coded×, coded_list, coded_option, coded_ℕ}
 use Rattle.std.specs.FinMap.{code}
 use Rattle.couch_json.specs.Code.{value_code}
 use Rattle.couch_json.specs.Value as json
@@ -26,3 +26,6 @@ database_code =
 
 pub contents_set : IsSet Contents
 contents_set = Coded-set (code text_code database_code)
+
+pub some_contents_set : IsSet (Option Contents)
+some_contents_set = Coded-set (coded_option (code text_code database_code))

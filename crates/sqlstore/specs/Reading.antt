@@ -1,6 +1,6 @@
 -- What is read of the rows that a query shows, and when they are intact.
 -- This server's own: rows are read by the words of `tables`; what is not intact is told as damaged.
-use Rattle.std.specs.Prelude.{◌≡◌, ℕ, ℤ, Bool, IsTrue, List, map, Option, Some, None, Result, Ok, Err, ⊤}
+use Rattle.std.specs.Prelude.{◌≡◌, ℕ, ℤ, Bool, IsTrue, List, filter, map, slice_get, Option, Some, None, Result, Ok, Err, ⊤}
 use Rattle.std.specs.FinMap as finite
 use Rattle.couch_json.specs.Value as json
 use Rattle.store.specs.declared.fault.StoreFault.{StoreFault}
@@ -11,7 +11,9 @@ use Rattle.sqlite_value.specs.Order.{Row, bytes, column}
 use Rattle.tree.specs.History.{HistoryContent, row_of, with_entries}
 use Rattle.tree.specs.Revision.{Revision}
 use Rattle.tree.specs.declared.entry.Entry.{Entry}
-use Rattle.tables.specs.Rows.{count_in, json_in, length_of, number_of, security_of, whole_in}
+use Rattle.tables.specs.Rows.{count_in, is_named, json_in, length_of, number_of, security_of, whole_in}
+use Rattle.sqlite_trees.specs.Tree.{Trees}
+use Rattle.tables.specs.Schema.{dbs_tree}
 use Rattle.tables.specs.Shown.{held_shown, parent_shown, revision_shown}
 
 -- What is read: what is said; that nothing is, where there is no database; want of memory; or that not all is intact.
@@ -51,3 +53,9 @@ entry_shown s = (revision_shown s, row_of (parent_shown s) (held_shown s))
 -- the history that the rows make, one after the other
 abbrev pub history_shown : List Row → HistoryContent
 history_shown rows = with_entries finite.empty (map entry_shown rows)
+
+-- the database of this name has this number
+pub record HasNumber (trees : Trees) (name : List ℕ) (number : ℤ) : Type 0 where
+  pub row : Row
+  pub first : slice_get (filter (is_named name) (trees dbs_tree)) 0 ≡ Some row
+  pub numbered : number_of row ≡ number

@@ -5,8 +5,8 @@ mod fault;
 mod open_fault;
 mod opening;
 mod shown;
-mod transactions;
 mod sql_store;
+mod transactions;
 
 pub use open_fault::OpenFault;
 pub use sql_store::SqlStore;

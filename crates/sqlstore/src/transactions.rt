@@ -120,10 +120,7 @@ fn clear_database<S: Alter>(tx: &mut Transaction<'_, S>, number: &i64) -> Result
 }
 
 /// Removes the database of this number, with all that it holds.
-pub(crate) fn remove_database<S: Alter>(
-    conn: &mut Connection<S>,
-    number: &i64,
-) -> Result<(), Error>
+pub(crate) fn remove_database<S: Alter>(conn: &mut Connection<S>, number: &i64) -> Result<(), Error>
     requires { conn.old.in_transaction ≡ false }
     ensures ok { HasCleanDisk (state S.Store conn.new) → IsStore (state S.Store conn.old).now
         → OnOk result (Clears number.now (state S.Store conn.old).now (state S.Store conn.new).now) }

@@ -23,11 +23,11 @@ invariant_of-self g c =
       idle = e.turns.idle;
       unlimited = e.turns.limit ∙ s.unlimited;
       held = held_done g.S.Store s.conn c.add_database.new.conn s.origin.value s.last.value e.turns.clean e.done
-        (λ clean is store.
-        let same = same_trees g.S.Store s.conn s.conn s.origin.value s.last.value s.held (e.turns.clean clean) is (e.done clean).0 in
-        new_store old.now new.now c.args.name.now store c.as_str.ensures.lawful (ap (λ trees. finite.get (contents_in trees) c.args.name.now) same ∙ c.requires (e.turns.clean clean, is))
-        (new_row old.now new.now c.args.name.now _ _ name text (e.ok clean store)))
-        c.of.result.value c.of.ensures s.held;
+          (λ clean is store.
+          let same = same_trees g.S.Store s.conn s.conn s.origin.value s.last.value s.held (e.turns.clean clean) is (e.done clean).0 in
+          new_store old.now new.now c.args.name.now store c.as_str.ensures.lawful (ap (λ trees. finite.get (contents_in trees) c.args.name.now) same ∙ c.requires (e.turns.clean clean, is))
+          (new_row old.now new.now c.args.name.now _ _ name text (e.ok clean store)))
+          c.of.result.value c.of.ensures s.held;
     }
 
 pub returns-in-Ok-clause-ok : goal.returns-in-Ok-clause-ok
