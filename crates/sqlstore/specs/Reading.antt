@@ -59,3 +59,12 @@ pub record HasNumber (trees : Trees) (name : List ℕ) (number : ℤ) : Type 0 w
   pub row : Row
   pub first : slice_get (filter (is_named name) (trees dbs_tree)) 0 ≡ Some row
   pub numbered : number_of row ≡ number
+
+-- why a row was not read: memory ran out, or it is not intact
+abbrev pub IsLost : Type 0 → StoreFault → Type 0
+IsLost intact Memory = ⊤
+IsLost intact Damaged = ¬ intact
+IsLost intact Failed = ⊥
+IsLost intact NoDatabase = ⊥
+IsLost intact Exists = ⊥
+IsLost intact Full = ⊥

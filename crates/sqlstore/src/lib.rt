@@ -2,6 +2,7 @@
 #![tactic(auto)]
 
 mod fault;
+mod histories;
 mod open_fault;
 mod opening;
 mod shown;
