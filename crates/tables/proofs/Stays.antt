@@ -1,5 +1,5 @@
 -- Statements one after the other, and what a query leaves.
-use Rattle.std.proofs.Common.{◌≡◌, ◌⊎◌, inl, inr, ℕ, List, Bool, true, false, Ok, Err, Result, None, Some, IsTrue, OnOk, refl, subst, ◌∙◌, arith}
+use Rattle.std.proofs.Common.{◌≡◌, ◌⊎◌, inl, inr, ℕ, List, Bool, true, false, Ok, Err, Result, None, Some, IsTrue, OnOk, IfOk, IfErr, refl, subst, ◌∙◌, arith}
 use Rattle.sqlite_value.specs.Order.{Row}
 use Rattle.sqlite.specs.Listing.{understood}
 use Rattle.sqlite.specs.State.{State, HasCleanDisk, ExecutesInside, KeepsCommit, Survives, IsUnchanged, IsRolledBack, FailsToQuery, FailsToShow, IsNotRun, Shown, ShowsRows, CommitsShowing}
@@ -11,7 +11,7 @@ use Rattle.sqlite_resolve.specs.declared.compiled.Compiled.{Compiled}
 use Rattle.sqlite.proofs.StateLemmas.{survives_then, survives_weaker}
 use Rattle.sqlite.proofs.InsideLemmas.{keeps_then, unchanged_keeps}
 use Rattle.sqlite.proofs.Callers.{never_commits}
-use Rattle.tables.specs.Steps.{FailsToRun, Ran, StaysInside, Proceeds, OnlyLooks}
+use Rattle.tables.specs.Steps.{FailsToRun, Ran, StaysInside, Proceeds, OnlyLooks, Asks}
 
 pub proceeds_then : (a b c : State) → Proceeds a b → Proceeds b c → Proceeds a c
 proceeds_then a b c p q = record {
@@ -74,4 +74,31 @@ looks old new sql params plain ends mode survives = record {
   kept = λ clean. unchanged_keeps old new (ends clean);
   mode = mode;
   survives = survives_weaker old new _ (λ _. ⊥) (λ _ db h. never_commits sql params old db plain h) survives;
+}
+
+-- whatever the schema is, only an open connection answers
+rows_shown_open : (old new : State) (sql : List ℕ) (c : Compiled) (params : Row) (rows : List Row) (what : _) → ShowsRows old new sql c params rows what → IsTrue old.is_open
+rows_shown_open old new sql c params rows None h = h.3.0.was_open
+rows_shown_open old new sql c params rows (Some what) h = h.1.shown.was_open
+
+pub shown_open : (old new : State) (sql : List ℕ) (params : Row) (rows : List Row) → Shown sql params old new rows → IsTrue old.is_open
+unfolding Shown
+shown_open old new sql params rows h = rows_shown_open old new sql h.0 _ rows h.0.returning h.2
+
+pub served : {X : Type 0} (old new : State) (sql : List ℕ) (params : Row) (r : Result X Error) (items : X → List Row) → IfOk r (λ x. Shown sql params old new (items x)) → OnOk r (IsTrue old.is_open)
+served old new sql params (Ok x) items h = shown_open old new sql params (items x) h
+served old new sql params (Err e) items h = tt
+
+was_open : {X : Type 0} (old new : State) (sql : List ℕ) (params : Row) (r : Result X Error) (items : X → List Row) → IfOk r (λ x. Shown sql params old new (items x)) → IfErr r (FailsToQuery sql params old new)
+    → IsTrue new.is_open → IsTrue old.is_open
+was_open old new sql params (Ok x) items h fails up = shown_open old new sql params (items x) h
+was_open old new sql params (Err e) items h fails up = (unchanged_keeps old new (query_fails old new sql params e fails)).was_open up
+
+pub asks : {X : Type 0} (old new : State) (sql : List ℕ) (params : Row) (r : Result X Error) (items : X → List Row) → (HasCleanDisk new → IfOk r (λ x. Shown sql params old new (items x)))
+    → (HasCleanDisk new → IfErr r (FailsToQuery sql params old new)) → (old.in_transaction ≡ false → new.in_transaction ≡ false) → Survives old new (CommitsShowing sql params old) → Asks old new
+asks old new sql params r items shows fails mode survives = record {
+  clean = λ clean. omega (arith, survives.clean);
+  was_open = λ clean. was_open old new sql params r items (shows clean) (fails clean);
+  mode = mode;
+  limit = survives.limit;
 }

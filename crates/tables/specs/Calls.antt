@@ -1,6 +1,6 @@
 -- What a statement leaves, over the states of a connection.
 -- This server's own words: a fact holds where the disk was clean, and what a statement does to a table is said where the schema is ours.
-use Rattle.std.specs.Prelude.{◌≡◌, ℕ, Bool, not, List, if◌then◌else◌, [], ◌∷◌, filter, map, Result, ◌⊎◌, OnOk, IfOk, IfErr}
+use Rattle.std.specs.Prelude.{◌≡◌, ℕ, Bool, not, List, if◌then◌else◌, [], ◌∷◌, filter, map, Result, ◌⊎◌, OnOk, IfOk, IfErr, IsTrue}
 use Rattle.sqlite_value.specs.Order.{Row}
 use Rattle.sqlite_trees.specs.declared.store.Store.{Ghosts}
 use Rattle.sqlite_value.specs.declared.value.Value.TheVariants.{Int}
@@ -41,6 +41,14 @@ Stands g old new r = old.schema ≡ schema → HasCleanDisk (state g new) → On
 -- or undoes a transaction, and writes nothing
 abbrev pub Looks : {S : Type 0} → Ghosts S → Held S → Held S → Type 0
 Looks g old new = old.schema ≡ schema → steps.OnlyLooks (state g old) (state g new)
+
+-- whatever the schema is, nothing is opened or begun
+abbrev pub Asks : {S : Type 0} → Ghosts S → Held S → Held S → Type 0
+Asks g old new = steps.Asks (state g old) (state g new)
+
+-- and only an open connection answers
+abbrev pub IsServed : {S X E : Type 0} → Ghosts S → Held S → Held S → Result X E → Type 0
+IsServed g old new r = HasCleanDisk (state g new) → OnOk r (IsTrue (state g old).is_open)
 
 -- an error of a query tells of memory, of the disk or of the connection
 abbrev pub Fails : {S X : Type 0} → Ghosts S → Held S → Held S → Result X Error → Type 0

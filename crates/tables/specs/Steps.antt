@@ -37,6 +37,13 @@ pub record OnlyLooks (old new : State) : Type 0 where
   pub mode : old.in_transaction ≡ false → new.in_transaction ≡ false
   pub survives : Survives old new (λ _. ⊥)
 
+-- what a query leaves whatever the schema is: what is clean was clean, what is open was open, and no transaction has begun
+pub record Asks (old new : State) : Type 0 where
+  pub clean : HasCleanDisk new → HasCleanDisk old
+  pub was_open : HasCleanDisk new → IsTrue new.is_open → IsTrue old.is_open
+  pub mode : old.in_transaction ≡ false → new.in_transaction ≡ false
+  pub limit : new.step_limit ≡ old.step_limit
+
 -- the schema stays, one table has these rows now, and each other table has those that it had
 pub record Changes (tree : ℕ) (now : List Row) (old new : Database) : Type 0 where
   pub schema : new.schema ≡ old.schema

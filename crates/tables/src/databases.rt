@@ -2,7 +2,7 @@
 
 ghost use Rattle.std.specs.Prelude.{◌≡◌, not, pos, filter, map};
 ghost use Rattle.sqlite_keyed.specs.Lists.{sort_by};
-ghost use Rattle.tables.specs.Calls.{Alters, Fails, FailsToDelete, FailsToInsert, FailsToUpdate, Finds, Looks, Proceeds, Stands, Stays};
+ghost use Rattle.tables.specs.Calls.{Alters, Asks, Fails, FailsToDelete, FailsToInsert, FailsToUpdate, Finds, IsServed, Looks, Proceeds, Stands, Stays};
 ghost use Rattle.tables.specs.Layout.{AreDatabaseRows};
 ghost use Rattle.tables.specs.Rows.{rows_at_sequence, by_name, database_cells, has_number, is_named, row_at_sequence, row_with_security, rows_with_security, shown_database, shown_name, with_cells};
 ghost use Rattle.tables.specs.Schema.{dbs_table, dbs_tree};
@@ -17,6 +17,8 @@ pub fn database_rows<S: Alter>(conn: &mut Connection<S>, name: &[u8]) -> Result<
     ensures err { Fails S.Store conn.old conn.new result }
     ensures stands { Stands S.Store conn.old conn.new result }
     ensures looks { Looks S.Store conn.old conn.new }
+    ensures asks { Asks S.Store conn.old conn.new }
+    ensures served { IsServed S.Store conn.old conn.new result }
 {
     query(
         conn,
@@ -99,6 +101,8 @@ pub fn name_rows<S: Alter>(conn: &mut Connection<S>) -> Result<Vec<Row>, Error>
     ensures err { Fails S.Store conn.old conn.new result }
     ensures stands { Stands S.Store conn.old conn.new result }
     ensures looks { Looks S.Store conn.old conn.new }
+    ensures asks { Asks S.Store conn.old conn.new }
+    ensures served { IsServed S.Store conn.old conn.new result }
 {
     query(conn, "SELECT name FROM dbs ORDER BY name", &[])
 }

@@ -2,7 +2,7 @@
 
 ghost use Rattle.std.specs.Prelude.{◌≡◌, not, filter, map};
 ghost use Rattle.sqlite_keyed.specs.Lists.{sort_by};
-ghost use Rattle.tables.specs.Calls.{Alters, Fails, FailsToDelete, FailsToInsert, Finds, Looks, Proceeds, Stands, Stays};
+ghost use Rattle.tables.specs.Calls.{Alters, Asks, Fails, FailsToDelete, FailsToInsert, Finds, IsServed, Looks, Proceeds, Stands, Stays};
 ghost use Rattle.tables.specs.Layout.{AreKeyed};
 ghost use Rattle.tables.specs.Rows.{by_id, by_sequence, is_in, is_of, listed_document, shown_document, document_cells, with_cells};
 ghost use Rattle.tables.specs.Schema.{docs_table, docs_tree};
@@ -72,6 +72,8 @@ pub fn document_rows<S: Alter>(
     ensures err { Fails S.Store conn.old conn.new result }
     ensures stands { Stands S.Store conn.old conn.new result }
     ensures looks { Looks S.Store conn.old conn.new }
+    ensures asks { Asks S.Store conn.old conn.new }
+    ensures served { IsServed S.Store conn.old conn.new result }
 {
     query(
         conn,
@@ -87,6 +89,8 @@ pub fn rows_by_id<S: Alter>(conn: &mut Connection<S>, db: &i64) -> Result<Vec<Ro
     ensures err { Fails S.Store conn.old conn.new result }
     ensures stands { Stands S.Store conn.old conn.new result }
     ensures looks { Looks S.Store conn.old conn.new }
+    ensures asks { Asks S.Store conn.old conn.new }
+    ensures served { IsServed S.Store conn.old conn.new result }
 {
     query(
         conn,
@@ -102,6 +106,8 @@ pub fn rows_by_sequence<S: Alter>(conn: &mut Connection<S>, db: &i64) -> Result<
     ensures err { Fails S.Store conn.old conn.new result }
     ensures stands { Stands S.Store conn.old conn.new result }
     ensures looks { Looks S.Store conn.old conn.new }
+    ensures asks { Asks S.Store conn.old conn.new }
+    ensures served { IsServed S.Store conn.old conn.new result }
 {
     query(
         conn,

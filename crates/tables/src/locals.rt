@@ -1,7 +1,7 @@
 //! The rows of the local documents.
 
 ghost use Rattle.std.specs.Prelude.{◌≡◌, not, filter, map};
-ghost use Rattle.tables.specs.Calls.{Alters, Fails, FailsToDelete, FailsToInsert, Finds, Looks, Proceeds, Stands, Stays};
+ghost use Rattle.tables.specs.Calls.{Alters, Asks, Fails, FailsToDelete, FailsToInsert, Finds, IsServed, Looks, Proceeds, Stands, Stays};
 ghost use Rattle.tables.specs.Layout.{AreKeyed};
 ghost use Rattle.tables.specs.Rows.{is_in, is_of, shown_local, local_cells, with_cells};
 ghost use Rattle.tables.specs.Schema.{locals_table, locals_tree};
@@ -66,6 +66,8 @@ pub fn local_rows<S: Alter>(
     ensures err { Fails S.Store conn.old conn.new result }
     ensures stands { Stands S.Store conn.old conn.new result }
     ensures looks { Looks S.Store conn.old conn.new }
+    ensures asks { Asks S.Store conn.old conn.new }
+    ensures served { IsServed S.Store conn.old conn.new result }
 {
     query(
         conn,

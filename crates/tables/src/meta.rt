@@ -3,7 +3,7 @@
 ghost use Rattle.std.specs.Prelude.{◌≡◌, ◌↔◌, false, true, IfOk, IsPermutation, map};
 ghost use Rattle.sqlite.specs.Held.{state};
 ghost use Rattle.sqlite.specs.State.{HasCleanDisk};
-ghost use Rattle.tables.specs.Calls.{Fails, Looks, Stands};
+ghost use Rattle.tables.specs.Calls.{Asks, Fails, IsServed, Looks, Stands};
 ghost use Rattle.tables.specs.Presence.{has_all, has_any, has_table, is_first, shown_version, shows_first};
 ghost use Rattle.tables.specs.Schema as tables;
 ghost use Rattle.tables.specs.Schema.{meta_tree};
@@ -83,6 +83,8 @@ fn version_rows<S: Alter>(conn: &mut Connection<S>) -> Result<Vec<Row>, Error>
     ensures err { Fails S.Store conn.old conn.new result }
     ensures stands { Stands S.Store conn.old conn.new result }
     ensures looks { Looks S.Store conn.old conn.new }
+    ensures asks { Asks S.Store conn.old conn.new }
+    ensures served { IsServed S.Store conn.old conn.new result }
 {
     query(conn, "SELECT version FROM meta", &[])
 }
@@ -103,6 +105,8 @@ pub fn is_first_version<S: Alter>(conn: &mut Connection<S>) -> Result<bool, Erro
     ensures err { Fails S.Store conn.old conn.new result }
     ensures stands { Stands S.Store conn.old conn.new result }
     ensures looks { Looks S.Store conn.old conn.new }
+    ensures asks { Asks S.Store conn.old conn.new }
+    ensures served { IsServed S.Store conn.old conn.new result }
 {
     let rows = version_rows(conn)?;
     Ok(is_first(&rows))

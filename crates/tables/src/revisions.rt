@@ -3,7 +3,7 @@
 ghost use Rattle.std.specs.Prelude.{◌≡◌, not, filter, map, IsPermutation};
 ghost use Rattle.sqlite.specs.Values.{or_null};
 ghost use Rattle.sqlite_value.specs.declared.value.Value.TheVariants.{Text};
-ghost use Rattle.tables.specs.Calls.{Alters, Fails, FailsToDelete, FailsToInsert, Finds, Looks, Proceeds, Stands, Stays};
+ghost use Rattle.tables.specs.Calls.{Alters, Asks, Fails, FailsToDelete, FailsToInsert, Finds, IsServed, Looks, Proceeds, Stands, Stays};
 ghost use Rattle.tables.specs.Layout.{AreKeyed};
 ghost use Rattle.tables.specs.Rows.{is_in, is_of, shown_revision, given_cells, with_cells};
 ghost use Rattle.tables.specs.Schema.{revs_table, revs_tree};
@@ -76,6 +76,8 @@ pub fn revision_rows<S: Alter>(
     ensures err { Fails S.Store conn.old conn.new result }
     ensures stands { Stands S.Store conn.old conn.new result }
     ensures looks { Looks S.Store conn.old conn.new }
+    ensures asks { Asks S.Store conn.old conn.new }
+    ensures served { IsServed S.Store conn.old conn.new result }
 {
     query(
         conn,

@@ -1,12 +1,12 @@
 //! One statement at a time: a query of a connection, and a change in a transaction.
 
-ghost use Rattle.std.specs.Prelude.{◌≡◌, IfErr, IfOk, OnOk};
+ghost use Rattle.std.specs.Prelude.{◌≡◌, IfErr, IfOk, IsTrue, OnOk};
 ghost use Rattle.sqlite.specs.Given.{IsPlain};
 ghost use Rattle.sqlite.specs.Held.{state};
 ghost use Rattle.sqlite.specs.Listing.{understood};
 ghost use Rattle.sqlite.specs.State.{FailsToQuery, HasCleanDisk, IsUnchanged, Shown};
 ghost use Rattle.sqlite.specs.Values.{bound};
-ghost use Rattle.tables.specs.Steps.{FailsToRun, OnlyLooks, Proceeds, Ran, StaysInside};
+ghost use Rattle.tables.specs.Steps.{Asks, FailsToRun, OnlyLooks, Proceeds, Ran, StaysInside};
 
 use sqlite::{Alter, Connection, Error, Row, Transaction};
 use sqlite_value::value::ValueRef;
@@ -43,6 +43,8 @@ pub(crate) fn query<S: Alter>(
     ensures stands { IsPlain (understood conn.old.schema sql.now) → HasCleanDisk (state S.Store conn.new)
         → OnOk result (IsUnchanged (state S.Store conn.old) (state S.Store conn.new)) }
     ensures looks { IsPlain (understood conn.old.schema sql.now) → OnlyLooks (state S.Store conn.old) (state S.Store conn.new) }
+    ensures asks { Asks (state S.Store conn.old) (state S.Store conn.new) }
+    ensures served { HasCleanDisk (state S.Store conn.new) → OnOk result (IsTrue (state S.Store conn.old).is_open) }
 {
     conn.query_all(sql, params)
 }

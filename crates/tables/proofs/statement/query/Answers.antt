@@ -5,7 +5,7 @@ use Rattle.sqlite.specs.Held.{state}
 use Rattle.sqlite.specs.Listing.{understood}
 use Rattle.sqlite.specs.State.{State, IsUnchanged, IsRolledBack, Shown, FailsToQuery}
 use Rattle.sqlite.specs.declared.error.Error.{Error}
-use Rattle.tables.proofs.Stays.{query_stands, query_fails, looks}
+use Rattle.tables.proofs.Stays.{query_stands, query_fails, looks, asks, served}
 use Rattle.tables.proofs.statement.query.Goals as goal
 
 stood : {X : Type 0} (old new : State) (sql : List ℕ) (params : Row) (r : Result X Error) (items : X → List Row) → IsPlain (understood old.now.schema sql) → IfOk r (λ x. Shown sql params old new (items x)) → OnOk r (IsUnchanged old new)
@@ -27,3 +27,12 @@ returns-clause-looks g c plain =
     looks old new c.args.sql.now _ plain
     (λ clean. either old new c.args.sql.now _ c.query_all.result (stood old new c.args.sql.now _ c.query_all.result (λ rows. rows.items) plain (c.query_all.ensures.ok clean)) (c.query_all.ensures.err clean))
     c.query_all.ensures.mode c.query_all.ensures.survives
+
+pub returns-clause-asks : goal.returns-clause-asks
+returns-clause-asks g c =
+    asks (state g.S.Store c.args.conn.now) (state g.S.Store c.query_all.new.self) c.args.sql.now _ c.query_all.result (λ rows. rows.items)
+    c.query_all.ensures.ok c.query_all.ensures.err c.query_all.ensures.mode c.query_all.ensures.survives
+
+pub returns-clause-served : goal.returns-clause-served
+returns-clause-served g c clean =
+    served (state g.S.Store c.args.conn.now) (state g.S.Store c.query_all.new.self) c.args.sql.now _ c.query_all.result (λ rows. rows.items) (c.query_all.ensures.ok clean)

@@ -1,0 +1,188 @@
+-- What a reader of a store answers, from what it read, and what it leaves.
+use Rattle.std.proofs.Common.{◌≡◌, ◌≤◌, ◌<◌, ◌+◌, ◌^◌, ◌-◌, ℕ, length, ◌⊎◌, inl, inr, List, [], ◌∷◌, filter, map, slice_get, Option, Some, None, option_map, Result, Ok, Err, Bool, true, false, IsTrue, if◌then◌else◌, refl, sym, ap, subst, ◌∙◌, arith}
+use Rattle.std.specs.List.{AllByRecursion}
+use Rattle.std.proofs.Math.Logic.{∥∥₁_elim, ∥∥₁_map}
+use Rattle.std.specs.FinMap.{get}
+use Rattle.store.specs.Causes.{HasFailed}
+use Rattle.store.specs.Database.{Database}
+use Rattle.store.specs.declared.fault.StoreFault.{StoreFault}
+use Rattle.store.specs.declared.fault.StoreFault.TheVariants.{Memory, Failed, NoDatabase, Exists, Damaged, Full}
+use Rattle.sqlite_value.specs.Order.{Row}
+use Rattle.sqlite_sql.specs.Ops.{fits_i64}
+use Rattle.sqlite_trees.specs.declared.store.Store.{Ghosts}
+use Rattle.sqlite.specs.Held.{Held, state}
+use Rattle.policy.specs.Security.{is_security}
+use Rattle.sqlite_trees.specs.Tree.{Trees}
+use Rattle.store.specs.Contents.{local_at}
+use Rattle.couch_json.specs.View.{view}
+use Rattle.tables.specs.declared.decode.FoundDatabase.{FoundDatabase}
+use Rattle.tables.specs.Layout.{IsDatabaseRow, IsLaid, IsStore}
+use Rattle.tables.specs.Rows.{contents_in, database_of, is_named, is_of, local_of, next_number, shown_database, shown_local}
+use Rattle.tables.specs.Schema.{dbs_tree, locals_tree}
+use Rattle.tables.specs.Shown.{IsShownDatabase, IsShownLocal, local_shown}
+use Rattle.tables.proofs.Laid.{shown_databases, shown_locals}
+use Rattle.tables.proofs.Lookups.{database_found, local_found}
+use Rattle.sqlstore.specs.Causes.{IsJudged}
+use Rattle.sqlstore.specs.Model.{Answers, OnlyReads, Stands, contents_of, is_honest, lacks_room, trees_of}
+use Rattle.sqlstore.specs.Reading.{FoundValues, IsRead, found_in, found_shown}
+use Rattle.sqlstore.specs.declared.sql_store.SqlStore.{SqlStore}
+
+-- rows that all are so are so where some are left out
+all_with : (P : Row → Type 0) (b : Bool) (r : Row) (rows : List Row) → P r → AllByRecursion P rows → AllByRecursion P (if b then r ∷ rows else rows)
+all_with P true r rows one all = (one, all)
+all_with P false r rows one all = all
+
+pub all_left : (P : Row → Type 0) (p : Row → Bool) (rows : List Row) → AllByRecursion P rows → AllByRecursion P (filter p rows)
+all_left P p [] all = tt
+all_left P p (r ∷ rows) all = all_with P (p r) r (filter p rows) all.0 (all_left P p rows all.1)
+
+pub all_shown : (P : Row → Type 0) (show : Row → Row) (rows : List Row) → AllByRecursion (λ r. P (show r)) rows → AllByRecursion P (map show rows)
+all_shown P show [] all = tt
+all_shown P show (r ∷ rows) all = (all.0, all_shown P show rows all.1)
+
+-- what is said of the first of the shown rows is what is said of the first row
+pub first_shown : {A : Type 0} (show : Row → Row) (read : Row → A) (said : Row → A) → ((r : Row) → read (show r) ≡ said r) → (rows : List Row) → option_map said (slice_get rows 0) ≡ option_map read (slice_get (map show rows) 0)
+first_shown show read said same [] = refl
+first_shown show read said same (r ∷ rows) = ap Some (sym (same r))
+
+module _ {S : Type 0} (g : Ghosts S) (old new : SqlStore S g) where
+  pub judged : {X A : Type 0} (view : X → A) (defined : Option A) (fault : StoreFault) → IsJudged old.faults new.faults fault → Answers g old new view defined (Err fault)
+  judged view defined Memory h = tt
+  judged view defined Failed h = h
+  judged view defined NoDatabase h = absurd h
+  judged view defined Exists h = absurd h
+  judged view defined Damaged h = absurd h
+  judged view defined Full h = absurd h
+
+  pub answered : {X A : Type 0} (view : X → A) (defined said : Option A) (intact : Type 0) (r : Result X StoreFault) → IsRead view said intact r → (is_honest g new → (¬ ¬ intact) × (defined ≡ said)) → Answers g old new view defined r
+  answered view defined said intact (Ok x) h is = λ honest. (is honest).1 ∙ h
+  answered view defined said intact (Err Memory) h is = tt
+  answered view defined said intact (Err Failed) h is = absurd h
+  answered view defined said intact (Err NoDatabase) h is = λ honest. (is honest).1 ∙ h
+  answered view defined said intact (Err Exists) h is = absurd h
+  answered view defined said intact (Err Damaged) h is = λ honest. (is honest).0 h
+  answered view defined said intact (Err Full) h is = absurd h
+
+  -- a fault of one answer is one of another that is defined where the first is
+  pub refused : {X Y A B : Type 0} (view : X → A) (other : Y → B) (defined : Option A) (further : Option B) (fault : StoreFault) → (defined ≡ None → further ≡ None)
+      → Answers g {X = X} old new view defined (Err fault) → Answers g {X = Y} old new other further (Err fault)
+  refused view other defined further Memory none h = tt
+  refused view other defined further Failed none h = h
+  refused view other defined further NoDatabase none h = λ honest. none (h honest)
+  refused view other defined further Exists none h = absurd h
+  refused view other defined further Damaged none h = h
+  refused view other defined further Full none h = absurd h
+
+  pub told_none : {X A : Type 0} (view : X → A) (defined : Option A) (fault : StoreFault) → fault ≡ NoDatabase → Answers g {X = X} old new view defined (Err fault) → is_honest g new → defined ≡ None
+  told_none {X} view defined fault is h = subst (λ f. Answers g {X = X} old new view defined (Err f)) is h
+
+  -- what stands was honest
+  pub was_honest : Stands g old new → is_honest g new → is_honest g old
+  was_honest s honest = (s.clean honest.0, subst (λ h. IsStore (state g h).now) s.origin honest.1)
+
+  pub same_contents : Stands g old new → contents_of g new ≡ contents_of g old
+  same_contents s = ap (λ h. contents_in (state g h).now.trees) s.last
+
+  pub reads : Stands g old new → OnlyReads g old new
+  reads s = record {
+    goes_on = record {
+      counted = s.counted;
+      honest = was_honest s;
+      clean = s.clean;
+      steady = λ honest clean. (clean, subst (λ h. IsStore (state g h).now) (sym s.origin) honest.1);
+    };
+    same = λ honest. same_contents s;
+    room = λ honest name ws lacks. subst (λ h. (db : Database) × (get (contents_in (state g h).now.trees) name ≡ Some db) × ¬ (db.length + length ws < 2 ^ 63)) s.last lacks;
+    numbers = λ honest lacks. subst (λ h. fits_i64 (next_number ((state g h).now.trees dbs_tree)) ≡ false) s.last lacks;
+  }
+
+module _ {S : Type 0} (g : Ghosts S) where
+  pub stands_then : (a b c : SqlStore S g) → Stands g a b → Stands g b c → Stands g a c
+  stands_then a b c p q = record { origin = q.origin ∙ p.origin; last = q.last ∙ p.last; counted = omega (arith, p.counted, q.counted); clean = λ clean. p.clean (q.clean clean) }
+
+  pub failed_later : (a b c : ℕ) → a ≤ b → HasFailed b c → HasFailed a c
+  failed_later a b c up (inl h) = inl (omega (arith, up, h))
+  failed_later a b c up (inr h) = inr h
+
+  -- the rows of an honest store are laid out
+  pub laid : (s : SqlStore S g) → is_honest g s → ∥ IsLaid (trees_of g s) ∥₁
+  laid s honest = ∥∥₁_map (s.held honest.0 honest.1) (λ holds. holds.store.laid)
+
+-- the rows that the query of a database shows are intact, and say what is found
+pub database_read : {S : Type 0} (g : Ghosts S) (s : SqlStore S g) (name : List ℕ) (rows : List Row) → is_honest g s → rows ≡ map shown_database (filter (is_named name) (trees_of g s dbs_tree))
+    → (¬ ¬ AllByRecursion IsShownDatabase rows) × (option_map found_in (slice_get (filter (is_named name) (trees_of g s dbs_tree)) 0) ≡ option_map found_shown (slice_get rows 0))
+database_read g s name rows honest is = (
+  λ none. ∥∥₁_elim (laid g s honest) (λ p q. absurd p) (λ l. none (subst (AllByRecursion IsShownDatabase) (sym is) (all_shown IsShownDatabase shown_database _ (all_left _ (is_named name) _ (shown_databases _ l))))),
+  first_shown shown_database found_shown found_in (λ r. refl) _ ∙ ap (λ l. option_map found_shown (slice_get l 0)) (sym is),
+)
+
+pub at_first : (P : Row → Type 0) (rows : List Row) (r : Row) → AllByRecursion P rows → slice_get rows 0 ≡ Some r → P r
+at_first P [] r all is = absurd (cc)
+at_first P (s ∷ rows) r all is = subst P (some_same s r is) all.0
+  where
+    some_same : (a b : Row) → Some a ≡ Some b → a ≡ b
+    some_same a b h = cc
+
+-- the row of a database that is found, and the database
+pub record IsThere (trees : Trees) (name : List ℕ) (k : FoundValues) : Type 0 where
+  pub row : Row
+  pub first : slice_get (filter (is_named name) (trees dbs_tree)) 0 ≡ Some row
+  pub values : found_in row ≡ k
+  pub database : get (contents_in trees) name ≡ Some (database_of trees row)
+
+pub there : (trees : Trees) (name : List ℕ) (k : FoundValues) → option_map found_in (slice_get (filter (is_named name) (trees dbs_tree)) 0) ≡ Some k → IsThere trees name k
+there trees name k h = go (slice_get (filter (is_named name) (trees dbs_tree)) 0) refl h
+  where
+    go : (o : Option Row) → slice_get (filter (is_named name) (trees dbs_tree)) 0 ≡ o → option_map found_in o ≡ Some k → IsThere trees name k
+    go None is h = absurd (cc)
+    go (Some r) is h = record { row = r; first = is; values = cc; database = database_found trees name ∙ ap (option_map (database_of trees)) is }
+
+-- where no row is found there is no database
+pub none_there : {B : Type 0} (trees : Trees) (name : List ℕ) (f : Database → B) → option_map found_in (slice_get (filter (is_named name) (trees dbs_tree)) 0) ≡ None → option_map f (get (contents_in trees) name) ≡ None
+none_there trees name f h = ap (option_map f) (database_found trees name) ∙ go (slice_get (filter (is_named name) (trees dbs_tree)) 0) h
+  where
+    go : (o : Option Row) → option_map found_in o ≡ None → option_map f (option_map (database_of trees) o) ≡ None
+    go None h = refl
+    go (Some r) h = absurd (cc)
+
+pub absent : (trees : Trees) (name : List ℕ) → option_map found_in (slice_get (filter (is_named name) (trees dbs_tree)) 0) ≡ None → get (contents_in trees) name ≡ None
+absent trees name h = database_found trees name ∙ go (slice_get (filter (is_named name) (trees dbs_tree)) 0) h
+  where
+    go : (o : Option Row) → option_map found_in o ≡ None → option_map (database_of trees) o ≡ None
+    go None h = refl
+    go (Some r) h = absurd (cc)
+
+-- the security object of a database that is found
+pub security_there : (trees : Trees) (name : List ℕ) (k : FoundValues) → IsThere trees name k → option_map (λ (db : Database). db.security) (get (contents_in trees) name) ≡ Some k.1
+security_there trees name k t = ap (option_map (λ (db : Database). db.security)) t.database ∙ ap (λ (v : FoundValues). Some v.1) t.values
+
+pub security_intact : (trees : Trees) (name : List ℕ) (k : FoundValues) → IsLaid trees → IsThere trees name k → IsTrue (is_security k.1)
+security_intact trees name k l t = subst (λ (v : FoundValues). IsTrue (is_security v.1)) t.values (at_first IsDatabaseRow _ t.row (all_left IsDatabaseRow (is_named name) _ l.dbs) t.first).security
+
+-- a local document of a database that is found
+pub local_there : (trees : Trees) (name id : List ℕ) (k : FoundValues) (rows : List Row) → IsThere trees name k → rows ≡ map shown_local (filter (is_of k.0 id) (trees locals_tree))
+    → option_map (λ (db : Database). local_at db id) (get (contents_in trees) name) ≡ Some (option_map local_shown (slice_get rows 0))
+local_there trees name id k rows t is =
+    ap (option_map (λ (db : Database). local_at db id)) t.database
+    ∙ ap Some (local_found trees t.row id ∙ ap (λ (v : FoundValues). option_map local_of (slice_get (filter (is_of v.0 id) (trees locals_tree)) 0)) t.values
+    ∙ first_shown shown_local local_shown local_of (λ r. refl) _ ∙ ap (λ l. option_map local_shown (slice_get l 0)) (sym is))
+
+pub local_intact : (trees : Trees) (p : Row → Bool) (rows : List Row) → IsLaid trees → rows ≡ map shown_local (filter p (trees locals_tree)) → AllByRecursion IsShownLocal rows
+local_intact trees p rows l is = subst (AllByRecursion IsShownLocal) (sym is) (all_shown IsShownLocal shown_local _ (all_left _ p _ (shown_locals trees l)))
+
+-- what a reader of a database answers where none was found
+pub not_found : {S Y B : Type 0} (g : Ghosts S) (old new : SqlStore S g) (name : List ℕ) (other : Y → B) (f : Database → B) (fault : StoreFault)
+    → Answers g {X = FoundDatabase} old new (λ d. (d.number, view d.security, d.sequence)) (option_map found_in (slice_get (filter (is_named name) (trees_of g old dbs_tree)) 0)) (Err fault)
+    → Answers g {X = Y} old new other (option_map f (get (contents_of g old) name)) (Err fault)
+not_found g old new name other f fault h =
+    refused g old new {X = FoundDatabase} (λ d. (d.number, view d.security, d.sequence)) other _ _ fault (none_there (trees_of g old) name f) h
+
+-- a change of a database says that there is none only where there is none
+pub missing : {S X : Type 0} (g : Ghosts S) (old new : SqlStore S g) (name : List ℕ) (r : Result X StoreFault) (fault : StoreFault) → r ≡ Err fault → r ≡ Err NoDatabase
+    → Answers g {X = FoundDatabase} old new (λ d. (d.number, view d.security, d.sequence)) (option_map found_in (slice_get (filter (is_named name) (trees_of g old dbs_tree)) 0)) (Err fault)
+    → is_honest g new → get (contents_of g old) name ≡ None
+missing g old new name r fault is told h honest =
+    absent (trees_of g old) name (told_none g old new {X = FoundDatabase} (λ d. (d.number, view d.security, d.sequence)) _ fault (same_fault (sym is ∙ told)) h honest)
+  where
+    same_fault : {Y : Type 0} {a b : StoreFault} → ◌≡◌ {A = Result Y StoreFault} (Err a) (Err b) → a ≡ b
+    same_fault e = cc

@@ -1,0 +1,31 @@
+-- Contents are told apart by numbers, so any two proofs that they are equal are one.
+use base.Stored.{Coded-set}
+use Rattle.std.proofs.Common.{ℕ, List, Option, refl}
+use Rattle.std.specs.Coded.{Coded, code_by, coded×, coded_list, coded_option, coded_ℕ}
+use Rattle.std.specs.FinMap.{code}
+use Rattle.couch_json.specs.Code.{value_code}
+use Rattle.couch_json.specs.Value as json
+use Rattle.tree.specs.History.{HistoryContent}
+use Rattle.tree.specs.HistoryCode.{content_code}
+use Rattle.store.specs.Contents.{Contents}
+use Rattle.store.specs.Database.{Database, Document, TextMap}
+use Rattle.store.specs.declared.local_document.LocalDocument.{LocalDocument}
+use Rattle.store.specs.contracts.local_document.LocalDocument as local
+
+text_code : Coded (List ℕ)
+text_code = coded_list coded_ℕ
+
+document_code : Coded Document
+document_code = code_by (ℕ × HistoryContent) (coded× coded_ℕ content_code) (λ d. (d.sequence, d.history)) (λ p. record { sequence = p.0; history = p.1 }) (λ _. refl)
+
+database_code : Coded Database
+database_code =
+    code_by (ℕ × (json.Value × (TextMap LocalDocument × TextMap Document)))
+    (coded× coded_ℕ (coded× value_code (coded× (code text_code local.the_row.coded) (code text_code document_code))))
+    (λ d. (d.length, (d.security, (d.locals, d.documents)))) (λ p. record { length = p.0; security = p.1.0; locals = p.1.1.0; documents = p.1.1.1 }) (λ _. refl)
+
+pub contents_set : IsSet Contents
+contents_set = Coded-set (code text_code database_code)
+
+pub some_contents_set : IsSet (Option Contents)
+some_contents_set = Coded-set (coded_option (code text_code database_code))

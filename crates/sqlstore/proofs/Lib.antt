@@ -1,0 +1,6 @@
+pub mod Standing
+pub mod ContentsCode
+pub mod Changing
+pub mod Sequences
+pub mod Tables
+pub mod Answering

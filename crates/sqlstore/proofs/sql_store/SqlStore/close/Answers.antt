@@ -1,0 +1,9 @@
+use Rattle.std.proofs.Common.{ap}
+use Rattle.tables.specs.Rows.{contents_in}
+use Rattle.sqlstore.proofs.Standing.{same_trees}
+use Rattle.sqlstore.proofs.sql_store.SqlStore.close.Goals as goal
+
+pub returns-clause-contents : goal.returns-clause-contents
+returns-clause-contents g c honest up =
+    let s = c.args.self in
+    ap contents_in (same_trees g.S.Store s.conn s.conn s.origin.value s.last.value s.held honest.0 honest.1 up)

@@ -1,0 +1,40 @@
+use Rattle.std.proofs.Common.{◌≡◌, ◌∙◌, inr, Err, IsTrue, true, not, ap, sym, subst}
+use Rattle.sqlite.specs.Effect.{Database}
+use Rattle.sqlite.specs.Held.{Held, state}
+use Rattle.tables.specs.Layout.{IsStore}
+use Rattle.tables.specs.Rows.{contents_in}
+use Rattle.tables.proofs.Laid.{holds, nothing}
+use Rattle.sqlstore.proofs.sql_store.SqlStore.open.Goals as goal
+
+pub returns-in-Err-clause-not_ours : goal.returns-in-Err-clause-not_ours
+returns-in-Err-clause-not_ours g c is =
+    inr (λ clean store. c.find_tables.ensures.not_ours (c.in-Err.is ∙ ap Err is) clean (subst IsStore (sym (ap (λ h. (state g.S.Store h).now) c.set_step_limit.ensures)) store))
+
+pub invariant_of-result : goal.invariant_of-result
+invariant_of-result g c =
+    let end = c.find_tables.new.conn in
+    let turns = c.find_tables.ensures.turns in
+    let settled : IsTrue c.is_autocommit-2.result = c.is_autocommit-2.ensures.value ∙ ap not turns.idle in
+    let now : Held g.row.S.Denot → Database = λ h. (state g.S.Store h).now in
+    record {
+      idle = turns.idle;
+      unlimited = turns.limit ∙ ap (λ (h : Held g.row.S.Denot). h.step_limit) c.set_step_limit.ensures;
+      held = λ clean store. ∣ record {
+        store = subst (λ h. IsStore (now h)) (c.of-origin.ensures ∙ sym c.of-last.ensures) store;
+        now = λ up. ap now (sym c.of-last.ensures);
+        committed = λ up. sym (c.is_autocommit-2.ensures.settled settled up) ∙ ap now (sym c.of-last.ensures);
+      } ∣₁;
+    }
+
+pub returns-clause-found : goal.returns-clause-found
+returns-clause-found g c clean store =
+    let now : Held g.row.S.Denot → Database = λ h. (state g.S.Store h).now in
+    let began = ap now c.set_step_limit.ensures in
+    let same : now c.find_tables.new.conn ≡ now c.args.conn = c.in_default.ensures.found clean (subst IsStore (sym began) store) ∙ began in
+    ((clean, subst IsStore (sym (ap now c.of-origin.ensures ∙ same)) store), ap (λ (d : Database). contents_in d.trees) (ap now c.of-last.ensures ∙ same))
+
+pub returns-clause-made : goal.returns-clause-made
+returns-clause-made g c clean none =
+    let now : Held g.row.S.Denot → Database = λ h. (state g.S.Store h).now in
+    let made = c.in_default.ensures.made clean (ap (λ (h : Held g.row.S.Denot). h.schema) c.set_step_limit.ensures ∙ none) in
+    ((clean, subst IsStore (sym (ap now c.of-origin.ensures)) (holds (now c.find_tables.new.conn) made)), ap (λ h. contents_in (now h).trees) c.of-last.ensures ∙ nothing (now c.find_tables.new.conn) made)

@@ -1,0 +1,5 @@
+pub mod Causes
+pub mod Standing
+pub mod Model
+pub mod Reading
+pub mod Sequences

@@ -1,0 +1,13 @@
+//! The store of databases over SQLite tables.
+#![tactic(auto)]
+
+mod fault;
+mod histories;
+mod open_fault;
+mod opening;
+mod shown;
+mod sql_store;
+mod transactions;
+
+pub use open_fault::OpenFault;
+pub use sql_store::SqlStore;

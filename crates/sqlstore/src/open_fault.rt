@@ -1,0 +1,29 @@
+ghost use Rattle.std.specs.Prelude.{◌≢◌};
+
+use sqlite::{Error, ErrorCode};
+use thiserror::Error as ErrorDerive;
+
+/// Why a store was not opened.
+#[derive(Clone, Copy, Debug, PartialEq, Eq, ErrorDerive)]
+pub enum OpenFault {
+    /// Memory ran out.
+    #[error("out of memory")]
+    Memory = 1,
+    /// What the store stands on failed, as a disk.
+    #[error("the store failed")]
+    Failed = 2,
+    /// The tables are not those of this server, or a transaction was open.
+    #[error("not a store of this server")]
+    NotOurs = 3,
+}
+
+/// Tells what fault an error is.
+pub(crate) fn open_fault(error: Error) -> OpenFault
+    ensures { result ≢ OpenFault.NotOurs }
+{
+    if error == Error::SqliteFailure(ErrorCode::OutOfMemory) {
+        OpenFault::Memory
+    } else {
+        OpenFault::Failed
+    }
+}

@@ -1,0 +1,120 @@
+ghost use Rattle.std.specs.Prelude.{◌≡◌, false, None};
+ghost use Rattle.sqlstore.specs.Standing.{IsHeld};
+
+mod changing;
+mod find;
+mod reading;
+mod rows;
+
+use crate::open_fault::OpenFault;
+use crate::opening::find_tables;
+use sqlite::{Alter, Connection};
+use std::alloc::Global;
+use std::snapshot::Snapshot;
+
+/// A store of databases over the tables of a connection.
+pub struct SqlStore<S: Alter> {
+    alloc: Global,
+    conn: Connection<S>,
+    /// As `open` left it, for clauses alone.
+    origin: Snapshot<Connection<S>>,
+    /// As the last change left it, for clauses alone.
+    last: Snapshot<Connection<S>>,
+    faults: u64,
+    ghost idle: { conn.in_transaction ≡ false },
+    ghost unlimited: { conn.step_limit ≡ None },
+    ghost held: { IsHeld S.Store conn origin.value last.value },
+}
+
+// It is written out, so that a caller does not prove again how each part is dropped.
+impl<S: Alter + Drop> Drop for SqlStore<S> {
+    fn drop(self) {
+        let SqlStore {
+            alloc: _,
+            conn: _,
+            origin: _,
+            last: _,
+            faults: _,
+        } = self;
+    }
+}
+
+impl<S: Alter> SqlStore<S> {
+    ghost use Rattle.sqlstore.specs.Model.{fault_count};
+
+    /// Counts how many faults of what it stands on the store has met; it stays at 2^64 - 1.
+    pub fn faults(&self) -> u64
+        ensures { result ≡ fault_count S.Store self.now }
+    {
+        self.faults
+    }
+}
+
+impl<S: Alter + Drop> SqlStore<S> {
+    ghost use Rattle.std.specs.Prelude.{◌⊎◌, Err, IfErr, IfOk, IsTrue, true};
+    ghost use Rattle.std.specs.FinMap.{empty};
+    ghost use Rattle.sqlite.specs.Held.{state};
+    ghost use Rattle.sqlite.specs.State.{HasCleanDisk};
+    ghost use Rattle.tables.specs.Layout.{IsStore};
+    ghost use Rattle.tables.specs.Presence.{has_all};
+    ghost use Rattle.tables.specs.Rows.{contents_in};
+    ghost use Rattle.tables.specs.Schema.{no_schema, schema};
+    ghost use Rattle.sqlstore.specs.Model.{contents_of, fault_count, is_clean, is_honest};
+
+    /// Opens the store that the tables of a connection hold, and makes the tables where there is none of them.
+    ///
+    /// `NotOurs` comes where the tables are not those of this server, or a transaction is open. The
+    /// connection comes back where the store is not opened.
+    pub fn open(
+        alloc: Global,
+        mut conn: Connection<S>,
+    ) -> Result<SqlStore<S>, (OpenFault, Connection<S>)>
+        // Where there was a store it is opened as it was, and where there was nothing it has no database.
+        ensures found { IfOk result (λ s. is_clean S.Store s → IsStore (state S.Store conn).now → is_honest S.Store s × (contents_of S.Store s ≡ contents_in (state S.Store conn).now.trees)) }
+        ensures made { IfOk result (λ s. is_clean S.Store s → conn.schema ≡ no_schema → is_honest S.Store s × (contents_of S.Store s ≡ empty)) }
+        ensures no_faults { IfOk result (λ s. fault_count S.Store s ≡ 0) }
+        ensures clean { IfOk result (λ s. is_clean S.Store s → HasCleanDisk (state S.Store conn)) }
+        ensures not_ours { IfErr result (λ e. e.0 ≡ OpenFault.NotOurs → (conn.in_transaction ≡ true) ⊎ (HasCleanDisk (state S.Store e.1) → ¬ IsStore (state S.Store conn).now)) }
+
+        // Where it is refused the rows are as they were, if tables of these names are those of this layout.
+        ensures refused { IfErr result (λ e. (has_all conn.schema ≡ true → conn.schema ≡ schema) → HasCleanDisk (state S.Store e.1) → IsTrue (state S.Store e.1).is_open
+            → (state S.Store e.1).now ≡ (state S.Store conn).now) }
+    {
+        if !conn.is_autocommit() {
+            return Err((OpenFault::NotOurs, conn));
+        }
+        conn.set_step_limit(None);
+        if let Err(fault) = find_tables(&mut conn) {
+            return Err((fault, conn));
+        }
+        if !conn.is_autocommit() {
+            unreachable!()
+        }
+        let origin = Snapshot::of(&conn);
+        let last = Snapshot::of(&conn);
+        Ok(SqlStore {
+            alloc,
+            conn,
+            origin,
+            last,
+            faults: 0,
+        })
+    }
+
+    /// Closes the store, and gives back its connection, which is in no transaction and has the rows that
+    /// hold the contents.
+    pub fn close(self) -> Connection<S>
+        ensures idle { result.in_transaction ≡ false }
+        ensures contents { is_honest S.Store self → IsTrue (state S.Store result).is_open → contents_in (state S.Store result).now.trees ≡ contents_of S.Store self }
+        ensures clean { HasCleanDisk (state S.Store result) → is_clean S.Store self }
+    {
+        let SqlStore {
+            alloc: _,
+            conn,
+            origin: _,
+            last: _,
+            faults: _,
+        } = self;
+        conn
+    }
+}

@@ -1,0 +1,64 @@
+//! The rows that a store reads.
+
+use crate::fault::judge;
+use crate::sql_store::SqlStore;
+use sqlite::{Alter, Row};
+use store::StoreFault;
+use tables::{databases, locals, revisions};
+
+impl<S: Alter> SqlStore<S> {
+    ghost use Rattle.std.specs.Prelude.{◌≡◌, IfErr, IfOk, IsPermutation, filter, map};
+    ghost use Rattle.sqlite_keyed.specs.Lists.{sort_by};
+    ghost use Rattle.tables.specs.Rows.{by_name, is_named, is_of, shown_database, shown_local, shown_name, shown_revision};
+    ghost use Rattle.tables.specs.Schema.{dbs_tree, locals_tree, revs_tree};
+    ghost use Rattle.sqlstore.specs.Causes.{IsJudged};
+    ghost use Rattle.sqlstore.specs.Model.{Stands, is_honest, trees_of};
+
+    /// Returns the row of the database of this name, if there is one.
+    pub(crate) fn database_rows(&mut self, name: &[u8]) -> Result<Vec<Row>, StoreFault>
+        ensures ok { is_honest S.Store self.new → IfOk result (λ rows. rows.items ≡ map shown_database (filter (is_named name.now) (trees_of S.Store self.old dbs_tree))) }
+        ensures judged { IfErr result (IsJudged self.old.faults self.new.faults) }
+        ensures stands { Stands S.Store self.old self.new }
+    {
+        match databases::database_rows(&mut self.conn, name) {
+            Ok(rows) => Ok(rows),
+            Err(error) => Err(judge(&mut self.faults, error)),
+        }
+    }
+
+    /// Returns the rows of the names of all databases, in the order of their bytes.
+    pub(crate) fn name_rows(&mut self) -> Result<Vec<Row>, StoreFault>
+        ensures ok { is_honest S.Store self.new → IfOk result (λ rows. rows.items ≡ map shown_name (sort_by by_name (trees_of S.Store self.old dbs_tree))) }
+        ensures judged { IfErr result (IsJudged self.old.faults self.new.faults) }
+        ensures stands { Stands S.Store self.old self.new }
+    {
+        match databases::name_rows(&mut self.conn) {
+            Ok(rows) => Ok(rows),
+            Err(error) => Err(judge(&mut self.faults, error)),
+        }
+    }
+
+    /// Returns the rows of the known revisions of a document, in some order.
+    pub(crate) fn revision_rows(&mut self, db: &i64, id: &[u8]) -> Result<Vec<Row>, StoreFault>
+        ensures ok { is_honest S.Store self.new → IfOk result (λ rows. ∥ IsPermutation (map shown_revision (filter (is_of db.now id.now) (trees_of S.Store self.old revs_tree))) rows.items ∥₁) }
+        ensures judged { IfErr result (IsJudged self.old.faults self.new.faults) }
+        ensures stands { Stands S.Store self.old self.new }
+    {
+        match revisions::revision_rows(&mut self.conn, db, id) {
+            Ok(rows) => Ok(rows),
+            Err(error) => Err(judge(&mut self.faults, error)),
+        }
+    }
+
+    /// Returns the row of a local document, if there is one.
+    pub(crate) fn local_rows(&mut self, db: &i64, id: &[u8]) -> Result<Vec<Row>, StoreFault>
+        ensures ok { is_honest S.Store self.new → IfOk result (λ rows. rows.items ≡ map shown_local (filter (is_of db.now id.now) (trees_of S.Store self.old locals_tree))) }
+        ensures judged { IfErr result (IsJudged self.old.faults self.new.faults) }
+        ensures stands { Stands S.Store self.old self.new }
+    {
+        match locals::local_rows(&mut self.conn, db, id) {
+            Ok(rows) => Ok(rows),
+            Err(error) => Err(judge(&mut self.faults, error)),
+        }
+    }
+}
