@@ -1,5 +1,5 @@
 -- The rows of the documents of a database, and what they say in a listing.
-use Rattle.std.proofs.Common.{◌≡◌, ◌≢◌, ◌⊎◌, ℕ, ◌+◌, ◌-◌, ℤ, Bool, true, false, not, ◌&&◌, cond, IsTrue, List, [], ◌∷◌, ◌++◌, length, map, filter, count_by, Option, Some, None, MatchOption, option_map, option_to_list, Ordering, is_eq, bytes_eq, nat_cmp, refl, sym, ap, ap₂, subst, ◌∙◌, arith}
+use Rattle.std.proofs.Common.{◌≡◌, ◌≢◌, ℕ, ◌+◌, ◌-◌, ℤ, Bool, true, false, not, cond, List, [], ◌∷◌, ◌++◌, length, map, filter, count_by, Option, Some, None, option_map, option_to_list, Ordering, is_eq, bytes_eq, nat_cmp, refl, sym, ap, ap₂, ◌∙◌, arith}
 use Rattle.std.proofs.lemmas.Cmp.{nat_cmp_total, nat_list_cmp_total, on_total}
 use Rattle.std.proofs.lemmas.List.{length-map}
 use Rattle.std.proofs.lemmas.List.Sorted.{length_permutation, sum_by-IsPermutation}
@@ -10,9 +10,8 @@ use Rattle.std.specs.Cmp.{IsTotalOrder, Equal-is}
 use Rattle.std.specs.FinMap as finite
 use Rattle.std.specs.FinMap.{nat_cmp-IsAntisymmetric}
 use Rattle.std.specs.List.{AllByRecursion}
-use Rattle.tree.specs.History.{HistoryContent, IsBetter, is_known, is_leaf, leaves, winner}
+use Rattle.tree.specs.History.{HistoryContent, leaves, winner}
 use Rattle.tree.specs.Revision.{Revision, revision_read, text_of}
-use Rattle.tree.proofs.Leaves.{winner_is_best}
 use Rattle.tree.proofs.RevisionText.{read_of_text}
 use Rattle.store.specs.Database.{Document}
 use Rattle.store.specs.Pages as pages
@@ -29,7 +28,7 @@ use Rattle.tables.specs.Layout.{IsDocumentRow, IsLaid, IsRevisionRow}
 use Rattle.tables.specs.Listings.{leaves_row, listed_counts, listed_mark, live_row, live_rows, sequence_row}
 use Rattle.tables.specs.Rows.{by_id, by_sequence, database_of, db_of, document_of, history_in, id_of, is_gone, is_in, listed_document, number_of, sequence_of, winner_text}
 use Rattle.tables.specs.Schema.{docs_tree, revs_tree}
-use Rattle.tables.proofs.Laid.{known_lawful}
+use Rattle.tables.proofs.Laid.{known_lawful, same_texts, winner_known}
 use Rattle.tables.proofs.ListingOrders.{ascending_within, entries_by_key, map_sorted}
 use Rattle.tables.proofs.RowMaps.{text_exact}
 use Rattle.tables.proofs.Single.{fails}
@@ -54,16 +53,6 @@ pub documents_by_id : (trees : Trees) (d : Row) → IsLaid trees
 documents_by_id trees d h = entries_by_key nat_list_cmp_total text_exact id_of (document_of (trees revs_tree)) (documents_of trees (number_of d)) (ids_apart trees (number_of d) h)
 
 -- ---- what a row says of its winner
-
-same_texts : (a b : List ℕ) → ◌≡◌ {A = Option (List ℕ)} (Some a) (Some b) → a ≡ b
-same_texts a b e = cc
-
-first : (a b : Bool) → (a && b) ≡ true → a ≡ true
-first true b h = refl
-first false b h = cc
-
-winner_known : (h : HistoryContent) (w : Revision) → winner h ≡ Some w → is_known h w ≡ true
-winner_known h w is = first _ _ (subst (λ o. MatchOption o ((r : Revision) → IsTrue (is_leaf h r) → ⊥) (λ r. IsTrue (is_leaf h r) × ((s : Revision) → IsTrue (is_leaf h s) → (s ≡ r) ⊎ IsBetter h r s))) is (winner_is_best h)).0
 
 module _ (trees : Trees) (r : Row) (k : IsDocumentRow trees r) where
   abbrev pub history : HistoryContent
