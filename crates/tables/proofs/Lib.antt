@@ -32,6 +32,8 @@ pub mod DocumentWriteNews
 pub mod Replaces
 pub mod MetaStatements
 pub mod Laid
+pub mod ListingOrders
+pub mod ListingRows
 pub mod Setup
 pub mod RowMaps
 pub mod Lookups

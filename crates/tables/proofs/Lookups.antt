@@ -1,5 +1,5 @@
 -- What the tables answer by name and by id is what the databases that they hold have there.
-use Rattle.std.proofs.Common.{◌≡◌, ◌⊎◌, ℕ, ℤ, Bool, true, false, ◌||◌, List, [], ◌∷◌, map, filter, find, slice_get, Option, Some, None, option_map, is_some, cond, Ordering, is_eq, is_gt, bytes_eq, nat_cmp, refl, sym, ap, ap₂, subst, ◌∙◌}
+use Rattle.std.proofs.Common.{◌≡◌, ◌⊎◌, ℕ, ℤ, Bool, true, false, ◌||◌, List, [], ◌∷◌, map, filter, find, slice_get, Option, Some, None, option_map, is_some, is_eq, bytes_eq, nat_cmp, refl, sym, ap, ap₂, subst, ◌∙◌}
 use Rattle.std.proofs.lemmas.Bool.{both_ways, and_parts}
 use Rattle.std.proofs.lemmas.Bool.Decides.{Decides-int_eq}
 use Rattle.std.proofs.lemmas.Cmp.{nat_list_cmp_total}
@@ -7,23 +7,20 @@ use Rattle.std.proofs.lemmas.Map.Text.{is_eq-slice_cmp}
 use Rattle.std.proofs.lemmas.Slice.Eq.{bytes_eq-Decides}
 use Rattle.std.specs.Cmp.Lexicographic.{slice_cmp}
 use Rattle.std.specs.FinMap as finite
-use Rattle.std.specs.FinMap.Entries.{by_order}
-use Rattle.std.specs.declared.cmp.Ordering.TheVariants.{Less, Equal, Greater}
 use Rattle.std.specs.List.{AllByRecursion, list_any}
 use Rattle.store.specs.Database as store
 use Rattle.store.specs.Database.{Database}
-use Rattle.store.proofs.Pagings.{no_length}
 use Rattle.sqlite_value.specs.Order.{Row}
-use Rattle.sqlite_trees.specs.Tree.{Trees, IsAscending}
-use Rattle.sqlite_keyed.specs.Lists.{insert_sorted, sort_by}
+use Rattle.sqlite_trees.specs.Tree.{Trees}
+use Rattle.sqlite_keyed.specs.Lists.{sort_by}
 use Rattle.sqlite_keyed.proofs.KeyedLemmas.{same_int}
 use Rattle.sqlite_keyed.proofs.ListLemmas.{all_both, all_weaker, ascending_weaker, map-map, slice_get-filter, filter_none}
 use Rattle.tables.specs.Layout.{IsDatabaseNumber, IsLaid, IsRevisionRow}
 use Rattle.tables.specs.Rows.{db_of, has_number, id_of, is_in, is_of, is_named, name_of, number_of, by_name, revision_of, entry_of, local_of, document_of, database_of, history_in, contents_in}
 use Rattle.tables.specs.Schema.{dbs_tree, docs_tree, revs_tree, locals_tree}
+use Rattle.tables.proofs.ListingOrders.{entries_by_key}
 use Rattle.tables.proofs.RowMaps.{any_found, filter_both, find_passes, get_filtered, one_test, only_found, rows_changed, text_exact, text_tests}
 use Rattle.tables.proofs.Single.{few, fails}
-use Rattle.tables.proofs.Sorted.{all_sorted}
 use Rattle.tables.proofs.Tables.{one_named, one_numbered, one_of}
 
 -- ---- databases by name
@@ -83,31 +80,10 @@ document_found trees d id h =
 
 -- ---- names in order
 
-module _ {X : Type 0} (value : Row → X) where
-  put_inserted : (r : Row) (rows : List Row) → AllByRecursion (λ s. is_eq (by_name r s) ≡ false) rows
-      → finite.put (slice_cmp nat_cmp) (name_of r) (value r) (map (λ s. (name_of s, value s)) rows) ≡ map (λ s. (name_of s, value s)) (insert_sorted by_name r rows)
-  put_inserted r [] apart = refl
-  put_inserted r (s ∷ rows) apart = go (by_name r s) apart.0 (put_inserted r rows apart.1)
-    where
-      go : (o : Ordering) → is_eq o ≡ false → finite.put (slice_cmp nat_cmp) (name_of r) (value r) (map (λ t. (name_of t, value t)) rows) ≡ map (λ t. (name_of t, value t)) (insert_sorted by_name r rows)
-          → by_order o ((name_of r, value r) ∷ (name_of s, value s) ∷ map (λ t. (name_of t, value t)) rows) ((name_of s, value r) ∷ map (λ t. (name_of t, value t)) rows) ((name_of s, value s) ∷ finite.put (slice_cmp nat_cmp) (name_of r) (value r) (map (λ t. (name_of t, value t)) rows))
-          ≡ map (λ t. (name_of t, value t)) (cond (is_gt o) (s ∷ insert_sorted by_name r rows) (r ∷ s ∷ rows))
-      go Less apart more = refl
-      go Equal apart more = absurd (cc)
-      go Greater apart more = ap (λ l. (name_of s, value s) ∷ l) more
-
-  pub entries_sorted : (rows : List Row) → IsAscending (λ a b. is_eq (by_name a b) ≡ false) rows
-      → finite.entries {R = slice_cmp nat_cmp} (finite.from_entries (map (λ s. (name_of s, value s)) rows)) ≡ map (λ s. (name_of s, value s)) (sort_by by_name rows)
-  entries_sorted [] apart = no_length _ (sym (finite.len-entries {R = slice_cmp nat_cmp} (finite.empty {X = X})) ∙ finite.len-empty (slice_cmp nat_cmp) X)
-  entries_sorted (r ∷ rows) apart =
-      finite.entries-insert nat_list_cmp_total (finite.from_entries (map (λ s. (name_of s, value s)) rows)) (name_of r) (value r)
-      ∙ ap (finite.put (slice_cmp nat_cmp) (name_of r) (value r)) (entries_sorted rows apart.1)
-      ∙ put_inserted r (sort_by by_name rows) (all_sorted (λ s. is_eq (by_name r s) ≡ false) by_name rows apart.0)
-
 pub names_found : (trees : Trees) → IsLaid trees → finite.keys (contents_in trees) ≡ map name_of (sort_by by_name (trees dbs_tree))
 names_found trees h =
     ap (map (λ e. e.0))
-    (entries_sorted (database_of trees) (trees dbs_tree)
+    (entries_by_key nat_list_cmp_total text_exact name_of (database_of trees) (trees dbs_tree)
     (ascending_weaker _ (λ a b. is_eq (by_name a b) ≡ false) (λ a b apart. is_eq-slice_cmp (name_of a) (name_of b) ∙ fails (bytes_eq (name_of a) (name_of b)) (λ same. apart ((bytes_eq-Decides (name_of a) (name_of b)).0 same))) (trees dbs_tree) h.names_apart))
     ∙ map-map (λ (e : List ℕ × _). e.0) (λ s. (name_of s, database_of trees s)) (sort_by by_name (trees dbs_tree))
 

@@ -7,3 +7,4 @@ pub mod Edits
 pub mod Calls
 pub mod Shown
 pub mod Presence
+pub mod Listings

@@ -8,6 +8,7 @@ mod decode;
 pub mod documents;
 pub mod edits;
 pub mod laws;
+pub mod listings;
 pub mod locals;
 mod meta;
 pub mod revisions;

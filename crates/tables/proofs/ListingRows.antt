@@ -1,0 +1,246 @@
+-- The rows of the documents of a database, and what they say in a listing.
+use Rattle.std.proofs.Common.{◌≡◌, ◌≢◌, ℕ, ◌+◌, ◌-◌, ℤ, Bool, true, false, not, cond, List, [], ◌∷◌, ◌++◌, length, map, filter, count_by, Option, Some, None, option_map, option_to_list, Ordering, is_eq, bytes_eq, nat_cmp, refl, sym, ap, ap₂, ◌∙◌, arith}
+use Rattle.std.proofs.lemmas.Cmp.{nat_cmp_total, nat_list_cmp_total, on_total}
+use Rattle.std.proofs.lemmas.List.{length-map}
+use Rattle.std.proofs.lemmas.List.Sorted.{length_permutation, sum_by-IsPermutation}
+use Rattle.std.proofs.lemmas.List.Sums.{sum_by-cons}
+use Rattle.std.proofs.lemmas.Map.Text.{is_eq-slice_cmp}
+use Rattle.std.proofs.lemmas.Slice.Eq.{bytes_eq-Decides}
+use Rattle.std.specs.Cmp.{IsTotalOrder, Equal-is}
+use Rattle.std.specs.FinMap as finite
+use Rattle.std.specs.FinMap.{nat_cmp-IsAntisymmetric}
+use Rattle.std.specs.List.{AllByRecursion}
+use Rattle.tree.specs.History.{HistoryContent, leaves, winner}
+use Rattle.tree.specs.Revision.{Revision, revision_read, text_of}
+use Rattle.tree.proofs.RevisionText.{read_of_text}
+use Rattle.store.specs.Database.{Document}
+use Rattle.store.specs.Pages as pages
+use Rattle.store.specs.Pages.{SequenceRow, document_counts, gone_count, in_sequence, is_gone_by, live_count, live_rev, live_rev_by, put_in_sequence, rows_of, with_row}
+use Rattle.store.specs.declared.page.IdRow.{IdRow}
+use Rattle.store.proofs.Pagings.{no_length}
+use Rattle.sqlite_value.specs.Order.{Row}
+use Rattle.sqlite_trees.specs.Tree.{Trees, IsAscending}
+use Rattle.sqlite_keyed.specs.Lists.{sort_by}
+use Rattle.sqlite_keyed.proofs.KeyedLemmas.{same_int}
+use Rattle.sqlite_keyed.proofs.ListLemmas.{all_both, all_of, all_weaker, all-filter, ascending_weaker, map-map}
+use Rattle.sqlite_keyed.proofs.SortLemmas.{IsPermutation-sort_by}
+use Rattle.tables.specs.Layout.{IsDocumentRow, IsLaid, IsRevisionRow}
+use Rattle.tables.specs.Listings.{leaves_row, listed_counts, listed_mark, live_row, live_rows, sequence_row}
+use Rattle.tables.specs.Rows.{by_id, by_sequence, database_of, db_of, document_of, history_in, id_of, is_gone, is_in, listed_document, number_of, sequence_of, winner_text}
+use Rattle.tables.specs.Schema.{docs_tree, revs_tree}
+use Rattle.tables.proofs.Laid.{known_lawful, same_texts, winner_known}
+use Rattle.tables.proofs.ListingOrders.{ascending_within, entries_by_key, map_sorted}
+use Rattle.tables.proofs.RowMaps.{text_exact}
+use Rattle.tables.proofs.Single.{fails}
+use Rattle.tables.proofs.Sorted.{all_sorted, passing}
+
+module _ (trees : Trees) (db : ℤ) where
+  abbrev pub documents_of : List Row
+  documents_of = filter (is_in db) (trees docs_tree)
+
+  -- two rows of one database
+  together : (a b : Row) → is_in db a ≡ true → is_in db b ≡ true → db_of a ≡ db_of b
+  together a b x y = same_int (db_of a) db x ∙ sym (same_int (db_of b) db y)
+
+  pub ids_apart : IsLaid trees → IsAscending (λ a b. is_eq (by_id a b) ≡ false) documents_of
+  ids_apart h =
+      ascending_within (is_in db) (λ a b. is_eq (by_id a b) ≡ false) (trees docs_tree)
+      (ascending_weaker (λ a b. db_of a ≡ db_of b → id_of a ≢ id_of b) (λ a b. is_in db a ≡ true → is_in db b ≡ true → is_eq (by_id a b) ≡ false)
+      (λ a b apart x y. is_eq-slice_cmp (id_of a) (id_of b) ∙ fails (bytes_eq (id_of a) (id_of b)) (λ same. apart (together a b x y) ((bytes_eq-Decides (id_of a) (id_of b)).0 same))) (trees docs_tree) h.ids_apart)
+
+pub documents_by_id : (trees : Trees) (d : Row) → IsLaid trees
+    → finite.entries (database_of trees d).documents ≡ map (λ r. (id_of r, document_of (trees revs_tree) r)) (sort_by by_id (filter (is_in (number_of d)) (trees docs_tree)))
+documents_by_id trees d h = entries_by_key nat_list_cmp_total text_exact id_of (document_of (trees revs_tree)) (documents_of trees (number_of d)) (ids_apart trees (number_of d) h)
+
+-- ---- what a row says of its winner
+
+module _ (trees : Trees) (r : Row) (k : IsDocumentRow trees r) where
+  abbrev pub history : HistoryContent
+  history = history_in (trees revs_tree) (db_of r) (id_of r)
+
+  pub marked : pages.is_gone history ≡ is_gone r
+  marked = go (winner history) refl
+    where
+      go : (o : Option Revision) → winner history ≡ o → pages.is_gone history ≡ is_gone r
+      go None is = absurd (let text = sym (ap (option_map text_of) is) ∙ k.won in cc)
+      go (Some w) is = ap (is_gone_by history) is ∙ sym (k.gone w is)
+
+  -- the stored text spells the winner
+  pub won : AllByRecursion (IsRevisionRow trees) (trees revs_tree) → winner history ≡ revision_read (winner_text r)
+  won laid = go (winner history) refl
+    where
+      go : (o : Option Revision) → winner history ≡ o → winner history ≡ revision_read (winner_text r)
+      go None is = absurd (let text = sym (ap (option_map text_of) is) ∙ k.won in cc)
+      go (Some w) is =
+          let text : text_of w ≡ winner_text r = same_texts _ _ (sym (ap (option_map text_of) is) ∙ k.won) in
+          is ∙ sym (sym (ap revision_read text) ∙ read_of_text w (known_lawful trees (trees revs_tree) (db_of r) (id_of r) w laid (winner_known history w is)))
+
+-- ---- counts
+
+counted : {A B : Type 0} (p : B → Bool) (q : A → Bool) (f : A → B) (xs : List A) → AllByRecursion (λ x. p (f x) ≡ q x) xs → count_by p (map f xs) ≡ count_by q xs
+counted p q f [] all = refl
+counted p q f (x ∷ xs) all =
+    sum_by-cons (λ y. cond (p y) 1 0) (f x) (map f xs) ∙ ap₂ (λ b n. cond b 1 0 + n) all.0 (counted p q f xs all.1) ∙ sym (sum_by-cons (λ y. cond (q y) 1 0) x xs)
+
+both_counted : {A : Type 0} (p : A → Bool) (xs : List A) → count_by p xs + count_by (λ x. not (p x)) xs ≡ length xs
+both_counted p [] = omega arith
+both_counted p (x ∷ xs) =
+    let a = sum_by-cons (λ y. cond (p y) 1 0) x xs in
+    let b = sum_by-cons (λ y. cond (not (p y)) 1 0) x xs in
+    go (p x) (count_by p (x ∷ xs)) (count_by (λ y. not (p y)) (x ∷ xs)) a b (both_counted p xs)
+  where
+    go : (c : Bool) (m n : ℕ) → m ≡ cond c 1 0 + count_by p xs → n ≡ cond (not c) 1 0 + count_by (λ y. not (p y)) xs → count_by p xs + count_by (λ y. not (p y)) xs ≡ length xs → m + n ≡ length (x ∷ xs)
+    go true m n a b more = omega (arith, a, b, more)
+    go false m n a b more = omega (arith, a, b, more)
+
+module _ (trees : Trees) (d : Row) (h : IsLaid trees) where
+  abbrev rows : List Row
+  rows = documents_of trees (number_of d)
+
+  abbrev pub entries : List (List ℕ × Document)
+  entries = finite.entries (database_of trees d).documents
+
+  rows_are : AllByRecursion (IsDocumentRow trees) rows
+  rows_are = all-filter (IsDocumentRow trees) (is_in (number_of d)) (trees docs_tree) h.docs
+
+  sorted_are : AllByRecursion (IsDocumentRow trees) (sort_by by_id rows)
+  sorted_are = all_sorted (IsDocumentRow trees) by_id rows rows_are
+
+  pub gone_documents : gone_count entries ≡ count_by is_gone rows
+  gone_documents =
+      ap gone_count (documents_by_id trees d h)
+      ∙ counted (λ (e : List ℕ × Document). pages.is_gone e.1.history) is_gone (λ r. (id_of r, document_of (trees revs_tree) r)) (sort_by by_id rows)
+      (all_weaker (IsDocumentRow trees) (λ r. pages.is_gone (history_in (trees revs_tree) (db_of r) (id_of r)) ≡ is_gone r) (marked trees) (sort_by by_id rows) sorted_are)
+      ∙ sym (sum_by-IsPermutation (λ r. cond (is_gone r) 1 0) (sort_by by_id rows) rows (IsPermutation-sort_by by_id (on_total id_of nat_list_cmp_total) rows))
+
+  pub live_documents : live_count entries ≡ count_by (λ r. not (is_gone r)) rows
+  live_documents =
+      let long : length entries ≡ length rows =
+      ap length (documents_by_id trees d h) ∙ length-map (sort_by by_id rows) (λ r. (id_of r, document_of (trees revs_tree) r))
+      ∙ omega (arith, length_permutation (sort_by by_id rows) rows (IsPermutation-sort_by by_id (on_total id_of nat_list_cmp_total) rows)) in
+      ap₂ (λ a b. a - b) long gone_documents ∙ omega (arith, both_counted is_gone rows)
+
+  -- the counts by the rows of a list, in whatever order
+  pub listed_documents : (by : Row → Row → Ordering) → IsTotalOrder by → document_counts entries ≡ listed_counts (map listed_document (sort_by by rows))
+  listed_documents by total =
+      let gone = gone_documents ∙ told is_gone listed_mark (λ r. refl) in
+      let live = live_documents ∙ told (λ r. not (is_gone r)) (λ s. not (listed_mark s)) (λ r. refl) in
+      λ i. record { documents = live i; deleted = gone i }
+    where
+      told : (p q : Row → Bool) → ((r : Row) → q (listed_document r) ≡ p r) → count_by p rows ≡ count_by q (map listed_document (sort_by by rows))
+      told p q same =
+          sum_by-IsPermutation (λ r. cond (p r) 1 0) (sort_by by rows) rows (IsPermutation-sort_by by total rows)
+          ∙ sym (counted q p listed_document (sort_by by rows) (all_of (λ r. q (listed_document r) ≡ p r) same (sort_by by rows)))
+
+pub counts_by_id : (trees : Trees) (d : Row) → IsLaid trees
+    → document_counts (finite.entries (database_of trees d).documents) ≡ listed_counts (map listed_document (sort_by by_id (filter (is_in (number_of d)) (trees docs_tree))))
+counts_by_id trees d h = listed_documents trees d h by_id (on_total id_of nat_list_cmp_total)
+
+pub counts_by_sequence : (trees : Trees) (d : Row) → IsLaid trees
+    → document_counts (finite.entries (database_of trees d).documents) ≡ listed_counts (map listed_document (sort_by by_sequence (filter (is_in (number_of d)) (trees docs_tree))))
+counts_by_sequence trees d h = listed_documents trees d h by_sequence (on_total sequence_of nat_cmp_total)
+
+-- ---- rows of a listing by id
+
+-- a row of a page, where the winner is not deleted
+live_one : (h : HistoryContent) (r : Row) (rest : List IdRow) → winner h ≡ revision_read (winner_text r) → pages.is_gone h ≡ is_gone r
+    → with_row (id_of r) (live_rev h) rest ≡ option_to_list (live_row (listed_document r)) ++ rest
+live_one h r rest won marked = go (winner h) refl (sym won)
+  where
+    turned : (w : Revision) (b : Bool) → with_row (id_of r) (cond b None (Some w)) rest ≡ option_to_list (cond b None (Some (record { id = id_of r; rev = w }))) ++ rest
+    turned w true = refl
+    turned w false = refl
+
+    spelled : Option Revision → Bool → List IdRow
+    spelled o b = option_to_list (cond b None (option_map (λ w. record { id = id_of r; rev = w }) o)) ++ rest
+
+    go : (o : Option Revision) → winner h ≡ o → revision_read (winner_text r) ≡ winner h → with_row (id_of r) (live_rev h) rest ≡ option_to_list (live_row (listed_document r)) ++ rest
+    go None is read =
+        ap (λ o. with_row (id_of r) (live_rev_by h o) rest) is ∙ none (is_gone r) ∙ sym (ap (λ o. spelled o (is_gone r)) (read ∙ is))
+      where
+        none : (b : Bool) → rest ≡ spelled None b
+        none true = refl
+        none false = refl
+    go (Some w) is read =
+        ap (λ o. with_row (id_of r) (live_rev_by h o) rest) is
+        ∙ ap (λ b. with_row (id_of r) (cond b None (Some w)) rest) (sym (ap (is_gone_by h) is) ∙ marked)
+        ∙ turned w (is_gone r) ∙ sym (ap (λ o. spelled o (is_gone r)) (read ∙ is))
+
+live_all : (trees : Trees) (rows : List Row) → AllByRecursion (IsRevisionRow trees) (trees revs_tree) → AllByRecursion (IsDocumentRow trees) rows
+    → pages.live_rows (map (λ r. (id_of r, document_of (trees revs_tree) r)) rows) ≡ live_rows (map listed_document rows)
+live_all trees [] laid all = refl
+live_all trees (r ∷ rows) laid all =
+    let rest = live_all trees rows laid all.1 in
+    live_one (history trees r all.0) r (pages.live_rows (map (λ r. (id_of r, document_of (trees revs_tree) r)) rows)) (won trees r all.0 laid) (marked trees r all.0)
+    ∙ ap (λ l. option_to_list (live_row (listed_document r)) ++ l) rest
+
+pub live_by_id : (trees : Trees) (d : Row) → IsLaid trees
+    → pages.live_rows (finite.entries (database_of trees d).documents) ≡ live_rows (map listed_document (sort_by by_id (filter (is_in (number_of d)) (trees docs_tree))))
+live_by_id trees d h = ap pages.live_rows (documents_by_id trees d h) ∙ live_all trees (sort_by by_id (documents_of trees (number_of d))) h.revs (sorted_are trees d h)
+
+-- ---- rows of a listing by sequence
+
+sequence_one : (h : HistoryContent) (r : Row) → winner h ≡ revision_read (winner_text r) → pages.is_gone h ≡ is_gone r
+    → pages.row_of false (id_of r, record { sequence = sequence_of r; history = h }) ≡ sequence_row (listed_document r)
+sequence_one h r won marked = λ i. record { sequence = sequence_of r; id = id_of r; revs = option_to_list (won i); deleted = marked i }
+
+leaves_one : (revs : List Row) (db : ℤ) (r : Row) → db_of r ≡ db → pages.is_gone (history_in revs (db_of r) (id_of r)) ≡ is_gone r
+    → pages.row_of true (id_of r, document_of revs r) ≡ leaves_row revs db (listed_document r)
+leaves_one revs db r own marked = λ i. record { sequence = sequence_of r; id = id_of r; revs = leaves (history_in revs (own i) (id_of r)); deleted = marked i }
+
+module _ (all : Bool) (document : Row → Document) (at : (r : Row) → (document r).sequence ≡ sequence_of r) where
+  abbrev page_row : Row → SequenceRow
+  page_row r = pages.row_of all (id_of r, document r)
+
+  -- rows put among others are the entries of a map
+  rows_put : (rows : List Row) → put_in_sequence (rows_of all (map (λ r. (id_of r, document r)) rows)) [] ≡ finite.entries {R = nat_cmp} (finite.from_entries (map (λ r. (sequence_of r, page_row r)) rows))
+  rows_put [] = sym (no_length _ (sym (finite.len-entries {R = nat_cmp} (finite.empty {X = SequenceRow})) ∙ finite.len-empty nat_cmp SequenceRow))
+  rows_put (r ∷ rows) =
+      ap₂ (λ n es. finite.put nat_cmp n (page_row r) es) (at r) (rows_put rows)
+      ∙ sym (finite.entries-insert nat_cmp_total (finite.from_entries (map (λ r. (sequence_of r, page_row r)) rows)) (sequence_of r) (page_row r))
+
+  -- they stand by their sequences, in whatever order they are put
+  pub put_sorted : (by : Row → Row → Ordering) (rows : List Row) → IsAscending (λ a b. is_eq (by_sequence a b) ≡ false) rows
+      → in_sequence (rows_of all (map (λ r. (id_of r, document r)) (sort_by by rows))) ≡ map page_row (sort_by by_sequence rows)
+  put_sorted by rows apart =
+      ap (map (λ e. e.1))
+      (rows_put (sort_by by rows) ∙ ap finite.entries (map_sorted nat_cmp_total nat_cmp-IsAntisymmetric sequence_of page_row by rows apart) ∙ entries_by_key nat_cmp_total nat_cmp-IsAntisymmetric sequence_of page_row rows apart)
+      ∙ map-map (λ (e : ℕ × SequenceRow). e.1) (λ r. (sequence_of r, page_row r)) (sort_by by_sequence rows)
+
+map_on : {A B : Type 0} (f g : A → B) (xs : List A) → AllByRecursion (λ x. f x ≡ g x) xs → map f xs ≡ map g xs
+map_on f g [] all = refl
+map_on f g (x ∷ xs) all = ap₂ (λ y ys. y ∷ ys) all.0 (map_on f g xs all.1)
+
+module _ (trees : Trees) (d : Row) (h : IsLaid trees) where
+  abbrev mine : List Row
+  mine = documents_of trees (number_of d)
+
+  sequences_apart : IsAscending (λ a b. is_eq (by_sequence a b) ≡ false) mine
+  sequences_apart =
+      ascending_within (is_in (number_of d)) (λ a b. is_eq (by_sequence a b) ≡ false) (trees docs_tree)
+      (ascending_weaker (λ a b. db_of a ≡ db_of b → sequence_of a ≢ sequence_of b) (λ a b. is_in (number_of d) a ≡ true → is_in (number_of d) b ≡ true → is_eq (by_sequence a b) ≡ false)
+      (λ a b apart x y. fails (is_eq (by_sequence a b)) (λ tied. apart (together trees (number_of d) a b x y) (nat_cmp-IsAntisymmetric (sequence_of a) (sequence_of b) ((Equal-is (by_sequence a b)).0 tied)))) (trees docs_tree) h.sequences_apart)
+
+  in_order : (all : Bool) → in_sequence (rows_of all (entries trees d h)) ≡ map (λ r. pages.row_of all (id_of r, document_of (trees revs_tree) r)) (sort_by by_sequence mine)
+  in_order all = ap (λ es. in_sequence (rows_of all es)) (documents_by_id trees d h) ∙ put_sorted all (document_of (trees revs_tree)) (λ r. refl) by_id mine sequences_apart
+
+  ordered_are : AllByRecursion (λ r. IsDocumentRow trees r × (is_in (number_of d) r ≡ true)) (sort_by by_sequence mine)
+  ordered_are =
+      all_sorted (λ r. IsDocumentRow trees r × (is_in (number_of d) r ≡ true)) by_sequence mine
+      (all_both (IsDocumentRow trees) (λ r. is_in (number_of d) r ≡ true) (λ r. IsDocumentRow trees r × (is_in (number_of d) r ≡ true)) (λ r k is. (k, is)) mine (rows_are trees d h) (passing (is_in (number_of d)) (trees docs_tree)))
+
+  pub winners_by_sequence : in_sequence (rows_of false (entries trees d h)) ≡ map sequence_row (map listed_document (sort_by by_sequence (filter (is_in (number_of d)) (trees docs_tree))))
+  winners_by_sequence =
+      in_order false
+      ∙ map_on _ (λ r. sequence_row (listed_document r)) (sort_by by_sequence mine)
+      (all_weaker (λ r. IsDocumentRow trees r × (is_in (number_of d) r ≡ true)) (λ r. pages.row_of false (id_of r, document_of (trees revs_tree) r) ≡ sequence_row (listed_document r))
+      (λ r k. sequence_one (history trees r k.0) r (won trees r k.0 h.revs) (marked trees r k.0)) (sort_by by_sequence mine) ordered_are)
+      ∙ sym (map-map sequence_row listed_document (sort_by by_sequence mine))
+
+  pub leaves_by_sequence : in_sequence (rows_of true (entries trees d h)) ≡ map (leaves_row (trees revs_tree) (number_of d)) (map listed_document (sort_by by_sequence (filter (is_in (number_of d)) (trees docs_tree))))
+  leaves_by_sequence =
+      in_order true
+      ∙ map_on _ (λ r. leaves_row (trees revs_tree) (number_of d) (listed_document r)) (sort_by by_sequence mine)
+      (all_weaker (λ r. IsDocumentRow trees r × (is_in (number_of d) r ≡ true)) (λ r. pages.row_of true (id_of r, document_of (trees revs_tree) r) ≡ leaves_row (trees revs_tree) (number_of d) (listed_document r))
+      (λ r k. leaves_one (trees revs_tree) (number_of d) r (same_int (db_of r) (number_of d) k.1) (marked trees r k.0)) (sort_by by_sequence mine) ordered_are)
+      ∙ sym (map-map (leaves_row (trees revs_tree) (number_of d)) listed_document (sort_by by_sequence mine))

@@ -1,0 +1,5 @@
+use Rattle.tables.proofs.ListingRows.{documents_by_id}
+use Rattle.tables.proofs.listings.documents_by_id.Goals as goal
+
+pub returns : goal.returns
+returns c = documents_by_id
