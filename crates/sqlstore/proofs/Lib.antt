@@ -2,5 +2,6 @@ pub mod Standing
 pub mod ContentsCode
 pub mod Changing
 pub mod Sequences
+pub mod HistoryRows
 pub mod Tables
 pub mod Answering

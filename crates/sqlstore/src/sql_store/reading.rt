@@ -1,11 +1,12 @@
 //! What a store answers of a database, and leaves as it is.
 
+use crate::histories::read_history;
 use crate::shown::{first_local, read_security};
 use crate::sql_store::SqlStore;
 use policy::Security;
 use sqlite::Alter;
 use store::{DbName, LocalDocument, StoreFault};
-use tree::DocId;
+use tree::{DocId, History};
 
 impl<S: Alter> SqlStore<S> {
     ghost use Rattle.std.specs.Prelude.{option_map};
@@ -34,5 +35,17 @@ impl<S: Alter> SqlStore<S> {
         let found = self.find(name)?;
         let rows = self.local_rows(&found.number, id.as_str().as_bytes())?;
         first_local(self.alloc, &rows)
+    }
+
+    /// Returns the history of a document, empty where it was never written. `NoDatabase` comes if and only if
+    /// there is no database of this name.
+    pub fn history(&mut self, name: &DbName, id: &DocId) -> Result<History, StoreFault>
+        ensures answer { Answers S.Store self.old self.new (λ history. history)
+            (option_map (λ db. history_at db id.now) (map.get (contents_of S.Store self.old) name.now)) result }
+        ensures reads { OnlyReads S.Store self.old self.new }
+    {
+        let found = self.find(name)?;
+        let rows = self.revision_rows(&found.number, id.as_str().as_bytes())?;
+        read_history(self.alloc, &rows)
     }
 }
