@@ -1,11 +1,11 @@
 -- What is told of the tables of a store.
-use Rattle.std.proofs.Common.{◌≡◌, ◌↔◌, true, false, Bool, refl, sym, ap, subst, ◌∙◌}
+use Rattle.std.proofs.Common.{◌≡◌, true, false, Bool, ap, ◌∙◌}
 use Rattle.sqlite.specs.Effect.{Database}
 use Rattle.sqlite_schema.specs.declared.schema.Schema.{Schema}
 use Rattle.tables.specs.Layout.{IsStore}
 use Rattle.tables.specs.Presence.{has_all}
 use Rattle.tables.specs.declared.meta.FoundTables.{FoundTables}
-use Rattle.tables.specs.declared.meta.FoundTables.TheVariants.{Nothing, Others, Part, All}
+use Rattle.tables.specs.declared.meta.FoundTables.TheVariants.{Nothing, Others, All}
 use Rattle.tables.proofs.Laid.{ours_has_all}
 
 pub has_tables : (db : Database) (s : Schema) → s ≡ db.schema → IsStore db → has_all s ≡ true

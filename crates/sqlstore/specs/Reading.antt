@@ -1,6 +1,6 @@
 -- What is read of the rows that a query shows, and when they are intact.
 -- This server's own: rows are read by the words of `tables`; what is not intact is told as damaged.
-use Rattle.std.specs.Prelude.{◌≡◌, ℕ, ℤ, Bool, IsTrue, List, length, filter, map, slice_get, Option, Some, None, Result, Ok, Err, ⊤}
+use Rattle.std.specs.Prelude.{◌≡◌, ℕ, ℤ, IsTrue, List, length, filter, map, slice_get, Option, Some, None, Result, Ok, Err, ⊤}
 use Rattle.std.specs.FinMap as finite
 use Rattle.couch_json.specs.Value as json
 use Rattle.store.specs.declared.fault.StoreFault.{StoreFault}

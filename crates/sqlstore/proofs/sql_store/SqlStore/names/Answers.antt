@@ -1,4 +1,4 @@
-use Rattle.std.proofs.Common.{◌≡◌, ◌∙◌, ap, map}
+use Rattle.std.proofs.Common.{◌∙◌}
 use Rattle.std.proofs.Math.Logic.{∥∥₁_elim}
 use Rattle.sqlstore.specs.Model.{trees_of}
 use Rattle.sqlstore.proofs.Answering.{answered, laid, reads, was_honest}
