@@ -1,5 +1,5 @@
 -- What a reader of a store answers, from what it read, and what it leaves.
-use Rattle.std.proofs.Common.{◌≡◌, ◌≤◌, ◌<◌, ◌+◌, ◌^◌, ◌-◌, ℕ, length, ◌⊎◌, inl, inr, List, [], ◌∷◌, filter, map, slice_get, Option, Some, None, option_map, Result, Ok, Err, Bool, true, false, IsTrue, if◌then◌else◌, refl, sym, ap, subst, ◌∙◌, arith}
+use Rattle.std.proofs.Common.{◌≡◌, ◌≤◌, ◌<◌, ◌+◌, ◌^◌, ℕ, length, inl, inr, List, [], ◌∷◌, filter, map, slice_get, Option, Some, None, option_map, Result, Ok, Err, Bool, true, false, IsTrue, if◌then◌else◌, refl, sym, ap, subst, ◌∙◌, arith}
 use Rattle.std.specs.List.{AllByRecursion}
 use Rattle.std.proofs.Math.Logic.{∥∥₁_elim, ∥∥₁_map}
 use Rattle.std.specs.FinMap.{get}
@@ -10,7 +10,7 @@ use Rattle.store.specs.declared.fault.StoreFault.TheVariants.{Memory, Failed, No
 use Rattle.sqlite_value.specs.Order.{Row}
 use Rattle.sqlite_sql.specs.Ops.{fits_i64}
 use Rattle.sqlite_trees.specs.declared.store.Store.{Ghosts}
-use Rattle.sqlite.specs.Held.{Held, state}
+use Rattle.sqlite.specs.Held.{state}
 use Rattle.policy.specs.Security.{is_security}
 use Rattle.sqlite_trees.specs.Tree.{Trees}
 use Rattle.store.specs.Contents.{local_at}
@@ -23,7 +23,7 @@ use Rattle.tables.specs.Shown.{IsShownDatabase, IsShownLocal, local_shown}
 use Rattle.tables.proofs.Laid.{shown_databases, shown_locals}
 use Rattle.tables.proofs.Lookups.{database_found, local_found}
 use Rattle.sqlstore.specs.Causes.{IsJudged}
-use Rattle.sqlstore.specs.Model.{Answers, OnlyReads, Stands, contents_of, is_honest, lacks_room, trees_of}
+use Rattle.sqlstore.specs.Model.{Answers, OnlyReads, Stands, contents_of, is_honest, trees_of}
 use Rattle.sqlstore.specs.Reading.{FoundValues, IsRead, found_in, found_shown}
 use Rattle.sqlstore.specs.declared.sql_store.SqlStore.{SqlStore}
 

@@ -1,5 +1,5 @@
 -- What a change of a store leaves.
-use Rattle.std.proofs.Common.{◌≡◌, ℕ, ℤ, pos, ◌≤◌, List, Bool, false, Option, None, Some, is_some, Result, Ok, Err, IsTrue, OnOk, OnErr, refl, sym, ap, subst, ◌∙◌, arith}
+use Rattle.std.proofs.Common.{◌≡◌, ℕ, ℤ, pos, List, Bool, false, Option, None, Some, is_some, Result, Ok, Err, IsTrue, OnOk, OnErr, refl, sym, ap, subst, ◌∙◌, arith}
 use Rattle.std.proofs.Math.Logic.{∥∥₁_elim, ∥∥₁_map}
 use Rattle.couch_json.specs.Canonical.{canonical}
 use Rattle.policy.specs.Security.{closed_security}
@@ -15,7 +15,7 @@ use Rattle.sqlstore.specs.Model.{ChangesWhole, Moves, Stands, contents_of, is_ho
 use Rattle.sqlite_trees.specs.Tree.{Trees}
 use Rattle.sqlstore.specs.Reading.{HasNumber}
 use Rattle.sqlstore.specs.Sequences.{Replaces}
-use Rattle.sqlstore.specs.Standing.{Holds, IsHeld, Turns}
+use Rattle.sqlstore.specs.Standing.{IsHeld, Turns}
 use Rattle.sqlstore.specs.declared.sql_store.SqlStore.{SqlStore}
 
 module _ {S : Type 0} (g : Ghosts S) (old new origin last : Held S) where

@@ -1,12 +1,12 @@
 -- The history that the rows of a document's revisions make, in whatever order a query shows them.
 use base.Stored.{Coded-set}
-use Rattle.std.proofs.Common.{◌≡◌, ◌≢◌, ℕ, ℤ, Bool, true, false, cond, List, [], ◌∷◌, map, filter, slice_get, Option, Some, None, option_map, IsPermutation, refl, sym, ap, subst, ◌∙◌}
+use Rattle.std.proofs.Common.{◌≡◌, ◌≢◌, ℕ, ℤ, Bool, true, false, cond, List, [], ◌∷◌, map, filter, slice_get, Option, Some, option_map, IsPermutation, refl, sym, ap, subst, ◌∙◌}
 use Rattle.std.specs.Coded.{coded_option}
 use Rattle.std.specs.FinMap as finite
 use Rattle.std.specs.List.{AllByRecursion}
 use Rattle.std.specs.Ordering.{eq_by_cmp}
 use Rattle.std.specs.Cmp.{Equal-is}
-use Rattle.tree.specs.History.{HistoryContent, row_of, with_entries}
+use Rattle.tree.specs.History.{HistoryContent, row_of}
 use Rattle.tree.specs.HistoryCode.{content_code}
 use Rattle.tree.specs.Revision.{Revision, revision_cmp}
 use Rattle.tree.specs.declared.entry.Entry.{Entry}
@@ -17,15 +17,15 @@ use Rattle.store.specs.Database.{Database, history_at}
 use Rattle.sqlite_value.specs.Order.{Row}
 use Rattle.sqlite_trees.specs.Tree.{IsAscending, Trees}
 use Rattle.sqlite_trees.proofs.ListLemmas.{all-permutation}
-use Rattle.sqlite_keyed.proofs.ListLemmas.{IsPermutation-filter, map-map, map_same}
+use Rattle.sqlite_keyed.proofs.ListLemmas.{IsPermutation-filter, map-map}
 use Rattle.tables.specs.Layout.{IsLaid}
-use Rattle.tables.specs.Rows.{contents_in, db_of, entry_of, history_in, id_of, is_of, number_of, revision_of, shown_revision}
+use Rattle.tables.specs.Rows.{contents_in, db_of, entry_of, history_in, id_of, is_of, revision_of, shown_revision}
 use Rattle.tables.specs.Schema.{revs_tree}
 use Rattle.tables.specs.Shown.{IsShownRevision, held_shown, parent_shown, revision_shown}
 use Rattle.tables.proofs.Laid.{shown_revisions}
 use Rattle.tables.proofs.Lookups.{document_found, of_these}
 use Rattle.tables.proofs.RowMaps.{get_filtered}
-use Rattle.tables.proofs.Single.{HasOneAtMost, few, one_order}
+use Rattle.tables.proofs.Single.{HasOneAtMost, one_order}
 use Rattle.sqlstore.specs.Reading.{FoundValues, entry_shown, history_shown}
 use Rattle.sqlstore.proofs.Answering.{IsThere, all_left, all_shown}
 

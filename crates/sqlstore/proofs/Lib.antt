@@ -3,5 +3,6 @@ pub mod ContentsCode
 pub mod Changing
 pub mod Sequences
 pub mod HistoryRows
+pub mod NameBytes
 pub mod Tables
 pub mod Answering

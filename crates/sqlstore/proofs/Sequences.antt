@@ -1,15 +1,15 @@
 -- Changes of tables, one after the other, and their commit.
-use Rattle.std.proofs.Common.{◌≡◌, ◌≢◌, ℕ, ℤ, List, [], Bool, false, filter, not, Result, Ok, Err, IsTrue, OnOk, refl, sym, subst, ◌∙◌, arith}
+use Rattle.std.proofs.Common.{◌≡◌, ℕ, ℤ, List, [], Bool, false, filter, not, Result, Ok, Err, IsTrue, OnOk, sym, subst, ◌∙◌, arith}
 use Rattle.sqlite.specs.Effect.{Database}
 use Rattle.sqlite.specs.State.{State, KeepsCounts, Shows}
 use Rattle.sqlite_value.specs.Order.{Row}
 use Rattle.tables.specs.Layout.{AreDatabaseRows, AreKeyed, IsStore}
 use Rattle.tables.specs.Rows.{has_number, is_in, is_of, local_cells, with_cells}
-use Rattle.tables.specs.Schema.{dbs_tree, docs_tree, locals_tree, revs_tree, schema}
+use Rattle.tables.specs.Schema.{dbs_tree, docs_tree, locals_tree, revs_tree}
 use Rattle.tables.specs.Steps.{Changes}
 use Rattle.tables.proofs.Kept.{keyed-filter}
 use Rattle.tables.proofs.Rests.{leaves}
-use Rattle.tables.proofs.Tables.{databases_laid, docs_keyed, locals_keyed, revs_keyed}
+use Rattle.tables.proofs.Tables.{databases_laid, locals_keyed, revs_keyed}
 use Rattle.sqlstore.specs.Sequences.{Clears, Replaces}
 
 -- what holds of the rows of a transaction holds of what is committed

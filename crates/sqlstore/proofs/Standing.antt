@@ -1,12 +1,12 @@
 -- What calls of a store leave, one after the other.
-use Rattle.std.proofs.Common.{◌≡◌, ◌⊎◌, inl, inr, ℕ, ◌≤◌, List, Result, Ok, Err, IsTrue, OnOk, IfOk, refl, sym, ap, subst, ◌∙◌}
+use Rattle.std.proofs.Common.{◌≡◌, ◌⊎◌, inl, inr, IsTrue, sym, ap, subst, ◌∙◌}
 use Rattle.std.proofs.Math.Logic.{∥∥₁_elim, ∥∥₁_map}
 use Rattle.sqlite_trees.specs.declared.store.Store.{Ghosts}
 use Rattle.sqlite_trees.specs.Props.{Trees-set}
 use Rattle.sqlite_trees.specs.Tree.{Trees}
 use Rattle.sqlite.specs.Held.{Held, state}
-use Rattle.sqlite.specs.State.{State, HasCleanDisk, IsUnchanged}
-use Rattle.tables.specs.Calls.{Asks, Looks, Finds, Stands as Unmoved}
+use Rattle.sqlite.specs.State.{HasCleanDisk}
+use Rattle.tables.specs.Calls.{Asks, Looks}
 use Rattle.tables.specs.Layout.{IsStore}
 use Rattle.tables.specs.Schema.{schema}
 use Rattle.sqlstore.specs.Standing.{Holds, IsHeld}

@@ -5,7 +5,7 @@ use Rattle.std.specs.FinMap.{get}
 use Rattle.sqlite_trees.specs.declared.store.Store.{Ghosts}
 use Rattle.sqlite_trees.specs.Tree.{Trees}
 use Rattle.sqlite_sql.specs.Ops.{fits_i64}
-use Rattle.sqlite.specs.Held.{Held, state}
+use Rattle.sqlite.specs.Held.{state}
 use Rattle.sqlite.specs.State.{HasCleanDisk}
 use Rattle.store.specs.Contents.{Contents}
 use Rattle.store.specs.Database.{Database, DocumentWrite}

@@ -1,6 +1,6 @@
 -- What is read of the rows that a query shows, and when they are intact.
 -- This server's own: rows are read by the words of `tables`; what is not intact is told as damaged.
-use Rattle.std.specs.Prelude.{◌≡◌, ℕ, ℤ, Bool, IsTrue, List, filter, map, slice_get, Option, Some, None, Result, Ok, Err, ⊤}
+use Rattle.std.specs.Prelude.{◌≡◌, ℕ, ℤ, IsTrue, List, length, filter, map, slice_get, Option, Some, None, Result, Ok, Err, ⊤}
 use Rattle.std.specs.FinMap as finite
 use Rattle.couch_json.specs.Value as json
 use Rattle.store.specs.declared.fault.StoreFault.{StoreFault}
@@ -43,6 +43,7 @@ abbrev pub name_shown : Row → List ℕ
 name_shown s = bytes (column s 0)
 
 pub record IsShownName (s : Row) : Type 0 where
+  pub width : length s ≡ 1
   pub name : column s 0 ≡ Blob (name_shown s)
   pub lawful : IsTrue (is_database_name (name_shown s))
 

@@ -3,6 +3,7 @@
 
 mod fault;
 mod histories;
+mod names;
 mod open_fault;
 mod opening;
 mod shown;

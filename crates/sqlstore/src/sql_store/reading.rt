@@ -1,6 +1,7 @@
 //! What a store answers of a database, and leaves as it is.
 
 use crate::histories::read_history;
+use crate::names::read_names;
 use crate::shown::{first_local, read_security};
 use crate::sql_store::SqlStore;
 use policy::Security;
@@ -9,11 +10,21 @@ use store::{DbName, LocalDocument, StoreFault};
 use tree::{DocId, History};
 
 impl<S: Alter> SqlStore<S> {
-    ghost use Rattle.std.specs.Prelude.{option_map};
+    ghost use Rattle.std.specs.Prelude.{◌≢◌, Err, Some, option_map};
     ghost use Rattle.std.specs.FinMap as map;
     ghost use Rattle.store.specs.Contents.{local_at};
     ghost use Rattle.store.specs.Database.{history_at};
     ghost use Rattle.sqlstore.specs.Model.{Answers, OnlyReads, contents_of};
+
+    /// Returns the names of all databases, in the order of their bytes.
+    pub fn names(&mut self) -> Result<Vec<DbName>, StoreFault>
+        ensures answer { Answers S.Store self.old self.new (λ names. names.items) (Some (map.keys (contents_of S.Store self.old))) result }
+        ensures others { result ≢ Err StoreFault.NoDatabase }
+        ensures reads { OnlyReads S.Store self.old self.new }
+    {
+        let rows = self.name_rows()?;
+        read_names(self.alloc, &rows)
+    }
 
     /// Returns the security object of a database. `NoDatabase` comes if and only if there is none.
     pub fn security(&mut self, name: &DbName) -> Result<Security, StoreFault>

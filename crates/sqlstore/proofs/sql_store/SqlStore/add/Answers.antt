@@ -1,4 +1,4 @@
-use Rattle.std.proofs.Common.{◌≡◌, ◌∙◌, List, ℕ, None, ap}
+use Rattle.std.proofs.Common.{◌≡◌, ◌∙◌, ap}
 use Rattle.std.specs.FinMap as finite
 use Rattle.couch_json.specs.Canonical.{canonical}
 use Rattle.store.specs.Contents.{new_database}

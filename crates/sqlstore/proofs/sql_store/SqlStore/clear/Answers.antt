@@ -1,4 +1,4 @@
-use Rattle.std.proofs.Common.{◌≡◌, ◌∙◌, Some, option_map, ap, sym, subst}
+use Rattle.std.proofs.Common.{◌≡◌, ◌∙◌, ap, sym, subst}
 use Rattle.std.specs.FinMap as finite
 use Rattle.sqlstore.specs.Sequences.{Clears}
 use Rattle.sqlite.specs.Effect.{Database}

@@ -1,4 +1,3 @@
-use Rattle.sqlstore.specs.Model.{contents_of}
 use Rattle.sqlstore.proofs.Changing.{moves_then, none_if, on_ok, same_contents, unchanged, was_honest, whole}
 use Rattle.sqlstore.proofs.sql_store.SqlStore.create.Goals as goal
 

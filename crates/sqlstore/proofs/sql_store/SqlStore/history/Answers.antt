@@ -3,7 +3,6 @@ use Rattle.std.proofs.Math.Logic.{∥∥₁_elim, ∥∥₁_map}
 use Rattle.std.specs.FinMap as finite
 use Rattle.store.specs.Database.{Database, history_at}
 use Rattle.tree.specs.History.{HistoryContent}
-use Rattle.sqlite_value.specs.Order.{Row}
 use Rattle.sqlite.specs.Held.{Held, state}
 use Rattle.tables.specs.Rows.{is_of, shown_revision}
 use Rattle.tables.specs.Schema.{revs_tree}

@@ -4,7 +4,6 @@ use Rattle.std.specs.FinMap as finite
 use Rattle.store.specs.Contents.{local_at}
 use Rattle.store.specs.Database.{Database}
 use Rattle.store.specs.declared.local_document.LocalDocument.{LocalDocument}
-use Rattle.sqlite_value.specs.Order.{Row}
 use Rattle.sqlite.specs.Held.{Held, state}
 use Rattle.tables.specs.Rows.{is_of, shown_local}
 use Rattle.tables.specs.Schema.{locals_tree}

@@ -1,4 +1,4 @@
-use Rattle.std.proofs.Common.{◌≡◌, ◌∙◌, filter, map}
+use Rattle.std.proofs.Common.{◌≡◌, ◌∙◌, map}
 use Rattle.sqlite_keyed.specs.Lists.{sort_by}
 use Rattle.sqlite_trees.specs.Props.{rows_set}
 use Rattle.tables.specs.Rows.{by_name, shown_name}

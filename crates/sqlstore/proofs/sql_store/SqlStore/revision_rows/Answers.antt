@@ -1,4 +1,4 @@
-use Rattle.std.proofs.Common.{◌≡◌, ◌∙◌, filter, map, IsPermutation}
+use Rattle.std.proofs.Common.{◌∙◌, filter, map, IsPermutation}
 use Rattle.std.proofs.Math.Logic.{∥∥₁_prop}
 use Rattle.tables.specs.Rows.{is_of, shown_revision}
 use Rattle.tables.specs.Schema.{revs_tree}

@@ -1,0 +1,50 @@
+-- The name of a database is ASCII, and the rows of the names.
+use base.Stored.{Coded-set}
+use Rattle.std.proofs.Common.{◌≡◌, ◌<◌, ℕ, true, List, [], ◌∷◌, map, Option, Some, IsTrue, refl, sym, ap, subst, ◌∙◌, arith}
+use Rattle.std.specs.Coded.{coded_list, coded_option, coded_ℕ}
+use Rattle.std.specs.FinMap as finite
+use Rattle.std.specs.List.{AllByRecursion, list_all}
+use Rattle.std.specs.Str.{IsAscii, IsUtf8}
+use Rattle.std.proofs.lemmas.Bool.{and_parts}
+use Rattle.std.proofs.lemmas.Cmp.{nat_list_cmp_total, on_total}
+use Rattle.std.proofs.lemmas.List.Sorted.{IsPermutation-sym}
+use Rattle.std.proofs.lemmas.Str.{IsUtf8-from_ascii}
+use Rattle.std.proofs.lemmas.Str.Ascii.{IsAscii-nil, IsAscii-cons}
+use Rattle.store.specs.DatabaseName.{is_database_name, is_name_byte}
+use Rattle.sqlite_value.specs.Order.{Row, column}
+use Rattle.sqlite_trees.specs.Tree.{Trees}
+use Rattle.sqlite_trees.proofs.ListLemmas.{all-permutation}
+use Rattle.sqlite_keyed.specs.Lists.{sort_by}
+use Rattle.sqlite_keyed.proofs.ListLemmas.{all_weaker, map-map}
+use Rattle.sqlite_keyed.proofs.SortLemmas.{IsPermutation-sort_by}
+use Rattle.tables.specs.Layout.{IsDatabaseRow, IsLaid}
+use Rattle.tables.specs.Rows.{by_name, contents_in, name_of, shown_name}
+use Rattle.tables.specs.Schema.{dbs_tree}
+use Rattle.tables.proofs.Lookups.{names_found}
+use Rattle.sqlstore.specs.Reading.{IsShownName, name_shown}
+use Rattle.sqlstore.proofs.Answering.{all_shown}
+
+small : (b : ℕ) → is_name_byte b ≡ true → b < 128
+small b h = grind arith
+
+ascii_bytes : (bs : List ℕ) → list_all is_name_byte bs ≡ true → IsAscii bs
+ascii_bytes [] h = IsAscii-nil
+ascii_bytes (b ∷ bs) h = let parts = and_parts (is_name_byte b) (list_all is_name_byte bs) h in IsAscii-cons b bs (small b parts.0) (ascii_bytes bs parts.1)
+
+pub name_is_text : (bs : List ℕ) → IsTrue (is_database_name bs) → IsUtf8 bs
+name_is_text bs h = IsUtf8-from_ascii bs (ascii_bytes bs (and_parts _ (list_all is_name_byte bs) h).1)
+
+-- the rows of the names are intact, and say them in order
+shown_row : (r : Row) → IsDatabaseRow r → IsShownName (shown_name r)
+shown_row r h = record { width = refl; name = ap (λ x. column x 2) h.is; lawful = h.named }
+
+pub names_intact : (trees : Trees) (rows : List Row) → IsLaid trees → rows ≡ map shown_name (sort_by by_name (trees dbs_tree)) → AllByRecursion IsShownName rows
+names_intact trees rows l is =
+    subst (AllByRecursion IsShownName) (sym is)
+    (all_shown IsShownName shown_name _ (all-permutation (λ r. IsShownName (shown_name r)) (trees dbs_tree) _ (IsPermutation-sym _ _ (IsPermutation-sort_by by_name (on_total name_of nat_list_cmp_total) (trees dbs_tree))) (all_weaker IsDatabaseRow (λ r. IsShownName (shown_name r)) shown_row _ l.dbs)))
+
+pub names_set : IsSet (Option (List (List ℕ)))
+names_set = Coded-set (coded_option (coded_list (coded_list coded_ℕ)))
+
+pub names_there : (trees : Trees) (rows : List Row) → IsLaid trees → rows ≡ map shown_name (sort_by by_name (trees dbs_tree)) → Some (finite.keys (contents_in trees)) ≡ Some (map name_shown rows)
+names_there trees rows l is = ap Some (names_found trees l ∙ sym (map-map name_shown shown_name _) ∙ ap (map name_shown) (sym is))
