@@ -1,5 +1,5 @@
 -- The rows of the documents of a database, and what they say in a listing.
-use Rattle.std.proofs.Common.{◌≡◌, ◌≢◌, ℕ, ◌+◌, ◌-◌, ℤ, Bool, true, false, not, cond, List, [], ◌∷◌, ◌++◌, length, map, filter, count_by, Option, Some, None, option_map, option_to_list, Ordering, is_eq, bytes_eq, nat_cmp, refl, sym, ap, ap₂, ◌∙◌, arith}
+use Rattle.std.proofs.Common.{◌≡◌, ◌≢◌, ℕ, ◌+◌, ◌-◌, ℤ, Bool, true, false, not, cond, IsUtf8, List, [], ◌∷◌, ◌++◌, length, map, filter, count_by, Option, Some, None, option_map, option_to_list, Ordering, is_eq, bytes_eq, nat_cmp, refl, sym, ap, ap₂, ◌∙◌, arith}
 use Rattle.std.proofs.lemmas.Cmp.{nat_cmp_total, nat_list_cmp_total, on_total}
 use Rattle.std.proofs.lemmas.List.{length-map}
 use Rattle.std.proofs.lemmas.List.Sorted.{length_permutation, sum_by-IsPermutation}
@@ -18,17 +18,18 @@ use Rattle.store.specs.Pages as pages
 use Rattle.store.specs.Pages.{SequenceRow, document_counts, gone_count, in_sequence, is_gone_by, live_count, live_rev, live_rev_by, put_in_sequence, rows_of, with_row}
 use Rattle.store.specs.declared.page.IdRow.{IdRow}
 use Rattle.store.proofs.Pagings.{no_length}
-use Rattle.sqlite_value.specs.Order.{Row}
+use Rattle.sqlite_value.specs.Order.{Row, column}
 use Rattle.sqlite_trees.specs.Tree.{Trees, IsAscending}
 use Rattle.sqlite_keyed.specs.Lists.{sort_by}
 use Rattle.sqlite_keyed.proofs.KeyedLemmas.{same_int}
 use Rattle.sqlite_keyed.proofs.ListLemmas.{all_both, all_of, all_weaker, all-filter, ascending_weaker, map-map}
 use Rattle.sqlite_keyed.proofs.SortLemmas.{IsPermutation-sort_by}
 use Rattle.tables.specs.Layout.{IsDocumentRow, IsLaid, IsRevisionRow}
-use Rattle.tables.specs.Listings.{leaves_row, listed_counts, listed_mark, live_row, live_rows, sequence_row}
-use Rattle.tables.specs.Rows.{by_id, by_sequence, database_of, db_of, document_of, history_in, id_of, is_gone, is_in, listed_document, number_of, sequence_of, winner_text}
+use Rattle.tables.specs.Listings.{IsListedDocument, leaves_row, listed_counts, listed_mark, live_row, live_rows, sequence_row}
+use Rattle.tables.specs.Rows.{by_id, by_sequence, database_of, db_of, document_of, history_in, id_of, is_gone, is_in, listed_document, number_of, sequence_of, shown_document, winner_text}
 use Rattle.tables.specs.Schema.{docs_tree, revs_tree}
-use Rattle.tables.proofs.Laid.{known_lawful, same_texts, winner_known}
+use Rattle.tables.specs.Shown.{IsShownDocument}
+use Rattle.tables.proofs.Laid.{known_lawful, same_texts, shown_documents, winner_known}
 use Rattle.tables.proofs.ListingOrders.{ascending_within, entries_by_key, map_sorted}
 use Rattle.tables.proofs.RowMaps.{text_exact}
 use Rattle.tables.proofs.Single.{fails}
@@ -244,3 +245,11 @@ module _ (trees : Trees) (d : Row) (h : IsLaid trees) where
       (all_weaker (λ r. IsDocumentRow trees r × (is_in (number_of d) r ≡ true)) (λ r. pages.row_of true (id_of r, document_of (trees revs_tree) r) ≡ leaves_row (trees revs_tree) (number_of d) (listed_document r))
       (λ r k. leaves_one (trees revs_tree) (number_of d) r (same_int (db_of r) (number_of d) k.1) (marked trees r k.0)) (sort_by by_sequence mine) ordered_are)
       ∙ sym (map-map (leaves_row (trees revs_tree) (number_of d)) listed_document (sort_by by_sequence mine))
+
+-- ---- rows are laid out as a list shows them
+
+pub rows_of_a_listing : (trees : Trees) → IsLaid trees → AllByRecursion (λ r. IsUtf8 (id_of r) → IsListedDocument (listed_document r)) (trees docs_tree)
+rows_of_a_listing trees h =
+    all_both (IsDocumentRow trees) (λ r. IsShownDocument (shown_document r)) (λ r. IsUtf8 (id_of r) → IsListedDocument (listed_document r))
+    (λ r k shown text. record { width = refl; id = (id_of r, k.named, text, ap (λ x. column x 2) k.is); sequence = shown.sequence; winner = shown.winner; mark = shown.mark })
+    (trees docs_tree) h.docs (shown_documents trees h)
