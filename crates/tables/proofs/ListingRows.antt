@@ -146,7 +146,7 @@ counts_by_sequence trees d h = listed_documents trees d h by_sequence (on_total 
 -- a row of a page, where the winner is not deleted
 live_one : (h : HistoryContent) (r : Row) (rest : List IdRow) → winner h ≡ revision_read (winner_text r) → pages.is_gone h ≡ is_gone r
     → with_row (id_of r) (live_rev h) rest ≡ option_to_list (live_row (listed_document r)) ++ rest
-live_one h r rest won marked = go (winner h) refl (sym won)
+live_one h r rest spells mark = go (winner h) refl (sym spells)
   where
     turned : (w : Revision) (b : Bool) → with_row (id_of r) (cond b None (Some w)) rest ≡ option_to_list (cond b None (Some (record { id = id_of r; rev = w }))) ++ rest
     turned w true = refl
@@ -164,7 +164,7 @@ live_one h r rest won marked = go (winner h) refl (sym won)
         none false = refl
     go (Some w) is read =
         ap (λ o. with_row (id_of r) (live_rev_by h o) rest) is
-        ∙ ap (λ b. with_row (id_of r) (cond b None (Some w)) rest) (sym (ap (is_gone_by h) is) ∙ marked)
+        ∙ ap (λ b. with_row (id_of r) (cond b None (Some w)) rest) (sym (ap (is_gone_by h) is) ∙ mark)
         ∙ turned w (is_gone r) ∙ sym (ap (λ o. spelled o (is_gone r)) (read ∙ is))
 
 live_all : (trees : Trees) (rows : List Row) → AllByRecursion (IsRevisionRow trees) (trees revs_tree) → AllByRecursion (IsDocumentRow trees) rows
@@ -183,11 +183,11 @@ live_by_id trees d h = ap pages.live_rows (documents_by_id trees d h) ∙ live_a
 
 sequence_one : (h : HistoryContent) (r : Row) → winner h ≡ revision_read (winner_text r) → pages.is_gone h ≡ is_gone r
     → pages.row_of false (id_of r, record { sequence = sequence_of r; history = h }) ≡ sequence_row (listed_document r)
-sequence_one h r won marked = λ i. record { sequence = sequence_of r; id = id_of r; revs = option_to_list (won i); deleted = marked i }
+sequence_one h r spells mark = λ i. record { sequence = sequence_of r; id = id_of r; revs = option_to_list (spells i); deleted = mark i }
 
 leaves_one : (revs : List Row) (db : ℤ) (r : Row) → db_of r ≡ db → pages.is_gone (history_in revs (db_of r) (id_of r)) ≡ is_gone r
     → pages.row_of true (id_of r, document_of revs r) ≡ leaves_row revs db (listed_document r)
-leaves_one revs db r own marked = λ i. record { sequence = sequence_of r; id = id_of r; revs = leaves (history_in revs (own i) (id_of r)); deleted = marked i }
+leaves_one revs db r own mark = λ i. record { sequence = sequence_of r; id = id_of r; revs = leaves (history_in revs (own i) (id_of r)); deleted = mark i }
 
 module _ (all : Bool) (document : Row → Document) (at : (r : Row) → (document r).sequence ≡ sequence_of r) where
   abbrev page_row : Row → SequenceRow
