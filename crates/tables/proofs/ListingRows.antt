@@ -1,5 +1,5 @@
 -- The rows of the documents of a database, and what they say in a listing.
-use Rattle.std.proofs.Common.{◌≡◌, ◌≢◌, ℕ, ◌+◌, ◌-◌, ℤ, Bool, true, false, not, cond, IsUtf8, List, [], ◌∷◌, ◌++◌, length, map, filter, count_by, Option, Some, None, option_map, option_to_list, Ordering, is_eq, bytes_eq, nat_cmp, refl, sym, ap, ap₂, ◌∙◌, arith}
+use Rattle.std.proofs.Common.{◌≡◌, ◌≢◌, ℕ, ◌+◌, ◌-◌, ℤ, Bool, true, false, not, cond, List, [], ◌∷◌, ◌++◌, length, map, filter, count_by, Option, Some, None, option_map, option_to_list, Ordering, is_eq, bytes_eq, nat_cmp, refl, sym, ap, ap₂, ◌∙◌, arith}
 use Rattle.std.proofs.lemmas.Cmp.{nat_cmp_total, nat_list_cmp_total, on_total}
 use Rattle.std.proofs.lemmas.List.{length-map}
 use Rattle.std.proofs.lemmas.List.Sorted.{length_permutation, sum_by-IsPermutation}
@@ -248,8 +248,8 @@ module _ (trees : Trees) (d : Row) (h : IsLaid trees) where
 
 -- ---- rows are laid out as a list shows them
 
-pub rows_of_a_listing : (trees : Trees) → IsLaid trees → AllByRecursion (λ r. IsUtf8 (id_of r) → IsListedDocument (listed_document r)) (trees docs_tree)
+pub rows_of_a_listing : (trees : Trees) → IsLaid trees → AllByRecursion (λ r. IsListedDocument (listed_document r)) (trees docs_tree)
 rows_of_a_listing trees h =
-    all_both (IsDocumentRow trees) (λ r. IsShownDocument (shown_document r)) (λ r. IsUtf8 (id_of r) → IsListedDocument (listed_document r))
-    (λ r k shown text. record { width = refl; id = (id_of r, k.named, text, ap (λ x. column x 2) k.is); sequence = shown.sequence; winner = shown.winner; mark = shown.mark })
+    all_both (IsDocumentRow trees) (λ r. IsShownDocument (shown_document r)) (λ r. IsListedDocument (listed_document r))
+    (λ r k shown. record { width = refl; id = (id_of r, k.named, k.text, ap (λ x. column x 2) k.is); sequence = shown.sequence; winner = shown.winner; mark = shown.mark })
     (trees docs_tree) h.docs (shown_documents trees h)

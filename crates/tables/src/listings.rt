@@ -1,7 +1,7 @@
 //! What the rows of the documents of a database say as the rows of its pages. Each function has an
 //! empty body: its contract is the law.
 
-ghost use Rattle.std.specs.Prelude.{◌≡◌, IsUtf8, false, filter, map, not, true};
+ghost use Rattle.std.specs.Prelude.{◌≡◌, false, filter, map, not, true};
 ghost use Rattle.std.specs.FinMap.{entries};
 ghost use Rattle.std.specs.List.{AllByRecursion, count_by};
 ghost use Rattle.store.specs.Pages as store;
@@ -47,7 +47,7 @@ pub fn documents_by_sequence()
         → store.in_sequence (store.rows_of true (entries (database_of trees d).documents)) ≡ map (leaves_row (trees revs_tree) (number_of d)) (map listed_document (sort_by by_sequence (filter (is_in (number_of d)) (trees docs_tree)))) }
 {}
 
-/// No reader of a listed row finds it damaged where the tables are laid out, if its id is a text.
+/// No reader of a listed row finds it damaged where the tables are laid out.
 pub fn rows_of_a_listing()
-    ensures { (trees : Trees) → IsLaid trees → AllByRecursion (λ r. IsUtf8 (id_of r) → IsListedDocument (listed_document r)) (trees docs_tree) }
+    ensures { (trees : Trees) → IsLaid trees → AllByRecursion (λ r. IsListedDocument (listed_document r)) (trees docs_tree) }
 {}
