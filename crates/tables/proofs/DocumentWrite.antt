@@ -105,6 +105,7 @@ module _ (t u : Trees) (laid : IsLaid t) (name : List ℕ) (r : Row) (w : Docume
     is = k.is;
     there = number_still (db_of x) k.there;
     named = k.named;
+    text = k.text;
     positive = k.positive;
     within = λ d is.
         let was = dbs.later t laid name r ok.found sequence (db_of x) d (omega arith) (ap (λ rows. database_at rows (db_of x)) (sym after.dbs) ∙ is) in
@@ -122,6 +123,7 @@ module _ (t u : Trees) (laid : IsLaid t) (name : List ℕ) (r : Row) (w : Docume
     is = ap (λ b. document_row (number_of row) db w.id (pos sequence) (text_of best) b) (sym (flag_again gone));
     there = number_still db (number_there t laid name r ok.found);
     named = ok.storable.named;
+    text = ok.storable.text;
     positive = omega arith;
     within = λ d is. let now = dbs.now_at t laid name r ok.found sequence d (ap (λ rows. database_at rows db) (sym after.dbs) ∙ is) in omega (arith, now);
     won = ap (λ (h : HistoryContent). option_map text_of (winner h)) own_history ∙ ap (option_map text_of) best_is;

@@ -1,6 +1,6 @@
 -- What a write of the code brings: the revisions of its own path that are not known, since all that stands behind its parent is known and so lawful.
 use Rattle.std.proofs.Common.{◌≡◌, ◌≤◌, ℕ, ℤ, zero, suc, Bool, true, false, not, cond, List, [], ◌∷◌, ◌++◌, filter, Option, Some, None, refl, ap, ◌∙◌, arith, leb-true}
-use Rattle.std.specs.Prelude.{IsTrue}
+use Rattle.std.specs.Prelude.{IsTrue, IsUtf8}
 use Rattle.std.specs.List.{AllByRecursion}
 use Rattle.couch_json.specs.Lawful as json
 use Rattle.tree.specs.DocumentId.{is_document_id}
@@ -54,12 +54,13 @@ all_lawful : (h : HistoryContent) (rs : List Revision) → AllKnown h rs → ((q
 all_lawful h [] known lawful = tt
 all_lawful h (r ∷ rs) known lawful = (lawful r known.0, all_lawful h rs known.1 lawful)
 
-pub storable_addition : (trees : Trees) (db : ℤ) (a : Addition) → IsLaid trees → IsTrue (is_document_id a.id) → AllByRecursion (λ v. IsTrue (is_revision v)) a.path → json.IsLawful a.body
+pub storable_addition : (trees : Trees) (db : ℤ) (a : Addition) → IsLaid trees → IsTrue (is_document_id a.id) → IsUtf8 a.id → AllByRecursion (λ v. IsTrue (is_revision v)) a.path → json.IsLawful a.body
     → IsStorable (written_in (history_in (trees revs_tree) db a.id) a)
-storable_addition trees db a laid named path body =
+storable_addition trees db a laid named text path body =
     let h : HistoryContent = history_in (trees revs_tree) db a.id in
     record {
       named = named;
+      text = text;
       revisions = all-append (λ (v : Revision). IsTrue (is_revision v)) a.path (behind h a.parent) path (all_lawful h (behind h a.parent) (behind_known h a.parent) (λ q. known_lawful trees (trees revs_tree) db a.id q laid.revs));
       body = body;
     }

@@ -18,17 +18,18 @@ use Rattle.store.specs.Pages as pages
 use Rattle.store.specs.Pages.{SequenceRow, document_counts, gone_count, in_sequence, is_gone_by, live_count, live_rev, live_rev_by, put_in_sequence, rows_of, with_row}
 use Rattle.store.specs.declared.page.IdRow.{IdRow}
 use Rattle.store.proofs.Pagings.{no_length}
-use Rattle.sqlite_value.specs.Order.{Row}
+use Rattle.sqlite_value.specs.Order.{Row, column}
 use Rattle.sqlite_trees.specs.Tree.{Trees, IsAscending}
 use Rattle.sqlite_keyed.specs.Lists.{sort_by}
 use Rattle.sqlite_keyed.proofs.KeyedLemmas.{same_int}
 use Rattle.sqlite_keyed.proofs.ListLemmas.{all_both, all_of, all_weaker, all-filter, ascending_weaker, map-map}
 use Rattle.sqlite_keyed.proofs.SortLemmas.{IsPermutation-sort_by}
 use Rattle.tables.specs.Layout.{IsDocumentRow, IsLaid, IsRevisionRow}
-use Rattle.tables.specs.Listings.{leaves_row, listed_counts, listed_mark, live_row, live_rows, sequence_row}
-use Rattle.tables.specs.Rows.{by_id, by_sequence, database_of, db_of, document_of, history_in, id_of, is_gone, is_in, listed_document, number_of, sequence_of, winner_text}
+use Rattle.tables.specs.Listings.{IsListedDocument, leaves_row, listed_counts, listed_mark, live_row, live_rows, sequence_row}
+use Rattle.tables.specs.Rows.{by_id, by_sequence, database_of, db_of, document_of, history_in, id_of, is_gone, is_in, listed_document, number_of, sequence_of, shown_document, winner_text}
 use Rattle.tables.specs.Schema.{docs_tree, revs_tree}
-use Rattle.tables.proofs.Laid.{known_lawful, same_texts, winner_known}
+use Rattle.tables.specs.Shown.{IsShownDocument}
+use Rattle.tables.proofs.Laid.{known_lawful, same_texts, shown_documents, winner_known}
 use Rattle.tables.proofs.ListingOrders.{ascending_within, entries_by_key, map_sorted}
 use Rattle.tables.proofs.RowMaps.{text_exact}
 use Rattle.tables.proofs.Single.{fails}
@@ -145,7 +146,7 @@ counts_by_sequence trees d h = listed_documents trees d h by_sequence (on_total 
 -- a row of a page, where the winner is not deleted
 live_one : (h : HistoryContent) (r : Row) (rest : List IdRow) → winner h ≡ revision_read (winner_text r) → pages.is_gone h ≡ is_gone r
     → with_row (id_of r) (live_rev h) rest ≡ option_to_list (live_row (listed_document r)) ++ rest
-live_one h r rest won marked = go (winner h) refl (sym won)
+live_one h r rest spells mark = go (winner h) refl (sym spells)
   where
     turned : (w : Revision) (b : Bool) → with_row (id_of r) (cond b None (Some w)) rest ≡ option_to_list (cond b None (Some (record { id = id_of r; rev = w }))) ++ rest
     turned w true = refl
@@ -163,7 +164,7 @@ live_one h r rest won marked = go (winner h) refl (sym won)
         none false = refl
     go (Some w) is read =
         ap (λ o. with_row (id_of r) (live_rev_by h o) rest) is
-        ∙ ap (λ b. with_row (id_of r) (cond b None (Some w)) rest) (sym (ap (is_gone_by h) is) ∙ marked)
+        ∙ ap (λ b. with_row (id_of r) (cond b None (Some w)) rest) (sym (ap (is_gone_by h) is) ∙ mark)
         ∙ turned w (is_gone r) ∙ sym (ap (λ o. spelled o (is_gone r)) (read ∙ is))
 
 live_all : (trees : Trees) (rows : List Row) → AllByRecursion (IsRevisionRow trees) (trees revs_tree) → AllByRecursion (IsDocumentRow trees) rows
@@ -182,11 +183,11 @@ live_by_id trees d h = ap pages.live_rows (documents_by_id trees d h) ∙ live_a
 
 sequence_one : (h : HistoryContent) (r : Row) → winner h ≡ revision_read (winner_text r) → pages.is_gone h ≡ is_gone r
     → pages.row_of false (id_of r, record { sequence = sequence_of r; history = h }) ≡ sequence_row (listed_document r)
-sequence_one h r won marked = λ i. record { sequence = sequence_of r; id = id_of r; revs = option_to_list (won i); deleted = marked i }
+sequence_one h r spells mark = λ i. record { sequence = sequence_of r; id = id_of r; revs = option_to_list (spells i); deleted = mark i }
 
 leaves_one : (revs : List Row) (db : ℤ) (r : Row) → db_of r ≡ db → pages.is_gone (history_in revs (db_of r) (id_of r)) ≡ is_gone r
     → pages.row_of true (id_of r, document_of revs r) ≡ leaves_row revs db (listed_document r)
-leaves_one revs db r own marked = λ i. record { sequence = sequence_of r; id = id_of r; revs = leaves (history_in revs (own i) (id_of r)); deleted = marked i }
+leaves_one revs db r own mark = λ i. record { sequence = sequence_of r; id = id_of r; revs = leaves (history_in revs (own i) (id_of r)); deleted = mark i }
 
 module _ (all : Bool) (document : Row → Document) (at : (r : Row) → (document r).sequence ≡ sequence_of r) where
   abbrev page_row : Row → SequenceRow
@@ -244,3 +245,11 @@ module _ (trees : Trees) (d : Row) (h : IsLaid trees) where
       (all_weaker (λ r. IsDocumentRow trees r × (is_in (number_of d) r ≡ true)) (λ r. pages.row_of true (id_of r, document_of (trees revs_tree) r) ≡ leaves_row (trees revs_tree) (number_of d) (listed_document r))
       (λ r k. leaves_one (trees revs_tree) (number_of d) r (same_int (db_of r) (number_of d) k.1) (marked trees r k.0)) (sort_by by_sequence mine) ordered_are)
       ∙ sym (map-map (leaves_row (trees revs_tree) (number_of d)) listed_document (sort_by by_sequence mine))
+
+-- ---- rows are laid out as a list shows them
+
+pub rows_of_a_listing : (trees : Trees) → IsLaid trees → AllByRecursion (λ r. IsListedDocument (listed_document r)) (trees docs_tree)
+rows_of_a_listing trees h =
+    all_both (IsDocumentRow trees) (λ r. IsShownDocument (shown_document r)) (λ r. IsListedDocument (listed_document r))
+    (λ r k shown. record { width = refl; id = (id_of r, k.named, k.text, ap (λ x. column x 2) k.is); sequence = shown.sequence; winner = shown.winner; mark = shown.mark })
+    (trees docs_tree) h.docs (shown_documents trees h)

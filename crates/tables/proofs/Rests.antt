@@ -65,6 +65,7 @@ module _ (old new : Trees) where
     is = k.is;
     there = number_kept (old dbs_tree) (new dbs_tree) (db_of r) same k.there;
     named = k.named;
+    text = k.text;
     positive = k.positive;
     within = λ d. within_kept (database_at (old dbs_tree) (db_of r)) (database_at (new dbs_tree) (db_of r)) d (sequence_of r) same k.within;
     won = subst (λ (h : HistoryContent). option_map text_of (winner h) ≡ Some (winner_text r)) (sym history) k.won;

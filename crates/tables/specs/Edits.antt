@@ -1,6 +1,6 @@
 -- One write of a document, done as statements: its new revisions are put in one after another, and then the document's row and its database's are replaced.
 -- This server's own layout; when a write may be done, and what it makes of the database, is said by `store`.
-use Rattle.std.specs.Prelude.{◌≡◌, ◌+◌, ◌<◌, ◌^◌, ℕ, ℤ, pos, not, IsTrue, List, [], ◌∷◌, filter, slice_get, length, Some}
+use Rattle.std.specs.Prelude.{◌≡◌, ◌+◌, ◌<◌, ◌^◌, ℕ, ℤ, pos, not, IsTrue, IsUtf8, List, [], ◌∷◌, filter, slice_get, length, Some}
 use Rattle.std.specs.FinMap.{insert}
 use Rattle.std.specs.List.{AllByRecursion}
 use Rattle.couch_json.specs.Lawful as json
@@ -43,6 +43,7 @@ history_after trees r w = with_write (history_before trees r w) w.write
 -- rows can say what the write says
 pub record IsStorable (w : DocumentWrite) : Type 0 where
   pub named : IsTrue (is_document_id w.id)
+  pub text : IsUtf8 w.id
   pub revisions : AllByRecursion (λ v. IsTrue (is_revision v)) w.write.path
   pub body : json.IsLawful w.write.body
 

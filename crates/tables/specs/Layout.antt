@@ -1,6 +1,6 @@
 -- When the rows of the tables are laid out as this server lays them out.
 -- This server's own: what an opened file is held to, and what each write keeps.
-use Rattle.std.specs.Prelude.{◌≡◌, ◌≢◌, ◌≤◌, ◌<◌, ◌^◌, ◌↔◌, IsTrue, ℤ, pos, ◌<ℤ◌, List, [], ◌∷◌, find, Option, Some, None, option_map}
+use Rattle.std.specs.Prelude.{◌≡◌, ◌≢◌, ◌≤◌, ◌<◌, ◌^◌, ◌↔◌, IsTrue, IsUtf8, ℤ, pos, ◌<ℤ◌, List, [], ◌∷◌, find, Option, Some, None, option_map}
 use Rattle.std.specs.List.{AllByRecursion, list_any}
 use Rattle.std.specs.Ordering.{int_eq}
 use Rattle.couch_json.specs.Canonical.{canonical}
@@ -62,6 +62,7 @@ pub record IsDocumentRow (trees : Trees) (r : Row) : Type 0 where
   pub is : r ≡ document_row (number_of r) (db_of r) (id_of r) (pos (sequence_of r)) (winner_text r) (is_gone r)
   pub there : IsDatabaseNumber trees (db_of r)
   pub named : IsTrue (is_document_id (id_of r))
+  pub text : IsUtf8 (id_of r)
   pub positive : 1 ≤ sequence_of r
   pub within : (d : Row) → database_at (trees dbs_tree) (db_of r) ≡ Some d → sequence_of r ≤ length_of d
   pub won : option_map text_of (winner (history_in (trees revs_tree) (db_of r) (id_of r))) ≡ Some (winner_text r)

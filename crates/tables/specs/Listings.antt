@@ -1,15 +1,19 @@
 -- What the rows that a list of documents shows say, each as a row of a page.
 -- This server's own layout, over `Pages` of `store`.
-use Rattle.std.specs.Prelude.{ℕ, ℤ, Bool, not, if◌then◌else◌, List, flat_map, Option, None, option_map}
+use Rattle.std.specs.Prelude.{◌≡◌, ℕ, ℤ, Bool, not, if◌then◌else◌, IsTrue, IsUtf8, List, length, flat_map, Option, None, option_map}
 use Rattle.std.specs.List.{count_by}
 use Rattle.std.specs.Option.{option_to_list}
+use Rattle.tree.specs.DocumentId.{is_document_id}
 use Rattle.tree.specs.History.{leaves}
 use Rattle.tree.specs.Revision.{Revision, revision_read}
 use Rattle.store.specs.Pages.{SequenceRow}
 use Rattle.store.specs.declared.page.DocumentCounts.{DocumentCounts}
 use Rattle.store.specs.declared.page.IdRow.{IdRow}
+use Rattle.sqlite_value.specs.declared.value.Value.{Value}
+use Rattle.sqlite_value.specs.declared.value.Value.TheVariants.{Blob}
 use Rattle.sqlite_value.specs.Order.{Row, bytes, column}
 use Rattle.tables.specs.Rows.{count_in, history_in, is_set}
+use Rattle.tables.specs.Shown.{IsCount, SpellsRevision}
 
 -- the cells of such a row: the id, the sequence, the winner and whether it is deleted
 abbrev pub listed_id : Row → List ℕ
@@ -42,3 +46,16 @@ leaves_row revs db s = record { sequence = listed_sequence s; id = listed_id s; 
 -- how many of the winners are deleted, and how many are not
 abbrev pub listed_counts : List Row → DocumentCounts
 listed_counts rows = record { documents = count_by (λ s. not (listed_mark s)) rows; deleted = count_by listed_mark rows }
+
+-- ---- when a row is such a row
+
+-- the id of a document, as a text
+abbrev pub SpellsId : Value → Type 0
+SpellsId v = (id : List ℕ) × IsTrue (is_document_id id) × IsUtf8 id × (v ≡ Blob id)
+
+pub record IsListedDocument (s : Row) : Type 0 where
+  pub width : length s ≡ 4
+  pub id : SpellsId (column s 0)
+  pub sequence : IsCount (column s 1)
+  pub winner : SpellsRevision (column s 2)
+  pub mark : IsCount (column s 3)

@@ -1,11 +1,12 @@
 //! Rows that a query shows, as what they say.
 
-ghost use Rattle.std.specs.Prelude.{◌≡◌, ◌<◌, length, Err, IfOk, option_map};
+ghost use Rattle.std.specs.Prelude.{◌≡◌, ◌<◌, length, Err, IfOk, Some, option_map};
 ghost use Rattle.couch_json.specs.View.{view};
 ghost use Rattle.sqlite_value.specs.Order.{bytes, column};
 ghost use Rattle.sqlite_value.specs.declared.value.Value.TheVariants.{Text};
-ghost use Rattle.tree.specs.Revision.{text_of};
+ghost use Rattle.tree.specs.Revision.{revision_read, text_of};
 ghost use Rattle.tables.specs.Rows.{count_in, is_set, json_in, parent_in, whole_in};
+ghost use Rattle.tables.specs.Listings.{IsListedDocument, SpellsId, listed_id, listed_mark, listed_sequence, listed_winner};
 ghost use Rattle.tables.specs.Shown.{IsCount, IsShownDatabase, IsShownDocument, IsShownLocal, IsShownRevision, IsSmall, IsWhole, ShowsHeld, SpellsHash, SpellsHashOf, SpellsJson, SpellsParentOf, SpellsRevision, held_shown, local_shown, parent_shown, revision_shown};
 
 use couch_json::{Json, JsonFault};
@@ -15,7 +16,7 @@ use std::alloc::Global;
 use std::str;
 use store::LocalDocument;
 use thiserror::Error as ErrorDerive;
-use tree::{Body, Rev};
+use tree::{Body, DocId, IdFault, Rev};
 
 /// Why a row was not read.
 #[derive(Clone, Copy, Debug, PartialEq, Eq, ErrorDerive)]
@@ -31,6 +32,19 @@ pub enum RowFault {
 /// The row of a document, as a query shows it.
 #[derive(Clone, Copy)]
 pub struct FoundDocument {
+    /// The sequence of its latest write.
+    pub sequence: u64,
+    /// Its best revision.
+    pub winner: Rev,
+    /// Whether that is deleted.
+    pub deleted: bool,
+}
+
+/// The row of a document, as a list of them shows it.
+#[derive(Drop)]
+pub struct ListedDocument {
+    /// Its id.
+    pub id: DocId,
     /// The sequence of its latest write.
     pub sequence: u64,
     /// Its best revision.
@@ -85,6 +99,7 @@ fn count_at(row: &Row, at: usize) -> Result<u64, RowFault>
 
 fn revision_at(row: &Row, at: usize) -> Result<Rev, RowFault>
     ensures ok { IfOk result (λ r. text_of r ≡ bytes (column row.now at)) }
+    ensures read { IfOk result (λ r. revision_read (bytes (column row.now at)) ≡ Some r) }
     ensures damaged { result ≡ Err RowFault.Damaged → at < length row.now → ¬ (SpellsRevision (column row.now at)) }
 {
     let Ok(ValueRef::Text(text)) = row.get_ref(at) else {
@@ -93,6 +108,23 @@ fn revision_at(row: &Row, at: usize) -> Result<Rev, RowFault>
     match Rev::parse(text) {
         Some(rev) => Ok(rev),
         None => Err(RowFault::Damaged),
+    }
+}
+
+fn id_at(alloc: Global, row: &Row, at: usize) -> Result<DocId, RowFault>
+    ensures ok { IfOk result (λ id. id ≡ bytes (column row.now at)) }
+    ensures damaged { result ≡ Err RowFault.Damaged → at < length row.now → ¬ (SpellsId (column row.now at)) }
+{
+    let Ok(ValueRef::Blob(text)) = row.get_ref(at) else {
+        return Err(RowFault::Damaged);
+    };
+    let Ok(text) = str::from_utf8(text) else {
+        return Err(RowFault::Damaged);
+    };
+    match DocId::new(alloc, text) {
+        Ok(id) => Ok(id),
+        Err(IdFault::Memory) => Err(RowFault::Memory),
+        Err(IdFault::Shape) => Err(RowFault::Damaged),
     }
 }
 
@@ -202,6 +234,26 @@ pub fn read_document(row: &Row) -> Result<FoundDocument, RowFault>
     let winner = revision_at(row, 1)?;
     let deleted = count_at(row, 2)? > 0;
     Ok(FoundDocument {
+        sequence,
+        winner,
+        deleted,
+    })
+}
+
+/// Reads what a row of `rows_by_id` or `rows_by_sequence` shows.
+pub fn read_listed_document(alloc: Global, row: &Row) -> Result<ListedDocument, RowFault>
+    ensures id { IfOk result (λ d. d.id ≡ listed_id row.now) }
+    ensures sequence { IfOk result (λ d. d.sequence ≡ listed_sequence row.now) }
+    ensures winner { IfOk result (λ d. listed_winner row.now ≡ Some d.winner) }
+    ensures deleted { IfOk result (λ d. d.deleted ≡ listed_mark row.now) }
+    ensures damaged { result ≡ Err RowFault.Damaged → ¬ (IsListedDocument row.now) }
+{
+    let sequence = count_at(row, 1)?;
+    let winner = revision_at(row, 2)?;
+    let deleted = count_at(row, 3)? > 0;
+    let id = id_at(alloc, row, 0)?;
+    Ok(ListedDocument {
+        id,
         sequence,
         winner,
         deleted,

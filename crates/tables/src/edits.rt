@@ -1,6 +1,6 @@
 //! What writes of documents, done as statements, make of the tables. Each function has an empty body: its contract is the law.
 
-ghost use Rattle.std.specs.Prelude.{◌≡◌, ◌+◌, ◌<◌, ◌^◌, ◌++◌, ◌∷◌, [], ℕ, ℤ, pos, IsTrue, List, None, Some, filter, if◌then◌else◌, length, not, slice_get};
+ghost use Rattle.std.specs.Prelude.{◌≡◌, ◌+◌, ◌<◌, ◌^◌, ◌++◌, ◌∷◌, [], ℕ, ℤ, pos, IsTrue, IsUtf8, List, None, Some, filter, if◌then◌else◌, length, not, slice_get};
 ghost use Rattle.std.specs.FinMap as map;
 ghost use Rattle.std.specs.List.{AllByRecursion};
 ghost use Rattle.couch_json.specs.Lawful.{IsLawful};
@@ -34,7 +34,7 @@ pub fn new_revisions()
 /// Rows can say what a write of the code says: what it brings itself is lawful, and so is all that
 /// the rows know.
 pub fn storable_writes()
-    ensures { (trees : Trees) (db : ℤ) (a : Addition) → IsLaid trees → IsTrue (is_document_id a.id) → AllByRecursion (λ v. IsTrue (is_revision v)) a.path
+    ensures { (trees : Trees) (db : ℤ) (a : Addition) → IsLaid trees → IsTrue (is_document_id a.id) → IsUtf8 a.id → AllByRecursion (λ v. IsTrue (is_revision v)) a.path
         → IsLawful a.body → IsStorable (written_in (history_in (trees revs_tree) db a.id) a) }
 {}
 

@@ -16,7 +16,7 @@ mod statement;
 
 pub use create::create_tables;
 pub use decode::{
-    FoundDatabase, FoundDocument, FoundRevision, RowFault, read_database, read_document,
-    read_local, read_revision,
+    FoundDatabase, FoundDocument, FoundRevision, ListedDocument, RowFault, read_database,
+    read_document, read_listed_document, read_local, read_revision,
 };
 pub use meta::{FoundTables, is_first_version, tables_in};

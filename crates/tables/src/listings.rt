@@ -3,13 +3,13 @@
 
 ghost use Rattle.std.specs.Prelude.{◌≡◌, false, filter, map, not, true};
 ghost use Rattle.std.specs.FinMap.{entries};
-ghost use Rattle.std.specs.List.{count_by};
+ghost use Rattle.std.specs.List.{AllByRecursion, count_by};
 ghost use Rattle.store.specs.Pages as store;
 ghost use Rattle.sqlite_keyed.specs.Lists.{sort_by};
 ghost use Rattle.sqlite_trees.specs.Tree.{Trees};
 ghost use Rattle.sqlite_value.specs.Order.{Row};
 ghost use Rattle.tables.specs.Layout.{IsLaid};
-ghost use Rattle.tables.specs.Listings.{leaves_row, listed_counts, live_rows, sequence_row};
+ghost use Rattle.tables.specs.Listings.{IsListedDocument, leaves_row, listed_counts, live_rows, sequence_row};
 ghost use Rattle.tables.specs.Rows.{by_id, by_sequence, database_of, document_of, id_of, is_gone, is_in, listed_document, number_of};
 ghost use Rattle.tables.specs.Schema.{docs_tree, revs_tree};
 
@@ -45,4 +45,9 @@ pub fn documents_by_sequence()
         → store.in_sequence (store.rows_of false (entries (database_of trees d).documents)) ≡ map sequence_row (map listed_document (sort_by by_sequence (filter (is_in (number_of d)) (trees docs_tree)))) }
     ensures leaves { (trees : Trees) (d : Row) → IsLaid trees
         → store.in_sequence (store.rows_of true (entries (database_of trees d).documents)) ≡ map (leaves_row (trees revs_tree) (number_of d)) (map listed_document (sort_by by_sequence (filter (is_in (number_of d)) (trees docs_tree)))) }
+{}
+
+/// No reader of a listed row finds it damaged where the tables are laid out.
+pub fn rows_of_a_listing()
+    ensures { (trees : Trees) → IsLaid trees → AllByRecursion (λ r. IsListedDocument (listed_document r)) (trees docs_tree) }
 {}
