@@ -21,6 +21,14 @@ pub mod Inserts
 pub mod Clears
 pub mod Makes
 pub mod Names
+pub mod DocumentWriteSteps
+pub mod DocumentWriteEntries
+pub mod DocumentWriteHistories
+pub mod DocumentWriteDatabases
+pub mod DocumentWriteDocuments
+pub mod DocumentWrite
+pub mod DocumentWrites
+pub mod DocumentWriteNews
 pub mod Replaces
 pub mod MetaStatements
 pub mod Laid

@@ -17,6 +17,7 @@ use Rattle.sqlite_keyed.proofs.WriteLemmas.{removes_delete}
 use Rattle.std.proofs.lemmas.List.Sorted.{list_any-IsPermutation, IsPermutation-map}
 use Rattle.tables.specs.Layout.{AreNumbered, AreKeyed}
 use Rattle.tables.specs.Rows.{number_of, whole_in}
+use Rattle.tables.proofs.RowMaps.{filter_both}
 
 pub same_whole : (v : Value) → id_in v ≡ whole_in v
 same_whole Null = refl
@@ -53,15 +54,6 @@ pub filter_on : (p q : Row → Bool) (rows : List Row) → AllByRecursion (λ r.
 filter_on p q [] all = refl
 filter_on p q (r ∷ rows) all = ap₂ (λ b l. cond b (r ∷ l) l) all.0 (filter_on p q rows all.1)
 
-filter_twice : (p q : Row → Bool) (rows : List Row) → filter p (filter q rows) ≡ filter (λ r. q r && p r) rows
-filter_twice p q [] = refl
-filter_twice p q (r ∷ rows) = go (q r) (filter_twice p q rows)
-  where
-    go : (b : Bool) → filter p (filter q rows) ≡ filter (λ s. q s && p s) rows
-        → filter p (cond b (r ∷ filter q rows) (filter q rows)) ≡ cond (b && p r) (r ∷ filter (λ s. q s && p s) rows) (filter (λ s. q s && p s) rows)
-    go true more = ap (λ l. cond (p r) (r ∷ l) l) more
-    go false more = more
-
 neither : (a b : Bool) → (not a && not b) ≡ not (a || b)
 neither true b = refl
 neither false b = refl
@@ -70,7 +62,7 @@ neither false b = refl
 without_filter : (rows : List Row) (ids : List ℤ) → without_all rows ids ≡ filter (λ r. not (list_any (λ id. has_rowid id r) ids)) rows
 without_filter rows [] = sym (filter_all (λ r. true) rows (all_of (λ r. true ≡ true) (λ r. refl) rows))
 without_filter rows (id ∷ ids) =
-    without_filter (without_rowid id rows) ids ∙ filter_twice (λ r. not (list_any (λ i. has_rowid i r) ids)) (λ r. not (has_rowid id r)) rows
+    without_filter (without_rowid id rows) ids ∙ filter_both (λ r. not (list_any (λ i. has_rowid i r) ids)) (λ r. not (has_rowid id r)) rows
     ∙ filter_same _ _ (λ r. neither (has_rowid id r) (list_any (λ i. has_rowid i r) ids)) rows
 
 in_any_order : (rows : List Row) (ids others : List ℤ) → IsPermutation ids others → without_all rows ids ≡ without_all rows others

@@ -1,6 +1,6 @@
 -- Maps that are made of rows, where each row gives one entry: its key and its value.
 use Rattle.std.proofs.Common.{◌≡◌, ℕ, Bool, true, false, not, ◌&&◌, ◌||◌, cond, List, [], ◌∷◌, ◌++◌, map, filter, find, slice_get, Option, Some, None, is_some, option_map, Ordering, bytes_eq, nat_cmp, refl, sym, ap, ap₂, subst, ◌∙◌}
-use Rattle.std.proofs.lemmas.Bool.{both_ways, not_from_false}
+use Rattle.std.proofs.lemmas.Bool.{both_ways, false_from_ne_true, not_from_false}
 use Rattle.std.proofs.lemmas.Cmp.{nat_list_cmp_total}
 use Rattle.std.proofs.lemmas.List.{map-append}
 use Rattle.std.proofs.lemmas.Map.Text.{is_eq-slice_cmp}
@@ -93,12 +93,8 @@ pub one_test : {A : Type 0} (p q : A → Bool) (w : A) (rows : List A) → IsAsc
 one_test p q w [] apart alone is passes = tt
 one_test {A} p q w (r ∷ rows) apart alone is passes = go (p r) refl (q r) refl is (one_test p q w rows apart.1 alone.1)
   where
-    fails : (b : Bool) → (b ≡ true → ⊥) → b ≡ false
-    fails true h = absurd (h refl)
-    fails false h = refl
-
     none : (t : A → Bool) → t r ≡ true → AllByRecursion (λ s. t r ≡ true → t s ≡ true → ⊥) rows → AllByRecursion (λ s. t s ≡ false) rows
-    none t here = all_weaker (λ s. t r ≡ true → t s ≡ true → ⊥) (λ s. t s ≡ false) (λ s h. fails (t s) (h here)) rows
+    none t here = all_weaker (λ s. t r ≡ true → t s ≡ true → ⊥) (λ s. t s ≡ false) (λ s h. false_from_ne_true (t s) (h here)) rows
 
     both : (b : Bool) → p r ≡ b → q r ≡ b → AllByRecursion (λ s. p s ≡ q s) rows → AllByRecursion (λ s. p s ≡ q s) (r ∷ rows)
     both b x y more = (x ∙ sym y, more)
@@ -231,12 +227,8 @@ module _ {A K : Type 0} {R : K → K → Ordering} (total : IsTotalOrder R) (exa
           other : at q r ≡ true → at k r ≡ true → ⊥
           other is here = both_ways (at q r) (at_other q k r apart here) is
 
-          fails : (b : Bool) → (b ≡ true → ⊥) → b ≡ false
-          fails true h = absurd (h refl)
-          fails false h = refl
-
           go : (b : Bool) → at q r ≡ b → option_map w (find (at q) rows) ≡ option_map v (find (at q) rows) → option_map w (cond b (Some r) (find (at q) rows)) ≡ option_map v (cond b (Some r) (find (at q) rows))
-          go true is more = ap Some (all.0.1 (fails (at k r) (other is)))
+          go true is more = ap Some (all.0.1 (false_from_ne_true (at k r) (other is)))
           go false is more = more
 
       -- where the rows of a key have another value, it is inserted

@@ -3,6 +3,7 @@ pub mod Rows
 pub mod Causes
 pub mod Steps
 pub mod Layout
+pub mod Edits
 pub mod Calls
 pub mod Shown
 pub mod Presence

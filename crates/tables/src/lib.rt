@@ -6,6 +6,7 @@ mod create;
 pub mod databases;
 mod decode;
 pub mod documents;
+pub mod edits;
 pub mod laws;
 pub mod locals;
 mod meta;

@@ -1,0 +1,65 @@
+-- What a write of the code brings: the revisions of its own path that are not known, since all that stands behind its parent is known and so lawful.
+use Rattle.std.proofs.Common.{◌≡◌, ◌≤◌, ℕ, ℤ, zero, suc, Bool, true, false, not, cond, List, [], ◌∷◌, ◌++◌, filter, Option, Some, None, refl, ap, ◌∙◌, arith, leb-true}
+use Rattle.std.specs.Prelude.{IsTrue}
+use Rattle.std.specs.List.{AllByRecursion}
+use Rattle.couch_json.specs.Lawful as json
+use Rattle.tree.specs.DocumentId.{is_document_id}
+use Rattle.tree.specs.History.{HistoryContent, is_known, parent_of, path_entries, line, onward, behind}
+use Rattle.tree.specs.Nodes.{entries_before, next_of}
+use Rattle.tree.specs.Revision.{Revision, is_revision}
+use Rattle.tree.specs.Write.{head}
+use Rattle.tree.specs.declared.entry.Entry.{Entry}
+use Rattle.tree.specs.declared.entry.Held.{Held}
+use Rattle.tree.proofs.Behind.{AllKnown, behind_known}
+use Rattle.tree.proofs.RevisionText.{parts}
+use Rattle.store.specs.Writing.{Addition, written_in}
+use Rattle.sqlite_trees.specs.Tree.{Trees}
+use Rattle.sqlite_keyed.proofs.ListLemmas.{all-append}
+use Rattle.tables.specs.Edits.{IsStorable, new_entries}
+use Rattle.tables.specs.Layout.{IsLaid}
+use Rattle.tables.specs.Rows.{history_in}
+use Rattle.tables.specs.Schema.{revs_tree}
+use Rattle.tables.proofs.Laid.{known_lawful}
+
+module _ (h : HistoryContent) where
+  abbrev is_new : Revision × Entry → Bool
+  is_new e = not (is_known h e.0)
+
+  none_new : (d : Option Held) (tail : List Revision) → AllKnown h tail → filter is_new (path_entries d tail) ≡ []
+  none_new d [] known = refl
+  none_new d (r ∷ tail) known = ap (λ b. cond (not b) ((r, record { parent = head tail; held = d }) ∷ filter is_new (path_entries None tail)) (filter is_new (path_entries None tail))) known.0 ∙ none_new None tail known.1
+
+  next-append : (path tail : List Revision) → head (path ++ tail) ≡ next_of path (head tail)
+  next-append [] tail = refl
+  next-append (r ∷ path) tail = refl
+
+  new_in_front : (d : Option Held) (path tail : List Revision) → AllKnown h tail → filter is_new (path_entries d (path ++ tail)) ≡ filter is_new (entries_before d path (head tail))
+  new_in_front d [] tail known = none_new d tail known
+  new_in_front d (r ∷ path) tail known =
+      ap (λ (o : Option Revision). cond (is_new (r, record { parent = o; held = d })) ((r, record { parent = o; held = d }) ∷ filter is_new (path_entries None (path ++ tail))) (filter is_new (path_entries None (path ++ tail)))) (next-append path tail)
+      ∙ ap (λ es. cond (is_new (r, record { parent = next_of path (head tail); held = d })) ((r, record { parent = next_of path (head tail); held = d }) ∷ es) es) (new_in_front None path tail known)
+
+pub news_of_addition : (h : HistoryContent) (a : Addition) → new_entries h (written_in h a).write ≡ filter (λ e. not (is_known h e.0)) (entries_before (Some (record { deleted = a.deleted; body = a.body })) a.path (head (behind h a.parent)))
+news_of_addition h a = new_in_front h (Some (record { deleted = a.deleted; body = a.body })) a.path (behind h a.parent) (behind_known h a.parent)
+
+-- the last of the path follows the parent where that is known, and else nothing
+pub known_parent : (h : HistoryContent) (p : Revision) → IsTrue (is_revision p) → head (behind h (Some p)) ≡ cond (is_known h p) (Some p) None
+known_parent h p lawful = by p.number (leb-true 1 p.number (parts _ _ (parts _ _ lawful).0).0)
+  where
+    by : (n : ℕ) → 1 ≤ n → head (line h n p) ≡ cond (is_known h p) (Some p) None
+    by zero low = absurd (omega arith)
+    by (suc n) low = elim (is_known h p) as (λ b. head (cond b (p ∷ onward (λ q. line h n q) (parent_of h p)) []) ≡ cond b (Some p) None) [ true ↦ refl | false ↦ refl ]
+
+all_lawful : (h : HistoryContent) (rs : List Revision) → AllKnown h rs → ((q : Revision) → is_known h q ≡ true → is_revision q ≡ true) → AllByRecursion (λ v. IsTrue (is_revision v)) rs
+all_lawful h [] known lawful = tt
+all_lawful h (r ∷ rs) known lawful = (lawful r known.0, all_lawful h rs known.1 lawful)
+
+pub storable_addition : (trees : Trees) (db : ℤ) (a : Addition) → IsLaid trees → IsTrue (is_document_id a.id) → AllByRecursion (λ v. IsTrue (is_revision v)) a.path → json.IsLawful a.body
+    → IsStorable (written_in (history_in (trees revs_tree) db a.id) a)
+storable_addition trees db a laid named path body =
+    let h : HistoryContent = history_in (trees revs_tree) db a.id in
+    record {
+      named = named;
+      revisions = all-append (λ (v : Revision). IsTrue (is_revision v)) a.path (behind h a.parent) path (all_lawful h (behind h a.parent) (behind_known h a.parent) (λ q. known_lawful trees (trees revs_tree) db a.id q laid.revs));
+      body = body;
+    }

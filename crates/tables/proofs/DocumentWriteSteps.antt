@@ -1,0 +1,79 @@
+-- Revisions that are put in one after another are one change, and what the statements of a write make of all tables.
+use Rattle.std.proofs.Common.{◌≡◌, ◌≢◌, ◌+◌, ℕ, ℤ, pos, not, List, [], ◌∷◌, ◌++◌, filter, refl, sym, ap, subst, ◌∙◌, arith}
+use Rattle.std.specs.List.{AllByRecursion}
+use Rattle.sqlite_value.specs.Order.{Row}
+use Rattle.sqlite_schema.specs.declared.schema.Schema.{Schema}
+use Rattle.sqlite_keyed.proofs.ListLemmas.{all_of, all_both}
+use Rattle.sqlite_trees.specs.Tree.{Trees}
+use Rattle.sqlite.specs.Effect.{Database}
+use Rattle.store.specs.Database.{DocumentWrite}
+use Rattle.tree.specs.History.{is_deleted, held_of}
+use Rattle.tree.specs.Revision.{Revision, text_of}
+use Rattle.tree.specs.declared.entry.Entry.{Entry}
+use Rattle.tables.specs.Edits.{AreInserted, IsWrite, with_revisions, new_entries, history_before, history_after}
+use Rattle.tables.specs.Layout.{AreKeyed}
+use Rattle.tables.specs.Rows.{number_of, length_of, is_of, with_cells, document_cells, revision_cells, rows_at_sequence}
+use Rattle.tables.specs.Schema.{schema, meta_tree, dbs_tree, docs_tree, revs_tree, locals_tree}
+use Rattle.tables.specs.Steps.{Changes}
+use Rattle.tables.proofs.Kept.{keyed-with_cells}
+use Rattle.tables.proofs.Rests.{leaves}
+
+-- two changes of one table are one
+pub changes_then : (tree : ℕ) (mid now : List Row) (a b c : Database) → Changes tree mid a b → Changes tree now b c → Changes tree now a c
+changes_then tree mid now a b c h k =
+    let later = subst (λ (s : Schema). AllByRecursion (λ t. t.tree ≢ tree → c.trees t.tree ≡ b.trees t.tree) s.tables) h.schema k.others in
+    record {
+      schema = k.schema ∙ h.schema;
+      rows = k.rows;
+      others = all_both (λ t. t.tree ≢ tree → b.trees t.tree ≡ a.trees t.tree) (λ t. t.tree ≢ tree → c.trees t.tree ≡ b.trees t.tree) (λ t. t.tree ≢ tree → c.trees t.tree ≡ a.trees t.tree)
+          (λ t before after apart. after apart ∙ before apart) a.schema.tables h.others later;
+    }
+
+unchanged : (tree : ℕ) (a : Database) → Changes tree (a.trees tree) a a
+unchanged tree a = record { schema = refl; rows = refl; others = all_of (λ t. t.tree ≢ tree → a.trees t.tree ≡ a.trees t.tree) (λ t apart. refl) a.schema.tables }
+
+pub revisions_changed : (es : List (Revision × Entry)) (db : ℤ) (id : List ℕ) (a c : Database) → AreInserted es db id a c → Changes revs_tree (with_revisions (a.trees revs_tree) db id es) a c
+revisions_changed [] db id a c same = subst (Changes revs_tree (a.trees revs_tree) a) same (unchanged revs_tree a)
+revisions_changed (e ∷ es) db id a c h =
+    changes_then revs_tree _ _ a h.0 c h.1
+    (subst (λ (rows : List Row). Changes revs_tree (with_revisions rows db id es) h.0 c) h.1.rows (revisions_changed es db id h.0 c h.2))
+
+pub inserted_more : (es : List (Revision × Entry)) (e : Revision × Entry) (db : ℤ) (id : List ℕ) (a b c : Database) → AreInserted es db id a b → Changes revs_tree (with_cells (b.trees revs_tree) (revision_cells db id e.0 e.1)) b c
+    → AreInserted (es ++ e ∷ []) db id a c
+inserted_more [] e db id a b c same h = (c, subst (λ (x : Database). Changes revs_tree (with_cells (x.trees revs_tree) (revision_cells db id e.0 e.1)) x c) (sym same) h, refl)
+inserted_more (f ∷ es) e db id a b c h k = (h.0, h.1, inserted_more es e db id h.0 b c h.2 k)
+
+pub keyed-with_revisions : (es : List (Revision × Entry)) (rows : List Row) (db : ℤ) (id : List ℕ) → AreKeyed rows → AreKeyed (with_revisions rows db id es)
+keyed-with_revisions [] rows db id h = h
+keyed-with_revisions (e ∷ es) rows db id h = keyed-with_revisions es (with_cells rows (revision_cells db id e.0 e.1)) db id (keyed-with_cells rows db id _ h)
+
+pub inserted_fit : (es : List (Revision × Entry)) (db : ℤ) (id : List ℕ) (a c : Database) → AreInserted es db id a c → AreKeyed (a.trees revs_tree) → AreKeyed (c.trees revs_tree)
+inserted_fit es db id a c h fit = subst AreKeyed (sym (revisions_changed es db id a c h).rows) (keyed-with_revisions es (a.trees revs_tree) db id fit)
+
+-- the tables after a write, by those before it
+pub record IsAfter (t u : Trees) (r : Row) (w : DocumentWrite) (best : Revision) : Type 0 where
+  pub meta : u meta_tree ≡ t meta_tree
+  pub dbs : u dbs_tree ≡ rows_at_sequence (number_of r) (pos (length_of r + 1)) (t dbs_tree)
+  pub docs : u docs_tree
+      ≡ with_cells (filter (λ x. not (is_of (number_of r) w.id x)) (t docs_tree)) (document_cells (number_of r) w.id (pos (length_of r + 1)) (text_of best) (is_deleted (held_of (history_after t r w) best)))
+  pub revs : u revs_tree ≡ with_revisions (t revs_tree) (number_of r) w.id (new_entries (history_before t r w) w.write)
+  pub locals : u locals_tree ≡ t locals_tree
+
+pub written : (r : Row) (w : DocumentWrite) (a e : Database) → a.schema ≡ schema → (h : IsWrite r w a e) → IsAfter a.trees e.trees r w h.best
+written r w a e is h =
+    let one = revisions_changed (new_entries (history_before a.trees r w) w.write) (number_of r) w.id a h.inserted h.revisions in
+    let schema_b = one.schema ∙ is in
+    let schema_c = h.removes.schema ∙ schema_b in
+    let schema_d = h.places.schema ∙ schema_c in
+    let b = leaves revs_tree _ a h.inserted is one in
+    let c = leaves docs_tree _ h.inserted h.removed schema_b h.removes in
+    let d = leaves docs_tree _ h.removed h.placed schema_c h.places in
+    let f = leaves dbs_tree _ h.placed e schema_d h.advances in
+    let cells = document_cells (number_of r) w.id (pos (length_of r + 1)) (text_of h.best) (is_deleted (held_of (history_after a.trees r w) h.best)) in
+    record {
+      meta = f.meta (omega arith) ∙ d.meta (omega arith) ∙ c.meta (omega arith) ∙ b.meta (omega arith);
+      dbs = h.advances.rows ∙ ap (rows_at_sequence (number_of r) (pos (length_of r + 1))) (d.dbs (omega arith) ∙ c.dbs (omega arith) ∙ b.dbs (omega arith));
+      docs = f.docs (omega arith) ∙ h.places.rows ∙ ap (λ rows. with_cells rows cells) (h.removes.rows ∙ ap (filter (λ x. not (is_of (number_of r) w.id x))) (b.docs (omega arith)));
+      revs = f.revs (omega arith) ∙ d.revs (omega arith) ∙ c.revs (omega arith) ∙ one.rows;
+      locals = f.locals (omega arith) ∙ d.locals (omega arith) ∙ c.locals (omega arith) ∙ b.locals (omega arith);
+    }
