@@ -10,6 +10,7 @@ pub mod edits;
 pub mod laws;
 pub mod locals;
 mod meta;
+pub mod reads_in;
 pub mod revisions;
 mod statement;
 
