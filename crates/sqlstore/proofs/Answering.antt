@@ -108,9 +108,10 @@ module _ {S : Type 0} (g : Ghosts S) where
 -- the rows that the query of a database shows are intact, and say what is found
 pub database_read : {S : Type 0} (g : Ghosts S) (s : SqlStore S g) (name : List ℕ) (rows : List Row) → is_honest g s → rows ≡ map shown_database (filter (is_named name) (trees_of g s dbs_tree))
     → (¬ ¬ AllByRecursion IsShownDatabase rows) × (option_map found_in (slice_get (filter (is_named name) (trees_of g s dbs_tree)) 0) ≡ option_map found_shown (slice_get rows 0))
-database_read g s name rows honest is =
-    (λ none. ∥∥₁_elim (laid g s honest) (λ p q. absurd p) (λ l. none (subst (AllByRecursion IsShownDatabase) (sym is) (all_shown IsShownDatabase shown_database _ (all_left _ (is_named name) _ (shown_databases _ l))))),
-    first_shown shown_database found_shown found_in (λ r. refl) _ ∙ ap (λ l. option_map found_shown (slice_get l 0)) (sym is))
+database_read g s name rows honest is = (
+  λ none. ∥∥₁_elim (laid g s honest) (λ p q. absurd p) (λ l. none (subst (AllByRecursion IsShownDatabase) (sym is) (all_shown IsShownDatabase shown_database _ (all_left _ (is_named name) _ (shown_databases _ l))))),
+  first_shown shown_database found_shown found_in (λ r. refl) _ ∙ ap (λ l. option_map found_shown (slice_get l 0)) (sym is),
+)
 
 pub at_first : (P : Row → Type 0) (rows : List Row) (r : Row) → AllByRecursion P rows → slice_get rows 0 ≡ Some r → P r
 at_first P [] r all is = absurd (cc)

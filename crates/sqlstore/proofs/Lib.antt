@@ -1,3 +1,4 @@
 pub mod Standing
 pub mod Tables
 pub mod Answering
+pub mod Inserting

@@ -2,3 +2,4 @@ pub mod Causes
 pub mod Standing
 pub mod Model
 pub mod Reading
+pub mod Inserting

@@ -1,12 +1,13 @@
 //! The store of databases over SQLite tables.
 #![tactic(auto)]
 
+mod document_write;
 mod fault;
 mod open_fault;
 mod opening;
 mod shown;
-mod transactions;
 mod sql_store;
+mod transactions;
 
 pub use open_fault::OpenFault;
 pub use sql_store::SqlStore;

@@ -29,10 +29,7 @@ pub(crate) fn first_database(alloc: Global, rows: &[Row]) -> Result<FoundDatabas
 }
 
 /// Reads the local document of the first row, if there is one.
-pub(crate) fn first_local(
-    alloc: Global,
-    rows: &[Row],
-) -> Result<Option<LocalDocument>, StoreFault>
+pub(crate) fn first_local(alloc: Global, rows: &[Row]) -> Result<Option<LocalDocument>, StoreFault>
     ensures { IsRead (λ found. found) (Some (option_map local_shown (slice_get rows.now 0))) (AllByRecursion IsShownLocal rows.now) result }
 {
     let Some(row) = rows.first() else {
