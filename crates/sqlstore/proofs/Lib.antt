@@ -2,3 +2,4 @@ pub mod Standing
 pub mod Tables
 pub mod Answering
 pub mod Inserting
+pub mod DocumentWriting

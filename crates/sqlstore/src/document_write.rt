@@ -1,15 +1,18 @@
 //! One write of a document, as statements of a transaction.
 
-ghost use Rattle.std.specs.Prelude.{◌≡◌, ◌∷◌, [], None, Some, IfOk, OnOk, string_bytes};
+ghost use Rattle.std.specs.Prelude.{◌≡◌, ◌+◌, ◌∷◌, [], pos, None, Some, IfOk, OnOk, string_bytes};
 ghost use Rattle.couch_json.specs.View.{view};
 ghost use Rattle.sqlite.specs.Held.{state};
 ghost use Rattle.sqlite.specs.State.{HasCleanDisk};
 ghost use Rattle.sqlite.specs.Values.{or_null};
 ghost use Rattle.sqlite_value.specs.declared.value.Value.TheVariants.{Text};
 ghost use Rattle.tables.specs.Calls.{Proceeds, Stays};
-ghost use Rattle.tables.specs.Layout.{AreKeyed};
-ghost use Rattle.tables.specs.Rows.{parent_cell};
-ghost use Rattle.tables.specs.Schema.{docs_tree, schema};
+ghost use Rattle.store.specs.Writing.{addition_of, written_in};
+ghost use Rattle.sqlite_value.specs.Order.{Row};
+ghost use Rattle.tables.specs.Edits.{IsWrite};
+ghost use Rattle.tables.specs.Layout.{AreKeyed, IsStore};
+ghost use Rattle.tables.specs.Rows.{history_in, length_of, number_of, parent_cell};
+ghost use Rattle.tables.specs.Schema.{docs_tree, revs_tree, schema};
 ghost use Rattle.tree.specs.History.{behind, held_of, is_deleted};
 ghost use Rattle.tree.specs.Nodes.{entries_before, next_of};
 ghost use Rattle.tree.specs.Write.{head};
@@ -18,6 +21,8 @@ ghost use Rattle.sqlstore.specs.Inserting.{InsertsAll, IsBest, IsPlaced, unknown
 use couch_json::{Json, canon};
 use sqlite::{Alter, Error, ErrorCode, Transaction};
 use std::alloc::Global;
+use store::Write;
+use tables::databases::advance_database;
 use tables::documents::{delete_document, insert_document};
 use tables::revisions::insert_revision;
 use tree::{History, Rev};
@@ -206,4 +211,42 @@ fn known_parent(history: &History, parent: &Option<Rev>) -> Option<Rev>
     };
     prove!(rev.number() > 0);
     if history.knows(rev) { Some(*rev) } else { None }
+}
+
+/// Does one write of a document, whose history is as it is before the write.
+pub(crate) fn add_write<S: Alter>(
+    tx: &mut Transaction<'_, S>,
+    db: &i64,
+    sequence: &i64,
+    history: &mut History,
+    write: &Write,
+    alloc: Global,
+) -> Result<(), Error>
+    ensures same_reference { tx.new.conn.ghost_name ≡ tx.old.conn.ghost_name }
+    ensures ok { (r : Row) → HasCleanDisk (state S.Store tx.new.conn.now) → IsStore (state S.Store tx.old.conn.now).now
+        → history.old ≡ history_in ((state S.Store tx.old.conn.now).now.trees revs_tree) (number_of r) (addition_of write.now).id
+        → db.now ≡ number_of r → sequence.now ≡ pos (length_of r + 1)
+        → OnOk result (IsWrite r (written_in history.old (addition_of write.now)) (state S.Store tx.old.conn.now).now (state S.Store tx.new.conn.now).now) }
+    ensures inside { Stays S.Store tx.old.conn.now tx.new.conn.now result }
+    ensures proceeds { Proceeds S.Store tx.old.conn.now tx.new.conn.now }
+{
+    let id = write.id.as_str().as_bytes();
+    let parent = known_parent(history, &write.parent);
+    insert_path(
+        tx,
+        db,
+        id,
+        history,
+        &write.path,
+        &parent,
+        write.deleted,
+        &write.body,
+        alloc,
+    )?;
+    let Ok(()) = history.put(&write.path, write.parent, write.deleted, &write.body) else {
+        return Err(Error::SqliteFailure(ErrorCode::OutOfMemory));
+    };
+    let (text, deleted) = best_of(history, alloc)?;
+    replace_document(tx, db, id, sequence, text.as_str(), deleted)?;
+    advance_database(tx, db, sequence)
 }

@@ -40,10 +40,9 @@ returns-clause-answer g c =
     let found = there trees c.args.name.now _ (c.in_ok-found.ensures.answer (was_honest g.S.Store mid end c.local_rows.ensures.stands honest)) in
     let shown = λ (id : List ℕ) (h : Held g.row.S.Denot). map shown_local (filter (is_of c.in_ok-found.found.number id) ((state g.S.Store h).now.trees locals_tree)) in
     let rows : c.deref.result.now ≡ shown c.args.id.now s.last.value =
-    c.deref.ensures.value ∙ c.in_ok-rows.ensures.ok honest ∙ ap (λ id. shown id mid.last.value) (c.as_bytes.ensures.value ∙ c.as_str.ensures.text) ∙ ap (shown c.args.id.now) c.find.ensures.stands.last in (
-      (λ none. ∥∥₁_elim (laid g.S.Store s (was_honest g.S.Store s end whole honest)) (λ p q. absurd p) (λ l. none (local_intact trees (is_of c.in_ok-found.found.number c.args.id.now) _ l rows))),
-      local_there trees c.args.name.now c.args.id.now _ _ found rows,
-    ))
+    c.deref.ensures.value ∙ c.in_ok-rows.ensures.ok honest ∙ ap (λ id. shown id mid.last.value) (c.as_bytes.ensures.value ∙ c.as_str.ensures.text) ∙ ap (shown c.args.id.now) c.find.ensures.stands.last in
+    ((λ none. ∥∥₁_elim (laid g.S.Store s (was_honest g.S.Store s end whole honest)) (λ p q. absurd p) (λ l. none (local_intact trees (is_of c.in_ok-found.found.number c.args.id.now) _ l rows))),
+    local_there trees c.args.name.now c.args.id.now _ _ found rows))
 
 pub returns-clause-reads : goal.returns-clause-reads
 returns-clause-reads g c =

@@ -25,10 +25,9 @@ returns-clause-answer g c =
     let trees = trees_of g.S.Store s in
     answered g.S.Store s c.find.new.self (λ v. v) _ _ _ c.read_security.result c.read_security.ensures
     (λ honest.
-    let found = there trees c.args.name.now _ (c.in_ok-found.ensures.answer honest) in (
-      (λ none. ∥∥₁_elim (laid g.S.Store s (was_honest g.S.Store s c.find.new.self c.find.ensures.stands honest)) (λ p q. absurd p) (λ l. none (security_intact trees c.args.name.now _ l found))),
-      security_there trees c.args.name.now _ found,
-    ))
+    let found = there trees c.args.name.now _ (c.in_ok-found.ensures.answer honest) in
+    ((λ none. ∥∥₁_elim (laid g.S.Store s (was_honest g.S.Store s c.find.new.self c.find.ensures.stands honest)) (λ p q. absurd p) (λ l. none (security_intact trees c.args.name.now _ l found))),
+    security_there trees c.args.name.now _ found))
 
 pub returns-clause-reads : goal.returns-clause-reads
 returns-clause-reads g c = reads g.S.Store c.args.self.now c.find.new.self c.find.ensures.stands
