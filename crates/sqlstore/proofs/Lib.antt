@@ -6,3 +6,5 @@ pub mod HistoryRows
 pub mod NameBytes
 pub mod Tables
 pub mod Answering
+pub mod Inserting
+pub mod DocumentWriting

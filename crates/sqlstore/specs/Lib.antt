@@ -3,3 +3,4 @@ pub mod Standing
 pub mod Model
 pub mod Reading
 pub mod Sequences
+pub mod Inserting

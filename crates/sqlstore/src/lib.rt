@@ -1,6 +1,7 @@
 //! The store of databases over SQLite tables.
 #![tactic(auto)]
 
+mod document_write;
 mod fault;
 mod histories;
 mod names;

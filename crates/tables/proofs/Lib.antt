@@ -1,5 +1,6 @@
 pub mod Creations
 pub mod Stays
+pub mod QueriesInside
 pub mod Numbered
 pub mod Writes
 pub mod Queries

@@ -46,6 +46,14 @@ Looks g old new = old.schema ≡ schema → steps.OnlyLooks (state g old) (state
 abbrev pub Asks : {S : Type 0} → Ghosts S → Held S → Held S → Type 0
 Asks g old new = steps.Asks (state g old) (state g new)
 
+-- in a transaction a query commits nothing
+abbrev pub LooksInside : {S : Type 0} → Ghosts S → Held S → Held S → Type 0
+LooksInside g old new = old.schema ≡ schema → steps.Proceeds (state g old) (state g new)
+
+-- and whatever the schema is, nothing is opened
+abbrev pub AsksInside : {S : Type 0} → Ghosts S → Held S → Held S → Type 0
+AsksInside g old new = steps.AsksInside (state g old) (state g new)
+
 -- and only an open connection answers
 abbrev pub IsServed : {S X E : Type 0} → Ghosts S → Held S → Held S → Result X E → Type 0
 IsServed g old new r = HasCleanDisk (state g new) → OnOk r (IsTrue (state g old).is_open)

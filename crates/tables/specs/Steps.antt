@@ -44,6 +44,11 @@ pub record Asks (old new : State) : Type 0 where
   pub mode : old.in_transaction ≡ false → new.in_transaction ≡ false
   pub limit : new.step_limit ≡ old.step_limit
 
+-- what a query of a transaction leaves whatever the schema is: what is open was open, and after a crash nothing of it is found
+pub record AsksInside (old new : State) : Type 0 where
+  pub was_open : HasCleanDisk new → IsTrue new.is_open → IsTrue old.is_open
+  pub survives : Survives old new (λ _. ⊥)
+
 -- the schema stays, one table has these rows now, and each other table has those that it had
 pub record Changes (tree : ℕ) (now : List Row) (old new : Database) : Type 0 where
   pub schema : new.schema ≡ old.schema

@@ -11,6 +11,7 @@ pub mod laws;
 pub mod listings;
 pub mod locals;
 mod meta;
+pub mod reads_in;
 pub mod revisions;
 mod statement;
 

@@ -1,4 +1,4 @@
-//! One statement at a time: a query of a connection, and a change in a transaction.
+//! One statement at a time: a query of a connection, and a query or a change in a transaction.
 
 ghost use Rattle.std.specs.Prelude.{◌≡◌, IfErr, IfOk, IsTrue, OnOk};
 ghost use Rattle.sqlite.specs.Given.{IsPlain};
@@ -6,7 +6,7 @@ ghost use Rattle.sqlite.specs.Held.{state};
 ghost use Rattle.sqlite.specs.Listing.{understood};
 ghost use Rattle.sqlite.specs.State.{FailsToQuery, HasCleanDisk, IsUnchanged, Shown};
 ghost use Rattle.sqlite.specs.Values.{bound};
-ghost use Rattle.tables.specs.Steps.{Asks, FailsToRun, OnlyLooks, Proceeds, Ran, StaysInside};
+ghost use Rattle.tables.specs.Steps.{Asks, AsksInside, FailsToRun, OnlyLooks, Proceeds, Ran, StaysInside};
 
 use sqlite::{Alter, Connection, Error, Row, Transaction};
 use sqlite_value::value::ValueRef;
@@ -47,4 +47,24 @@ pub(crate) fn query<S: Alter>(
     ensures served { HasCleanDisk (state S.Store conn.new) → OnOk result (IsTrue (state S.Store conn.old).is_open) }
 {
     conn.query_all(sql, params)
+}
+
+/// Returns all rows that a query shows in a transaction.
+pub(crate) fn query_in<S: Alter>(
+    tx: &mut Transaction<'_, S>,
+    sql: &str,
+    params: &[ValueRef<'_>],
+) -> Result<Vec<Row>, Error>
+    ensures same_reference { tx.new.conn.ghost_name ≡ tx.old.conn.ghost_name }
+    ensures ok { HasCleanDisk (state S.Store tx.new.conn.now)
+        → IfOk result (λ rows. Shown sql.now (bound params.now) (state S.Store tx.old.conn.now) (state S.Store tx.new.conn.now) rows.items) }
+    ensures err { IsPlain (understood tx.old.conn.now.schema sql.now) → HasCleanDisk (state S.Store tx.new.conn.now)
+        → IfErr result (FailsToQuery sql.now (bound params.now) (state S.Store tx.old.conn.now) (state S.Store tx.new.conn.now)) }
+    ensures stands { IsPlain (understood tx.old.conn.now.schema sql.now) → HasCleanDisk (state S.Store tx.new.conn.now)
+        → OnOk result (IsUnchanged (state S.Store tx.old.conn.now) (state S.Store tx.new.conn.now)) }
+    ensures proceeds { IsPlain (understood tx.old.conn.now.schema sql.now) → Proceeds (state S.Store tx.old.conn.now) (state S.Store tx.new.conn.now) }
+    ensures asks { AsksInside (state S.Store tx.old.conn.now) (state S.Store tx.new.conn.now) }
+    ensures served { HasCleanDisk (state S.Store tx.new.conn.now) → OnOk result (IsTrue (state S.Store tx.old.conn.now).is_open) }
+{
+    tx.query_all(sql, params)
 }

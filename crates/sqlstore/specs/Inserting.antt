@@ -1,0 +1,44 @@
+-- Revisions of a document that are put in one after another, as far as they have come.
+-- This server's own: what rows they make is said by `tables`.
+use Rattle.std.specs.Prelude.{◌≡◌, ℕ, ℤ, Bool, not, List, filter, Some, Result, OnOk}
+use Rattle.sqlite_trees.specs.declared.store.Store.{Ghosts}
+use Rattle.sqlite.specs.Effect.{Database}
+use Rattle.sqlite.specs.Held.{Held, state}
+use Rattle.sqlite.specs.State.{HasCleanDisk}
+use Rattle.tree.specs.History.{HistoryContent, held_of, is_deleted, is_known, winner}
+use Rattle.tree.specs.Revision.{Revision, text_of}
+use Rattle.tree.specs.declared.entry.Entry.{Entry}
+use Rattle.tables.specs.Edits.{AreInserted}
+use Rattle.tables.specs.Layout.{AreKeyed}
+use Rattle.tables.specs.Rows.{document_cells, is_of, with_cells}
+use Rattle.tables.specs.Schema.{docs_tree, revs_tree, schema}
+use Rattle.tables.specs.Steps.{Changes}
+
+-- those of the revisions that the history doesn't know
+abbrev pub unknown_in : HistoryContent → List (Revision × Entry) → List (Revision × Entry)
+unknown_in h es = filter (λ e. not (is_known h e.0)) es
+
+-- these revisions of a document are put in
+abbrev pub InsertsAll : {S X E : Type 0} → Ghosts S → List (Revision × Entry) → ℤ → List ℕ → Held S → Held S → Result X E → Type 0
+InsertsAll g es db id old new r =
+    HasCleanDisk (state g new) → old.schema ≡ schema → AreKeyed ((state g old).now.trees revs_tree)
+    → OnOk r (AreInserted es db id (state g old).now (state g new).now)
+
+-- the tables are fit for more, and what is left makes of them what all of it makes of those at the start
+pub record IsOnTheWay (all left : List (Revision × Entry)) (db : ℤ) (id : List ℕ) (old now : Database) : Type 0 where
+  pub schema_is : now.schema ≡ schema
+  pub fit : AreKeyed (now.trees revs_tree)
+  pub goes_on : (end : Database) → AreInserted left db id now end → AreInserted all db id old end
+
+-- the row of a document takes the place of the one of its id
+pub record IsPlaced (db : ℤ) (id : List ℕ) (sequence : ℤ) (winner : List ℕ) (deleted : Bool) (old new : Database) : Type 0 where
+  pub removed : Database
+  pub removes : Changes docs_tree (filter (λ r. not (is_of db id r)) (old.trees docs_tree)) old removed
+  pub places : Changes docs_tree (with_cells (removed.trees docs_tree) (document_cells db id sequence winner deleted)) removed new
+
+-- the text of the best revision, and whether that is deleted
+pub record IsBest (h : HistoryContent) (text : List ℕ) (deleted : Bool) : Type 0 where
+  pub best : Revision
+  pub best_is : winner h ≡ Some best
+  pub text_is : text ≡ text_of best
+  pub deleted_is : deleted ≡ is_deleted (held_of h best)
