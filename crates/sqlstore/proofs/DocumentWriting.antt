@@ -1,5 +1,5 @@
 -- One write of a document, by the statements that were run for it.
-use Rattle.std.proofs.Common.{◌≡◌, ◌≢◌, ◌+◌, ℕ, ℤ, pos, Bool, List, Option, Some, Result, Ok, Err, OnOk, sym, subst, ◌∙◌, arith}
+use Rattle.std.proofs.Common.{◌≡◌, ◌+◌, ℕ, ℤ, pos, Bool, List, Some, Result, Ok, Err, OnOk, sym, subst, ◌∙◌, arith}
 use Rattle.sqlite_value.specs.Order.{Row}
 use Rattle.sqlite.specs.Effect.{Database}
 use Rattle.tree.specs.History.{HistoryContent, behind, with_write}

@@ -1,5 +1,5 @@
 -- Revisions that are put in one after another.
-use Rattle.std.proofs.Common.{◌≡◌, ◌+◌, ◌<◌, ◌≤◌, suc, ℕ, ℤ, Bool, true, false, not, cond, List, [], ◌∷◌, ◌++◌, drop, filter, get_or, length, slice_get, Option, Some, None, Result, Ok, Err, OnOk, refl, sym, ap, subst, ◌∙◌, arith}
+use Rattle.std.proofs.Common.{◌≡◌, ◌+◌, ◌<◌, suc, ℕ, ℤ, Bool, true, false, not, cond, List, [], ◌∷◌, ◌++◌, drop, filter, get_or, length, slice_get, Option, Some, None, Result, Ok, Err, OnOk, refl, sym, ap, subst, ◌∙◌, arith}
 use Rattle.std.proofs.Math.Seq.{drop-cons}
 use Rattle.sqlite.specs.Effect.{Database}
 use Rattle.tree.specs.History.{HistoryContent, is_known}
@@ -8,9 +8,8 @@ use Rattle.tree.specs.Revision.{Revision}
 use Rattle.tree.specs.declared.entry.Entry.{Entry}
 use Rattle.tree.specs.declared.entry.Held.{Held}
 use Rattle.tables.specs.Edits.{AreInserted}
-use Rattle.tables.specs.Layout.{AreKeyed}
 use Rattle.tables.specs.Rows.{document_cells, is_of, revision_cells, with_cells}
-use Rattle.tables.specs.Schema.{docs_tree, revs_tree, schema}
+use Rattle.tables.specs.Schema.{docs_tree, revs_tree}
 use Rattle.tables.specs.Steps.{Changes}
 use Rattle.tables.proofs.DocumentWriteSteps.{inserted_fit, revisions_changed}
 use Rattle.sqlstore.specs.Inserting.{IsOnTheWay, IsPlaced, unknown_in}

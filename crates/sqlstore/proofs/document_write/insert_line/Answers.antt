@@ -1,4 +1,4 @@
-use Rattle.std.proofs.Common.{◌≡◌, ◌∙◌, ◌+◌, arith, ap}
+use Rattle.std.proofs.Common.{◌∙◌, ◌+◌, arith, ap}
 use Rattle.std.proofs.lemmas.List.{take_rest}
 use Rattle.sqlite.specs.Held.{state}
 use Rattle.sqlite.specs.State.{HasCleanDisk}
