@@ -4,6 +4,7 @@ use Rattle.sqlite.specs.Effect.{Database}
 use Rattle.sqlite_schema.specs.declared.schema.Schema.{Schema}
 use Rattle.tables.specs.Layout.{IsStore}
 use Rattle.tables.specs.Presence.{has_all}
+use Rattle.tables.specs.Schema.{schema}
 use Rattle.tables.specs.declared.meta.FoundTables.{FoundTables}
 use Rattle.tables.specs.declared.meta.FoundTables.TheVariants.{Nothing, Others, All}
 use Rattle.tables.proofs.Laid.{ours_has_all}
@@ -25,6 +26,12 @@ never_nothing db s found is store all nothing = go found (all (has_tables db s i
 
 pub never_others : (db : Database) (s : Schema) (found : FoundTables) → s ≡ db.schema → IsStore db → (has_all s ≡ true → found ≡ All) → found ≡ Others → ⊥
 never_others db s found is store all others = go found (all (has_tables db s is store)) others
+  where
+    go : (f : FoundTables) → f ≡ All → f ≡ Others → ⊥
+    go f a b = cc
+
+pub ours_never_others : (s : Schema) (found : FoundTables) → s ≡ schema → (has_all s ≡ true → found ≡ All) → found ≡ Others → ⊥
+ours_never_others s found is all others = go found (all (ap has_all is ∙ ours_has_all)) others
   where
     go : (f : FoundTables) → f ≡ All → f ≡ Others → ⊥
     go f a b = cc

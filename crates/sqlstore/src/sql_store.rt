@@ -56,9 +56,9 @@ impl<S: Alter + Drop> SqlStore<S> {
     ghost use Rattle.sqlite.specs.Held.{state};
     ghost use Rattle.sqlite.specs.State.{HasCleanDisk};
     ghost use Rattle.tables.specs.Layout.{IsStore};
-    ghost use Rattle.tables.specs.Presence.{has_all};
+    ghost use Rattle.tables.specs.Presence.{has_all, has_any, is_first};
     ghost use Rattle.tables.specs.Rows.{contents_in};
-    ghost use Rattle.tables.specs.Schema.{no_schema, schema};
+    ghost use Rattle.tables.specs.Schema.{meta_tree, no_schema, schema};
     ghost use Rattle.sqlstore.specs.Model.{contents_of, fault_count, is_clean, is_honest};
 
     /// Opens the store that the tables of a connection hold, and makes the tables where there is none of them.
@@ -75,6 +75,10 @@ impl<S: Alter + Drop> SqlStore<S> {
         ensures no_faults { IfOk result (λ s. fault_count S.Store s ≡ 0) }
         ensures clean { IfOk result (λ s. is_clean S.Store s → HasCleanDisk (state S.Store conn)) }
         ensures not_ours { IfErr result (λ e. e.0 ≡ OpenFault.NotOurs → (conn.in_transaction ≡ true) ⊎ (HasCleanDisk (state S.Store e.1) → ¬ IsStore (state S.Store conn).now)) }
+
+        // What is opened has none of the tables or all, and if they are those of this layout, the version.
+        ensures all { IfOk result (λ _. has_any conn.schema ≡ true → has_all conn.schema ≡ true) }
+        ensures version { IfOk result (λ s. is_clean S.Store s → conn.schema ≡ schema → is_first ((state S.Store conn).now.trees meta_tree) ≡ true) }
 
         // Where it is refused the rows are as they were, if tables of these names are those of this layout.
         ensures refused { IfErr result (λ e. (has_all conn.schema ≡ true → conn.schema ≡ schema) → HasCleanDisk (state S.Store e.1) → IsTrue (state S.Store e.1).is_open
