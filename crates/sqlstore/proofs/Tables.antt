@@ -30,8 +30,8 @@ never_others db s found is store all others = go found (all (has_tables db s is 
     go : (f : FoundTables) → f ≡ All → f ≡ Others → ⊥
     go f a b = cc
 
-pub others_not_ours : (s : Schema) (found : FoundTables) → s ≡ schema → (has_all s ≡ true → found ≡ All) → found ≡ Others → ⊥
-others_not_ours s found is all others = go found (all (ap has_all is ∙ ours_has_all)) others
+pub ours_never_others : (s : Schema) (found : FoundTables) → s ≡ schema → (has_all s ≡ true → found ≡ All) → found ≡ Others → ⊥
+ours_never_others s found is all others = go found (all (ap has_all is ∙ ours_has_all)) others
   where
     go : (f : FoundTables) → f ≡ All → f ≡ Others → ⊥
     go f a b = cc

@@ -16,8 +16,8 @@ use tables::{FoundTables, is_first_version, tables_in};
 
 /// Looks whether the version is that of this layout.
 fn check_version<S: Alter>(conn: &mut Connection<S>) -> Result<(), OpenFault>
-    ensures first { HasCleanDisk (state S.Store conn.new) → conn.old.schema ≡ schema → OnOk result (is_first ((state S.Store conn.old).now.trees meta_tree) ≡ true) }
     ensures not_ours { result ≡ Err OpenFault.NotOurs → HasCleanDisk (state S.Store conn.new) → ¬ IsStore (state S.Store conn.old).now }
+    ensures version { HasCleanDisk (state S.Store conn.new) → conn.old.schema ≡ schema → OnOk result (is_first ((state S.Store conn.old).now.trees meta_tree) ≡ true) }
     ensures stands { Stands S.Store conn.old conn.new result }
     ensures looks { Looks S.Store conn.old conn.new }
     ensures asks { Asks S.Store conn.old conn.new }
@@ -49,10 +49,11 @@ pub(crate) fn find_tables<S: Alter>(conn: &mut Connection<S>) -> Result<(), Open
     // Where there was a store it is found as it was, and where there was nothing it is made.
     ensures found { HasCleanDisk (state S.Store conn.new) → IsStore (state S.Store conn.old).now → OnOk result ((state S.Store conn.new).now ≡ (state S.Store conn.old).now) }
     ensures made { HasCleanDisk (state S.Store conn.new) → conn.old.schema ≡ no_schema → OnOk result (IsNew (state S.Store conn.new).now) }
-    // Some of the tables alone, and another version, are not opened.
-    ensures whole { OnOk result (has_any conn.old.schema ≡ true → has_all conn.old.schema ≡ true) }
-    ensures first { HasCleanDisk (state S.Store conn.new) → conn.old.schema ≡ schema → OnOk result (is_first ((state S.Store conn.old).now.trees meta_tree) ≡ true) }
     ensures not_ours { result ≡ Err OpenFault.NotOurs → HasCleanDisk (state S.Store conn.new) → ¬ IsStore (state S.Store conn.old).now }
+
+    // What is opened has none of the tables or all, and if they are those of this layout, the version.
+    ensures all { OnOk result (has_any conn.old.schema ≡ true → has_all conn.old.schema ≡ true) }
+    ensures version { HasCleanDisk (state S.Store conn.new) → conn.old.schema ≡ schema → OnOk result (is_first ((state S.Store conn.old).now.trees meta_tree) ≡ true) }
 
     // Where it is refused the rows are as they were, if tables of these names are those of this layout.
     ensures refused { (has_all conn.old.schema ≡ true → conn.old.schema ≡ schema) → HasCleanDisk (state S.Store conn.new) → IsTrue (state S.Store conn.new).is_open

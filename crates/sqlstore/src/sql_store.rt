@@ -51,7 +51,7 @@ impl<S: Alter> SqlStore<S> {
 }
 
 impl<S: Alter + Drop> SqlStore<S> {
-    ghost use Rattle.std.specs.Prelude.{◌⊎◌, Err, IfErr, IfOk, IsTrue, OnOk, true};
+    ghost use Rattle.std.specs.Prelude.{◌⊎◌, Err, IfErr, IfOk, IsTrue, true};
     ghost use Rattle.std.specs.FinMap.{empty};
     ghost use Rattle.sqlite.specs.Held.{state};
     ghost use Rattle.sqlite.specs.State.{HasCleanDisk};
@@ -74,10 +74,11 @@ impl<S: Alter + Drop> SqlStore<S> {
         ensures made { IfOk result (λ s. is_clean S.Store s → conn.schema ≡ no_schema → is_honest S.Store s × (contents_of S.Store s ≡ empty)) }
         ensures no_faults { IfOk result (λ s. fault_count S.Store s ≡ 0) }
         ensures clean { IfOk result (λ s. is_clean S.Store s → HasCleanDisk (state S.Store conn)) }
-        // Some of the tables alone, and another version, are not opened.
-        ensures whole { OnOk result (has_any conn.schema ≡ true → has_all conn.schema ≡ true) }
-        ensures first { IfOk result (λ s. is_clean S.Store s → conn.schema ≡ schema → is_first ((state S.Store conn).now.trees meta_tree) ≡ true) }
         ensures not_ours { IfErr result (λ e. e.0 ≡ OpenFault.NotOurs → (conn.in_transaction ≡ true) ⊎ (HasCleanDisk (state S.Store e.1) → ¬ IsStore (state S.Store conn).now)) }
+
+        // What is opened has none of the tables or all, and if they are those of this layout, the version.
+        ensures all { IfOk result (λ _. has_any conn.schema ≡ true → has_all conn.schema ≡ true) }
+        ensures version { IfOk result (λ s. is_clean S.Store s → conn.schema ≡ schema → is_first ((state S.Store conn).now.trees meta_tree) ≡ true) }
 
         // Where it is refused the rows are as they were, if tables of these names are those of this layout.
         ensures refused { IfErr result (λ e. (has_all conn.schema ≡ true → conn.schema ≡ schema) → HasCleanDisk (state S.Store e.1) → IsTrue (state S.Store e.1).is_open

@@ -1,6 +1,6 @@
 use Rattle.std.proofs.Common.{refl, ◌∙◌}
 use Rattle.sqlite.specs.Held.{state}
-use Rattle.sqlstore.proofs.Tables.{never_nothing, never_others, never_part, others_not_ours}
+use Rattle.sqlstore.proofs.Tables.{never_nothing, never_others, never_part, ours_never_others}
 use Rattle.sqlstore.proofs.opening.find_tables.Goals as goal
 
 pub returns-in-Part-clause-not_ours : goal.returns-in-Part-clause-not_ours
@@ -14,6 +14,5 @@ pub returns-in-Others-clause-found : goal.returns-in-Others-clause-found
 returns-in-Others-clause-found g c clean store =
     absurd (never_others (state g.S.Store c.args.conn.now).now c.schema.result.now c.tables_in.result c.schema.ensures.value store c.tables_in.ensures.all.1 c.in-Others.is)
 
-pub returns-in-Others-clause-first : goal.returns-in-Others-clause-first
-returns-in-Others-clause-first g c clean ours =
-    absurd (others_not_ours c.schema.result.now c.tables_in.result (c.schema.ensures.value ∙ ours) c.tables_in.ensures.all.1 c.in-Others.is)
+pub returns-in-Others-clause-version : goal.returns-in-Others-clause-version
+returns-in-Others-clause-version g c clean ours = absurd (ours_never_others c.schema.result.now c.tables_in.result (c.schema.ensures.value ∙ ours) c.tables_in.ensures.all.1 c.in-Others.is)

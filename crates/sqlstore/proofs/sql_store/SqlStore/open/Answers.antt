@@ -1,7 +1,9 @@
-use Rattle.std.proofs.Common.{◌≡◌, ◌∙◌, inr, Err, IsTrue, not, ap, sym, subst}
+use Rattle.std.proofs.Common.{◌≡◌, ◌∙◌, inr, Err, IsTrue, true, not, ap, sym, subst}
 use Rattle.sqlite.specs.Effect.{Database}
 use Rattle.sqlite.specs.Held.{Held, state}
 use Rattle.tables.specs.Layout.{IsStore}
+use Rattle.tables.specs.Presence.{has_all, has_any, is_first}
+use Rattle.tables.specs.Schema.{meta_tree}
 use Rattle.tables.specs.Rows.{contents_in}
 use Rattle.tables.proofs.Laid.{holds, nothing}
 use Rattle.sqlstore.proofs.sql_store.SqlStore.open.Goals as goal
@@ -38,3 +40,11 @@ returns-clause-made g c clean none =
     let now : Held g.row.S.Denot → Database = λ h. (state g.S.Store h).now in
     let made = c.in_default.ensures.made clean (ap (λ (h : Held g.row.S.Denot). h.schema) c.set_step_limit.ensures ∙ none) in
     ((clean, subst IsStore (sym (ap now c.of-origin.ensures)) (holds (now c.find_tables.new.conn) made)), ap (λ h. contents_in (now h).trees) c.of-last.ensures ∙ nothing (now c.find_tables.new.conn) made)
+
+pub returns-clause-all : goal.returns-clause-all
+returns-clause-all g c = subst (λ (h : Held g.row.S.Denot). has_any h.schema ≡ true → has_all h.schema ≡ true) c.set_step_limit.ensures c.in_default.ensures.all
+
+pub returns-clause-version : goal.returns-clause-version
+returns-clause-version g c clean ours =
+    sym (ap (λ (h : Held g.row.S.Denot). is_first ((state g.S.Store h).now.trees meta_tree)) c.set_step_limit.ensures)
+    ∙ c.in_default.ensures.version clean (ap (λ (h : Held g.row.S.Denot). h.schema) c.set_step_limit.ensures ∙ ours)
