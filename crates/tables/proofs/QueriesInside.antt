@@ -1,5 +1,5 @@
 -- What a query of a transaction leaves.
-use Rattle.std.proofs.Common.{◌≡◌, ◌⊎◌, inl, inr, List, ℕ, Result, Ok, Err, IfOk, IfErr, OnOk, IsSome, IsTrue, subst}
+use Rattle.std.proofs.Common.{◌⊎◌, inl, inr, List, ℕ, Result, Ok, Err, IfOk, IfErr, OnOk, IsSome, IsTrue, subst}
 use Rattle.sqlite_value.specs.Order.{Row}
 use Rattle.sqlite.specs.Given.{IsPlain}
 use Rattle.sqlite.specs.Listing.{understood}
