@@ -10,6 +10,7 @@ pub mod Rows
 pub mod Pagings
 pub mod Lawfuls
 pub mod Bounds
+pub mod Cuts
 pub mod Calls
 pub mod RowOrders
 pub mod IdRows

@@ -79,6 +79,20 @@ last_sequence otherwise (r ∷ rs) = last_sequence r.sequence rs
 abbrev pub rows_after : SeqRange → List SequenceRow → List SequenceRow
 rows_after range rs = up_to_limit range.limit (filter (λ r. nat_lt range.since r.sequence) (in_sequence rs))
 
+-- those of rows that ascend
+abbrev pub later_rows : SeqRange → List SequenceRow → List SequenceRow
+later_rows range rs = up_to_limit range.limit (filter (λ r. nat_lt range.since r.sequence) rs)
+
+-- the page of rows that ascend, in a database at this sequence
+abbrev pub sequence_page : SeqRange → ℕ → Option DocumentCounts → List SequenceRow → SequencePage
+sequence_page range sequence counts rs =
+    record {
+      rows = later_rows range rs;
+      last = last_sequence (min range.since sequence) (later_rows range rs);
+      sequence = sequence;
+      counts = counts;
+    }
+
 -- how many of the documents have a winner that is deleted, and how many have not
 abbrev pub gone_count : List (List ℕ × Document) → ℕ
 gone_count es = count_by (λ e. is_gone e.1.history) es

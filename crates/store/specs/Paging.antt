@@ -1,7 +1,8 @@
 -- The pages that the structs of the code are.
 -- This crate's own: it ties them to the definitions of `Pages`.
-use Rattle.std.specs.Prelude.{◌≡◌, ◌<◌, ◌≤◌, ◌^◌, All, IfSome, is_some, List, map}
+use Rattle.std.specs.Prelude.{◌≡◌, ◌<◌, ◌≤◌, ◌^◌, ℕ, All, IfSome, is_some, List, map, Option}
 use Rattle.store.specs.Pages.{IdPage, SequencePage, SequenceRow}
+use Rattle.store.specs.declared.page.DocumentCounts.{DocumentCounts}
 use Rattle.store.specs.declared.page.IdRange.{IdRange}
 use Rattle.store.specs.declared.page.PageById.{PageById}
 use Rattle.store.specs.declared.page.PageBySeq.{PageBySeq}
@@ -30,6 +31,13 @@ pub record IsBounded (range : SeqRange) (p : PageBySeq) : Type 0 where
   pub rows : All (λ r. r.sequence < 2 ^ 63) p.rows.items
   pub counted : is_some p.counts ≡ range.counted
   pub counts : IfSome p.counts (λ counts. (counts.documents < 2 ^ 63) × (counts.deleted < 2 ^ 63))
+
+-- what a page that is cut from these rows is bounded by: the database's sequence, the counts and the sequences of all rows
+pub record AreBounded (range : SeqRange) (at : ℕ) (told : Option DocumentCounts) (all : List SeqRow) : Type 0 where
+  pub sequence : at < 2 ^ 63
+  pub rows : All (λ r. r.sequence < 2 ^ 63) all
+  pub counted : is_some told ≡ range.counted
+  pub counts : IfSome told (λ counts. (counts.documents < 2 ^ 63) × (counts.deleted < 2 ^ 63))
 
 abbrev pub id_page_of : PageById → IdPage
 id_page_of p = record { rows = p.rows.items; counts = p.counts }

@@ -51,6 +51,14 @@ fn gather_page(alloc: Global, writes: &Vec<Write>, range: &IdRange) -> Got<PageB
 {
     let documents = documents_of(alloc, writes)?;
     let rows = list_live_rows(alloc, &documents)?;
+    cut_by_id(rows, range)
+}
+
+/// Cuts the rows of a whole listing by id, ascending, to the page of a range.
+pub fn cut_by_id(rows: Vec<IdRow>, range: &IdRange) -> Got<PageById>
+    ensures page { IfOk result (λ page. id_page_of page ≡ id_page range.now rows.items) }
+    ensures counted { IfOk result (IsCounted range.now) }
+{
     let total = rows.len() as u64;
     let before = count_before(&rows, range);
     let mut rows = rows_within(turn(rows, range.descending), range);

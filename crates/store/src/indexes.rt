@@ -57,7 +57,7 @@ fn show_held(alloc: Global, id: &DocId, history: &History, rev: &Rev) -> Got<Opt
 
 /// Reads the fields of the index of this name that a design document with this history declares, where
 /// its winner is not deleted; `None` where it declares none of this name.
-pub(crate) fn read_fields(
+pub fn read_index_fields(
     alloc: Global,
     design: &DocId,
     history: &History,

@@ -13,7 +13,7 @@ ghost use Rattle.store.specs.Plain.{document_entries, gathered_after, history_af
 ghost use Rattle.store.specs.Writing.{additions};
 
 use crate::id_pages::{counts_if, turn};
-use crate::indexes::{read_fields, show_queried, values_at};
+use crate::indexes::{read_index_fields, show_queried, values_at};
 use crate::key_page::{CutSide, IndexKey, KeyCut, KeyRange, KeyRow, PageByKey};
 use crate::order::{cut_to_limit, put_sorted};
 use crate::pages::documents_of;
@@ -40,7 +40,7 @@ pub(crate) fn page_by_key(
     ensures counted { IfOk result (λ page. IfSome page (HasKeyCounts range.now)) }
 {
     let history = history_of(alloc, writes, design)?;
-    match read_fields(alloc, design, &history, index)? {
+    match read_index_fields(alloc, design, &history, index)? {
         Some(fields) => Ok(Some(gather_places(alloc, writes, &fields, range)?)),
         None => Ok(None),
     }
@@ -56,7 +56,16 @@ fn gather_places(
     ensures page { IfOk result (λ page. key_page_of page ≡ key_page range.now (places_over fields.now (gathered_after 0 [] (additions writes.now.items)))) }
     ensures counted { IfOk result (HasKeyCounts range.now) }
 {
-    let rows = list_places(alloc, fields, documents_of(alloc, writes)?)?;
+    let documents = documents_of(alloc, writes)?;
+    let rows = list_places(alloc, fields, documents)?;
+    cut_by_key(rows, range)
+}
+
+/// Cuts the rows of a whole index, ascending, to the page of a range.
+pub fn cut_by_key(rows: Vec<KeyRow>, range: &KeyRange) -> Got<PageByKey>
+    ensures page { IfOk result (λ page. key_page_of page ≡ key_page range.now rows.items) }
+    ensures counted { IfOk result (HasKeyCounts range.now) }
+{
     let total = rows.len() as u64;
     let before = count_before(&rows, range);
     let mut rows = rows_within(turn(rows, range.descending), range);
@@ -75,19 +84,21 @@ fn list_places(alloc: Global, fields: &[FieldPath], documents: Documents) -> Got
     let mut documents = documents;
     let mut index = BTreeMap::new(alloc);
     while let Some((id, document)) = documents.pop() {
-        put_document(alloc, &mut index, fields, id, &document.history)?;
+        put_in_index(alloc, &mut index, fields, id, &document.history)?;
     }
-    Ok(list_keys(alloc, index)?)
+    Ok(list_index_rows(alloc, index)?)
 }
 
-fn list_keys(alloc: Global, index: BTreeMap<KeyRow, Json>) -> Got<Vec<KeyRow>>
+/// Lists the rows of an index, ascending, and drops the documents.
+pub fn list_index_rows(alloc: Global, index: BTreeMap<KeyRow, Json>) -> Got<Vec<KeyRow>>
     ensures { IfOk result (λ rows. rows.items ≡ list_map (λ e. e.0) index.entries) }
 {
     Ok(index.into_keys().collect(alloc)?)
 }
 
-/// Puts a document at its place in an index of these fields, where it has one.
-fn put_document(
+/// Puts a document at its place in an index of these fields, where queries look at it and it has all of
+/// them. The index goes by its rows, and holds the documents as they are shown.
+pub fn put_in_index(
     alloc: Global,
     index: &mut BTreeMap<KeyRow, Json>,
     fields: &[FieldPath],

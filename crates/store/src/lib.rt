@@ -22,6 +22,7 @@ mod locals;
 mod order;
 mod page;
 mod pages;
+pub mod paging;
 mod plain;
 mod plain_store;
 mod range_key;

@@ -2,8 +2,8 @@
 
 ghost use Rattle.std.specs.Prelude.{◌≡◌, ◌≤◌, [], IfOk, IfSome, OnOk, filter, length, map as list_map, nat_lt};
 ghost use Rattle.std.specs.FinMap as map;
-ghost use Rattle.store.specs.Pages.{document_counts, gone_count, if_counted, in_sequence, is_gone, last_sequence, up_to_limit, page_with, row_of, rows_of, shown_revs};
-ghost use Rattle.store.specs.Paging.{IsBounded, sequence_page_of, sequence_row_of, sequence_rows};
+ghost use Rattle.store.specs.Pages.{document_counts, gone_count, if_counted, in_sequence, is_gone, last_sequence, up_to_limit, page_with, row_of, rows_of, sequence_page, shown_revs};
+ghost use Rattle.store.specs.Paging.{AreBounded, IsBounded, sequence_page_of, sequence_row_of, sequence_rows};
 ghost use Rattle.store.specs.Plain.{document_entries, gathered_after, document_entry, with_addition, with_write_at};
 ghost use Rattle.store.specs.Writing.{addition_of, additions};
 
@@ -24,15 +24,31 @@ pub(crate) fn page_by_seq(alloc: Global, writes: &Vec<Write>, range: &SeqRange) 
 {
     let documents = documents_of(alloc, writes)?;
     let rows = build_rows(alloc, &documents, range.all_leaves)?;
+    let rows = sort_by_sequence(alloc, rows)?;
     let sequence = writes.len() as u64;
-    let rows = rows_after(sort_by_sequence(alloc, rows)?, range);
+    let counts = counts_of(&documents, range.counted);
+    Ok(cut_by_sequence(rows, sequence, counts, range))
+}
+
+/// Cuts the rows of a whole listing by sequence, ascending, to the page of a range. The sequence and the
+/// counts are the database's.
+pub fn cut_by_sequence(
+    rows: Vec<SeqRow>,
+    sequence: u64,
+    counts: Option<DocumentCounts>,
+    range: &SeqRange,
+) -> PageBySeq
+    ensures page { sequence_page_of result ≡ sequence_page range.now sequence counts (sequence_rows rows.items) }
+    ensures bounded { AreBounded range.now sequence counts rows.items → IsBounded range.now result }
+{
+    let rows = rows_after(rows, range);
     let last_seq = find_last_sequence(min(range.since, sequence), &rows);
-    Ok(PageBySeq {
+    PageBySeq {
         rows,
         last_seq,
         sequence,
-        counts: counts_of(&documents, range.counted),
-    })
+        counts,
+    }
 }
 
 /// Counts the documents, where that is asked for.

@@ -1,32 +1,8 @@
-use Rattle.std.proofs.Common.{◌≡◌, ◌+◌, ◌<◌, ◌≤◌, filter, length, min, is_some, ap, ◌∙◌, rules, arith}
-use Rattle.store.specs.Pages.{is_within, up_to_limit, live_rows}
-use Rattle.store.proofs.Pagings.{counted_within, counts_fit, id_page_made, is_counted, smaller}
+use Rattle.std.proofs.Common.{◌≡◌, IfOk, ap, subst, ◌∙◌}
+use Rattle.store.specs.Pages.{id_page, live_rows}
+use Rattle.store.specs.Paging.{id_page_of}
 use Rattle.store.proofs.id_pages.gather_page.Goals as goal
 
 pub returns-clause-page : goal.returns-clause-page
 returns-clause-page c =
-    let range = c.args.range.now in
-    let all = c.in_ok-rows.rows.items in
-    let within = c.rows_within-rows.result.items in
-    let rows = c.in_ok-rows.ensures ∙ ap live_rows c.in_ok-documents.ensures in
-    let made = c.rows_within-rows.ensures.rows ∙ ap (filter (λ r. is_within range r.id)) c.turn.ensures in
-    let count : c.len.result ≡ length c.rows_within-rows.result.items = search rules in
-    let least = c.min-skipped.ensures ∙ smaller range.skip c.len.result ∙ ap (min range.skip) count in
-    let cut = c.cut_to_limit.ensures ∙ ap (up_to_limit range.limit) c.in_ok-rows-2.ensures.tail in
-    let total : c.len-total.result ≡ length c.in_ok-rows.rows.items = search rules in
-    id_page_made range c.count_before-before.result c.min-skipped.result c.len-total.result c.counts_if.result all within c.cut_to_limit.result.items _ rows c.count_before-before.ensures.count made least cut total c.counts_if.ensures
-
-pub returns-clause-counted : goal.returns-clause-counted
-returns-clause-counted c =
-    let range = c.args.range.now in
-    let rows = c.in_ok-rows.rows.items in
-    let made = c.rows_within-rows.ensures.rows ∙ ap (filter (λ r. is_within range r.id)) c.turn.ensures in
-    let count : c.len.result ≡ length c.rows_within-rows.result.items = search rules in
-    let least = c.min-skipped.ensures ∙ smaller range.skip c.len.result in
-    let total : c.len-total.result ≡ length c.in_ok-rows.rows.items = search rules in
-    let fits : c.len-total.result < 9223372036854775808 = search rules in
-    let within : c.count_before-before.result + c.min-skipped.result ≤ c.len-total.result = omega (arith, counted_within range rows, c.count_before-before.ensures.count, least, count, ap length made, total) in
-    record {
-      counted = ap is_some c.counts_if.ensures ∙ is_counted range.counted _;
-      counts = counts_fit range.counted c.counts_if.result (c.count_before-before.result + c.min-skipped.result) c.len-total.result c.counts_if.ensures within fits;
-    }
+    subst (λ rs. IfOk c.cut_by_id.result (λ page. id_page_of page ≡ id_page c.args.range.now rs)) (c.in_ok-rows.ensures ∙ ap live_rows c.in_ok-documents.ensures) c.cut_by_id.ensures.page

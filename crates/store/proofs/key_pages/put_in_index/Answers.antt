@@ -3,7 +3,7 @@ use Rattle.std.specs.FinMap.{put}
 use Rattle.couch_json.specs.View.{items_view, view}
 use Rattle.store.specs.Indexes.{field_values, place_order, queried_document}
 use Rattle.store.proofs.KeyPlaces.{document_placed}
-use Rattle.store.proofs.key_pages.put_document.Goals as goal
+use Rattle.store.proofs.key_pages.put_in_index.Goals as goal
 
 pub returns : goal.returns
 returns c =
