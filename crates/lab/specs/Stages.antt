@@ -3,7 +3,6 @@
 use Rattle.std.specs.Prelude.{◌≡◌, ℕ, List, map, string_bytes, Option, Some}
 use Rattle.std.specs.Io.KnownBytes.{Appends}
 use Rattle.auth.specs.Callers.{Configuration}
-use Rattle.store.specs.declared.plain_store.PlainStore.{PlainStore}
 use Rattle.store.specs.declared.store.Store.{Ghosts}
 use Rattle.lab.specs.declared.layout.Layout.{Layout}
 use Rattle.lab.specs.declared.running.Running.{Running}
@@ -17,10 +16,10 @@ use Rattle.lab.specs.Script.{ScriptLine, line_of}
 abbrev pub configuration_of : Server → Configuration
 configuration_of server = record { secret = server.secret.now; admins = map string_bytes server.admins.now }
 
-abbrev pub nodes_of : Layout → List (NamedValue PlainStore)
+abbrev pub nodes_of : {S : Type 0} → Layout S → List (NamedValue S)
 nodes_of layout = map named_of layout.stores.items
 
-abbrev pub names_of : Running → NamedNetwork PlainStore
+abbrev pub names_of : {S : Type 0} → Running S → NamedNetwork S
 names_of r = record {
   nodes = map named_of r.nodes.items;
   connections = map named_of r.connections.items;
@@ -28,7 +27,7 @@ names_of r = record {
   network = r.world;
 }
 
-abbrev pub scene_of : Stage → Scene PlainStore
+abbrev pub scene_of : {S : Type 0} → Stage S → Scene S
 scene_of (stage.Laying layout) = laying (nodes_of layout)
 scene_of (stage.Running r) = running (names_of r)
 

@@ -5,27 +5,28 @@ ghost use Rattle.couch_json.specs.Value.{object, no_members};
 ghost use Rattle.lab.specs.Scene.{HasOneMore};
 
 use crate::fault::LineFault;
+use crate::lab_store::LabStore;
 use crate::named::{Named, place_of};
 use couch_json::{Json, NoMemory};
 use policy::{Security, SecurityFault};
 use std::alloc::Global;
 use std::collections::BTreeMap;
-use store::{DbName, PlainStore, Store, StoreFault};
+use store::{DbName, Store};
 
 /// The nodes that a script has named so far, with their databases.
 #[derive(Drop)]
-pub struct Layout {
+pub struct Layout<S: LabStore> {
     alloc: Global,
-    pub stores: Vec<Named<PlainStore>>,
+    pub stores: Vec<Named<S>>,
 }
 
-impl Layout {
+impl<S: LabStore> Layout<S> {
     ghost use Rattle.std.specs.Prelude.{◌≡◌, [], OnOk};
     ghost use Rattle.lab.specs.Scene.{AddsDatabase, AddsNode};
     ghost use Rattle.lab.specs.Stages.{nodes_of};
 
     /// Makes a layout without nodes.
-    pub fn new(alloc: Global) -> Layout
+    pub fn new(alloc: Global) -> Layout<S>
         ensures { nodes_of result ≡ [] }
     {
         Layout {
@@ -36,13 +37,13 @@ impl Layout {
 
     /// Adds a node without databases. `Line` where there is one of this name.
     pub fn add_node(&mut self, name: &[u8]) -> Result<(), LineFault>
-        ensures { OnOk result (AddsNode ⟦<PlainStore as Store>⟧ (nodes_of self.old) name.now (nodes_of self.new)) }
+        ensures { OnOk result (AddsNode S.Store (nodes_of self.old) name.now (nodes_of self.new)) }
     {
         if place_of(&self.stores, name).is_some() {
             return Err(LineFault::Line);
         }
         let name = Vec::from_slice(self.alloc, name)?;
-        let value = PlainStore::new(self.alloc);
+        let value = S::make(self.alloc)?;
         self.stores.push(Named { name, value })?;
         Ok(())
     }
@@ -50,7 +51,7 @@ impl Layout {
     /// Adds a database that is open to everyone. `Line` where there is no such node, or it has a
     /// database of this name.
     pub fn add_database(&mut self, node: &[u8], name: &DbName) -> Result<(), LineFault>
-        ensures { OnOk result (AddsDatabase ⟦<PlainStore as Store>⟧ (nodes_of self.old) node.now name.now (nodes_of self.new)) }
+        ensures { OnOk result (AddsDatabase S.Store (nodes_of self.old) node.now name.now (nodes_of self.new)) }
     {
         let Some(place) = place_of(&self.stores, node) else {
             return Err(LineFault::Line);
@@ -60,8 +61,8 @@ impl Layout {
 }
 
 /// Makes a database whose security object is `{}`.
-fn open_to_all(alloc: Global, store: &mut PlainStore, name: &DbName) -> Result<(), LineFault>
-    ensures { OnOk result (HasOneMore ⟦<PlainStore as Store>⟧ store.old name.now store.new) }
+fn open_to_all<S: LabStore>(alloc: Global, store: &mut S, name: &DbName) -> Result<(), LineFault>
+    ensures { OnOk result (HasOneMore S.Store store.old name.now store.new) }
 {
     let security = open_security(alloc)?;
     store.create(name)?;

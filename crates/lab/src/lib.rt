@@ -5,6 +5,7 @@
 mod command_line;
 mod escapes;
 mod fault;
+mod lab_store;
 mod layout;
 mod line;
 mod named;
@@ -23,6 +24,7 @@ mod words;
 
 pub use command_line::plan;
 pub use fault::ProgramFault;
+pub use lab_store::LabStore;
 pub use plans::{Plan, PlanFault};
 pub use refusal::Refusal;
-pub use scripts::lab;
+pub use scripts::{lab, play_script};

@@ -11,6 +11,7 @@ ghost use Rattle.lab.specs.Scene.{Closes, Opens, Sends, Starts, Turns, first_net
 ghost use Rattle.lab.specs.Stages.{configuration_of, names_of, nodes_of};
 
 use crate::fault::LineFault;
+use crate::lab_store::LabStore;
 use crate::layout::Layout;
 use crate::named::{Named, value_of};
 use crate::repl_line::PassWords;
@@ -21,7 +22,6 @@ use couch_json::Got;
 use node::Node;
 use std::alloc::Global;
 use std::io::Write;
-use store::{PlainStore, Store};
 use world::{Event, World};
 
 /// How many exchanges a run has at most.
@@ -29,17 +29,17 @@ const MOST_EXCHANGES: u32 = 10_000;
 
 /// The nodes, connections and passes of a script, by the numbers that they have in a world.
 #[derive(Drop)]
-pub struct Running {
+pub struct Running<S: LabStore> {
     alloc: Global,
     pub nodes: Vec<Named<usize>>,
     pub connections: Vec<Named<u64>>,
     pub passes: Vec<Named<u64>>,
-    pub world: World<PlainStore>,
+    pub world: World<S>,
 }
 
-impl Running {
+impl<S: LabStore> Running<S> {
     /// Starts the nodes of a layout.
-    pub fn start(server: Server<'_>, layout: Layout) -> Got<Running>
+    pub fn start(server: Server<'_>, layout: Layout<S>) -> Got<Running<S>>
         ensures { IfOk result (λ running. names_of running ≡ first_network (configuration_of server.entry) (nodes_of layout)) }
     {
         let mut nodes = Vec::new(server.alloc);
@@ -81,7 +81,7 @@ impl Running {
         piece: Vec<u8>,
         out: &mut W,
     ) -> Result<(), LineFault>
-        ensures sent { OnOk result ((printed : List ℕ) × Sends ⟦<PlainStore as Store>⟧ (names_of self.old) name.now piece.items printed (names_of self.new)
+        ensures sent { OnOk result ((printed : List ℕ) × Sends S.Store (names_of self.old) name.now piece.items printed (names_of self.new)
             × Appends (W.contents out.old) (W.contents out.new) printed) }
         ensures line { result ≡ Err LineFault.Line → Keeps (W.contents out.old) (W.contents out.new) }
     {
@@ -141,7 +141,7 @@ impl Running {
         out: &mut W,
     ) -> Result<(), LineFault>
         ensures shown { OnOk result ((seen : List Sight) × (printed : List ℕ)
-            × IsShown ⟦<PlainStore as Store>⟧ (names_of self.old).network (happening_of event) name.now seen printed (names_of self.new).network
+            × IsShown S.Store (names_of self.old).network (happening_of event) name.now seen printed (names_of self.new).network
             × (names_of self.new ≡ record (names_of self.old) { network = (names_of self.new).network })
             × Appends (W.contents out.old) (W.contents out.new) printed) }
         ensures faults { result ≢ Err LineFault.Line }
@@ -157,7 +157,7 @@ impl Running {
         name: &[u8],
         out: &mut W,
     ) -> Result<(), LineFault>
-        ensures turned { OnOk result ((printed : List ℕ) × Turns ⟦<PlainStore as Store>⟧ turn (names_of self.old) name.now printed (names_of self.new)
+        ensures turned { OnOk result ((printed : List ℕ) × Turns S.Store turn (names_of self.old) name.now printed (names_of self.new)
             × Appends (W.contents out.old) (W.contents out.new) printed) }
         ensures line { result ≡ Err LineFault.Line → Keeps (W.contents out.old) (W.contents out.new) }
     {
@@ -173,7 +173,7 @@ impl Running {
     /// Runs a pass to its end, with at most 10,000 exchanges, and prints them.
     fn run<W: Write>(&mut self, repl: u64, name: &[u8], out: &mut W) -> Result<(), LineFault>
         ensures ran { OnOk result ((printed : List ℕ)
-            × Runs ⟦<PlainStore as Store>⟧ most_exchanges (names_of self.old).network repl name.now printed (names_of self.new).network
+            × Runs S.Store most_exchanges (names_of self.old).network repl name.now printed (names_of self.new).network
             × (names_of self.new ≡ record (names_of self.old) { network = (names_of self.new).network })
             × Appends (W.contents out.old) (W.contents out.new) printed) }
         ensures faults { result ≢ Err LineFault.Line }
@@ -183,11 +183,11 @@ impl Running {
 }
 
 /// Adds a node over a store, and its number under the store's name.
-fn push_node(
+fn push_node<S: LabStore>(
     server: Server<'_>,
-    nodes: &mut Vec<Node<PlainStore>>,
+    nodes: &mut Vec<Node<S>>,
     names: &mut Vec<Named<usize>>,
-    store: Named<PlainStore>,
+    store: Named<S>,
 ) -> Got<()>
     ensures nodes { OnOk result (nodes.new.items ≡ nodes.old.items ++ record { store = store.value; configuration = configuration_of server.entry } ∷ []) }
     ensures names { OnOk result (map named_of names.new.items ≡ map named_of names.old.items ++ record { name = store.name.items; value = length nodes.old.items } ∷ []) }

@@ -9,6 +9,7 @@ ghost use Rattle.lab.specs.Scene.{Plays, PlaysBefore, PlaysScript, laying, runni
 ghost use Rattle.lab.specs.Stages.{AreBytesPlayed, IsLinePlayed, configuration_of, nodes_of, names_of, scene_of};
 
 use crate::fault::{LineFault, ProgramFault};
+use crate::lab_store::LabStore;
 use crate::layout::Layout;
 use crate::line::{Line, read_line};
 use crate::running::Running;
@@ -49,12 +50,43 @@ pub fn lab<R: BufRead, W: Write>(
     ensures before { (n : ℕ) → result ≡ Err (ProgramFault.Line n) → IfSome (R.remaining reader.old) (λ script. PlaysBefore ⟦<PlainStore as Store>⟧
         (record { secret = secret.now; admins = map string_bytes admins.now }) n script (W.contents writer.old) (W.contents writer.new)) }
 {
+    play_script::<PlainStore, R, W>(alloc, secret, admins, reader, writer)
+}
+
+/// Plays a script whose nodes stand over stores of one kind, and prints the replies: a line for each,
+/// `c STATUS BODY`. The answer is the program's status, 0.
+///
+/// `Line` is the number of the line that could not be played, counted from 1; what the lines before
+/// it printed stands. `File`: a read or a write failed, or the script had no end after 1,048,576
+/// reads, one for each line. `Memory`: memory ran out.
+pub fn play_script<S: LabStore, R: BufRead, W: Write>(
+    alloc: Global,
+    secret: &str,
+    admins: &[String],
+    reader: &mut R,
+    writer: &mut W,
+) -> Result<u8, ProgramFault>
+    ensures status { IfOk result (λ status. status ≡ 0) }
+    ensures whole { OnOk result (IfSome (R.remaining reader.old) (λ _. R.remaining reader.new ≡ Some [])) }
+    ensures lines { OnOk result (IfSome (R.remaining reader.old) AreLines) }
+    ensures printed { OnOk result (Prints (W.contents writer.old) (W.contents writer.new)) }
+
+    // Each line did what the definition says, and what was printed is what the lines print.
+    ensures played { OnOk result (IfSome (R.remaining reader.old) (λ script. PlaysScript S.Store
+        (record { secret = secret.now; admins = map string_bytes admins.now }) script (W.contents writer.old) (W.contents writer.new))) }
+
+    // At the fault of a line just the lines up to it were read, and what was printed stands.
+    ensures line { (n : ℕ) → result ≡ Err (ProgramFault.Line n) → ReadsLines n (R.remaining reader.old) (R.remaining reader.new) }
+    ensures stands { (n : ℕ) → result ≡ Err (ProgramFault.Line n) → Prints (W.contents writer.old) (W.contents writer.new) }
+    ensures before { (n : ℕ) → result ≡ Err (ProgramFault.Line n) → IfSome (R.remaining reader.old) (λ script. PlaysBefore S.Store
+        (record { secret = secret.now; admins = map string_bytes admins.now }) n script (W.contents writer.old) (W.contents writer.new)) }
+{
     let server = Server {
         alloc,
         secret,
         admins,
     };
-    let mut stage = Stage::Laying(Layout::new(alloc));
+    let mut stage = Stage::Laying(Layout::<S>::new(alloc));
     let mut bytes = Vec::new(alloc);
     for number in 0..READS {
         if !read_next(reader, &mut bytes)? {
@@ -92,13 +124,13 @@ fn without_line_feed(line: &[u8]) -> &[u8]
 }
 
 /// Plays a line.
-fn play<W: Write>(
+fn play<S: LabStore, W: Write>(
     server: Server<'_>,
-    stage: Stage,
+    stage: Stage<S>,
     bytes: &[u8],
     out: &mut W,
-) -> Result<Stage, LineFault>
-    ensures played { IfOk result (λ next. AreBytesPlayed ⟦<PlainStore as Store>⟧ (configuration_of server.entry) (scene_of stage) bytes.now
+) -> Result<Stage<S>, LineFault>
+    ensures played { IfOk result (λ next. AreBytesPlayed S.Store (configuration_of server.entry) (scene_of stage) bytes.now
         (W.contents out.old) (W.contents out.new) (scene_of next)) }
     ensures stands { result ≡ Err LineFault.Line → Keeps (W.contents out.old) (W.contents out.new) }
 {
@@ -112,8 +144,8 @@ fn play<W: Write>(
 }
 
 /// Plays a line before the first connection or pass.
-fn lay(server: Server<'_>, layout: Layout, line: Line<'_>) -> Result<Stage, LineFault>
-    ensures { IfOk result (λ next. Plays ⟦<PlainStore as Store>⟧ (configuration_of server.entry) (laying (nodes_of layout)) (said_by line.entry) [] (scene_of next)) }
+fn lay<S: LabStore>(server: Server<'_>, layout: Layout<S>, line: Line<'_>) -> Result<Stage<S>, LineFault>
+    ensures { IfOk result (λ next. Plays S.Store (configuration_of server.entry) (laying (nodes_of layout)) (said_by line.entry) [] (scene_of next)) }
 {
     let mut layout = layout;
     match line {
@@ -140,13 +172,13 @@ fn lay(server: Server<'_>, layout: Layout, line: Line<'_>) -> Result<Stage, Line
 }
 
 /// Plays a line after the first connection or pass.
-fn run<W: Write>(
+fn run<S: LabStore, W: Write>(
     server: Server<'_>,
-    names: Running,
+    names: Running<S>,
     line: Line<'_>,
     out: &mut W,
-) -> Result<Stage, LineFault>
-    ensures played { IfOk result (λ next. IsLinePlayed ⟦<PlainStore as Store>⟧ (configuration_of server.entry) (running (names_of names)) (said_by line.entry)
+) -> Result<Stage<S>, LineFault>
+    ensures played { IfOk result (λ next. IsLinePlayed S.Store (configuration_of server.entry) (running (names_of names)) (said_by line.entry)
         (W.contents out.old) (W.contents out.new) (scene_of next)) }
     ensures stands { result ≡ Err LineFault.Line → Keeps (W.contents out.old) (W.contents out.new) }
 {

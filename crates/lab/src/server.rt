@@ -6,7 +6,7 @@ use couch_json::Got;
 use node::{Node, Routes};
 use repl::{Config, User};
 use std::alloc::Global;
-use store::PlainStore;
+use store::Store;
 
 /// The secret and the admins of each node.
 #[derive(Clone, Copy)]
@@ -25,7 +25,7 @@ impl Server<'_> {
     ghost use Rattle.lab.specs.Stages.{configuration_of};
 
     /// Makes a node over a store.
-    pub fn node(&self, store: PlainStore) -> Got<Node<PlainStore>>
+    pub fn node<S: Store + Drop>(&self, store: S) -> Got<Node<S>>
         ensures { IfOk result (λ node. node ≡ record { store = store; configuration = configuration_of self.now }) }
     {
         let auth = Auth::new(self.alloc, self.secret.as_bytes(), self.admins)?;

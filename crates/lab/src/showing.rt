@@ -12,7 +12,8 @@ use crate::printed::{print_closed, print_reply};
 use crate::printed_steps::{print_end, print_step};
 use std::alloc::Global;
 use std::io::Write;
-use store::{PlainStore, Store};
+use crate::lab_store::LabStore;
+use store::Store;
 use world::{Event, Seen, World};
 
 /// Sends a piece on a connection, and prints each reply, or that the connection has ended.
@@ -36,15 +37,15 @@ pub fn send<S: Store + Drop, W: Write>(
 }
 
 /// Runs a pass to its end, with at most so many exchanges, and prints them.
-pub fn run<W: Write>(
+pub fn run<S: LabStore, W: Write>(
     alloc: Global,
-    world: &mut World<PlainStore>,
+    world: &mut World<S>,
     repl: u64,
     most: u32,
     name: &[u8],
     out: &mut W,
 ) -> Result<(), LineFault>
-    ensures ran { OnOk result ((printed : List ℕ) × Runs ⟦<PlainStore as Store>⟧ most world.old repl name.now printed world.new
+    ensures ran { OnOk result ((printed : List ℕ) × Runs S.Store most world.old repl name.now printed world.new
         × Appends (W.contents out.old) (W.contents out.new) printed) }
     ensures faults { result ≢ Err LineFault.Line }
 {

@@ -5,11 +5,11 @@ use crate::texts::first_word;
 use couch_json::{canon, read};
 use rows::{RowsFault, push_all};
 use std::alloc::Global;
-use store::{CutSide, IndexKey, KeyCut, KeyRange, PageByKey, PlainStore, Store};
+use store::{CutSide, IndexKey, KeyCut, KeyRange, PageByKey, Store};
 use tree::DocId;
 
 /// Answers with rows of the index of a design document, in words `NAME DESIGN INDEX WORD ..`.
-pub fn by_key(alloc: Global, store: &mut PlainStore, text: &str) -> Result<Vec<u8>, RowsFault> {
+pub fn by_key<S: Store>(alloc: Global, store: &mut S, text: &str) -> Result<Vec<u8>, RowsFault> {
     let (name, rest) = first_word(text);
     let (design, rest) = first_word(rest);
     let (index, words) = first_word(rest);

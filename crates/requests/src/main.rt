@@ -11,12 +11,14 @@ mod scripts;
 mod setup;
 mod texts;
 
+use lab::LabStore;
 use rows::{Report, RowsFault, file_names, play};
 use std::alloc::Global;
 use std::env::Env;
 use std::fs::read_to_string;
 use std::process::ExitCode;
 use std::rt::Files;
+use store::PlainStore;
 
 /// Plays the files that the command line names or, where it names none, all files of the folder.
 /// The status is 0 where each row is as its answer says, else 1, with what differs on standard error.
@@ -53,23 +55,34 @@ fn play_file(alloc: Global, name: &str, text: &str, report: &mut Report) -> Resu
         Some((_, ending)) => ending,
         None => "",
     };
+    if ending == "commands" {
+        let mut kind = command_lines::CommandLines { alloc };
+        return play(alloc, name, text, &mut kind, report);
+    }
+    play_over::<PlainStore>(alloc, name, ending, text, report)
+}
+
+/// Plays a file of rows about nodes, whose stores are of one kind.
+fn play_over<S: LabStore>(
+    alloc: Global,
+    name: &str,
+    ending: &str,
+    text: &str,
+    report: &mut Report,
+) -> Result<(), RowsFault> {
     match ending {
-        "commands" => play(
-            alloc,
-            name,
-            text,
-            &mut command_lines::CommandLines { alloc },
-            report,
-        ),
-        "lab" => play(alloc, name, text, &mut scripts::Scripts::new(alloc), report),
-        "pages" => play(alloc, name, text, &mut pages::Pages::new(alloc), report),
-        "requests" => play(
-            alloc,
-            name,
-            text,
-            &mut requests::Requests::new(alloc),
-            report,
-        ),
+        "lab" => {
+            let mut kind = scripts::Scripts::<S>::new(alloc);
+            play(alloc, name, text, &mut kind, report)
+        }
+        "pages" => {
+            let mut kind = pages::Pages::<S>::new(alloc);
+            play(alloc, name, text, &mut kind, report)
+        }
+        "requests" => {
+            let mut kind = requests::Requests::<S>::new(alloc);
+            play(alloc, name, text, &mut kind, report)
+        }
         _ => report.object(name, 1, "no kind of rows has this ending"),
     }
 }

@@ -4,7 +4,7 @@ use couch_http::{Cutter, Ending, Request};
 use node::Node;
 use rows::RowsFault;
 use std::alloc::Global;
-use store::PlainStore;
+use store::Store;
 
 /// A request as its parts.
 #[derive(Clone, Copy)]
@@ -17,9 +17,9 @@ pub struct Asked<'a> {
 
 /// Sends a request to a node. The answer is the reply as its status, a blank and its body, or how
 /// the stream stands where the bytes are no request.
-pub fn send(
+pub fn send<S: Store + Drop>(
     alloc: Global,
-    node: &mut Node<PlainStore>,
+    node: &mut Node<S>,
     asked: Asked<'_>,
 ) -> Result<Vec<u8>, RowsFault> {
     let Some(request) = request_of(alloc, asked)? else {

@@ -2,10 +2,11 @@ use crate::key_pages::by_key;
 use crate::nodes::{Asked, send};
 use crate::setup::Setup;
 use crate::texts::{first_word, text_of};
+use lab::LabStore;
 use rows::{Kind, RowsFault};
 use std::alloc::Global;
 use store::{
-    DbName, IdRange, PageById, PageBySeq, PlainStore, RangeKey, SeqRange, SeqRow, Store, StoreFault,
+    DbName, IdRange, PageById, PageBySeq, RangeKey, SeqRange, SeqRow, StoreFault,
 };
 
 /// Pages of the store of one node, which its users write by requests: `USER METHOD TARGET BODY`.
@@ -17,15 +18,15 @@ use store::{
 /// is `before`, `after` or `behind`, and the key has no blanks, `down`, `skip N`, `limit N`.
 /// `uncounted` asks for no counts.
 #[derive(Drop)]
-pub struct Pages {
+pub struct Pages<S: LabStore> {
     alloc: Global,
     setup: Setup,
-    store: Option<PlainStore>,
+    store: Option<S>,
 }
 
-impl Pages {
+impl<S: LabStore> Pages<S> {
     /// Makes a player of pages of documentation.
-    pub fn new(alloc: Global) -> Pages {
+    pub fn new(alloc: Global) -> Pages<S> {
         Pages {
             alloc,
             setup: Setup::new(alloc),
@@ -49,7 +50,7 @@ impl Pages {
         };
         let store = match self.store.take() {
             Some(store) => store,
-            None => self.setup.store()?,
+            None => self.setup.store::<S>()?,
         };
         let mut node = self.setup.node(store)?;
         let reply = send(self.alloc, &mut node, asked)?;
@@ -214,13 +215,13 @@ pub(crate) fn put_counts(
     Ok(())
 }
 
-impl Kind for Pages {
+impl<S: LabStore> Kind for Pages<S> {
     fn set(&mut self, line: &str) -> Result<bool, RowsFault> {
         self.setup.set(line)
     }
 
     fn begin(&mut self) -> Result<(), RowsFault> {
-        self.store = Some(self.setup.store()?);
+        self.store = Some(self.setup.store::<S>()?);
         Ok(())
     }
 

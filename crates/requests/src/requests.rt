@@ -1,23 +1,23 @@
 use crate::nodes::{Asked, send};
 use crate::setup::Setup;
 use crate::texts::{first_word, text_of};
+use lab::LabStore;
 use node::Node;
 use rows::{Kind, RowsFault};
 use std::alloc::Global;
-use store::PlainStore;
 
 /// `USER METHOD TARGET BODY`: the reply's status and body. `B:USER ..` asks node B, which is made
 /// at its first request; the node without a name is A. Each table has nodes of its own.
 #[derive(Drop)]
-pub struct Requests {
+pub struct Requests<S: LabStore> {
     alloc: Global,
     setup: Setup,
-    nodes: Vec<(String, Node<PlainStore>)>,
+    nodes: Vec<(String, Node<S>)>,
 }
 
-impl Requests {
+impl<S: LabStore> Requests<S> {
     /// Makes a player of requests.
-    pub fn new(alloc: Global) -> Requests {
+    pub fn new(alloc: Global) -> Requests<S> {
         Requests {
             alloc,
             setup: Setup::new(alloc),
@@ -30,14 +30,14 @@ impl Requests {
         if self.nodes.iter().any(|entry| entry.0.as_str() == name) {
             return Ok(());
         }
-        let node = self.setup.node(self.setup.store()?)?;
+        let node = self.setup.node(self.setup.store::<S>()?)?;
         self.nodes
             .push((String::from_str(self.alloc, name)?, node))?;
         Ok(())
     }
 }
 
-impl Kind for Requests {
+impl<S: LabStore> Kind for Requests<S> {
     fn set(&mut self, line: &str) -> Result<bool, RowsFault> {
         self.setup.set(line)
     }

@@ -1,29 +1,32 @@
 use crate::texts::answer;
-use lab::{Refusal, lab};
+use lab::{LabStore, Refusal, play_script};
 use rows::{Joint, Kind, RowsFault};
 use std::alloc::Global;
+use std::marker::PhantomData;
 
 /// A script of the laboratory: what it prints, and a last line with the program's status and, after
 /// a refusal, what stands on standard error. The head says `secret TEXT` and `admin NAME`.
 #[derive(Drop)]
-pub struct Scripts {
+pub struct Scripts<S: LabStore> {
     alloc: Global,
+    stores: PhantomData<S>,
     secret: String,
     admins: Vec<String>,
 }
 
-impl Scripts {
+impl<S: LabStore> Scripts<S> {
     /// Makes a player of scripts.
-    pub fn new(alloc: Global) -> Scripts {
+    pub fn new(alloc: Global) -> Scripts<S> {
         Scripts {
             alloc,
+            stores: PhantomData,
             secret: String::new(alloc),
             admins: Vec::new(alloc),
         }
     }
 }
 
-impl Kind for Scripts {
+impl<S: LabStore> Kind for Scripts<S> {
     fn joint(&self) -> Joint {
         Joint::LineFeed
     }
@@ -44,7 +47,7 @@ impl Kind for Scripts {
         let alloc = self.alloc;
         let mut script = question;
         let mut printed = Vec::new(alloc);
-        let result = lab(
+        let result = play_script::<S, _, _>(
             alloc,
             self.secret.as_str(),
             &self.admins,

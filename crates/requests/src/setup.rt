@@ -2,11 +2,12 @@
 
 use auth::Auth;
 use couch_json::read;
+use lab::LabStore;
 use node::{Node, Routes};
 use policy::Security;
 use rows::RowsFault;
 use std::alloc::Global;
-use store::{DbName, PlainStore, Store};
+use store::{DbName, Store};
 
 /// A user: the name that rows use, and the headers of its requests.
 #[derive(Drop)]
@@ -103,8 +104,8 @@ impl Setup {
     }
 
     /// Returns a store with the databases that each node begins with.
-    pub fn store(&self) -> Result<PlainStore, RowsFault> {
-        let mut store = PlainStore::new(self.alloc);
+    pub fn store<S: LabStore>(&self) -> Result<S, RowsFault> {
+        let mut store = make::<S>(self.alloc)?;
         for name in &self.public {
             create(&mut store, name)?;
             open(self.alloc, &mut store, name)?;
@@ -116,15 +117,23 @@ impl Setup {
     }
 
     /// Returns a node over a store.
-    pub fn node(&self, store: PlainStore) -> Result<Node<PlainStore>, RowsFault> {
+    pub fn node<S: Store + Drop>(&self, store: S) -> Result<Node<S>, RowsFault> {
         let auth = Auth::new(self.alloc, self.secret.as_bytes(), &self.admins)?;
         let routes = Routes::new(self.alloc)?;
         Ok(Node::new(self.alloc, store, auth, routes))
     }
 }
 
+/// Makes a store without databases.
+fn make<S: LabStore>(alloc: Global) -> Result<S, RowsFault> {
+    match S::make(alloc) {
+        Ok(store) => Ok(store),
+        Err(_) => Err(RowsFault::Memory),
+    }
+}
+
 /// Makes a database.
-fn create(store: &mut PlainStore, name: &DbName) -> Result<(), RowsFault> {
+fn create<S: Store>(store: &mut S, name: &DbName) -> Result<(), RowsFault> {
     match store.create(name) {
         Ok(()) => Ok(()),
         Err(_) => Err(RowsFault::Memory),
@@ -132,7 +141,7 @@ fn create(store: &mut PlainStore, name: &DbName) -> Result<(), RowsFault> {
 }
 
 /// Opens a database to everyone.
-fn open(alloc: Global, store: &mut PlainStore, name: &DbName) -> Result<(), RowsFault> {
+fn open<S: Store>(alloc: Global, store: &mut S, name: &DbName) -> Result<(), RowsFault> {
     let Ok(value) = read(alloc, b"{}") else {
         return Err(RowsFault::Memory);
     };

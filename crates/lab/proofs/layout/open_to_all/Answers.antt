@@ -1,11 +1,10 @@
 use Rattle.couch_json.specs.Value.{object, no_members}
-use Rattle.store.specs.contracts.plain_store.PlainStoreStore.TheImpl.{ghosts}
 use Rattle.lab.proofs.LayoutLemmas.{opened}
 use Rattle.lab.proofs.layout.open_to_all.Goals as goal
 
 pub returns : goal.returns
-returns c = (
+returns g c = (
   c.in_ok-create.ensures.absent tt,
-  opened (ghosts.contents c.args.store.now) (ghosts.contents c.create.new.self) (ghosts.contents c.set_security.new.self) c.args.name.now (object no_members)
+  opened (g.S.Store.contents c.args.store.now) (g.S.Store.contents c.create.new.self) (g.S.Store.contents c.set_security.new.self) c.args.name.now (object no_members)
       (c.in_ok-create.ensures.ok tt) (rw c.in_ok-security.ensures at (c.in_ok-set_security.ensures.ok tt)),
 )

@@ -1,21 +1,20 @@
 use Rattle.std.proofs.Common.{◌∙◌}
-use Rattle.store.specs.contracts.plain_store.PlainStoreStore.TheImpl.{ghosts}
 use Rattle.lab.proofs.RunLemmas.{run_ended, run_on, run_over}
 use Rattle.lab.proofs.showing.run.Goals as goal
 
 pub returns-then-branch-clause-ran : goal.returns-then-branch-clause-ran
 returns-then-branch-clause-ran g c =
-    let q = c.in_ok-show.ensures.shown (λ k d inside. tt) in
-    run_ended ghosts c.args.most c.loop-turn._turn c.args.repl c.args.name.now q.1 q.0 c.args.world.now c.loop-turn.world c.show.new.world (g.W.Write.contents c.args.out.now)
+    let q = c.in_ok-show.ensures.shown (λ k d inside. g.met.S.LabStore.honest _) in
+    run_ended g.S.Store c.args.most c.loop-turn._turn c.args.repl c.args.name.now q.1 q.0 c.args.world.now c.loop-turn.world c.show.new.world (g.W.Write.contents c.args.out.now)
     (g.W.Write.contents c.loop-turn.out) (g.W.Write.contents c.show.new.out) c.loop-turn.invariant c.loop-turn-test.true q.2 (q.3 ∙ c.if-branch.true) q.4
 
 pub loop-turn-preserved : goal.loop-turn-preserved
 loop-turn-preserved g c =
-    let q = c.in_ok-show.ensures.shown (λ k d inside. tt) in
-    run_on ghosts c.args.most c.loop-turn._turn c.args.repl c.args.name.now q.1 q.0 c.args.world.now c.loop-turn.world c.show.new.world (g.W.Write.contents c.args.out.now)
+    let q = c.in_ok-show.ensures.shown (λ k d inside. g.met.S.LabStore.honest _) in
+    run_on g.S.Store c.args.most c.loop-turn._turn c.args.repl c.args.name.now q.1 q.0 c.args.world.now c.loop-turn.world c.show.new.world (g.W.Write.contents c.args.out.now)
     (g.W.Write.contents c.loop-turn.out) (g.W.Write.contents c.show.new.out) c.loop-turn.invariant c.loop-turn-test.true q.2 (q.3 ∙ c.if-branch.false) q.4
 
 pub returns-clause-ran : goal.returns-clause-ran
 returns-clause-ran g c =
-    run_over ghosts c.args.most c.loop-turn._turn c.args.repl c.args.name.now c.args.world.now c.loop-turn.world (g.W.Write.contents c.args.out.now) (g.W.Write.contents c.loop-turn.out)
+    run_over g.S.Store c.args.most c.loop-turn._turn c.args.repl c.args.name.now c.args.world.now c.loop-turn.world (g.W.Write.contents c.args.out.now) (g.W.Write.contents c.loop-turn.out)
     c.loop-turn.invariant c.loop-turn-test.false

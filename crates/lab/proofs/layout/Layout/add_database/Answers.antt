@@ -5,7 +5,7 @@ use Rattle.lab.proofs.PlayLemmas.{OnOk-then}
 use Rattle.lab.proofs.layout.Layout.add_database.Goals as goal
 
 pub returns : goal.returns
-returns c =
+returns g c =
     let stores = c.args.self.now.stores in
     let e = c.index_mut.result.now in
     let at = is_at stores.items c.args.node.now c.in-Some.place e (rw c.deref.ensures.value at (sym c.in-Some.ensures.place))

@@ -5,12 +5,12 @@ use Rattle.lab.specs.Stages.{nodes_of}
 use Rattle.lab.proofs.layout.Layout.add_node.Goals as goal
 
 pub returns : goal.returns
-returns c = (
+returns g c = (
   value_named-absent c.args.name.now (nodes_of c.args.self.now) c.place_of.result (rw c.deref.ensures.value at c.place_of.ensures.place) (sym c.is_some.ensures ∙ c.if-is_some.false),
   (
-    c.new-value.result,
-    c.new-value.ensures,
-    ap (map named_of) c.in_ok-push.ensures.items ∙ named_push c.args.self.now.stores.items (record { name = c.in_ok-name.name; value = c.new-value.result })
-        ∙ ap (λ (n : List ℕ). nodes_of c.args.self.now ++ record { name = n; value = c.new-value.result } ∷ []) c.in_ok-name.ensures.items,
+    c.in_ok-value.value,
+    c.in_ok-value.ensures,
+    ap (map named_of) c.in_ok-push.ensures.items ∙ named_push c.args.self.now.stores.items (record { name = c.in_ok-name.name; value = c.in_ok-value.value })
+        ∙ ap (λ (n : List ℕ). nodes_of c.args.self.now ++ record { name = n; value = c.in_ok-value.value } ∷ []) c.in_ok-name.ensures.items,
   ),
 )

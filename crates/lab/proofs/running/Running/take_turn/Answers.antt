@@ -1,4 +1,3 @@
-use Rattle.store.specs.contracts.plain_store.PlainStoreStore.TheImpl.{ghosts}
 use Rattle.world.specs.declared.fate.Fate.TheVariants.{Answered, ReplyLost, RequestLost}
 use Rattle.lab.proofs.PlayLemmas.{OnOk-then}
 use Rattle.lab.proofs.SceneLemmas.{exchanges_of, turned}
@@ -11,8 +10,8 @@ returns-in-Step-clause-turned g c =
     OnOk-then c.exchange.result c.exchange.ensures.shown
     (λ q. (
       q.1,
-      turned ghosts c.args.turn Step (names_of c.args.self.now) (names_of c.exchange.new.self) c.args.name.now q.1 c.in-Step.is
-          (exchanges_of ghosts (names_of c.args.self.now) (names_of c.exchange.new.self) c.args.name.now c.in_ok-repl.repl Answered q.0 q.1 c.in_ok-repl.ensures q.2 q.3),
+      turned g.S.Store c.args.turn Step (names_of c.args.self.now) (names_of c.exchange.new.self) c.args.name.now q.1 c.in-Step.is
+          (exchanges_of g.S.Store (names_of c.args.self.now) (names_of c.exchange.new.self) c.args.name.now c.in_ok-repl.repl Answered q.0 q.1 c.in_ok-repl.ensures q.2 q.3),
       q.4,
     ))
 
@@ -21,8 +20,8 @@ returns-in-Lose-clause-turned g c =
     OnOk-then c.exchange-in-Lose.result c.exchange-in-Lose.ensures.shown
     (λ q. (
       q.1,
-      turned ghosts c.args.turn Lose (names_of c.args.self.now) (names_of c.exchange-in-Lose.new.self) c.args.name.now q.1 c.in-Lose.is
-          (exchanges_of ghosts (names_of c.args.self.now) (names_of c.exchange-in-Lose.new.self) c.args.name.now c.in_ok-repl.repl ReplyLost q.0 q.1 c.in_ok-repl.ensures q.2 q.3),
+      turned g.S.Store c.args.turn Lose (names_of c.args.self.now) (names_of c.exchange-in-Lose.new.self) c.args.name.now q.1 c.in-Lose.is
+          (exchanges_of g.S.Store (names_of c.args.self.now) (names_of c.exchange-in-Lose.new.self) c.args.name.now c.in_ok-repl.repl ReplyLost q.0 q.1 c.in_ok-repl.ensures q.2 q.3),
       q.4,
     ))
 
@@ -31,8 +30,8 @@ returns-in-Unsent-clause-turned g c =
     OnOk-then c.exchange-in-Unsent.result c.exchange-in-Unsent.ensures.shown
     (λ q. (
       q.1,
-      turned ghosts c.args.turn Unsent (names_of c.args.self.now) (names_of c.exchange-in-Unsent.new.self) c.args.name.now q.1 c.in-Unsent.is
-          (exchanges_of ghosts (names_of c.args.self.now) (names_of c.exchange-in-Unsent.new.self) c.args.name.now c.in_ok-repl.repl RequestLost q.0 q.1 c.in_ok-repl.ensures q.2 q.3),
+      turned g.S.Store c.args.turn Unsent (names_of c.args.self.now) (names_of c.exchange-in-Unsent.new.self) c.args.name.now q.1 c.in-Unsent.is
+          (exchanges_of g.S.Store (names_of c.args.self.now) (names_of c.exchange-in-Unsent.new.self) c.args.name.now c.in_ok-repl.repl RequestLost q.0 q.1 c.in_ok-repl.ensures q.2 q.3),
       q.4,
     ))
 
@@ -41,7 +40,7 @@ returns-in-Run-clause-turned g c =
     OnOk-then c.run.result c.run.ensures.ran
     (λ q. (
       q.0,
-      turned ghosts c.args.turn Run (names_of c.args.self.now) (names_of c.run.new.self) c.args.name.now q.0 c.in-Run.is
+      turned g.S.Store c.args.turn Run (names_of c.args.self.now) (names_of c.run.new.self) c.args.name.now q.0 c.in-Run.is
           (c.in_ok-repl.repl, c.in_ok-repl.ensures, ((names_of c.run.new.self).network, q.1, q.2)),
       q.3,
     ))

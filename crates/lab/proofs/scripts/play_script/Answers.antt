@@ -2,13 +2,12 @@ use Rattle.std.proofs.Common.{◌≡◌, ◌+◌, Err, ap, sym}
 use Rattle.std.specs.Prelude.{map, string_bytes}
 use Rattle.std.specs.Io.BufRead.{strip_last}
 use Rattle.auth.specs.Callers.{Configuration}
-use Rattle.store.specs.contracts.plain_store.PlainStoreStore.TheImpl.{ghosts}
 use Rattle.lab.proofs.PlayLemmas.{AreLines-end, Keeps-prints, Prints-then, ReadsLines-more, fault_at-is_line, fault_at-line, lines-more}
 use Rattle.lab.proofs.SceneLemmas.{AreBytesPlayed-line, AreBytesPlayed-prints, HasPlayed-more, PlaysBefore-fault, PlaysScript-end}
 use Rattle.lab.specs.Playing.{fault_at}
 use Rattle.lab.specs.Stages.{AreBytesPlayed, scene_of}
 use Rattle.lab.specs.declared.fault.ProgramFault.TheVariants as program
-use Rattle.lab.proofs.scripts.lab.Goals as goal
+use Rattle.lab.proofs.scripts.play_script.Goals as goal
 
 pub returns-then-not-branch-clause-lines : goal.returns-then-not-branch-clause-lines
 returns-then-not-branch-clause-lines g c =
@@ -17,7 +16,7 @@ returns-then-not-branch-clause-lines g c =
 
 pub returns-then-not-branch-clause-played : goal.returns-then-not-branch-clause-played
 returns-then-not-branch-clause-played g c =
-    PlaysScript-end ghosts (record { secret = c.args.secret.now; admins = map string_bytes c.args.admins.now }) c.loop-number.number (g.R.Read.remaining c.args.reader.now) (g.R.Read.remaining c.loop-number.reader) (g.W.Write.contents c.args.writer.now)
+    PlaysScript-end g.S.Store (record { secret = c.args.secret.now; admins = map string_bytes c.args.admins.now }) c.loop-number.number (g.R.Read.remaining c.args.reader.now) (g.R.Read.remaining c.loop-number.reader) (g.W.Write.contents c.args.writer.now)
     (g.W.Write.contents c.loop-number.writer) (scene_of c.loop-number.stage) c.loop-number.invariant.played c.loop-number.invariant.read
     (c.in_ok-read_next.ensures.end c.if-not-branch.true)
 
@@ -32,7 +31,7 @@ pub returns-in-Err-clause-before : goal.returns-in-Err-clause-before
 returns-in-Err-clause-before g c = λ n e.
     let made : fault_at c.in-Err.fault (c.loop-number.number + 1) ≡ program.Line n = cc (e, c.at.ensures) in
     let same : c.loop-number.number + 1 ≡ n = fault_at-line c.in-Err.fault (c.loop-number.number + 1) n made in
-    PlaysBefore-fault ghosts (record { secret = c.args.secret.now; admins = map string_bytes c.args.admins.now }) c.loop-number.number n (g.R.Read.remaining c.args.reader.now) (g.W.Write.contents c.args.writer.now) (g.W.Write.contents c.loop-number.writer)
+    PlaysBefore-fault g.S.Store (record { secret = c.args.secret.now; admins = map string_bytes c.args.admins.now }) c.loop-number.number n (g.R.Read.remaining c.args.reader.now) (g.W.Write.contents c.args.writer.now) (g.W.Write.contents c.loop-number.writer)
     (g.W.Write.contents c.play.new.out) (scene_of c.loop-number.stage) c.loop-number.invariant.played (c.in-Err.ensures.stands (ap Err (fault_at-is_line c.in-Err.fault (c.loop-number.number + 1) n made))) same
 
 pub loop-number-preserved : goal.loop-number-preserved
@@ -46,14 +45,14 @@ loop-number-preserved g c =
     let configuration : Configuration = record { secret = c.args.secret.now; admins = map string_bytes c.args.admins.now } in
     let scene = scene_of c.loop-number.stage in
     let line = strip_last 10 c.read_next.new.bytes.items in
-    let here : AreBytesPlayed ghosts configuration scene line before after (scene_of c.in-Ok.next) =
+    let here : AreBytesPlayed g.S.Store configuration scene line before after (scene_of c.in-Ok.next) =
     rw (c.without_line_feed.ensures, c.deref.ensures.value) at c.in-Ok.ensures.played in
     record {
       read = ReadsLines-more c.loop-number.number script rest (g.R.Read.remaining c.read_next.new.reader) c.loop-number.invariant.read c.in_ok-read_next.ensures.rest;
       lines = lines-more c.loop-number.number script rest c.read_next.new.bytes.items c.loop-number.invariant.read c.in_ok-read_next.ensures.line
-          (AreBytesPlayed-line ghosts configuration scene line before after (scene_of c.in-Ok.next) here) c.loop-number.invariant.lines;
+          (AreBytesPlayed-line g.S.Store configuration scene line before after (scene_of c.in-Ok.next) here) c.loop-number.invariant.lines;
       printed = Prints-then start before flushed c.loop-number.invariant.printed
-          (Prints-then before after flushed (AreBytesPlayed-prints ghosts configuration scene line before after (scene_of c.in-Ok.next) here) (Keeps-prints after flushed c.flush.ensures.bytes));
-      played = HasPlayed-more ghosts configuration c.loop-number.number script rest c.read_next.new.bytes.items start before after flushed scene (scene_of c.in-Ok.next)
+          (Prints-then before after flushed (AreBytesPlayed-prints g.S.Store configuration scene line before after (scene_of c.in-Ok.next) here) (Keeps-prints after flushed c.flush.ensures.bytes));
+      played = HasPlayed-more g.S.Store configuration c.loop-number.number script rest c.read_next.new.bytes.items start before after flushed scene (scene_of c.in-Ok.next)
           c.loop-number.invariant.played c.loop-number.invariant.read c.in_ok-read_next.ensures.line here c.flush.ensures.bytes;
     }

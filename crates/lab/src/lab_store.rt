@@ -1,0 +1,23 @@
+ghost use Rattle.std.specs.Prelude.{◌≡◌, IfOk};
+ghost use Rattle.std.specs.FinMap.{empty};
+
+use std::alloc::Global;
+use store::{PlainStore, Store, StoreFault};
+
+/// A store in memory, with which a node of a script begins.
+pub trait LabStore: Store + Drop {
+    /// Makes a store without databases.
+    fn make(alloc: Global) -> Result<Self, StoreFault>
+        ensures { IfOk result (λ store. Self.Store.contents store ≡ empty) };
+
+    /// Memory returns what was written.
+    ghost honest: { (s : Self) → Self.Store.is_honest s };
+}
+
+impl LabStore for PlainStore {
+    fn make(alloc: Global) -> Result<PlainStore, StoreFault> {
+        Ok(PlainStore::new(alloc))
+    }
+
+    ghost honest = { λ _. tt };
+}
