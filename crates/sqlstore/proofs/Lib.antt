@@ -8,3 +8,5 @@ pub mod Tables
 pub mod Answering
 pub mod Inserting
 pub mod DocumentWriting
+pub mod Committing
+pub mod Committed

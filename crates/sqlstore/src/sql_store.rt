@@ -2,6 +2,7 @@ ghost use Rattle.std.specs.Prelude.{◌≡◌, false, None};
 ghost use Rattle.sqlstore.specs.Standing.{IsHeld};
 
 mod changing;
+mod committing;
 mod find;
 mod reading;
 mod rows;
