@@ -22,7 +22,7 @@ use Rattle.tables.proofs.Lookups.{database_there}
 use Rattle.sqlstore.specs.Causes.{IsJudged}
 use Rattle.sqlstore.specs.Commits.{AreDue, IsSound, IsToldAs, IsUncommitted, IsUnwritten}
 use Rattle.sqlstore.specs.Reading.{FoundValues}
-use Rattle.sqlstore.specs.Standing.{IsHeld, Turns}
+use Rattle.sqlstore.specs.Standing.{IsHeld, Turns, WasStore}
 use Rattle.sqlstore.specs.declared.write_fault.WriteFault.{WriteFault}
 use Rattle.sqlstore.specs.declared.write_fault.WriteFault.TheVariants as write
 use Rattle.sqlstore.proofs.Answering.{IsThere}
@@ -81,14 +81,14 @@ told old new sound honest (write.Store fault) said h same is = subst (IsUncommit
 
 module _ {S : Type 0} (g : Ghosts S) (Fits : Trees → Type 0) (old new origin last : Held S) where
   -- a connection that is honest is sound, where the rows that the last change left are fit
-  pub sound : (HasCleanDisk (state g new) → HasCleanDisk (state g old)) → IsHeld g old origin last → HasCleanDisk (state g new) → IsStore (state g origin).now → Fits (state g last).now.trees → ¬ ¬ IsSound g Fits old new
+  pub sound : (HasCleanDisk (state g new) → HasCleanDisk (state g old)) → IsHeld g old origin last → HasCleanDisk (state g new) → WasStore g origin → Fits (state g last).now.trees → ¬ ¬ IsSound g Fits old new
   sound was held clean is fits none =
       ∥∥₁_elim (held (was clean) is) (λ p q. absurd p)
       (λ h. none (clean, λ up. (subst IsStore (sym (h.now up)) h.store, subst (λ (d : Database). Fits d.trees) (sym (h.now up)) fits)))
 
   -- a transaction that is undone where the rows are fit leaves what is held
   pub held_undone_fit : Turns g old new → (IsStore (state g old).now → Fits (state g old).now.trees → HasCleanDisk (state g new) → IsTrue (state g new).is_open → ((state g new).now ≡ (state g old).committed) × ((state g new).committed ≡ (state g old).committed))
-      → (HasCleanDisk (state g old) → IsStore (state g origin).now → Fits (state g last).now.trees) → IsHeld g old origin last → IsHeld g new origin last
+      → (HasCleanDisk (state g old) → WasStore g origin → Fits (state g last).now.trees) → IsHeld g old origin last → IsHeld g new origin last
   held_undone_fit turns undone fits held clean is =
       let was = turns.clean clean in
       ∥∥₁_map (held was is) (λ h.
