@@ -4,3 +4,4 @@ pub mod Model
 pub mod Reading
 pub mod Sequences
 pub mod Inserting
+pub mod Listing

@@ -4,6 +4,7 @@
 mod document_write;
 mod fault;
 mod histories;
+mod listings;
 mod names;
 mod open_fault;
 mod opening;

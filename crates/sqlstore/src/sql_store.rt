@@ -3,6 +3,9 @@ ghost use Rattle.sqlstore.specs.Standing.{IsHeld};
 
 mod changing;
 mod find;
+mod listing_rows;
+mod numbered;
+mod paging;
 mod reading;
 mod rows;
 
