@@ -10,3 +10,7 @@ pub mod Inserting
 pub mod DocumentWriting
 pub mod Committing
 pub mod Committed
+pub mod ListedRows
+pub mod FoundPages
+pub mod Afterwards
+pub mod Indexing

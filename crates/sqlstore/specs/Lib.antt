@@ -5,3 +5,4 @@ pub mod Reading
 pub mod Sequences
 pub mod Inserting
 pub mod Commits
+pub mod Listing

@@ -5,6 +5,7 @@ mod commits;
 mod document_write;
 mod fault;
 mod histories;
+mod listings;
 mod names;
 mod open_fault;
 mod opening;

@@ -10,7 +10,7 @@ use std::snapshot::Snapshot;
 use store::{DbName, StoreFault, Write};
 
 /// Tells whether so many sequences are left after this one.
-fn has_room(sequence: u64, count: usize) -> bool
+pub(crate) fn has_room(sequence: u64, count: usize) -> bool
     ensures { IsTrue result ↔ (sequence + count < 2 ^ 63) }
 {
     match sequence.checked_add(count as u64) {
@@ -30,7 +30,7 @@ impl<S: Alter> SqlStore<S> {
     ghost use Rattle.sqlstore.specs.Model.{ChangesWhole, Moves, contents_of, fault_count, is_honest, lacks_room, trees_of};
 
     /// Appends writes to the database of this number and this sequence.
-    fn append(
+    pub(crate) fn append(
         &mut self,
         name: &DbName,
         number: &i64,
@@ -54,27 +54,4 @@ impl<S: Alter> SqlStore<S> {
         }
     }
 
-    /// Appends all the writes to a database, or none of them. `NoDatabase` comes if and only if there
-    /// is none of this name.
-    ///
-    /// A write's path goes on with what the history, once the writes before it are in, knows behind
-    /// its parent. The caller owes that each path is whole, that its head is not known and that it
-    /// gives no known revision another parent, and that each body is an object at most 100 deep.
-    pub fn commit(&mut self, name: &DbName, writes: &[Write]) -> Result<(), StoreFault>
-        requires { is_honest S.Store self.old → IfThere (map.get (contents_of S.Store self.old) name.now)
-            (λ db. AreAcceptable db (writings_in db (additions writes.now))) }
-        ensures ok { is_honest S.Store self.new → OnOk result (option_map (λ db. map.insert (contents_of S.Store self.old) name.now (with_all db (writings_in db (additions writes.now))))
-            (map.get (contents_of S.Store self.old) name.now) ≡ Some (contents_of S.Store self.new)) }
-        ensures missing { is_honest S.Store self.new → result ≡ Err StoreFault.NoDatabase → map.get (contents_of S.Store self.old) name.now ≡ None }
-        ensures others { result ≢ Err StoreFault.Exists }
-        ensures caused { IfErr result (λ fault. IsCaused (fault_count S.Store self.old) (fault_count S.Store self.new) (is_honest S.Store self.new)
-            (is_honest S.Store self.new → IfThere (map.get (contents_of S.Store self.old) name.now) (λ db. lacks_room S.Store self.old name.now (writings_in db (additions writes.now)))) fault) }
-        ensures changes { ChangesWhole S.Store self.old self.new result }
-    {
-        let found = self.find(name)?;
-        if !has_room(found.sequence, writes.len()) {
-            return Err(StoreFault::Full);
-        }
-        self.append(name, &found.number, found.sequence, writes)
-    }
 }
