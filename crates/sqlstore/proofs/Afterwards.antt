@@ -1,0 +1,53 @@
+-- What a reader answers after other readers.
+use Rattle.std.proofs.Common.{◌≡◌, ◌+◌, ℕ, zero, suc, List, [], ◌∷◌, drop, subst, Option, Some, Result, Ok, Err, ap, ◌∙◌}
+use Rattle.std.specs.List.{AllByRecursion}
+use Rattle.store.specs.declared.fault.StoreFault.{StoreFault}
+use Rattle.store.specs.declared.fault.StoreFault.TheVariants.{Memory, Failed, NoDatabase, Exists, Damaged, Full}
+use Rattle.sqlite_value.specs.Order.{Row}
+use Rattle.sqlite_trees.specs.declared.store.Store.{Ghosts}
+use Rattle.sqlite.specs.Held.{state}
+use Rattle.sqlstore.specs.Model.{Answers, Stands, is_honest, trees_of}
+use Rattle.sqlstore.specs.Reading.{IsLost, IsRead}
+use Rattle.sqlstore.specs.declared.sql_store.SqlStore.{SqlStore}
+use Rattle.sqlstore.proofs.Answering.{failed_later}
+
+module _ {S : Type 0} (g : Ghosts S) (old mid new : SqlStore S g) where
+  -- what it answers is said of the store as it was before the others
+  pub afterwards : {X A : Type 0} (view : X → A) (defined further : Option A) (r : Result X StoreFault) → Stands g old mid → (is_honest g new → further ≡ defined) → Answers g mid new view defined r → Answers g old new view further r
+  afterwards view defined further (Ok x) s same h = λ honest. same honest ∙ h honest
+  afterwards view defined further (Err Memory) s same h = tt
+  afterwards view defined further (Err Failed) s same h = failed_later g old.faults mid.faults new.faults s.counted h
+  afterwards view defined further (Err NoDatabase) s same h = λ honest. same honest ∙ h honest
+  afterwards view defined further (Err Exists) s same h = absurd h
+  afterwards view defined further (Err Damaged) s same h = h
+  afterwards view defined further (Err Full) s same h = absurd h
+
+  -- its fault is one of the whole, where what it reads is always there
+  pub fault_afterwards : {X Y A B : Type 0} (view : X → A) (other : Y → B) (x : A) (further : Option B) (fault : StoreFault) → Stands g old mid
+      → Answers g {X = X} mid new view (Some x) (Err fault) → Answers g {X = Y} old new other further (Err fault)
+  fault_afterwards view other x further Memory s h = tt
+  fault_afterwards view other x further Failed s h = failed_later g old.faults mid.faults new.faults s.counted h
+  fault_afterwards view other x further NoDatabase s h = λ honest. absurd (let none = h honest in cc)
+  fault_afterwards view other x further Exists s h = absurd h
+  fault_afterwards view other x further Damaged s h = h
+  fault_afterwards view other x further Full s h = absurd h
+
+module _ {S : Type 0} (g : Ghosts S) (old new : SqlStore S g) where
+  pub stands_same : Stands g old new → trees_of g new ≡ trees_of g old
+  stands_same s = ap (λ h. (state g h).now.trees) s.last
+
+-- ---- what is lost with one of the rows
+
+at_next : (P : Row → Type 0) (rows : List Row) (i : ℕ) (r : Row) (rest : List Row) → drop i rows ≡ r ∷ rest → AllByRecursion P rows → P r
+at_next P rows zero r rest is all = (subst (AllByRecursion P) is all).0
+at_next P [] (suc i) r rest is all = absurd (cc)
+at_next P (s ∷ rows) (suc i) r rest is all = at_next P rows i r rest is all.1
+
+pub one_lost : {X A : Type 0} (view : X → A) (said : Option A) (P : Row → Type 0) (rows : List Row) (i : ℕ) (r : Row) → drop i rows ≡ r ∷ drop (i + 1) rows
+    → (fault : StoreFault) → IsLost (P r) fault → IsRead {X = X} view said (AllByRecursion P rows) (Err fault)
+one_lost view said P rows i r is Memory h = tt
+one_lost view said P rows i r is Failed h = absurd h
+one_lost view said P rows i r is NoDatabase h = absurd h
+one_lost view said P rows i r is Exists h = absurd h
+one_lost view said P rows i r is Damaged h = λ all. h (at_next P rows i r (drop (i + 1) rows) is all)
+one_lost view said P rows i r is Full h = absurd h

@@ -1,0 +1,122 @@
+-- The pages of a database that is found by its name are those of the rows of its number.
+use base.Stored.{Coded-set}
+use Rattle.std.proofs.Common.{◌≡◌, ◌<◌, ◌^◌, ℕ, ℤ, true, false, List, [], ◌∷◌, map, filter, Some, None, option_map, refl, sym, ap, ap₂, subst, ◌∙◌}
+use Rattle.std.proofs.Math.Logic.{∥∥₁_elim}
+use Rattle.std.specs.FinMap as finite
+use Rattle.std.specs.List.{AllByRecursion}
+use Rattle.tree.specs.HistoryCode.{content_code}
+use Rattle.store.specs.Database.{Database, Document, history_at}
+use Rattle.store.specs.Indexes.{index_fields_of, index_over, index_rows, put_in_index, queried_document}
+use Rattle.store.specs.KeyPages.{key_page, page_of_keys}
+use Rattle.store.specs.Pages.{document_counts, id_page, if_counted, in_sequence, page_by_sequence, page_of_ids, rows_of, sequence_page}
+use Rattle.store.specs.declared.key_page.KeyRange.{KeyRange}
+use Rattle.store.specs.declared.page.IdRange.{IdRange}
+use Rattle.store.specs.declared.page.SeqRange.{SeqRange}
+use Rattle.sqlite_value.specs.Order.{Row}
+use Rattle.sqlite_trees.specs.Tree.{Trees}
+use Rattle.sqlite_keyed.proofs.KeyedLemmas.{same_int}
+use Rattle.sqlite_keyed.specs.Lists.{sort_by}
+use Rattle.tables.specs.Layout.{IsDatabaseRow, IsLaid}
+use Rattle.tables.specs.Listings.{leaves_row, listed_counts, listed_id, live_rows, sequence_row}
+use Rattle.tables.specs.Rows.{by_id, contents_in, database_of, db_of, document_of, history_in, id_of, is_in, is_named, length_of, listed_document, number_of}
+use Rattle.tables.specs.Schema.{docs_tree, revs_tree}
+use Rattle.tables.proofs.ListingRows.{counts_by_sequence, documents_by_id, leaves_by_sequence, live_by_id, winners_by_sequence}
+use Rattle.tables.proofs.Lookups.{document_found}
+use Rattle.tables.proofs.Sorted.{all_sorted, passing}
+use Rattle.sqlstore.specs.Listing.{listed_by_id, listed_by_sequence, page_with_leaves, places_of, winners_page, with_documents}
+use Rattle.sqlstore.specs.Reading.{FoundValues}
+use Rattle.sqlstore.proofs.Answering.{IsThere, all_left, at_first}
+use Rattle.sqlstore.proofs.ListedRows.{counts_set, id_rows_set, leaves_rows, page_kept, places_set, sequence_rows_set}
+
+-- the database's own sequence is one that a page may hold
+pub bounded_there : (trees : Trees) (name : List ℕ) (k : FoundValues) → IsLaid trees → IsThere trees name k → k.2 < 2 ^ 63
+bounded_there trees name k l t =
+    subst (λ (v : FoundValues). v.2 < 2 ^ 63) t.values (at_first IsDatabaseRow _ t.row (all_left IsDatabaseRow (is_named name) _ l.dbs) t.first).bounded
+
+module _ (trees : Trees) (name : List ℕ) (k : FoundValues) (lay : ∥ IsLaid trees ∥₁) (t : IsThere trees name k) where
+  -- ---- by id
+
+  pub id_page_there : (range : IdRange) → option_map (λ (db : Database). page_of_ids range db) (finite.get (contents_in trees) name) ≡ Some (id_page range (live_rows (listed_by_id trees k.0)))
+  id_page_there range =
+      ap (option_map (λ (db : Database). page_of_ids range db)) t.database
+      ∙ ap (λ rs. Some (id_page range rs)) (∥∥₁_elim lay (id_rows_set _ _) (live_by_id trees t.row) ∙ ap (λ (v : FoundValues). live_rows (listed_by_id trees v.0)) t.values)
+
+  -- ---- by sequence
+
+  abbrev documents : List (List ℕ × Document)
+  documents = finite.entries (database_of trees t.row).documents
+
+  with_winners : in_sequence (rows_of false documents) ≡ map sequence_row (listed_by_sequence trees (number_of t.row))
+  with_winners =
+      ∥∥₁_elim lay (sequence_rows_set (in_sequence (rows_of false documents)) (map sequence_row (listed_by_sequence trees (number_of t.row)))) (winners_by_sequence trees t.row)
+
+  with_all : in_sequence (rows_of true documents) ≡ map (leaves_row (trees revs_tree) (number_of t.row)) (listed_by_sequence trees (number_of t.row))
+  with_all =
+      ∥∥₁_elim lay (sequence_rows_set (in_sequence (rows_of true documents)) (map (leaves_row (trees revs_tree) (number_of t.row)) (listed_by_sequence trees (number_of t.row)))) (leaves_by_sequence trees t.row)
+
+  counts : document_counts documents ≡ listed_counts (listed_by_sequence trees (number_of t.row))
+  counts = ∥∥₁_elim lay (counts_set _ _) (counts_by_sequence trees t.row)
+
+  page_there : (range : SeqRange) → option_map (λ (db : Database). page_by_sequence range db) (finite.get (contents_in trees) name)
+      ≡ Some (sequence_page range (length_of t.row) (if_counted range.counted (listed_counts (listed_by_sequence trees (number_of t.row)))) (in_sequence (rows_of range.all_leaves documents)))
+  page_there range =
+      ap (option_map (λ (db : Database). page_by_sequence range db)) t.database
+      ∙ ap (λ c. Some (sequence_page range (length_of t.row) (if_counted range.counted c) (in_sequence (rows_of range.all_leaves documents)))) counts
+
+  pub winners_there : (range : SeqRange) → range.all_leaves ≡ false
+      → option_map (λ (db : Database). page_by_sequence range db) (finite.get (contents_in trees) name) ≡ Some (winners_page range k.2 (listed_by_sequence trees k.0))
+  winners_there range is =
+      let rows = ap (λ all. in_sequence (rows_of all documents)) is ∙ with_winners in
+      page_there range
+      ∙ ap (λ rs. Some (sequence_page range (length_of t.row) (if_counted range.counted (listed_counts (listed_by_sequence trees (number_of t.row)))) rs)) rows
+      ∙ ap (λ (v : FoundValues). Some (winners_page range v.2 (listed_by_sequence trees v.0))) t.values
+
+  pub leaves_there : (range : SeqRange) → range.all_leaves ≡ true
+      → option_map (λ (db : Database). page_by_sequence range db) (finite.get (contents_in trees) name) ≡ Some (page_with_leaves (history_in (trees revs_tree) k.0) (winners_page range k.2 (listed_by_sequence trees k.0)))
+  leaves_there range is =
+      let n = number_of t.row in
+      let rows = ap (λ all. in_sequence (rows_of all documents)) is ∙ with_all ∙ leaves_rows trees n (listed_by_sequence trees n) in
+      page_there range
+      ∙ ap (λ rs. Some (sequence_page range (length_of t.row) (if_counted range.counted (listed_counts (listed_by_sequence trees n))) rs)) rows
+      ∙ ap Some (page_kept (history_in (trees revs_tree) n) range (length_of t.row) (if_counted range.counted (listed_counts (listed_by_sequence trees n))) (map sequence_row (listed_by_sequence trees n)))
+      ∙ ap (λ (v : FoundValues). Some (page_with_leaves (history_in (trees revs_tree) v.0) (winners_page range v.2 (listed_by_sequence trees v.0)))) t.values
+
+  -- ---- by key
+
+  history_of : (id : List ℕ) → history_at (database_of trees t.row) id ≡ history_in (trees revs_tree) k.0 id
+  history_of id = ∥∥₁_elim lay (Coded-set content_code _ _) (document_found trees t.row id) ∙ ap (λ (v : FoundValues). history_in (trees revs_tree) v.0 id) t.values
+
+-- the documents of the rows in an index
+indexed : (trees : Trees) (db : ℤ) (fields : List (List ℕ)) (rows : List Row) → AllByRecursion (λ r. is_in db r ≡ true) rows
+    → index_over fields (map (λ r. (id_of r, document_of (trees revs_tree) r)) rows) ≡ with_documents fields (history_in (trees revs_tree) db) (map listed_id (map listed_document rows)) []
+indexed trees db fields [] all = refl
+indexed trees db fields (r ∷ rows) all =
+    ap₂ (λ n es. put_in_index fields (id_of r) (queried_document (id_of r) (history_in (trees revs_tree) n (id_of r))) es) (same_int (db_of r) db all.0) (indexed trees db fields rows all.1)
+
+module _ (trees : Trees) (name : List ℕ) (k : FoundValues) (lay : ∥ IsLaid trees ∥₁) (t : IsThere trees name k) where
+  places_found : (fields : List (List ℕ)) → index_rows fields (database_of trees t.row) ≡ places_of fields (history_in (trees revs_tree) k.0) (map listed_id (listed_by_id trees k.0))
+  places_found fields =
+      let n = number_of t.row in
+      let own = all_sorted (λ r. is_in n r ≡ true) by_id (filter (is_in n) (trees docs_tree)) (passing (is_in n) (trees docs_tree)) in
+      ∥∥₁_elim lay (places_set _ _) (λ l. ap (λ es. map (λ e. e.0) (index_over fields es)) (documents_by_id trees t.row l) ∙ ap (map (λ e. e.0)) (indexed trees n fields (sort_by by_id (filter (is_in n) (trees docs_tree))) own))
+      ∙ ap (λ (v : FoundValues). places_of fields (history_in (trees revs_tree) v.0) (map listed_id (listed_by_id trees v.0))) t.values
+
+  key_page_by : (range : KeyRange) (design index : List ℕ) → option_map (λ (db : Database). page_of_keys range design index db) (finite.get (contents_in trees) name)
+      ≡ Some (option_map (λ fields. key_page range (index_rows fields (database_of trees t.row))) (index_fields_of design (history_in (trees revs_tree) k.0 design) index))
+  key_page_by range design index =
+      ap (option_map (λ (db : Database). page_of_keys range design index db)) t.database
+      ∙ ap (λ h. Some (option_map (λ fields. key_page range (index_rows fields (database_of trees t.row))) (index_fields_of design h index))) (history_of trees name k lay t design)
+
+  pub key_page_there : (range : KeyRange) (design index : List ℕ) (fields : List (List ℕ)) → Some fields ≡ index_fields_of design (history_in (trees revs_tree) k.0 design) index
+      → option_map (λ (db : Database). page_of_keys range design index db) (finite.get (contents_in trees) name)
+      ≡ Some (Some (key_page range (places_of fields (history_in (trees revs_tree) k.0) (map listed_id (listed_by_id trees k.0)))))
+  key_page_there range design index fields is =
+      key_page_by range design index
+      ∙ ap (λ o. Some (option_map (λ fields. key_page range (index_rows fields (database_of trees t.row))) o)) (sym is)
+      ∙ ap (λ rs. Some (Some (key_page range rs))) (places_found fields)
+
+  pub no_index_there : (range : KeyRange) (design index : List ℕ) → None ≡ index_fields_of design (history_in (trees revs_tree) k.0 design) index
+      → option_map (λ (db : Database). page_of_keys range design index db) (finite.get (contents_in trees) name) ≡ Some None
+  no_index_there range design index is =
+      key_page_by range design index
+      ∙ ap (λ o. Some (option_map (λ fields. key_page range (index_rows fields (database_of trees t.row))) o)) (sym is)

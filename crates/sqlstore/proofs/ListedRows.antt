@@ -1,0 +1,159 @@
+-- The rows of a list of documents: that they are intact, and what pages they make.
+use base.Stored.{Coded-set}
+use Rattle.std.proofs.Common.{◌≡◌, ◌≤◌, ◌<◌, ◌^◌, ◌+◌, ◌-◌, ◌||◌, ℕ, ℤ, Bool, true, false, not, cond, List, [], ◌∷◌, ◌++◌, length, map, filter, find, drop, get_or, nat_lt, Option, Some, None, Ordering, refl, sym, ap, ap₂, ◌∙◌, arith}
+use Rattle.std.proofs.lemmas.List.{append_assoc, append-nil, drop_all, get_or-map, length-map, take-map}
+use Rattle.std.proofs.lemmas.List.Sums.{sum_by-cons}
+use Rattle.std.specs.Coded.{Coded, code_by, coded×, coded_bool, coded_list, coded_ℕ}
+use Rattle.std.specs.List.{All, AllByRecursion, count_by, list_any}
+use Rattle.tree.specs.History.{HistoryContent}
+use Rattle.tree.specs.Revision.{Revision, revision_code}
+use Rattle.store.specs.Indexes.{IndexPlace, place_code}
+use Rattle.store.specs.Pages.{SequenceRow, last_sequence, later_rows, sequence_page, up_to_limit}
+use Rattle.store.specs.Paging.{sequence_row_of, sequence_rows}
+use Rattle.store.specs.contracts.page.DocumentCounts as document_counts
+use Rattle.store.specs.contracts.page.IdRow as id_row
+use Rattle.store.specs.declared.page.DocumentCounts.{DocumentCounts}
+use Rattle.store.specs.declared.page.IdRow.{IdRow}
+use Rattle.store.specs.declared.page.SeqRange.{SeqRange}
+use Rattle.store.specs.declared.page.SeqRow.{SeqRow}
+use Rattle.sqlite_value.specs.Order.{Row}
+use Rattle.sqlite_trees.specs.Tree.{Trees}
+use Rattle.sqlite_keyed.proofs.ListLemmas.{all_both, map-map}
+use Rattle.sqlite_keyed.specs.Lists.{sort_by}
+use Rattle.tables.specs.Layout.{IsDatabaseRow, IsDocumentRow, IsLaid}
+use Rattle.tables.specs.Listings.{IsListedDocument, leaves_row, listed_counts, listed_mark, sequence_row}
+use Rattle.tables.specs.Rows.{by_id, by_sequence, is_in, listed_document, sequence_of}
+use Rattle.tables.specs.Schema.{dbs_tree, docs_tree, revs_tree}
+use Rattle.tables.proofs.ListingRows.{rows_of_a_listing}
+use Rattle.tables.proofs.Sorted.{all_sorted}
+use Rattle.sqlstore.specs.Listing.{IsSequenceRow, listed_by_sequence, page_with_leaves, row_counts, with_leaves}
+use Rattle.sqlstore.proofs.Answering.{all_left, all_shown}
+
+-- ---- rows are told apart by numbers
+
+row_code : Coded SequenceRow
+row_code =
+    code_by (ℕ × (List ℕ × (List Revision × Bool))) (coded× coded_ℕ (coded× (coded_list coded_ℕ) (coded× (coded_list revision_code) coded_bool)))
+    (λ r. (r.sequence, (r.id, (r.revs, r.deleted)))) (λ p. record { sequence = p.0; id = p.1.0; revs = p.1.1.0; deleted = p.1.1.1 }) (λ _. refl)
+
+pub sequence_rows_set : IsSet (List SequenceRow)
+sequence_rows_set = Coded-set (coded_list row_code)
+
+pub id_rows_set : IsSet (List IdRow)
+id_rows_set = Coded-set (coded_list id_row.the_row.coded)
+
+pub counts_set : IsSet DocumentCounts
+counts_set = Coded-set document_counts.the_row.coded
+
+pub places_set : IsSet (List IndexPlace)
+places_set = Coded-set (coded_list place_code)
+
+-- ---- the rows are intact
+
+pub listed_intact : (by : Row → Row → Ordering) (trees : Trees) (db : ℤ) → IsLaid trees → AllByRecursion IsListedDocument (map listed_document (sort_by by (filter (is_in db) (trees docs_tree))))
+listed_intact by trees db l =
+    all_shown IsListedDocument listed_document _ (all_sorted (λ r. IsListedDocument (listed_document r)) by _ (all_left (λ r. IsListedDocument (listed_document r)) (is_in db) _ (rows_of_a_listing trees l)))
+
+-- the row that is found is that of a database
+database_at : (p : Row → Bool) (rows : List Row) → AllByRecursion IsDatabaseRow rows → list_any p rows ≡ true → (d : Row) × (find p rows ≡ Some d) × IsDatabaseRow d
+database_at p [] all any = absurd (cc)
+database_at p (r ∷ rows) all any = go (p r) (database_at p rows all.1) any
+  where
+    go : (b : Bool) → (list_any p rows ≡ true → (d : Row) × (find p rows ≡ Some d) × IsDatabaseRow d) → (b || list_any p rows) ≡ true → (d : Row) × (cond b (Some r) (find p rows) ≡ Some d) × IsDatabaseRow d
+    go true more any = (r, refl, all.0)
+    go false more any = more any
+
+small_sequence : (trees : Trees) → IsLaid trees → (r : Row) → IsDocumentRow trees r → sequence_of r < 2 ^ 63
+small_sequence trees l r k =
+    let d = database_at _ (trees dbs_tree) l.dbs k.there in
+    let bounded = d.2.bounded in
+    omega (arith, k.within d.0 d.1, bounded)
+
+pub sequences_intact : (trees : Trees) (db : ℤ) → IsLaid trees → AllByRecursion IsSequenceRow (listed_by_sequence trees db)
+sequences_intact trees db l =
+    let P : Row → Type 0 = λ r. IsSequenceRow (listed_document r) in
+    let each : AllByRecursion (λ r. IsSequenceRow (listed_document r)) (trees docs_tree) =
+    all_both (λ r. IsListedDocument (listed_document r)) (IsDocumentRow trees) P (λ r listed k. record { listed = listed; small = small_sequence trees l r k }) (trees docs_tree) (rows_of_a_listing trees l) l.docs in
+    all_shown IsSequenceRow listed_document _ (all_sorted P by_sequence _ (all_left P (is_in db) _ each))
+
+-- ---- counts
+
+marked : (rows : List Row) (read : List SeqRow) → map sequence_row rows ≡ sequence_rows read → count_by (λ r. r.deleted) read ≡ count_by listed_mark rows
+marked [] [] e = refl
+marked [] (r ∷ read) e = absurd (cc)
+marked (s ∷ rows) [] e = absurd (cc)
+marked (s ∷ rows) (r ∷ read) e =
+    let first : sequence_row s ≡ sequence_row_of r = cc in
+    let rest : map sequence_row rows ≡ sequence_rows read = cc in
+    sum_by-cons (λ (y : SeqRow). cond y.deleted 1 0) r read
+    ∙ ap₂ (λ b n. cond b 1 0 + n) (sym (ap (λ (q : SequenceRow). q.deleted) first)) (marked rows read rest)
+    ∙ sym (sum_by-cons (λ y. cond (listed_mark y) 1 0) s rows)
+
+both_counted : (p : Row → Bool) (xs : List Row) → count_by p xs + count_by (λ x. not (p x)) xs ≡ length xs
+both_counted p [] = omega arith
+both_counted p (x ∷ xs) =
+    go (p x) (count_by p (x ∷ xs)) (count_by (λ y. not (p y)) (x ∷ xs)) (sum_by-cons (λ y. cond (p y) 1 0) x xs) (sum_by-cons (λ y. cond (not (p y)) 1 0) x xs) (both_counted p xs)
+  where
+    go : (c : Bool) (m n : ℕ) → m ≡ cond c 1 0 + count_by p xs → n ≡ cond (not c) 1 0 + count_by (λ y. not (p y)) xs → count_by p xs + count_by (λ y. not (p y)) xs ≡ length xs → m + n ≡ length (x ∷ xs)
+    go true m n a b more = omega (arith, a, b, more)
+    go false m n a b more = omega (arith, a, b, more)
+
+pub counts_read : (rows : List Row) (read : List SeqRow) → map sequence_row rows ≡ sequence_rows read → row_counts read ≡ listed_counts rows
+counts_read rows read is =
+    let gone = marked rows read is in
+    let long : length read ≡ length rows = sym (length-map read sequence_row_of) ∙ sym (ap length is) ∙ length-map rows sequence_row in
+    let live : length read - count_by (λ r. r.deleted) read ≡ count_by (λ s. not (listed_mark s)) rows = omega (arith, gone, long, both_counted listed_mark rows) in
+    λ i. record { documents = live i; deleted = gone i }
+
+-- ---- leaves in the place of winners
+
+module _ (history : List ℕ → HistoryContent) where
+  kept : (b : Bool) (r : SequenceRow) (rs ts : List SequenceRow) → ts ≡ map (with_leaves history) rs → cond b (with_leaves history r ∷ ts) ts ≡ map (with_leaves history) (cond b (r ∷ rs) rs)
+  kept true r rs ts h = ap (λ l. with_leaves history r ∷ l) h
+  kept false r rs ts h = h
+
+  later_kept : (since : ℕ) (rs : List SequenceRow) → filter (λ r. nat_lt since r.sequence) (map (with_leaves history) rs) ≡ map (with_leaves history) (filter (λ r. nat_lt since r.sequence) rs)
+  later_kept since [] = refl
+  later_kept since (r ∷ rs) = kept (nat_lt since r.sequence) r (filter (λ q. nat_lt since q.sequence) rs) _ (later_kept since rs)
+
+  limited : (limit : Option ℕ) (rs : List SequenceRow) → up_to_limit limit (map (with_leaves history) rs) ≡ map (with_leaves history) (up_to_limit limit rs)
+  limited None rs = refl
+  limited (Some n) rs = take-map (with_leaves history) n rs
+
+  last_kept : (otherwise : ℕ) (rs : List SequenceRow) → last_sequence otherwise (map (with_leaves history) rs) ≡ last_sequence otherwise rs
+  last_kept otherwise [] = refl
+  last_kept otherwise (r ∷ rs) = last_kept r.sequence rs
+
+  cut_kept : (range : SeqRange) (rs : List SequenceRow) → later_rows range (map (with_leaves history) rs) ≡ map (with_leaves history) (later_rows range rs)
+  cut_kept range rs = ap (up_to_limit range.limit) (later_kept range.since rs) ∙ limited range.limit (filter (λ r. nat_lt range.since r.sequence) rs)
+
+  pub page_kept : (range : SeqRange) (sequence : ℕ) (counts : Option DocumentCounts) (rs : List SequenceRow)
+      → sequence_page range sequence counts (map (with_leaves history) rs) ≡ page_with_leaves history (sequence_page range sequence counts rs)
+  page_kept range sequence counts rs =
+      let rows = cut_kept range rs in
+      let last = ap (last_sequence _) rows ∙ last_kept _ (later_rows range rs) in
+      λ i. record { rows = rows i; last = last i; sequence = sequence; counts = counts }
+
+pub leaves_rows : (trees : Trees) (db : ℤ) (rows : List Row) → map (leaves_row (trees revs_tree) db) rows ≡ map (with_leaves (Rattle.tables.specs.Rows.history_in (trees revs_tree) db)) (map sequence_row rows)
+leaves_rows trees db rows = sym (map-map (with_leaves (Rattle.tables.specs.Rows.history_in (trees revs_tree) db)) sequence_row rows)
+
+-- ---- a list that is made of another, an element at a time
+
+pub one_more : {A B : Type 0} (f : A → B) (all : List A) (i : ℕ) (a : A) (done new : List B) → drop i all ≡ a ∷ drop (i + 1) all → new ≡ done ++ f a ∷ [] → done ++ map f (drop i all) ≡ map f all
+    → new ++ map f (drop (i + 1) all) ≡ map f all
+one_more f all i a done new next pushed h =
+    ap (λ l. l ++ map f (drop (i + 1) all)) pushed ∙ append_assoc done (f a ∷ []) (map f (drop (i + 1) all)) ∙ sym (ap (λ l. done ++ map f l) next) ∙ h
+
+pub all_done : {A B : Type 0} (f : A → B) (all : List A) (i : ℕ) (done : List B) → length all ≤ i → done ++ map f (drop i all) ≡ map f all → done ≡ map f all
+all_done f all i done le h = sym (append-nil done) ∙ sym (ap (λ l. done ++ map f l) (drop_all i all le)) ∙ h
+
+pub same_values : {A : Type 0} (x y : A) → Some x ≡ Some y → x ≡ y
+same_values x y h = cc
+
+-- rows of the same sequences are below the same bound
+pub below_again : (n : ℕ) (rows again : List SeqRow) → map (λ (r : SeqRow). r.sequence) again ≡ map (λ (r : SeqRow). r.sequence) rows → All (λ r. r.sequence < n) rows → All (λ r. r.sequence < n) again
+below_again n rows again same all = λ k d lt.
+    let number = λ (r : SeqRow). r.sequence in
+    let long : length again ≡ length rows = sym (length-map again number) ∙ ap length same ∙ length-map rows number in
+    let within : k < length rows = omega (arith, lt, long) in
+    omega (arith, all k d within, get_or-map number again k d d.sequence lt, get_or-map number rows k d d.sequence within, ap (λ l. get_or l k d.sequence) same)

@@ -1,0 +1,6 @@
+use Rattle.std.proofs.Common.{◌≡◌, ◌++◌, drop, map}
+use Rattle.tables.specs.Listings.{listed_id}
+use Rattle.sqlstore.proofs.listings.read_ids.Given as goal
+
+abbrev pub invariant-loop-row : goal.invariant-loop-row
+invariant-loop-row l = l.ids.items ++ map listed_id (drop l.row-index l.rows) ≡ map listed_id l.rows

@@ -1,0 +1,6 @@
+use Rattle.std.proofs.Common.{◌≡◌, ◌++◌, drop}
+use Rattle.tables.specs.Listings.{live_rows}
+use Rattle.sqlstore.proofs.listings.read_live_rows.Given as goal
+
+abbrev pub invariant-loop-row : goal.invariant-loop-row
+invariant-loop-row l = l.live.items ++ live_rows (drop l.row-index l.rows) ≡ live_rows l.rows

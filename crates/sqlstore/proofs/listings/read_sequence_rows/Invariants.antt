@@ -1,0 +1,9 @@
+use Rattle.std.proofs.Common.{◌≡◌, ◌<◌, ◌^◌, ◌++◌, All, drop, map}
+use Rattle.store.specs.Paging.{sequence_rows}
+use Rattle.tables.specs.Listings.{sequence_row}
+use Rattle.sqlstore.proofs.listings.read_sequence_rows.Given as goal
+
+abbrev pub invariant-loop-row : goal.invariant-loop-row
+invariant-loop-row l =
+    (sequence_rows l.read.items ++ map sequence_row (drop l.row-index l.rows) ≡ map sequence_row l.rows)
+    × All (λ r. r.sequence < 2 ^ 63) l.read.items

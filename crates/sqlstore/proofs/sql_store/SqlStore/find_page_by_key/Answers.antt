@@ -1,0 +1,28 @@
+use Rattle.std.proofs.Common.{Some, sym, ap, ◌∙◌}
+use Rattle.store.specs.KeyPages.{key_page}
+use Rattle.sqlite_trees.specs.Tree.{Trees}
+use Rattle.tables.specs.Rows.{history_in}
+use Rattle.tables.specs.Schema.{revs_tree}
+use Rattle.sqlstore.specs.Listing.{places_of}
+use Rattle.sqlstore.specs.Model.{trees_of}
+use Rattle.sqlstore.proofs.Afterwards.{stands_same}
+use Rattle.sqlstore.proofs.Answering.{was_honest}
+use Rattle.sqlstore.proofs.Indexing.{places_listed}
+use Rattle.sqlstore.proofs.ListedRows.{same_values}
+use Rattle.sqlstore.proofs.sql_store.SqlStore.find_page_by_key.Goals as goal
+
+pub returns-clause-answer : goal.returns-clause-answer
+returns-clause-answer g c honest =
+    let s = c.args.self.now in
+    let mid = c.find_ids.new.self in
+    let end = c.index_documents.new.self in
+    let n = c.args.number.now in
+    let fields = c.args.fields.now in
+    let range = c.args.range.now in
+    let ids = c.in_ok-ids.ids.items in
+    let listed = same_values _ _ (c.in_ok-ids.ensures.answer (was_honest g.S.Store mid end c.index_documents.ensures.stands honest)) in
+    let indexed = same_values _ _ (c.in_ok-index.ensures.answer honest) in
+    ap (λ ks. Some (key_page range (places_of fields (history_in (trees_of g.S.Store s revs_tree) n) ks))) listed
+    ∙ ap (λ (t : Trees). Some (key_page range (places_of fields (history_in (t revs_tree) n) ids))) (sym (stands_same g.S.Store s mid c.find_ids.ensures.stands))
+    ∙ ap (λ rs. Some (key_page range rs)) (places_listed fields (history_in (trees_of g.S.Store mid revs_tree) n) ids c.in_ok-index.index.entries indexed ∙ sym c.in_ok-rows.ensures)
+    ∙ sym (ap Some c.in_ok-cut_by_key.ensures.page)

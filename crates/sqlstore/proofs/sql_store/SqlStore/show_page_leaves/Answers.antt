@@ -1,0 +1,15 @@
+use Rattle.std.proofs.Common.{◌^◌, map, ap, ◌∙◌}
+use Rattle.store.specs.declared.page.SeqRow.{SeqRow}
+use Rattle.sqlstore.proofs.ListedRows.{below_again}
+use Rattle.sqlstore.proofs.sql_store.SqlStore.show_page_leaves.Goals as goal
+
+pub returns-clause-bounded : goal.returns-clause-bounded
+returns-clause-bounded g c =
+    let number = λ (r : SeqRow). r.sequence in
+    record {
+      sequence = c.requires.sequence;
+      last = c.requires.last;
+      rows = below_again (2 ^ 63) c.args.page.rows.items c.in_ok-rows.rows.items (c.in_ok-rows.ensures.sequences ∙ ap (map number) c.deref.ensures.value) c.requires.rows;
+      counted = c.requires.counted;
+      counts = c.requires.counts;
+    }

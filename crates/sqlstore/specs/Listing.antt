@@ -1,0 +1,58 @@
+-- The parts of a page that are made of the rows of a list, of histories and of what is counted.
+-- This server's own: pages are those of `store`, rows are read by the words of `tables`.
+use Rattle.std.specs.Prelude.{◌<◌, ◌^◌, ℕ, ◌-◌, ℤ, List, [], ◌∷◌, length, filter, map}
+use Rattle.std.specs.List.{count_by}
+use Rattle.couch_json.specs.Value.{Value}
+use Rattle.tree.specs.History.{HistoryContent, leaves}
+use Rattle.store.specs.Indexes.{IndexPlace, put_in_index, queried_document}
+use Rattle.store.specs.Pages.{SequencePage, SequenceRow, if_counted, sequence_page}
+use Rattle.store.specs.declared.page.DocumentCounts.{DocumentCounts}
+use Rattle.store.specs.declared.page.SeqRange.{SeqRange}
+use Rattle.store.specs.declared.page.SeqRow.{SeqRow}
+use Rattle.sqlite_value.specs.Order.{Row}
+use Rattle.sqlite_trees.specs.Tree.{Trees}
+use Rattle.sqlite_keyed.specs.Lists.{sort_by}
+use Rattle.tables.specs.Listings.{IsListedDocument, listed_counts, listed_sequence, sequence_row}
+use Rattle.tables.specs.Rows.{by_id, by_sequence, is_in, listed_document}
+use Rattle.tables.specs.Schema.{docs_tree}
+
+-- the rows of all documents of a database, as a list of them shows them, by id
+abbrev pub listed_by_id : Trees → ℤ → List Row
+listed_by_id trees db = map listed_document (sort_by by_id (filter (is_in db) (trees docs_tree)))
+
+-- and by sequence
+abbrev pub listed_by_sequence : Trees → ℤ → List Row
+listed_by_sequence trees db = map listed_document (sort_by by_sequence (filter (is_in db) (trees docs_tree)))
+
+-- the page by sequence of such rows, with winners alone
+abbrev pub winners_page : SeqRange → ℕ → List Row → SequencePage
+winners_page range sequence rows =
+    sequence_page range sequence (if_counted range.counted (listed_counts rows)) (map sequence_row rows)
+
+-- the row of a document at a sequence that a page may hold
+pub record IsSequenceRow (s : Row) : Type 0 where
+  pub listed : IsListedDocument s
+  pub small : listed_sequence s < 2 ^ 63
+
+-- how many of the rows have a winner that is deleted, and how many have not
+abbrev pub row_counts : List SeqRow → DocumentCounts
+row_counts rows =
+    record { documents = length rows - count_by (λ r. r.deleted) rows; deleted = count_by (λ r. r.deleted) rows }
+
+-- a row with all leaves of its document
+abbrev pub with_leaves : (List ℕ → HistoryContent) → SequenceRow → SequenceRow
+with_leaves history r = record r { revs = leaves (history r.id) }
+
+-- a page of such rows
+abbrev pub page_with_leaves : (List ℕ → HistoryContent) → SequencePage → SequencePage
+page_with_leaves history p = record p { rows = map (with_leaves history) p.rows }
+
+-- an index of these fields, and the documents of these ids put in, the last first
+abbrev pub with_documents : List (List ℕ) → (List ℕ → HistoryContent) → List (List ℕ) → List (IndexPlace × Value) → List (IndexPlace × Value)
+with_documents fields history [] among = among
+with_documents fields history (id ∷ ids) among =
+    put_in_index fields id (queried_document id (history id)) (with_documents fields history ids among)
+
+-- the rows of that index
+abbrev pub places_of : List (List ℕ) → (List ℕ → HistoryContent) → List (List ℕ) → List IndexPlace
+places_of fields history ids = map (λ e. e.0) (with_documents fields history ids [])

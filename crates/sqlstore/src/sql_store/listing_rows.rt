@@ -1,0 +1,38 @@
+//! The rows of all documents of a database, that a store reads.
+
+use crate::fault::judge;
+use crate::sql_store::SqlStore;
+use sqlite::{Alter, Row};
+use store::StoreFault;
+use tables::documents;
+
+impl<S: Alter> SqlStore<S> {
+    ghost use Rattle.std.specs.Prelude.{◌≡◌, IfErr, IfOk};
+    ghost use Rattle.sqlstore.specs.Causes.{IsJudged};
+    ghost use Rattle.sqlstore.specs.Listing.{listed_by_id, listed_by_sequence};
+    ghost use Rattle.sqlstore.specs.Model.{Stands, is_honest, trees_of};
+
+    /// Returns the rows of all documents of a database, by the bytes of their ids.
+    pub(crate) fn rows_by_id(&mut self, db: &i64) -> Result<Vec<Row>, StoreFault>
+        ensures ok { is_honest S.Store self.new → IfOk result (λ rows. rows.items ≡ listed_by_id (trees_of S.Store self.old) db.now) }
+        ensures judged { IfErr result (IsJudged self.old.faults self.new.faults) }
+        ensures stands { Stands S.Store self.old self.new }
+    {
+        match documents::rows_by_id(&mut self.conn, db) {
+            Ok(rows) => Ok(rows),
+            Err(error) => Err(judge(&mut self.faults, error)),
+        }
+    }
+
+    /// Returns the rows of all documents of a database, by their sequences.
+    pub(crate) fn rows_by_sequence(&mut self, db: &i64) -> Result<Vec<Row>, StoreFault>
+        ensures ok { is_honest S.Store self.new → IfOk result (λ rows. rows.items ≡ listed_by_sequence (trees_of S.Store self.old) db.now) }
+        ensures judged { IfErr result (IsJudged self.old.faults self.new.faults) }
+        ensures stands { Stands S.Store self.old self.new }
+    {
+        match documents::rows_by_sequence(&mut self.conn, db) {
+            Ok(rows) => Ok(rows),
+            Err(error) => Err(judge(&mut self.faults, error)),
+        }
+    }
+}

@@ -1,0 +1,197 @@
+//! The pages of the database of a number.
+
+use crate::histories::read_history;
+use crate::listings::{read_ids, read_page_by_id, read_page_by_sequence};
+use crate::sql_store::SqlStore;
+use couch_json::{FieldPath, Json};
+use sqlite::Alter;
+use std::collections::BTreeMap;
+use store::paging::{cut_by_key, list_index_rows, put_in_index};
+use store::{
+    IdRange, KeyRange, KeyRow, PageById, PageByKey, PageBySeq, SeqRange, SeqRow, StoreFault,
+};
+use tree::{DocId, History, Rev};
+
+impl<S: Alter> SqlStore<S> {
+    ghost use Rattle.std.specs.Prelude.{◌≡◌, ◌<◌, ◌^◌, [], IfOk, Some, map};
+    ghost use Rattle.store.specs.Indexes.{put_in_index, queried_document};
+    ghost use Rattle.store.specs.KeyPages.{key_page};
+    ghost use Rattle.store.specs.KeyPaging.{HasKeyCounts, key_page_of};
+    ghost use Rattle.store.specs.Pages.{id_page};
+    ghost use Rattle.store.specs.Paging.{IsBounded, IsCounted, id_page_of, sequence_page_of, sequence_row_of, sequence_rows};
+    ghost use Rattle.store.specs.Plain.{place_views};
+    ghost use Rattle.tables.specs.Listings.{listed_id, live_rows};
+    ghost use Rattle.tables.specs.Rows.{history_in};
+    ghost use Rattle.tables.specs.Schema.{revs_tree};
+    ghost use Rattle.tree.specs.History.{leaves};
+    ghost use Rattle.sqlstore.specs.Listing.{listed_by_id, listed_by_sequence, page_with_leaves, places_of, winners_page, with_documents, with_leaves};
+    ghost use Rattle.sqlstore.specs.Model.{Answers, Stands, trees_of};
+
+    /// Finds the history of a document, empty where it was never written.
+    pub(crate) fn find_history(&mut self, number: &i64, id: &DocId) -> Result<History, StoreFault>
+        ensures answer { Answers S.Store self.old self.new (λ history. history) (Some (history_in (trees_of S.Store self.old revs_tree) number.now id.now)) result }
+        ensures stands { Stands S.Store self.old self.new }
+    {
+        let rows = self.revision_rows(number, id.as_str().as_bytes())?;
+        read_history(self.alloc, &rows)
+    }
+
+    // ---- by id
+
+    /// Finds the documents whose winner is not deleted, by id and cut by a range.
+    pub(crate) fn find_page_by_id(
+        &mut self,
+        number: &i64,
+        range: &IdRange,
+    ) -> Result<PageById, StoreFault>
+        ensures answer { Answers S.Store self.old self.new id_page_of
+            (Some (id_page range.now (live_rows (listed_by_id (trees_of S.Store self.old) number.now)))) result }
+        ensures counted { IfOk result (IsCounted range.now) }
+        ensures stands { Stands S.Store self.old self.new }
+    {
+        let rows = self.rows_by_id(number)?;
+        read_page_by_id(self.alloc, &rows, range)
+    }
+
+    // ---- by sequence
+
+    /// Finds the documents at their sequences, each with its winner alone, cut by a range.
+    pub(crate) fn find_page_by_sequence(
+        &mut self,
+        number: &i64,
+        sequence: u64,
+        range: &SeqRange,
+    ) -> Result<PageBySeq, StoreFault>
+        requires { sequence < 2 ^ 63 }
+        ensures answer { Answers S.Store self.old self.new sequence_page_of
+            (Some (winners_page range.now sequence (listed_by_sequence (trees_of S.Store self.old) number.now))) result }
+        ensures bounded { IfOk result (IsBounded range.now) }
+        ensures stands { Stands S.Store self.old self.new }
+    {
+        let rows = self.rows_by_sequence(number)?;
+        read_page_by_sequence(self.alloc, &rows, sequence, range)
+    }
+
+    /// Finds all leaves of a document, best first.
+    fn find_leaves(&mut self, number: &i64, id: &DocId) -> Result<Vec<Rev>, StoreFault>
+        ensures answer { Answers S.Store self.old self.new (λ revs. revs.items) (Some (leaves (history_in (trees_of S.Store self.old revs_tree) number.now id.now))) result }
+        ensures stands { Stands S.Store self.old self.new }
+    {
+        let history = self.find_history(number, id)?;
+        Ok(history.leaves()?)
+    }
+
+    /// Makes the row of a document with all its leaves.
+    fn show_leaves(&mut self, number: &i64, row: &SeqRow) -> Result<SeqRow, StoreFault>
+        ensures answer { Answers S.Store self.old self.new sequence_row_of (Some (with_leaves (history_in (trees_of S.Store self.old revs_tree) number.now) (sequence_row_of row.now))) result }
+        ensures sequence { IfOk result (λ r. r.sequence ≡ row.now.sequence) }
+        ensures stands { Stands S.Store self.old self.new }
+    {
+        let revs = self.find_leaves(number, &row.id)?;
+        Ok(SeqRow {
+            sequence: row.sequence,
+            id: row.id.copy(self.alloc)?,
+            revs,
+            deleted: row.deleted,
+        })
+    }
+
+    /// Makes the rows of documents, each with all its leaves.
+    fn show_all_leaves(&mut self, number: &i64, rows: &[SeqRow]) -> Result<Vec<SeqRow>, StoreFault>
+        ensures answer { Answers S.Store self.old self.new (λ shown. sequence_rows shown.items) (Some (map (with_leaves (history_in (trees_of S.Store self.old revs_tree) number.now)) (sequence_rows rows.now))) result }
+        ensures sequences { IfOk result (λ shown. map (λ r. r.sequence) shown.items ≡ map (λ r. r.sequence) rows.now) }
+        ensures stands { Stands S.Store self.old self.new }
+    {
+        let mut shown = Vec::with_capacity(self.alloc, rows.len())?;
+        for row in rows {
+            shown.push(self.show_leaves(number, row)?)?;
+        }
+        Ok(shown)
+    }
+
+    /// Makes a page whose rows have all leaves of their documents.
+    pub(crate) fn show_page_leaves(
+        &mut self,
+        number: &i64,
+        page: PageBySeq,
+        range: &SeqRange,
+    ) -> Result<PageBySeq, StoreFault>
+        requires { IsBounded range.now page }
+        ensures answer { Answers S.Store self.old self.new sequence_page_of (Some (page_with_leaves (history_in (trees_of S.Store self.old revs_tree) number.now) (sequence_page_of page))) result }
+        ensures bounded { IfOk result (IsBounded range.now) }
+        ensures stands { Stands S.Store self.old self.new }
+    {
+        let rows = self.show_all_leaves(number, &page.rows)?;
+        Ok(PageBySeq {
+            rows,
+            last_seq: page.last_seq,
+            sequence: page.sequence,
+            counts: page.counts,
+        })
+    }
+
+    // ---- by key
+
+    /// Finds the ids of all documents, by their bytes.
+    fn find_ids(&mut self, number: &i64) -> Result<Vec<DocId>, StoreFault>
+        ensures answer { Answers S.Store self.old self.new (λ ids. ids.items) (Some (map listed_id (listed_by_id (trees_of S.Store self.old) number.now))) result }
+        ensures stands { Stands S.Store self.old self.new }
+    {
+        let rows = self.rows_by_id(number)?;
+        read_ids(self.alloc, &rows)
+    }
+
+    /// Puts a document at its place in an index.
+    fn index_document(
+        &mut self,
+        number: &i64,
+        fields: &[FieldPath],
+        id: DocId,
+        index: &mut BTreeMap<KeyRow, Json>,
+    ) -> Result<(), StoreFault>
+        ensures answer { Answers S.Store self.old self.new (λ _. place_views index.new.entries)
+            (Some (put_in_index fields.now id (queried_document id (history_in (trees_of S.Store self.old revs_tree) number.now id)) (place_views index.old.entries))) result }
+        ensures stands { Stands S.Store self.old self.new }
+    {
+        let history = self.find_history(number, &id)?;
+        put_in_index(self.alloc, index, fields, id, &history)?;
+        Ok(())
+    }
+
+    /// Makes the index of these fields over the documents of these ids.
+    fn index_documents(
+        &mut self,
+        number: &i64,
+        fields: &[FieldPath],
+        ids: Vec<DocId>,
+    ) -> Result<BTreeMap<KeyRow, Json>, StoreFault>
+        ensures answer { Answers S.Store self.old self.new (λ index. place_views index.entries)
+            (Some (with_documents fields.now (history_in (trees_of S.Store self.old revs_tree) number.now) ids.items [])) result }
+        ensures stands { Stands S.Store self.old self.new }
+    {
+        let mut ids = ids;
+        let mut index = BTreeMap::new(self.alloc);
+        while let Some(id) = ids.pop() {
+            self.index_document(number, fields, id, &mut index)?;
+        }
+        Ok(index)
+    }
+
+    /// Finds the rows of the index of these fields, by key and cut by a range.
+    pub(crate) fn find_page_by_key(
+        &mut self,
+        number: &i64,
+        fields: &[FieldPath],
+        range: &KeyRange,
+    ) -> Result<PageByKey, StoreFault>
+        ensures answer { Answers S.Store self.old self.new key_page_of
+            (Some (key_page range.now (places_of fields.now (history_in (trees_of S.Store self.old revs_tree) number.now) (map listed_id (listed_by_id (trees_of S.Store self.old) number.now))))) result }
+        ensures counted { IfOk result (HasKeyCounts range.now) }
+        ensures stands { Stands S.Store self.old self.new }
+    {
+        let ids = self.find_ids(number)?;
+        let index = self.index_documents(number, fields, ids)?;
+        let rows = list_index_rows(self.alloc, index)?;
+        Ok(cut_by_key(rows, range)?)
+    }
+}
