@@ -1,6 +1,7 @@
 ghost use Rattle.std.specs.Prelude.{◌≡◌, IfOk};
 ghost use Rattle.std.specs.FinMap.{empty};
 
+use sqlstore::MemoryStore;
 use std::alloc::Global;
 use store::{PlainStore, Store, StoreFault};
 
@@ -20,4 +21,12 @@ impl LabStore for PlainStore {
     }
 
     ghost honest = { λ _. tt };
+}
+
+impl LabStore for MemoryStore {
+    fn make(alloc: Global) -> Result<MemoryStore, StoreFault> {
+        MemoryStore::new(alloc)
+    }
+
+    ghost honest = { λ s. s.honest };
 }
