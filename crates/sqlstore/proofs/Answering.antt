@@ -16,7 +16,8 @@ use Rattle.sqlite_trees.specs.Tree.{Trees}
 use Rattle.store.specs.Contents.{local_at}
 use Rattle.couch_json.specs.View.{view}
 use Rattle.tables.specs.declared.decode.FoundDatabase.{FoundDatabase}
-use Rattle.tables.specs.Layout.{IsDatabaseRow, IsLaid, IsStore}
+use Rattle.tables.specs.Layout.{IsDatabaseRow, IsLaid}
+use Rattle.sqlstore.specs.Standing.{WasStore}
 use Rattle.tables.specs.Rows.{contents_in, database_of, is_named, is_of, local_of, next_number, shown_database, shown_local}
 use Rattle.tables.specs.Schema.{dbs_tree, locals_tree}
 use Rattle.tables.specs.Shown.{IsShownDatabase, IsShownLocal, local_shown}
@@ -78,7 +79,7 @@ module _ {S : Type 0} (g : Ghosts S) (old new : SqlStore S g) where
 
   -- what stands was honest
   pub was_honest : Stands g old new → is_honest g new → is_honest g old
-  was_honest s honest = (s.clean honest.0, subst (λ h. IsStore (state g h).now) s.origin honest.1)
+  was_honest s honest = (s.clean honest.0, subst (WasStore g) s.origin honest.1)
 
   pub same_contents : Stands g old new → contents_of g new ≡ contents_of g old
   same_contents s = ap (λ h. contents_in (state g h).now.trees) s.last
@@ -89,7 +90,7 @@ module _ {S : Type 0} (g : Ghosts S) (old new : SqlStore S g) where
       counted = s.counted;
       honest = was_honest s;
       clean = s.clean;
-      steady = λ honest clean. (clean, subst (λ h. IsStore (state g h).now) (sym s.origin) honest.1);
+      steady = λ honest clean. (clean, subst (WasStore g) (sym s.origin) honest.1);
     };
     same = λ honest. same_contents s;
     room = λ honest name ws lacks. subst (λ h. (db : Database) × (get (contents_in (state g h).now.trees) name ≡ Some db) × ¬ (db.length + length ws < 2 ^ 63)) s.last lacks;

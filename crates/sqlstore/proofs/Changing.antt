@@ -15,7 +15,7 @@ use Rattle.sqlstore.specs.Model.{ChangesWhole, Moves, Stands, contents_of, is_ho
 use Rattle.sqlite_trees.specs.Tree.{Trees}
 use Rattle.sqlstore.specs.Reading.{HasNumber}
 use Rattle.sqlstore.specs.Sequences.{Replaces}
-use Rattle.sqlstore.specs.Standing.{IsHeld, Turns}
+use Rattle.sqlstore.specs.Standing.{IsHeld, Turns, WasStore}
 use Rattle.sqlstore.specs.declared.sql_store.SqlStore.{SqlStore}
 
 module _ {S : Type 0} (g : Ghosts S) (old new origin last : Held S) where
@@ -31,7 +31,7 @@ module _ {S : Type 0} (g : Ghosts S) (old new origin last : Held S) where
 
   -- one that was committed leaves what is held by it
   pub held_done : (HasCleanDisk (state g new) → HasCleanDisk (state g old)) → (HasCleanDisk (state g new) → IsTrue (state g old).is_open × IsTrue (state g new).is_open × ((state g new).now ≡ (state g new).committed))
-      → (HasCleanDisk (state g new) → IsStore (state g origin).now → IsStore (state g old).now → IsStore (state g new).now) → (next : Held S) → next ≡ new → IsHeld g old origin last → IsHeld g new origin next
+      → (HasCleanDisk (state g new) → WasStore g origin → IsStore (state g old).now → IsStore (state g new).now) → (next : Held S) → next ≡ new → IsHeld g old origin last → IsHeld g new origin next
   held_done was done keeps next is_new held clean is =
       ∥∥₁_map (held (was clean) is) (λ h. record {
         store = subst (λ x. IsStore (state g x).now) (sym is_new) (keeps clean is (subst IsStore (sym (h.now (done clean).0)) h.store));
@@ -40,7 +40,7 @@ module _ {S : Type 0} (g : Ghosts S) (old new origin last : Held S) where
       })
 
   -- what follows of the rows of an open connection holds of those that the last change left
-  pub from_held : (P : Database → Type 0) → IsProp (P (state g last).now) → IsHeld g old origin last → HasCleanDisk (state g old) → IsStore (state g origin).now → IsTrue (state g old).is_open
+  pub from_held : (P : Database → Type 0) → IsProp (P (state g last).now) → IsHeld g old origin last → HasCleanDisk (state g old) → WasStore g origin → IsTrue (state g old).is_open
       → (IsStore (state g old).now → P (state g old).now) → P (state g last).now
   from_held P prop held clean is up follows = ∥∥₁_elim (held clean is) prop (λ h. subst P (h.now up) (follows (subst IsStore (sym (h.now up)) h.store)))
 
@@ -64,7 +64,7 @@ module _ {S : Type 0} (g : Ghosts S) where
   stood a b p = record { origin = p.origin; counted = p.counted; clean = p.clean }
 
   pub was_honest : (a b : SqlStore S g) → Moves g a b → is_honest g b → is_honest g a
-  was_honest a b m honest = (m.clean honest.0, subst (λ h. IsStore (state g h).now) m.origin honest.1)
+  was_honest a b m honest = (m.clean honest.0, subst (WasStore g) m.origin honest.1)
 
   -- a change that keeps the contents where it is refused
   pub whole : {X F : Type 0} (a b : SqlStore S g) (r : Result X F) → Moves g a b → (is_honest g b → OnErr r (contents_of g b ≡ contents_of g a)) → ChangesWhole g a b r
@@ -73,7 +73,7 @@ module _ {S : Type 0} (g : Ghosts S) where
       counted = m.counted;
       honest = was_honest a b m;
       clean = m.clean;
-      steady = λ honest clean. (clean, subst (λ h. IsStore (state g h).now) (sym m.origin) honest.1);
+      steady = λ honest clean. (clean, subst (WasStore g) (sym m.origin) honest.1);
     };
     refused = kept;
   }

@@ -9,7 +9,7 @@ use Rattle.sqlite.specs.State.{HasCleanDisk}
 use Rattle.tables.specs.Calls.{Asks, Looks}
 use Rattle.tables.specs.Layout.{IsStore}
 use Rattle.tables.specs.Schema.{schema}
-use Rattle.sqlstore.specs.Standing.{Holds, IsHeld}
+use Rattle.sqlstore.specs.Standing.{Holds, IsHeld, WasStore}
 
 module _ {S : Type 0} (g : Ghosts S) (old new origin last : Held S) where
   -- the rows are as they were, whichever way a query ended
@@ -32,11 +32,11 @@ module _ {S : Type 0} (g : Ghosts S) (old new origin last : Held S) where
   held_on asks looks held clean is = ∥∥₁_map (held (asks.clean clean) is) (holds_on asks looks clean)
 
   -- what a query of an open connection finds is so in the rows that the last change left
-  pub found : (P : Trees → Type 0) → IsProp (P (state g last).now.trees) → IsHeld g old origin last → Asks g old new → HasCleanDisk (state g new) → IsStore (state g origin).now
+  pub found : (P : Trees → Type 0) → IsProp (P (state g last).now.trees) → IsHeld g old origin last → Asks g old new → HasCleanDisk (state g new) → WasStore g origin
       → IsTrue (state g old).is_open → (IsStore (state g old).now → P (state g old).now.trees) → P (state g last).now.trees
   found P prop held asks clean is up finds =
       ∥∥₁_elim (held (asks.clean clean) is) prop (λ h. subst (λ (d : Rattle.sqlite.specs.Effect.Database). P d.trees) (h.now up) (finds (subst IsStore (sym (h.now up)) h.store)))
 
   -- an open connection has the rows that the last change left
-  pub same_trees : IsHeld g old origin last → HasCleanDisk (state g old) → IsStore (state g origin).now → IsTrue (state g old).is_open → (state g old).now.trees ≡ (state g last).now.trees
+  pub same_trees : IsHeld g old origin last → HasCleanDisk (state g old) → WasStore g origin → IsTrue (state g old).is_open → (state g old).now.trees ≡ (state g last).now.trees
   same_trees held clean is up = ∥∥₁_elim (held clean is) (Trees-set _ _) (λ h. ap (λ (d : Rattle.sqlite.specs.Effect.Database). d.trees) (h.now up))

@@ -11,7 +11,7 @@ use Rattle.store.specs.Contents.{Contents}
 use Rattle.store.specs.Database.{Database, DocumentWrite}
 use Rattle.store.specs.Leaving as leaving
 use Rattle.store.specs.declared.fault.StoreFault.{StoreFault}
-use Rattle.tables.specs.Layout.{IsStore}
+use Rattle.sqlstore.specs.Standing.{WasStore}
 use Rattle.tables.specs.Rows.{contents_in, next_number}
 use Rattle.tables.specs.Schema.{dbs_tree}
 use Rattle.sqlstore.specs.declared.sql_store.SqlStore.{SqlStore}
@@ -30,7 +30,7 @@ module _ {S : Type 0} (g : Ghosts S) where
 
   -- and the tables were laid out when the store was opened
   abbrev pub is_honest : SqlStore S g → Type 0
-  is_honest s = is_clean s × IsStore (state g s.origin.value).now
+  is_honest s = is_clean s × WasStore g s.origin.value
 
   abbrev pub fault_count : SqlStore S g → ℕ
   fault_count s = s.faults

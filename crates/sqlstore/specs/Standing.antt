@@ -13,9 +13,13 @@ module _ {S : Type 0} (g : Ghosts S) where
     pub now : IsTrue (state g conn).is_open → (state g conn).now ≡ (state g last).now
     pub committed : IsTrue (state g conn).is_open → (state g conn).committed ≡ (state g last).now
 
+  -- the tables were laid out when the store was opened
+  abbrev pub WasStore : Held S → Type 0
+  WasStore origin = ∥ IsStore (state g origin).now ∥₁
+
   -- where the connection is honest, it is so
   abbrev pub IsHeld : Held S → Held S → Held S → Type 0
-  IsHeld conn origin last = HasCleanDisk (state g conn) → IsStore (state g origin).now → ∥ Holds conn last ∥₁
+  IsHeld conn origin last = HasCleanDisk (state g conn) → WasStore origin → ∥ Holds conn last ∥₁
 
   -- what a transaction leaves of a connection, however it ends and whatever the schema is
   pub record Turns (old new : Held S) : Type 0 where

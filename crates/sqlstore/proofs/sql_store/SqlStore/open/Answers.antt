@@ -1,4 +1,5 @@
 use Rattle.std.proofs.Common.{◌≡◌, ◌∙◌, inr, Err, IsTrue, true, not, ap, sym, subst}
+use Rattle.std.proofs.Math.Logic.{∥∥₁_map}
 use Rattle.sqlite.specs.Effect.{Database}
 use Rattle.sqlite.specs.Held.{Held, state}
 use Rattle.tables.specs.Layout.{IsStore}
@@ -21,11 +22,11 @@ invariant_of-result g c =
     record {
       idle = turns.idle;
       unlimited = turns.limit ∙ ap (λ (h : Held g.row.S.Denot). h.step_limit) c.set_step_limit.ensures;
-      held = λ clean store. ∣ record {
+      held = λ clean was. ∥∥₁_map was (λ store. record {
         store = subst (λ h. IsStore (now h)) (c.of-origin.ensures ∙ sym c.of-last.ensures) store;
         now = λ up. ap now (sym c.of-last.ensures);
         committed = λ up. sym (c.is_autocommit-2.ensures.settled settled up) ∙ ap now (sym c.of-last.ensures);
-      } ∣₁;
+      });
     }
 
 pub returns-clause-found : goal.returns-clause-found
@@ -33,13 +34,13 @@ returns-clause-found g c clean store =
     let now : Held g.row.S.Denot → Database = λ h. (state g.S.Store h).now in
     let began = ap now c.set_step_limit.ensures in
     let same : now c.find_tables.new.conn ≡ now c.args.conn = c.in_default.ensures.found clean (subst IsStore (sym began) store) ∙ began in
-    ((clean, subst IsStore (sym (ap now c.of-origin.ensures ∙ same)) store), ap (λ (d : Database). contents_in d.trees) (ap now c.of-last.ensures ∙ same))
+    ((clean, ∣ subst IsStore (sym (ap now c.of-origin.ensures ∙ same)) store ∣₁), ap (λ (d : Database). contents_in d.trees) (ap now c.of-last.ensures ∙ same))
 
 pub returns-clause-made : goal.returns-clause-made
 returns-clause-made g c clean none =
     let now : Held g.row.S.Denot → Database = λ h. (state g.S.Store h).now in
     let made = c.in_default.ensures.made clean (ap (λ (h : Held g.row.S.Denot). h.schema) c.set_step_limit.ensures ∙ none) in
-    ((clean, subst IsStore (sym (ap now c.of-origin.ensures)) (holds (now c.find_tables.new.conn) made)), ap (λ h. contents_in (now h).trees) c.of-last.ensures ∙ nothing (now c.find_tables.new.conn) made)
+    ((clean, ∣ subst IsStore (sym (ap now c.of-origin.ensures)) (holds (now c.find_tables.new.conn) made) ∣₁), ap (λ h. contents_in (now h).trees) c.of-last.ensures ∙ nothing (now c.find_tables.new.conn) made)
 
 pub returns-clause-all : goal.returns-clause-all
 returns-clause-all g c = subst (λ (h : Held g.row.S.Denot). has_any h.schema ≡ true → has_all h.schema ≡ true) c.set_step_limit.ensures c.in_default.ensures.all
