@@ -1,11 +1,9 @@
 -- One write of a document, by the statements that were run for it.
-use Rattle.std.proofs.Common.{◌≡◌, ◌+◌, ℕ, ℤ, pos, Bool, List, Some, Result, Ok, Err, OnOk, sym, subst, ◌∙◌, arith}
+use Rattle.std.proofs.Common.{◌≡◌, ◌+◌, ℕ, ℤ, pos, Bool, List, Result, Ok, Err, OnOk, sym, subst, ◌∙◌, arith}
 use Rattle.sqlite_value.specs.Order.{Row}
 use Rattle.sqlite.specs.Effect.{Database}
-use Rattle.tree.specs.History.{HistoryContent, behind, with_write}
-use Rattle.tree.specs.Nodes.{entries_before}
+use Rattle.tree.specs.History.{HistoryContent, with_write}
 use Rattle.tree.specs.Revision.{Revision, text_of}
-use Rattle.tree.specs.Write.{head}
 use Rattle.tree.specs.declared.entry.Entry.{Entry}
 use Rattle.store.specs.Writing.{Addition, written_in}
 use Rattle.tables.specs.Edits.{AreInserted, IsWrite, new_entries}
@@ -17,11 +15,7 @@ use Rattle.tables.proofs.DocumentWriteNews.{news_of_addition}
 use Rattle.tables.proofs.DocumentWriteSteps.{revisions_changed}
 use Rattle.tables.proofs.Rests.{leaves}
 use Rattle.tables.proofs.Tables.{databases_laid, docs_keyed}
-use Rattle.sqlstore.specs.Inserting.{IsBest, IsPlaced, unknown_in}
-
--- what the write's own path says of its revisions, of which those that are new are put in
-abbrev pub entries_of : HistoryContent → Addition → List (Revision × Entry)
-entries_of h a = entries_before (Some (record { deleted = a.deleted; body = a.body })) a.path (head (behind h a.parent))
+use Rattle.sqlstore.specs.Inserting.{IsBest, IsPlaced, entries_of, unknown_in}
 
 -- the statements of a write, and the values that they were given
 pub record Ran (h : HistoryContent) (a : Addition) (text : List ℕ) (deleted : Bool) (db sequence : ℤ) (id : List ℕ) (old inserted placed new : Database) : Type 0 where

@@ -8,6 +8,8 @@ pub mod Tables
 pub mod Answering
 pub mod Inserting
 pub mod DocumentWriting
+pub mod Committing
+pub mod Committed
 pub mod ListedRows
 pub mod FoundPages
 pub mod Afterwards

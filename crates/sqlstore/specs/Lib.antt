@@ -4,4 +4,5 @@ pub mod Model
 pub mod Reading
 pub mod Sequences
 pub mod Inserting
+pub mod Commits
 pub mod Listing

@@ -1,7 +1,10 @@
 //! One write of a document, as statements of a transaction.
 
 ghost use Rattle.std.specs.Prelude.{◌≡◌, ◌+◌, ◌∷◌, [], pos, None, Some, IfOk, OnOk, string_bytes};
-ghost use Rattle.couch_json.specs.View.{view};
+ghost use Rattle.std.specs.Prelude.{IsTrue};
+ghost use Rattle.std.specs.List.{AllByRecursion};
+ghost use Rattle.couch_json.specs.Canonical.{canonical};
+ghost use Rattle.couch_json.specs.Value.{Value};
 ghost use Rattle.sqlite.specs.Held.{state};
 ghost use Rattle.sqlite.specs.State.{HasCleanDisk};
 ghost use Rattle.sqlite.specs.Values.{or_null};
@@ -15,10 +18,11 @@ ghost use Rattle.tables.specs.Rows.{history_in, length_of, number_of, parent_cel
 ghost use Rattle.tables.specs.Schema.{docs_tree, revs_tree, schema};
 ghost use Rattle.tree.specs.History.{behind, held_of, is_deleted};
 ghost use Rattle.tree.specs.Nodes.{entries_before, next_of};
+ghost use Rattle.tree.specs.Revision.{is_revision};
 ghost use Rattle.tree.specs.Write.{head};
-ghost use Rattle.sqlstore.specs.Inserting.{InsertsAll, IsBest, IsPlaced, unknown_in};
+ghost use Rattle.sqlstore.specs.Inserting.{InsertsAll, IsBest, IsLawfulAddition, IsPlaced, entries_of, unknown_in};
 
-use couch_json::{Json, canon};
+use couch_json::canon;
 use sqlite::{Alter, Error, ErrorCode, Transaction};
 use std::alloc::Global;
 use store::Write;
@@ -97,7 +101,8 @@ fn insert_line<S: Alter>(
     Ok(())
 }
 
-/// Puts in the newest revision of a write, with its mark and its body, if the history doesn't know it.
+/// Puts in the newest revision of a write, with its mark and the text of its body, if the history
+/// doesn't know it.
 fn insert_newest<S: Alter>(
     tx: &mut Transaction<'_, S>,
     db: &i64,
@@ -106,19 +111,16 @@ fn insert_newest<S: Alter>(
     rev: &Rev,
     parent: &Option<Rev>,
     deleted: bool,
-    body: &Json,
-    alloc: Global,
+    body: &str,
 ) -> Result<(), Error>
     ensures same_reference { tx.new.conn.ghost_name ≡ tx.old.conn.ghost_name }
-    ensures ok { InsertsAll S.Store (unknown_in history.now ((rev.now, record { parent = parent.now; held = Some (record { deleted = deleted; body = view body.now }) }) ∷ [])) db.now id.now tx.old.conn.now tx.new.conn.now result }
+    ensures ok { (v : Value) → body.now ≡ canonical v
+        → InsertsAll S.Store (unknown_in history.now ((rev.now, record { parent = parent.now; held = Some (record { deleted = deleted; body = v }) }) ∷ [])) db.now id.now tx.old.conn.now tx.new.conn.now result }
     ensures proceeds { Proceeds S.Store tx.old.conn.now tx.new.conn.now }
 {
     if history.knows(rev) {
         return Ok(());
     }
-    let Ok(text) = canon(alloc, body) else {
-        return Err(Error::SqliteFailure(ErrorCode::OutOfMemory));
-    };
     let parent = hash_of(parent);
     insert_revision(
         tx,
@@ -129,12 +131,12 @@ fn insert_newest<S: Alter>(
         parent,
         true,
         deleted,
-        Some(text.as_str()),
+        Some(body),
     )
 }
 
-/// Puts in those revisions of a write that the history doesn't know: the newest with its mark and its
-/// body, and the others of its path with nothing.
+/// Puts in those revisions of a path that the history doesn't know: the newest with its mark and the
+/// text of its body, and the others with nothing.
 fn insert_path<S: Alter>(
     tx: &mut Transaction<'_, S>,
     db: &i64,
@@ -143,11 +145,11 @@ fn insert_path<S: Alter>(
     path: &[Rev],
     parent: &Option<Rev>,
     deleted: bool,
-    body: &Json,
-    alloc: Global,
+    body: &str,
 ) -> Result<(), Error>
     ensures same_reference { tx.new.conn.ghost_name ≡ tx.old.conn.ghost_name }
-    ensures ok { InsertsAll S.Store (unknown_in history.now (entries_before (Some (record { deleted = deleted; body = view body.now })) path.now parent.now)) db.now id.now tx.old.conn.now tx.new.conn.now result }
+    ensures ok { (v : Value) → body.now ≡ canonical v
+        → InsertsAll S.Store (unknown_in history.now (entries_before (Some (record { deleted = deleted; body = v })) path.now parent.now)) db.now id.now tx.old.conn.now tx.new.conn.now result }
     ensures proceeds { Proceeds S.Store tx.old.conn.now tx.new.conn.now }
 {
     let Some(newest) = path.first() else {
@@ -155,8 +157,48 @@ fn insert_path<S: Alter>(
     };
     let rest = &path[1..];
     let next = find_next(rest, parent);
-    insert_newest(tx, db, id, history, newest, &next, deleted, body, alloc)?;
+    insert_newest(tx, db, id, history, newest, &next, deleted, body)?;
     insert_line(tx, db, id, history, rest, parent)
+}
+
+/// Looks at each revision of a path, and does nothing else: each is lawful.
+fn walk_path(path: &[Rev])
+    ensures { AllByRecursion (λ v. IsTrue (is_revision v)) path.now }
+{
+    for rev in path {
+        prove!(rev.number() > 0);
+    }
+}
+
+/// Puts in those revisions of a write that the history doesn't know.
+fn insert_revisions<S: Alter>(
+    alloc: Global,
+    tx: &mut Transaction<'_, S>,
+    db: &i64,
+    history: &History,
+    write: &Write,
+) -> Result<(), Error>
+    ensures same_reference { tx.new.conn.ghost_name ≡ tx.old.conn.ghost_name }
+    ensures ok { InsertsAll S.Store (unknown_in history.now (entries_of history.now (addition_of write.now))) db.now (addition_of write.now).id tx.old.conn.now tx.new.conn.now result }
+    ensures lawful { OnOk result (IsLawfulAddition (addition_of write.now)) }
+    ensures proceeds { Proceeds S.Store tx.old.conn.now tx.new.conn.now }
+{
+    let id = write.id.as_str();
+    walk_path(&write.path);
+    let Ok(text) = canon(alloc, &write.body) else {
+        return Err(Error::SqliteFailure(ErrorCode::OutOfMemory));
+    };
+    let parent = known_parent(history, &write.parent);
+    insert_path(
+        tx,
+        db,
+        id.as_bytes(),
+        history,
+        &write.path,
+        &parent,
+        write.deleted,
+        text.as_str(),
+    )
 }
 
 /// Puts the row of a document in the place of the one of its id.
@@ -189,7 +231,7 @@ fn is_deleted(history: &History, rev: &Rev) -> bool
 }
 
 /// Returns the text of the best revision, and whether it is deleted.
-fn best_of(history: &History, alloc: Global) -> Result<(String, bool), Error>
+fn best_of(alloc: Global, history: &History) -> Result<(String, bool), Error>
     ensures { IfOk result (λ best. IsBest history.now (string_bytes best.0) best.1) }
 {
     let Some(rev) = history.winner() else {
@@ -215,38 +257,28 @@ fn known_parent(history: &History, parent: &Option<Rev>) -> Option<Rev>
 
 /// Does one write of a document, whose history is as it is before the write.
 pub(crate) fn add_write<S: Alter>(
+    alloc: Global,
     tx: &mut Transaction<'_, S>,
     db: &i64,
     sequence: &i64,
     history: &mut History,
     write: &Write,
-    alloc: Global,
 ) -> Result<(), Error>
     ensures same_reference { tx.new.conn.ghost_name ≡ tx.old.conn.ghost_name }
     ensures ok { (r : Row) → HasCleanDisk (state S.Store tx.new.conn.now) → IsStore (state S.Store tx.old.conn.now).now
         → history.old ≡ history_in ((state S.Store tx.old.conn.now).now.trees revs_tree) (number_of r) (addition_of write.now).id
         → db.now ≡ number_of r → sequence.now ≡ pos (length_of r + 1)
         → OnOk result (IsWrite r (written_in history.old (addition_of write.now)) (state S.Store tx.old.conn.now).now (state S.Store tx.new.conn.now).now) }
+    ensures lawful { OnOk result (IsLawfulAddition (addition_of write.now)) }
     ensures inside { Stays S.Store tx.old.conn.now tx.new.conn.now result }
     ensures proceeds { Proceeds S.Store tx.old.conn.now tx.new.conn.now }
 {
-    let id = write.id.as_str().as_bytes();
-    let parent = known_parent(history, &write.parent);
-    insert_path(
-        tx,
-        db,
-        id,
-        history,
-        &write.path,
-        &parent,
-        write.deleted,
-        &write.body,
-        alloc,
-    )?;
+    insert_revisions(alloc, tx, db, history, write)?;
     let Ok(()) = history.put(&write.path, write.parent, write.deleted, &write.body) else {
         return Err(Error::SqliteFailure(ErrorCode::OutOfMemory));
     };
-    let (text, deleted) = best_of(history, alloc)?;
+    let (text, deleted) = best_of(alloc, history)?;
+    let id = write.id.as_str().as_bytes();
     replace_document(tx, db, id, sequence, text.as_str(), deleted)?;
     advance_database(tx, db, sequence)
 }

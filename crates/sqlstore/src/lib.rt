@@ -1,6 +1,7 @@
 //! The store of databases over SQLite tables.
 #![tactic(auto)]
 
+mod commits;
 mod document_write;
 mod fault;
 mod histories;
@@ -11,6 +12,7 @@ mod opening;
 mod shown;
 mod sql_store;
 mod transactions;
+mod write_fault;
 
 pub use open_fault::OpenFault;
 pub use sql_store::SqlStore;

@@ -1,12 +1,12 @@
 ghost use Rattle.std.specs.Prelude.{◌≡◌, false, None};
 ghost use Rattle.sqlstore.specs.Standing.{IsHeld};
 
+mod calls;
 mod changing;
+mod committing;
 mod find;
 mod listing_rows;
 mod numbered;
-mod paging;
-mod reading;
 mod rows;
 
 use crate::open_fault::OpenFault;
@@ -45,12 +45,6 @@ impl<S: Alter + Drop> Drop for SqlStore<S> {
 impl<S: Alter> SqlStore<S> {
     ghost use Rattle.sqlstore.specs.Model.{fault_count};
 
-    /// Counts how many faults of what it stands on the store has met; it stays at 2^64 - 1.
-    pub fn faults(&self) -> u64
-        ensures { result ≡ fault_count S.Store self.now }
-    {
-        self.faults
-    }
 }
 
 impl<S: Alter + Drop> SqlStore<S> {

@@ -1,0 +1,98 @@
+use Rattle.std.proofs.Common.{rules, ◌≡◌, ◌∙◌, Option, Some, None, option_map, Err, ap, sym, subst, map}
+use Rattle.std.specs.FinMap as finite
+use Rattle.sqlite_trees.specs.Tree.{Trees}
+use Rattle.store.specs.Database.{Database}
+use Rattle.store.specs.Indexes.{index_fields_of}
+use Rattle.store.specs.KeyPages.{KeyPage, key_page, page_of_keys}
+use Rattle.store.specs.KeyPaging.{key_page_in}
+use Rattle.store.specs.declared.key_page.PageByKey.{PageByKey}
+use Rattle.tables.specs.Listings.{listed_id}
+use Rattle.tables.specs.Rows.{history_in}
+use Rattle.tables.specs.Schema.{revs_tree}
+use Rattle.sqlstore.specs.Listing.{listed_by_id, places_of}
+use Rattle.sqlstore.specs.Model.{Answers, contents_of, trees_of}
+use Rattle.sqlstore.proofs.Afterwards.{stands_same}
+use Rattle.sqlstore.proofs.Answering.{laid, not_found, reads, stands_then, there, was_honest}
+use Rattle.sqlstore.proofs.FoundPages.{key_page_there, no_index_there}
+use Rattle.sqlstore.proofs.ListedRows.{same_values}
+use Rattle.sqlstore.proofs.sql_store.calls.SqlStoreStore.page_by_key.Goals as goal
+
+pub returns-in_err-found-clause-answer : goal.returns-in_err-found-clause-answer
+returns-in_err-found-clause-answer g c =
+    let s = c.args.self.now in
+    let f : Database → Option KeyPage = λ db. page_of_keys c.args.range.now c.args.design.now c.args.index.now db in
+    let defined : Option (Option KeyPage) = option_map f (finite.get (contents_of g.S.Store s) c.args.name.now) in
+    let is : c.from_residual.result ≡ Err c.in_err-found.field-0.0 = search rules in
+    subst (Answers g.S.Store {X = Option PageByKey} s c.find.new.self key_page_in defined) (sym is)
+    (not_found g.S.Store s c.find.new.self c.args.name.now key_page_in f c.in_err-found.field-0.0 c.in_err-found.ensures.answer)
+
+pub returns-in_err-found-clause-reads : goal.returns-in_err-found-clause-reads
+returns-in_err-found-clause-reads g c = reads g.S.Store c.args.self.now c.find.new.self c.find.ensures.stands
+
+pub returns-in_err-history-clause-reads : goal.returns-in_err-history-clause-reads
+returns-in_err-history-clause-reads g c =
+    reads g.S.Store c.args.self.now c.find_history.new.self (stands_then g.S.Store c.args.self.now c.find.new.self c.find_history.new.self c.find.ensures.stands c.find_history.ensures.stands)
+
+pub returns-in_err-fields-clause-reads : goal.returns-in_err-fields-clause-reads
+returns-in_err-fields-clause-reads g c =
+    reads g.S.Store c.args.self.now c.find_history.new.self (stands_then g.S.Store c.args.self.now c.find.new.self c.find_history.new.self c.find.ensures.stands c.find_history.ensures.stands)
+
+pub returns-in_err-find_page_by_key-in-Some-clause-reads : goal.returns-in_err-find_page_by_key-in-Some-clause-reads
+returns-in_err-find_page_by_key-in-Some-clause-reads g c =
+    let s = c.args.self.now in
+    let first = c.find.new.self in
+    let second = c.find_history.new.self in
+    let end = c.find_page_by_key.new.self in
+    reads g.S.Store s end (stands_then g.S.Store s second end (stands_then g.S.Store s first second c.find.ensures.stands c.find_history.ensures.stands) c.find_page_by_key.ensures.stands)
+
+pub returns-in-Some-clause-answer : goal.returns-in-Some-clause-answer
+returns-in-Some-clause-answer g c honest =
+    let s = c.args.self.now in
+    let first = c.find.new.self in
+    let second = c.find_history.new.self in
+    let end = c.find_page_by_key.new.self in
+    let design = c.args.design.now in
+    let index = c.args.index.now in
+    let range = c.args.range.now in
+    let n = c.in_ok-found.found.number in
+    let fields = c.in-Some.fields.items in
+    let stood = c.find.ensures.stands in
+    let both = stands_then g.S.Store s first second stood c.find_history.ensures.stands in
+    let then = was_honest g.S.Store second end c.find_page_by_key.ensures.stands honest in
+    let was = was_honest g.S.Store first second c.find_history.ensures.stands then in
+    let found = there (trees_of g.S.Store s) c.args.name.now _ (c.in_ok-found.ensures.answer was) in
+    let lay = laid g.S.Store s (was_honest g.S.Store s first stood was) in
+    let history = sym (same_values _ _ (c.in_ok-history.ensures.answer then)) ∙ ap (λ (t : Trees). history_in (t revs_tree) n design) (stands_same g.S.Store s first stood) in
+    let declared : Some c.in-Some.fields.items ≡ index_fields_of c.args.design.now c.in_ok-history.history c.args.index.now = search rules in
+    key_page_there (trees_of g.S.Store s) c.args.name.now _ lay found range design index fields (declared ∙ ap (λ h. index_fields_of design h index) history)
+    ∙ ap (λ (t : Trees). Some (Some (key_page range (places_of fields (history_in (t revs_tree) n) (map listed_id (listed_by_id t n)))))) (sym (stands_same g.S.Store s second both))
+    ∙ ap (λ fs. Some (Some (key_page range (places_of fs (history_in (trees_of g.S.Store second revs_tree) n) (map listed_id (listed_by_id (trees_of g.S.Store second) n)))))) (sym c.deref.ensures.value)
+    ∙ ap Some (c.in_ok-find_page_by_key-in-Some.ensures.answer honest)
+
+pub returns-in-Some-clause-reads : goal.returns-in-Some-clause-reads
+returns-in-Some-clause-reads g c =
+    let s = c.args.self.now in
+    let first = c.find.new.self in
+    let second = c.find_history.new.self in
+    let end = c.find_page_by_key.new.self in
+    reads g.S.Store s end (stands_then g.S.Store s second end (stands_then g.S.Store s first second c.find.ensures.stands c.find_history.ensures.stands) c.find_page_by_key.ensures.stands)
+
+pub returns-clause-answer : goal.returns-clause-answer
+returns-clause-answer g c honest =
+    let s = c.args.self.now in
+    let first = c.find.new.self in
+    let second = c.find_history.new.self in
+    let design = c.args.design.now in
+    let index = c.args.index.now in
+    let n = c.in_ok-found.found.number in
+    let stood = c.find.ensures.stands in
+    let was = was_honest g.S.Store first second c.find_history.ensures.stands honest in
+    let found = there (trees_of g.S.Store s) c.args.name.now _ (c.in_ok-found.ensures.answer was) in
+    let lay = laid g.S.Store s (was_honest g.S.Store s first stood was) in
+    let history = sym (same_values _ _ (c.in_ok-history.ensures.answer honest)) ∙ ap (λ (t : Trees). history_in (t revs_tree) n design) (stands_same g.S.Store s first stood) in
+    let declared : None ≡ index_fields_of c.args.design.now c.in_ok-history.history c.args.index.now = search rules in
+    no_index_there (trees_of g.S.Store s) c.args.name.now _ lay found c.args.range.now design index (declared ∙ ap (λ h. index_fields_of design h index) history)
+
+pub returns-clause-reads : goal.returns-clause-reads
+returns-clause-reads g c =
+    reads g.S.Store c.args.self.now c.find_history.new.self (stands_then g.S.Store c.args.self.now c.find.new.self c.find_history.new.self c.find.ensures.stands c.find_history.ensures.stands)

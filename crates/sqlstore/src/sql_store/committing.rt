@@ -1,0 +1,57 @@
+//! How writes of documents are appended to a database, in one transaction.
+
+ghost use Rattle.std.specs.Prelude.{◌+◌, ◌<◌, ◌^◌, ◌↔◌, IsTrue};
+
+use crate::commits::commit_writes;
+use crate::sql_store::SqlStore;
+use crate::write_fault::judge_write;
+use sqlite::Alter;
+use std::snapshot::Snapshot;
+use store::{DbName, StoreFault, Write};
+
+/// Tells whether so many sequences are left after this one.
+pub(crate) fn has_room(sequence: u64, count: usize) -> bool
+    ensures { IsTrue result ↔ (sequence + count < 2 ^ 63) }
+{
+    match sequence.checked_add(count as u64) {
+        Some(last) => last < 1 << 63,
+        None => false,
+    }
+}
+
+impl<S: Alter> SqlStore<S> {
+    ghost use Rattle.std.specs.Prelude.{◌≡◌, ◌≢◌, Err, IfErr, None, Some, OnErr, OnOk, length, option_map};
+    ghost use Rattle.std.specs.FinMap as map;
+    ghost use Rattle.store.specs.Causes.{IsCaused};
+    ghost use Rattle.store.specs.Contents.{AreAcceptable, IfThere};
+    ghost use Rattle.store.specs.Database.{with_all};
+    ghost use Rattle.store.specs.Writing.{additions, writings_in};
+    ghost use Rattle.sqlstore.specs.Commits.{AreDue, IsUncommitted};
+    ghost use Rattle.sqlstore.specs.Model.{ChangesWhole, Moves, contents_of, fault_count, is_honest, lacks_room, trees_of};
+
+    /// Appends writes to the database of this number and this sequence.
+    pub(crate) fn append(
+        &mut self,
+        name: &DbName,
+        number: &i64,
+        sequence: u64,
+        writes: &[Write],
+    ) -> Result<(), StoreFault>
+        requires room { sequence + length writes.now < 2 ^ 63 }
+        requires due { is_honest S.Store self.old → AreDue (additions writes.now) name.now number.now sequence (trees_of S.Store self.old) }
+        ensures ok { is_honest S.Store self.new → OnOk result (option_map (λ db. map.insert (contents_of S.Store self.old) name.now (with_all db (writings_in db (additions writes.now))))
+            (map.get (contents_of S.Store self.old) name.now) ≡ Some (contents_of S.Store self.new)) }
+        ensures told { IfErr result (IsUncommitted self.old.faults self.new.faults (is_honest S.Store self.new)) }
+        ensures kept { OnErr result (self.new.last.value ≡ self.old.last.value) }
+        ensures moves { Moves S.Store self.old self.new }
+    {
+        match commit_writes(self.alloc, &mut self.conn, number, sequence, writes) {
+            Ok(()) => {
+                self.last = Snapshot::of(&self.conn);
+                Ok(())
+            }
+            Err(fault) => Err(judge_write(&mut self.faults, fault)),
+        }
+    }
+
+}
