@@ -5,6 +5,7 @@ mod commits;
 mod document_write;
 mod fault;
 mod histories;
+mod in_memory;
 mod listings;
 mod names;
 mod open_fault;
@@ -14,5 +15,6 @@ mod sql_store;
 mod transactions;
 mod write_fault;
 
+pub use in_memory::MemoryStore;
 pub use open_fault::OpenFault;
 pub use sql_store::SqlStore;

@@ -44,7 +44,6 @@ impl<S: Alter + Drop> Drop for SqlStore<S> {
 
 impl<S: Alter> SqlStore<S> {
     ghost use Rattle.sqlstore.specs.Model.{fault_count};
-
 }
 
 impl<S: Alter + Drop> SqlStore<S> {

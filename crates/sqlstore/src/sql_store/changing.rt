@@ -54,7 +54,12 @@ impl<S: Alter> SqlStore<S> {
     }
 
     /// Gives the database of this number another security object.
-    pub(crate) fn secure(&mut self, name: &DbName, number: &i64, security: &Security) -> Result<(), StoreFault>
+    pub(crate) fn secure(
+        &mut self,
+        name: &DbName,
+        number: &i64,
+        security: &Security,
+    ) -> Result<(), StoreFault>
         requires { is_honest S.Store self.old → HasNumber (trees_of S.Store self.old) name.now number.now }
         ensures ok { is_honest S.Store self.new → OnOk result (option_map (λ db. map.insert (contents_of S.Store self.old) name.now (with_security db security.now)) (map.get (contents_of S.Store self.old) name.now) ≡ Some (contents_of S.Store self.new)) }
         ensures judged { IfErr result (IsJudged self.old.faults self.new.faults) }
@@ -118,5 +123,4 @@ impl<S: Alter> SqlStore<S> {
             Err(error) => Err(judge(&mut self.faults, error)),
         }
     }
-
 }

@@ -53,5 +53,4 @@ impl<S: Alter> SqlStore<S> {
             Err(fault) => Err(judge_write(&mut self.faults, fault)),
         }
     }
-
 }

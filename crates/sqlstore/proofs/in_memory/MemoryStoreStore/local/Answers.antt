@@ -1,0 +1,5 @@
+use Rattle.sqlite.proofs.Callers.{memory_is_clean}
+use Rattle.sqlstore.proofs.in_memory.MemoryStoreStore.local.Goals as goal
+
+pub invariant_of-self : goal.invariant_of-self
+invariant_of-self c = record { honest = c.local.ensures.reads.goes_on.steady c.args.self.now.honest (memory_is_clean c.local.new.self.conn) }
