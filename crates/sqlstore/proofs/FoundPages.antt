@@ -34,6 +34,14 @@ bounded_there trees name k l t =
     subst (λ (v : FoundValues). v.2 < 2 ^ 63) t.values (at_first IsDatabaseRow _ t.row (all_left IsDatabaseRow (is_named name) _ l.dbs) t.first).bounded
 
 module _ (trees : Trees) (name : List ℕ) (k : FoundValues) (lay : ∥ IsLaid trees ∥₁) (t : IsThere trees name k) where
+  -- ---- histories
+
+  history_of : (id : List ℕ) → history_at (database_of trees t.row) id ≡ history_in (trees revs_tree) k.0 id
+  history_of id = ∥∥₁_elim lay (Coded-set content_code _ _) (document_found trees t.row id) ∙ ap (λ (v : FoundValues). history_in (trees revs_tree) v.0 id) t.values
+
+  pub history_there : (id : List ℕ) → option_map (λ (db : Database). history_at db id) (finite.get (contents_in trees) name) ≡ Some (history_in (trees revs_tree) k.0 id)
+  history_there id = ap (option_map (λ (db : Database). history_at db id)) t.database ∙ ap Some (history_of id)
+
   -- ---- by id
 
   pub id_page_there : (range : IdRange) → option_map (λ (db : Database). page_of_ids range db) (finite.get (contents_in trees) name) ≡ Some (id_page range (live_rows (listed_by_id trees k.0)))
@@ -81,11 +89,6 @@ module _ (trees : Trees) (name : List ℕ) (k : FoundValues) (lay : ∥ IsLaid t
       ∙ ap Some (page_kept (history_in (trees revs_tree) n) range (length_of t.row) (if_counted range.counted (listed_counts (listed_by_sequence trees n))) (map sequence_row (listed_by_sequence trees n)))
       ∙ ap (λ (v : FoundValues). Some (page_with_leaves (history_in (trees revs_tree) v.0) (winners_page range v.2 (listed_by_sequence trees v.0)))) t.values
 
-  -- ---- by key
-
-  history_of : (id : List ℕ) → history_at (database_of trees t.row) id ≡ history_in (trees revs_tree) k.0 id
-  history_of id = ∥∥₁_elim lay (Coded-set content_code _ _) (document_found trees t.row id) ∙ ap (λ (v : FoundValues). history_in (trees revs_tree) v.0 id) t.values
-
 -- the documents of the rows in an index
 indexed : (trees : Trees) (db : ℤ) (fields : List (List ℕ)) (rows : List Row) → AllByRecursion (λ r. is_in db r ≡ true) rows
     → index_over fields (map (λ r. (id_of r, document_of (trees revs_tree) r)) rows) ≡ with_documents fields (history_in (trees revs_tree) db) (map listed_id (map listed_document rows)) []
@@ -94,6 +97,8 @@ indexed trees db fields (r ∷ rows) all =
     ap₂ (λ n es. put_in_index fields (id_of r) (queried_document (id_of r) (history_in (trees revs_tree) n (id_of r))) es) (same_int (db_of r) db all.0) (indexed trees db fields rows all.1)
 
 module _ (trees : Trees) (name : List ℕ) (k : FoundValues) (lay : ∥ IsLaid trees ∥₁) (t : IsThere trees name k) where
+  -- ---- by key
+
   places_found : (fields : List (List ℕ)) → index_rows fields (database_of trees t.row) ≡ places_of fields (history_in (trees revs_tree) k.0) (map listed_id (listed_by_id trees k.0))
   places_found fields =
       let n = number_of t.row in

@@ -1,6 +1,6 @@
 -- The history that the rows of a document's revisions make, in whatever order a query shows them.
 use base.Stored.{Coded-set}
-use Rattle.std.proofs.Common.{◌≡◌, ◌≢◌, ℕ, ℤ, Bool, true, false, cond, List, [], ◌∷◌, map, filter, slice_get, Option, Some, option_map, IsPermutation, refl, sym, ap, subst, ◌∙◌}
+use Rattle.std.proofs.Common.{◌≡◌, ◌≢◌, ℕ, ℤ, Bool, true, false, cond, List, [], ◌∷◌, map, filter, slice_get, Option, option_map, IsPermutation, refl, sym, ap, subst, ◌∙◌}
 use Rattle.std.specs.Coded.{coded_option}
 use Rattle.std.specs.FinMap as finite
 use Rattle.std.specs.List.{AllByRecursion}
@@ -13,21 +13,20 @@ use Rattle.tree.specs.declared.entry.Entry.{Entry}
 use Rattle.tree.proofs.Contents.{rows_make}
 use Rattle.tree.proofs.Kept.{revision_cmp_total}
 use Rattle.tree.proofs.Revisions.{revision_cmp_exact}
-use Rattle.store.specs.Database.{Database, history_at}
 use Rattle.sqlite_value.specs.Order.{Row}
 use Rattle.sqlite_trees.specs.Tree.{IsAscending, Trees}
 use Rattle.sqlite_trees.proofs.ListLemmas.{all-permutation}
 use Rattle.sqlite_keyed.proofs.ListLemmas.{IsPermutation-filter, map-map}
 use Rattle.tables.specs.Layout.{IsLaid}
-use Rattle.tables.specs.Rows.{contents_in, db_of, entry_of, history_in, id_of, is_of, revision_of, shown_revision}
+use Rattle.tables.specs.Rows.{db_of, entry_of, history_in, id_of, is_of, revision_of, shown_revision}
 use Rattle.tables.specs.Schema.{revs_tree}
 use Rattle.tables.specs.Shown.{IsShownRevision, held_shown, parent_shown, revision_shown}
 use Rattle.tables.proofs.Laid.{shown_revisions}
-use Rattle.tables.proofs.Lookups.{document_found, of_these}
+use Rattle.tables.proofs.Lookups.{of_these}
 use Rattle.tables.proofs.RowMaps.{get_filtered}
 use Rattle.tables.proofs.Single.{HasOneAtMost, one_order}
-use Rattle.sqlstore.specs.Reading.{FoundValues, entry_shown, history_shown}
-use Rattle.sqlstore.proofs.Answering.{IsThere, all_left, all_shown}
+use Rattle.sqlstore.specs.Reading.{entry_shown, history_shown}
+use Rattle.sqlstore.proofs.Answering.{all_left, all_shown}
 
 -- rows that are apart are so as they are shown, where some are left out
 module _ (R Q : Row → Row → Type 0) (show : Row → Row) (p : Row → Bool) (apart : (a b : Row) → p a ≡ true → p b ≡ true → R a b → Q (show a) (show b)) where
@@ -90,14 +89,6 @@ history_made trees db id rows l same =
 
 pub history_set : IsSet (Option HistoryContent)
 history_set = Coded-set (coded_option content_code)
-
--- the history of a document of a database that is found
-pub history_there : (trees : Trees) (name id : List ℕ) (k : FoundValues) (rows : List Row) → IsLaid trees → IsThere trees name k
-    → IsPermutation (map shown_revision (filter (is_of k.0 id) (trees revs_tree))) rows
-    → option_map (λ (db : Database). history_at db id) (finite.get (contents_in trees) name) ≡ Some (history_shown rows)
-history_there trees name id k rows l t same =
-    ap (option_map (λ (db : Database). history_at db id)) t.database
-    ∙ ap Some (document_found trees t.row id l ∙ ap (λ (v : FoundValues). history_in (trees revs_tree) v.0 id) t.values ∙ sym (history_made trees k.0 id rows l same))
 
 pub history_intact : (trees : Trees) (p : Row → Bool) (rows : List Row) → IsLaid trees → IsPermutation (map shown_revision (filter p (trees revs_tree))) rows → AllByRecursion IsShownRevision rows
 history_intact trees p rows l same = all-permutation IsShownRevision _ rows same (all_shown IsShownRevision shown_revision _ (all_left _ p _ (shown_revisions trees l)))

@@ -67,8 +67,8 @@ fn write_document<S: Alter>(
     Ok(())
 }
 
-/// Returns a sequence as SQLite holds it.
-fn whole(sequence: u64) -> i64
+/// Returns the integer that SQLite holds for a sequence.
+fn integer_of(sequence: u64) -> i64
     requires { sequence < 2 ^ 63 }
     ensures { result ≡ pos sequence }
 {
@@ -97,7 +97,7 @@ fn write_all<S: Alter>(
     ensures asks { AsksInside S.Store tx.old.conn.now tx.new.conn.now }
 {
     for (i, write) in writes.iter().enumerate() {
-        let next = whole(sequence + i as u64 + 1);
+        let next = integer_of(sequence + i as u64 + 1);
         write_document(alloc, tx, db, &next, write)?;
     }
     Ok(())

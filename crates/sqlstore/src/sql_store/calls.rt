@@ -1,6 +1,5 @@
 //! The calls of the trait `Store`.
 
-use crate::histories::read_history;
 use crate::names::read_names;
 use crate::shown::{first_local, read_security};
 use crate::sql_store::SqlStore;
@@ -59,8 +58,7 @@ impl<S: Alter + Drop> Store for SqlStore<S> {
 
     fn history(&mut self, name: &DbName, id: &DocId) -> Result<History, StoreFault> {
         let found = self.find(name)?;
-        let rows = self.revision_rows(&found.number, id.as_str().as_bytes())?;
-        read_history(self.alloc, &rows)
+        self.find_history(&found.number, id)
     }
 
     fn page_by_id(&mut self, name: &DbName, range: &IdRange) -> Result<PageById, StoreFault> {

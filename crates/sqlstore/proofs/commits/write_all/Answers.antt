@@ -38,7 +38,7 @@ loop-i-preserved g c =
       so_far = λ name clean store due.
           let was : HasCleanDisk mid = omega (arith, e.asks.survives.clean, clean) in
           let before = inv.so_far name was store due in (
-            further c.args.writes.now c.loop-i.i c.index-writes-i.result name c.args.db.now c.args.sequence _ old.now mid.now new.now c.loop-i-test.true c.index-writes-i.is c.requires (to_z-of_z {w = w64} {z = c.whole-next.result} (record { sfits = c.whole-next.type_inv }) ∙ c.whole-next.ensures) due before.0 e.lawful
+            further c.args.writes.now c.loop-i.i c.index-writes-i.result name c.args.db.now c.args.sequence _ old.now mid.now new.now c.loop-i-test.true c.index-writes-i.is c.requires (to_z-of_z {w = w64} {z = c.integer_of-next.result} (record { sfits = c.integer_of-next.type_inv }) ∙ c.integer_of-next.ensures) due before.0 e.lawful
                 (λ r numbered at. e.ok r clean before.0.store numbered at),
             keeps_then old mid new before.1 ((e.looks before.0.store.schema_is).kept clean),
           );
