@@ -1,15 +1,21 @@
-//! The program `couchd`: a laboratory that plays a script of nodes and connections.
+//! The program `couchd`: a laboratory that plays a script of nodes and connections, and a server.
 #![tactic(auto)]
 
+mod serve;
+mod store_file;
+
+use crate::serve::serve_store;
+use crate::store_file::open_store;
 use lab::{Plan, PlanFault, ProgramFault, Refusal, lab, plan};
+use sqlite::Unknown;
 use std::env::Env;
 use std::io::{BufReader, BufWriter, Write};
 use std::process::ExitCode;
 use std::{env, io};
 
 /// Reads the command line and does what it says. The status is 0 at the end; 1 for a fault, with
-/// `couchd: ` and `file`, `line N` or `memory` on standard error; 2 where the command line is
-/// invalid, with `couchd: usage` there.
+/// `couchd: ` and `file`, `socket`, `line N` or `memory` on standard error; 2 where the command line
+/// is invalid, with `couchd: usage` there.
 fn main(rt: HostRuntime) -> ExitCode {
     match run(&rt) {
         Ok(status) => ExitCode::from(status),
@@ -21,10 +27,20 @@ fn main(rt: HostRuntime) -> ExitCode {
 }
 
 /// Does what the command line says. The answer is the program's status.
-fn run<R: Env + Input + Print + AllocGlobal>(rt: &R) -> Result<u8, Refusal> {
+fn run(rt: &HostRuntime) -> Result<u8, Refusal> {
     let words = words_of(rt)?;
     match plan(rt.alloc(), words.as_slice())? {
         Plan::Lab { secret, admins } => Ok(play(rt, secret.as_str(), admins.as_slice())?),
+        Plan::Serve {
+            secret,
+            file,
+            port,
+            conns,
+            admins,
+        } => {
+            let store = open_store(rt, file.as_str(), Unknown)?;
+            Ok(serve_store(rt, secret.as_str(), admins.as_slice(), store, port, conns)?)
+        }
     }
 }
 

@@ -7,3 +7,4 @@ pub mod PlayLemmas
 pub mod ReplyLemmas
 pub mod RunLemmas
 pub mod SceneLemmas
+pub mod ServingLemmas

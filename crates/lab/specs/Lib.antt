@@ -10,3 +10,4 @@ pub mod Playing
 pub mod Naming
 pub mod Scene
 pub mod Stages
+pub mod Serving

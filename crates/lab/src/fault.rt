@@ -7,13 +7,16 @@ use world::{WorldFault, WorldFaultKind};
 
 /// Why the program ended early. What was printed before stands.
 ///
-/// The variants stand in the order of their numbers, from 1; 2 is kept for a socket.
+/// The variants stand in the order of their numbers, from 1.
 #[derive(Clone, Copy, Debug, PartialEq, Eq, Error)]
 pub enum ProgramFault {
-    /// The script could not be read or the replies not be written, or the script had no end after
-    /// 1,048,576 reads.
+    /// A file or a stream failed, or the file is no store of this server, or a script had no end
+    /// after 1,048,576 reads.
     #[error("file")]
     File,
+    /// The port could not be bound, or a connection not be accepted.
+    #[error("socket")]
+    Socket,
     /// This line of the script, counted from 1, is none, names something unknown or what is there
     /// already, or comes too late.
     #[error("line {0}")]

@@ -1,5 +1,5 @@
 //! The laboratory: scripts of nodes, databases and connections, played in memory as bytes would
-//! come over a socket, and the command line that asks for it.
+//! come over a socket. The server of connections, and the program's command line, are here too.
 #![tactic(auto)]
 
 mod command_line;
@@ -17,6 +17,7 @@ mod repl_line;
 mod running;
 mod scripts;
 mod server;
+mod serving;
 mod showing;
 mod stage;
 mod turn;
@@ -28,3 +29,4 @@ pub use lab_store::LabStore;
 pub use plans::{Plan, PlanFault};
 pub use refusal::Refusal;
 pub use scripts::{lab, play_script};
+pub use serving::{open_hub, serve};

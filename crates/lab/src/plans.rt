@@ -11,6 +11,19 @@ pub enum Plan {
         /// The names of the server's admins.
         admins: Vec<String>,
     },
+    /// `serve --secret S --file F --port P --conns N [ADMIN]...`: serve the store in a file.
+    Serve {
+        /// The secret of the proxy's tokens.
+        secret: String,
+        /// The path of the file.
+        file: String,
+        /// The port to listen at, or 0 for any free one.
+        port: u16,
+        /// How many connections are served, 1 to 1,000,000.
+        conns: u32,
+        /// The names of the server's admins.
+        admins: Vec<String>,
+    },
 }
 
 /// Why words are no plan.

@@ -144,7 +144,11 @@ fn play<S: LabStore, W: Write>(
 }
 
 /// Plays a line before the first connection or pass.
-fn lay<S: LabStore>(server: Server<'_>, layout: Layout<S>, line: Line<'_>) -> Result<Stage<S>, LineFault>
+fn lay<S: LabStore>(
+    server: Server<'_>,
+    layout: Layout<S>,
+    line: Line<'_>,
+) -> Result<Stage<S>, LineFault>
     ensures { IfOk result (λ next. Plays S.Store (configuration_of server.entry) (laying (nodes_of layout)) (said_by line.entry) [] (scene_of next)) }
 {
     let mut layout = layout;

@@ -1,4 +1,4 @@
-//! What the nodes of a script have in common.
+//! What the nodes of a script, or of a server, have in common.
 
 use crate::repl_line::PassWords;
 use auth::Auth;

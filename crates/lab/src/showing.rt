@@ -8,11 +8,11 @@ ghost use Rattle.world.specs.Turning.{happening_of, sight_of};
 ghost use Rattle.lab.specs.Replies.{IsSent, IsShown, Runs, is_end, says_end, sight_line, sight_lines};
 
 use crate::fault::LineFault;
+use crate::lab_store::LabStore;
 use crate::printed::{print_closed, print_reply};
 use crate::printed_steps::{print_end, print_step};
 use std::alloc::Global;
 use std::io::Write;
-use crate::lab_store::LabStore;
 use store::Store;
 use world::{Event, Seen, World};
 

@@ -13,6 +13,7 @@ mod texts;
 
 use lab::LabStore;
 use rows::{Report, RowsFault, file_names, play};
+use sqlstore::MemoryStore;
 use std::alloc::Global;
 use std::env::Env;
 use std::fs::read_to_string;
@@ -49,17 +50,24 @@ fn play_all<R: Env + Files + AllocGlobal + Clone + Drop>(
     Ok(())
 }
 
-/// Plays a file by its ending.
+/// Plays a file by its ending. Rows about nodes are played twice: over plain stores, and over tables.
 fn play_file(alloc: Global, name: &str, text: &str, report: &mut Report) -> Result<(), RowsFault> {
     let ending = match name.rsplit_once('.') {
         Some((_, ending)) => ending,
         None => "",
     };
-    if ending == "commands" {
-        let mut kind = command_lines::CommandLines { alloc };
-        return play(alloc, name, text, &mut kind, report);
+    match ending {
+        "commands" => {
+            let mut kind = command_lines::CommandLines { alloc };
+            play(alloc, name, text, &mut kind, report)
+        }
+        "lab" | "pages" | "requests" => {
+            play_over::<PlainStore>(alloc, name, ending, text, report)?;
+            let name = format!(in alloc; "{name} over tables")?;
+            play_over::<MemoryStore>(alloc, name.as_str(), ending, text, report)
+        }
+        _ => report.object(name, 1, "no kind of rows has this ending"),
     }
-    play_over::<PlainStore>(alloc, name, ending, text, report)
 }
 
 /// Plays a file of rows about nodes, whose stores are of one kind.
@@ -79,10 +87,9 @@ fn play_over<S: LabStore>(
             let mut kind = pages::Pages::<S>::new(alloc);
             play(alloc, name, text, &mut kind, report)
         }
-        "requests" => {
+        _ => {
             let mut kind = requests::Requests::<S>::new(alloc);
             play(alloc, name, text, &mut kind, report)
         }
-        _ => report.object(name, 1, "no kind of rows has this ending"),
     }
 }

@@ -5,9 +5,7 @@ use crate::texts::{first_word, text_of};
 use lab::LabStore;
 use rows::{Kind, RowsFault};
 use std::alloc::Global;
-use store::{
-    DbName, IdRange, PageById, PageBySeq, RangeKey, SeqRange, SeqRow, StoreFault,
-};
+use store::{DbName, IdRange, PageById, PageBySeq, RangeKey, SeqRange, SeqRow, StoreFault};
 
 /// Pages of the store of one node, which its users write by requests: `USER METHOD TARGET BODY`.
 ///

@@ -1,0 +1,27 @@
+-- What a server does to its hub: one connection after another.
+-- This project's own, over the service of one connection (RFC 9112, section 9.3); which bytes a socket brings and takes no clause can say.
+use Rattle.std.specs.Prelude.{◌≡◌, ◌⊎◌, ℕ, zero, suc, List, Option, map, string_bytes}
+use Rattle.store.specs.declared.store.Store.{Ghosts}
+use Rattle.hub.specs.Feeding.{HubState}
+use Rattle.hub.specs.Service.{ServesOrTurnsAway}
+use Rattle.hub.specs.declared.service_end.ServiceEnd.{ServiceEnd}
+
+-- some bytes were read and some written
+pub record Passage : Type 0 where
+  pub input : Option (List ℕ)
+  pub rest : Option (List ℕ)
+  pub output : Option (List ℕ)
+  pub after : Option (List ℕ)
+
+-- a connection was served up to some end, or turned away
+abbrev pub WasServed : {S : Type 0} → Ghosts S → HubState S → HubState S → Type 0
+WasServed g old new = (end : ServiceEnd) × (p : Passage) × ServesOrTurnsAway g old end p.input p.rest p.output p.after new
+
+-- the same; or it was reset before it was accepted, and nothing has changed
+abbrev pub ServesOne : {S : Type 0} → Ghosts S → HubState S → HubState S → Type 0
+ServesOne g old new = (new ≡ old) ⊎ WasServed g old new
+
+-- so many connections, one after another
+abbrev pub ServesEach : {S : Type 0} → Ghosts S → ℕ → HubState S → HubState S → Type 0
+ServesEach g zero old new = new ≡ old
+ServesEach {S} g (suc count) old new = (between : HubState S) × ServesEach g count old between × ServesOne g between new
