@@ -14,7 +14,22 @@ impl Kind for CommandLines {
     fn answer(&mut self, question: &[u8]) -> Result<Vec<u8>, RowsFault> {
         let words = words_of(self.alloc, text_of(question))?;
         match plan(self.alloc, &words) {
-            Ok(Plan::Lab { secret, admins }) => show_lab(self.alloc, secret.as_str(), &admins),
+            Ok(Plan::Lab { secret, admins }) => {
+                let front = String::from_str(self.alloc, "lab")?;
+                show_asked(front, secret.as_str(), &admins)
+            }
+            Ok(
+                Plan::Serve {
+                    secret,
+                    file,
+                    port,
+                    conns,
+                    admins,
+                },
+            ) => {
+                let front = format!(in self.alloc; "serve {file} at {port}, {conns} connections")?;
+                show_asked(front, secret.as_str(), &admins)
+            }
             Err(PlanFault::Memory) => Err(RowsFault::Memory),
             Err(fault) => show_refusal(self.alloc, Refusal::from(fault)),
         }
@@ -30,9 +45,10 @@ fn words_of(alloc: Global, line: &str) -> Result<Vec<String>, RowsFault> {
     Ok(words)
 }
 
-/// Answers with the laboratory that a command line asks for.
-fn show_lab(alloc: Global, secret: &str, admins: &[String]) -> Result<Vec<u8>, RowsFault> {
-    let mut text = format!(in alloc; "lab, secret {secret}")?;
+/// Answers with what a command line asks for, behind its front.
+fn show_asked(front: String, secret: &str, admins: &[String]) -> Result<Vec<u8>, RowsFault> {
+    let mut text = front;
+    push_all(&mut text, &[", secret ", secret])?;
     for admin in admins {
         push_all(&mut text, &[", admin ", admin.as_str()])?;
     }
