@@ -4,8 +4,7 @@
 mod serve;
 mod store_file;
 
-use crate::serve::serve_store;
-use crate::store_file::open_store;
+use crate::serve::serve_file;
 use lab::{Plan, PlanFault, ProgramFault, Refusal, lab, plan};
 use sqlite::Unknown;
 use std::env::Env;
@@ -38,8 +37,16 @@ fn run(rt: &HostRuntime) -> Result<u8, Refusal> {
             conns,
             admins,
         } => {
-            let store = open_store(rt, file.as_str(), Unknown)?;
-            Ok(serve_store(rt, secret.as_str(), admins.as_slice(), store, port, conns)?)
+            let path = file.as_str();
+            Ok(serve_file(
+                rt,
+                secret.as_str(),
+                admins.as_slice(),
+                path,
+                Unknown,
+                port,
+                conns,
+            )?)
         }
     }
 }

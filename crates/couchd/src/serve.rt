@@ -2,11 +2,44 @@
 
 ghost use Rattle.std.specs.Prelude.{◌≡◌, IfOk};
 
+use crate::store_file::open_store;
 use lab::{ProgramFault, open_hub, serve};
+use sqlite::{Alter, Start};
+use sqlstore::SqlStore;
 use std::io;
 use std::io::{ErrorKind, Write};
 use std::net::{Ipv4Addr, Net, OpenListener, SocketAddr, TcpListener, TcpStream};
 use store::Store;
+
+/// Serves the store in a file, which is opened, or made, before the port is bound.
+pub fn serve_file<S: Start>(
+    rt: &HostRuntime,
+    secret: &str,
+    admins: &[String],
+    path: &str,
+    start: S,
+    port: u16,
+    conns: u32,
+) -> Result<u8, ProgramFault>
+    ensures { IfOk result (λ status. status ≡ 0) }
+{
+    let store = open_store(rt, path, start)?;
+    serve_tables(rt, secret, admins, store, port, conns)
+}
+
+/// Serves a store over tables, whatever files these stand on.
+fn serve_tables<S: Alter + Drop>(
+    rt: &HostRuntime,
+    secret: &str,
+    admins: &[String],
+    store: SqlStore<S>,
+    port: u16,
+    conns: u32,
+) -> Result<u8, ProgramFault>
+    ensures { IfOk result (λ status. status ≡ 0) }
+{
+    serve_store(rt, secret, admins, store, port, conns)
+}
 
 /// Serves a store at a port of 127.0.0.1, or at a free one where the port is 0: so many connections, one
 /// after another. Once it listens it prints `listening 127.0.0.1:` and the port. The answer is the
