@@ -5,10 +5,10 @@ use Rattle.std.specs.List.{list_all}
 use Rattle.std.specs.Result.{OkIff}
 use Rattle.std.specs.Str.{all_ascii_digits}
 use Rattle.std.specs.Str.Parse.{ParsesUnsigned, digits_value}
-use Rattle.std.proofs.lemmas.Bool.{and_parts, cases_lt, le-leb, lt-leb, ltb-true}
+use Rattle.std.proofs.lemmas.Bool.{and_parts, cases_lt, lt-leb, ltb-true}
 use Rattle.std.proofs.lemmas.Str.Parse.{IsNumeralModel, numerals_by_value, tells_all_ascii_digits, parse_digits}
 use Rattle.clap.specs.Words.{Kinds, Row, Text}
-use Rattle.lab.specs.Plan.{Asked, asked_unless, is_numeral, number_between}
+use Rattle.lab.specs.Plan.{asked_unless, is_numeral, number_between}
 
 -- words that clap refuses ask for nothing
 pub asked_unless-refused : (kinds : Kinds) (command : Option (Text × List Row)) → kinds ≢ [] → asked_unless kinds command ≡ None

@@ -1,5 +1,5 @@
 -- What is seen, one thing after the other.
-use Rattle.std.proofs.Common.{ℕ, ◌≡◌, ◌∙◌, ◌+◌, ◌<◌, ◌++◌, List, [], ◌∷◌, Option, Some, None, ap, sym, subst, refl, append_assoc, append-nil, get_or, length, map, take}
+use Rattle.std.proofs.Common.{ℕ, ◌≡◌, ◌∙◌, ◌+◌, ◌<◌, ◌++◌, List, [], ◌∷◌, Option, Some, None, ap, sym, subst, append_assoc, append-nil, get_or, length, map, take}
 use Rattle.std.proofs.lemmas.List.{map_more}
 use Rattle.std.specs.Io.KnownBytes.{Appends}
 use Rattle.world.specs.Happening.{Sight}

@@ -1,6 +1,6 @@
 -- What a server does to its hub: one connection after another.
 -- This project's own, over the service of one connection (RFC 9112, section 9.3); which bytes a socket brings and takes no clause can say.
-use Rattle.std.specs.Prelude.{◌≡◌, ◌⊎◌, ℕ, zero, suc, List, Option, map, string_bytes}
+use Rattle.std.specs.Prelude.{◌≡◌, ◌⊎◌, ℕ, zero, suc, List, Option}
 use Rattle.store.specs.declared.store.Store.{Ghosts}
 use Rattle.hub.specs.Feeding.{HubState}
 use Rattle.hub.specs.Service.{ServesOrTurnsAway}

@@ -1,4 +1,4 @@
-use Rattle.std.proofs.Common.{◌≡◌, map, string_bytes}
+use Rattle.std.proofs.Common.{map, string_bytes}
 use Rattle.clap.specs.Words.{fault_of, subcommand_of}
 use Rattle.lab.specs.Plan.{couchd_command}
 use Rattle.lab.proofs.Asking.{asked_unless-refused}

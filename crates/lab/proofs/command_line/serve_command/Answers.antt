@@ -1,7 +1,7 @@
 use Rattle.std.proofs.Common.{◌≡◌, ◌∙◌, ap, ap₂, codes, true}
 use Rattle.clap.specs.Words.{App, app_of, with_rule}
 use Rattle.clap.specs.Simple.{app_of_fields}
-use Rattle.lab.specs.Plan.{admin_rule, command_named, required_option}
+use Rattle.lab.specs.Plan.{command_named}
 use Rattle.lab.proofs.command_line.serve_command.Goals as goal
 
 abbrev without_help : App → App
