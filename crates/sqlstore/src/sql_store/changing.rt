@@ -13,12 +13,11 @@ use tree::DocId;
 impl<S: Alter> SqlStore<S> {
     ghost use Rattle.std.specs.Prelude.{◌≡◌, ◌≢◌, Err, IfErr, None, Some, OnErr, OnOk, is_some, option_map, true};
     ghost use Rattle.std.specs.FinMap as map;
-    ghost use Rattle.store.specs.Causes.{IsCaused};
-    ghost use Rattle.store.specs.Contents.{IfThere, new_database, with_local, with_security};
+    ghost use Rattle.store.specs.Contents.{new_database, with_local, with_security};
     ghost use Rattle.store.specs.Lawful.{IsBody};
     ghost use Rattle.sqlstore.specs.Causes.{IsJudged};
     ghost use Rattle.sqlstore.specs.Reading.{HasNumber};
-    ghost use Rattle.sqlstore.specs.Model.{Answers, ChangesWhole, Moves, Stands, contents_of, fault_count, is_honest, lacks_number, trees_of};
+    ghost use Rattle.sqlstore.specs.Model.{Answers, Moves, Stands, contents_of, is_honest, trees_of};
 
     /// Tells whether there is a database of this name.
     pub(crate) fn has(&mut self, name: &DbName) -> Result<bool, StoreFault>

@@ -20,14 +20,12 @@ pub(crate) fn has_room(sequence: u64, count: usize) -> bool
 }
 
 impl<S: Alter> SqlStore<S> {
-    ghost use Rattle.std.specs.Prelude.{◌≡◌, ◌≢◌, Err, IfErr, None, Some, OnErr, OnOk, length, option_map};
+    ghost use Rattle.std.specs.Prelude.{◌≡◌, Err, IfErr, None, Some, OnErr, OnOk, length, option_map};
     ghost use Rattle.std.specs.FinMap as map;
-    ghost use Rattle.store.specs.Causes.{IsCaused};
-    ghost use Rattle.store.specs.Contents.{AreAcceptable, IfThere};
     ghost use Rattle.store.specs.Database.{with_all};
     ghost use Rattle.store.specs.Writing.{additions, writings_in};
     ghost use Rattle.sqlstore.specs.Commits.{AreDue, IsUncommitted};
-    ghost use Rattle.sqlstore.specs.Model.{ChangesWhole, Moves, contents_of, fault_count, is_honest, lacks_room, trees_of};
+    ghost use Rattle.sqlstore.specs.Model.{Moves, contents_of, is_honest, trees_of};
 
     /// Appends writes to the database of this number and this sequence.
     pub(crate) fn append(
