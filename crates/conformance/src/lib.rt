@@ -1,6 +1,6 @@
-//! Tests of what has to fail: a refused allocation, a store, a reader, a writer and a listener that
-//! fail. One more compares a socket with memory. All that a reply can show stands in rows of data, in
-//! the crates `values` and `requests`.
+//! Tests of what has to fail: a refused allocation, a store, a reader and a writer that fail. One more
+//! compares a socket with memory. All that a reply can show stands in rows of data, in the crates
+//! `values` and `requests`.
 #![tactic(auto)]
 
 #[cfg(test)]

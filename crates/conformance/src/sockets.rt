@@ -1,30 +1,15 @@
-//! A server over a socket of this machine, and listeners that fail.
+//! A server over a socket of this machine.
 
 use crate::client::{node, store};
 use hub::{Hub, ServiceEnd, serve_connection};
-use lab::{ProgramFault, open_hub, serve};
-use std::io;
-use std::io::{ErrorKind, Read, Write};
-use std::net::{Ipv4Addr, OpenListener, Shutdown, SocketAddr, TcpListener, TcpStream};
+use lab::{open_hub, serve};
+use std::io::{Read, Write};
+use std::net::{Ipv4Addr, Shutdown, SocketAddr, TcpListener, TcpStream};
 use std::test::Fail;
 
 /// Two requests whose answers are known, a request that is cut short, and no more.
 const REQUESTS: &[u8] =
     b"PUT /db/a HTTP/1.1\r\nContent-Length: 7\r\n\r\n{\"v\":1}GET /db/a HTTP/1.1\r\n\r\nGET /db";
-
-/// A listener that fails at each connection.
-#[derive(Drop)]
-struct Failing {
-    kind: ErrorKind,
-}
-
-impl OpenListener for Failing {
-    type Stream = TcpStream;
-
-    fn accept(&self) -> io::Result<(TcpStream, SocketAddr)> {
-        Err(io::Error::from(self.kind))
-    }
-}
 
 /// A client that writes its requests, and says that no more come, has the replies that come in memory.
 #[test]
@@ -51,22 +36,5 @@ fn replies_over_a_socket_are_those_in_memory(rt: HostRuntime) -> Result<(), Fail
         )
     );
     assert!(rt; received.as_slice() == written.as_slice());
-    Ok(())
-}
-
-/// Connections that were reset before they were accepted count, and any other failure ends the server.
-#[test]
-fn connections_that_are_not_accepted(rt: HostRuntime) -> Result<(), Fail> {
-    let alloc = rt.alloc();
-    let mut hub = Hub::new(alloc, node(alloc, store(alloc)?)?);
-    let reset = Failing {
-        kind: ErrorKind::ConnectionAborted,
-    };
-    assert_eq!(rt; serve(&mut hub, &reset, 1_000_000), Ok(0));
-    let broken = Failing {
-        kind: ErrorKind::InvalidInput,
-    };
-    assert_eq!(rt; serve(&mut hub, &broken, 2), Err(ProgramFault::Socket));
-    assert!(rt; !hub.is_open(1));
     Ok(())
 }
