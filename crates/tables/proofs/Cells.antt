@@ -1,20 +1,23 @@
 -- What the tests of a statement say of the cells of a row.
-use Rattle.std.proofs.Common.{◌≡◌, ℕ, ℤ, Bool, true, false, cond, bytes_eq, List, [], ◌∷◌, refl, ap, ◌∙◌, int_eq}
+use Rattle.std.proofs.Common.{◌≡◌, ℕ, ℤ, pos, Bool, true, false, ◌&&◌, cond, bytes_eq, List, [], ◌∷◌, refl, ap, ◌∙◌, int_eq, int_lt}
 use Rattle.std.proofs.lemmas.Map.Text.{is_eq-slice_cmp}
 use Rattle.sqlite_value.specs.declared.value.Value.{Value}
 use Rattle.sqlite_value.specs.declared.value.Value.TheVariants.{Null, Int, Blob}
 use Rattle.sqlite_value.specs.declared.keys.Collation.TheVariants.{Binary}
 use Rattle.sqlite_value.specs.Order.{Row, column}
 use Rattle.sqlite_sql.specs.declared.ops.BinaryOp.TheVariants.{Compare}
-use Rattle.sqlite_sql.specs.declared.ops.CompareOp.TheVariants.{Eq}
+use Rattle.sqlite_sql.specs.declared.ops.CompareOp.{CompareOp}
+use Rattle.sqlite_sql.specs.declared.ops.CompareOp.TheVariants.{Eq, Ge, Gt, Le}
 use Rattle.sqlite_sql.specs.Ops.{binary, unary, is_true}
 use Rattle.sqlite_sql.specs.Term.{Term, col, op2, holds}
 use Rattle.sqlite_rules.specs.Cast.{cast}
 use Rattle.sqlite_schema.specs.declared.schema.Kind.TheVariants.{Integer}
-use Rattle.sqlite_typed.proofs.TestLemmas.{at_ints, at_blobs, then_term, last_term}
+use Rattle.sqlite_typed.proofs.TestLemmas.{at_ints, at_blobs, by_order, int_test, then_term, last_term}
+use Rattle.sqlite_typed.specs.Tests.{bytes_cmp}
 use Rattle.sqlite_keyed.proofs.ListLemmas.{all_weaker}
 use Rattle.std.specs.List.{AllByRecursion, list_all}
 use Rattle.tables.specs.Layout.{IsKeyed, AreKeyed}
+use Rattle.tables.specs.Listings.{comes_after, lies_between}
 use Rattle.tables.specs.Rows.{db_of, id_of, is_in, is_of}
 
 -- a cell of the row against a parameter
@@ -26,6 +29,16 @@ same_int v m n is = ap (λ x. is_true (binary (Compare Eq Binary) x (Int n))) is
 
 pub same_blob : (v : Value) (a b : List ℕ) → v ≡ Blob a → is_true (binary (Compare Eq Binary) v (Blob b)) ≡ bytes_eq a b
 same_blob v a b is = ap (λ x. is_true (binary (Compare Eq Binary) x (Blob b))) is ∙ at_blobs false Eq a b ∙ is_eq-slice_cmp a b
+
+-- the same by an order
+abbrev pub compares : CompareOp → ℕ → ℕ → Term
+compares op at k = op2 (Compare op Binary) (col 1 at) (col 0 k)
+
+int_by : (op : CompareOp) (v : Value) (m n : ℤ) → v ≡ Int m → is_true (binary (Compare op Binary) v (Int n)) ≡ int_test op m n
+int_by op v m n is = ap (λ x. is_true (binary (Compare op Binary) x (Int n))) is ∙ at_ints false op m n
+
+blob_by : (op : CompareOp) (v : Value) (a b : List ℕ) → v ≡ Blob a → is_true (binary (Compare op Binary) v (Blob b)) ≡ by_order bytes_cmp op a b
+blob_by op v a b is = ap (λ x. is_true (binary (Compare op Binary) x (Blob b))) is ∙ at_blobs false op a b
 
 either : (b : Bool) (x : Value) → cond b x x ≡ x
 either true x = refl
@@ -54,3 +67,21 @@ pub tests_id : (db : ℤ) (id : List ℕ) (rows : List Row) → AreKeyed rows �
 tests_id db id rows h =
     all_weaker IsKeyed (λ r. list_all (holds ((Int db ∷ Blob id ∷ []) ∷ r ∷ [])) by_id ≡ is_of db id r)
     (λ r k. then_term (same_int (column r 1) (db_of r) db k.db) (last_term (same_blob (column r 2) (id_of r) id k.id))) rows h.keyed
+
+-- ---- the tests by a range of ids, and by a sequence
+
+abbrev pub by_range : List Term
+by_range = is_param 1 0 ∷ compares Ge 2 1 ∷ compares Le 2 2 ∷ []
+
+abbrev pub by_later : List Term
+by_later = is_param 1 0 ∷ compares Gt 3 1 ∷ []
+
+pub tests_range : (db : ℤ) (first last : List ℕ) (rows : List Row) → AreKeyed rows
+    → AllByRecursion (λ r. list_all (holds ((Int db ∷ Blob first ∷ Blob last ∷ []) ∷ r ∷ [])) by_range ≡ (is_in db r && lies_between first last (id_of r))) rows
+tests_range db first last rows h =
+    all_weaker IsKeyed (λ r. list_all (holds ((Int db ∷ Blob first ∷ Blob last ∷ []) ∷ r ∷ [])) by_range ≡ (is_in db r && lies_between first last (id_of r)))
+    (λ r k. then_term (same_int (column r 1) (db_of r) db k.db) (then_term (blob_by Ge (column r 2) (id_of r) first k.id) (last_term (blob_by Le (column r 2) (id_of r) last k.id)))) rows h.keyed
+
+pub test_later : (db since limit : ℤ) (r : Row) (sequence : ℕ) → column r 1 ≡ Int (db_of r) → column r 3 ≡ Int (pos sequence)
+    → list_all (holds ((Int db ∷ Int since ∷ Int limit ∷ []) ∷ r ∷ [])) by_later ≡ (is_in db r && int_lt since (pos sequence))
+test_later db since limit r sequence k l = then_term (same_int (column r 1) (db_of r) db k) (last_term (int_by Gt (column r 3) (pos sequence) since l))

@@ -32,7 +32,7 @@ use Rattle.tables.proofs.Clears.{fails_to_delete}
 use Rattle.tables.proofs.Replaces.{fails_to_update}
 use Rattle.tables.proofs.Inserts.{FitsTable, IsUnreferred, fails_to_insert}
 use Rattle.tables.proofs.Finds.{finds_one}
-use Rattle.tables.proofs.Queries.{program_on}
+use Rattle.tables.proofs.Queries.{program_on, unlimited}
 use Rattle.tables.proofs.Single.{one_row, fails}
 use Rattle.tables.proofs.Tables.{meta_plain, dbs_plain, databases_laid, numbered_databases, one_named, one_numbered}
 use Rattle.tables.proofs.Updates.{updates_where}
@@ -116,7 +116,7 @@ unfolding understood everything
 find_whole = record { ends = refl; given = refl; same = refl }
 
 pub find_fails : {X : Type 0} (old new : State) → old.now.schema ≡ schema → (name : List ℕ) (r : Result X Error) → IfErr r (FailsToQuery find_text (Blob name ∷ []) old new) → IfErr r (λ e. IsFault old new e ⊎ IsInterrupted old e)
-find_fails old new has name r h = looks_fail schema old new has find_text dbs_tree with_name (col 1 0 ∷ col 1 3 ∷ col 1 4 ∷ []) [] (codes "num" ∷ codes "sec" ∷ codes "seq" ∷ []) find_is find_unlisted (Blob name ∷ []) find_whole refl r h
+find_fails old new has name r h = looks_fail schema old new has find_text dbs_tree with_name (col 1 0 ∷ col 1 3 ∷ col 1 4 ∷ []) [] unlimited (codes "num" ∷ codes "sec" ∷ codes "seq" ∷ []) find_is find_unlisted (Blob name ∷ []) find_whole refl r h
 
 cast : (name security : List ℕ) → cast_row dbs_table (Null ∷ database_cells name security (pos 0)) ≡ Null ∷ database_cells name security (pos 0)
 cast name security = λ i. cast_null i ∷ cast_null i ∷ Blob name ∷ Text security ∷ cast_int (pos 0) i ∷ []
@@ -210,7 +210,7 @@ pub lists_names : {X E : Type 0} (old new : State) → IsStore old.now → (r : 
     → IfOk r (λ x. items x ≡ map shown_name (sort_by by_name (old.now.trees dbs_tree)))
 lists_names {X} old new is r items h =
     subst (λ l. IfOk r (λ x. items x ≡ map shown_name (sort_by by_name l))) (filter_all (λ x. true) (old.now.trees dbs_tree) (all_of (λ x. true ≡ true) (λ x. refl) (old.now.trees dbs_tree)))
-    (lists schema old new is.schema_is names_text dbs_tree [] (col 1 2 ∷ []) name_order (codes "name" ∷ []) names_is names_unlisted [] (λ x. true) shown_name IsOne by_name (λ a b. name_of a ≢ name_of b)
+    (lists schema old new is.schema_is names_text dbs_tree [] (col 1 2 ∷ []) name_order unlimited (codes "name" ∷ []) names_is names_unlisted [] (λ x. true) shown_name IsOne by_name (λ a b. name_of a ≢ name_of b)
     names_agree (λ a b k l p q apart. names_apart a b apart) refl (λ x. refl) (all_of (λ x. true ≡ true) (λ x. refl) (old.now.trees dbs_tree))
     (databases_laid old.now.trees is.laid).each is.laid.names_apart r items h)
 
@@ -219,7 +219,7 @@ unfolding understood everything
 names_whole = record { ends = refl; given = refl; same = refl }
 
 pub names_fails : {X : Type 0} (old new : State) → old.now.schema ≡ schema → (r : Result X Error) → IfErr r (FailsToQuery names_text ([]) old new) → IfErr r (λ e. IsFault old new e ⊎ IsInterrupted old e)
-names_fails old new has r h = looks_fail schema old new has names_text dbs_tree [] (col 1 2 ∷ []) name_order (codes "name" ∷ []) names_is names_unlisted ([]) names_whole refl r h
+names_fails old new has r h = looks_fail schema old new has names_text dbs_tree [] (col 1 2 ∷ []) name_order unlimited (codes "name" ∷ []) names_is names_unlisted ([]) names_whole refl r h
 
 -- ---- why the changes fail
 

@@ -1,7 +1,8 @@
 -- What the statements on documents mean.
-use Rattle.std.proofs.Common.{◌≡◌, ℕ, ℤ, pos, List, [], ◌∷◌, map, filter, codes, Bool, true, false, not, cond, Ok, Err, Result, IfErr, IfOk, OnOk, ◌⊎◌, refl, sym, ap, ap₂, subst, ◌∙◌, ◌≢◌, bytes_eq, nat_cmp, int_cmp, is_eq, arith, Equal, ◌||◌, ◌&&◌}
+use Rattle.std.proofs.Common.{◌≡◌, ℕ, ℤ, pos, negsuc, Ordering, List, [], ◌∷◌, map, filter, codes, Bool, true, false, not, cond, Ok, Err, Result, IfErr, IfOk, OnOk, ◌⊎◌, refl, sym, ap, ap₂, subst, ◌∙◌, ◌≢◌, bytes_eq, nat_cmp, int_cmp, is_eq, arith, Equal, ◌||◌, ◌&&◌}
 use Rattle.sqlite_value.specs.declared.value.Value.TheVariants.{Null, Int, Text, Blob}
-use Rattle.sqlite_sql.specs.Term.{Term, lit, col}
+use Rattle.sqlite_sql.specs.Query.{as_count, limited}
+use Rattle.sqlite_sql.specs.Term.{Term, lit, col, holds}
 use Rattle.sqlite_rules.specs.Cast.{cast_row}
 use Rattle.sqlite_schema.specs.declared.command.Command.TheVariants.{Insert, Delete, Select}
 use Rattle.sqlite_schema.specs.declared.command.Source.TheVariants.{Values}
@@ -11,16 +12,18 @@ use Rattle.sqlite.specs.State.{State, Shown, FailsToQuery}
 use Rattle.sqlite.specs.declared.error.Error.{Error}
 use Rattle.tables.proofs.Failures.{IsWhole, looks_fail}
 use Rattle.tables.specs.Causes.{IsFault, IsEnded, IsInterrupted, IsRefused}
-use Rattle.tables.proofs.Cells.{by_db, by_id, cast_null, cast_int, tests_db, tests_id}
+use Rattle.tables.proofs.Cells.{by_db, by_id, by_later, by_range, cast_null, cast_int, test_later, tests_db, tests_id, tests_range}
 use Rattle.tables.proofs.Deletes.{deletes_where}
 use Rattle.tables.proofs.Clears.{fails_to_delete}
 use Rattle.tables.proofs.Inserts.{FitsTable, IsUnreferred, fails_to_insert}
 use Rattle.tables.proofs.Finds.{finds_one}
 use Rattle.sqlite_value.specs.Order.{Row}
-use Rattle.std.specs.List.{AllByRecursion}
+use Rattle.std.specs.Cmp.{IsTotalOrder}
+use Rattle.std.specs.List.{AllByRecursion, list_all}
 use Rattle.std.specs.Ordering.{ordering_then}
 use Rattle.std.proofs.lemmas.Int.{ints}
 use Rattle.std.proofs.lemmas.Bool.Decides.{nat_tests}
+use Rattle.std.proofs.lemmas.Cmp.{nat_cmp_total, nat_list_cmp_total, on_total}
 use Rattle.std.proofs.lemmas.Map.Text.{is_eq-slice_cmp}
 use Rattle.std.proofs.lemmas.Slice.Eq.{bytes_eq-Decides}
 use Rattle.sqlite_value.specs.declared.keys.Collation.TheVariants.{Binary}
@@ -29,14 +32,15 @@ use Rattle.sqlite_value.specs.Order.{column, value_cmp}
 use Rattle.sqlite_value.proofs.OrderLemmas.{value_cmp-Blob, value_cmp-Int, then-Equal}
 use Rattle.sqlite_keyed.specs.Lists.{sort_by}
 use Rattle.sqlite_keyed.proofs.KeyedLemmas.{same_int}
-use Rattle.sqlite_keyed.proofs.ListLemmas.{all_weaker}
-use Rattle.tables.proofs.Sorted.{lists}
+use Rattle.sqlite_keyed.proofs.ListLemmas.{all_weaker, filter-map}
+use Rattle.tables.proofs.Sorted.{both_left, if_equal, lists, sorted_left}
 use Rattle.tables.specs.Rows as order
 use Rattle.tables.proofs.Numbered.{numbered_from_keyed}
-use Rattle.tables.proofs.Queries.{program_on}
+use Rattle.tables.proofs.Queries.{first_program, program_on, unlimited}
 use Rattle.tables.proofs.Single.{one_row, fails}
 use Rattle.tables.proofs.Tables.{docs_plain, docs_keyed, one_of}
 use Rattle.tables.proofs.Writes.{IsCommand, inserts}
+use Rattle.tables.specs.Listings.{comes_after, first_rows, lies_between, listed_id}
 use Rattle.tables.specs.Layout.{AreKeyed, IsStore, IsDocumentRow}
 use Rattle.tables.specs.Rows.{is_in, is_of, shown_document, listed_document, number_of, db_of, id_of, sequence_of, winner_text, is_gone, document_row, document_cells, next_number, with_cells}
 use Rattle.tables.specs.Schema.{schema, docs_tree, docs_table}
@@ -110,7 +114,7 @@ find_whole = record { ends = refl; given = refl; same = refl }
 pub find_fails : {X : Type 0} (old new : State) → old.now.schema ≡ schema → (db : ℤ) (id : List ℕ) (r : Result X Error) → IfErr r (FailsToQuery find_text (Int db ∷ Blob id ∷ []) old new)
     → IfErr r (λ e. IsFault old new e ⊎ IsInterrupted old e)
 find_fails old new has db id r h =
-    looks_fail schema old new has find_text docs_tree by_id (col 1 3 ∷ col 1 4 ∷ col 1 5 ∷ []) [] (codes "seq" ∷ codes "winner" ∷ codes "del" ∷ []) find_is find_unlisted (Int db ∷ Blob id ∷ []) find_whole refl r h
+    looks_fail schema old new has find_text docs_tree by_id (col 1 3 ∷ col 1 4 ∷ col 1 5 ∷ []) [] unlimited (codes "seq" ∷ codes "winner" ∷ codes "del" ∷ []) find_is find_unlisted (Int db ∷ Blob id ∷ []) find_whole refl r h
 
 -- ---- all documents of a database, in order
 
@@ -180,28 +184,116 @@ unfolding understood everything
 ids_whole = record { ends = refl; given = refl; same = refl }
 
 pub ids_fails : {X : Type 0} (old new : State) → old.now.schema ≡ schema → (db : ℤ) (r : Result X Error) → IfErr r (FailsToQuery ids_text (Int db ∷ []) old new) → IfErr r (λ e. IsFault old new e ⊎ IsInterrupted old e)
-ids_fails old new has db r h = looks_fail schema old new has ids_text docs_tree by_db listed id_order headings ids_is ids_unlisted (Int db ∷ []) ids_whole refl r h
+ids_fails old new has db r h = looks_fail schema old new has ids_text docs_tree by_db listed id_order unlimited headings ids_is ids_unlisted (Int db ∷ []) ids_whole refl r h
 
 sequences_whole : IsWhole schema sequences_text 1
 unfolding understood everything
 sequences_whole = record { ends = refl; given = refl; same = refl }
 
 pub sequences_fails : {X : Type 0} (old new : State) → old.now.schema ≡ schema → (db : ℤ) (r : Result X Error) → IfErr r (FailsToQuery sequences_text (Int db ∷ []) old new) → IfErr r (λ e. IsFault old new e ⊎ IsInterrupted old e)
-sequences_fails old new has db r h = looks_fail schema old new has sequences_text docs_tree by_db listed sequence_order headings sequences_is sequences_unlisted (Int db ∷ []) sequences_whole refl r h
+sequences_fails old new has db r h = looks_fail schema old new has sequences_text docs_tree by_db listed sequence_order unlimited headings sequences_is sequences_unlisted (Int db ∷ []) sequences_whole refl r h
 
 module _ {X E : Type 0} (old new : State) (is : IsStore old.now) (db : ℤ) (r : Result X E) (items : X → List Row) where
   pub lists_by_id : IfOk r (λ x. Shown ids_text (Int db ∷ []) old new (items x)) → IfOk r (λ x. items x ≡ map listed_document (sort_by order.by_id (filter (is_in db) (old.now.trees docs_tree))))
   lists_by_id h =
-      lists schema old new is.schema_is ids_text docs_tree by_db listed id_order headings ids_is ids_unlisted (Int db ∷ []) (is_in db) listed_document IsOne order.by_id (λ a b. db_of a ≡ db_of b → id_of a ≢ id_of b)
+      lists schema old new is.schema_is ids_text docs_tree by_db listed id_order unlimited headings ids_is ids_unlisted (Int db ∷ []) (is_in db) listed_document IsOne order.by_id (λ a b. db_of a ≡ db_of b → id_of a ≢ id_of b)
       ids_agree (λ a b k l p q apart. ids_apart a b (apart (same_db db a b p q))) refl (λ x. refl) (tests_db db _ (docs_keyed old.now.trees is.laid)) (ones old is) is.laid.ids_apart r items h
 
   pub lists_by_sequence : IfOk r (λ x. Shown sequences_text (Int db ∷ []) old new (items x))
       → IfOk r (λ x. items x ≡ map listed_document (sort_by order.by_sequence (filter (is_in db) (old.now.trees docs_tree))))
   lists_by_sequence h =
-      lists schema old new is.schema_is sequences_text docs_tree by_db listed sequence_order headings sequences_is sequences_unlisted (Int db ∷ []) (is_in db) listed_document IsOne order.by_sequence
+      lists schema old new is.schema_is sequences_text docs_tree by_db listed sequence_order unlimited headings sequences_is sequences_unlisted (Int db ∷ []) (is_in db) listed_document IsOne order.by_sequence
       (λ a b. db_of a ≡ db_of b → sequence_of a ≢ sequence_of b)
       sequences_agree (λ a b k l p q apart. numbers_apart (sequence_of a) (sequence_of b) (apart (same_db db a b p q))) refl (λ x. refl) (tests_db db _ (docs_keyed old.now.trees is.laid)) (ones old is)
       is.laid.sequences_apart r items h
+
+-- ---- those of a range, and those behind a sequence
+
+abbrev pub range_text : List ℕ
+range_text = codes "SELECT id, seq, winner, del FROM docs WHERE db = ?1 AND id >= ?2 AND id <= ?3 ORDER BY id"
+
+abbrev pub later_text : List ℕ
+later_text = codes "SELECT id, seq, winner, del FROM docs WHERE db = ?1 AND seq > ?2 ORDER BY seq LIMIT ?3"
+
+abbrev most_rows : Term
+most_rows = col 0 2
+
+pub range_is : IsCommand schema range_text (Select (program_on docs_tree by_range listed id_order) headings)
+unfolding understood everything
+range_is = record { is = refl; plain = (refl, refl) }
+
+range_unlisted : reads_listing schema range_text ≡ false
+unfolding understood everything
+range_unlisted = refl
+
+range_whole : IsWhole schema range_text 3
+unfolding understood everything
+range_whole = record { ends = refl; given = refl; same = refl }
+
+pub later_is : IsCommand schema later_text (Select (first_program docs_tree by_later listed sequence_order most_rows) headings)
+unfolding understood everything
+later_is = record { is = refl; plain = (refl, refl) }
+
+later_unlisted : reads_listing schema later_text ≡ false
+unfolding understood everything
+later_unlisted = refl
+
+later_whole : IsWhole schema later_text 3
+unfolding understood everything
+later_whole = record { ends = refl; given = refl; same = refl }
+
+pub range_fails : {X : Type 0} (old new : State) → old.now.schema ≡ schema → (db : ℤ) (first last : List ℕ) (r : Result X Error) → IfErr r (FailsToQuery range_text (Int db ∷ Blob first ∷ Blob last ∷ []) old new)
+    → IfErr r (λ e. IsFault old new e ⊎ IsInterrupted old e)
+range_fails old new has db first last r h =
+    looks_fail schema old new has range_text docs_tree by_range listed id_order unlimited headings range_is range_unlisted (Int db ∷ Blob first ∷ Blob last ∷ []) range_whole refl r h
+
+pub later_fails : {X : Type 0} (old new : State) → old.now.schema ≡ schema → (db since limit : ℤ) (r : Result X Error) → IfErr r (FailsToQuery later_text (Int db ∷ Int since ∷ Int limit ∷ []) old new)
+    → IfErr r (λ e. IsFault old new e ⊎ IsInterrupted old e)
+later_fails old new has db since limit r h =
+    looks_fail schema old new has later_text docs_tree by_later listed sequence_order most_rows headings later_is later_unlisted (Int db ∷ Int since ∷ Int limit ∷ []) later_whole refl r h
+
+-- rows of a kind among those of a database, in an order
+left_in_order : (by : Row → Row → Ordering) → IsTotalOrder by → (db : ℤ) (q : Row → Bool) (rows : List Row)
+    → map listed_document (sort_by by (filter (λ r. is_in db r && q (listed_document r)) rows)) ≡ filter q (map listed_document (sort_by by (filter (is_in db) rows)))
+left_in_order by total db q rows =
+    ap (λ l. map listed_document (sort_by by l)) (both_left (is_in db) (λ r. q (listed_document r)) rows)
+    ∙ ap (map listed_document) (sym (sorted_left by total (λ r. q (listed_document r)) (filter (is_in db) rows)))
+    ∙ sym (filter-map q listed_document (sort_by by (filter (is_in db) rows)))
+
+limited_to : (limit : ℤ) (rows : List Row) → limited (as_count (Int limit)) rows ≡ first_rows limit rows
+limited_to (pos n) rows = refl
+limited_to (negsuc n) rows = refl
+
+later_ones : (db since limit : ℤ) (rows : List Row) → AllByRecursion IsOne rows
+    → AllByRecursion (λ r. list_all (holds ((Int db ∷ Int since ∷ Int limit ∷ []) ∷ r ∷ [])) by_later ≡ (is_in db r && comes_after since (listed_document r))) rows
+later_ones db since limit rows all =
+    all_weaker IsOne (λ r. list_all (holds ((Int db ∷ Int since ∷ Int limit ∷ []) ∷ r ∷ [])) by_later ≡ (is_in db r && comes_after since (listed_document r)))
+    (λ r k. test_later db since limit r (sequence_of r) (ap (λ x. column x 1) k) (ap (λ x. column x 3) k)) rows all
+
+first_of_both : (a b : Bool) → (a && b) ≡ true → a ≡ true
+first_of_both true b h = refl
+first_of_both false b h = h
+
+module _ {X E : Type 0} (old new : State) (is : IsStore old.now) (db : ℤ) (r : Result X E) (items : X → List Row) where
+  pub lists_range : (first last : List ℕ) → IfOk r (λ x. Shown range_text (Int db ∷ Blob first ∷ Blob last ∷ []) old new (items x))
+      → IfOk r (λ x. items x ≡ filter (λ s. lies_between first last (listed_id s)) (map listed_document (sort_by order.by_id (filter (is_in db) (old.now.trees docs_tree)))))
+  lists_range first last h =
+      if_equal r items _ _
+      (left_in_order order.by_id (on_total id_of nat_list_cmp_total) db (λ s. lies_between first last (listed_id s)) (old.now.trees docs_tree))
+      (lists schema old new is.schema_is range_text docs_tree by_range listed id_order unlimited headings range_is range_unlisted (Int db ∷ Blob first ∷ Blob last ∷ [])
+      (λ l. is_in db l && lies_between first last (id_of l)) listed_document IsOne order.by_id (λ a b. db_of a ≡ db_of b → id_of a ≢ id_of b)
+      ids_agree (λ a b k l p q apart. ids_apart a b (apart (same_db db a b (first_of_both _ _ p) (first_of_both _ _ q)))) refl (λ x. refl)
+      (tests_range db first last _ (docs_keyed old.now.trees is.laid)) (ones old is) is.laid.ids_apart r items h)
+
+  pub lists_later : (since limit : ℤ) → IfOk r (λ x. Shown later_text (Int db ∷ Int since ∷ Int limit ∷ []) old new (items x))
+      → IfOk r (λ x. items x ≡ first_rows limit (filter (comes_after since) (map listed_document (sort_by order.by_sequence (filter (is_in db) (old.now.trees docs_tree))))))
+  lists_later since limit h =
+      if_equal r items _ _
+      (limited_to limit _ ∙ ap (first_rows limit) (left_in_order order.by_sequence (on_total sequence_of nat_cmp_total) db (comes_after since) (old.now.trees docs_tree)))
+      (lists schema old new is.schema_is later_text docs_tree by_later listed sequence_order most_rows headings later_is later_unlisted (Int db ∷ Int since ∷ Int limit ∷ [])
+      (λ l. is_in db l && comes_after since (listed_document l)) listed_document IsOne order.by_sequence (λ a b. db_of a ≡ db_of b → sequence_of a ≢ sequence_of b)
+      sequences_agree (λ a b k l p q apart. numbers_apart (sequence_of a) (sequence_of b) (apart (same_db db a b (first_of_both _ _ p) (first_of_both _ _ q)))) refl (λ x. refl)
+      (later_ones db since limit _ (ones old is)) (ones old is) is.laid.sequences_apart r items h)
 
 -- ---- why the changes fail
 

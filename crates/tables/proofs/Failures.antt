@@ -20,7 +20,7 @@ use Rattle.sqlite.specs.declared.error.Error.{Error}
 use Rattle.sqlite.specs.declared.error.Error.TheVariants.{SqliteFailure}
 use Rattle.sqlite.specs.declared.error.ErrorCode.TheVariants as code
 use Rattle.sqlite.proofs.Callers.{IsPlain, command_of, statement_of}
-use Rattle.tables.proofs.Queries.{program_on}
+use Rattle.tables.proofs.Queries.{first_program}
 use Rattle.tables.proofs.Writes.{IsCommand}
 use Rattle.tables.specs.Causes.{IsFault, IsInterrupted}
 
@@ -62,28 +62,28 @@ module _ (schema : Schema) (old new : State) (has : old.now.schema ≡ schema) (
   unrun e (inr h) = (h.0, h.1, h.2)
 
 -- a query by tests on one table fails only where its steps are limited, if its terms are typed
-pub refuses_query : (limit : Option ℕ) (db : Database) (tree : ℕ) (tests shown : List Term) (order : List (Term × Key)) (params : Row) (e : Error)
-    → accepts_program db.schema (lets_of (program_on tree tests shown order)) (program_on tree tests shown order).body params ≡ true
-    → RefusesQuery limit db (program_on tree tests shown order) params e → (e ≡ SqliteFailure code.OperationInterrupted) × IsSome limit
-refuses_query limit db tree tests shown order params e typed (inl h) = absurd (let a = h.1 in cc)
-refuses_query limit db tree tests shown order params e typed (inr (inl (is, inl group))) = absurd group
-refuses_query limit db tree tests shown order params e typed (inr (inl (is, inr fold))) =
+pub refuses_query : (limit : Option ℕ) (db : Database) (tree : ℕ) (tests shown : List Term) (order : List (Term × Key)) (most : Term) (params : Row) (e : Error)
+    → accepts_program db.schema (lets_of (first_program tree tests shown order most)) (first_program tree tests shown order most).body params ≡ true
+    → RefusesQuery limit db (first_program tree tests shown order most) params e → (e ≡ SqliteFailure code.OperationInterrupted) × IsSome limit
+refuses_query limit db tree tests shown order most params e typed (inl h) = absurd (let a = h.1 in cc)
+refuses_query limit db tree tests shown order most params e typed (inr (inl (is, inl group))) = absurd group
+refuses_query limit db tree tests shown order most params e typed (inr (inl (is, inr fold))) =
     absurd (no_fold_overflows (overlay db.trees []) (inner tree end) (params ∷ []) refl fold)
-refuses_query limit db tree tests shown order params e typed (inr (inr h)) = h
+refuses_query limit db tree tests shown order most params e typed (inr (inr h)) = h
 
-module _ (schema : Schema) (old new : State) (has : old.now.schema ≡ schema) (text : List ℕ) (tree : ℕ) (tests shown : List Term) (order : List (Term × Key)) (names : List (List ℕ))
-    (command : IsCommand schema text (Select (program_on tree tests shown order) names)) (unlisted : reads_listing schema text ≡ false) (params : Row) (whole : IsWhole schema text (length params))
-    (typed : accepts_program schema (lets_of (program_on tree tests shown order)) (program_on tree tests shown order).body params ≡ true) where
+module _ (schema : Schema) (old new : State) (has : old.now.schema ≡ schema) (text : List ℕ) (tree : ℕ) (tests shown : List Term) (order : List (Term × Key)) (most : Term) (names : List (List ℕ))
+    (command : IsCommand schema text (Select (first_program tree tests shown order most) names)) (unlisted : reads_listing schema text ≡ false) (params : Row) (whole : IsWhole schema text (length params))
+    (typed : accepts_program schema (lets_of (first_program tree tests shown order most)) (first_program tree tests shown order most).body params ≡ true) where
   -- a query fails by a fault, or where its steps are limited
   pub looks_fail : {X : Type 0} (r : Result X Error) → IfErr r (FailsToQuery text params old new) → IfErr r (λ e. IsFault old new e ⊎ IsInterrupted old e)
   unfolding FailsToQuery
   looks_fail (Ok x) h = tt
-  looks_fail (Err e) (inl h) = inl (unrun schema old new has text (Select (program_on tree tests shown order) names) command params whole e h)
+  looks_fail (Err e) (inl h) = inl (unrun schema old new has text (Select (first_program tree tests shown order most) names) command params whole e h)
   looks_fail (Err e) (inr h) =
       let is : understood schema text ≡ Ok h.0 = subst (λ s. understood s text ≡ Ok h.0) has h.1.is in
       let bare = subst IsPlain is command.plain in
-      let kind : h.0.command ≡ Select (program_on tree tests shown order) names = ap command_of (sym is) ∙ command.is in
+      let kind : h.0.command ≡ Select (first_program tree tests shown order most) names = ap command_of (sym is) ∙ command.is in
       let failed = rw (bare.0, bare.1, append-nil params, kind) at h.2 in
       let db : failed.0 ≡ old.now = subst (λ b. IsSourceOf b old.now failed.0) (ap (λ s. reads_listing s text) has ∙ unlisted) failed.1 in
-      inr (refuses_query old.step_limit failed.0 tree tests shown order params e (ap (λ (d : Database). accepts_program d.schema (lets_of (program_on tree tests shown order)) (program_on tree tests shown order).body params) db
-      ∙ ap (λ s. accepts_program s (lets_of (program_on tree tests shown order)) (program_on tree tests shown order).body params) has ∙ typed) failed.2)
+      inr (refuses_query old.step_limit failed.0 tree tests shown order most params e (ap (λ (d : Database). accepts_program d.schema (lets_of (first_program tree tests shown order most)) (first_program tree tests shown order most).body params) db
+      ∙ ap (λ s. accepts_program s (lets_of (first_program tree tests shown order most)) (first_program tree tests shown order most).body params) has ∙ typed) failed.2)

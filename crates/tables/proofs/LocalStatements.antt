@@ -9,7 +9,7 @@ use Rattle.sqlite_schema.specs.declared.program.Program.{Program}
 use Rattle.sqlite_tied.specs.Compute.{everything}
 use Rattle.sqlite.specs.Listing.{understood, reads_listing}
 use Rattle.tables.proofs.Cells.{by_db, by_id, cast_null, cast_int, tests_db, tests_id}
-use Rattle.tables.proofs.Queries.{program_on}
+use Rattle.tables.proofs.Queries.{program_on, unlimited}
 use Rattle.tables.proofs.Writes.{IsCommand, inserts}
 use Rattle.tables.proofs.Deletes.{deletes_where}
 use Rattle.tables.proofs.Clears.{fails_to_delete}
@@ -100,7 +100,7 @@ unfolding understood everything
 find_whole = record { ends = refl; given = refl; same = refl }
 
 pub find_fails : {X : Type 0} (old new : State) → old.now.schema ≡ schema → (db : ℤ) (id : List ℕ) (r : Result X Error) → IfErr r (FailsToQuery find_text (Int db ∷ Blob id ∷ []) old new) → IfErr r (λ e. IsFault old new e ⊎ IsInterrupted old e)
-find_fails old new has db id r h = looks_fail schema old new has find_text locals_tree by_id (col 1 3 ∷ col 1 4 ∷ []) [] (codes "n" ∷ codes "body" ∷ []) find_is find_unlisted (Int db ∷ Blob id ∷ []) find_whole refl r h
+find_fails old new has db id r h = looks_fail schema old new has find_text locals_tree by_id (col 1 3 ∷ col 1 4 ∷ []) [] unlimited (codes "n" ∷ codes "body" ∷ []) find_is find_unlisted (Int db ∷ Blob id ∷ []) find_whole refl r h
 
 -- ---- why the changes fail
 

@@ -12,7 +12,7 @@ use Rattle.sqlite.specs.State.{State, Shown, FailsToQuery}
 use Rattle.sqlite.specs.declared.error.Error.{Error}
 use Rattle.tables.proofs.Failures.{IsWhole, looks_fail}
 use Rattle.tables.proofs.Finds.{finds_where}
-use Rattle.tables.proofs.Queries.{program_on}
+use Rattle.tables.proofs.Queries.{program_on, unlimited}
 use Rattle.tables.proofs.Writes.{IsCommand}
 use Rattle.tables.specs.Causes.{IsFault, IsInterrupted}
 use Rattle.tables.specs.Presence.{shown_version, shows_first, is_first}
@@ -34,7 +34,7 @@ unfolding understood everything
 find_whole = record { ends = refl; given = refl; same = refl }
 
 pub find_fails : {X : Type 0} (old new : State) → old.now.schema ≡ schema → (r : Result X Error) → IfErr r (FailsToQuery find_text [] old new) → IfErr r (λ e. IsFault old new e ⊎ IsInterrupted old e)
-find_fails old new has r h = looks_fail schema old new has find_text meta_tree [] (col 1 1 ∷ []) [] (codes "version" ∷ []) find_is find_unlisted [] find_whole refl r h
+find_fails old new has r h = looks_fail schema old new has find_text meta_tree [] (col 1 1 ∷ []) [] unlimited (codes "version" ∷ []) find_is find_unlisted [] find_whole refl r h
 
 pub finds_version : {X E : Type 0} (old new : State) → old.now.schema ≡ schema → (r : Result X E) (items : X → List Row) → IfOk r (λ x. Shown find_text [] old new (items x))
     → IfOk r (λ x. IsPermutation (map shown_version (old.now.trees meta_tree)) (items x))

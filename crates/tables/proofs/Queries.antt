@@ -12,9 +12,13 @@ use Rattle.sqlite_schema.specs.declared.program.Program.{Program}
 use Rattle.sqlite_keyed.proofs.ListLemmas.{map-map, map_same}
 use Rattle.sqlite.specs.Effect.{Database, Answers}
 
--- the rows of one table that pass all tests, in some order
-abbrev pub query_on : ℕ → List Term → List Term → List (Term × Key) → Query
-query_on tree tests shown order =
+-- no limit
+abbrev pub unlimited : Term
+unlimited = lit (Int (negsuc 0))
+
+-- the rows of one table that pass all tests, in some order, the first of them
+abbrev pub first_on : ℕ → List Term → List Term → List (Term × Key) → Term → Query
+first_on tree tests shown order limit =
     record {
       from = inner tree end;
       filter = tests;
@@ -23,12 +27,19 @@ query_on tree tests shown order =
       distinct = false;
       collations = [];
       order = order;
-      limit = lit (Int (negsuc 0));
+      limit = limit;
       offset = lit (Int (pos 0));
     }
 
+-- all of them
+abbrev pub query_on : ℕ → List Term → List Term → List (Term × Key) → Query
+query_on tree tests shown order = first_on tree tests shown order unlimited
+
+abbrev pub first_program : ℕ → List Term → List Term → List (Term × Key) → Term → Program
+first_program tree tests shown order limit = record { lets = []; body = first_on tree tests shown order limit }
+
 abbrev pub program_on : ℕ → List Term → List Term → List (Term × Key) → Program
-program_on tree tests shown order = record { lets = []; body = query_on tree tests shown order }
+program_on tree tests shown order = first_program tree tests shown order unlimited
 
 module _ (tests : List Term) (params : Row) (p : Row → Bool) where
   pub passed : (rows : List Row) → AllByRecursion (λ r. list_all (holds (params ∷ r ∷ [])) tests ≡ p r) rows

@@ -32,7 +32,7 @@ use Rattle.sqlite.specs.declared.error.Error.TheVariants.{SqliteFailure}
 use Rattle.sqlite.specs.declared.error.ErrorCode.TheVariants as code
 use Rattle.sqlite.proofs.Callers.{IsPlain, command_of, statement_of}
 use Rattle.tables.proofs.Failures.{IsWhole, unrun, refuses_query}
-use Rattle.tables.proofs.Queries.{program_on}
+use Rattle.tables.proofs.Queries.{program_on, unlimited}
 use Rattle.tables.proofs.Writes.{IsCommand, IsPlainTable, at_place, task_of}
 use Rattle.tables.specs.Causes.{IsFault, IsEnded}
 use Rattle.tables.specs.Steps.{FailsToRun}
@@ -216,7 +216,7 @@ module _ (schema : Schema) (at : ℕ) (table : Table) (it : IsPlainTable schema 
           × StopsEdit schema old.now.trees (edit_of old.now.trees table (ids_of rows) Given 0 []) stop)
       deletes (inl (None, refused, is)) = absurd refused
       deletes (inl (Some e, refused, is)) =
-          let short = refuses_query old.step_limit (record { schema = schema; trees = old.now.trees }) table.tree tests (col 1 0 ∷ []) [] params e typed refused in
+          let short = refuses_query old.step_limit (record { schema = schema; trees = old.now.trees }) table.tree tests (col 1 0 ∷ []) [] unlimited params e typed refused in
           inl (same_stop is ∙ ap Some short.0, short.1)
       deletes (inr (rows, asked, inl (s, edited, is))) =
           inr (rows, asked, subst (StopsEdit schema old.now.trees (edit_of old.now.trees table (ids_of rows) Given 0 [])) (sym (same_stop is)) (edit_stops (edit_of old.now.trees table (ids_of rows) Given 0 []) s refl edited))
@@ -240,7 +240,7 @@ module _ (schema : Schema) (at : ℕ) (table : Table) (it : IsPlainTable schema 
           × StopsEdit schema old.now.trees (edit_of old.now.trees table (ids_of rows) Given 1 rows) stop)
       updates (inl (None, refused, is)) = absurd refused
       updates (inl (Some e, refused, is)) =
-          let short = refuses_query old.step_limit (record { schema = schema; trees = old.now.trees }) table.tree tests shown [] params e typed refused in
+          let short = refuses_query old.step_limit (record { schema = schema; trees = old.now.trees }) table.tree tests shown [] unlimited params e typed refused in
           inl (same_stop is ∙ ap Some short.0, short.1)
       updates (inr (rows, asked, inl (s, edited, is))) =
           inr (rows, asked, subst (StopsEdit schema old.now.trees (edit_of old.now.trees table (ids_of rows) Given 1 rows)) (sym (same_stop is)) (edit_stops (edit_of old.now.trees table (ids_of rows) Given 1 rows) s refl edited))

@@ -21,7 +21,7 @@ use Rattle.tables.proofs.Inserts.{FitsTable, IsUnreferred, fails_to_insert}
 use Rattle.tables.proofs.Finds.{finds_where}
 use Rattle.sqlite_value.specs.Order.{Row}
 use Rattle.tables.proofs.Numbered.{numbered_from_keyed}
-use Rattle.tables.proofs.Queries.{program_on}
+use Rattle.tables.proofs.Queries.{program_on, unlimited}
 use Rattle.tables.proofs.Single.{one_row}
 use Rattle.tables.proofs.Tables.{revs_plain, revs_keyed}
 use Rattle.tables.proofs.Writes.{IsCommand, inserts}
@@ -96,7 +96,7 @@ unfolding understood everything
 find_whole = record { ends = refl; given = refl; same = refl }
 
 pub find_fails : {X : Type 0} (old new : State) → old.now.schema ≡ schema → (db : ℤ) (id : List ℕ) (r : Result X Error) → IfErr r (FailsToQuery find_text (Int db ∷ Blob id ∷ []) old new) → IfErr r (λ e. IsFault old new e ⊎ IsInterrupted old e)
-find_fails old new has db id r h = looks_fail schema old new has find_text revs_tree by_id (col 1 3 ∷ col 1 4 ∷ col 1 5 ∷ col 1 6 ∷ col 1 7 ∷ col 1 8 ∷ []) [] (codes "n" ∷ codes "hash" ∷ codes "parent" ∷ codes "held" ∷ codes "del" ∷ codes "body" ∷ []) find_is find_unlisted (Int db ∷ Blob id ∷ []) find_whole refl r h
+find_fails old new has db id r h = looks_fail schema old new has find_text revs_tree by_id (col 1 3 ∷ col 1 4 ∷ col 1 5 ∷ col 1 6 ∷ col 1 7 ∷ col 1 8 ∷ []) [] unlimited (codes "n" ∷ codes "hash" ∷ codes "parent" ∷ codes "held" ∷ codes "del" ∷ codes "body" ∷ []) find_is find_unlisted (Int db ∷ Blob id ∷ []) find_whole refl r h
 
 -- ---- why the changes fail
 

@@ -1,24 +1,27 @@
 -- What a query with an order answers, where no two rows tie.
-use Rattle.std.proofs.Common.{◌≡◌, ℕ, List, [], ◌∷◌, map, filter, flat_map, Bool, true, false, cond, Ok, Err, Result, IfOk, refl, ap, ap₂, subst, ◌∙◌, IsPermutation, Ordering, is_eq, is_gt}
+use Rattle.std.proofs.Common.{◌≡◌, ℕ, List, [], ◌∷◌, map, filter, flat_map, Bool, true, false, ◌&&◌, cond, Ok, Err, Result, IfOk, refl, ap, ap₂, subst, ◌∙◌, IsPermutation, Ordering, Less, Equal, Greater, is_eq, is_gt, sym}
+use Rattle.std.specs.Cmp.{IsTotalOrder}
+use Rattle.std.specs.Ordering.{ordering_reverse}
 use Rattle.std.specs.List.{AllByRecursion, list_all}
+use Rattle.std.proofs.lemmas.Cmp.{upto}
 use Rattle.sqlite_value.specs.declared.value.Value.TheVariants.{Null}
 use Rattle.sqlite_value.specs.declared.keys.Key.{Key}
 use Rattle.sqlite_value.specs.Order.{Row}
 use Rattle.sqlite_trees.specs.Tree.{IsAscending}
 use Rattle.sqlite_sql.specs.Program.{overlay}
-use Rattle.sqlite_sql.specs.Term.{Term, eval_all, holds}
-use Rattle.sqlite_sql.specs.Query.{Query, Output, output, output_cmp, IsAnswer}
+use Rattle.sqlite_sql.specs.Term.{Term, eval, eval_all, holds}
+use Rattle.sqlite_sql.specs.Query.{Query, Output, output, output_cmp, IsAnswer, as_count, limited}
 use Rattle.sqlite_sql.proofs.QueryLemmas.{output_cmp_total}
 use Rattle.sqlite_schema.specs.declared.command.Command.TheVariants.{Select}
 use Rattle.sqlite_schema.specs.declared.schema.Schema.{Schema}
 use Rattle.sqlite_keyed.specs.Lists.{insert_sorted, sort_by}
-use Rattle.sqlite_keyed.proofs.ListLemmas.{map-map, map_same, all-filter, ascending-map, ascending-filter}
+use Rattle.sqlite_keyed.proofs.ListLemmas.{map-map, map_same, all-filter, all_weaker, ascending-map, ascending-filter}
 use Rattle.sqlite_keyed.proofs.SortLemmas.{sorted_is-sort_by, sort_by-map}
 use Rattle.sqlite.specs.Effect.{Answers}
 use Rattle.sqlite.specs.Listing.{reads_listing}
 use Rattle.sqlite.specs.State.{State, Shown}
 use Rattle.sqlite.proofs.Callers.{reads_as}
-use Rattle.tables.proofs.Queries.{program_on, query_on, passed}
+use Rattle.tables.proofs.Queries.{first_program, first_on, passed}
 use Rattle.tables.proofs.Writes.{IsCommand}
 
 -- ---- two orders that agree on the rows sort them alike
@@ -63,22 +66,87 @@ both : (P : Row → Type 0) (p : Row → Bool) (rows : List Row) → AllByRecurs
 both P p [] one two = tt
 both P p (r ∷ rows) one two = ((one.0, two.0), both P p rows one.1 two.1)
 
-module _ (schema : Schema) (old new : State) (has : old.now.schema ≡ schema) (text : List ℕ) (tree : ℕ) (tests shown : List Term) (order : List (Term × Key)) (names : List (List ℕ))
-    (command : IsCommand schema text (Select (program_on tree tests shown order) names)) (unlisted : reads_listing schema text ≡ false) (params : Row) (p : Row → Bool) (show : Row → Row)
+-- ---- the rows of a kind, of sorted rows, are those of a kind, sorted
+
+module _ (cmp : Row → Row → Ordering) (total : IsTotalOrder cmp) where
+  abbrev AtMost : Row → Row → Type 0
+  AtMost a b = is_gt (cmp a b) ≡ false
+
+  risen : (new : Row) (rows : List Row) → IsAscending AtMost rows → IsAscending AtMost (insert_sorted cmp new rows)
+  risen new [] up = (tt, tt)
+  risen new (r ∷ rows) up = go (cmp new r) refl (risen new rows up.1)
+    where
+      go : (o : Ordering) → cmp new r ≡ o → IsAscending AtMost (insert_sorted cmp new rows) → IsAscending AtMost (cond (is_gt o) (r ∷ insert_sorted cmp new rows) (new ∷ r ∷ rows))
+      go Greater e more = (all_inserted (AtMost r) cmp new rows (ap is_gt (total.antisymm r new ∙ ap ordering_reverse e)) up.0, more)
+      go Less e more = ((ap is_gt e, all_weaker (AtMost r) (AtMost new) (λ z. upto total new r z (ap is_gt e)) rows up.0), up)
+      go Equal e more = ((ap is_gt e, all_weaker (AtMost r) (AtMost new) (λ z. upto total new r z (ap is_gt e)) rows up.0), up)
+
+  rises : (rows : List Row) → IsAscending AtMost (sort_by cmp rows)
+  rises [] = tt
+  rises (r ∷ rows) = risen r (sort_by cmp rows) (rises rows)
+
+  put_first : (new : Row) (rows : List Row) → AllByRecursion (AtMost new) rows → insert_sorted cmp new rows ≡ new ∷ rows
+  put_first new [] all = refl
+  put_first new (r ∷ rows) all = ap (λ b. cond b (r ∷ insert_sorted cmp new rows) (new ∷ r ∷ rows)) all.0
+
+  module _ (p : Row → Bool) where
+    later : (new r : Row) (rows : List Row) (own : Bool) → is_gt (cmp new r) ≡ true → (b : Bool)
+        → filter p (insert_sorted cmp new rows) ≡ cond own (insert_sorted cmp new (filter p rows)) (filter p rows)
+        → cond b (r ∷ filter p (insert_sorted cmp new rows)) (filter p (insert_sorted cmp new rows))
+        ≡ cond own (insert_sorted cmp new (cond b (r ∷ filter p rows) (filter p rows))) (cond b (r ∷ filter p rows) (filter p rows))
+    later new r rows own gt false more = more
+    later new r rows true gt true more = ap (λ l. r ∷ l) more ∙ sym (ap (λ c. cond c (r ∷ insert_sorted cmp new (filter p rows)) (new ∷ r ∷ filter p rows)) gt)
+    later new r rows false gt true more = ap (λ l. r ∷ l) more
+
+    put_left : (new : Row) (rows : List Row) → IsAscending AtMost rows → filter p (insert_sorted cmp new rows) ≡ cond (p new) (insert_sorted cmp new (filter p rows)) (filter p rows)
+    put_left new [] up = refl
+    put_left new (r ∷ rows) up = go (is_gt (cmp new r)) refl (put_left new rows up.1)
+      where
+        go : (b : Bool) → is_gt (cmp new r) ≡ b → filter p (insert_sorted cmp new rows) ≡ cond (p new) (insert_sorted cmp new (filter p rows)) (filter p rows)
+            → filter p (cond b (r ∷ insert_sorted cmp new rows) (new ∷ r ∷ rows)) ≡ cond (p new) (insert_sorted cmp new (filter p (r ∷ rows))) (filter p (r ∷ rows))
+        go true e more = later new r rows (p new) e (p r) more
+        go false e more =
+            ap (λ l. cond (p new) l (filter p (r ∷ rows)))
+            (sym (put_first new (filter p (r ∷ rows)) (all-filter (AtMost new) p (r ∷ rows) (e, all_weaker (AtMost r) (AtMost new) (λ z. upto total new r z e) rows up.0))))
+
+    pub sorted_left : (rows : List Row) → filter p (sort_by cmp rows) ≡ sort_by cmp (filter p rows)
+    sorted_left [] = refl
+    sorted_left (r ∷ rows) =
+        put_left r (sort_by cmp rows) (rises rows) ∙ ap (λ l. cond (p r) (insert_sorted cmp r l) l) (sorted_left rows)
+        ∙ elim (p r) as (λ b. cond b (insert_sorted cmp r (sort_by cmp (filter p rows))) (sort_by cmp (filter p rows)) ≡ sort_by cmp (cond b (r ∷ filter p rows) (filter p rows))) [ true ↦ refl | false ↦ refl ]
+
+pub both_left : (p q : Row → Bool) (rows : List Row) → filter (λ r. p r && q r) rows ≡ filter q (filter p rows)
+both_left p q [] = refl
+both_left p q (r ∷ rows) = go (p r) (q r) refl (both_left p q rows)
+  where
+    go : (a b : Bool) → q r ≡ b → filter (λ x. p x && q x) rows ≡ filter q (filter p rows) → cond (a && b) (r ∷ filter (λ x. p x && q x) rows) (filter (λ x. p x && q x) rows) ≡ filter q (cond a (r ∷ filter p rows) (filter p rows))
+    go true true is more = ap (λ l. r ∷ l) more ∙ sym (ap (λ c. cond c (r ∷ filter q (filter p rows)) (filter q (filter p rows))) is)
+    go true false is more = more ∙ sym (ap (λ c. cond c (r ∷ filter q (filter p rows)) (filter q (filter p rows))) is)
+    go false b is more = more
+
+-- the same list, in other words
+pub if_equal : {X E : Type 0} (r : Result X E) (items : X → List Row) (said meant : List Row) → said ≡ meant → IfOk r (λ x. items x ≡ said) → IfOk r (λ x. items x ≡ meant)
+if_equal (Ok x) items said meant same h = h ∙ same
+if_equal (Err e) items said meant same h = tt
+
+-- ---- the answer
+
+module _ (schema : Schema) (old new : State) (has : old.now.schema ≡ schema) (text : List ℕ) (tree : ℕ) (tests shown : List Term) (order : List (Term × Key)) (most : Term) (names : List (List ℕ))
+    (command : IsCommand schema text (Select (first_program tree tests shown order most) names)) (unlisted : reads_listing schema text ≡ false) (params : Row) (p : Row → Bool) (show : Row → Row)
     (P : Row → Type 0) (by : Row → Row → Ordering) (R : Row → Row → Type 0)
-    (agree : (a b : Row) → P a → P b → output_cmp (query_on tree tests shown order) (output (query_on tree tests shown order) (params ∷ a ∷ [])) (output (query_on tree tests shown order) (params ∷ b ∷ [])) ≡ by a b)
+    (agree : (a b : Row) → P a → P b → output_cmp (first_on tree tests shown order most) (output (first_on tree tests shown order most) (params ∷ a ∷ [])) (output (first_on tree tests shown order most) (params ∷ b ∷ [])) ≡ by a b)
     (apart : (a b : Row) → P a → P b → p a ≡ true → p b ≡ true → R a b → is_eq (by a b) ≡ false) where
   pub lists : {X E : Type 0} (bare : overlay old.now.trees [] tree ≡ old.now.trees tree) → ((r : Row) → eval_all shown (params ∷ r ∷ []) ≡ show r)
       → AllByRecursion (λ r. list_all (holds (params ∷ r ∷ [])) tests ≡ p r) (old.now.trees tree) → AllByRecursion P (old.now.trees tree) → IsAscending R (old.now.trees tree)
-      → (r : Result X E) (items : X → List Row) → IfOk r (λ x. Shown text params old new (items x)) → IfOk r (λ x. items x ≡ map show (sort_by by (filter p (old.now.trees tree))))
+      → (r : Result X E) (items : X → List Row) → IfOk r (λ x. Shown text params old new (items x)) → IfOk r (λ x. items x ≡ limited (as_count (eval most (params ∷ []))) (map show (sort_by by (filter p (old.now.trees tree)))))
   lists bare shows passes all up (Err e) items h = tt
   lists bare shows passes all up (Ok x) items h =
-      let q : Query = query_on tree tests shown order in
-      let out : Row → Output = λ r. output (query_on tree tests shown order) (params ∷ r ∷ []) in
+      let q : Query = first_on tree tests shown order most in
+      let out : Row → Output = λ r. output (first_on tree tests shown order most) (params ∷ r ∷ []) in
       let rows : List Row = old.now.trees tree in
       let found : List Row = filter p rows in
-      let answers : Answers old.now (program_on tree tests shown order) params (items x) =
-      reads_as text params old new schema has (Select (program_on tree tests shown order) names) command.is command.plain unlisted (items x) h in
+      let answers : Answers old.now (first_program tree tests shown order most) params (items x) =
+      reads_as text params old new schema has (Select (first_program tree tests shown order most) names) command.is command.plain unlisted (items x) h in
       let a : IsAnswer q (overlay old.now.trees []) params (items x) = answers.answer Null in
       let staged : a.staged ≡ map (λ r. params ∷ r ∷ []) found =
       a.grouped ∙ ap (flat_map (λ r. cond (list_all (holds (params ∷ r ∷ [])) tests) ((params ∷ r ∷ []) ∷ []) [])) bare ∙ passed tests params p rows passes in
@@ -91,5 +159,7 @@ module _ (schema : Schema) (old new : State) (has : old.now.schema ≡ schema) (
       sorted_is-sort_by (output_cmp q) (output_cmp_total q) (map out found) a.ordered (ascending-map (λ x y. is_eq (output_cmp q x y) ≡ false) out found untied)
       (subst (λ l. IsPermutation l a.ordered) kept a.same) a.sorted in
       let mine : sort_by (λ a b. output_cmp q (out a) (out b)) found ≡ sort_by by found = sorted_alike P (λ a b. output_cmp q (out a) (out b)) by agree found (all-filter P p rows all) in
-      a.shown ∙ ap (map (λ (o : Output). o.1)) (ordered ∙ sort_by-map (output_cmp q) out found ∙ ap (map out) mine)
-      ∙ map-map (λ (o : Output). o.1) out (sort_by by found) ∙ map_same _ show shows (sort_by by found)
+      a.shown
+      ∙ ap (limited (as_count (eval most (params ∷ []))))
+      (ap (map (λ (o : Output). o.1)) (ordered ∙ sort_by-map (output_cmp q) out found ∙ ap (map out) mine)
+      ∙ map-map (λ (o : Output). o.1) out (sort_by by found) ∙ map_same _ show shows (sort_by by found))

@@ -1,8 +1,10 @@
 -- What the rows that a list of documents shows say, each as a row of a page.
 -- This server's own layout, over `Pages` of `store`.
-use Rattle.std.specs.Prelude.{◌≡◌, ℕ, ℤ, Bool, not, if◌then◌else◌, IsTrue, IsUtf8, List, length, flat_map, Option, None, option_map}
+use Rattle.std.specs.Prelude.{◌≡◌, ℕ, ℤ, pos, negsuc, int_lt, Bool, not, ◌&&◌, if◌then◌else◌, IsTrue, IsUtf8, List, length, take, flat_map, Option, None, option_map}
+use Rattle.std.specs.Cmp.Lexicographic.{slice_cmp}
 use Rattle.std.specs.List.{count_by}
 use Rattle.std.specs.Option.{option_to_list}
+use Rattle.std.specs.Ordering.{is_le, nat_cmp}
 use Rattle.tree.specs.DocumentId.{is_document_id}
 use Rattle.tree.specs.History.{leaves}
 use Rattle.tree.specs.Revision.{Revision, revision_read}
@@ -27,6 +29,19 @@ listed_winner s = revision_read (bytes (column s 2))
 
 abbrev pub listed_mark : Row → Bool
 listed_mark s = is_set (column s 3)
+
+-- the id lies between two, by their bytes, or is one of them
+abbrev pub lies_between : List ℕ → List ℕ → List ℕ → Bool
+lies_between first last id = is_le (slice_cmp nat_cmp first id) && is_le (slice_cmp nat_cmp id last)
+
+-- the row's sequence is above this one
+abbrev pub comes_after : ℤ → Row → Bool
+comes_after sequence s = int_lt sequence (pos (listed_sequence s))
+
+-- so many rows, from the first on, and all of them where the number is negative
+abbrev pub first_rows : ℤ → List Row → List Row
+first_rows (pos n) rows = take n rows
+first_rows (negsuc n) rows = rows
 
 -- the row of a listing by id, where the winner is not deleted
 abbrev pub live_row : Row → Option IdRow

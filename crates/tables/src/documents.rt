@@ -4,6 +4,7 @@ ghost use Rattle.std.specs.Prelude.{◌≡◌, not, filter, map};
 ghost use Rattle.sqlite_keyed.specs.Lists.{sort_by};
 ghost use Rattle.tables.specs.Calls.{Alters, Asks, Fails, FailsToDelete, FailsToInsert, Finds, IsServed, Looks, Proceeds, Stands, Stays};
 ghost use Rattle.tables.specs.Layout.{AreKeyed};
+ghost use Rattle.tables.specs.Listings.{comes_after, first_rows, lies_between, listed_id};
 ghost use Rattle.tables.specs.Rows.{by_id, by_sequence, is_in, is_of, listed_document, shown_document, document_cells, with_cells};
 ghost use Rattle.tables.specs.Schema.{docs_table, docs_tree};
 
@@ -113,5 +114,48 @@ pub fn rows_by_sequence<S: Alter>(conn: &mut Connection<S>, db: &i64) -> Result<
         conn,
         "SELECT id, seq, winner, del FROM docs WHERE db = ?1 ORDER BY seq",
         params![db],
+    )
+}
+
+/// Returns those rows of `rows_by_id` whose ids lie between two, or are one of them.
+pub fn rows_between<S: Alter>(
+    conn: &mut Connection<S>,
+    db: &i64,
+    first: &[u8],
+    last: &[u8],
+) -> Result<Vec<Row>, Error>
+    ensures ok { Finds S.Store conn.old conn.new (λ trees rows. rows.items ≡ filter (λ s. lies_between first.now last.now (listed_id s)) (map listed_document (sort_by by_id (filter (is_in db.now) (trees docs_tree))))) result }
+    ensures err { Fails S.Store conn.old conn.new result }
+    ensures stands { Stands S.Store conn.old conn.new result }
+    ensures looks { Looks S.Store conn.old conn.new }
+    ensures asks { Asks S.Store conn.old conn.new }
+    ensures served { IsServed S.Store conn.old conn.new result }
+{
+    query(
+        conn,
+        "SELECT id, seq, winner, del FROM docs WHERE db = ?1 AND id >= ?2 AND id <= ?3 ORDER BY id",
+        params![db, first, last],
+    )
+}
+
+/// Returns those rows of `rows_by_sequence` whose sequences are above one: the first of them, up to a
+/// limit, and all where the limit is negative.
+pub fn rows_after<S: Alter>(
+    conn: &mut Connection<S>,
+    db: &i64,
+    sequence: &i64,
+    limit: &i64,
+) -> Result<Vec<Row>, Error>
+    ensures ok { Finds S.Store conn.old conn.new (λ trees rows. rows.items ≡ first_rows limit.now (filter (comes_after sequence.now) (map listed_document (sort_by by_sequence (filter (is_in db.now) (trees docs_tree)))))) result }
+    ensures err { Fails S.Store conn.old conn.new result }
+    ensures stands { Stands S.Store conn.old conn.new result }
+    ensures looks { Looks S.Store conn.old conn.new }
+    ensures asks { Asks S.Store conn.old conn.new }
+    ensures served { IsServed S.Store conn.old conn.new result }
+{
+    query(
+        conn,
+        "SELECT id, seq, winner, del FROM docs WHERE db = ?1 AND seq > ?2 ORDER BY seq LIMIT ?3",
+        params![db, sequence, limit],
     )
 }
