@@ -15,9 +15,10 @@ use crate::line::{Line, read_line};
 use crate::running::Running;
 use crate::server::Server;
 use crate::stage::Stage;
+use sqlstore::MemoryStore;
 use std::alloc::Global;
 use std::io::{BufRead, Write};
-use store::{PlainStore, Store};
+use store::Store;
 
 /// How many reads a script may take.
 const READS: u64 = 1_048_576;
@@ -41,16 +42,16 @@ pub fn lab<R: BufRead, W: Write>(
     ensures printed { OnOk result (Prints (W.contents writer.old) (W.contents writer.new)) }
 
     // Each line did what the definition says, and what was printed is what the lines print.
-    ensures played { OnOk result (IfSome (R.remaining reader.old) (λ script. PlaysScript ⟦<PlainStore as Store>⟧
+    ensures played { OnOk result (IfSome (R.remaining reader.old) (λ script. PlaysScript ⟦<MemoryStore as Store>⟧
         (record { secret = secret.now; admins = map string_bytes admins.now }) script (W.contents writer.old) (W.contents writer.new))) }
 
     // At the fault of a line just the lines up to it were read, and what was printed stands.
     ensures line { (n : ℕ) → result ≡ Err (ProgramFault.Line n) → ReadsLines n (R.remaining reader.old) (R.remaining reader.new) }
     ensures stands { (n : ℕ) → result ≡ Err (ProgramFault.Line n) → Prints (W.contents writer.old) (W.contents writer.new) }
-    ensures before { (n : ℕ) → result ≡ Err (ProgramFault.Line n) → IfSome (R.remaining reader.old) (λ script. PlaysBefore ⟦<PlainStore as Store>⟧
+    ensures before { (n : ℕ) → result ≡ Err (ProgramFault.Line n) → IfSome (R.remaining reader.old) (λ script. PlaysBefore ⟦<MemoryStore as Store>⟧
         (record { secret = secret.now; admins = map string_bytes admins.now }) n script (W.contents writer.old) (W.contents writer.new)) }
 {
-    play_script::<PlainStore, R, W>(alloc, secret, admins, reader, writer)
+    play_script::<MemoryStore, R, W>(alloc, secret, admins, reader, writer)
 }
 
 /// Plays a script whose nodes stand over stores of one kind, and prints the replies: a line for each,

@@ -11,6 +11,7 @@ pub mod DocumentWriting
 pub mod Committing
 pub mod Committed
 pub mod ListedRows
+pub mod Enough
 pub mod FoundPages
 pub mod Afterwards
 pub mod Indexing

@@ -67,12 +67,12 @@ fn write_document<S: Alter>(
     Ok(())
 }
 
-/// Returns the integer that SQLite holds for a sequence.
-fn integer_of(sequence: u64) -> i64
-    requires { sequence < 2 ^ 63 }
-    ensures { result ≡ pos sequence }
+/// Returns the integer that SQLite holds for a count.
+pub(crate) fn integer_of(count: u64) -> i64
+    requires { count < 2 ^ 63 }
+    ensures { result ≡ pos count }
 {
-    sequence as i64
+    count as i64
 }
 
 /// Does the writes of a database in turn, each under the next sequence.

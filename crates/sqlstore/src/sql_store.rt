@@ -7,6 +7,7 @@ mod committing;
 mod find;
 mod listing_rows;
 mod numbered;
+mod page_rows;
 mod rows;
 
 use crate::open_fault::OpenFault;

@@ -1,4 +1,4 @@
-//! The rows of all documents of a database, that a store reads.
+//! The rows of the documents of a database, that a store reads.
 
 use crate::fault::judge;
 use crate::sql_store::SqlStore;
@@ -7,7 +7,8 @@ use store::StoreFault;
 use tables::documents;
 
 impl<S: Alter> SqlStore<S> {
-    ghost use Rattle.std.specs.Prelude.{◌≡◌, IfErr, IfOk};
+    ghost use Rattle.std.specs.Prelude.{◌≡◌, IfErr, IfOk, filter};
+    ghost use Rattle.tables.specs.Listings.{comes_after, first_rows, lies_between, listed_id};
     ghost use Rattle.sqlstore.specs.Causes.{IsJudged};
     ghost use Rattle.sqlstore.specs.Listing.{listed_by_id, listed_by_sequence};
     ghost use Rattle.sqlstore.specs.Model.{Stands, is_honest, trees_of};
@@ -31,6 +32,41 @@ impl<S: Alter> SqlStore<S> {
         ensures stands { Stands S.Store self.old self.new }
     {
         match documents::rows_by_sequence(&mut self.conn, db) {
+            Ok(rows) => Ok(rows),
+            Err(error) => Err(judge(&mut self.faults, error)),
+        }
+    }
+
+    /// Returns the rows of the documents whose ids lie between two, or are one of them.
+    pub(crate) fn rows_between(
+        &mut self,
+        db: &i64,
+        first: &[u8],
+        last: &[u8],
+    ) -> Result<Vec<Row>, StoreFault>
+        ensures ok { is_honest S.Store self.new → IfOk result (λ rows. rows.items ≡ filter (λ s. lies_between first.now last.now (listed_id s)) (listed_by_id (trees_of S.Store self.old) db.now)) }
+        ensures judged { IfErr result (IsJudged self.old.faults self.new.faults) }
+        ensures stands { Stands S.Store self.old self.new }
+    {
+        match documents::rows_between(&mut self.conn, db, first, last) {
+            Ok(rows) => Ok(rows),
+            Err(error) => Err(judge(&mut self.faults, error)),
+        }
+    }
+
+    /// Returns the rows of the documents whose sequences are above one: the first of them, up to a limit,
+    /// and all where the limit is negative.
+    pub(crate) fn rows_after(
+        &mut self,
+        db: &i64,
+        sequence: &i64,
+        limit: &i64,
+    ) -> Result<Vec<Row>, StoreFault>
+        ensures ok { is_honest S.Store self.new → IfOk result (λ rows. rows.items ≡ first_rows limit.now (filter (comes_after sequence.now) (listed_by_sequence (trees_of S.Store self.old) db.now))) }
+        ensures judged { IfErr result (IsJudged self.old.faults self.new.faults) }
+        ensures stands { Stands S.Store self.old self.new }
+    {
+        match documents::rows_after(&mut self.conn, db, sequence, limit) {
             Ok(rows) => Ok(rows),
             Err(error) => Err(judge(&mut self.faults, error)),
         }

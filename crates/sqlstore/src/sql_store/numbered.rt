@@ -49,7 +49,7 @@ impl<S: Alter> SqlStore<S> {
         ensures counted { IfOk result (IsCounted range.now) }
         ensures stands { Stands S.Store self.old self.new }
     {
-        let rows = self.rows_by_id(number)?;
+        let rows = self.rows_for_page_by_id(number, range)?;
         read_page_by_id(self.alloc, &rows, range)
     }
 
@@ -68,7 +68,7 @@ impl<S: Alter> SqlStore<S> {
         ensures bounded { IfOk result (IsBounded range.now) }
         ensures stands { Stands S.Store self.old self.new }
     {
-        let rows = self.rows_by_sequence(number)?;
+        let rows = self.rows_for_page_by_sequence(number, range)?;
         read_page_by_sequence(self.alloc, &rows, sequence, range)
     }
 

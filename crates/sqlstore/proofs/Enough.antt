@@ -1,0 +1,232 @@
+-- Some rows of a list of documents make the page that all of them make.
+use Rattle.std.proofs.Common.{◌≡◌, ◌<◌, ◌^◌, ◌⊎◌, inl, inr, ℕ, zero, suc, ℤ, pos, negsuc, Bool, true, false, not, ◌&&◌, ◌||◌, cond, List, [], ◌∷◌, ◌++◌, map, filter, flat_map, take, drop, reverse, nat_lt, int_lt, Option, Some, None, option_map, Result, Ok, Err, IfOk, Ordering, Less, Equal, Greater, is_lt, is_le, nat_cmp, refl, sym, ap, ap₂, subst, ◌∙◌, arith, append-nil}
+use Rattle.std.proofs.lemmas.Cmp.{nat_list_cmp_total}
+use Rattle.std.proofs.lemmas.Int.{ints}
+use Rattle.std.proofs.lemmas.Bool.Decides.{nat_tests}
+use Rattle.std.proofs.lemmas.List.{reverse-append}
+use Rattle.std.proofs.lemmas.List.Elements.{filter-append}
+use Rattle.std.specs.Cmp.Lexicographic.{slice_cmp}
+use Rattle.std.specs.List.{AllByRecursion}
+use Rattle.std.specs.Option.{option_to_list}
+use Rattle.std.specs.Ordering.{ordering_reverse}
+use Rattle.store.specs.Pages.{SequenceRow, comes_before, id_page, if_counted, in_direction, is_after_end_of, is_before_start_of, is_within, last_sequence, later_rows, row_counts, rows_within, sequence_page, up_to_limit}
+use Rattle.store.specs.declared.page.IdRange.{IdRange}
+use Rattle.store.specs.declared.page.IdRow.{IdRow}
+use Rattle.store.specs.declared.page.SeqRange.{SeqRange}
+use Rattle.sqlite_value.specs.Order.{Row}
+use Rattle.sqlite_keyed.proofs.ListLemmas.{filter-filter, filter-map, filter_all, filter_same}
+use Rattle.tables.specs.Listings.{IsListedDocument, comes_after, first_rows, lies_between, listed_counts, listed_id, listed_mark, listed_sequence, listed_winner, live_row, live_rows, sequence_row}
+use Rattle.tables.proofs.Sorted.{passing}
+use Rattle.tree.specs.Revision.{Revision}
+use Rattle.sqlstore.specs.Listing.{AreEnoughById, AreEnoughBySequence, IsLimitFor, IsSequenceRow, least_of, winners_page}
+use Rattle.sqlstore.proofs.Answering.{all_left}
+
+-- ---- an id within a range lies between its ends
+
+below : (o : Ordering) → is_lt o ≡ true → is_le o ≡ true
+below Less h = refl
+below Equal h = absurd (cc)
+below Greater h = absurd (cc)
+
+turned : (o : Ordering) → is_lt o ≡ false → is_le (ordering_reverse o) ≡ true
+turned Less h = absurd (cc)
+turned Equal h = refl
+turned Greater h = refl
+
+at_most : (a b : List ℕ) → is_lt (slice_cmp nat_cmp b a) ≡ false → is_le (slice_cmp nat_cmp a b) ≡ true
+at_most a b h = ap is_le (nat_list_cmp_total.antisymm a b) ∙ turned (slice_cmp nat_cmp b a) h
+
+neither : (x y : Bool) → not (x || y) ≡ true → (x ≡ false) × (y ≡ false)
+neither true y h = absurd (cc)
+neither false true h = absurd (cc)
+neither false false h = (refl, refl)
+
+set : (b : Bool) → not b ≡ false → b ≡ true
+set true h = refl
+set false h = absurd (cc)
+
+end_kept : (inclusive : Bool) (a b : List ℕ) → cond inclusive (is_lt (slice_cmp nat_cmp b a)) (not (is_lt (slice_cmp nat_cmp a b))) ≡ false → is_le (slice_cmp nat_cmp a b) ≡ true
+end_kept true a b h = at_most a b h
+end_kept false a b h = below (slice_cmp nat_cmp a b) (set (is_lt (slice_cmp nat_cmp a b)) h)
+
+within_ends : (descending inclusive : Bool) (start end id : List ℕ) → not (is_before_start_of descending (Some start) id || is_after_end_of descending inclusive (Some end) id) ≡ true
+    → lies_between (least_of descending start end) (least_of descending end start) id ≡ true
+within_ends false inclusive start end id h =
+    let parts = neither (is_lt (slice_cmp nat_cmp id start)) (is_after_end_of false inclusive (Some end) id) h in
+    ap₂ ◌&&◌ (at_most start id parts.0) (end_kept inclusive id end parts.1)
+within_ends true inclusive start end id h =
+    let parts = neither (is_lt (slice_cmp nat_cmp start id)) (is_after_end_of true inclusive (Some end) id) h in
+    ap₂ ◌&&◌ (end_kept inclusive end id parts.1) (at_most id start parts.0)
+
+within_range : (range : IdRange) (start end : List ℕ) → range.start ≡ Some start → range.end ≡ Some end → (id : List ℕ) → is_within range id ≡ true
+    → lies_between (least_of range.descending start end) (least_of range.descending end start) id ≡ true
+within_range range start end s e id h =
+    within_ends range.descending range.inclusive_end start end id
+    (sym (ap₂ (λ x y. not (is_before_start_of range.descending x id || is_after_end_of range.descending range.inclusive_end y id)) s e) ∙ h)
+
+-- ---- rows by id
+
+reverse-cons : {X : Type 0} (x : X) (xs : List X) → reverse (x ∷ xs) ≡ reverse xs ++ x ∷ []
+reverse-cons x xs = reverse-append (x ∷ []) xs
+
+filter-reverse : {X : Type 0} (p : X → Bool) (xs : List X) → filter p (reverse xs) ≡ reverse (filter p xs)
+filter-reverse p [] = refl
+filter-reverse p (x ∷ xs) = ap (filter p) (reverse-cons x xs) ∙ filter-append p (reverse xs) (x ∷ []) ∙ ap (λ ys. ys ++ filter p (x ∷ [])) (filter-reverse p xs) ∙ by (p x)
+  where
+    by : (b : Bool) → reverse (filter p xs) ++ cond b (x ∷ []) [] ≡ reverse (cond b (x ∷ filter p xs) (filter p xs))
+    by true = sym (reverse-cons x (filter p xs))
+    by false = append-nil (reverse (filter p xs))
+
+filter_directed : {X : Type 0} (p : X → Bool) (descending : Bool) (xs : List X) → filter p (in_direction descending xs) ≡ in_direction descending (filter p xs)
+filter_directed p true xs = filter-reverse p xs
+filter_directed p false xs = refl
+
+abbrev shown : List ℕ → Bool → Option Revision → List IdRow
+shown id gone won = option_to_list (cond gone None (option_map (λ w. record { id = id; rev = w }) won))
+
+-- the row of a document passes if and only if its id does
+one_left : (p : List ℕ → Bool) (id : List ℕ) (gone : Bool) (won : Option Revision) (b : Bool) → p id ≡ b → (rest : List IdRow)
+    → cond b (shown id gone won) [] ++ filter (λ (r : IdRow). p r.id) rest ≡ filter (λ (r : IdRow). p r.id) (shown id gone won ++ rest)
+one_left p id true won true is rest = refl
+one_left p id true won false is rest = refl
+one_left p id false None true is rest = refl
+one_left p id false None false is rest = refl
+one_left p id false (Some w) true is rest =
+    sym (ap (λ c. cond c (record { id = id; rev = w } ∷ filter (λ (r : IdRow). p r.id) rest) (filter (λ (r : IdRow). p r.id) rest)) is)
+one_left p id false (Some w) false is rest =
+    sym (ap (λ c. cond c (record { id = id; rev = w } ∷ filter (λ (r : IdRow). p r.id) rest) (filter (λ (r : IdRow). p r.id) rest)) is)
+
+live_left : (p : List ℕ → Bool) (rows : List Row) → live_rows (filter (λ s. p (listed_id s)) rows) ≡ filter (λ (r : IdRow). p r.id) (live_rows rows)
+live_left p [] = refl
+live_left p (s ∷ rows) =
+    taken (p (listed_id s)) ∙ ap (λ l. cond (p (listed_id s)) (option_to_list (live_row s)) [] ++ l) (live_left p rows) ∙ one_left p (listed_id s) (listed_mark s) (listed_winner s) (p (listed_id s)) refl (live_rows rows)
+  where
+    taken : (b : Bool) → live_rows (cond b (s ∷ filter (λ x. p (listed_id x)) rows) (filter (λ x. p (listed_id x)) rows)) ≡ cond b (option_to_list (live_row s)) [] ++ live_rows (filter (λ x. p (listed_id x)) rows)
+    taken true = refl
+    taken false = refl
+
+module _ (range : IdRange) (p : List ℕ → Bool) (kept : (id : List ℕ) → is_within range id ≡ true → p id ≡ true) where
+  within_left : (rs : List IdRow) → rows_within range (filter (λ (r : IdRow). p r.id) rs) ≡ rows_within range rs
+  within_left rs =
+      ap (filter (λ (r : IdRow). is_within range r.id)) (sym (filter_directed (λ (r : IdRow). p r.id) range.descending rs))
+      ∙ filter-filter (λ (r : IdRow). is_within range r.id) (λ (r : IdRow). p r.id) (λ r. kept r.id) (in_direction range.descending rs)
+
+  uncounted_page : range.counted ≡ false → (a b : List IdRow) → rows_within range a ≡ rows_within range b → id_page range a ≡ id_page range b
+  uncounted_page plain a b same =
+      ap₂ (λ rs counts. record { rows = up_to_limit range.limit (drop range.skip rs); counts = counts }) same
+      (ap (λ c. if_counted c (row_counts range a)) plain ∙ sym (ap (λ c. if_counted c (row_counts range b)) plain))
+
+  enough : range.counted ≡ false → (all : List Row) → AreEnoughById range all (filter (λ s. p (listed_id s)) all)
+  enough plain all = record {
+    page = ap (id_page range) (live_left p all) ∙ uncounted_page plain (filter (λ (r : IdRow). p r.id) (live_rows all)) (live_rows all) (within_left (live_rows all));
+    intact = all_left IsListedDocument (λ s. p (listed_id s)) all;
+  }
+
+pub enough_by_id : (range : IdRange) (start end : List ℕ) → range.counted ≡ false → range.start ≡ Some start → range.end ≡ Some end → (all rows : List Row)
+    → rows ≡ filter (λ s. lies_between (least_of range.descending start end) (least_of range.descending end start) (listed_id s)) all → AreEnoughById range all rows
+enough_by_id range start end plain s e all rows is =
+    subst (AreEnoughById range all) (sym is)
+    (enough range (lies_between (least_of range.descending start end) (least_of range.descending end start)) (within_range range start end s e) plain all)
+
+pub all_enough_by_id : (range : IdRange) (all rows : List Row) → rows ≡ all → AreEnoughById range all rows
+all_enough_by_id range all rows is = subst (AreEnoughById range all) (sym is) (record { page = refl; intact = λ h. h })
+
+-- ---- rows by sequence
+
+pub all_enough_by_sequence : (range : SeqRange) (all rows : List Row) → rows ≡ all → AreEnoughBySequence range all rows
+all_enough_by_sequence range all rows is = subst (AreEnoughBySequence range all) (sym is) (record { page = λ sequence. refl; intact = λ h. h })
+
+all_taken : (P : Row → Type 0) (n : ℤ) (rows : List Row) → AllByRecursion P rows → AllByRecursion P (first_rows n rows)
+all_taken P (negsuc n) rows all = all
+all_taken P (pos n) rows all = go n rows all
+  where
+    go : (n : ℕ) (rows : List Row) → AllByRecursion P rows → AllByRecursion P (take n rows)
+    go zero rows all = tt
+    go (suc n) [] all = tt
+    go (suc n) (r ∷ rows) all = (all.0, go n rows all.1)
+
+all_later : {X : Type 0} (p : X → Bool) (n : ℕ) (xs : List X) → AllByRecursion (λ x. p x ≡ true) xs → AllByRecursion (λ x. p x ≡ true) (take n xs)
+all_later p zero xs all = tt
+all_later p (suc n) [] all = tt
+all_later p (suc n) (x ∷ xs) all = (all.0, all_later p n xs all.1)
+
+all_passed : {X : Type 0} (p : X → Bool) (xs : List X) → AllByRecursion (λ x. p x ≡ true) (filter p xs)
+all_passed p [] = tt
+all_passed p (x ∷ xs) = go (p x) refl (all_passed p xs)
+  where
+    go : (b : Bool) → p x ≡ b → AllByRecursion (λ y. p y ≡ true) (filter p xs) → AllByRecursion (λ y. p y ≡ true) (cond b (x ∷ filter p xs) (filter p xs))
+    go true is more = (is, more)
+    go false is more = more
+
+taken_twice : {X : Type 0} (n : ℕ) (xs : List X) → take n (take n xs) ≡ take n xs
+taken_twice zero xs = refl
+taken_twice (suc n) [] = refl
+taken_twice (suc n) (x ∷ xs) = ap (λ l. x ∷ l) (taken_twice n xs)
+
+map_taken : {X Y : Type 0} (f : X → Y) (n : ℕ) (xs : List X) → map f (take n xs) ≡ take n (map f xs)
+map_taken f zero xs = refl
+map_taken f (suc n) [] = refl
+map_taken f (suc n) (x ∷ xs) = ap (λ l. f x ∷ l) (map_taken f n xs)
+
+-- rows that pass, once and again, with a limit or none
+module _ {X : Type 0} (q : X → Bool) (xs : List X) where
+  again : (limit : Option ℕ) → up_to_limit limit (filter q (filter q xs)) ≡ up_to_limit limit (filter q xs)
+  again limit = ap (up_to_limit limit) (filter_all q (filter q xs) (all_passed q xs))
+
+  limited_again : (n : ℕ) → take n (filter q (take n (filter q xs))) ≡ take n (filter q xs)
+  limited_again n = ap (take n) (filter_all q (take n (filter q xs)) (all_later q n (filter q xs) (all_passed q xs))) ∙ taken_twice n (filter q xs)
+
+later_same : (n m : ℕ) → int_lt (pos n) (pos m) ≡ nat_lt n m
+later_same n m = grind (arith, ints, nat_tests)
+
+module _ (range : SeqRange) (all : List Row) where
+  abbrev is_later : SequenceRow → Bool
+  is_later r = nat_lt range.since r.sequence
+
+  rows_left : map sequence_row (filter (comes_after (pos range.since)) all) ≡ filter is_later (map sequence_row all)
+  rows_left = ap (map sequence_row) (filter_same (comes_after (pos range.since)) (λ s. nat_lt range.since (listed_sequence s)) (λ s. later_same range.since (listed_sequence s)) all) ∙ sym (filter-map is_later sequence_row all)
+
+  later_left : (limit : ℤ) → IsLimitFor range.limit limit → later_rows range (map sequence_row (first_rows limit (filter (comes_after (pos range.since)) all))) ≡ later_rows range (map sequence_row all)
+  later_left limit (inl none) =
+      ap (λ n. later_rows range (map sequence_row (first_rows n (filter (comes_after (pos range.since)) all)))) none
+      ∙ ap (later_rows range) rows_left ∙ again is_later (map sequence_row all) range.limit
+  later_left limit (inr some) = go range.limit limit refl some
+    where
+      go : (most : Option ℕ) (limit : ℤ) → range.limit ≡ most → option_map pos most ≡ Some limit
+          → later_rows range (map sequence_row (first_rows limit (filter (comes_after (pos range.since)) all))) ≡ later_rows range (map sequence_row all)
+      go None limit is some = absurd (cc)
+      go (Some n) limit is some =
+          let same : limit ≡ pos n = cc in
+          ap (λ k. later_rows range (map sequence_row (first_rows k (filter (comes_after (pos range.since)) all)))) same
+          ∙ ap (λ o. up_to_limit o (filter is_later (map sequence_row (take n (filter (comes_after (pos range.since)) all))))) is
+          ∙ ap (λ l. take n (filter is_later l)) (map_taken sequence_row n (filter (comes_after (pos range.since)) all) ∙ ap (take n) rows_left)
+          ∙ limited_again is_later (map sequence_row all) n
+          ∙ sym (ap (λ o. up_to_limit o (filter is_later (map sequence_row all))) is)
+
+  uncounted_winners : range.counted ≡ false → (rows : List Row) → later_rows range (map sequence_row rows) ≡ later_rows range (map sequence_row all) → (sequence : ℕ) → winners_page range sequence rows ≡ winners_page range sequence all
+  uncounted_winners plain rows same sequence =
+      ap₂ (λ rs counts. record { rows = rs; last = last_sequence (Rattle.std.specs.Prelude.min range.since sequence) rs; sequence = sequence; counts = counts }) same
+      (ap (λ c. if_counted c (listed_counts rows)) plain ∙ sym (ap (λ c. if_counted c (listed_counts all)) plain))
+
+  pub enough_by_sequence : range.counted ≡ false → (limit : ℤ) → IsLimitFor range.limit limit → (rows : List Row) → rows ≡ first_rows limit (filter (comes_after (pos range.since)) all) → AreEnoughBySequence range all rows
+  enough_by_sequence plain limit is rows found =
+      subst (AreEnoughBySequence range all) (sym found)
+      (record {
+        page = uncounted_winners plain (first_rows limit (filter (comes_after (pos range.since)) all)) (later_left limit is);
+        intact = λ h. all_taken IsSequenceRow limit (filter (comes_after (pos range.since)) all) (all_left IsSequenceRow (comes_after (pos range.since)) all h);
+      })
+
+-- ---- where they are answered
+
+pub if_enough_by_id : {X E : Type 0} (r : Result X E) (items : X → List Row) (range : IdRange) (start end s e : List ℕ) → range.counted ≡ false → range.start ≡ Some start → range.end ≡ Some end
+    → s ≡ start → e ≡ end → (all : List Row)
+    → IfOk r (λ x. items x ≡ filter (λ l. lies_between (least_of range.descending s e) (least_of range.descending e s) (listed_id l)) all) → IfOk r (λ x. AreEnoughById range all (items x))
+if_enough_by_id (Ok x) items range start end s e plain from to p q all h =
+    enough_by_id range s e plain (from ∙ ap Some (sym p)) (to ∙ ap Some (sym q)) all (items x) h
+if_enough_by_id (Err x) items range start end s e plain from to p q all h = tt
+
+pub if_enough_by_sequence : {X E : Type 0} (r : Result X E) (items : X → List Row) (range : SeqRange) (since limit told : ℤ) → range.counted ≡ false → since ≡ pos range.since → limit ≡ told → IsLimitFor range.limit told → (all : List Row)
+    → IfOk r (λ x. items x ≡ first_rows limit (filter (comes_after since) all)) → IfOk r (λ x. AreEnoughBySequence range all (items x))
+if_enough_by_sequence (Ok x) items range since limit told plain is same most all h =
+    enough_by_sequence range all plain told most (items x) (h ∙ ap₂ (λ m n. first_rows m (filter (comes_after n) all)) same is)
+if_enough_by_sequence (Err x) items range since limit told plain is same most all h = tt
