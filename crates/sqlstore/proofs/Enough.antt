@@ -1,5 +1,5 @@
 -- Some rows of a list of documents make the page that all of them make.
-use Rattle.std.proofs.Common.{◌≡◌, ◌<◌, ◌^◌, ◌⊎◌, inl, inr, ℕ, zero, suc, ℤ, pos, negsuc, Bool, true, false, not, ◌&&◌, ◌||◌, cond, List, [], ◌∷◌, ◌++◌, map, filter, flat_map, take, drop, reverse, nat_lt, int_lt, Option, Some, None, option_map, Result, Ok, Err, IfOk, Ordering, Less, Equal, Greater, is_lt, is_le, nat_cmp, refl, sym, ap, ap₂, subst, ◌∙◌, arith, append-nil}
+use Rattle.std.proofs.Common.{◌≡◌, inl, inr, ℕ, zero, suc, ℤ, pos, negsuc, Bool, true, false, not, ◌&&◌, ◌||◌, cond, List, [], ◌∷◌, ◌++◌, map, filter, take, drop, reverse, nat_lt, int_lt, Option, Some, None, option_map, Result, Ok, Err, IfOk, Ordering, Less, Equal, Greater, is_lt, is_le, nat_cmp, refl, sym, ap, ap₂, subst, ◌∙◌, arith, append-nil}
 use Rattle.std.proofs.lemmas.Cmp.{nat_list_cmp_total}
 use Rattle.std.proofs.lemmas.Int.{ints}
 use Rattle.std.proofs.lemmas.Bool.Decides.{nat_tests}
@@ -9,14 +9,13 @@ use Rattle.std.specs.Cmp.Lexicographic.{slice_cmp}
 use Rattle.std.specs.List.{AllByRecursion}
 use Rattle.std.specs.Option.{option_to_list}
 use Rattle.std.specs.Ordering.{ordering_reverse}
-use Rattle.store.specs.Pages.{SequenceRow, comes_before, id_page, if_counted, in_direction, is_after_end_of, is_before_start_of, is_within, last_sequence, later_rows, row_counts, rows_within, sequence_page, up_to_limit}
+use Rattle.store.specs.Pages.{SequenceRow, id_page, if_counted, in_direction, is_after_end_of, is_before_start_of, is_within, last_sequence, later_rows, row_counts, rows_within, up_to_limit}
 use Rattle.store.specs.declared.page.IdRange.{IdRange}
 use Rattle.store.specs.declared.page.IdRow.{IdRow}
 use Rattle.store.specs.declared.page.SeqRange.{SeqRange}
 use Rattle.sqlite_value.specs.Order.{Row}
 use Rattle.sqlite_keyed.proofs.ListLemmas.{filter-filter, filter-map, filter_all, filter_same}
 use Rattle.tables.specs.Listings.{IsListedDocument, comes_after, first_rows, lies_between, listed_counts, listed_id, listed_mark, listed_sequence, listed_winner, live_row, live_rows, sequence_row}
-use Rattle.tables.proofs.Sorted.{passing}
 use Rattle.tree.specs.Revision.{Revision}
 use Rattle.sqlstore.specs.Listing.{AreEnoughById, AreEnoughBySequence, IsLimitFor, IsSequenceRow, least_of, winners_page}
 use Rattle.sqlstore.proofs.Answering.{all_left}

@@ -17,7 +17,7 @@ use Rattle.sqlite_typed.specs.Tests.{bytes_cmp}
 use Rattle.sqlite_keyed.proofs.ListLemmas.{all_weaker}
 use Rattle.std.specs.List.{AllByRecursion, list_all}
 use Rattle.tables.specs.Layout.{IsKeyed, AreKeyed}
-use Rattle.tables.specs.Listings.{comes_after, lies_between}
+use Rattle.tables.specs.Listings.{lies_between}
 use Rattle.tables.specs.Rows.{db_of, id_of, is_in, is_of}
 
 -- a cell of the row against a parameter
