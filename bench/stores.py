@@ -10,7 +10,7 @@ import sys
 
 sys.path.append(os.path.join(os.path.dirname(os.path.dirname(os.path.abspath(__file__))), "tools"))
 
-from server import ADMIN, SECRET, message, signed
+from server import ADMIN, SECRET, message, proxy_lines
 
 TABLES = [
     "CREATE TABLE dbs (num INTEGER PRIMARY KEY, name BLOB NOT NULL UNIQUE, sec TEXT NOT NULL, seq INTEGER NOT NULL) STRICT",
@@ -36,7 +36,7 @@ class Served:
 
     def ask(self, method, path, body=b"", user=None):
         """Sends a request and returns its status and its body."""
-        self.socket.sendall(message(method, path, signed(user) if user else [], body))
+        self.socket.sendall(message(method, path, proxy_lines(user) if user else [], body))
         while b"\r\n\r\n" not in self.rest:
             self.take()
         head, self.rest = self.rest.split(b"\r\n\r\n", 1)

@@ -48,7 +48,7 @@ def token_of(secret, user):
     return hmac.new(secret.encode(), user.encode(), hashlib.sha256).hexdigest()
 
 
-def signed(user):
+def proxy_lines(user):
     """Returns the header lines that vouch for a user."""
     return [f"X-Auth-CouchDB-UserName: {user}", f"X-Auth-CouchDB-Token: {token_of(SECRET, user)}"]
 
@@ -62,7 +62,7 @@ def message(method, path, lines=(), body=None):
 
 def request(method, path, body=None, user=ADMIN, more=()):
     """Returns the bytes of a user's request, whose body is a value."""
-    return message(method, path, [*(signed(user) if user else []), *more], None if body is None else text_of(body))
+    return message(method, path, [*(proxy_lines(user) if user else []), *more], None if body is None else text_of(body))
 
 
 PHRASES = {200: "OK", 201: "Created", 400: "Bad Request", 401: "Unauthorized", 403: "Forbidden", 404: "Not Found", 405: "Method Not Allowed"}
