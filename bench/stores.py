@@ -1,0 +1,116 @@
+"""A server on a file, and SQLite's C library over the same tables, for the measurements of this folder."""
+import hashlib
+import json
+import os
+import re
+import socket
+import sqlite3
+import subprocess
+import sys
+
+sys.path.append(os.path.join(os.path.dirname(os.path.dirname(os.path.abspath(__file__))), "tools"))
+
+from server import ADMIN, SECRET, message, proxy_lines
+
+TABLES = [
+    "CREATE TABLE dbs (num INTEGER PRIMARY KEY, name BLOB NOT NULL UNIQUE, sec TEXT NOT NULL, seq INTEGER NOT NULL) STRICT",
+    "CREATE TABLE docs (db INTEGER NOT NULL, id BLOB NOT NULL, seq INTEGER NOT NULL, winner TEXT NOT NULL, del INTEGER NOT NULL, PRIMARY KEY (db, id), UNIQUE (db, seq)) STRICT",
+    "CREATE TABLE revs (db INTEGER NOT NULL, id BLOB NOT NULL, n INTEGER NOT NULL, hash TEXT NOT NULL, parent TEXT, held INTEGER NOT NULL, del INTEGER NOT NULL, body TEXT, PRIMARY KEY (db, id, n, hash)) STRICT",
+]
+
+
+class Served:
+    """A server on a file, and one connection to it."""
+
+    def __init__(self, program, file):
+        command = [program, "serve", "--secret", SECRET, "--file", file, "--port", "0", "--conns", "1000000", ADMIN]
+        self.process = subprocess.Popen(command, stdout=subprocess.PIPE)
+        line = self.process.stdout.readline().decode()
+        self.port = int(re.fullmatch(r"listening 127\.0\.0\.1:(\d+)\n", line).group(1))
+        self.connect()
+
+    def connect(self):
+        self.socket = socket.create_connection(("127.0.0.1", self.port))
+        self.socket.setsockopt(socket.IPPROTO_TCP, socket.TCP_NODELAY, 1)
+        self.rest = b""
+
+    def ask(self, method, path, body=b"", user=None):
+        """Sends a request and returns its status and its body."""
+        self.socket.sendall(message(method, path, proxy_lines(user) if user else [], body))
+        while b"\r\n\r\n" not in self.rest:
+            self.take()
+        head, self.rest = self.rest.split(b"\r\n\r\n", 1)
+        length = int(re.search(rb"Content-Length: (\d+)", head).group(1))
+        while len(self.rest) < length:
+            self.take()
+        body, self.rest = self.rest[:length], self.rest[length:]
+        return int(head[9:12]), body
+
+    def take(self):
+        piece = self.socket.recv(1 << 16)
+        if not piece:
+            raise SystemExit("the server closed the connection")
+        self.rest += piece
+
+    def memory(self):
+        """Returns the kilobytes of memory that the program has."""
+        with open(f"/proc/{self.process.pid}/status") as status:
+            return int(re.search(r"VmRSS:\s+(\d+)", status.read()).group(1))
+
+    def open_database(self):
+        """Makes the database `db`, which is open to all."""
+        expect(self.ask("PUT", "/db", user=ADMIN), 201)
+        expect(self.ask("PUT", "/db/_security", b"{}", user=ADMIN), 200)
+
+    def fill(self, names):
+        """Writes new documents, in one bulk."""
+        body = json.dumps({"docs": [{"_id": name, "v": 1} for name in names]}).encode()
+        expect(self.ask("POST", "/db/_bulk_docs", body), 201)
+
+    def stop(self):
+        self.socket.close()
+        self.process.kill()
+        self.process.wait()
+
+
+class Tables:
+    """The same documents by SQLite's C library."""
+
+    def __init__(self, file):
+        self.connect(file)
+        for text in TABLES:
+            self.conn.execute(text)
+        self.conn.execute("INSERT INTO dbs (name, sec, seq) VALUES (?, '{}', 0)", (b"db",))
+        self.sequence = 0
+
+    def connect(self, file):
+        self.conn = sqlite3.connect(file, isolation_level=None)
+        self.conn.execute("PRAGMA journal_mode=WAL")
+        self.conn.execute("PRAGMA synchronous=FULL")
+
+    def write(self, name, body):
+        run = self.conn.execute
+        self.sequence += 1
+        run("SELECT n, hash, parent, held, del, body FROM revs WHERE db = 1 AND id = ?", (name,)).fetchall()
+        run("INSERT INTO revs VALUES (1, ?, 1, ?, NULL, 1, 0, ?)", (name, hashlib.md5(body.encode()).hexdigest(), body))
+        run("DELETE FROM docs WHERE db = 1 AND id = ?", (name,))
+        run("INSERT INTO docs VALUES (1, ?, ?, '1-x', 0)", (name, self.sequence))
+        run("UPDATE dbs SET seq = ? WHERE num = 1", (self.sequence,))
+
+    def commit(self, names, body):
+        self.conn.execute("BEGIN IMMEDIATE")
+        for name in names:
+            self.write(name, body)
+        self.conn.execute("COMMIT")
+
+    def read(self, name):
+        self.conn.execute("SELECT num, sec, seq FROM dbs WHERE name = ?", (b"db",)).fetchall()
+        self.conn.execute("SELECT n, hash, parent, held, del, body FROM revs WHERE db = 1 AND id = ?", (name,)).fetchall()
+
+    def page(self, limit):
+        self.conn.execute("SELECT id, seq, winner, del FROM docs WHERE db = 1 AND del = 0 ORDER BY id LIMIT ?", (limit,)).fetchall()
+
+
+def expect(answer, status):
+    if answer[0] != status:
+        raise SystemExit(f"status {answer[0]} in place of {status}: {answer[1][:200]!r}")
