@@ -107,7 +107,11 @@ class Tables:
         self.conn.execute("SELECT num, sec, seq FROM dbs WHERE name = ?", (b"db",)).fetchall()
         self.conn.execute("SELECT n, hash, parent, held, del, body FROM revs WHERE db = 1 AND id = ?", (name,)).fetchall()
 
+    def changes(self, since, limit):
+        self.conn.execute("SELECT id, seq, winner, del FROM docs WHERE db = 1 AND seq > ? ORDER BY seq LIMIT ?", (since, limit)).fetchall()
+
     def page(self, limit):
+        self.conn.execute("SELECT count(*) FROM docs WHERE db = 1 AND del = 0").fetchall()
         self.conn.execute("SELECT id, seq, winner, del FROM docs WHERE db = 1 AND del = 0 ORDER BY id LIMIT ?", (limit,)).fetchall()
 
 
