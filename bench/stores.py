@@ -37,6 +37,10 @@ class Served:
     def ask(self, method, path, body=b"", user=None):
         """Sends a request and returns its status and its body."""
         self.socket.sendall(message(method, path, proxy_lines(user) if user else [], body))
+        return self.reply()
+
+    def reply(self):
+        """Takes in a reply, and returns its status and its body."""
         while b"\r\n\r\n" not in self.rest:
             self.take()
         head, self.rest = self.rest.split(b"\r\n\r\n", 1)
@@ -45,6 +49,13 @@ class Served:
             self.take()
         body, self.rest = self.rest[:length], self.rest[length:]
         return int(head[9:12]), body
+
+    def put_all(self, names):
+        """Writes new documents, each by a request of its own, and sends all of these ahead."""
+        self.socket.sendall(b"".join(message("PUT", f"/db/{name}", [], b'{"v":1}') for name in names))
+        for _ in names:
+            status, body = self.reply()
+            expect((status, body), 201)
 
     def take(self):
         piece = self.socket.recv(1 << 16)
@@ -89,23 +100,46 @@ class Tables:
         self.conn.execute("PRAGMA synchronous=FULL")
 
     def write(self, name, body):
+        """Runs the statements by which a server writes a new document, in a transaction."""
         run = self.conn.execute
         self.sequence += 1
+        digest = hashlib.md5(body.encode()).hexdigest()
         run("SELECT n, hash, parent, held, del, body FROM revs WHERE db = 1 AND id = ?", (name,)).fetchall()
-        run("INSERT INTO revs VALUES (1, ?, 1, ?, NULL, 1, 0, ?)", (name, hashlib.md5(body.encode()).hexdigest(), body))
+        run("INSERT INTO revs (db, id, n, hash, parent, held, del, body) VALUES (1, ?, 1, ?, NULL, 1, 0, ?)", (name, digest, body))
         run("DELETE FROM docs WHERE db = 1 AND id = ?", (name,))
-        run("INSERT INTO docs VALUES (1, ?, ?, '1-x', 0)", (name, self.sequence))
+        run("INSERT INTO docs (db, id, seq, winner, del) VALUES (1, ?, ?, ?, 0)", (name, self.sequence, f"1-{digest}"))
         run("UPDATE dbs SET seq = ? WHERE num = 1", (self.sequence,))
 
     def commit(self, names, body):
+        """Writes new documents in one transaction, and asks for nothing else."""
         self.conn.execute("BEGIN IMMEDIATE")
         for name in names:
             self.write(name, body)
         self.conn.execute("COMMIT")
 
-    def read(self, name):
+    def put(self, names, body):
+        """Runs all statements of a request that writes new documents: the rights of the caller, the
+        design documents, what the documents were, and the writes."""
+        for _ in range(3):
+            self.find()
+        self.conn.execute("SELECT id, seq, winner, del FROM docs WHERE db = 1 AND id >= ? AND id <= ? ORDER BY id", (b"_design/", b"_design0")).fetchall()
+        for name in names:
+            self.read(name)
+        self.find()
+        self.commit(names, body)
+
+    def find(self):
         self.conn.execute("SELECT num, sec, seq FROM dbs WHERE name = ?", (b"db",)).fetchall()
+
+    def read(self, name):
+        """Runs the statements by which a server reads the history of a document."""
+        self.find()
         self.conn.execute("SELECT n, hash, parent, held, del, body FROM revs WHERE db = 1 AND id = ?", (name,)).fetchall()
+
+    def get(self, name):
+        """Runs all statements of a request that reads a document."""
+        self.find()
+        self.read(name)
 
     def changes(self, since, limit):
         self.conn.execute("SELECT id, seq, winner, del FROM docs WHERE db = 1 AND seq > ? ORDER BY seq LIMIT ?", (since, limit)).fetchall()

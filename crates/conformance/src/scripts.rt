@@ -1,7 +1,8 @@
-use lab::{ProgramFault, lab};
+use lab::{ProgramFault, play_script};
 use std::io;
 use std::io::{BufRead, ErrorKind, Read};
 use std::test::Fail;
+use store::PlainStore;
 
 /// The first run: the revision is python's hashlib.md5 of `[false,0,"",{"v":1}]`.
 const FIRST: &str = r#"node A
@@ -57,7 +58,7 @@ fn readers_and_writers_that_fail(rt: HostRuntime) -> Result<(), Fail> {
         again: b"",
     };
     let mut writer = Vec::new(alloc);
-    let result = lab(alloc, "Jefe", &[], &mut reader, &mut writer);
+    let result = play_script::<PlainStore, _, _>(alloc, "Jefe", &[], &mut reader, &mut writer);
     assert_eq!(rt; result, Err(ProgramFault::File));
     assert_eq!(rt; writer.as_slice(), FIRST_PRINTED.as_bytes());
 
@@ -66,13 +67,13 @@ fn readers_and_writers_that_fail(rt: HostRuntime) -> Result<(), Fail> {
         again: b"send c \n",
     };
     let mut writer = Vec::new(alloc);
-    let result = lab(alloc, "Jefe", &[], &mut reader, &mut writer);
+    let result = play_script::<PlainStore, _, _>(alloc, "Jefe", &[], &mut reader, &mut writer);
     assert_eq!(rt; result, Err(ProgramFault::File));
 
     let mut reader = FIRST.as_bytes();
     let mut room = [0u8; 100];
     let mut writer: &mut [u8] = &mut room;
-    let result = lab(alloc, "Jefe", &[], &mut reader, &mut writer);
+    let result = play_script::<PlainStore, _, _>(alloc, "Jefe", &[], &mut reader, &mut writer);
     assert_eq!(rt; result, Err(ProgramFault::File));
     Ok(())
 }

@@ -7,7 +7,7 @@ use Rattle.sqlite_value.specs.Order.{Row}
 use Rattle.sqlite_trees.specs.declared.store.Store.{Ghosts}
 use Rattle.sqlite.specs.Held.{state}
 use Rattle.sqlstore.specs.Model.{Answers, Stands, is_honest, trees_of}
-use Rattle.sqlstore.specs.Reading.{IsLost, IsRead}
+use Rattle.transactions.specs.Reading.{IsLost, IsRead}
 use Rattle.sqlstore.specs.declared.sql_store.SqlStore.{SqlStore}
 use Rattle.sqlstore.proofs.Answering.{failed_later}
 

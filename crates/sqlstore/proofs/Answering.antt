@@ -1,5 +1,5 @@
 -- What a reader of a store answers, from what it read, and what it leaves.
-use Rattle.std.proofs.Common.{◌≡◌, ◌≤◌, ◌<◌, ◌+◌, ◌^◌, ℕ, length, inl, inr, List, [], ◌∷◌, filter, map, slice_get, Option, Some, None, option_map, Result, Ok, Err, Bool, true, false, IsTrue, if◌then◌else◌, refl, sym, ap, subst, ◌∙◌, arith}
+use Rattle.std.proofs.Common.{◌≡◌, ◌≤◌, ◌<◌, ◌+◌, ◌^◌, ℕ, length, inl, inr, List, [], ◌∷◌, filter, map, slice_get, Option, Some, None, option_map, Result, Ok, Err, Bool, false, IsTrue, refl, sym, ap, subst, ◌∙◌, arith}
 use Rattle.std.specs.List.{AllByRecursion}
 use Rattle.std.proofs.Math.Logic.{∥∥₁_elim, ∥∥₁_map}
 use Rattle.std.specs.FinMap.{get}
@@ -23,23 +23,12 @@ use Rattle.tables.specs.Schema.{dbs_tree, locals_tree}
 use Rattle.tables.specs.Shown.{IsShownDatabase, IsShownLocal, local_shown}
 use Rattle.tables.proofs.Laid.{shown_databases, shown_locals}
 use Rattle.tables.proofs.Lookups.{database_found, local_found}
+use Rattle.transactions.proofs.Rows.{all_left, all_shown}
 use Rattle.sqlstore.specs.Causes.{IsJudged}
 use Rattle.sqlstore.specs.Model.{Answers, OnlyReads, Stands, contents_of, is_honest, trees_of}
-use Rattle.sqlstore.specs.Reading.{FoundValues, IsRead, found_in, found_shown}
+use Rattle.transactions.specs.Reading.{IsRead}
+use Rattle.sqlstore.specs.Reading.{FoundValues, found_in, found_shown}
 use Rattle.sqlstore.specs.declared.sql_store.SqlStore.{SqlStore}
-
--- rows that all are so are so where some are left out
-all_with : (P : Row → Type 0) (b : Bool) (r : Row) (rows : List Row) → P r → AllByRecursion P rows → AllByRecursion P (if b then r ∷ rows else rows)
-all_with P true r rows one all = (one, all)
-all_with P false r rows one all = all
-
-pub all_left : (P : Row → Type 0) (p : Row → Bool) (rows : List Row) → AllByRecursion P rows → AllByRecursion P (filter p rows)
-all_left P p [] all = tt
-all_left P p (r ∷ rows) all = all_with P (p r) r (filter p rows) all.0 (all_left P p rows all.1)
-
-pub all_shown : (P : Row → Type 0) (show : Row → Row) (rows : List Row) → AllByRecursion (λ r. P (show r)) rows → AllByRecursion P (map show rows)
-all_shown P show [] all = tt
-all_shown P show (r ∷ rows) all = (all.0, all_shown P show rows all.1)
 
 -- what is said of the first of the shown rows is what is said of the first row
 pub first_shown : {A : Type 0} (show : Row → Row) (read : Row → A) (said : Row → A) → ((r : Row) → read (show r) ≡ said r) → (rows : List Row) → option_map said (slice_get rows 0) ≡ option_map read (slice_get (map show rows) 0)

@@ -11,11 +11,13 @@ use Rattle.tables.specs.Layout.{IsStore}
 use Rattle.tables.specs.Rows.{contents_in, database_cells, rows_with_security, with_cells}
 use Rattle.tables.specs.Schema.{dbs_tree}
 use Rattle.tables.specs.Steps.{Changes}
+use Rattle.transactions.proofs.Committing.{on_err}
 use Rattle.sqlstore.specs.Model.{ChangesWhole, Moves, Stands, contents_of, is_honest}
 use Rattle.sqlite_trees.specs.Tree.{Trees}
 use Rattle.sqlstore.specs.Reading.{HasNumber}
-use Rattle.sqlstore.specs.Sequences.{Replaces}
-use Rattle.sqlstore.specs.Standing.{IsHeld, Turns, WasStore}
+use Rattle.transactions.specs.Sequences.{Replaces}
+use Rattle.transactions.specs.Endings.{Turns}
+use Rattle.sqlstore.specs.Standing.{IsHeld, WasStore}
 use Rattle.sqlstore.specs.declared.sql_store.SqlStore.{SqlStore}
 
 module _ {S : Type 0} (g : Ghosts S) (old new origin last : Held S) where
@@ -43,10 +45,6 @@ module _ {S : Type 0} (g : Ghosts S) (old new origin last : Held S) where
   pub from_held : (P : Database → Type 0) → IsProp (P (state g last).now) → IsHeld g old origin last → HasCleanDisk (state g old) → WasStore g origin → IsTrue (state g old).is_open
       → (IsStore (state g old).now → P (state g old).now) → P (state g last).now
   from_held P prop held clean is up follows = ∥∥₁_elim (held clean is) prop (λ h. subst P (h.now up) (follows (subst IsStore (sym (h.now up)) h.store)))
-
-pub on_err : {X F P : Type 0} (r : Result X F) → P → OnErr r P
-on_err (Ok x) p = tt
-on_err (Err e) p = p
 
 pub on_ok : {X F P : Type 0} (r : Result X F) → P → OnOk r P
 on_ok (Ok x) p = p

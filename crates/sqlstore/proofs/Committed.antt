@@ -20,13 +20,15 @@ use Rattle.tables.specs.Rows.{contents_in, database_of, is_named}
 use Rattle.tables.specs.Schema.{dbs_tree}
 use Rattle.tables.proofs.Lookups.{database_there}
 use Rattle.sqlstore.specs.Causes.{IsJudged}
-use Rattle.sqlstore.specs.Commits.{AreDue, IsSound, IsToldAs, IsUncommitted, IsUnwritten}
+use Rattle.transactions.specs.Commits.{AreDue, IsSound, IsUnwritten}
+use Rattle.sqlstore.specs.Commits.{IsToldAs, IsUncommitted}
 use Rattle.sqlstore.specs.Reading.{FoundValues}
-use Rattle.sqlstore.specs.Standing.{IsHeld, Turns, WasStore}
-use Rattle.sqlstore.specs.declared.write_fault.WriteFault.{WriteFault}
-use Rattle.sqlstore.specs.declared.write_fault.WriteFault.TheVariants as write
+use Rattle.transactions.specs.Endings.{Turns}
+use Rattle.sqlstore.specs.Standing.{IsHeld, WasStore}
+use Rattle.transactions.specs.declared.write_fault.WriteFault.{WriteFault}
+use Rattle.transactions.specs.declared.write_fault.WriteFault.TheVariants as write
 use Rattle.sqlstore.proofs.Answering.{IsThere}
-use Rattle.sqlstore.proofs.Committing.{length-writings_in}
+use Rattle.transactions.proofs.Committing.{length-writings_in}
 
 -- the contents with the writes that were done
 pub contents_written : (all : List Addition) (name : List ℕ) (r : Row) (old new : Database) → IsStore old → slice_get (filter (is_named name) (old.trees dbs_tree)) 0 ≡ Some r

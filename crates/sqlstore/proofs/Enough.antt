@@ -18,7 +18,7 @@ use Rattle.sqlite_keyed.proofs.ListLemmas.{filter-filter, filter-map, filter_all
 use Rattle.tables.specs.Listings.{IsListedDocument, comes_after, first_rows, lies_between, listed_counts, listed_id, listed_mark, listed_sequence, listed_winner, live_row, live_rows, sequence_row}
 use Rattle.tree.specs.Revision.{Revision}
 use Rattle.sqlstore.specs.Listing.{AreEnoughById, AreEnoughBySequence, IsLimitFor, IsSequenceRow, least_of, winners_page}
-use Rattle.sqlstore.proofs.Answering.{all_left}
+use Rattle.transactions.proofs.Rows.{all_left}
 
 -- ---- an id within a range lies between its ends
 

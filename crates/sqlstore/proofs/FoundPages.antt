@@ -25,7 +25,8 @@ use Rattle.tables.proofs.Lookups.{document_found}
 use Rattle.tables.proofs.Sorted.{all_sorted, passing}
 use Rattle.sqlstore.specs.Listing.{listed_by_id, listed_by_sequence, page_with_leaves, places_of, winners_page, with_documents}
 use Rattle.sqlstore.specs.Reading.{FoundValues}
-use Rattle.sqlstore.proofs.Answering.{IsThere, all_left, at_first}
+use Rattle.transactions.proofs.Rows.{all_left}
+use Rattle.sqlstore.proofs.Answering.{IsThere, at_first}
 use Rattle.sqlstore.proofs.ListedRows.{counts_set, id_rows_set, leaves_rows, page_kept, places_set, sequence_rows_set}
 
 -- the database's own sequence is one that a page may hold

@@ -1,14 +1,9 @@
 pub mod Standing
 pub mod ContentsCode
 pub mod Changing
-pub mod Sequences
-pub mod HistoryRows
 pub mod NameBytes
 pub mod Tables
 pub mod Answering
-pub mod Inserting
-pub mod DocumentWriting
-pub mod Committing
 pub mod Committed
 pub mod ListedRows
 pub mod Enough

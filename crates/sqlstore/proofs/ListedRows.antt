@@ -27,7 +27,7 @@ use Rattle.tables.specs.Schema.{dbs_tree, docs_tree, revs_tree}
 use Rattle.tables.proofs.ListingRows.{rows_of_a_listing}
 use Rattle.tables.proofs.Sorted.{all_sorted}
 use Rattle.sqlstore.specs.Listing.{IsSequenceRow, listed_by_sequence, page_with_leaves, row_counts, with_leaves}
-use Rattle.sqlstore.proofs.Answering.{all_left, all_shown}
+use Rattle.transactions.proofs.Rows.{all_left, all_shown}
 
 -- ---- rows are told apart by numbers
 

@@ -22,7 +22,7 @@ use Rattle.tables.specs.Rows.{by_name, contents_in, name_of, shown_name}
 use Rattle.tables.specs.Schema.{dbs_tree}
 use Rattle.tables.proofs.Lookups.{names_found}
 use Rattle.sqlstore.specs.Reading.{IsShownName, name_shown}
-use Rattle.sqlstore.proofs.Answering.{all_shown}
+use Rattle.transactions.proofs.Rows.{all_shown}
 
 small : (b : ℕ) → is_name_byte b ≡ true → b < 128
 small b h = grind arith

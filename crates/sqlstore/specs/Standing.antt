@@ -1,6 +1,6 @@
 -- What a store keeps true of its connection: as the store opened it, as the last change left it, and as it is.
 -- This server's own: facts hold where the disk returned what was written and the tables were laid out when they were opened.
-use Rattle.std.specs.Prelude.{◌≡◌, IsTrue, false, Result, OnErr, OnOk}
+use Rattle.std.specs.Prelude.{◌≡◌, IsTrue}
 use Rattle.sqlite_trees.specs.declared.store.Store.{Ghosts}
 use Rattle.sqlite.specs.Held.{Held, state}
 use Rattle.sqlite.specs.State.{HasCleanDisk}
@@ -20,18 +20,3 @@ module _ {S : Type 0} (g : Ghosts S) where
   -- where the connection is honest, it is so
   abbrev pub IsHeld : Held S → Held S → Held S → Type 0
   IsHeld conn origin last = HasCleanDisk (state g conn) → WasStore origin → ∥ Holds conn last ∥₁
-
-  -- what a transaction leaves of a connection, however it ends and whatever the schema is
-  pub record Turns (old new : Held S) : Type 0 where
-    pub clean : HasCleanDisk (state g new) → HasCleanDisk (state g old)
-    pub was_open : HasCleanDisk (state g new) → IsTrue (state g new).is_open → IsTrue (state g old).is_open
-    pub idle : new.in_transaction ≡ false
-    pub limit : new.step_limit ≡ old.step_limit
-
-  -- it is committed, on a connection that was open and is
-  abbrev pub IsDone : {X E : Type 0} → Held S → Held S → Result X E → Type 0
-  IsDone old new r = HasCleanDisk (state g new) → OnOk r (IsTrue (state g old).is_open × IsTrue (state g new).is_open × ((state g new).now ≡ (state g new).committed))
-
-  -- or undone
-  abbrev pub IsUndone : {X E : Type 0} → Held S → Held S → Result X E → Type 0
-  IsUndone old new r = HasCleanDisk (state g new) → IsTrue (state g new).is_open → OnErr r (((state g new).now ≡ (state g old).committed) × ((state g new).committed ≡ (state g old).committed))

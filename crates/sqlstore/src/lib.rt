@@ -1,10 +1,7 @@
 //! The store of databases over SQLite tables.
 #![tactic(auto)]
 
-mod commits;
-mod document_write;
 mod fault;
-mod histories;
 mod in_memory;
 mod listings;
 mod names;
@@ -12,8 +9,6 @@ mod open_fault;
 mod opening;
 mod shown;
 mod sql_store;
-mod transactions;
-mod write_fault;
 
 pub use in_memory::MemoryStore;
 pub use open_fault::OpenFault;

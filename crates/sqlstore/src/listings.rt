@@ -6,7 +6,7 @@ ghost use Rattle.store.specs.Pages.{id_page, if_counted};
 ghost use Rattle.store.specs.Paging.{IsBounded, IsCounted, id_page_of, sequence_page_of, sequence_row_of, sequence_rows};
 ghost use Rattle.tables.specs.Listings.{IsListedDocument, listed_id, listed_mark, listed_sequence, listed_winner, live_row, live_rows, sequence_row};
 ghost use Rattle.sqlstore.specs.Listing.{IsSequenceRow, row_counts, winners_page};
-ghost use Rattle.sqlstore.specs.Reading.{IsLost, IsRead};
+ghost use Rattle.transactions.specs.Reading.{IsLost, IsRead};
 
 use sqlite::Row;
 use std::alloc::Global;

@@ -7,12 +7,12 @@ ghost use Rattle.tables.specs.Calls.{Asks, IsServed, Looks, Stands};
 ghost use Rattle.tables.specs.Layout.{IsNew, IsStore};
 ghost use Rattle.tables.specs.Presence.{has_all, has_any, is_first};
 ghost use Rattle.tables.specs.Schema.{meta_tree, no_schema, schema};
-ghost use Rattle.sqlstore.specs.Standing.{IsDone, IsUndone, Turns};
+ghost use Rattle.transactions.specs.Endings.{IsDone, IsUndone, Turns};
 
 use crate::open_fault::{OpenFault, open_fault};
-use crate::transactions::begin_tables;
 use sqlite::{Alter, Connection};
 use tables::{FoundTables, is_first_version, tables_in};
+use transactions::begin_tables;
 
 /// Looks whether the version is that of this layout.
 fn check_version<S: Alter>(conn: &mut Connection<S>) -> Result<(), OpenFault>

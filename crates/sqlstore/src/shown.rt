@@ -5,7 +5,8 @@ ghost use Rattle.std.specs.List.{AllByRecursion};
 ghost use Rattle.couch_json.specs.View.{view};
 ghost use Rattle.policy.specs.Security.{is_security};
 ghost use Rattle.tables.specs.Shown.{IsShownDatabase, IsShownLocal, local_shown};
-ghost use Rattle.sqlstore.specs.Reading.{IsRead, found_shown};
+ghost use Rattle.transactions.specs.Reading.{IsRead};
+ghost use Rattle.sqlstore.specs.Reading.{found_shown};
 
 use couch_json::Json;
 use policy::{Security, SecurityFault};

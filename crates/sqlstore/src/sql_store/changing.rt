@@ -2,12 +2,12 @@
 
 use crate::fault::judge;
 use crate::sql_store::SqlStore;
-use crate::transactions::{add_database, change_security, remove_database, write_local};
 use couch_json::canon;
 use policy::Security;
 use sqlite::Alter;
 use std::snapshot::Snapshot;
 use store::{DbName, LocalDocument, StoreFault};
+use transactions::{add_database, change_security, remove_database, write_local};
 use tree::DocId;
 
 impl<S: Alter> SqlStore<S> {

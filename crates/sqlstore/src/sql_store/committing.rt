@@ -2,12 +2,12 @@
 
 ghost use Rattle.std.specs.Prelude.{◌+◌, ◌<◌, ◌^◌, ◌↔◌, IsTrue};
 
-use crate::commits::commit_writes;
+use crate::fault::judge_write;
 use crate::sql_store::SqlStore;
-use crate::write_fault::judge_write;
 use sqlite::Alter;
 use std::snapshot::Snapshot;
 use store::{DbName, StoreFault, Write};
+use transactions::commit_writes;
 
 /// Tells whether so many sequences are left after this one.
 pub(crate) fn has_room(sequence: u64, count: usize) -> bool
@@ -24,7 +24,8 @@ impl<S: Alter> SqlStore<S> {
     ghost use Rattle.std.specs.FinMap as map;
     ghost use Rattle.store.specs.Database.{with_all};
     ghost use Rattle.store.specs.Writing.{additions, writings_in};
-    ghost use Rattle.sqlstore.specs.Commits.{AreDue, IsUncommitted};
+    ghost use Rattle.transactions.specs.Commits.{AreDue};
+    ghost use Rattle.sqlstore.specs.Commits.{IsUncommitted};
     ghost use Rattle.sqlstore.specs.Model.{Moves, contents_of, is_honest, trees_of};
 
     /// Appends writes to the database of this number and this sequence.

@@ -1,6 +1,5 @@
 //! The pages of the database of a number.
 
-use crate::histories::read_history;
 use crate::listings::{read_ids, read_page_by_id, read_page_by_sequence};
 use crate::sql_store::SqlStore;
 use couch_json::{FieldPath, Json};
@@ -10,6 +9,7 @@ use store::paging::{cut_by_key, list_index_rows, put_in_index};
 use store::{
     IdRange, KeyRange, KeyRow, PageById, PageByKey, PageBySeq, SeqRange, SeqRow, StoreFault,
 };
+use transactions::read_history;
 use tree::{DocId, History, Rev};
 
 impl<S: Alter> SqlStore<S> {

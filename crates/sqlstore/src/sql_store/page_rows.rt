@@ -2,10 +2,10 @@
 
 ghost use Rattle.sqlstore.specs.Listing.{IsLimitFor};
 
-use crate::commits::integer_of;
 use crate::sql_store::SqlStore;
 use sqlite::{Alter, Row};
 use store::{IdRange, SeqRange, StoreFault};
+use transactions::integer_of;
 
 /// Returns the limit of a statement by which no row of a page is lost: the page's own, where it has one
 /// that SQLite can hold, and else -1, which is none.

@@ -3,7 +3,7 @@ use Rattle.std.proofs.lemmas.List.{drop_more}
 use Rattle.std.specs.List.{AllByRecursion}
 use Rattle.store.specs.declared.page.IdRow.{IdRow}
 use Rattle.tables.specs.Listings.{IsListedDocument, live_rows}
-use Rattle.sqlstore.specs.Reading.{IsRead}
+use Rattle.transactions.specs.Reading.{IsRead}
 use Rattle.sqlstore.proofs.Afterwards.{one_lost}
 use Rattle.sqlstore.proofs.listings.read_live_rows.Goals as goal
 

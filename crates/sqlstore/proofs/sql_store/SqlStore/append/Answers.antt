@@ -5,7 +5,7 @@ use Rattle.sqlite.specs.Held.{Held, state}
 use Rattle.store.specs.Database.{with_all}
 use Rattle.store.specs.Writing.{additions, writings_in}
 use Rattle.tables.specs.Rows.{contents_in}
-use Rattle.sqlstore.specs.Commits.{AreDue}
+use Rattle.transactions.specs.Commits.{AreDue}
 use Rattle.sqlstore.proofs.Changing.{from_held, held_done}
 use Rattle.sqlstore.proofs.Committed.{contents_written, due_at, held_undone_fit, sound, told}
 use Rattle.sqlstore.proofs.ContentsCode.{some_contents_set}

@@ -1,6 +1,6 @@
 use Rattle.std.proofs.Common.{◌≡◌, ◌∙◌, ap, sym, subst}
 use Rattle.std.specs.FinMap as finite
-use Rattle.sqlstore.specs.Sequences.{Clears}
+use Rattle.transactions.specs.Sequences.{Clears}
 use Rattle.sqlite.specs.Effect.{Database}
 use Rattle.sqlite.specs.Held.{Held, state}
 use Rattle.tables.specs.Rows.{contents_in}

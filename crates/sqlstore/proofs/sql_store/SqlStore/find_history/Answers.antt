@@ -4,7 +4,7 @@ use Rattle.tables.specs.Rows.{is_of, shown_revision}
 use Rattle.tables.specs.Schema.{revs_tree}
 use Rattle.sqlstore.specs.Model.{trees_of}
 use Rattle.sqlstore.proofs.Answering.{answered, laid, was_honest}
-use Rattle.sqlstore.proofs.HistoryRows.{history_intact, history_made, history_set}
+use Rattle.transactions.proofs.HistoryRows.{history_intact, history_made, history_set}
 use Rattle.sqlstore.proofs.sql_store.SqlStore.find_history.Goals as goal
 
 pub returns-clause-answer : goal.returns-clause-answer

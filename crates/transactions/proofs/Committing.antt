@@ -1,0 +1,146 @@
+-- Writes of a database that are done one after another in a transaction.
+use Rattle.std.proofs.Common.{◌≡◌, ◌+◌, ◌<◌, ◌^◌, suc, ℕ, ℤ, pos, List, [], ◌∷◌, ◌++◌, drop, take, filter, get_or, length, length-append, map, Some, Result, Ok, Err, OnErr, IsPermutation, IsTrue, inl, inr, refl, true, sym, ap, subst, ◌∙◌, arith}
+use Rattle.std.proofs.Math.Seq.{drop-cons}
+use Rattle.std.proofs.lemmas.List.{length-map, length-take, map-append, take-append-drop, take_more}
+use Rattle.sqlite_trees.specs.Tree.{Trees}
+use Rattle.sqlite_value.specs.Order.{Row}
+use Rattle.sqlite.specs.Effect.{Database}
+use Rattle.sqlite.specs.State.{State, IsRolledBack, KeepsCommit}
+use Rattle.sqlite.specs.Steps.{FailsToCommit}
+use Rattle.sqlite.specs.declared.error.Error.{Error}
+use Rattle.sqlite.proofs.StateLemmas.{survives_then}
+use Rattle.store.specs.Contents.{AreAcceptable}
+use Rattle.store.specs.Database as store
+use Rattle.store.specs.Database.{history_at, with_all, with_one}
+use Rattle.store.specs.Writing.{Addition, addition_of, additions, writings_in, written_at, written_in}
+use Rattle.store.specs.declared.fault.StoreFault.{StoreFault}
+use Rattle.store.specs.declared.fault.StoreFault.TheVariants.{Memory, Failed, NoDatabase, Exists, Damaged, Full}
+use Rattle.store.specs.declared.write.Write.{Write}
+use Rattle.store.proofs.Contents.{writings_in-append}
+use Rattle.tree.specs.History.{HistoryContent}
+use Rattle.tables.specs.Edits.{HasWritten, IsStorable, IsWrite, row_after}
+use Rattle.tables.specs.Layout.{IsLaid, IsStore}
+use Rattle.tables.specs.Rows.{database_of, history_in, is_of, length_of, number_of, shown_revision}
+use Rattle.tables.specs.Schema.{revs_tree}
+use Rattle.tables.specs.Steps.{AsksInside, Proceeds}
+use Rattle.tables.proofs.DocumentWriteNews.{storable_addition}
+use Rattle.tables.proofs.DocumentWrites.{acceptable_in_turn, one_more_written}
+use Rattle.tables.proofs.Lookups.{document_found}
+use Rattle.transactions.specs.Commits.{AreDue, IsUnwritten}
+use Rattle.transactions.specs.Inserting.{IsLawfulAddition}
+use Rattle.transactions.specs.Reading.{IsRead, history_shown}
+use Rattle.transactions.specs.declared.write_fault.WriteFault.{WriteFault}
+use Rattle.transactions.specs.declared.write_fault.WriteFault.TheVariants as write
+use Rattle.transactions.proofs.HistoryRows.{history_made}
+
+-- ---- the history that is read
+
+pub history_read : (trees : Trees) (db : ℤ) (id : List ℕ) (rows : List Row) (h : HistoryContent) → IsLaid trees → IsPermutation (map shown_revision (filter (is_of db id) (trees revs_tree))) rows → Some (history_shown rows) ≡ Some h → h ≡ history_in (trees revs_tree) db id
+history_read trees db id rows h l same is =
+    let shown : history_shown rows ≡ h = cc in
+    sym shown ∙ history_made trees db id rows l same
+
+-- the history of the same rows, by the same number and the same id
+pub history_of : (revs : List Row) (n m : ℤ) (i j : List ℕ) (h : HistoryContent) → n ≡ m → i ≡ j → h ≡ history_in revs n i → h ≡ history_in revs m j
+history_of revs n m i j h numbered named is = is ∙ ap (λ k. history_in revs k i) numbered ∙ ap (history_in revs m) named
+
+-- what was not read was not intact, or memory ran out
+pub lost : {A : Type 0} (said : A) (intact sound : Type 0) (fault : StoreFault) → IsRead {X = A} (λ v. v) (Some said) intact (Err fault) → (sound → intact) → IsUnwritten sound (write.Store fault)
+lost said intact sound Memory h k = tt
+lost said intact sound Damaged h k = λ s. h (k s)
+lost said intact sound NoDatabase h k = absurd (cc)
+lost said intact sound Failed h k = absurd h
+lost said intact sound Exists h k = absurd h
+lost said intact sound Full h k = absurd h
+
+-- a refusal tells the same of what another fact follows from
+pub unwritten_of : (sound other : Type 0) (fault : WriteFault) → (other → sound) → IsUnwritten sound fault → IsUnwritten other fault
+unwritten_of sound other (write.Sqlite e) f h = tt
+unwritten_of sound other (write.Store Memory) f h = tt
+unwritten_of sound other (write.Store Damaged) f h = λ o. h (f o)
+unwritten_of sound other (write.Store NoDatabase) f h = absurd h
+unwritten_of sound other (write.Store Failed) f h = absurd h
+unwritten_of sound other (write.Store Exists) f h = absurd h
+unwritten_of sound other (write.Store Full) f h = absurd h
+
+-- ---- a transaction
+
+pub asks_itself : (a : State) → AsksInside a a
+asks_itself a = record {
+  was_open = λ clean up. up;
+  survives = record { clean = omega arith; shield = λ h. h; counts = omega arith; limit = refl; closes = λ clean up. inl up; crash = λ clean db may. inl may };
+}
+
+pub asks_then : (a b c : State) → AsksInside a b → AsksInside b c → AsksInside a c
+asks_then a b c p q = record {
+  was_open = λ clean up. p.was_open (omega (arith, q.survives.clean, clean)) (q.was_open clean up);
+  survives = survives_then a b c _ _ (λ _. ⊥) (λ _ db none. none) (λ _ db none. none) p.survives q.survives;
+}
+
+pub asks_changed : (a b : State) → Proceeds a b → AsksInside a b
+asks_changed a b p = record { was_open = λ clean up. (p.kept clean).was_open up; survives = p.survives }
+
+pub on_err : {X F P : Type 0} (r : Result X F) → P → OnErr r P
+on_err (Ok x) p = tt
+on_err (Err e) p = p
+
+-- a transaction that is undone leaves what was committed before it, and so does one that is not committed
+module _ (a b c : State) (first : Database) (same : a.committed ≡ first) (kept : KeepsCommit a b) where
+  pub undone_then : IsRolledBack b c → IsTrue c.is_open → (c.now ≡ first) × (c.committed ≡ first)
+  undone_then back up =
+      let was = kept.committed (back.was_open up) in
+      ((back.undone up).0 ∙ was ∙ same, (back.undone up).1 ∙ was ∙ same)
+
+  pub refused_then : (e : Error) → b.in_transaction ≡ true → FailsToCommit b c e → IsTrue c.is_open → (c.now ≡ first) × (c.committed ≡ first)
+  refused_then e inside (inl failed) up = undone_then failed.3 up
+  refused_then e inside (inr ended) up = absurd (cc)
+
+-- ---- one write more
+
+-- the write of a document whose history was read, over the rows as they were
+pub document_written : (r : Row) (h : HistoryContent) (a : Addition) (old mid new : Database) → mid ≡ old → IsStore old → h ≡ history_in (old.trees revs_tree) (number_of r) a.id
+    → (IsStore mid → h ≡ history_in (mid.trees revs_tree) (number_of r) a.id → IsWrite r (written_in h a) mid new) → IsWrite r (written_in (history_in (old.trees revs_tree) (number_of r) a.id) a) old new
+document_written r h a old mid new same store known writes =
+    let over = subst (λ (d : Database). IsStore d → h ≡ history_in (d.trees revs_tree) (number_of r) a.id → IsWrite r (written_in h a) d new) same writes in
+    subst (λ (k : HistoryContent). IsWrite r (written_in k a) old new) known (over store known)
+
+pub length-writings_in : (db : store.Database) (all : List Addition) → length (writings_in db all) ≡ length all
+length-writings_in db [] = refl
+length-writings_in db (a ∷ all) = ap suc (length-writings_in (with_one db (written_at db a)) all)
+
+pub one_more : (all before more : List Addition) (a : Addition) (name : List ℕ) (r : Row) (old mid new : Database) → all ≡ before ++ a ∷ more → AreAcceptable (database_of old.trees r) (writings_in (database_of old.trees r) all)
+    → length_of r + length all < 2 ^ 63 → HasWritten (writings_in (database_of old.trees r) before) name r old mid → IsLawfulAddition a
+    → IsWrite (row_after r (length before)) (written_in (history_in (mid.trees revs_tree) (number_of r) a.id) a) mid new → HasWritten (writings_in (database_of old.trees r) (before ++ a ∷ [])) name r old new
+one_more all before more a name r old mid new cut acceptable room h lawful write =
+    let db = database_of old.trees r in
+    let ws = writings_in db before in
+    let count : length ws ≡ length before = length-writings_in db before in
+    let known : history_in (mid.trees revs_tree) (number_of r) a.id ≡ history_at (with_all db ws) a.id =
+    sym (document_found mid.trees (row_after r (length ws)) a.id h.store.laid) ∙ ap (λ (d : store.Database). history_at d a.id) h.database in
+    let w = written_at (with_all db ws) a in
+    let storable : IsStorable w = subst (λ (k : HistoryContent). IsStorable (written_in k a)) known (storable_addition mid.trees (number_of r) a h.store.laid lawful.named lawful.text lawful.path lawful.body) in
+    let turn = acceptable_in_turn ws db w (writings_in (with_one (with_all db ws) w) more) (subst (AreAcceptable db) (ap (writings_in db) cut ∙ writings_in-append db before (a ∷ more)) acceptable) in
+    let size : length all ≡ length (before ++ a ∷ more) = ap length cut in
+    let done : IsWrite (row_after r (length ws)) w mid new =
+    subst (λ (n : ℕ). IsWrite (row_after r n) w mid new) (sym count) (subst (λ (k : HistoryContent). IsWrite (row_after r (length before)) (written_in k a) mid new) known write) in
+    subst (λ vs. HasWritten vs name r old new) (sym (writings_in-append db before (a ∷ [])))
+    (one_more_written ws w name r old mid new h turn storable (omega (arith, count, size, length-append before (a ∷ more), room)) done)
+
+pub further : (ws : List Write) (i : ℕ) (w : Write) (name : List ℕ) (db : ℤ) (sequence : ℕ) (next : ℤ) (old mid new : Database) → i < length ws → w ≡ get_or ws i w → sequence + length ws < 2 ^ 63 → next ≡ pos (sequence + i + 1)
+    → (due : AreDue (additions ws) name db sequence old.trees) → HasWritten (writings_in (database_of old.trees due.row) (additions (take i ws))) name due.row old mid → IsLawfulAddition (addition_of w)
+    → ((r : Row) → db ≡ number_of r → next ≡ pos (length_of r + 1) → IsWrite r (written_in (history_in (mid.trees revs_tree) (number_of r) (addition_of w).id) (addition_of w)) mid new)
+    → HasWritten (writings_in (database_of old.trees due.row) (additions (take (i + 1) ws))) name due.row old new
+further ws i w name db sequence next old mid new lt is room at due h lawful writes =
+    let r = due.row in
+    let a = addition_of w in
+    let before = additions (take i ws) in
+    let more = additions (drop (suc i) ws) in
+    let cut : ws ≡ take i ws ++ w ∷ drop (suc i) ws = sym (take-append-drop i ws) ∙ ap (λ l. take i ws ++ l) (drop-cons ws i w lt ∙ ap (λ x. x ∷ drop (suc i) ws) (sym is)) in
+    let all : additions ws ≡ before ++ a ∷ more = ap additions cut ∙ map-append addition_of (take i ws) (w ∷ drop (suc i) ws) in
+    let grown : additions (take (i + 1) ws) ≡ before ++ a ∷ [] = ap additions (take_more ws i w lt ∙ ap (λ x. take i ws ++ x ∷ []) (sym is)) ∙ map-append addition_of (take i ws) (w ∷ []) in
+    let count : length before ≡ i = omega (arith, length-map (take i ws) addition_of, length-take i ws, lt) in
+    let size : length (additions ws) ≡ length ws = length-map ws addition_of in
+    let number : sequence + i + 1 ≡ length_of r + length before + 1 = omega (arith, due.counted, count) in
+    subst (λ all. HasWritten (writings_in (database_of old.trees r) all) name r old new) (sym grown)
+    (one_more (additions ws) before more a name r old mid new all due.acceptable (omega (arith, due.counted, size, room)) h lawful
+    (writes (row_after r (length before)) (sym due.numbered) (at ∙ ap pos number)))

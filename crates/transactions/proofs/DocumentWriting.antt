@@ -1,0 +1,79 @@
+-- One write of a document, by the statements that were run for it.
+use Rattle.std.proofs.Common.{◌≡◌, ◌+◌, ℕ, ℤ, pos, Bool, List, Result, Ok, Err, OnOk, sym, subst, ◌∙◌, arith}
+use Rattle.sqlite_value.specs.Order.{Row}
+use Rattle.sqlite.specs.Effect.{Database}
+use Rattle.tree.specs.History.{HistoryContent, with_write}
+use Rattle.tree.specs.Revision.{Revision, text_of}
+use Rattle.tree.specs.declared.entry.Entry.{Entry}
+use Rattle.store.specs.Writing.{Addition, written_in}
+use Rattle.tables.specs.Edits.{AreInserted, IsWrite, new_entries}
+use Rattle.tables.specs.Layout.{AreDatabaseRows, AreKeyed, IsStore}
+use Rattle.tables.specs.Rows.{history_in, length_of, number_of, rows_at_sequence}
+use Rattle.tables.specs.Schema.{dbs_tree, docs_tree, revs_tree, schema}
+use Rattle.tables.specs.Steps.{Changes}
+use Rattle.tables.proofs.DocumentWriteNews.{news_of_addition}
+use Rattle.tables.proofs.DocumentWriteSteps.{revisions_changed}
+use Rattle.tables.proofs.Rests.{leaves}
+use Rattle.tables.proofs.Tables.{databases_laid, docs_keyed}
+use Rattle.transactions.specs.Inserting.{IsBest, IsPlaced, entries_of, unknown_in}
+
+-- the statements of a write, and the values that they were given
+pub record Ran (h : HistoryContent) (a : Addition) (text : List ℕ) (deleted : Bool) (db sequence : ℤ) (id : List ℕ) (old inserted placed new : Database) : Type 0 where
+  pub revisions : AreInserted (unknown_in h (entries_of h a)) db id old inserted
+  pub best : IsBest (with_write h (written_in h a).write) text deleted
+  pub document : IsPlaced db id sequence text deleted inserted placed
+  pub advances : Changes dbs_tree (rows_at_sequence db sequence (placed.trees dbs_tree)) placed new
+
+module _ (h : HistoryContent) (a : Addition) (text : List ℕ) (deleted : Bool) where
+  ran_as : (db sequence : ℤ) (id : List ℕ) (n s : ℤ) (old inserted placed new : Database) → db ≡ n → sequence ≡ s → id ≡ a.id → Ran h a text deleted db sequence id old inserted placed new → Ran h a text deleted n s a.id old inserted placed new
+  ran_as db sequence id n s old inserted placed new numbered at named ran =
+      subst (λ d. Ran h a text deleted d s a.id old inserted placed new) numbered
+      (subst (λ t. Ran h a text deleted db t a.id old inserted placed new) at
+      (subst (λ i. Ran h a text deleted db sequence i old inserted placed new) named ran))
+
+  -- they are that write, where the history is that of the rows
+  is_write : (r : Row) (old inserted placed new : Database) → h ≡ history_in (old.trees revs_tree) (number_of r) a.id → Ran h a text deleted (number_of r) (pos (length_of r + 1)) a.id old inserted placed new
+      → IsWrite r (written_in h a) old new
+  is_write r old inserted placed new known ran =
+      let best = subst (λ k. IsBest (with_write k (written_in h a).write) text deleted) known ran.best in
+      let spelled : IsPlaced (number_of r) a.id (pos (length_of r + 1)) (text_of best.best) deleted inserted placed =
+      subst (λ t. IsPlaced (number_of r) a.id (pos (length_of r + 1)) t deleted inserted placed) best.text_is ran.document in
+      let marked = subst (λ d. IsPlaced (number_of r) a.id (pos (length_of r + 1)) (text_of best.best) d inserted placed) best.deleted_is spelled in
+      record {
+        inserted = inserted;
+        removed = marked.removed;
+        placed = placed;
+        best = best.best;
+        revisions = subst (λ k. AreInserted (new_entries k (written_in h a).write) (number_of r) a.id old inserted) known
+            (subst (λ es. AreInserted es (number_of r) a.id old inserted) (sym (news_of_addition h a)) ran.revisions);
+        removes = marked.removes;
+        best_is = best.best_is;
+        places = marked.places;
+        advances = ran.advances;
+      }
+
+  pub written : {X E : Type 0} (result : Result X E) (r : Row) (db sequence : ℤ) (id : List ℕ) (old inserted placed new : Database) → h ≡ history_in (old.trees revs_tree) (number_of r) a.id → db ≡ number_of r → sequence ≡ pos (length_of r + 1) → id ≡ a.id
+      → AreInserted (unknown_in h (entries_of h a)) db id old inserted → IsBest (with_write h (written_in h a).write) text deleted → IsPlaced db id sequence text deleted inserted placed
+      → OnOk result (Changes dbs_tree (rows_at_sequence db sequence (placed.trees dbs_tree)) placed new) → OnOk result (IsWrite r (written_in h a) old new)
+  written (Err e) r db sequence id old inserted placed new known numbered at named revisions best document advances = tt
+  written (Ok x) r db sequence id old inserted placed new known numbered at named revisions best document advances =
+      is_write r old inserted placed new known (ran_as db sequence id (number_of r) (pos (length_of r + 1)) old inserted placed new numbered at named (record { revisions = revisions; best = best; document = document; advances = advances }))
+
+-- rows of the other tables are fit for the changes to come
+module _ (es : List (Revision × Entry)) (db : ℤ) (id : List ℕ) (old inserted : Database) (store : IsStore old) (revisions : AreInserted es db id old inserted) where
+  pub schema_after : inserted.schema ≡ schema
+  schema_after = (revisions_changed es db id old inserted revisions).schema ∙ store.schema_is
+
+  pub docs_fit : AreKeyed (inserted.trees docs_tree)
+  docs_fit = subst AreKeyed (sym ((leaves revs_tree _ old inserted store.schema_is (revisions_changed es db id old inserted revisions)).docs (omega arith))) (docs_keyed old.trees store.laid)
+
+  module _ (sequence : ℤ) (text : List ℕ) (deleted : Bool) (placed : Database) (document : IsPlaced db id sequence text deleted inserted placed) where
+    pub schema_placed : placed.schema ≡ schema
+    schema_placed = document.places.schema ∙ document.removes.schema ∙ schema_after
+
+    pub dbs_fit : AreDatabaseRows (placed.trees dbs_tree)
+    dbs_fit =
+        let first = (leaves revs_tree _ old inserted store.schema_is (revisions_changed es db id old inserted revisions)).dbs (omega arith) in
+        let second = (leaves docs_tree _ inserted document.removed schema_after document.removes).dbs (omega arith) in
+        let third = (leaves docs_tree _ document.removed placed (document.removes.schema ∙ schema_after) document.places).dbs (omega arith) in
+        subst AreDatabaseRows (sym (third ∙ second ∙ first)) (databases_laid old.trees store.laid)

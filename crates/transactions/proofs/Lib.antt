@@ -1,0 +1,6 @@
+pub mod Rows
+pub mod Sequences
+pub mod HistoryRows
+pub mod Inserting
+pub mod DocumentWriting
+pub mod Committing

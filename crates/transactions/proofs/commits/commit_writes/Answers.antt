@@ -1,0 +1,76 @@
+use Rattle.std.proofs.Common.{rules, ◌≡◌, Err, IfErr, IsTrue, Result, ap, arith, subst, sym}
+use Rattle.sqlite.specs.Effect.{Database}
+use Rattle.sqlite.specs.Held.{Held, state}
+use Rattle.sqlite.specs.State.{HasCleanDisk, KeepsCommit}
+use Rattle.store.specs.Writing.{additions, writings_in}
+use Rattle.tables.specs.Edits.{HasWritten}
+use Rattle.tables.specs.Layout.{IsStore}
+use Rattle.tables.specs.Rows.{database_of}
+use Rattle.transactions.specs.Commits.{AreDue, IsSound, IsUnwritten}
+use Rattle.transactions.specs.declared.write_fault.WriteFault.{WriteFault}
+use Rattle.transactions.proofs.Committing.{on_err, refused_then, undone_then, unwritten_of}
+use Rattle.transactions.proofs.commits.commit_writes.Goals as goal
+
+pub returns-in_err-write_all-clause-err : goal.returns-in_err-write_all-clause-err
+returns-in_err-write_all-clause-err g c name =
+    let due = AreDue (additions c.args.writes.now) name c.args.db.now c.args.sequence in
+    let conn = c.args.conn.now in
+    let begun = c.transaction-tx.result.conn.now in
+    let mid = c.write_all.new.tx.conn.now in
+    let end = c.drop-tx.new.self.0 in
+    let fault = c.in_err-write_all.field-0.0 in
+    let is : c.from_residual.result ≡ Err fault = search rules in
+    let same : end ≡ c.conn-1.given.0 = search rules in
+    subst (λ h. IfErr c.from_residual.result (IsUnwritten (IsSound g.S.Store due conn h))) same
+    (subst (λ (r : Result (Unit {0}) WriteFault). IfErr r (IsUnwritten (IsSound g.S.Store due conn end))) (sym is)
+    (unwritten_of (IsSound g.S.Store due begun mid) (IsSound g.S.Store due conn end) fault
+    (λ it. (
+      omega (arith, c.drop-tx.ensures.survives.clean, it.0),
+      subst (λ h. IsTrue (state g.S.Store h).is_open → IsStore (state g.S.Store h).now × due (state g.S.Store h).now.trees) (sym c.transaction-tx.ensures.begun) it.1,
+    )) (c.in_err-write_all.ensures.err name)))
+
+pub returns-in_err-write_all-clause-undone : goal.returns-in_err-write_all-clause-undone
+returns-in_err-write_all-clause-undone g c name store due late up =
+    let conn = state g.S.Store c.args.conn.now in
+    let begun = state g.S.Store c.transaction-tx.result.conn.now in
+    let mid = state g.S.Store c.write_all.new.tx.conn.now in
+    let end = c.drop-tx.new.self.0 in
+    let begins = c.transaction-tx.ensures.begun in
+    let P : Held g.row.S.Denot → Type 0 = λ h. HasCleanDisk (state g.S.Store h) → IsTrue (state g.S.Store h).is_open → ((state g.S.Store h).now ≡ conn.committed) × ((state g.S.Store h).committed ≡ conn.committed) in
+    let same : end ≡ c.conn-1.given.0 = search rules in
+    let made : P end = λ clean up.
+    let before : HasCleanDisk mid = omega (arith, c.drop-tx.ensures.survives.clean, clean) in
+    let kept = subst (λ (d : Database). IsStore d → AreDue (additions c.args.writes.now) name c.args.db.now c.args.sequence d.trees → KeepsCommit begun mid) (ap (λ h. (state g.S.Store h).now) begins) (c.in_err-write_all.ensures.kept name before) in
+    undone_then begun mid (state g.S.Store end) conn.committed (ap (λ h. (state g.S.Store h).committed) begins) (kept store due) (c.drop-tx.ensures.undone clean) up in
+    on_err _ (subst P same made late up)
+
+pub returns-in_err-commit-clause-undone : goal.returns-in_err-commit-clause-undone
+returns-in_err-commit-clause-undone g c name store due late up =
+    let conn = state g.S.Store c.args.conn.now in
+    let begun = state g.S.Store c.transaction-tx.result.conn.now in
+    let mid = state g.S.Store c.write_all.new.tx.conn.now in
+    let end = c.commit.new.self.0 in
+    let begins = c.transaction-tx.ensures.begun in
+    let P : Held g.row.S.Denot → Type 0 = λ h. HasCleanDisk (state g.S.Store h) → IsTrue (state g.S.Store h).is_open → ((state g.S.Store h).now ≡ conn.committed) × ((state g.S.Store h).committed ≡ conn.committed) in
+    let same : end ≡ c.conn-2-1.given.0 = search rules in
+    let made : P end = λ clean up.
+    let before : HasCleanDisk mid = omega (arith, c.commit.ensures.survives.clean, clean) in
+    let kept = subst (λ (d : Database). IsStore d → AreDue (additions c.args.writes.now) name c.args.db.now c.args.sequence d.trees → KeepsCommit begun mid) (ap (λ h. (state g.S.Store h).now) begins) (c.in_ok-write_all.ensures.kept name before) in
+    let inside = c.in_ok-write_all.ensures.inside before (ap (λ h. (state g.S.Store h).in_transaction) begins) in
+    refused_then begun mid (state g.S.Store end) conn.committed (ap (λ h. (state g.S.Store h).committed) begins) (kept store due) _ inside (c.in_err-commit.ensures.err clean) up in
+    on_err _ (subst P same made late up)
+
+pub returns-clause-ok : goal.returns-clause-ok
+returns-clause-ok g c name late store due =
+    let now : Held g.row.S.Denot → Database = λ h. (state g.S.Store h).now in
+    let conn = now c.args.conn.now in
+    let mid = now c.write_all.new.tx.conn.now in
+    let end = c.commit.new.self.0 in
+    let all = additions c.args.writes.now in
+    let same : end ≡ c.conn-2-1.given.0 = search rules in
+    let clean : HasCleanDisk (state g.S.Store end) = search rules in
+    let before : HasCleanDisk (state g.S.Store c.write_all.new.tx.conn.now) = omega (arith, c.commit.ensures.survives.clean, clean) in
+    let done = subst (λ (d : Database). IsStore d → (due : AreDue all name c.args.db.now c.args.sequence d.trees) → HasWritten (writings_in (database_of d.trees due.row) all) name due.row d mid) (ap now c.transaction-tx.ensures.begun)
+    (c.in_ok-write_all.ensures.ok name before) in
+    subst (λ h. HasWritten (writings_in (database_of conn.trees due.row) all) name due.row conn (now h)) same
+    (subst (λ d. HasWritten (writings_in (database_of conn.trees due.row) all) name due.row conn d) (sym (c.in_ok-commit.ensures.ok clean).1.now_is) (done store due))

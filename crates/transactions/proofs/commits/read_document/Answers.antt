@@ -1,0 +1,37 @@
+use Rattle.std.proofs.Common.{rules, ◌≡◌, Err, IfErr, IsPermutation, Result, filter, map, subst, sym}
+use Rattle.sqlite.specs.Held.{state}
+use Rattle.std.specs.Prelude.{⊤}
+use Rattle.tables.specs.Rows.{is_of, shown_revision}
+use Rattle.tables.specs.Schema.{revs_tree}
+use Rattle.tree.specs.History.{HistoryContent}
+use Rattle.transactions.specs.Commits.{IsSound, IsUnwritten}
+use Rattle.transactions.specs.Reading.{history_shown}
+use Rattle.transactions.specs.declared.write_fault.WriteFault.{WriteFault}
+use Rattle.transactions.specs.declared.write_fault.WriteFault.TheVariants as write
+use Rattle.transactions.proofs.Committing.{history_read, lost}
+use Rattle.transactions.proofs.HistoryRows.{history_intact}
+use Rattle.transactions.proofs.commits.read_document.Goals as goal
+
+pub returns-clause-ok : goal.returns-clause-ok
+returns-clause-ok g c clean store =
+    let trees = (state g.S.Store c.args.tx.now.conn.now).now.trees in
+    let db = c.args.db.now in
+    let id = c.args.id.now in
+    history_read trees db id c.deref.result.now _ store.laid
+    (subst (IsPermutation (map shown_revision (filter (is_of db id) (trees revs_tree)))) (sym c.deref.ensures.value) (c.in_ok-rows.ensures.ok clean store)) c.in_ok-history.ensures
+
+pub returns-in_err-history-clause-err : goal.returns-in_err-history-clause-err
+returns-in_err-history-clause-err g c =
+    let old = c.args.tx.now.conn.now in
+    let trees = (state g.S.Store old).now.trees in
+    let db = c.args.db.now in
+    let id = c.args.id.now in
+    let fault = c.in_err-history.field-0.0 in
+    let sound : Type 0 = IsSound g.S.Store (λ _. ⊤) old c.revision_rows_in.new.tx.conn.now in
+    let is : c.from_residual-in_err-history.result ≡ Err (write.Store fault) = search rules in
+    subst (λ (r : Result HistoryContent WriteFault). IfErr r (IsUnwritten sound)) (sym is)
+    (lost (history_shown c.deref.result.now) _ sound fault c.in_err-history.ensures
+    (λ it.
+    let store = (it.1 (c.in_ok-rows.ensures.served it.0)).0 in
+    history_intact trees (is_of db id) _ store.laid
+    (subst (IsPermutation (map shown_revision (filter (is_of db id) (trees revs_tree)))) (sym c.deref.ensures.value) (c.in_ok-rows.ensures.ok it.0 store))))

@@ -1,0 +1,86 @@
+use Rattle.std.proofs.Common.{rules, ◌≡◌, ◌∙◌, Err, IfErr, Result, arith, refl, subst, sym, to_z-of_z, w64}
+use Rattle.std.proofs.lemmas.List.{take_all}
+use Rattle.std.specs.Prelude.{⊤}
+use Rattle.sqlite.specs.Held.{state}
+use Rattle.sqlite.specs.State.{HasCleanDisk}
+use Rattle.sqlite.proofs.InsideLemmas.{keeps_then}
+use Rattle.store.specs.Writing.{additions, writings_in}
+use Rattle.tables.specs.Edits.{HasWritten}
+use Rattle.tables.specs.Rows.{database_of}
+use Rattle.tables.proofs.DocumentWrites.{none_written}
+use Rattle.tables.proofs.Stays.{keeps_itself}
+use Rattle.transactions.specs.Commits.{AreDue, IsSound, IsUnwritten}
+use Rattle.transactions.specs.declared.write_fault.WriteFault.{WriteFault}
+use Rattle.transactions.proofs.Committing.{asks_itself, asks_then, further, unwritten_of}
+use Rattle.transactions.proofs.commits.write_all.Goals as goal
+
+pub loop-i-init : goal.loop-i-init
+loop-i-init g c =
+    let old = state g.S.Store c.args.tx.now.conn.now in
+    record {
+      same = refl;
+      asks = asks_itself old;
+      inside = λ clean within. within;
+      so_far = λ name clean store due. (none_written old.now name due.row store due.first, keeps_itself old);
+    }
+
+pub loop-i-preserved : goal.loop-i-preserved
+loop-i-preserved g c =
+    let inv = c.loop-i.invariant in
+    let old = state g.S.Store c.args.tx.now.conn.now in
+    let mid = state g.S.Store c.loop-i.tx.conn.now in
+    let new = state g.S.Store c.write_document.new.tx.conn.now in
+    let e = c.in_ok-write_document.ensures in
+    record {
+      same = e.same_reference ∙ inv.same;
+      asks = asks_then old mid new inv.asks e.asks;
+      inside = λ clean within. e.inside clean;
+      so_far = λ name clean store due.
+          let was : HasCleanDisk mid = omega (arith, e.asks.survives.clean, clean) in
+          let before = inv.so_far name was store due in (
+            further c.args.writes.now c.loop-i.i c.index-writes-i.result name c.args.db.now c.args.sequence _ old.now mid.now new.now c.loop-i-test.true c.index-writes-i.is c.requires (to_z-of_z {w = w64} {z = c.integer_of-next.result} (record { sfits = c.integer_of-next.type_inv }) ∙ c.integer_of-next.ensures) due before.0 e.lawful
+                (λ r numbered at. e.ok r clean before.0.store numbered at),
+            keeps_then old mid new before.1 ((e.looks before.0.store.schema_is).kept clean),
+          );
+    }
+
+pub returns-in_err-write_document-clause-err : goal.returns-in_err-write_document-clause-err
+returns-in_err-write_document-clause-err g c name =
+    let inv = c.loop-i.invariant in
+    let first = c.args.tx.now.conn.now in
+    let last = c.loop-i.tx.conn.now in
+    let now = c.write_document.new.tx.conn.now in
+    let e = c.in_err-write_document.ensures in
+    let fault = c.in_err-write_document.field-0.0 in
+    let due = AreDue (additions c.args.writes.now) name c.args.db.now c.args.sequence in
+    let is : c.from_residual.result ≡ Err fault = search rules in
+    subst (λ (r : Result (Unit {0}) WriteFault). IfErr r (IsUnwritten (IsSound g.S.Store due first now))) (sym is)
+    (unwritten_of (IsSound g.S.Store (λ _. ⊤) last now) (IsSound g.S.Store due first now) fault
+    (λ it. (
+      it.0,
+      λ up.
+          let was : HasCleanDisk (state g.S.Store last) = omega (arith, e.asks.survives.clean, it.0) in
+          let had = it.1 (inv.asks.was_open was up) in
+          ((inv.so_far name was had.0 had.1).0.store, tt),
+    )) e.err)
+
+pub returns-in_err-write_document-clause-kept : goal.returns-in_err-write_document-clause-kept
+returns-in_err-write_document-clause-kept g c name clean store due =
+    let inv = c.loop-i.invariant in
+    let old = state g.S.Store c.args.tx.now.conn.now in
+    let mid = state g.S.Store c.loop-i.tx.conn.now in
+    let new = state g.S.Store c.write_document.new.tx.conn.now in
+    let e = c.in_err-write_document.ensures in
+    let was : HasCleanDisk mid = omega (arith, e.asks.survives.clean, clean) in
+    let before = inv.so_far name was store due in
+    keeps_then old mid new before.1 ((e.looks before.0.store.schema_is).kept clean)
+
+pub returns-clause-ok : goal.returns-clause-ok
+returns-clause-ok g c name clean store due =
+    let old = state g.S.Store c.args.tx.now.conn.now in
+    let new = state g.S.Store c.loop-i.tx.conn.now in
+    subst (λ ws. HasWritten (writings_in (database_of old.now.trees due.row) (additions ws)) name due.row old.now new.now) (take_all c.loop-i.i c.args.writes.now (omega (arith, c.loop-i-test.false)))
+    (c.loop-i.invariant.so_far name clean store due).0
+
+pub returns-clause-kept : goal.returns-clause-kept
+returns-clause-kept g c name clean store due = (c.loop-i.invariant.so_far name clean store due).1

@@ -1,0 +1,23 @@
+use Rattle.std.proofs.Common.{◌∙◌, List, ℕ, OnOk, Option, Some, subst}
+use Rattle.sqlite.specs.Held.{state}
+use Rattle.store.specs.Writing.{addition_of}
+use Rattle.tables.specs.Edits.{AreInserted}
+use Rattle.tree.specs.History.{behind}
+use Rattle.tree.specs.Nodes.{entries_before}
+use Rattle.tree.specs.Revision.{Revision}
+use Rattle.tree.specs.Write.{head}
+use Rattle.transactions.specs.Inserting.{unknown_in}
+use Rattle.transactions.proofs.document_write.insert_revisions.Goals as goal
+
+pub returns-clause-ok : goal.returns-clause-ok
+returns-clause-ok g c clean has keyed =
+    let old = state g.S.Store c.args.tx.now.conn.now in
+    let new = state g.S.Store c.insert_path.new.tx.conn.now in
+    let h = c.args.history.now in
+    let a = addition_of c.args.write.now in
+    let db = c.args.db.now in
+    let P : List Revision → Option Revision → List ℕ → Type 0 = λ path parent id. OnOk c.insert_path.result (AreInserted (unknown_in h (entries_before (Some (record { deleted = a.deleted; body = a.body })) path parent)) db id old.now new.now) in
+    subst (P a.path (head (behind h a.parent))) (c.as_bytes.ensures.value ∙ c.as_str-id.ensures.text)
+    (subst (λ parent. P a.path parent c.as_bytes.result.now) c.known_parent-parent.ensures
+    (subst (λ path. P path c.known_parent-parent.result c.as_bytes.result.now) c.deref-2.ensures.value
+    (c.insert_path.ensures.ok a.body (c.as_str.ensures.value ∙ c.in-Ok.ensures.text) clean has keyed)))

@@ -1,0 +1,7 @@
+use Rattle.std.proofs.Common.{◌≡◌, drop, map}
+use Rattle.tree.specs.History.{with_entries}
+use Rattle.transactions.specs.Reading.{entry_shown, history_shown}
+use Rattle.transactions.proofs.histories.read_history.Given as goal
+
+abbrev pub invariant-loop-row : goal.invariant-loop-row
+invariant-loop-row l = with_entries l.history (map entry_shown (drop l.row-index l.rows)) ≡ history_shown l.rows

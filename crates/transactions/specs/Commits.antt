@@ -1,0 +1,33 @@
+-- Writes of a database that are committed together: when they may be done, and why they are not.
+-- This server's own: when writes are acceptable is said by `store`, and where they are kept by `tables`.
+use Rattle.std.specs.Prelude.{◌≡◌, ℕ, ℤ, IsTrue, List, filter, slice_get, Some, ⊤}
+use Rattle.sqlite_trees.specs.declared.store.Store.{Ghosts}
+use Rattle.sqlite_trees.specs.Tree.{Trees}
+use Rattle.sqlite_value.specs.Order.{Row}
+use Rattle.sqlite.specs.Held.{Held, state}
+use Rattle.sqlite.specs.State.{HasCleanDisk}
+use Rattle.store.specs.Contents.{AreAcceptable}
+use Rattle.store.specs.Writing.{Addition, writings_in}
+use Rattle.tables.specs.Layout.{IsStore}
+use Rattle.tables.specs.Rows.{database_of, is_named, length_of, number_of}
+use Rattle.tables.specs.Schema.{dbs_tree}
+use Rattle.transactions.specs.Reading.{IsLost}
+use Rattle.transactions.specs.declared.write_fault.WriteFault.{WriteFault}
+use Rattle.transactions.specs.declared.write_fault.WriteFault.TheVariants as write
+
+-- the database of this name has this number and this sequence, and the writes may be appended to it, each after those before it
+pub record AreDue (all : List Addition) (name : List ℕ) (number : ℤ) (sequence : ℕ) (trees : Trees) : Type 0 where
+  pub row : Row
+  pub first : slice_get (filter (is_named name) (trees dbs_tree)) 0 ≡ Some row
+  pub numbered : number_of row ≡ number
+  pub counted : length_of row ≡ sequence
+  pub acceptable : AreAcceptable (database_of trees row) (writings_in (database_of trees row) all)
+
+-- the disk returned what was written, and an open connection had tables that were laid out, of which this held
+abbrev pub IsSound : {S : Type 0} → Ghosts S → (Trees → Type 0) → Held S → Held S → Type 0
+IsSound g Holds old new = HasCleanDisk (state g new) × (IsTrue (state g old).is_open → IsStore (state g old).now × Holds (state g old).now.trees)
+
+-- why writes were not done: a statement failed, memory ran out, or a row that was read is not intact
+abbrev pub IsUnwritten : Type 0 → WriteFault → Type 0
+IsUnwritten intact (write.Sqlite e) = ⊤
+IsUnwritten intact (write.Store fault) = IsLost intact fault

@@ -1,0 +1,5 @@
+pub mod Reading
+pub mod Endings
+pub mod Sequences
+pub mod Inserting
+pub mod Commits

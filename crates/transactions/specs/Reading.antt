@@ -1,0 +1,38 @@
+-- What is read of the rows that a query shows, and the history that they make.
+-- This server's own: rows are read by the words of `tables`; what is not intact is told as damaged.
+use Rattle.std.specs.Prelude.{◌≡◌, List, map, Option, Some, None, Result, Ok, Err, ⊤}
+use Rattle.std.specs.FinMap as finite
+use Rattle.store.specs.declared.fault.StoreFault.{StoreFault}
+use Rattle.store.specs.declared.fault.StoreFault.TheVariants.{Memory, Failed, NoDatabase, Exists, Damaged, Full}
+use Rattle.sqlite_value.specs.Order.{Row}
+use Rattle.tree.specs.History.{HistoryContent, row_of, with_entries}
+use Rattle.tree.specs.Revision.{Revision}
+use Rattle.tree.specs.declared.entry.Entry.{Entry}
+use Rattle.tables.specs.Shown.{held_shown, parent_shown, revision_shown}
+
+-- What is read: what is said; that nothing is, where there is no database; want of memory; or that not all is intact.
+abbrev pub IsRead : {X A : Type 0} → (X → A) → Option A → Type 0 → Result X StoreFault → Type 0
+IsRead view said intact (Ok x) = said ≡ Some (view x)
+IsRead view said intact (Err Memory) = ⊤
+IsRead view said intact (Err NoDatabase) = said ≡ None
+IsRead view said intact (Err Damaged) = ¬ intact
+IsRead view said intact (Err Failed) = ⊥
+IsRead view said intact (Err Exists) = ⊥
+IsRead view said intact (Err Full) = ⊥
+
+-- why a row was not read: memory ran out, or it is not intact
+abbrev pub IsLost : Type 0 → StoreFault → Type 0
+IsLost intact Memory = ⊤
+IsLost intact Damaged = ¬ intact
+IsLost intact Failed = ⊥
+IsLost intact NoDatabase = ⊥
+IsLost intact Exists = ⊥
+IsLost intact Full = ⊥
+
+-- a known revision
+abbrev pub entry_shown : Row → Revision × Entry
+entry_shown s = (revision_shown s, row_of (parent_shown s) (held_shown s))
+
+-- the history that the rows make, one after the other
+abbrev pub history_shown : List Row → HistoryContent
+history_shown rows = with_entries finite.empty (map entry_shown rows)

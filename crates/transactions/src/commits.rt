@@ -1,0 +1,130 @@
+//! Writes of a database that are committed together.
+
+ghost use Rattle.std.specs.Prelude.{◌≡◌, ◌+◌, ◌<◌, ◌^◌, ℕ, List, false, length, pos, IfErr, IfOk, OnOk, true, ⊤};
+ghost use Rattle.sqlite.specs.Held.{state};
+ghost use Rattle.sqlite.specs.State.{HasCleanDisk, KeepsCommit};
+ghost use Rattle.sqlite_value.specs.Order.{Row};
+ghost use Rattle.store.specs.Writing.{addition_of, additions, writings_in, written_in};
+ghost use Rattle.tables.specs.Calls.{AsksInside, LooksInside, Stands};
+ghost use Rattle.tables.specs.Edits.{HasWritten, IsWrite};
+ghost use Rattle.tables.specs.Layout.{IsStore};
+ghost use Rattle.tables.specs.Rows.{database_of, history_in, length_of, number_of};
+ghost use Rattle.tables.specs.Schema.{revs_tree};
+ghost use Rattle.transactions.specs.Commits.{AreDue, IsSound, IsUnwritten};
+ghost use Rattle.transactions.specs.Inserting.{IsLawfulAddition};
+ghost use Rattle.transactions.specs.Endings.{IsDone, IsUndone, Turns};
+
+use crate::document_write::add_write;
+use crate::histories::read_history;
+use crate::write_fault::WriteFault;
+use sqlite::{Alter, Connection, Transaction};
+use std::alloc::Global;
+use store::Write;
+use tables::reads_in::revision_rows_in;
+use tree::History;
+
+/// Reads the history of a document within a transaction.
+fn read_document<S: Alter>(
+    alloc: Global,
+    tx: &mut Transaction<'_, S>,
+    db: &i64,
+    id: &[u8],
+) -> Result<History, WriteFault>
+    ensures same_reference { tx.new.conn.ghost_name ≡ tx.old.conn.ghost_name }
+    ensures ok { HasCleanDisk (state S.Store tx.new.conn.now) → IsStore (state S.Store tx.old.conn.now).now
+        → IfOk result (λ history. history ≡ history_in ((state S.Store tx.old.conn.now).now.trees revs_tree) db.now id.now) }
+    ensures err { IfErr result (IsUnwritten (IsSound S.Store (λ _. ⊤) tx.old.conn.now tx.new.conn.now)) }
+    ensures stands { Stands S.Store tx.old.conn.now tx.new.conn.now result }
+    ensures looks { LooksInside S.Store tx.old.conn.now tx.new.conn.now }
+    ensures asks { AsksInside S.Store tx.old.conn.now tx.new.conn.now }
+{
+    let rows = revision_rows_in(tx, db, id)?;
+    let history = read_history(alloc, &rows)?;
+    Ok(history)
+}
+
+/// Writes a document under this sequence, in a transaction.
+fn write_document<S: Alter>(
+    alloc: Global,
+    tx: &mut Transaction<'_, S>,
+    db: &i64,
+    sequence: &i64,
+    write: &Write,
+) -> Result<(), WriteFault>
+    ensures same_reference { tx.new.conn.ghost_name ≡ tx.old.conn.ghost_name }
+    ensures ok { (r : Row) → HasCleanDisk (state S.Store tx.new.conn.now) → IsStore (state S.Store tx.old.conn.now).now
+        → db.now ≡ number_of r → sequence.now ≡ pos (length_of r + 1)
+        → OnOk result (IsWrite r (written_in (history_in ((state S.Store tx.old.conn.now).now.trees revs_tree) (number_of r) (addition_of write.now).id) (addition_of write.now))
+        (state S.Store tx.old.conn.now).now (state S.Store tx.new.conn.now).now) }
+    ensures lawful { OnOk result (IsLawfulAddition (addition_of write.now)) }
+    ensures inside { HasCleanDisk (state S.Store tx.new.conn.now) → OnOk result ((state S.Store tx.new.conn.now).in_transaction ≡ true) }
+    ensures err { IfErr result (IsUnwritten (IsSound S.Store (λ _. ⊤) tx.old.conn.now tx.new.conn.now)) }
+    ensures looks { LooksInside S.Store tx.old.conn.now tx.new.conn.now }
+    ensures asks { AsksInside S.Store tx.old.conn.now tx.new.conn.now }
+{
+    let mut history = read_document(alloc, tx, db, write.id.as_str().as_bytes())?;
+    add_write(alloc, tx, db, sequence, &mut history, write)?;
+    Ok(())
+}
+
+/// Returns the integer that SQLite holds for a count.
+pub fn integer_of(count: u64) -> i64
+    requires { count < 2 ^ 63 }
+    ensures { result ≡ pos count }
+{
+    count as i64
+}
+
+/// Does the writes of a database in turn, each under the next sequence.
+fn write_all<S: Alter>(
+    alloc: Global,
+    tx: &mut Transaction<'_, S>,
+    db: &i64,
+    sequence: u64,
+    writes: &[Write],
+) -> Result<(), WriteFault>
+    requires { sequence + length writes.now < 2 ^ 63 }
+    ensures same_reference { tx.new.conn.ghost_name ≡ tx.old.conn.ghost_name }
+    ensures ok { (name : List ℕ) → HasCleanDisk (state S.Store tx.new.conn.now) → IsStore (state S.Store tx.old.conn.now).now
+        → (due : AreDue (additions writes.now) name db.now sequence (state S.Store tx.old.conn.now).now.trees)
+        → OnOk result (HasWritten (writings_in (database_of (state S.Store tx.old.conn.now).now.trees due.row) (additions writes.now)) name due.row
+        (state S.Store tx.old.conn.now).now (state S.Store tx.new.conn.now).now) }
+    ensures err { (name : List ℕ) → IfErr result (IsUnwritten (IsSound S.Store (AreDue (additions writes.now) name db.now sequence) tx.old.conn.now tx.new.conn.now)) }
+    ensures kept { (name : List ℕ) → HasCleanDisk (state S.Store tx.new.conn.now) → IsStore (state S.Store tx.old.conn.now).now
+        → AreDue (additions writes.now) name db.now sequence (state S.Store tx.old.conn.now).now.trees
+        → KeepsCommit (state S.Store tx.old.conn.now) (state S.Store tx.new.conn.now) }
+    ensures inside { HasCleanDisk (state S.Store tx.new.conn.now) → (state S.Store tx.old.conn.now).in_transaction ≡ true → OnOk result ((state S.Store tx.new.conn.now).in_transaction ≡ true) }
+    ensures asks { AsksInside S.Store tx.old.conn.now tx.new.conn.now }
+{
+    for (i, write) in writes.iter().enumerate() {
+        let next = integer_of(sequence + i as u64 + 1);
+        write_document(alloc, tx, db, &next, write)?;
+    }
+    Ok(())
+}
+
+/// Does the writes of a database, all of them or none.
+pub fn commit_writes<S: Alter>(
+    alloc: Global,
+    conn: &mut Connection<S>,
+    db: &i64,
+    sequence: u64,
+    writes: &[Write],
+) -> Result<(), WriteFault>
+    requires idle { conn.old.in_transaction ≡ false }
+    requires room { sequence + length writes.now < 2 ^ 63 }
+    ensures ok { (name : List ℕ) → HasCleanDisk (state S.Store conn.new) → IsStore (state S.Store conn.old).now
+        → (due : AreDue (additions writes.now) name db.now sequence (state S.Store conn.old).now.trees)
+        → OnOk result (HasWritten (writings_in (database_of (state S.Store conn.old).now.trees due.row) (additions writes.now)) name due.row
+        (state S.Store conn.old).now (state S.Store conn.new).now) }
+    ensures err { (name : List ℕ) → IfErr result (IsUnwritten (IsSound S.Store (AreDue (additions writes.now) name db.now sequence) conn.old conn.new)) }
+    ensures turns { Turns S.Store conn.old conn.new }
+    ensures done { IsDone S.Store conn.old conn.new result }
+    ensures undone { (name : List ℕ) → IsStore (state S.Store conn.old).now → AreDue (additions writes.now) name db.now sequence (state S.Store conn.old).now.trees
+        → IsUndone S.Store conn.old conn.new result }
+{
+    let mut tx = conn.transaction();
+    write_all(alloc, &mut tx, db, sequence, writes)?;
+    tx.commit()?;
+    Ok(())
+}

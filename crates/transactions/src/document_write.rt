@@ -1,0 +1,284 @@
+//! One write of a document, as statements of a transaction.
+
+ghost use Rattle.std.specs.Prelude.{◌≡◌, ◌+◌, ◌∷◌, [], pos, None, Some, IfOk, OnOk, string_bytes};
+ghost use Rattle.std.specs.Prelude.{IsTrue};
+ghost use Rattle.std.specs.List.{AllByRecursion};
+ghost use Rattle.couch_json.specs.Canonical.{canonical};
+ghost use Rattle.couch_json.specs.Value.{Value};
+ghost use Rattle.sqlite.specs.Held.{state};
+ghost use Rattle.sqlite.specs.State.{HasCleanDisk};
+ghost use Rattle.sqlite.specs.Values.{or_null};
+ghost use Rattle.sqlite_value.specs.declared.value.Value.TheVariants.{Text};
+ghost use Rattle.tables.specs.Calls.{Proceeds, Stays};
+ghost use Rattle.store.specs.Writing.{addition_of, written_in};
+ghost use Rattle.sqlite_value.specs.Order.{Row};
+ghost use Rattle.tables.specs.Edits.{IsWrite};
+ghost use Rattle.tables.specs.Layout.{AreKeyed, IsStore};
+ghost use Rattle.tables.specs.Rows.{history_in, length_of, number_of, parent_cell};
+ghost use Rattle.tables.specs.Schema.{docs_tree, revs_tree, schema};
+ghost use Rattle.tree.specs.History.{behind, held_of, is_deleted};
+ghost use Rattle.tree.specs.Nodes.{entries_before, next_of};
+ghost use Rattle.tree.specs.Revision.{is_revision};
+ghost use Rattle.tree.specs.Write.{head};
+ghost use Rattle.transactions.specs.Inserting.{InsertsAll, IsBest, IsLawfulAddition, IsPlaced, entries_of, unknown_in};
+
+use couch_json::canon;
+use sqlite::{Alter, Error, ErrorCode, Transaction};
+use std::alloc::Global;
+use store::Write;
+use tables::databases::advance_database;
+use tables::documents::{delete_document, insert_document};
+use tables::revisions::insert_revision;
+use tree::{History, Rev};
+
+/// Puts in the row of one revision of a document that only stands in a path, if the history doesn't
+/// know it.
+fn insert_passed<S: Alter>(
+    tx: &mut Transaction<'_, S>,
+    db: &i64,
+    id: &[u8],
+    history: &History,
+    rev: &Rev,
+    parent: &Option<Rev>,
+) -> Result<(), Error>
+    ensures same_reference { tx.new.conn.ghost_name ≡ tx.old.conn.ghost_name }
+    ensures ok { InsertsAll S.Store (unknown_in history.now ((rev.now, record { parent = parent.now; held = None }) ∷ [])) db.now id.now tx.old.conn.now tx.new.conn.now result }
+    ensures proceeds { Proceeds S.Store tx.old.conn.now tx.new.conn.now }
+{
+    if history.knows(rev) {
+        return Ok(());
+    }
+    let parent = hash_of(parent);
+    insert_revision(
+        tx,
+        db,
+        id,
+        rev.number(),
+        rev.hash(),
+        parent,
+        false,
+        false,
+        None,
+    )
+}
+
+/// Returns the hash of a parent, if there is one.
+fn hash_of(parent: &Option<Rev>) -> Option<&str>
+    ensures { or_null (λ s. Text s.now) result ≡ parent_cell parent.now }
+{
+    match parent {
+        Some(rev) => Some(rev.hash()),
+        None => None,
+    }
+}
+
+/// Finds the newest revision of a path, or what it follows where it has none.
+fn find_next(path: &[Rev], parent: &Option<Rev>) -> Option<Rev>
+    ensures { result ≡ next_of path.now parent.now }
+{
+    match path.first() {
+        Some(rev) => Some(*rev),
+        None => *parent,
+    }
+}
+
+/// Puts in those revisions of a path behind the newest that the history doesn't know.
+fn insert_line<S: Alter>(
+    tx: &mut Transaction<'_, S>,
+    db: &i64,
+    id: &[u8],
+    history: &History,
+    path: &[Rev],
+    parent: &Option<Rev>,
+) -> Result<(), Error>
+    ensures same_reference { tx.new.conn.ghost_name ≡ tx.old.conn.ghost_name }
+    ensures ok { InsertsAll S.Store (unknown_in history.now (entries_before None path.now parent.now)) db.now id.now tx.old.conn.now tx.new.conn.now result }
+    ensures proceeds { Proceeds S.Store tx.old.conn.now tx.new.conn.now }
+{
+    for (i, rev) in path.iter().enumerate() {
+        insert_passed(tx, db, id, history, rev, &find_next(&path[i + 1..], parent))?;
+    }
+    Ok(())
+}
+
+/// Puts in the newest revision of a write, with its mark and the text of its body, if the history
+/// doesn't know it.
+fn insert_newest<S: Alter>(
+    tx: &mut Transaction<'_, S>,
+    db: &i64,
+    id: &[u8],
+    history: &History,
+    rev: &Rev,
+    parent: &Option<Rev>,
+    deleted: bool,
+    body: &str,
+) -> Result<(), Error>
+    ensures same_reference { tx.new.conn.ghost_name ≡ tx.old.conn.ghost_name }
+    ensures ok { (v : Value) → body.now ≡ canonical v
+        → InsertsAll S.Store (unknown_in history.now ((rev.now, record { parent = parent.now; held = Some (record { deleted = deleted; body = v }) }) ∷ [])) db.now id.now tx.old.conn.now tx.new.conn.now result }
+    ensures proceeds { Proceeds S.Store tx.old.conn.now tx.new.conn.now }
+{
+    if history.knows(rev) {
+        return Ok(());
+    }
+    let parent = hash_of(parent);
+    insert_revision(
+        tx,
+        db,
+        id,
+        rev.number(),
+        rev.hash(),
+        parent,
+        true,
+        deleted,
+        Some(body),
+    )
+}
+
+/// Puts in those revisions of a path that the history doesn't know: the newest with its mark and the
+/// text of its body, and the others with nothing.
+fn insert_path<S: Alter>(
+    tx: &mut Transaction<'_, S>,
+    db: &i64,
+    id: &[u8],
+    history: &History,
+    path: &[Rev],
+    parent: &Option<Rev>,
+    deleted: bool,
+    body: &str,
+) -> Result<(), Error>
+    ensures same_reference { tx.new.conn.ghost_name ≡ tx.old.conn.ghost_name }
+    ensures ok { (v : Value) → body.now ≡ canonical v
+        → InsertsAll S.Store (unknown_in history.now (entries_before (Some (record { deleted = deleted; body = v })) path.now parent.now)) db.now id.now tx.old.conn.now tx.new.conn.now result }
+    ensures proceeds { Proceeds S.Store tx.old.conn.now tx.new.conn.now }
+{
+    let Some(newest) = path.first() else {
+        return Ok(());
+    };
+    let rest = &path[1..];
+    let next = find_next(rest, parent);
+    insert_newest(tx, db, id, history, newest, &next, deleted, body)?;
+    insert_line(tx, db, id, history, rest, parent)
+}
+
+/// Looks at each revision of a path, and does nothing else: each is lawful.
+fn walk_path(path: &[Rev])
+    ensures { AllByRecursion (λ v. IsTrue (is_revision v)) path.now }
+{
+    for rev in path {
+        prove!(rev.number() > 0);
+    }
+}
+
+/// Puts in those revisions of a write that the history doesn't know.
+fn insert_revisions<S: Alter>(
+    alloc: Global,
+    tx: &mut Transaction<'_, S>,
+    db: &i64,
+    history: &History,
+    write: &Write,
+) -> Result<(), Error>
+    ensures same_reference { tx.new.conn.ghost_name ≡ tx.old.conn.ghost_name }
+    ensures ok { InsertsAll S.Store (unknown_in history.now (entries_of history.now (addition_of write.now))) db.now (addition_of write.now).id tx.old.conn.now tx.new.conn.now result }
+    ensures lawful { OnOk result (IsLawfulAddition (addition_of write.now)) }
+    ensures proceeds { Proceeds S.Store tx.old.conn.now tx.new.conn.now }
+{
+    let id = write.id.as_str();
+    walk_path(&write.path);
+    let Ok(text) = canon(alloc, &write.body) else {
+        return Err(Error::SqliteFailure(ErrorCode::OutOfMemory));
+    };
+    let parent = known_parent(history, &write.parent);
+    insert_path(
+        tx,
+        db,
+        id.as_bytes(),
+        history,
+        &write.path,
+        &parent,
+        write.deleted,
+        text.as_str(),
+    )
+}
+
+/// Puts the row of a document in the place of the one of its id.
+fn replace_document<S: Alter>(
+    tx: &mut Transaction<'_, S>,
+    db: &i64,
+    id: &[u8],
+    sequence: &i64,
+    winner: &str,
+    deleted: bool,
+) -> Result<(), Error>
+    ensures same_reference { tx.new.conn.ghost_name ≡ tx.old.conn.ghost_name }
+    ensures ok { HasCleanDisk (state S.Store tx.new.conn.now) → tx.old.conn.now.schema ≡ schema → AreKeyed ((state S.Store tx.old.conn.now).now.trees docs_tree)
+        → OnOk result (IsPlaced db.now id.now sequence.now winner.now deleted (state S.Store tx.old.conn.now).now (state S.Store tx.new.conn.now).now) }
+    ensures inside { Stays S.Store tx.old.conn.now tx.new.conn.now result }
+    ensures proceeds { Proceeds S.Store tx.old.conn.now tx.new.conn.now }
+{
+    delete_document(tx, db, id)?;
+    insert_document(tx, db, id, sequence, winner, deleted)
+}
+
+/// Tells whether a revision is deleted, as far as the history knows.
+fn is_deleted(history: &History, rev: &Rev) -> bool
+    ensures { result ≡ is_deleted (held_of history.now rev.now) }
+{
+    match history.body(rev) {
+        Some((deleted, _)) => deleted,
+        None => false,
+    }
+}
+
+/// Returns the text of the best revision, and whether it is deleted.
+fn best_of(alloc: Global, history: &History) -> Result<(String, bool), Error>
+    ensures { IfOk result (λ best. IsBest history.now (string_bytes best.0) best.1) }
+{
+    let Some(rev) = history.winner() else {
+        return Err(Error::QueryReturnedNoRows);
+    };
+    let deleted = is_deleted(history, rev);
+    match rev.text(alloc) {
+        Ok(text) => Ok((text, deleted)),
+        Err(_) => Err(Error::SqliteFailure(ErrorCode::OutOfMemory)),
+    }
+}
+
+/// Returns the parent of a write where the history knows it.
+fn known_parent(history: &History, parent: &Option<Rev>) -> Option<Rev>
+    ensures { result ≡ head (behind history.now parent.now) }
+{
+    let Some(rev) = parent else {
+        return None;
+    };
+    prove!(rev.number() > 0);
+    if history.knows(rev) { Some(*rev) } else { None }
+}
+
+/// Does one write of a document, whose history is as it is before the write.
+pub(crate) fn add_write<S: Alter>(
+    alloc: Global,
+    tx: &mut Transaction<'_, S>,
+    db: &i64,
+    sequence: &i64,
+    history: &mut History,
+    write: &Write,
+) -> Result<(), Error>
+    ensures same_reference { tx.new.conn.ghost_name ≡ tx.old.conn.ghost_name }
+    ensures ok { (r : Row) → HasCleanDisk (state S.Store tx.new.conn.now) → IsStore (state S.Store tx.old.conn.now).now
+        → history.old ≡ history_in ((state S.Store tx.old.conn.now).now.trees revs_tree) (number_of r) (addition_of write.now).id
+        → db.now ≡ number_of r → sequence.now ≡ pos (length_of r + 1)
+        → OnOk result (IsWrite r (written_in history.old (addition_of write.now)) (state S.Store tx.old.conn.now).now (state S.Store tx.new.conn.now).now) }
+    ensures lawful { OnOk result (IsLawfulAddition (addition_of write.now)) }
+    ensures inside { Stays S.Store tx.old.conn.now tx.new.conn.now result }
+    ensures proceeds { Proceeds S.Store tx.old.conn.now tx.new.conn.now }
+{
+    insert_revisions(alloc, tx, db, history, write)?;
+    let Ok(()) = history.put(&write.path, write.parent, write.deleted, &write.body) else {
+        return Err(Error::SqliteFailure(ErrorCode::OutOfMemory));
+    };
+    let (text, deleted) = best_of(alloc, history)?;
+    let id = write.id.as_str().as_bytes();
+    replace_document(tx, db, id, sequence, text.as_str(), deleted)?;
+    advance_database(tx, db, sequence)
+}

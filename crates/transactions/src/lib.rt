@@ -1,0 +1,13 @@
+//! What changes the tables: each change in one transaction, whole or not at all.
+#![tactic(auto)]
+
+mod changes;
+mod commits;
+mod document_write;
+mod histories;
+mod write_fault;
+
+pub use changes::{add_database, begin_tables, change_security, remove_database, write_local};
+pub use commits::{commit_writes, integer_of};
+pub use histories::read_history;
+pub use write_fault::WriteFault;
