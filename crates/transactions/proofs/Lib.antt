@@ -4,3 +4,4 @@ pub mod HistoryRows
 pub mod Inserting
 pub mod DocumentWriting
 pub mod Committing
+pub mod HeldHistories

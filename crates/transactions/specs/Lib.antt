@@ -3,3 +3,4 @@ pub mod Endings
 pub mod Sequences
 pub mod Inserting
 pub mod Commits
+pub mod Histories

@@ -4,24 +4,28 @@ ghost use Rattle.std.specs.Prelude.{◌≡◌, ◌+◌, ◌<◌, ◌^◌, ℕ, L
 ghost use Rattle.sqlite.specs.Held.{state};
 ghost use Rattle.sqlite.specs.State.{HasCleanDisk, KeepsCommit};
 ghost use Rattle.sqlite_value.specs.Order.{Row};
+ghost use Rattle.store.specs.Plain.{with_addition};
 ghost use Rattle.store.specs.Writing.{addition_of, additions, writings_in, written_in};
-ghost use Rattle.tables.specs.Calls.{AsksInside, LooksInside, Stands};
+ghost use Rattle.tables.specs.Calls.{AsksInside, LooksInside, Proceeds, Stands, Stays};
 ghost use Rattle.tables.specs.Edits.{HasWritten, IsWrite};
 ghost use Rattle.tables.specs.Layout.{IsStore};
 ghost use Rattle.tables.specs.Rows.{database_of, history_in, length_of, number_of};
 ghost use Rattle.tables.specs.Schema.{revs_tree};
 ghost use Rattle.transactions.specs.Commits.{AreDue, IsSound, IsUnwritten};
+ghost use Rattle.transactions.specs.Histories.{AreStored, IsWith};
 ghost use Rattle.transactions.specs.Inserting.{IsLawfulAddition};
 ghost use Rattle.transactions.specs.Endings.{IsDone, IsUndone, Turns};
 
 use crate::document_write::add_write;
 use crate::histories::read_history;
 use crate::write_fault::WriteFault;
-use sqlite::{Alter, Connection, Transaction};
+use couch_json::Got;
+use sqlite::{Alter, Connection, Error, Transaction};
 use std::alloc::Global;
+use std::collections::BTreeMap;
 use store::Write;
 use tables::reads_in::revision_rows_in;
-use tree::History;
+use tree::{DocId, History};
 
 /// Reads the history of a document within a transaction.
 fn read_document<S: Alter>(
@@ -43,27 +47,101 @@ fn read_document<S: Alter>(
     Ok(history)
 }
 
-/// Writes a document under this sequence, in a transaction.
-fn write_document<S: Alter>(
+/// Writes a document whose history this is, and returns the history after the write.
+fn write_known<S: Alter>(
+    alloc: Global,
+    tx: &mut Transaction<'_, S>,
+    db: &i64,
+    sequence: &i64,
+    history: History,
+    write: &Write,
+) -> Result<History, Error>
+    ensures same_reference { tx.new.conn.ghost_name ≡ tx.old.conn.ghost_name }
+    ensures ok { (r : Row) → HasCleanDisk (state S.Store tx.new.conn.now) → IsStore (state S.Store tx.old.conn.now).now
+        → history ≡ history_in ((state S.Store tx.old.conn.now).now.trees revs_tree) (number_of r) (addition_of write.now).id
+        → db.now ≡ number_of r → sequence.now ≡ pos (length_of r + 1)
+        → OnOk result (IsWrite r (written_in history (addition_of write.now)) (state S.Store tx.old.conn.now).now (state S.Store tx.new.conn.now).now) }
+    ensures after { IfOk result (λ after. after ≡ with_addition history (addition_of write.now)) }
+    ensures lawful { OnOk result (IsLawfulAddition (addition_of write.now)) }
+    ensures inside { Stays S.Store tx.old.conn.now tx.new.conn.now result }
+    ensures proceeds { Proceeds S.Store tx.old.conn.now tx.new.conn.now }
+{
+    let mut history = history;
+    add_write(alloc, tx, db, sequence, &mut history, write)?;
+    Ok(history)
+}
+
+/// Writes a document, and returns its history after the write.
+fn write_unread<S: Alter>(
     alloc: Global,
     tx: &mut Transaction<'_, S>,
     db: &i64,
     sequence: &i64,
     write: &Write,
-) -> Result<(), WriteFault>
+) -> Result<History, WriteFault>
     ensures same_reference { tx.new.conn.ghost_name ≡ tx.old.conn.ghost_name }
     ensures ok { (r : Row) → HasCleanDisk (state S.Store tx.new.conn.now) → IsStore (state S.Store tx.old.conn.now).now
         → db.now ≡ number_of r → sequence.now ≡ pos (length_of r + 1)
         → OnOk result (IsWrite r (written_in (history_in ((state S.Store tx.old.conn.now).now.trees revs_tree) (number_of r) (addition_of write.now).id) (addition_of write.now))
         (state S.Store tx.old.conn.now).now (state S.Store tx.new.conn.now).now) }
+    ensures after { HasCleanDisk (state S.Store tx.new.conn.now) → IsStore (state S.Store tx.old.conn.now).now
+        → IfOk result (λ after. after ≡ with_addition (history_in ((state S.Store tx.old.conn.now).now.trees revs_tree) db.now (addition_of write.now).id) (addition_of write.now)) }
     ensures lawful { OnOk result (IsLawfulAddition (addition_of write.now)) }
     ensures inside { HasCleanDisk (state S.Store tx.new.conn.now) → OnOk result ((state S.Store tx.new.conn.now).in_transaction ≡ true) }
     ensures err { IfErr result (IsUnwritten (IsSound S.Store (λ _. ⊤) tx.old.conn.now tx.new.conn.now)) }
     ensures looks { LooksInside S.Store tx.old.conn.now tx.new.conn.now }
     ensures asks { AsksInside S.Store tx.old.conn.now tx.new.conn.now }
 {
-    let mut history = read_document(alloc, tx, db, write.id.as_str().as_bytes())?;
-    add_write(alloc, tx, db, sequence, &mut history, write)?;
+    let history = read_document(alloc, tx, db, write.id.as_str().as_bytes())?;
+    Ok(write_known(alloc, tx, db, sequence, history, write)?)
+}
+
+/// Puts the history of a document in.
+fn put_history(
+    alloc: Global,
+    histories: &mut BTreeMap<DocId, History>,
+    id: &DocId,
+    history: History,
+) -> Got<()>
+    ensures { OnOk result (IsWith histories.old id.now history histories.new) }
+{
+    drop(histories.insert(id.copy(alloc)?, history)?);
+    Ok(())
+}
+
+/// Writes a document under this sequence, in a transaction. Its history is taken from those that were
+/// read, or else read, and put back as it is after the write.
+fn write_document<S: Alter>(
+    alloc: Global,
+    tx: &mut Transaction<'_, S>,
+    db: &i64,
+    sequence: &i64,
+    histories: &mut BTreeMap<DocId, History>,
+    write: &Write,
+) -> Result<(), WriteFault>
+    ensures same_reference { tx.new.conn.ghost_name ≡ tx.old.conn.ghost_name }
+    ensures ok { (r : Row) → HasCleanDisk (state S.Store tx.new.conn.now) → IsStore (state S.Store tx.old.conn.now).now
+        → AreStored histories.old (history_in ((state S.Store tx.old.conn.now).now.trees revs_tree) db.now)
+        → db.now ≡ number_of r → sequence.now ≡ pos (length_of r + 1)
+        → OnOk result (IsWrite r (written_in (history_in ((state S.Store tx.old.conn.now).now.trees revs_tree) (number_of r) (addition_of write.now).id) (addition_of write.now))
+        (state S.Store tx.old.conn.now).now (state S.Store tx.new.conn.now).now) }
+    ensures after { HasCleanDisk (state S.Store tx.new.conn.now) → IsStore (state S.Store tx.old.conn.now).now
+        → AreStored histories.old (history_in ((state S.Store tx.old.conn.now).now.trees revs_tree) db.now)
+        → OnOk result (IsWith histories.old (addition_of write.now).id
+        (with_addition (history_in ((state S.Store tx.old.conn.now).now.trees revs_tree) db.now (addition_of write.now).id) (addition_of write.now)) histories.new) }
+    ensures lawful { OnOk result (IsLawfulAddition (addition_of write.now)) }
+    ensures inside { HasCleanDisk (state S.Store tx.new.conn.now) → OnOk result ((state S.Store tx.new.conn.now).in_transaction ≡ true) }
+    ensures err { IfErr result (IsUnwritten (IsSound S.Store (λ _. ⊤) tx.old.conn.now tx.new.conn.now)) }
+    ensures looks { LooksInside S.Store tx.old.conn.now tx.new.conn.now }
+    ensures asks { AsksInside S.Store tx.old.conn.now tx.new.conn.now }
+{
+    if let Some(history) = histories.remove(&write.id) {
+        let history = write_known(alloc, tx, db, sequence, history, write)?;
+        put_history(alloc, histories, &write.id, history)?;
+        return Ok(());
+    }
+    let history = write_unread(alloc, tx, db, sequence, write)?;
+    put_history(alloc, histories, &write.id, history)?;
     Ok(())
 }
 
@@ -96,9 +174,10 @@ fn write_all<S: Alter>(
     ensures inside { HasCleanDisk (state S.Store tx.new.conn.now) → (state S.Store tx.old.conn.now).in_transaction ≡ true → OnOk result ((state S.Store tx.new.conn.now).in_transaction ≡ true) }
     ensures asks { AsksInside S.Store tx.old.conn.now tx.new.conn.now }
 {
+    let mut histories = BTreeMap::new(alloc);
     for (i, write) in writes.iter().enumerate() {
         let next = integer_of(sequence + i as u64 + 1);
-        write_document(alloc, tx, db, &next, write)?;
+        write_document(alloc, tx, db, &next, &mut histories, write)?;
     }
     Ok(())
 }

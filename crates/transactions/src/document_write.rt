@@ -10,6 +10,7 @@ ghost use Rattle.sqlite.specs.State.{HasCleanDisk};
 ghost use Rattle.sqlite.specs.Values.{or_null};
 ghost use Rattle.sqlite_value.specs.declared.value.Value.TheVariants.{Text};
 ghost use Rattle.tables.specs.Calls.{Proceeds, Stays};
+ghost use Rattle.store.specs.Plain.{with_addition};
 ghost use Rattle.store.specs.Writing.{addition_of, written_in};
 ghost use Rattle.sqlite_value.specs.Order.{Row};
 ghost use Rattle.tables.specs.Edits.{IsWrite};
@@ -269,6 +270,7 @@ pub(crate) fn add_write<S: Alter>(
         → history.old ≡ history_in ((state S.Store tx.old.conn.now).now.trees revs_tree) (number_of r) (addition_of write.now).id
         → db.now ≡ number_of r → sequence.now ≡ pos (length_of r + 1)
         → OnOk result (IsWrite r (written_in history.old (addition_of write.now)) (state S.Store tx.old.conn.now).now (state S.Store tx.new.conn.now).now) }
+    ensures after { OnOk result (history.new ≡ with_addition history.old (addition_of write.now)) }
     ensures lawful { OnOk result (IsLawfulAddition (addition_of write.now)) }
     ensures inside { Stays S.Store tx.old.conn.now tx.new.conn.now result }
     ensures proceeds { Proceeds S.Store tx.old.conn.now tx.new.conn.now }

@@ -1,8 +1,10 @@
 //! Why writes were not done.
 
 ghost use Rattle.std.specs.Prelude.{◌≡◌};
+ghost use Rattle.store.specs.declared.fault.StoreFault.TheVariants.{Memory};
 ghost use Rattle.transactions.specs.declared.write_fault.WriteFault.TheVariants as fault;
 
+use couch_json::NoMemory;
 use sqlite::Error;
 use store::StoreFault;
 
@@ -28,5 +30,13 @@ impl From<StoreFault> for WriteFault {
 
     fn from(fault: StoreFault) -> WriteFault {
         WriteFault::Store(fault)
+    }
+}
+
+impl From<NoMemory> for WriteFault {
+    ghost from_gives = { λ _ made. made ≡ fault.Store Memory };
+
+    fn from(_no_memory: NoMemory) -> WriteFault {
+        WriteFault::Store(StoreFault::Memory)
     }
 }

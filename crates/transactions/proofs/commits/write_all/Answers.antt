@@ -12,6 +12,7 @@ use Rattle.tables.proofs.Stays.{keeps_itself}
 use Rattle.transactions.specs.Commits.{AreDue, IsSound, IsUnwritten}
 use Rattle.transactions.specs.declared.write_fault.WriteFault.{WriteFault}
 use Rattle.transactions.proofs.Committing.{asks_itself, asks_then, further, unwritten_of}
+use Rattle.transactions.proofs.HeldHistories.{none_stored, stored_further}
 use Rattle.transactions.proofs.commits.write_all.Goals as goal
 
 pub loop-i-init : goal.loop-i-init
@@ -21,7 +22,7 @@ loop-i-init g c =
       same = refl;
       asks = asks_itself old;
       inside = λ clean within. within;
-      so_far = λ name clean store due. (none_written old.now name due.row store due.first, keeps_itself old);
+      so_far = λ name clean store due. (none_written old.now name due.row store due.first, keeps_itself old, none_stored c.new-histories.result _ c.new-histories.ensures.empty);
     }
 
 pub loop-i-preserved : goal.loop-i-preserved
@@ -37,10 +38,15 @@ loop-i-preserved g c =
       inside = λ clean within. e.inside clean;
       so_far = λ name clean store due.
           let was : HasCleanDisk mid = omega (arith, e.asks.survives.clean, clean) in
-          let before = inv.so_far name was store due in (
-            further c.args.writes.now c.loop-i.i c.index-writes-i.result name c.args.db.now c.args.sequence _ old.now mid.now new.now c.loop-i-test.true c.index-writes-i.is c.requires (to_z-of_z {w = w64} {z = c.integer_of-next.result} (record { sfits = c.integer_of-next.type_inv }) ∙ c.integer_of-next.ensures) due before.0 e.lawful
-                (λ r numbered at. e.ok r clean before.0.store numbered at),
+          let before = inv.so_far name was store due in
+          let done =
+          further c.args.writes.now c.loop-i.i c.index-writes-i.result name c.args.db.now c.args.sequence _ old.now mid.now new.now c.loop-i-test.true c.index-writes-i.is c.requires
+          (to_z-of_z {w = w64} {z = c.integer_of-next.result} (record { sfits = c.integer_of-next.type_inv }) ∙ c.integer_of-next.ensures) due before.0 e.lawful
+          (λ r numbered at. e.ok r clean before.0.store before.2 numbered at) in (
+            done,
             keeps_then old mid new before.1 ((e.looks before.0.store.schema_is).kept clean),
+            stored_further c.args.writes.now c.loop-i.i c.index-writes-i.result name c.args.db.now due.row old.now mid.now new.now c.loop-i.histories c.write_document.new.histories c.loop-i-test.true c.index-writes-i.is due.numbered
+                before.0 done before.2 (e.after clean before.0.store before.2),
           );
     }
 

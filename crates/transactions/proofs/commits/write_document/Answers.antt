@@ -1,19 +1,12 @@
-use Rattle.std.proofs.Common.{◌≡◌, ◌∙◌, arith}
-use Rattle.sqlite.specs.Held.{state}
-use Rattle.sqlite.specs.State.{HasCleanDisk}
+use Rattle.std.proofs.Common.{◌∙◌, ap, sym}
+use Rattle.store.specs.Plain.{with_addition}
 use Rattle.store.specs.Writing.{addition_of}
-use Rattle.tables.specs.Rows.{number_of}
-use Rattle.tables.specs.Schema.{revs_tree}
-use Rattle.transactions.proofs.Committing.{document_written, history_of}
+use Rattle.transactions.proofs.HeldHistories.{put_again}
 use Rattle.transactions.proofs.commits.write_document.Goals as goal
 
-pub returns-clause-ok : goal.returns-clause-ok
-returns-clause-ok g c r clean store numbered at =
-    let old = state g.S.Store c.args.tx.now.conn.now in
-    let mid = state g.S.Store c.read_document.new.tx.conn.now in
-    let new = state g.S.Store c.add_write.new.tx.conn.now in
+pub returns-in-Some-clause-after : goal.returns-in-Some-clause-after
+returns-in-Some-clause-after g c clean store stored =
     let a = addition_of c.args.write.now in
-    let was : HasCleanDisk mid = omega (arith, c.in_ok-add_write.ensures.proceeds.survives.clean, clean) in
-    let same : mid.now ≡ old.now = (c.in_ok-history.ensures.stands store.schema_is was).0.now_is in
-    let known = history_of (old.now.trees revs_tree) c.args.db.now (number_of r) c.as_bytes.result.now a.id c.in_ok-history.history numbered (c.as_bytes.ensures.value ∙ c.as_str.ensures.text) (c.in_ok-history.ensures.ok was store) in
-    document_written r c.in_ok-history.history a old.now mid.now new.now same store known (λ is knows. c.in_ok-add_write.ensures.ok r clean is knows numbered at)
+    let known = stored a.id c.in-Some.history (sym c.remove.ensures.value ∙ c.in-Some.is) in
+    put_again c.args.histories.now c.remove.new.self c.put_history.new.histories a.id c.in_ok-history.history _ c.remove.ensures.updates.0 c.in_ok-put_history.ensures
+    (c.in_ok-history.ensures.after ∙ ap (λ h. with_addition h a) known)

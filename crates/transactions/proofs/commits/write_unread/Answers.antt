@@ -1,0 +1,19 @@
+use Rattle.std.proofs.Common.{◌≡◌, ◌∙◌, arith}
+use Rattle.sqlite.specs.Held.{state}
+use Rattle.sqlite.specs.State.{HasCleanDisk}
+use Rattle.store.specs.Writing.{addition_of}
+use Rattle.tables.specs.Rows.{number_of}
+use Rattle.tables.specs.Schema.{revs_tree}
+use Rattle.transactions.proofs.Committing.{document_written, history_of}
+use Rattle.transactions.proofs.commits.write_unread.Goals as goal
+
+pub returns-clause-ok : goal.returns-clause-ok
+returns-clause-ok g c r clean store numbered at =
+    let old = state g.S.Store c.args.tx.now.conn.now in
+    let mid = state g.S.Store c.read_document.new.tx.conn.now in
+    let new = state g.S.Store c.write_known.new.tx.conn.now in
+    let a = addition_of c.args.write.now in
+    let was : HasCleanDisk mid = omega (arith, c.in_ok-write_known.ensures.proceeds.survives.clean, clean) in
+    let same : mid.now ≡ old.now = (c.in_ok-history.ensures.stands store.schema_is was).0.now_is in
+    let known = history_of (old.now.trees revs_tree) c.args.db.now (number_of r) c.as_bytes.result.now a.id c.in_ok-history.history numbered (c.as_bytes.ensures.value ∙ c.as_str.ensures.text) (c.in_ok-history.ensures.ok was store) in
+    document_written r c.in_ok-history.history a old.now mid.now new.now same store known (λ is knows. c.in_ok-write_known.ensures.ok r clean is knows numbered at)
