@@ -17,12 +17,18 @@ use std::alloc::Global;
 use tree::Rev;
 
 /// What is asked of a document.
-#[derive(Drop)]
 pub struct DocumentQuery {
     /// Which revisions.
     pub asked: Asked,
     /// Whether with the revisions before each.
     pub revs: bool,
+}
+
+// Written out, so that callers do not prove again how each part is dropped.
+impl Drop for DocumentQuery {
+    fn drop(self) {
+        let DocumentQuery { asked: _, revs: _ } = self;
+    }
 }
 
 /// Which revisions of a document are asked for.

@@ -31,9 +31,15 @@ const ROUTES: [(&str, Page); 15] = [
 ];
 
 /// The router of the server: which page a path leads to.
-#[derive(Drop)]
 pub struct Routes {
     router: Router<Page>,
+}
+
+// Written out, so that callers do not prove again how each part is dropped.
+impl Drop for Routes {
+    fn drop(self) {
+        let Routes { router: _ } = self;
+    }
 }
 
 impl Model for Routes {

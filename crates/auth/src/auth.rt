@@ -14,11 +14,21 @@ use std::str;
 
 /// What a server knows of its users: the secret under which their tokens are made, and the names
 /// of its admins.
-#[derive(Drop)]
 pub struct Auth {
     alloc: Global,
     secret: Vec<u8>,
     admins: Vec<String>,
+}
+
+// Written out, so that callers do not prove again how each part is dropped.
+impl Drop for Auth {
+    fn drop(self) {
+        let Auth {
+            alloc: _,
+            secret: _,
+            admins: _,
+        } = self;
+    }
 }
 
 impl Model for Auth {

@@ -13,9 +13,19 @@ pub enum Ending {
 }
 
 /// What one piece of a stream brought.
-#[derive(Debug, Drop)]
+#[derive(Debug)]
 pub struct Cut {
     /// The requests whose last byte is in the piece, in order.
     pub requests: Vec<Request>,
     pub ending: Ending,
+}
+
+// Written out, so that callers do not prove again how each part is dropped.
+impl Drop for Cut {
+    fn drop(self) {
+        let Cut {
+            requests: _,
+            ending: _,
+        } = self;
+    }
 }

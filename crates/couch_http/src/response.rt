@@ -9,12 +9,23 @@ use std::marker::Model;
 /// A reply (RFC 9112, section 4), as it goes to the client, or as it was read from a server.
 ///
 /// Clauses see its status, its body and its bytes.
-#[derive(Debug, Drop)]
+#[derive(Debug)]
 pub struct Response {
     status: u16,
     /// Where the body begins.
     head_len: usize,
     text: ReplyText,
+}
+
+// Written out, so that callers do not prove again how each part is dropped.
+impl Drop for Response {
+    fn drop(self) {
+        let Response {
+            status: _,
+            head_len: _,
+            text: _,
+        } = self;
+    }
 }
 
 /// The bytes of a reply.

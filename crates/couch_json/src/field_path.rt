@@ -41,10 +41,17 @@ impl From<AllocError> for PathFault {
 ///
 /// It is read from the left. `\.` is a dot in a name, every other backslash is itself, and no
 /// name is empty (CouchDB manual, api/database/find, "Subfields").
-#[derive(Debug, Drop)]
+#[derive(Debug)]
 pub struct FieldPath {
     text: String,
     names: Vec<String>,
+}
+
+// Written out, so that callers do not prove again how each part is dropped.
+impl Drop for FieldPath {
+    fn drop(self) {
+        let FieldPath { text: _, names: _ } = self;
+    }
 }
 
 impl Model for FieldPath {

@@ -15,7 +15,6 @@ use std::alloc::Global;
 use tree::{DocId, IdFault};
 
 /// An index that is to be declared.
-#[derive(Drop)]
 pub struct Index {
     /// The id of the design document that declares it.
     pub design: DocId,
@@ -23,6 +22,17 @@ pub struct Index {
     pub name: String,
     /// Its fields, 1 to 8.
     pub fields: Vec<FieldPath>,
+}
+
+// Written out, so that callers do not prove again how each part is dropped.
+impl Drop for Index {
+    fn drop(self) {
+        let Index {
+            design: _,
+            name: _,
+            fields: _,
+        } = self;
+    }
 }
 
 impl Index {

@@ -15,7 +15,6 @@ use std::alloc::Global;
 /// A find: which documents are looked for, in which order, and which part of them is wanted.
 ///
 /// See the CouchDB manual, api/database/find.
-#[derive(Drop)]
 pub struct Query {
     /// What a document has to meet.
     pub selector: Selector,
@@ -27,6 +26,19 @@ pub struct Query {
     pub limit: u64,
     /// So many are left out, from the first.
     pub skip: u64,
+}
+
+// Written out, so that callers do not prove again how each part is dropped.
+impl Drop for Query {
+    fn drop(self) {
+        let Query {
+            selector: _,
+            sort: _,
+            descending: _,
+            limit: _,
+            skip: _,
+        } = self;
+    }
 }
 
 impl Query {

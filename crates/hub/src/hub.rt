@@ -10,10 +10,19 @@ use store::Store;
 /// A node with its connections.
 ///
 /// In clauses it is a `HubState`: the node, and what has come of the next request on each connection.
-#[derive(Drop)]
 pub struct Hub<S: Store + Drop> {
     node: Node<S>,
     connections: Connections,
+}
+
+// Written out, so that callers do not prove again how each part is dropped.
+impl<S: Store + Drop> Drop for Hub<S> {
+    fn drop(self) {
+        let Hub {
+            node: _,
+            connections: _,
+        } = self;
+    }
 }
 
 impl<S: Store + Drop> Model for Hub<S> {
@@ -111,6 +120,10 @@ impl<S: Store + Drop> Hub<S> {
     pub fn into_node(self) -> Node<S>
         ensures { result ≡ self.node }
     {
-        self.node
+        let Hub {
+            node,
+            connections: _,
+        } = self;
+        node
     }
 }

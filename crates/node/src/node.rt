@@ -9,12 +9,23 @@ use store::Store;
 /// One node: a store, and whoever may use it.
 ///
 /// In clauses a node is its store, and what the server knows of its users.
-#[derive(Drop)]
 pub struct Node<S: Store + Drop> {
     alloc: Global,
     store: S,
     auth: Auth,
     routes: Routes,
+}
+
+// Written out, so that callers do not prove again how each part is dropped.
+impl<S: Store + Drop> Drop for Node<S> {
+    fn drop(self) {
+        let Node {
+            alloc: _,
+            store: _,
+            auth: _,
+            routes: _,
+        } = self;
+    }
 }
 
 impl<S: Store + Drop> Model for Node<S> {
@@ -68,6 +79,12 @@ impl<S: Store + Drop> Node<S> {
     pub fn into_store(self) -> S
         ensures { result ≡ self.store }
     {
-        self.store
+        let Node {
+            alloc: _,
+            store,
+            auth: _,
+            routes: _,
+        } = self;
+        store
     }
 }

@@ -36,9 +36,15 @@ impl From<NoMemory> for SecurityFault {
 /// The security object of a database: who its admins and its members are, by name and by role.
 ///
 /// See the CouchDB manual, api/database/security.
-#[derive(Drop)]
 pub struct Security {
     json: Json,
+}
+
+// Written out, so that callers do not prove again how each part is dropped.
+impl Drop for Security {
+    fn drop(self) {
+        let Security { json: _ } = self;
+    }
 }
 
 impl Model for Security {

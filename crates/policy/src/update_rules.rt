@@ -15,10 +15,16 @@ use tree::DocId;
 /// A rule is the `validate_doc_update` of a design document: a selector, which has to be true of
 /// the [`argument`](crate::argument) of each write. What is no selector is a rule that no write
 /// meets. See the CouchDB manual, ddocs/ddocs.
-#[derive(Drop)]
 pub struct RuleSet {
     alloc: Global,
     rules: BTreeMap<DocId, Option<Selector>>,
+}
+
+// Written out, so that callers do not prove again how each part is dropped.
+impl Drop for RuleSet {
+    fn drop(self) {
+        let RuleSet { alloc: _, rules: _ } = self;
+    }
 }
 
 impl Model for RuleSet {

@@ -18,12 +18,18 @@ use store::{DbName, Store};
 use tree::{DocId, History, IdFault, Rev};
 
 /// Revisions of one document that a client asks about.
-#[derive(Drop)]
 pub struct AskedRevisions {
     /// The document's id; any text may be one.
     pub id: String,
     /// The revisions, in order; one may stand there twice.
     pub revs: Vec<Rev>,
+}
+
+// Written out, so that callers do not prove again how each part is dropped.
+impl Drop for AskedRevisions {
+    fn drop(self) {
+        let AskedRevisions { id: _, revs: _ } = self;
+    }
 }
 
 /// Tells which of these revisions a database doesn't know: an object from ids to

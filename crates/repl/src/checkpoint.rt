@@ -30,11 +30,21 @@ pub struct KeptSession {
 }
 
 /// The last session, its sequence, and the sessions, newest first.
-#[derive(Drop)]
 pub struct KeptCheckpoint {
     pub session: String,
     pub sequence: Count,
     pub history: Vec<KeptSession>,
+}
+
+// Written out, so that callers do not prove again how each part is dropped.
+impl Drop for KeptCheckpoint {
+    fn drop(self) {
+        let KeptCheckpoint {
+            session: _,
+            sequence: _,
+            history: _,
+        } = self;
+    }
 }
 
 /// Reads the checkpoint that a document says, if it says one.

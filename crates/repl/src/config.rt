@@ -1,6 +1,6 @@
 /// The user in whose name a pass asks, as an authenticating proxy names it (CouchDB manual,
 /// api/server/authn, "Proxy Authentication").
-#[derive(Debug, Drop)]
+#[derive(Debug)]
 pub struct User {
     /// The user's name.
     pub name: String,
@@ -10,8 +10,19 @@ pub struct User {
     pub token: String,
 }
 
+// Written out, so that callers do not prove again how each part is dropped.
+impl Drop for User {
+    fn drop(self) {
+        let User {
+            name: _,
+            roles: _,
+            token: _,
+        } = self;
+    }
+}
+
 /// Says what a pass copies, and in whose name.
-#[derive(Debug, Drop)]
+#[derive(Debug)]
 pub struct Config {
     /// The text that names the source in the checkpoint's id.
     pub source: String,
@@ -25,4 +36,18 @@ pub struct Config {
     pub user: Option<User>,
     /// The name of this session, which the checkpoints keep.
     pub session: String,
+}
+
+// Written out, so that callers do not prove again how each part is dropped.
+impl Drop for Config {
+    fn drop(self) {
+        let Config {
+            source: _,
+            source_db: _,
+            target: _,
+            target_db: _,
+            user: _,
+            session: _,
+        } = self;
+    }
 }

@@ -35,7 +35,6 @@ use std::alloc::Global;
 use std::collections::VecDeque;
 
 /// A pass of replication: it says what to ask, and takes the replies in.
-#[derive(Drop)]
 pub struct Replication {
     alloc: Global,
     config: Config,
@@ -53,6 +52,29 @@ pub struct Replication {
     sent: Count,
     refused: Vec<Json>,
     losses: u32,
+}
+
+// Written out, so that callers do not prove again how each part is dropped.
+impl Drop for Replication {
+    fn drop(self) {
+        let Replication {
+            alloc: _,
+            config: _,
+            phase: _,
+            older: _,
+            source_revision: _,
+            target_revision: _,
+            since: _,
+            start_seq: _,
+            last_seq: _,
+            leaves: _,
+            pending: _,
+            documents: _,
+            sent: _,
+            refused: _,
+            losses: _,
+        } = self;
+    }
 }
 
 impl Replication {

@@ -17,10 +17,16 @@ use tree::{DocId, History};
 
 /// A store over tables in memory, which began without databases. Memory returns what was written, so
 /// what it answers is so without a premise.
-#[derive(Drop)]
 pub struct MemoryStore {
     store: SqlStore<MemStore>,
     ghost honest: { model.is_honest over_memory store },
+}
+
+// Written out, so that callers do not prove again how each part is dropped.
+impl Drop for MemoryStore {
+    fn drop(self) {
+        let MemoryStore { store: _ } = self;
+    }
 }
 
 impl MemoryStore {

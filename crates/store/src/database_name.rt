@@ -38,9 +38,16 @@ impl From<AllocError> for NameFault {
 /// The name of a database: a lower-case letter followed by `a-z 0-9 _ $ ( ) + -`, at most 64 bytes.
 ///
 /// See the CouchDB manual, api/database/common.
-#[derive(Debug, Drop)]
+#[derive(Debug)]
 pub struct DbName {
     text: String,
+}
+
+// Written out, so that callers do not prove again how each part is dropped.
+impl Drop for DbName {
+    fn drop(self) {
+        let DbName { text: _ } = self;
+    }
 }
 
 impl Model for DbName {

@@ -15,12 +15,23 @@ use tree::{DocId, History};
 ///
 /// A call that fails is counted, answers `Failed` and changes nothing. Each other one is made on the
 /// store below, but for a commit to the full database, which is refused as `Full`.
-#[derive(Drop)]
 pub struct FailingStore<S: Store + Drop> {
     store: S,
     calls_left: u64,
     failures: u64,
     full: Option<DbName>,
+}
+
+// Written out, so that callers do not prove again how each part is dropped.
+impl<S: Store + Drop> Drop for FailingStore<S> {
+    fn drop(self) {
+        let FailingStore {
+            store: _,
+            calls_left: _,
+            failures: _,
+            full: _,
+        } = self;
+    }
 }
 
 impl<S: Store + Drop> FailingStore<S> {

@@ -88,10 +88,16 @@ pub struct KeyRange {
 ///
 /// Rows go by their keys (CouchDB manual, ddocs/views/collation), and by the bytes of the ids where
 /// keys tie.
-#[derive(Drop)]
 pub struct KeyRow {
     key: IndexKey,
     id: DocId,
+}
+
+// Written out, so that callers do not prove again how each part is dropped.
+impl Drop for KeyRow {
+    fn drop(self) {
+        let KeyRow { key: _, id: _ } = self;
+    }
 }
 
 impl Model for KeyRow {
@@ -181,11 +187,17 @@ impl PartialOrd for KeyRow {
 /// A part of the rows of an index.
 ///
 /// See the CouchDB manual, api/ddoc/views.
-#[derive(Drop)]
 pub struct PageByKey {
     /// The rows, in the direction asked for.
     pub rows: Vec<KeyRow>,
     /// Where they stand in the whole index, where that was asked for: `offset` rows come before the
     /// first of them, and it has `total`.
     pub counts: Option<RowCounts>,
+}
+
+// Written out, so that callers do not prove again how each part is dropped.
+impl Drop for PageByKey {
+    fn drop(self) {
+        let PageByKey { rows: _, counts: _ } = self;
+    }
 }

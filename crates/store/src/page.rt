@@ -15,7 +15,6 @@ pub struct SeqRange {
 }
 
 /// A row of a listing by sequence: a document at the sequence of its latest write.
-#[derive(Drop)]
 pub struct SeqRow {
     /// The sequence, counted from 1.
     pub sequence: u64,
@@ -25,6 +24,18 @@ pub struct SeqRow {
     pub revs: Vec<Rev>,
     /// Whether its winner is deleted.
     pub deleted: bool,
+}
+
+// Written out, so that callers do not prove again how each part is dropped.
+impl Drop for SeqRow {
+    fn drop(self) {
+        let SeqRow {
+            sequence: _,
+            id: _,
+            revs: _,
+            deleted: _,
+        } = self;
+    }
 }
 
 /// How many documents a database has.
@@ -39,7 +50,6 @@ pub struct DocumentCounts {
 /// A part of the listing of a database by sequence.
 ///
 /// See the CouchDB manual, api/database/changes and api/database/common.
-#[derive(Drop)]
 pub struct PageBySeq {
     /// The rows, ascending.
     pub rows: Vec<SeqRow>,
@@ -50,6 +60,18 @@ pub struct PageBySeq {
     pub sequence: u64,
     /// How many documents the whole database has, where that was asked for.
     pub counts: Option<DocumentCounts>,
+}
+
+// Written out, so that callers do not prove again how each part is dropped.
+impl Drop for PageBySeq {
+    fn drop(self) {
+        let PageBySeq {
+            rows: _,
+            last_seq: _,
+            sequence: _,
+            counts: _,
+        } = self;
+    }
 }
 
 /// Which rows of a listing by id are wanted.
@@ -72,12 +94,18 @@ pub struct IdRange {
 }
 
 /// A row of a listing by id: a document whose winner is not deleted.
-#[derive(Drop)]
 pub struct IdRow {
     /// The document.
     pub id: DocId,
     /// Its winner.
     pub rev: Rev,
+}
+
+// Written out, so that callers do not prove again how each part is dropped.
+impl Drop for IdRow {
+    fn drop(self) {
+        let IdRow { id: _, rev: _ } = self;
+    }
 }
 
 /// Where a page stands in the whole listing by id.
@@ -92,10 +120,16 @@ pub struct RowCounts {
 /// A part of the listing of a database by id, in the order of bytes.
 ///
 /// See the CouchDB manual, api/database/bulk-api.
-#[derive(Drop)]
 pub struct PageById {
     /// The rows, in the direction asked for.
     pub rows: Vec<IdRow>,
     /// Where they stand in the whole listing, where that was asked for.
     pub counts: Option<RowCounts>,
+}
+
+// Written out, so that callers do not prove again how each part is dropped.
+impl Drop for PageById {
+    fn drop(self) {
+        let PageById { rows: _, counts: _ } = self;
+    }
 }

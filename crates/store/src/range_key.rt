@@ -4,9 +4,16 @@ ghost use Rattle.std.specs.Coded.{coded_list, coded_ℕ};
 use std::marker::Model;
 
 /// A text that a range of ids starts or ends at. Any text may be one, also one that is no id.
-#[derive(Debug, Drop)]
+#[derive(Debug)]
 pub struct RangeKey {
     text: String,
+}
+
+// Written out, so that callers do not prove again how each part is dropped.
+impl Drop for RangeKey {
+    fn drop(self) {
+        let RangeKey { text: _ } = self;
+    }
 }
 
 impl Model for RangeKey {

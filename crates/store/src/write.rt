@@ -5,7 +5,6 @@ use tree::{DocId, Rev};
 ///
 /// It names what is new, and the known revision that this follows; the store knows what stands
 /// behind that one.
-#[derive(Drop)]
 pub struct Write {
     /// The document.
     pub id: DocId,
@@ -19,4 +18,17 @@ pub struct Write {
     pub deleted: bool,
     /// The body, without special members.
     pub body: Json,
+}
+
+// Written out, so that callers do not prove again how each part is dropped.
+impl Drop for Write {
+    fn drop(self) {
+        let Write {
+            id: _,
+            path: _,
+            parent: _,
+            deleted: _,
+            body: _,
+        } = self;
+    }
 }

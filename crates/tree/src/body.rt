@@ -3,9 +3,15 @@ use std::alloc::Global;
 use std::marker::Model;
 
 /// The body of a document: a JSON value, which clauses see as the pure value.
-#[derive(Drop)]
 pub struct Body {
     json: Json,
+}
+
+// Written out, so that callers do not prove again how each part is dropped.
+impl Drop for Body {
+    fn drop(self) {
+        let Body { json: _ } = self;
+    }
 }
 
 impl Model for Body {

@@ -39,9 +39,16 @@ impl From<AllocError> for IdFault {
 /// It begins with `_` only as `_design/` (a design document) or `_local/` (a document that is
 /// neither listed nor replicated), followed by at least one byte. See the CouchDB manual,
 /// api/document/common.
-#[derive(Debug, Drop)]
+#[derive(Debug)]
 pub struct DocId {
     text: String,
+}
+
+// Written out, so that callers do not prove again how each part is dropped.
+impl Drop for DocId {
+    fn drop(self) {
+        let DocId { text: _ } = self;
+    }
 }
 
 impl Model for DocId {

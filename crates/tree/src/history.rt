@@ -19,7 +19,6 @@ use std::marker::Model;
 /// It has the content of the writes that it took in, in their order. Several roots are allowed;
 /// a revision that only came inside a path has no body. See the CouchDB manual,
 /// replication/conflicts.
-#[derive(Drop)]
 pub struct History {
     alloc: Global,
     /// The known revisions, each with its entry.
@@ -28,6 +27,18 @@ pub struct History {
     parents: BTreeSet<Rev>,
     /// How many leaves are not deleted.
     live: usize,
+}
+
+// Written out, so that callers do not prove again how each part is dropped.
+impl Drop for History {
+    fn drop(self) {
+        let History {
+            alloc: _,
+            nodes: _,
+            parents: _,
+            live: _,
+        } = self;
+    }
 }
 
 impl Model for History {

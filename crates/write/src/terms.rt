@@ -20,7 +20,6 @@ use store::{DbName, IdRange, IdRow, RangeKey, Store};
 use tree::{DocId, History};
 
 /// The terms on which a caller writes into a database, as a request finds it.
-#[derive(Drop)]
 pub struct Terms<'a> {
     /// Who writes.
     pub caller: &'a Caller,
@@ -30,6 +29,18 @@ pub struct Terms<'a> {
     pub security: Security,
     /// Its update rules: those of the design documents whose winner is not deleted.
     pub rules: RuleSet,
+}
+
+// Written out, so that callers do not prove again how each part is dropped.
+impl Drop for Terms<'_> {
+    fn drop(self) {
+        let Terms {
+            caller: _,
+            name: _,
+            security: _,
+            rules: _,
+        } = self;
+    }
 }
 
 /// Reads the terms on which a caller writes. Nothing changes.
