@@ -1,6 +1,6 @@
-use crate::texts::answer;
+use crate::texts::say;
 use auth::{Auth, AuthFault, Caller};
-use rows::{Joint, Kind, RowsFault};
+use rows::{Joint, Kind, RowsFault, push_all};
 use std::alloc::Global;
 
 /// Header lines: the caller that they name, as `NAME` or `NAME with ROLE; ROLE`, `anonymous`, or
@@ -60,35 +60,32 @@ fn refusal_of(fault: AuthFault) -> RowsFault {
 }
 
 /// Returns the headers of lines.
-fn headers_of(alloc: Global, lines: &[u8]) -> Result<Vec<(Vec<u8>, Vec<u8>)>, RowsFault> {
+fn headers_of(alloc: Global, lines: &[u8]) -> Result<Vec<(&[u8], &[u8])>, RowsFault> {
     let mut headers = Vec::new(alloc);
     for line in lines.split(|byte| *byte == b'\n') {
-        headers.push(header_of(alloc, line)?)?;
+        headers.push(header_of(line))?;
     }
     Ok(headers)
 }
 
 /// Returns the name and the value of a header line: what stands before and behind `: `.
-fn header_of(alloc: Global, line: &[u8]) -> Result<(Vec<u8>, Vec<u8>), RowsFault> {
+fn header_of(line: &[u8]) -> (&[u8], &[u8]) {
     let mut parts = line.splitn(2, |byte| *byte == b':');
     let name = parts.next().unwrap_or(b"");
     let value = parts.next().unwrap_or(b"");
-    let value = value.strip_prefix(b" ").unwrap_or(value);
-    Ok((
-        Vec::from_slice(alloc, name)?,
-        Vec::from_slice(alloc, value)?,
-    ))
+    (name, value.strip_prefix(b" ").unwrap_or(value))
 }
 
 /// Answers with a caller as its name and its roles.
 fn show(alloc: Global, caller: &Caller) -> Result<Vec<u8>, RowsFault> {
     let Some(name) = caller.name() else {
-        return answer(alloc, "anonymous");
+        return say(alloc, "anonymous");
     };
     let mut text = String::from_str(alloc, name)?;
-    for (place, role) in caller.roles().iter().enumerate() {
-        text.push_str(if place == 0 { " with " } else { "; " })?;
-        text.push_str(role.as_str())?;
+    let mut sign = " with ";
+    for role in caller.roles() {
+        push_all(&mut text, &[sign, role.as_str()])?;
+        sign = "; ";
     }
     Ok(text.into_bytes())
 }

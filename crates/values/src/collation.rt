@@ -1,4 +1,4 @@
-use crate::texts::{answer, text_of, value_of};
+use crate::texts::{say, text_of, value_of};
 use couch_json::{Json, collate};
 use rows::{Kind, RowsFault};
 use std::alloc::Global;
@@ -41,6 +41,6 @@ impl Kind for Ascending {
         let value = value_of(self.alloc, text_of(question))?;
         let is_behind = self.is_behind_all(&value);
         self.above.push(value)?;
-        answer(self.alloc, if is_behind { "after" } else { "not after" })
+        say(self.alloc, if is_behind { "after" } else { "not after" })
     }
 }

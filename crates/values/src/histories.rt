@@ -1,4 +1,4 @@
-use crate::texts::{answer, edit_of, first_word, text_of, value_of};
+use crate::texts::{edit_of, first_word, say, text_of, value_of};
 use couch_json::canon;
 use rows::{Kind, RowsFault};
 use std::alloc::Global;
@@ -31,7 +31,7 @@ impl Histories {
         let path = path_of(self.alloc, path)?;
         let body = value_of(self.alloc, body)?;
         match self.history.insert(&path, deleted, &body) {
-            Ok(placed) => answer(self.alloc, name_of(placed)),
+            Ok(placed) => say(self.alloc, name_of(placed)),
             Err(fault) => Err(refusal_of(fault)),
         }
     }
@@ -40,7 +40,7 @@ impl Histories {
     fn winner(&self) -> Result<Vec<u8>, RowsFault> {
         match self.history.winner() {
             Some(rev) => Ok(rev.text(self.alloc)?.into_bytes()),
-            None => answer(self.alloc, "none"),
+            None => say(self.alloc, "none"),
         }
     }
 
@@ -57,7 +57,7 @@ impl Histories {
     fn chain(&self, rev: &Rev) -> Result<Vec<u8>, RowsFault> {
         match self.history.chain(rev)? {
             Some(path) => show(self.alloc, &path),
-            None => answer(self.alloc, "none"),
+            None => say(self.alloc, "none"),
         }
     }
 
@@ -89,7 +89,7 @@ impl Histories {
         match verb {
             "chain" => self.chain(&rev),
             "body" => self.body(&rev),
-            "state" => answer(self.alloc, self.state(&rev)),
+            "state" => say(self.alloc, self.state(&rev)),
             _ => Err(RowsFault::Refused("insert, winner, leaves, chain, body or state")),
         }
     }

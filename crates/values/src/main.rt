@@ -10,6 +10,7 @@ mod json;
 mod numbers;
 mod paths;
 mod pieces;
+mod plain;
 mod received;
 mod replies;
 mod revisions;
@@ -64,23 +65,16 @@ fn play_file(alloc: Global, name: &str, text: &str, report: &mut Report) -> Resu
         Some((_, ending)) => ending,
         None => "",
     };
+    if let Some(mut kind) = plain::PlainRows::of_ending(alloc, ending) {
+        return play(alloc, name, text, &mut kind, report);
+    }
     match ending {
         "callers" => play_as(alloc, name, text, callers::Callers::new(alloc), report),
         "collation" => play_as(alloc, name, text, collation::Ascending::new(alloc), report),
         "histories" => play_as(alloc, name, text, histories::Histories::new(alloc), report),
-        "ids" => play_as(alloc, name, text, ids::Ids { alloc }, report),
-        "json" => play_as(alloc, name, text, json::Texts { alloc }, report),
-        "numbers" => play_as(alloc, name, text, numbers::Numbers { alloc }, report),
-        "paths" => play_as(alloc, name, text, paths::Paths { alloc }, report),
-        "received" => play_as(alloc, name, text, received::Received { alloc }, report),
-        "replies" => play_as(alloc, name, text, replies::Replies { alloc }, report),
         "revisions" => play_as(alloc, name, text, revisions::Revisions::new(alloc), report),
         "rules" => play_as(alloc, name, text, rules::Rules::new(alloc), report),
         "security" => play_as(alloc, name, text, security::Verdicts::new(alloc), report),
-        "selectors" => play_as(alloc, name, text, selectors::Selectors { alloc }, report),
-        "sent" => play_as(alloc, name, text, sent::Sent { alloc }, report),
-        "stream" => play_as(alloc, name, text, streams::Streams { alloc }, report),
-        "tokens" => play_as(alloc, name, text, tokens::Tokens { alloc }, report),
         _ => report.object(name, 1, "no kind of rows has this ending"),
     }
 }

@@ -1,21 +1,16 @@
-use crate::texts::{answer, text_of};
+//! `NUMBER`: `number` where a JSON value may hold it, else `none`.
+
+use crate::texts::{say, text_of};
 use couch_json::Number;
-use rows::{Kind, RowsFault};
+use rows::RowsFault;
 use std::alloc::Global;
 
-/// `NUMBER`: `number` where a JSON value may hold it, else `none`.
-#[derive(Drop)]
-pub struct Numbers {
-    pub alloc: Global,
-}
-
-impl Kind for Numbers {
-    fn answer(&mut self, question: &[u8]) -> Result<Vec<u8>, RowsFault> {
-        let Ok(wanted) = text_of(question).parse::<i128>() else {
-            return Err(RowsFault::Refused("not a number of 128 bits"));
-        };
-        answer(self.alloc, name_of(wanted))
-    }
+/// Answers whether a JSON value may hold a number.
+pub fn answer(alloc: Global, question: &[u8]) -> Result<Vec<u8>, RowsFault> {
+    let Ok(wanted) = text_of(question).parse::<i128>() else {
+        return Err(RowsFault::Refused("not a number of 128 bits"));
+    };
+    say(alloc, name_of(wanted))
 }
 
 /// Tells whether a JSON value may hold a number.

@@ -1,23 +1,18 @@
+//! `VALUE at PATH`: what the path reaches in the value, `nothing`, or `Shape` where it is no path.
+
 use crate::texts::{canonical, text_of, value_of};
 use couch_json::{FieldPath, PathFault, at};
-use rows::{Kind, RowsFault};
+use rows::RowsFault;
 use std::alloc::Global;
 
-/// `VALUE at PATH`: what the path reaches in the value, `nothing`, or `Shape` where it is no path.
-#[derive(Drop)]
-pub struct Paths {
-    pub alloc: Global,
-}
-
-impl Kind for Paths {
-    fn answer(&mut self, question: &[u8]) -> Result<Vec<u8>, RowsFault> {
-        let (value, text) = parts_of(text_of(question));
-        let value = value_of(self.alloc, value)?;
-        let path = path_of(self.alloc, text)?;
-        match at(&value, &path) {
-            Some(found) => canonical(self.alloc, found),
-            None => Err(RowsFault::Refused("nothing")),
-        }
+/// Answers what a path reaches in a value.
+pub fn answer(alloc: Global, question: &[u8]) -> Result<Vec<u8>, RowsFault> {
+    let (value, text) = parts_of(text_of(question));
+    let value = value_of(alloc, value)?;
+    let path = path_of(alloc, text)?;
+    match at(&value, &path) {
+        Some(found) => canonical(alloc, found),
+        None => Err(RowsFault::Refused("nothing")),
     }
 }
 

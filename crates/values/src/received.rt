@@ -1,18 +1,14 @@
+//! Pieces of a stream that begins with a reply, one a line, written as in `.stream`.
+//! The answer has a line for each piece: `waits`, the reply as `STATUS BODY`, or the fault, `Syntax`,
+//! `Encoding`, `TooLarge` or `Closed`.
+//! A short stream is played byte by byte too, and in two pieces cut at each place, which has to come
+//! to the same.
+
 use crate::pieces::{join, pieces_of, single_bytes, two_pieces};
 use crate::texts::{spell, text_of};
 use couch_http::{HttpFault, ReplyCutter, Response};
-use rows::{Joint, Kind, RowsFault, push_all};
+use rows::{RowsFault, push_all};
 use std::alloc::Global;
-
-/// Pieces of a stream that begins with a reply, one a line, written as in `.stream`.
-/// The answer has a line for each piece: `waits`, the reply as `STATUS BODY`, or the fault, `Syntax`,
-/// `Encoding`, `TooLarge` or `Closed`.
-/// A short stream is played byte by byte too, and in two pieces cut at each place, which has to come
-/// to the same.
-#[derive(Drop)]
-pub struct Received {
-    pub alloc: Global,
-}
 
 /// Streams of more bytes are not cut at each place.
 const SHORT: usize = 300;
@@ -26,71 +22,75 @@ const WAITS: &str = "waits";
 /// What comes of a piece behind the end.
 const CLOSED: &str = "Closed";
 
-impl Received {
-    /// Plays pieces on a new cutter: a line for each.
-    fn play(&self, pieces: &[Vec<u8>]) -> Result<Vec<String>, RowsFault> {
-        let mut cutter = ReplyCutter::new(self.alloc);
-        let mut come = Vec::new(self.alloc);
-        let mut lines = Vec::new(self.alloc);
-        for piece in pieces {
-            come.extend_from_slice(piece)?;
-            lines.push(self.feed(&mut cutter, piece, &come)?)?;
-        }
-        Ok(lines)
-    }
+/// Answers what comes of each piece.
+pub fn answer(alloc: Global, question: &[u8]) -> Result<Vec<u8>, RowsFault> {
+    let pieces = pieces_of(alloc, text_of(question))?;
+    Ok(play_all(alloc, &pieces)?.into_bytes())
+}
 
-    /// Plays a piece, with which these bytes have come.
-    fn feed(
-        &self,
-        cutter: &mut ReplyCutter,
-        piece: &[u8],
-        come: &[u8],
-    ) -> Result<String, RowsFault> {
-        match cutter.feed(piece) {
-            Ok(None) => Ok(String::from_str(self.alloc, WAITS)?),
-            Ok(Some(reply)) => show_reply(self.alloc, &reply, come),
-            Err(HttpFault::Memory) => Err(RowsFault::Memory),
-            Err(fault) => Ok(String::from_str(self.alloc, name_of(fault))?),
-        }
+/// Plays pieces on a new cutter: a line for each.
+fn play(alloc: Global, pieces: &[Vec<u8>]) -> Result<Vec<String>, RowsFault> {
+    let mut cutter = ReplyCutter::new(alloc);
+    let mut come = Vec::new(alloc);
+    let mut lines = Vec::new(alloc);
+    for piece in pieces {
+        come.extend_from_slice(piece)?;
+        lines.push(feed(alloc, &mut cutter, piece, &come)?)?;
     }
+    Ok(lines)
+}
 
-    /// Plays the pieces and, where they are short, their bytes cut at each place.
-    fn play_all(&self, pieces: &[Vec<u8>]) -> Result<String, RowsFault> {
-        let lines = self.play(pieces)?;
-        let mut text = text_of_lines(self.alloc, &lines)?;
-        let bytes = join(self.alloc, pieces)?;
-        if bytes.len() <= SHORT {
-            self.put_others(&mut text, &bytes, end_of(&lines))?;
-        }
-        Ok(text)
+/// Plays a piece, with which these bytes have come.
+fn feed(
+    alloc: Global,
+    cutter: &mut ReplyCutter,
+    piece: &[u8],
+    come: &[u8],
+) -> Result<String, RowsFault> {
+    match cutter.feed(piece) {
+        Ok(None) => Ok(String::from_str(alloc, WAITS)?),
+        Ok(Some(reply)) => show_reply(alloc, &reply, come),
+        Err(HttpFault::Memory) => Err(RowsFault::Memory),
+        Err(fault) => Ok(String::from_str(alloc, name_of(fault))?),
     }
+}
 
-    /// Adds a line for each cut of bytes that comes to something else.
-    fn put_others(&self, text: &mut String, bytes: &[u8], end: &str) -> Result<(), RowsFault> {
-        for place in 0..bytes.len() {
-            let pieces = two_pieces(self.alloc, bytes, place)?;
-            let cut = format!(in self.alloc; "cut at {place}")?;
-            self.put_other(text, &pieces, end, cut.as_str())?;
-        }
-        let pieces = single_bytes(self.alloc, bytes)?;
-        self.put_other(text, &pieces, end, "byte by byte")
+/// Plays the pieces and, where they are short, their bytes cut at each place.
+fn play_all(alloc: Global, pieces: &[Vec<u8>]) -> Result<String, RowsFault> {
+    let lines = play(alloc, pieces)?;
+    let mut text = text_of_lines(alloc, &lines)?;
+    let bytes = join(alloc, pieces)?;
+    if bytes.len() <= SHORT {
+        put_others(alloc, &mut text, &bytes, end_of(&lines))?;
     }
+    Ok(text)
+}
 
-    /// Adds a line where pieces come to something else: how they are cut, and what they come to.
-    fn put_other(
-        &self,
-        text: &mut String,
-        pieces: &[Vec<u8>],
-        end: &str,
-        cut: &str,
-    ) -> Result<(), RowsFault> {
-        let lines = self.play(pieces)?;
-        let other = end_of(&lines);
-        if other == end {
-            return Ok(());
-        }
-        push_all(text, &["\n", cut, ": ", other])
+/// Adds a line for each cut of bytes that comes to something else.
+fn put_others(alloc: Global, text: &mut String, bytes: &[u8], end: &str) -> Result<(), RowsFault> {
+    for place in 0..bytes.len() {
+        let pieces = two_pieces(alloc, bytes, place)?;
+        let cut = format!(in alloc; "cut at {place}")?;
+        put_other(alloc, text, &pieces, end, cut.as_str())?;
     }
+    let pieces = single_bytes(alloc, bytes)?;
+    put_other(alloc, text, &pieces, end, "byte by byte")
+}
+
+/// Adds a line where pieces come to something else: how they are cut, and what they come to.
+fn put_other(
+    alloc: Global,
+    text: &mut String,
+    pieces: &[Vec<u8>],
+    end: &str,
+    cut: &str,
+) -> Result<(), RowsFault> {
+    let lines = play(alloc, pieces)?;
+    let other = end_of(&lines);
+    if other == end {
+        return Ok(());
+    }
+    push_all(text, &["\n", cut, ": ", other])
 }
 
 /// Returns what lines come to: the first that doesn't wait, behind which all is closed.
@@ -160,16 +160,5 @@ fn name_of(fault: HttpFault) -> &'static str {
         HttpFault::TooLarge => "TooLarge",
         HttpFault::Memory => "Memory",
         HttpFault::Closed => CLOSED,
-    }
-}
-
-impl Kind for Received {
-    fn joint(&self) -> Joint {
-        Joint::LineFeed
-    }
-
-    fn answer(&mut self, question: &[u8]) -> Result<Vec<u8>, RowsFault> {
-        let pieces = pieces_of(self.alloc, text_of(question))?;
-        Ok(self.play_all(&pieces)?.into_bytes())
     }
 }

@@ -1,4 +1,4 @@
-use crate::texts::{answer, edit_of, first_word, text_of, value_of};
+use crate::texts::{edit_of, first_word, say, text_of, value_of};
 use rows::{Kind, RowsFault};
 use std::alloc::Global;
 use std::cmp::Ordering;
@@ -43,7 +43,7 @@ impl Revisions {
         };
         let is_behind = is_behind_all(&self.above, &rev);
         self.above.push(rev)?;
-        answer(self.alloc, if is_behind { "after" } else { "not after" })
+        say(self.alloc, if is_behind { "after" } else { "not after" })
     }
 
     /// Answers with the revision of an edit.

@@ -1,5 +1,5 @@
 use crate::security::security_of;
-use crate::texts::{answer, canonical, edit_of, first_word, text_of, value_of};
+use crate::texts::{canonical, edit_of, first_word, say, text_of, value_of};
 use crate::users::Users;
 use couch_json::Json;
 use policy::{RuleSet, argument, check_design, show_new};
@@ -39,7 +39,7 @@ impl Rules {
     fn check(&self, body: &str) -> Result<Vec<u8>, RowsFault> {
         let body = value_of(self.alloc, body)?;
         let is_good = check_design(self.alloc, &body)?;
-        answer(self.alloc, if is_good { "good" } else { "bad" })
+        say(self.alloc, if is_good { "good" } else { "bad" })
     }
 
     /// Takes in a design document.
@@ -59,8 +59,8 @@ impl Rules {
         }
         let argument = self.argument_of(write)?;
         match rules.refusal(&argument) {
-            Some(id) => answer(self.alloc, id.as_str()),
-            None => answer(self.alloc, "allowed"),
+            Some(id) => say(self.alloc, id.as_str()),
+            None => say(self.alloc, "allowed"),
         }
     }
 

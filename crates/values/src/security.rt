@@ -1,4 +1,4 @@
-use crate::texts::{answer, canonical, first_word, text_of, value_of};
+use crate::texts::{canonical, first_word, say, text_of, value_of};
 use crate::users::Users;
 use auth::Caller;
 use couch_json::Json;
@@ -33,7 +33,7 @@ impl Verdicts {
         };
         let caller = self.users.caller(name)?;
         let security = self.security(value)?;
-        answer(self.alloc, verdict(action, &caller, &security))
+        say(self.alloc, verdict(action, &caller, &security))
     }
 
     /// Returns a copy of the security object of a text.

@@ -1,56 +1,49 @@
-use crate::texts::{answer, text_of, value_of};
+//! `SELECTOR`: `selector`, or the fault by which it is none.
+//! `SELECTOR on VALUE`: `true` or `false`.
+//! `SELECTOR on each of [VALUE, ..]`: for each value, `T` or `-`.
+
+use crate::texts::{say, text_of, value_of};
 use couch_json::Json;
-use rows::{Kind, RowsFault};
+use rows::RowsFault;
 use selector::{Selector, SelectorFault};
 use std::alloc::Global;
 
-/// `SELECTOR`: `selector`, or the fault by which it is none.
-/// `SELECTOR on VALUE`: `true` or `false`.
-/// `SELECTOR on each of [VALUE, ..]`: for each value, `T` or `-`.
-#[derive(Drop)]
-pub struct Selectors {
-    pub alloc: Global,
+/// Answers what a selector is, or of what it is true.
+pub fn answer(alloc: Global, question: &[u8]) -> Result<Vec<u8>, RowsFault> {
+    let question = text_of(question);
+    if let Some((selector, values)) = question.split_once(" on each of ") {
+        return try_each(alloc, selector, values);
+    }
+    if let Some((selector, value)) = question.split_once(" on ") {
+        return try_one(alloc, selector, value);
+    }
+    selector_of(alloc, question)?;
+    say(alloc, "selector")
 }
 
-impl Kind for Selectors {
-    fn answer(&mut self, question: &[u8]) -> Result<Vec<u8>, RowsFault> {
-        let question = text_of(question);
-        if let Some((selector, values)) = question.split_once(" on each of ") {
-            return self.try_each(selector, values);
-        }
-        if let Some((selector, value)) = question.split_once(" on ") {
-            return self.try_one(selector, value);
-        }
-        self.selector_of(question)?;
-        answer(self.alloc, "selector")
+/// Returns the selector of a text.
+fn selector_of(alloc: Global, text: &str) -> Result<Selector, RowsFault> {
+    let value = value_of(alloc, text)?;
+    match Selector::parse(alloc, &value) {
+        Ok(selector) => Ok(selector),
+        Err(fault) => Err(refusal_of(fault)),
     }
 }
 
-impl Selectors {
-    /// Returns the selector of a text.
-    fn selector_of(&self, text: &str) -> Result<Selector, RowsFault> {
-        let value = value_of(self.alloc, text)?;
-        match Selector::parse(self.alloc, &value) {
-            Ok(selector) => Ok(selector),
-            Err(fault) => Err(refusal_of(fault)),
-        }
-    }
+/// Answers whether a selector is true of a value.
+fn try_one(alloc: Global, selector: &str, value: &str) -> Result<Vec<u8>, RowsFault> {
+    let selector = selector_of(alloc, selector)?;
+    let value = value_of(alloc, value)?;
+    let is_true = selector.matches(&value);
+    say(alloc, if is_true { "true" } else { "false" })
+}
 
-    /// Answers whether a selector is true of a value.
-    fn try_one(&self, selector: &str, value: &str) -> Result<Vec<u8>, RowsFault> {
-        let selector = self.selector_of(selector)?;
-        let value = value_of(self.alloc, value)?;
-        let is_true = selector.matches(&value);
-        answer(self.alloc, if is_true { "true" } else { "false" })
-    }
-
-    /// Answers of which values of a list a selector is true.
-    fn try_each(&self, selector: &str, values: &str) -> Result<Vec<u8>, RowsFault> {
-        let selector = self.selector_of(selector)?;
-        match value_of(self.alloc, values)? {
-            Json::Array(values) => marks_of(self.alloc, &selector, &values),
-            _ => Err(RowsFault::Refused("not a list")),
-        }
+/// Answers of which values of a list a selector is true.
+fn try_each(alloc: Global, selector: &str, values: &str) -> Result<Vec<u8>, RowsFault> {
+    let selector = selector_of(alloc, selector)?;
+    match value_of(alloc, values)? {
+        Json::Array(values) => marks_of(alloc, &selector, &values),
+        _ => Err(RowsFault::Refused("not a list")),
     }
 }
 

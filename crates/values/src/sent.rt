@@ -1,40 +1,40 @@
-use crate::streams::Streams;
+//! `METHOD TARGET`, or `METHOD TARGET last`; the headers, one a line, as `NAME: VALUE`; and behind an
+//! empty line the body. Each part may have escapes, and the first `?` parts the target.
+//! The answer is the bytes that are sent, and below them `same` where a `Cutter` reads this very
+//! request back, with the two headers that are added, else what it reads, as in `.stream`.
+
+use crate::streams::play_both;
 use crate::texts::{decode_bytes, first_word, spell, text_of};
 use couch_http::{Cut, Cutter, Ending, Header, HttpFault, Request, request_bytes};
 use http::Method;
 use http::method::MethodError;
-use rows::{Joint, Kind, RowsFault};
+use rows::RowsFault;
 use std::alloc::Global;
 use std::str;
 
-/// `METHOD TARGET`, or `METHOD TARGET last`; the headers, one a line, as `NAME: VALUE`; and behind an
-/// empty line the body. Each part may have escapes, and the first `?` parts the target.
-/// The answer is the bytes that are sent, and below them `same` where a `Cutter` reads this very
-/// request back, with the two headers that are added, else what it reads, as in `.stream`.
-#[derive(Drop)]
-pub struct Sent {
-    pub alloc: Global,
+/// Answers with the bytes of a request, and what is read back of them.
+pub fn answer(alloc: Global, question: &[u8]) -> Result<Vec<u8>, RowsFault> {
+    let request = request_of(alloc, text_of(question))?;
+    Ok(tell(alloc, &request)?.into_bytes())
 }
 
-impl Sent {
-    /// Tells the bytes of a request, and what is read back of them.
-    fn tell(&self, request: &Request) -> Result<String, RowsFault> {
-        let bytes = request_bytes(self.alloc, request)?;
-        let mut text = spell(self.alloc, &bytes)?;
-        text.push('\n')?;
-        text.push_str(self.read_back(request, bytes)?.as_str())?;
-        Ok(text)
-    }
+/// Tells the bytes of a request, and what is read back of them.
+fn tell(alloc: Global, request: &Request) -> Result<String, RowsFault> {
+    let bytes = request_bytes(alloc, request)?;
+    let mut text = spell(alloc, &bytes)?;
+    text.push('\n')?;
+    text.push_str(read_back(alloc, request, bytes)?.as_str())?;
+    Ok(text)
+}
 
-    /// Tells what is read back of the bytes of a request.
-    fn read_back(&self, request: &Request, bytes: Vec<u8>) -> Result<String, RowsFault> {
-        if is_read_back(self.alloc, request, &bytes)? {
-            return Ok(String::from_str(self.alloc, "same")?);
-        }
-        let mut pieces = Vec::new(self.alloc);
-        pieces.push(bytes)?;
-        Streams { alloc: self.alloc }.play_both(&pieces)
+/// Tells what is read back of the bytes of a request.
+fn read_back(alloc: Global, request: &Request, bytes: Vec<u8>) -> Result<String, RowsFault> {
+    if is_read_back(alloc, request, &bytes)? {
+        return Ok(String::from_str(alloc, "same")?);
     }
+    let mut pieces = Vec::new(alloc);
+    pieces.push(bytes)?;
+    play_both(alloc, &pieces)
 }
 
 /// Tells whether a cutter reads a request of bytes, and nothing else.
@@ -179,15 +179,4 @@ fn header_of(alloc: Global, line: &str) -> Result<Header, RowsFault> {
         name: decode_bytes(alloc, name)?,
         value: decode_bytes(alloc, value)?,
     })
-}
-
-impl Kind for Sent {
-    fn joint(&self) -> Joint {
-        Joint::LineFeed
-    }
-
-    fn answer(&mut self, question: &[u8]) -> Result<Vec<u8>, RowsFault> {
-        let request = request_of(self.alloc, text_of(question))?;
-        Ok(self.tell(&request)?.into_bytes())
-    }
 }

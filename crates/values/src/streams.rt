@@ -1,18 +1,14 @@
+//! Pieces of a stream, one a line, with escapes; `cut N TEXT` is the text in pieces of N bytes.
+//! The answer has a line for each request, `METHOD PATH`, then `? QUERY` where there is one, the
+//! count of headers, the body, and `last` where it is; and how the stream ends: `open`, `last`,
+//! `Syntax`, `Encoding` or `TooLarge`, then `closed` for each piece behind the end.
+//! A short stream is played byte by byte too, which has to come to the same.
+
 use crate::pieces::{join, pieces_of, single_bytes, size};
 use crate::texts::text_of;
 use couch_http::{Cutter, Ending, HttpFault, Request};
-use rows::{Joint, Kind, RowsFault, escape, push_all};
+use rows::{RowsFault, escape, push_all};
 use std::alloc::Global;
-
-/// Pieces of a stream, one a line, with escapes; `cut N TEXT` is the text in pieces of N bytes.
-/// The answer has a line for each request, `METHOD PATH`, then `? QUERY` where there is one, the
-/// count of headers, the body, and `last` where it is; and how the stream ends: `open`, `last`,
-/// `Syntax`, `Encoding` or `TooLarge`, then `closed` for each piece behind the end.
-/// A short stream is played byte by byte too, which has to come to the same.
-#[derive(Drop)]
-pub struct Streams {
-    pub alloc: Global,
-}
 
 /// What came of a stream.
 #[derive(Drop)]
@@ -28,61 +24,70 @@ const SHORT: usize = 2_000;
 /// Bodies of more bytes are told by their length.
 const SHOWN: usize = 200;
 
-impl Streams {
-    /// Plays pieces on a new cutter.
-    fn play(&self, pieces: &[Vec<u8>]) -> Result<Flow, RowsFault> {
-        let mut cutter = Cutter::new(self.alloc);
-        let mut flow = Flow {
-            requests: String::new(self.alloc),
-            ending: Ending::Open,
-            pieces_behind_end: 0,
-        };
-        for piece in pieces {
-            self.feed(&mut cutter, piece, &mut flow)?;
-        }
-        Ok(flow)
-    }
+/// Answers with the requests of a stream, and how it ends.
+pub fn answer(alloc: Global, question: &[u8]) -> Result<Vec<u8>, RowsFault> {
+    let pieces = pieces_of(alloc, text_of(question))?;
+    Ok(play_both(alloc, &pieces)?.into_bytes())
+}
 
-    /// Plays a piece.
-    fn feed(&self, cutter: &mut Cutter, piece: &[u8], flow: &mut Flow) -> Result<(), RowsFault> {
-        match cutter.feed(piece) {
-            Ok(cut) => {
-                flow.ending = cut.ending;
-                put_requests(self.alloc, &mut flow.requests, &cut.requests)
-            }
-            Err(HttpFault::Closed) => {
-                flow.pieces_behind_end = flow.pieces_behind_end.saturating_add(1);
-                Ok(())
-            }
-            Err(_) => Err(RowsFault::Memory),
-        }
+/// Plays pieces on a new cutter.
+fn play(alloc: Global, pieces: &[Vec<u8>]) -> Result<Flow, RowsFault> {
+    let mut cutter = Cutter::new(alloc);
+    let mut flow = Flow {
+        requests: String::new(alloc),
+        ending: Ending::Open,
+        pieces_behind_end: 0,
+    };
+    for piece in pieces {
+        feed(alloc, &mut cutter, piece, &mut flow)?;
     }
+    Ok(flow)
+}
 
-    /// Plays the pieces and, where they are short, their bytes one by one.
-    pub fn play_both(&self, pieces: &[Vec<u8>]) -> Result<String, RowsFault> {
-        let flow = self.play(pieces)?;
-        let mut text = show(self.alloc, &flow)?;
-        if size(pieces) <= SHORT {
-            self.put_slow(&mut text, pieces, &flow)?;
+/// Plays a piece.
+fn feed(
+    alloc: Global,
+    cutter: &mut Cutter,
+    piece: &[u8],
+    flow: &mut Flow,
+) -> Result<(), RowsFault> {
+    match cutter.feed(piece) {
+        Ok(cut) => {
+            flow.ending = cut.ending;
+            put_requests(alloc, &mut flow.requests, &cut.requests)
         }
-        Ok(text)
+        Err(HttpFault::Closed) => {
+            flow.pieces_behind_end = flow.pieces_behind_end.saturating_add(1);
+            Ok(())
+        }
+        Err(_) => Err(RowsFault::Memory),
     }
+}
 
-    /// Adds what single bytes of the pieces come to, where that is something else.
-    fn put_slow(
-        &self,
-        text: &mut String,
-        pieces: &[Vec<u8>],
-        flow: &Flow,
-    ) -> Result<(), RowsFault> {
-        let bytes = join(self.alloc, pieces)?;
-        let slow = self.play(&single_bytes(self.alloc, &bytes)?)?;
-        if slow.requests.as_str() == flow.requests.as_str() && slow.ending == flow.ending {
-            return Ok(());
-        }
-        let slow = show(self.alloc, &slow)?;
-        push_all(text, &["\nbyte by byte:\n", slow.as_str()])
+/// Plays the pieces and, where they are short, their bytes one by one.
+pub fn play_both(alloc: Global, pieces: &[Vec<u8>]) -> Result<String, RowsFault> {
+    let flow = play(alloc, pieces)?;
+    let mut text = show(alloc, &flow)?;
+    if size(pieces) <= SHORT {
+        put_slow(alloc, &mut text, pieces, &flow)?;
     }
+    Ok(text)
+}
+
+/// Adds what single bytes of the pieces come to, where that is something else.
+fn put_slow(
+    alloc: Global,
+    text: &mut String,
+    pieces: &[Vec<u8>],
+    flow: &Flow,
+) -> Result<(), RowsFault> {
+    let bytes = join(alloc, pieces)?;
+    let slow = play(alloc, &single_bytes(alloc, &bytes)?)?;
+    if slow.requests.as_str() == flow.requests.as_str() && slow.ending == flow.ending {
+        return Ok(());
+    }
+    let slow = show(alloc, &slow)?;
+    push_all(text, &["\nbyte by byte:\n", slow.as_str()])
 }
 
 /// Adds the lines of requests.
@@ -145,15 +150,4 @@ fn show(alloc: Global, flow: &Flow) -> Result<String, RowsFault> {
         text.push_str("\nclosed")?;
     }
     Ok(text)
-}
-
-impl Kind for Streams {
-    fn joint(&self) -> Joint {
-        Joint::LineFeed
-    }
-
-    fn answer(&mut self, question: &[u8]) -> Result<Vec<u8>, RowsFault> {
-        let pieces = pieces_of(self.alloc, text_of(question))?;
-        Ok(self.play_both(&pieces)?.into_bytes())
-    }
 }

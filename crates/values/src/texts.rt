@@ -13,8 +13,8 @@ pub fn text_of(question: &[u8]) -> &str {
     }
 }
 
-/// Returns a text as an answer.
-pub fn answer(alloc: Global, text: &str) -> Result<Vec<u8>, RowsFault> {
+/// Answers with a text.
+pub fn say(alloc: Global, text: &str) -> Result<Vec<u8>, RowsFault> {
     Ok(Vec::from_slice(alloc, text.as_bytes())?)
 }
 
