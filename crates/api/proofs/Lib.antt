@@ -1,3 +1,4 @@
+mod Apart
 pub mod Listed
 pub mod Counts
 pub mod Elements

@@ -1,7 +1,8 @@
 -- Which page of the server a path leads to.
 -- CouchDB manual, api/server/common, api/database, api/document/common and api/local, for the paths; which of two routes a path takes is what matchit's own definition says.
-use Rattle.std.specs.Prelude.{ℕ, Bool, true, false, List, [], ◌∷◌, Option, Some, None, option_map, Result, Ok, Err, codes, nat_eq}
-use Rattle.std.specs.List.{starts_with}
+use Rattle.std.specs.Prelude.{◌≡◌, ℕ, Bool, true, false, List, [], ◌∷◌, Option, Some, None, option_map, Result, Ok, Err, codes, nat_eq, ⊤}
+use Rattle.std.specs.List.{list_any, starts_with}
+use Rattle.matchit.specs.Conflict.{conflicts}
 use Rattle.matchit.specs.Order.{placed}
 use Rattle.matchit.specs.Rows.{RowsOf}
 use Rattle.matchit.specs.Route.{Scan, parse_route}
@@ -50,6 +51,24 @@ with_routes (route ∷ rest) rows = with_routes rest (with_route route rows)
 
 unfoldable pub table : Table
 table = with_routes routes []
+
+-- ---- that matchit takes each route
+
+-- one of the table conflicts with the pattern
+abbrev pub is_in_conflict : List ℕ → Table → Bool
+is_in_conflict pattern rows = list_any (λ row. conflicts pattern row.0) rows
+
+-- what is read of a text is a route, and none of the table conflicts with it
+abbrev pub Fits : Result Scan InsertError → Table → Type 0
+Fits (Ok s) rows = is_in_conflict s.pattern rows ≡ false
+Fits (Err e) rows = ⊥
+
+-- each of these routes fits into the table, once those before it are there
+abbrev pub AreApart : List (List ℕ × Page) → Table → Type 0
+AreApart [] rows = ⊤
+AreApart (route ∷ rest) rows = Fits (parse_route route.0) rows × AreApart rest (with_route route rows)
+
+-- ---- pages
 
 -- the part stands for the id of a local document, or for one that only begins so
 abbrev pub begins_local : Option (List ℕ) → Bool

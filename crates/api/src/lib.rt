@@ -13,6 +13,7 @@ mod asking;
 mod bulk;
 mod differences;
 mod fault;
+pub mod laws;
 mod listings;
 mod members;
 mod method;

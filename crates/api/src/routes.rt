@@ -1,6 +1,7 @@
 ghost use Rattle.std.specs.Prelude.{◌≡◌, [], IfOk, OnOk, map, nat_eq, option_copied};
 ghost use Rattle.std.specs.List.{starts_with};
-ghost use Rattle.api.specs.Routing.{begins_local, page_by, page_of, routes, table, with_route, with_routes};
+ghost use Rattle.api.specs.Routing.{AreApart, Fits, begins_local, page_by, page_of, routes, table, with_route, with_routes};
+ghost use Rattle.matchit.specs.Route.{parse_route};
 ghost use Rattle.percent_encoding.specs.Iter.{decoded_bytes};
 
 use crate::page::Page;
@@ -107,8 +108,9 @@ fn begins_with(decoded: PercentDecode<'_>, front: &[u8]) -> bool
     true
 }
 
-/// Builds a router with these routes.
+/// Builds a router with these routes, which are apart.
 fn build_router(alloc: Global, routes: &[(&str, Page)]) -> Got<Router<Page>>
+    requires { AreApart (map (λ r. (r.0.now, r.1)) routes.now) [] }
     ensures { IfOk result (λ router. router ≡ with_routes (map (λ r. (r.0.now, r.1)) routes.now) []) }
 {
     let mut router = Router::new(alloc);
@@ -118,12 +120,17 @@ fn build_router(alloc: Global, routes: &[(&str, Page)]) -> Got<Router<Page>>
     Ok(router)
 }
 
-/// Adds a route. A route that matchit refuses for another cause would be reported as lack of memory; none is.
+/// Adds a route, which fits. Lack of memory is its one refusal.
 fn add(router: &mut Router<Page>, text: &str, page: Page) -> Got<()>
+    requires { Fits (parse_route text.now) router.old }
     ensures { OnOk result (router.new ≡ with_route (text.now, page) router.old) }
 {
     match router.insert(text, page) {
         Ok(()) => Ok(()),
-        Err(_) => Err(NoMemory),
+        Err(InsertError::OutOfMemory) => Err(NoMemory),
+        Err(InsertError::Conflict { with: _ }) => unreachable!(),
+        Err(InsertError::InvalidParamSegment) => unreachable!(),
+        Err(InsertError::InvalidParam) => unreachable!(),
+        Err(InsertError::InvalidCatchAll) => unreachable!(),
     }
 }

@@ -85,16 +85,16 @@ pub data IsSoFar : Line → List ℕ → Type 0 where
   a_return : IsSoFar Return (13 ∷ [])
   some_text : {text : List ℕ} → All (λ b. b ≢ 10) text → text ≢ [] → text ≢ 13 ∷ [] → IsSoFar Text text
 
-no_nil : (b : ℕ) (text : List ℕ) → text ++ b ∷ [] ≢ []
+pub no_nil : (b : ℕ) (text : List ℕ) → text ++ b ∷ [] ≢ []
 no_nil b [] e = cc
 no_nil b (c ∷ text) e = cc
 
 -- one byte more than some is no carriage return alone
-no_return : (b : ℕ) (text : List ℕ) → text ≢ [] → text ++ b ∷ [] ≢ 13 ∷ []
+pub no_return : (b : ℕ) (text : List ℕ) → text ≢ [] → text ++ b ∷ [] ≢ 13 ∷ []
 no_return b [] some e = some refl
 no_return b (c ∷ text) some e = no_nil b text cc
 
-other_byte : (b : ℕ) → eqb b 10 ≡ false → All (λ c. c ≢ 10) (b ∷ [])
+pub other_byte : (b : ℕ) → eqb b 10 ≡ false → All (λ c. c ≢ 10) (b ∷ [])
 other_byte b is = All-cons (λ c. c ≢ 10) b [] (grind (arith, nat_tests)) (All-nil _)
 
 -- one more byte that is no line feed

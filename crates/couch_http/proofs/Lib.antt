@@ -11,3 +11,5 @@ pub mod ArrivalLemmas
 pub mod FaultLemmas
 pub mod PlaceLemmas
 pub mod PhraseLemmas
+pub mod ReplyHeads
+pub mod ReadBack

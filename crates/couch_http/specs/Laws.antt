@@ -1,15 +1,17 @@
 -- What holds of every stream.
 -- RFC 9112 says none of it; it follows from the definitions of `Stream`, `ReplyStream`, `Pieces` and `Places`.
-use Rattle.std.specs.Prelude.{◌≡◌, ℕ, ◌<◌, ◌↔◌, List, [], ◌++◌, length, All}
+use Rattle.std.specs.Prelude.{◌≡◌, ℕ, ◌<◌, ◌≤◌, ◌↔◌, Bool, List, [], ◌++◌, length, All}
+use Rattle.http.specs.StatusCode.{IsStatusCode}
 use Rattle.couch_http.specs.Message.{Message}
 use Rattle.couch_http.specs.Head.{IsHead, head_scan, complete}
 use Rattle.couch_http.specs.Stream.{waits, Begins, StreamEnd, unfinished, ended, faulty, Cuts, IsStreamFault}
 use Rattle.couch_http.specs.Pieces.{bytes_of_pieces, CutInPieces}
 use Rattle.couch_http.specs.Places.{EndsAt}
 use Rattle.couch_http.specs.Front.{Front, broken, whole}
-use Rattle.couch_http.specs.Reply.{Reply}
-use Rattle.couch_http.specs.ReplyStream.{BeginsReply}
+use Rattle.couch_http.specs.Reply.{Reply, reply_of, fixed_reply}
+use Rattle.couch_http.specs.ReplyStream.{BeginsReply, reply_limit}
 use Rattle.couch_http.specs.declared.fault.HttpFault.{HttpFault}
+use Rattle.couch_http.specs.declared.fixed.Fixed.{Fixed}
 
 -- a stream holds one list of requests, and then stands in one way
 abbrev pub HasOneReading : Type 0
@@ -65,3 +67,12 @@ RepliesHaveOneReading =
     ((bytes : List ℕ) (front other : Front Reply) → BeginsReply bytes front → BeginsReply bytes other → front ≡ other)
     × ((bytes more : List ℕ) (reply : Reply) (rest : List ℕ) → BeginsReply bytes (whole reply rest) → BeginsReply (bytes ++ more) (whole reply (rest ++ more)))
     × ((bytes more : List ℕ) (fault : HttpFault) → BeginsReply bytes (broken fault) → BeginsReply (bytes ++ more) (broken fault))
+
+-- A stream that begins with the bytes of a reply of ours begins with that reply: its status, its body and its bytes; and it goes
+-- on with the bytes behind them, also where the reply says that the connection ends. A client reads a status of three digits,
+-- and a body up to its limit.
+abbrev pub RepliesAreReadBack : Type 0
+RepliesAreReadBack =
+    ((status : ℕ) (body : List ℕ) (last : Bool) (rest : List ℕ) → IsStatusCode status → length body ≤ reply_limit
+    → BeginsReply ((reply_of status body last).bytes ++ rest) (whole (reply_of status body last) rest))
+    × ((fixed : Fixed) (rest : List ℕ) → BeginsReply ((fixed_reply fixed).bytes ++ rest) (whole (fixed_reply fixed) rest))

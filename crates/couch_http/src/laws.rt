@@ -1,6 +1,6 @@
 //! Laws of the definitions alone: each function has an empty body, and its contract is the law.
 
-ghost use Rattle.couch_http.specs.Laws.{HasOneReading, GoesOnFromRest, StaysEnded, PiecesDoNotMatter, HasStreamFaults, HasOnePlaceEach, ComesWithLastByte, HeadsAreFound, RepliesHaveOneReading};
+ghost use Rattle.couch_http.specs.Laws.{HasOneReading, GoesOnFromRest, StaysEnded, PiecesDoNotMatter, HasStreamFaults, HasOnePlaceEach, ComesWithLastByte, HeadsAreFound, RepliesHaveOneReading, RepliesAreReadBack};
 
 /// A stream holds one list of requests, and then stands in one way.
 pub fn one_reading()
@@ -47,4 +47,11 @@ pub fn heads_are_found()
 /// doesn't matter in which pieces a reply comes.
 pub fn replies_have_one_reading()
     ensures { RepliesHaveOneReading }
+{}
+
+/// The bytes of a reply of ours, whatever comes behind them, are read as its status, its body and its bytes, and
+/// what comes behind them is left: for each status of three digits, each body of at most 67,108,864 bytes, and each
+/// reply that needs no memory.
+pub fn replies_are_read_back()
+    ensures { RepliesAreReadBack }
 {}

@@ -121,7 +121,7 @@ impl Response {
     }
 
     /// Makes a reply that was read, with its head in the first bytes.
-    pub fn read(status: u16, head_len: usize, bytes: Vec<u8>) -> Response
+    pub(crate) fn read(status: u16, head_len: usize, bytes: Vec<u8>) -> Response
         requires { head_len ≤ length bytes.items }
         ensures { result ≡ record { status = status; body = drop head_len bytes.items; bytes = bytes.items } }
     {

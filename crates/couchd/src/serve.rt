@@ -9,7 +9,11 @@ use sqlstore::SqlStore;
 use std::io;
 use std::io::{ErrorKind, Write};
 use std::net::{Ipv4Addr, Net, OpenListener, SocketAddr, TcpListener, TcpStream};
+use std::time::Duration;
 use store::Store;
+
+/// How many seconds a read or a write of a connection may wait.
+const PATIENCE: u64 = 30;
 
 /// Serves the store in a file, which is opened, or made, before the port is bound.
 pub fn serve_file<S: Start>(
@@ -42,8 +46,8 @@ fn serve_tables<S: Alter + Drop>(
 }
 
 /// Serves a store at a port of 127.0.0.1, or at a free one where the port is 0: so many connections, one
-/// after another. Once it listens it prints `listening 127.0.0.1:` and the port. The answer is the
-/// program's status.
+/// after another. A connection ends where a read or a write of it waits for 30 seconds. Once it listens
+/// it prints `listening 127.0.0.1:` and the port. The answer is the program's status.
 ///
 /// `Socket`: the port can't be bound, or a connection not be accepted. `File`: the line can't be
 /// printed. `Memory`: memory ran out.
@@ -60,7 +64,7 @@ pub fn serve_store<R: Net<Stream = TcpStream> + Print + AllocGlobal, S: Store + 
     let mut hub = open_hub(rt.alloc(), secret, admins, store)?;
     let listener = listen(rt, port)?;
     print_address(rt, &listener)?;
-    serve(&mut hub, &listener, conns)
+    serve(&mut hub, &listener, conns, Duration::from_secs(PATIENCE))
 }
 
 /// Binds a port of 127.0.0.1.

@@ -1,6 +1,7 @@
 mod Filtered
 mod Findables
 mod Finding
+mod Ids
 mod Indexed
 mod Ordered
 mod Parts

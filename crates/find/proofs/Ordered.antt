@@ -1,5 +1,5 @@
--- The documents of an index stand in the order of their values.
-use Rattle.std.proofs.Common.{◌≡◌, ℕ, zero, suc, ◌-◌, Bool, true, false, not, List, [], ◌∷◌, AllPairs, Ordering, Option, Some, None, drop, get_or, length, map, reverse, refl, sym, ap, subst, ◌∙◌, inl, inr, arith}
+-- The documents of an index stand in the order of their places, and so do those that a query finds.
+use Rattle.std.proofs.Common.{◌≡◌, ◌≢◌, ℕ, zero, suc, ◌-◌, ◌<◌, Bool, true, false, cond, List, [], ◌∷◌, AllPairs, Ordering, Option, Some, None, drop, get_or, length, map, reverse, refl, sym, ap, subst, ◌∙◌, inl, inr, arith}
 use Rattle.std.proofs.lemmas.List.{get_or-reverse, length-reverse}
 use Rattle.std.proofs.lemmas.List.Kept.{AllPairs-cons, AllPairs-filter}
 use Rattle.std.specs.declared.cmp.Ordering.TheVariants.{Less, Equal, Greater}
@@ -8,8 +8,7 @@ use Rattle.std.specs.Cmp.Lexicographic.{slice_cmp}
 use Rattle.std.specs.FinMap as finite
 use Rattle.std.specs.FinMap.{is_sorted, put}
 use Rattle.std.specs.FinMap.Entries.{by_order}
-use Rattle.std.specs.Ordering.{is_gt, is_lt, nat_cmp, ordering_reverse, ordering_then}
-use Rattle.couch_json.proofs.Orders.{collation_total}
+use Rattle.std.specs.Ordering.{is_gt, is_lt, nat_cmp, ordering_reverse}
 use Rattle.couch_json.specs.Collation.{collation}
 use Rattle.couch_json.specs.Value.{Value, Items, array}
 use Rattle.selector.specs.Truth.{selector_matches}
@@ -18,18 +17,19 @@ use Rattle.store.proofs.Among.{all_in, from_map}
 use Rattle.store.proofs.Listings.{Entry, In}
 use Rattle.store.proofs.RowOrders.{pairs_take}
 use Rattle.store.specs.Database.{Database}
-use Rattle.store.specs.Indexes.{IndexPlace, field_values, index_entries, index_over, place_order, put_at_values, put_in_index}
+use Rattle.store.specs.Indexes.{IndexPlace, field_values, index_entries, index_over, place_order, put_at_values, put_in_index, queried_document}
+use Rattle.store.specs.PlaceOrder.{place_order_total}
 use Rattle.find.proofs.Filtered.{below}
+use Rattle.find.proofs.Findables.{findable}
+use Rattle.find.proofs.Ids.{id_of-queried_document}
 use Rattle.find.proofs.Indexed.{After, after_index, not_tied, seen, sorted_index}
-use Rattle.find.specs.Found.{fields_order, found_documents, in_direction, may_precede, sorted_documents, values_order}
+use Rattle.find.specs.Found.{IsFindable, found_documents, id_of, in_direction, is_before, place_by, place_of, sorted_documents}
 use Rattle.find.specs.declared.query.Query.{Query}
 
--- ---- each document stands at its values
+-- ---- each document stands at its place
 
-record IsKeyed (fields : List (List ℕ)) (x : IndexPlace × Value) : Type 0 where
-  values : Items
-  has : field_values fields x.1 ≡ Some values
-  key : x.0.key ≡ array values
+abbrev IsKeyed : List (List ℕ) → IndexPlace × Value → Type 0
+IsKeyed fields x = place_of fields x.1 ≡ Some x.0
 
 abbrev AreKeyed : List (List ℕ) → List (IndexPlace × Value) → Type 0
 AreKeyed fields es = (x : IndexPlace × Value) → In es x → IsKeyed fields x
@@ -52,45 +52,37 @@ keyed_put fields k v [] new own h = keyed_first fields k v own
 keyed_put fields k v (e ∷ es) new own h =
     keyed_by fields (place_order k e.0) k v e es (put place_order k v es) (new e (inl refl)) own h (keyed_put fields k v es (λ x i. new x (inr i)) own (λ x i. h x (inr i)))
 
-keyed_one : (fields : List (List ℕ)) (id : List ℕ) (o : Option Value) (es : List (IndexPlace × Value)) → ((x : IndexPlace × Value) → In es x → After id x.0) → AreKeyed fields es → AreKeyed fields (put_in_index fields id o es)
-keyed_one fields id None es after h = h
-keyed_one fields id (Some v) es after h = by (field_values fields v) refl
+keyed_one : (fields : List (List ℕ)) (id : List ℕ) (o : Option Value) (es : List (IndexPlace × Value)) → ((v : Value) → o ≡ Some v → id_of v ≡ Some id) → ((x : IndexPlace × Value) → In es x → After id x.0) → AreKeyed fields es
+    → AreKeyed fields (put_in_index fields id o es)
+keyed_one fields id None es own after h = h
+keyed_one fields id (Some v) es own after h = by (field_values fields v) refl
   where
     by : (values : Option Items) → field_values fields v ≡ values → AreKeyed fields (put_at_values id v values es)
     by None none = h
     by (Some values) has =
         keyed_put fields (record { key = array values; id = id }) v es (λ x i t. not_tied (collation (array values) x.0.key) (slice_cmp nat_cmp id x.0.id) (after x i) t)
-        (record { values = values; has = has; key = refl }) h
+        (λ i. place_by (has i) (own v refl i)) h
 
 keyed_index : (fields : List (List ℕ)) (es : List Entry) → is_sorted (slice_cmp nat_cmp) es ≡ true → AreKeyed fields (index_over fields es)
 keyed_index fields [] h = λ x i. absurd i
-keyed_index fields (e ∷ es) h = keyed_one fields e.0 (seen e) (index_over fields es) (after_index fields e.0 es (first_so _ _ h)) (keyed_index fields es (second_so _ _ h))
+keyed_index fields (e ∷ es) h =
+    keyed_one fields e.0 (seen e) (index_over fields es) (id_of-queried_document e.0 e.1.history) (after_index fields e.0 es (first_so _ _ h)) (keyed_index fields es (second_so _ _ h))
 
 -- ---- so they are in order
 
-not_greater : (a b : Ordering) → ordering_then a b ≡ Less → not (is_gt a) ≡ true
-not_greater Less b e = refl
-not_greater Equal b e = refl
-not_greater Greater b e = cc
+abbrev IsBefore : List (List ℕ) → Bool → Value → Value → Type 0
+IsBefore fields descending v w = is_before descending (place_of fields v) (place_of fields w) ≡ true
 
-turned : (a : Ordering) → not (is_gt a) ≡ true → not (is_lt (ordering_reverse a)) ≡ true
-turned Less e = refl
-turned Equal e = refl
-turned Greater e = cc
+in_order : (fields : List (List ℕ)) (x y : IndexPlace × Value) → IsKeyed fields x → IsKeyed fields y → place_order x.0 y.0 ≡ Less → IsBefore fields false x.1 y.1
+in_order fields x y h k lt = (λ i. is_before false (h i) (k i)) ∙ ap is_lt lt
 
-in_order : (fields : List (List ℕ)) (x y : IndexPlace × Value) → IsKeyed fields x → IsKeyed fields y → place_order x.0 y.0 ≡ Less → may_precede false (fields_order fields x.1 y.1) ≡ true
-in_order fields x y h k lt =
-    (λ i. not (is_gt (values_order (h.has i) (k.has i)))) ∙ (λ i. not (is_gt (collation (sym h.key i) (sym k.key i))))
-    ∙ not_greater (collation x.0.key y.0.key) (slice_cmp nat_cmp x.0.id y.0.id) lt
-
-documents_ascend : (fields : List (List ℕ)) (es : List (IndexPlace × Value)) → is_sorted place_order es ≡ true → AreKeyed fields es
-    → AllPairs (λ v w. may_precede false (fields_order fields v w) ≡ true) (map (λ e. e.1) es)
+documents_ascend : (fields : List (List ℕ)) (es : List (IndexPlace × Value)) → is_sorted place_order es ≡ true → AreKeyed fields es → AllPairs (IsBefore fields false) (map (λ e. e.1) es)
 documents_ascend fields [] h k = λ i j d lt within. absurd (omega arith)
 documents_ascend fields (e ∷ es) h k =
-    AllPairs-cons (λ v w. may_precede false (fields_order fields v w) ≡ true) e.1 (map (λ f. f.1) es)
-    (all_in (λ w. may_precede false (fields_order fields e.1 w) ≡ true) (map (λ f. f.1) es)
+    AllPairs-cons (IsBefore fields false) e.1 (map (λ f. f.1) es)
+    (all_in (IsBefore fields false e.1) (map (λ f. f.1) es)
     (λ w i. let f = from_map (λ (x : IndexPlace × Value). x.1) es w i in
-    ap (λ u. may_precede false (fields_order fields e.1 u)) (sym f.2) ∙ in_order fields e f.0 (k e (inl refl)) (k f.0 (inr f.1)) (below place_order e.0 es (first_so _ _ h) f.0 f.1)))
+    subst (IsBefore fields false e.1) f.2 (in_order fields e f.0 (k e (inl refl)) (k f.0 (inr f.1)) (below place_order e.0 es (first_so _ _ h) f.0 f.1))))
     (documents_ascend fields es (second_so _ _ h) (λ x i. k x (inr i)))
 
 -- ---- turned and cut
@@ -107,24 +99,59 @@ pairs_reverse R xs h = λ i j d lt within.
     let b : get_or (reverse xs) j d ≡ get_or xs (length xs - 1 - j) d = get_or-reverse xs j d (omega arith) in
     rw (a, b) (h (length xs - 1 - j) (length xs - 1 - i) d (omega arith) (omega arith))
 
-values_turned : (a b : Option Items) → values_order b a ≡ ordering_reverse (values_order a b)
-values_turned None None = refl
-values_turned None (Some ws) = refl
-values_turned (Some vs) None = refl
-values_turned (Some vs) (Some ws) = collation_total.antisymm (array ws) (array vs)
+turned : (o : Ordering) → is_lt o ≡ true → is_gt (ordering_reverse o) ≡ true
+turned Less e = refl
+turned Equal e = absurd cc
+turned Greater e = absurd cc
 
-down : (fields : List (List ℕ)) (v w : Value) → may_precede false (fields_order fields v w) ≡ true → may_precede true (fields_order fields w v) ≡ true
-down fields v w h = ap (λ o. not (is_lt o)) (values_turned (field_values fields v) (field_values fields w)) ∙ turned (fields_order fields v w) h
+places_turned : (p q : Option IndexPlace) → is_before false p q ≡ true → is_before true q p ≡ true
+places_turned None q h = absurd cc
+places_turned (Some p) None h = absurd cc
+places_turned (Some p) (Some q) h = ap is_gt (place_order_total.antisymm q p) ∙ turned (place_order p q) h
 
-directed : (fields : List (List ℕ)) (descending : Bool) (vs : List Value) → AllPairs (λ v w. may_precede false (fields_order fields v w) ≡ true) vs
-    → AllPairs (λ v w. may_precede descending (fields_order fields v w) ≡ true) (in_direction descending vs)
-directed fields true vs h = pairs_reverse (λ v w. may_precede true (fields_order fields v w) ≡ true) vs (λ i j d lt within. down fields _ _ (h i j d lt within))
+directed : (fields : List (List ℕ)) (descending : Bool) (vs : List Value) → AllPairs (IsBefore fields false) vs → AllPairs (IsBefore fields descending) (in_direction descending vs)
+directed fields true vs h = pairs_reverse (IsBefore fields true) vs (λ i j d lt within. places_turned (place_of fields (get_or vs i d)) (place_of fields (get_or vs j d)) (h i j d lt within))
 directed fields false vs h = h
 
-pub found_in_order : (query : Query) (db : Database) → AllPairs (λ v w. may_precede query.descending (fields_order query.sort v w) ≡ true) (found_documents query db)
+pub found_in_order : (query : Query) (db : Database) → AllPairs (λ v w. is_before query.descending (place_of query.sort v) (place_of query.sort w) ≡ true) (found_documents query db)
 found_in_order query db =
     let es = finite.entries db.documents in
-    let R = λ (v w : Value). may_precede query.descending (fields_order query.sort v w) ≡ true in
+    let R = IsBefore query.sort query.descending in
     let ascending = documents_ascend query.sort (index_entries query.sort db) (sorted_index query.sort es) (keyed_index query.sort es (true_from_T _ (finite.entries_sorted db.documents))) in
     pairs_take R query.limit _ (pairs_drop R query.skip _
     (AllPairs-filter R (λ (v : Value). selector_matches query.selector v) (sorted_documents query.sort query.descending db) (directed query.sort query.descending (map (λ e. e.1) (index_entries query.sort db)) ascending)))
+
+-- ---- so no id stands there twice
+
+not_itself : (o : Ordering) (descending : Bool) → o ≡ ordering_reverse o → cond descending (is_gt o) (is_lt o) ≡ true → ⊥
+not_itself Less true e h = cc
+not_itself Less false e h = cc
+not_itself Equal true e h = cc
+not_itself Equal false e h = cc
+not_itself Greater true e h = cc
+not_itself Greater false e h = cc
+
+before_itself : (descending : Bool) (p : Option IndexPlace) → is_before descending p p ≡ true → ⊥
+before_itself descending None h = cc
+before_itself descending (Some p) h = not_itself (place_order p p) descending (place_order_total.antisymm p p) h
+
+-- two documents of one id that queries look at are one
+one_document : (query : Query) (db : Database) (v w : Value) → IsFindable query db v → IsFindable query db w → id_of v ≡ id_of w → v ≡ w
+one_document query db v w h k e =
+    let ids : h.id ≡ k.id = (let a = id_of-queried_document h.id h.document.history v h.shown in let b = id_of-queried_document k.id k.document.history w k.shown in cc) in
+    let documents : h.document ≡ k.document = (let a = sym h.there ∙ ap (finite.get db.documents) ids ∙ k.there in cc) in
+    let same = sym h.shown ∙ (λ i. queried_document (ids i) (documents i).history) ∙ k.shown in
+    cc
+
+in_at : {X : Type 0} (xs : List X) (n : ℕ) (d : X) → n < length xs → In xs (get_or xs n d)
+in_at [] n d h = absurd (omega arith)
+in_at (x ∷ xs) zero d h = inl refl
+in_at (x ∷ xs) (suc n) d h = inr (in_at xs n d (omega arith))
+
+pub found_once : (query : Query) (db : Database) → AllPairs (λ v w. id_of v ≢ id_of w) (found_documents query db)
+found_once query db i j d lt within same =
+    let vs = found_documents query db in
+    let there = λ (n : ℕ) (h : n < length vs). findable query db (get_or vs n d) (in_at vs n d h) in
+    let one = one_document query db _ _ (there i (omega arith)) (there j within) same in
+    before_itself query.descending (place_of query.sort (get_or vs i d))
+    (ap (λ v. is_before query.descending (place_of query.sort (get_or vs i d)) (place_of query.sort v)) one ∙ found_in_order query db i j d lt within)

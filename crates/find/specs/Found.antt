@@ -1,15 +1,13 @@
 -- What a find finds: documents that match a selector, in an order, and of these a part.
 -- CouchDB manual, api/database/find; that a document without one of the fields of the sort is not found, and that documents without a sort go by id, are this server's own.
-use Rattle.std.specs.Prelude.{◌≡◌, ℕ, Bool, true, not, List, Option, Some, None, drop, filter, if◌then◌else◌, map, reverse, take}
+use Rattle.std.specs.Prelude.{◌≡◌, ℕ, Bool, true, false, List, Option, Some, None, codes, drop, filter, if◌then◌else◌, map, option_and_then, reverse, take}
 use Rattle.std.specs.FinMap.{get}
-use Rattle.std.specs.declared.cmp.Ordering.{Ordering}
-use Rattle.std.specs.declared.cmp.Ordering.TheVariants.{Equal}
 use Rattle.std.specs.Ordering.{is_gt, is_lt}
-use Rattle.couch_json.specs.Collation.{collation}
-use Rattle.couch_json.specs.Value.{Items, Value, array}
+use Rattle.couch_json.specs.Parts.{text_in}
+use Rattle.couch_json.specs.Value.{Items, Value, array, member_of}
 use Rattle.selector.specs.Truth.{selector_matches}
 use Rattle.store.specs.Database.{Database, Document}
-use Rattle.store.specs.Indexes.{field_values, index_entries, queried_document}
+use Rattle.store.specs.Indexes.{IndexPlace, field_values, index_entries, place_order, queried_document}
 use Rattle.find.specs.declared.query.Query.{Query}
 
 abbrev pub in_direction : {A : Type 0} → Bool → List A → List A
@@ -27,18 +25,24 @@ matching_documents query db = filter (λ v. selector_matches query.selector v) (
 abbrev pub found_documents : Query → Database → List Value
 found_documents query db = take query.limit (drop query.skip (matching_documents query db))
 
--- how the values of two documents at these fields stand; nothing is said where one of them lacks a field
-abbrev pub values_order : Option Items → Option Items → Ordering
-values_order None ws = Equal
-values_order (Some vs) None = Equal
-values_order (Some vs) (Some ws) = collation (array vs) (array ws)
+-- the id that a shown document says: its member `_id`
+abbrev pub id_of : Value → Option (List ℕ)
+id_of v = option_and_then text_in (member_of v (codes "_id"))
 
-abbrev pub fields_order : List (List ℕ) → Value → Value → Ordering
-fields_order fields v w = values_order (field_values fields v) (field_values fields w)
+abbrev pub place_by : Option Items → Option (List ℕ) → Option IndexPlace
+place_by None id = None
+place_by (Some values) None = None
+place_by (Some values) (Some id) = Some (record { key = array values; id = id })
 
--- in this direction the first may stand before the second
-abbrev pub may_precede : Bool → Ordering → Bool
-may_precede descending o = if descending then not (is_lt o) else not (is_gt o)
+-- where a document stands among those that have these fields: at its values there, and at its id; by no fields at its id alone
+abbrev pub place_of : List (List ℕ) → Value → Option IndexPlace
+place_of fields v = place_by (field_values fields v) (id_of v)
+
+-- There are both places, and in this direction the first is strictly before the second: by the values, and by the bytes of the ids where these tie.
+abbrev pub is_before : Bool → Option IndexPlace → Option IndexPlace → Bool
+is_before descending None q = false
+is_before descending (Some p) None = false
+is_before descending (Some p) (Some q) = if descending then is_gt (place_order p q) else is_lt (place_order p q)
 
 -- the document is one that queries look at, has all fields of the sort, and matches
 pub record IsFindable (query : Query) (db : Database) (v : Value) : Type 0 where

@@ -1,9 +1,9 @@
 //! What follows from the definitions alone. Each function has an empty body: its contract is the law.
 
-ghost use Rattle.std.specs.Prelude.{◌≡◌, ◌≤◌, ℕ, AllPairs, Contains, length, true};
+ghost use Rattle.std.specs.Prelude.{◌≡◌, ◌≢◌, ◌≤◌, ℕ, AllPairs, Contains, length, true};
 ghost use Rattle.couch_json.specs.Value.{Value};
 ghost use Rattle.store.specs.Database.{Database};
-ghost use Rattle.find.specs.Found.{IsFindable, fields_order, found_documents, matching_documents, may_precede};
+ghost use Rattle.find.specs.Found.{IsFindable, found_documents, id_of, is_before, matching_documents, place_of};
 ghost use Rattle.find.specs.declared.query.Query.{Query};
 
 /// What a query finds matches its selector, and is a document that queries look at and that has all
@@ -15,8 +15,10 @@ pub fn found_documents()
         → IsFindable query db v → Contains (found_documents query db) v }
 {}
 
-/// The documents that a query finds stand in the order of the values that they have at the fields of
-/// its sort, in its direction.
+/// Of any two documents that a query finds, the place of the first is strictly before that of the
+/// second, in the direction of its sort: by the values at the fields of the sort, and by id where these
+/// tie. Without a sort they go by id. No id stands there twice.
 pub fn order_of_found_documents()
-    ensures { (query : Query) (db : Database) → AllPairs (λ v w. may_precede query.descending (fields_order query.sort v w) ≡ true) (found_documents query db) }
+    ensures ordered { (query : Query) (db : Database) → AllPairs (λ v w. is_before query.descending (place_of query.sort v) (place_of query.sort w) ≡ true) (found_documents query db) }
+    ensures once { (query : Query) (db : Database) → AllPairs (λ v w. id_of v ≢ id_of w) (found_documents query db) }
 {}

@@ -6,7 +6,7 @@ use Rattle.store.specs.declared.store.Store.{Ghosts}
 use Rattle.world.specs.Happening.{Sight, exchanges}
 use Rattle.world.specs.Network.{Network}
 use Rattle.world.specs.declared.fate.Fate.TheVariants.{Answered}
-use Rattle.lab.specs.Replies.{IsShown, Runs, says_end}
+use Rattle.lab.specs.Replies.{IsShown, Runs, SaysItsEnd, says_end}
 use Rattle.lab.proofs.ReplyLemmas.{Appends-then}
 
 -- Some exchanges were made and printed, none of which was the last: what is made of the rest is made of all.
@@ -58,11 +58,12 @@ run_on {S} g most turn number name printed seen start now after old between new 
           (subst (λ (n : ℕ). Runs g n after number name rest end) left q)));
     }
 
-pub run_over : {S : Type 0} (g : Ghosts S) (most turn number : ℕ) (name : List ℕ) (start now : Network S) (old new : Option (List ℕ))
-    → HasRun g most (most - turn) number name start now old new → most ≤ turn → (shown : List ℕ) × Runs g most start number name shown now × Appends old new shown
-run_over {S} g most turn number name start now old new p le =
+pub run_over : {S : Type 0} (g : Ghosts S) (most turn number : ℕ) (name printed : List ℕ) (start now after : Network S) (old between new : Option (List ℕ))
+    → HasRun g most (most - turn) number name start now old between → most ≤ turn → SaysItsEnd g now number name printed after → Appends between new printed
+    → (shown : List ℕ) × Runs g most start number name shown after × Appends old new shown
+run_over {S} g most turn number name printed start now after old between new p le said appended =
     let none : most - turn ≡ 0 = omega (arith, le) in (
-      p.shown,
-      subst (λ (xs : List ℕ). Runs g most start number name xs now) (append-nil p.shown) (p.goes_on [] now (subst (λ (n : ℕ). Runs g n now number name [] now) (sym none) (refl, refl))),
-      p.appended,
+      p.shown ++ printed,
+      p.goes_on printed after (subst (λ (n : ℕ). Runs g n now number name printed after) (sym none) said),
+      Appends-then old between new p.shown printed p.appended appended,
     )

@@ -6,7 +6,7 @@ use Rattle.store.specs.declared.store.Store.{Ghosts}
 use Rattle.hub.specs.Answering.{StoreSteps}
 use Rattle.hub.specs.Connections.{is_open}
 use Rattle.world.specs.Happening.{Happening, Sight, comes, exchanges, replied, exchanged, ended}
-use Rattle.world.specs.Network.{Network}
+use Rattle.world.specs.Network.{Network, has_transfer_ended}
 use Rattle.world.specs.Playing.{Plays}
 use Rattle.world.specs.declared.fate.Fate.TheVariants.{Answered}
 use Rattle.lab.specs.Printed.{closed_line, end_line_of, reply_line, step_line_of}
@@ -42,9 +42,16 @@ is_end (ended number asked) = true
 abbrev pub says_end : List Sight → Bool
 says_end seen = list_any is_end seen
 
--- So many exchanges of this pass, or fewer, up to the one that says that the pass has ended.
+-- A pass that has ended says so, and one that hasn't says nothing; nothing is asked.
+abbrev pub SaysItsEnd : {S : Type 0} → Ghosts S → Network S → ℕ → List ℕ → List ℕ → Network S → Type 0
+SaysItsEnd g before number name printed after =
+    ((has_transfer_ended before.transfers number ≡ true)
+    × ((seen : List Sight) × IsShown g before (exchanges number Answered) name seen printed after))
+    ⊎ ((has_transfer_ended before.transfers number ≡ false) × (printed ≡ []) × (after ≡ before))
+
+-- So many exchanges of this pass, or fewer, up to its end. It is said also where the last of them was the last of the pass.
 abbrev pub Runs : {S : Type 0} → Ghosts S → ℕ → Network S → ℕ → List ℕ → List ℕ → Network S → Type 0
-Runs g zero before number name printed after = (printed ≡ []) × (after ≡ before)
+Runs g zero before number name printed after = SaysItsEnd g before number name printed after
 Runs {S} g (suc count) before number name printed after =
     (seen : List Sight) × (first : List ℕ) × (between : Network S) × IsShown g before (exchanges number Answered) name seen first between
     × (((says_end seen ≡ true) × (printed ≡ first) × (after ≡ between))

@@ -11,6 +11,10 @@ pub trait LabStore: Store + Drop {
     fn make(alloc: Global) -> Result<Self, StoreFault>
         ensures { IfOk result (λ store. Self.Store.contents store ≡ empty) };
 
+    /// Closes the store, and opens it again.
+    fn reopen(self) -> Result<Self, StoreFault>
+        ensures { IfOk result (λ store. Self.Store.contents store ≡ Self.Store.contents self) };
+
     /// Memory returns what was written.
     ghost honest: { (s : Self) → Self.Store.is_honest s };
 }
@@ -20,12 +24,20 @@ impl LabStore for PlainStore {
         Ok(PlainStore::new(alloc))
     }
 
+    fn reopen(self) -> Result<PlainStore, StoreFault> {
+        Ok(self)
+    }
+
     ghost honest = { λ _. tt };
 }
 
 impl LabStore for MemoryStore {
     fn make(alloc: Global) -> Result<MemoryStore, StoreFault> {
         MemoryStore::new(alloc)
+    }
+
+    fn reopen(self) -> Result<MemoryStore, StoreFault> {
+        MemoryStore::reopen(self)
     }
 
     ghost honest = { λ s. s.honest };

@@ -17,7 +17,7 @@ use std::time::Duration;
 use store::Store;
 
 /// How many seconds a client that gets no more replies may be silent.
-const SILENCE: u64 = 1;
+const LAST_SILENCE: u64 = 1;
 
 /// How many bytes of it are taken at a time.
 const PIECE: usize = 8_192;
@@ -50,13 +50,14 @@ pub fn open_hub<S: Store + Drop>(
 
 /// Serves so many connections of a hub, one after another. The answer is the program's status, 0.
 ///
-/// A connection whose bytes can't be read or written ends, and the next one is served. One that was
-/// reset before it was accepted counts. The only refusal is `Socket`: a connection could not be
-/// accepted.
+/// A read or a write that waits longer than `patience` has failed. A connection whose bytes can't be
+/// read or written ends, and the next one is served. One that was reset before it was accepted counts.
+/// The only refusal is `Socket`: a connection could not be accepted.
 pub fn serve<S: Store + Drop, L: OpenListener<Stream = TcpStream>>(
     hub: &mut Hub<S>,
     listener: &L,
     conns: u32,
+    patience: Duration,
 ) -> Result<u8, ProgramFault>
     ensures status { IfOk result (λ status. status ≡ 0) }
 
@@ -67,7 +68,7 @@ pub fn serve<S: Store + Drop, L: OpenListener<Stream = TcpStream>>(
     ensures socket { IfErr result (λ fault. fault ≡ ProgramFault.Socket) }
 {
     for _number in 0..conns {
-        serve_next(hub, listener)?;
+        serve_next(hub, listener, patience)?;
     }
     Ok(0)
 }
@@ -76,6 +77,7 @@ pub fn serve<S: Store + Drop, L: OpenListener<Stream = TcpStream>>(
 fn serve_next<S: Store + Drop, L: OpenListener<Stream = TcpStream>>(
     hub: &mut Hub<S>,
     listener: &L,
+    patience: Duration,
 ) -> Result<(), ProgramFault>
     ensures served { OnOk result (ServesOne S.Store hub.old hub.new) }
     ensures refused { OnErr result (hub.new ≡ hub.old) }
@@ -84,13 +86,14 @@ fn serve_next<S: Store + Drop, L: OpenListener<Stream = TcpStream>>(
     ensures socket { IfErr result (λ fault. fault ≡ ProgramFault.Socket) }
 {
     let accepted = listener.accept();
-    serve_accepted(hub, accepted)
+    serve_accepted(hub, accepted, patience)
 }
 
 /// Serves a connection, if one was accepted. One that was reset before is passed over.
 fn serve_accepted<S: Store + Drop>(
     hub: &mut Hub<S>,
     accepted: io::Result<(TcpStream, SocketAddr)>,
+    patience: Duration,
 ) -> Result<(), ProgramFault>
     ensures served { IfOk accepted (λ _. OnOk result (WasServed S.Store hub.old hub.new)) }
     ensures fine { IfOk accepted (λ _. OnErr result ⊥) }
@@ -103,7 +106,7 @@ fn serve_accepted<S: Store + Drop>(
 {
     match accepted {
         Ok((stream, _peer)) => {
-            serve_stream(hub, &stream);
+            serve_stream(hub, &stream, patience);
             Ok(())
         }
         Err(error) if error.kind() == ErrorKind::ConnectionAborted => Ok(()),
@@ -111,13 +114,16 @@ fn serve_accepted<S: Store + Drop>(
     }
 }
 
-/// Serves a connection. A reply goes out as soon as it is written, if the system can do that.
-fn serve_stream<S: Store + Drop>(hub: &mut Hub<S>, stream: &TcpStream)
+/// Serves a connection. Reads and writes that wait longer than `patience` fail, and a reply goes out as
+/// soon as it is written, if the system can do that.
+fn serve_stream<S: Store + Drop>(hub: &mut Hub<S>, stream: &TcpStream, patience: Duration)
     ensures served { WasServed S.Store hub.old hub.new }
     ensures configuration { hub.new.node.configuration ≡ hub.old.node.configuration }
     ensures onward { GoesOn S.Store hub.old.node.store hub.new.node.store }
 {
     let _ = stream.set_nodelay(true);
+    let _ = stream.set_read_timeout(Some(patience));
+    let _ = stream.set_write_timeout(Some(patience));
     let mut reader = stream;
     let mut writer = stream;
     let end = serve_connection(hub, &mut reader, &mut writer);
@@ -143,7 +149,7 @@ fn end_in_stages(stream: &TcpStream) {
         return;
     }
     if stream
-        .set_read_timeout(Some(Duration::from_secs(SILENCE)))
+        .set_read_timeout(Some(Duration::from_secs(LAST_SILENCE)))
         .is_err()
     {
         return;

@@ -5,7 +5,7 @@ ghost use Rattle.std.specs.Io.KnownBytes.{Appends};
 ghost use Rattle.world.specs.Happening.{Sight};
 ghost use Rattle.world.specs.Network.{AreHonest};
 ghost use Rattle.world.specs.Turning.{happening_of, sight_of};
-ghost use Rattle.lab.specs.Replies.{IsSent, IsShown, Runs, is_end, says_end, sight_line, sight_lines};
+ghost use Rattle.lab.specs.Replies.{IsSent, IsShown, Runs, SaysItsEnd, is_end, says_end, sight_line, sight_lines};
 
 use crate::fault::LineFault;
 use crate::lab_store::LabStore;
@@ -36,7 +36,8 @@ pub fn send<S: Store + Drop, W: Write>(
     Ok(())
 }
 
-/// Runs a pass to its end, with at most so many exchanges, and prints them.
+/// Runs a pass to its end, with at most so many exchanges, and prints them; and its end, also where the
+/// last of these exchanges was the last of the pass.
 pub fn run<S: LabStore, W: Write>(
     alloc: Global,
     world: &mut World<S>,
@@ -54,6 +55,25 @@ pub fn run<S: LabStore, W: Write>(
             return Ok(());
         }
     }
+    show_end(alloc, world, repl, name, out)
+}
+
+/// Prints that a pass has ended, where it has.
+fn show_end<S: LabStore, W: Write>(
+    alloc: Global,
+    world: &mut World<S>,
+    repl: u64,
+    name: &[u8],
+    out: &mut W,
+) -> Result<(), LineFault>
+    ensures said { OnOk result ((printed : List ℕ) × SaysItsEnd S.Store world.old repl name.now printed world.new
+        × Appends (W.contents out.old) (W.contents out.new) printed) }
+    ensures faults { result ≢ Err LineFault.Line }
+{
+    if !world.has_ended(repl) {
+        return Ok(());
+    }
+    show(alloc, world, Event::Exchange { repl }, name, out)?;
     Ok(())
 }
 

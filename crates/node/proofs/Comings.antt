@@ -12,11 +12,11 @@ use Rattle.node.specs.Answer.{entry, database_name_of, outcome_in, task_outcome,
 use Rattle.node.specs.Answered.{done_of, outcome_of}
 use Rattle.node.specs.Coming.{Comes}
 use Rattle.node.specs.Work.{Done, Work}
-use Rattle.api.specs.Refusals.{next, there_or}
-use Rattle.node.specs.Works.{deletion, document_deleted, edit_asked, edit_in}
+use Rattle.api.specs.Refusals.{next}
+use Rattle.node.specs.Works.{deletion, deletion_outcome, document_deleted, edit_asked, edit_done, edit_in}
+use Rattle.write.specs.Terms.{terms_in}
 use Rattle.node.specs.declared.answered.Worked.{Worked}
 use Rattle.api.specs.declared.refusal.Refusal.{Refusal}
-use Rattle.api.specs.declared.refusal.Refusal.TheVariants.{Conflict}
 use Rattle.node.specs.declared.stop.Stop.{Stop}
 use Rattle.node.specs.declared.stop.Stop.TheVariants.{Refused, Failed, NoRoom}
 
@@ -47,6 +47,6 @@ pub deletion_comes : (caller : Identity) (m : Message) (name : List ℕ) (db : D
     → edit_asked m ≡ Ok asked → asked.1 ≡ Some rev → document ≡ deletion → Comes (done_of db) result (edit_in caller 200 name db asked.0 (Some rev) document)
     → Comes (done_of db) result (document_deleted caller m name db)
 deletion_comes caller m name db asked rev document result own named made h =
-    subst (λ (r : Result (List ℕ × Option Revision) Refusal). Comes (done_of db) result (next r (λ a. next (there_or Conflict a.1) (λ s. edit_in caller 200 name db a.0 (Some s) deletion)))) (sym own)
-    (subst (λ (o : Option Revision). Comes (done_of db) result (next (there_or Conflict o) (λ s. edit_in caller 200 name db asked.0 (Some s) deletion))) (sym named)
+    subst (λ (r : Result (List ℕ × Option Revision) Refusal). Comes (done_of db) result (next r (λ a. edit_done caller 200 a.0 (deletion_outcome (terms_in caller name db) db a.0 a.1)))) (sym own)
+    (subst (λ (o : Option Revision). Comes (done_of db) result (edit_done caller 200 asked.0 (deletion_outcome (terms_in caller name db) db asked.0 o))) (sym named)
     (subst (λ (v : Value). Comes (done_of db) result (edit_in caller 200 name db asked.0 (Some rev) v)) made h))

@@ -1,5 +1,5 @@
 -- Each denial names the first rule that refuses, and is told to the caller as it should be.
-use Rattle.std.proofs.Common.{◌≡◌, ◌≢◌, cond, arith, ℕ, List, Bool, true, false, is_none, option_map, Option, Some, None, Result, Ok, Err, ◌⊎◌, inl, inr, refl, ap, sym, ◌∙◌, subst}
+use Rattle.std.proofs.Common.{◌≡◌, ◌≢◌, cond, arith, ℕ, List, Bool, true, false, is_none, option_map, Option, Some, None, Result, Ok, Err, inl, inr, refl, ap, sym, ◌∙◌, subst}
 use Rattle.std.specs.Prelude.{⊤, map}
 use Rattle.std.specs.FinMap.{get}
 use Rattle.auth.specs.Callers.{Configuration, Identity, caller_of}
@@ -22,7 +22,7 @@ use Rattle.store.specs.Database.{Database, DocumentWrite, history_at}
 use Rattle.store.specs.declared.local_document.LocalDocument.{LocalDocument}
 use Rattle.tree.specs.DocumentId.{is_design_id}
 use Rattle.tree.specs.Revision.{Revision}
-use Rattle.write.specs.Admission.{admission}
+use Rattle.write.specs.Admission.{admission, unnamed_deletion}
 use Rattle.write.specs.Bulk.{DocumentOutcome}
 use Rattle.write.specs.IndexWrites.{index_admission}
 use Rattle.write.specs.LocalWrites.{local_body, local_by, local_outcome, local_rev, names_stored, next_number, local_of_number}
@@ -30,7 +30,7 @@ use Rattle.write.specs.Planning.{security_outcome}
 use Rattle.write.specs.Terms.{Terms, terms_in}
 use Rattle.write.specs.declared.fault.WriteFault.{WriteFault}
 use Rattle.write.specs.declared.fault.WriteFault.TheVariants as write
-use Rattle.write.proofs.Outcomes.{edit_denied, index_denied}
+use Rattle.write.proofs.Outcomes.{edit_denied, index_denied, unnamed_denied}
 use Rattle.api.specs.Asking.{asker, body_of, denial, identity_or_refusal, method_of, pair_of, plain, value_or_refusal}
 use Rattle.api.specs.Bulk.{bulk_in}
 use Rattle.api.specs.Listings.{changes_query, differences_in, listing_query}
@@ -51,9 +51,9 @@ use Rattle.api.specs.declared.refusal.Refusal.{Refusal}
 use Rattle.api.specs.declared.refusal.Refusal.TheVariants.{Unauthorized, Forbidden, Path, Method, DatabaseName, NoDatabase, Exists, Id, Query, Syntax, Body, BadDocument, BadHistory, Conflict, Generation, Missing, Deleted}
 use Rattle.node.specs.Answer.{Task, administration, permission, created, entry, admin_task, judgement, listed, database_name_of, task_outcome, removed, page_outcome, task_of, told, worked, work_task}
 use Rattle.node.proofs.Tasks.{named, same, there, went}
-use Rattle.node.specs.Denials.{IsDenied, IsDue, IsToldRule, IsUnvouched, rule_denied_by}
+use Rattle.node.specs.Denials.{IsAskedAt, IsDenied, IsDue, IsOf, IsOwn, IsToldRule, IsUnvouched, MayDeny, WritesBy, rule_denied_by}
 use Rattle.node.specs.Work.{Work, read_work}
-use Rattle.node.specs.Works.{change_list, database_read, difference_list, document_deleted, document_finds, document_list, document_read, document_written, documents_written, deletion, edit_asked, edit_done, found, index_asked_in, index_done, index_written, local_read, local_set, local_written, read_by, security_read, security_set, security_written, view_read}
+use Rattle.node.specs.Works.{change_list, database_read, difference_list, document_deleted, document_finds, document_list, document_read, document_written, documents_written, deletion, deletion_outcome, edit_asked, edit_done, found, index_asked_in, index_done, index_written, local_read, local_set, local_written, read_by, security_read, security_set, security_written, view_read}
 
 -- ---- refusals of steps
 
@@ -104,9 +104,10 @@ fair_permission : (a : Contents) (m : Message) (caller : Identity) (o : Option R
 fair_permission a m caller None due = fair_ok a m caller tt
 fair_permission a m caller (Some rule) due = λ e h. rightly rule (sym (same_refusal (denial caller rule) e h)) (due rule refl)
 
-fair_administration : (a : Contents) (m : Message) (caller : Identity) → AreFair a m caller (administration caller)
-fair_administration a m caller =
-    fair_permission a m caller (verdict Administer caller closed_security) (λ rule first. inl (record { action = Administer; security = closed_security; asked = inl refl; first = first }))
+fair_administration : (a : Contents) (m : Message) (caller : Identity) → MayDeny m Administer → AreFair a m caller (administration caller)
+fair_administration a m caller may =
+    fair_permission a m caller (verdict Administer caller closed_security)
+    (λ rule first. inl (record { action = Administer; security = closed_security; asked = may; of = refl; first = first }))
 
 -- ---- work in a database
 
@@ -173,46 +174,85 @@ fair_asked a m caller =
     fair_next a m caller (there_or Id (document_id_in m.path)) _ (fair_there a m caller Id (document_id_in m.path) refl)
     (λ id is. fair_next a m caller (there_or Query (revision_query m.query)) _ (fair_there a m caller Query (revision_query m.query) refl) (λ rev said. fair_ok a m caller (id, rev)))
 
-asked_leads : (m : Message) (asked : List ℕ × Option Revision) → edit_asked m ≡ Ok asked → document_id_in m.path ≡ Some asked.0
-asked_leads m asked e =
+-- the id and the revision that were read are those of the path and of the query
+record IsAsked (m : Message) (asked : List ℕ × Option Revision) : Type 0 where
+  leads : document_id_in m.path ≡ Some asked.0
+  named : revision_query m.query ≡ Some asked.1
+
+is_asked : (m : Message) (asked : List ℕ × Option Revision) → edit_asked m ≡ Ok asked → IsAsked m asked
+is_asked m asked e =
     let k = went (there_or Id (document_id_in m.path)) (λ id. next (there_or Query (revision_query m.query)) (λ rev. Ok (id, rev))) asked e in
     let l = went (there_or Query (revision_query m.query)) (λ rev. Ok (k.first, rev)) asked k.then in
-    named Id (document_id_in m.path) k.first k.was ∙ ap (λ (x : List ℕ × Option Revision). Some x.0) (same {A = List ℕ × Option Revision} (k.first, l.first) asked l.then)
+    let is = same {A = List ℕ × Option Revision} (k.first, l.first) asked l.then in
+    record {
+      leads = named Id (document_id_in m.path) k.first k.was ∙ ap (λ (x : List ℕ × Option Revision). Some x.0) is;
+      named = named Query (revision_query m.query) l.first l.was ∙ ap (λ (x : List ℕ × Option Revision). Some x.1) is;
+    }
 
 -- the database that the path leads into, where it is there
 record IsIn (a : Contents) (m : Message) (name : List ℕ) (db : Database) : Type 0 where
   own : database_name_in m.path ≡ Some name
   there : get a name ≡ Some db
 
-edit_due : (a : Contents) (m : Message) (caller : Identity) (name : List ℕ) (db : Database) (asked : List ℕ × Option Revision) (query : Option Revision) (document : Value) (rule : Rule)
-    → IsIn a m name db → edit_asked m ≡ Ok asked → (body_of m ≡ Ok document) ⊎ (document ≡ deletion)
-    → admission (terms_in caller name db) db asked.0 query document ≡ Err (write.Denied rule) → IsDue a m caller rule
-edit_due a m caller name db asked query document rule place leads says denied = inr (record {
-  name = name;
-  db = db;
-  id = asked.0;
-  query = query;
-  document = document;
-  own = place.own;
-  there = place.there;
-  leads = asked_leads m asked leads;
-  says = says;
-  due = edit_denied (terms_in caller name db) asked.0 (history_at db asked.0) query document rule denied;
-})
+-- a document is asked for by this method, in such a database, by a caller who may write documents there
+record IsEdited (a : Contents) (m : Message) (caller : Identity) (name : List ℕ) (db : Database) (method : RequestMethod) : Type 0 where
+  place : IsIn a m name db
+  member : verdict WriteDocument caller db.security ≡ None
+  page : page_of m.path ≡ Some Document
+  by : method_of m.method ≡ Some method
 
-fair_writing : (a : Contents) (m : Message) (caller : Identity) (name : List ℕ) (db : Database) → IsIn a m name db → AreFair a m caller (document_written caller m name db)
-fair_writing a m caller name db place =
-    fair_next a m caller (edit_asked m) _ (fair_asked a m caller)
-    (λ asked leads. fair_next a m caller (body_of m) _ (fair_body a m caller)
-    (λ document says. fair_edit a m caller 201 asked.0 (admission (terms_in caller name db) db asked.0 asked.1 document)
-    (λ rule denied. edit_due a m caller name db asked asked.1 document rule place leads (inl says) denied)))
+module _ (a : Contents) (m : Message) (caller : Identity) (name : List ℕ) (db : Database) where
+  edit_due : (method : RequestMethod) → IsEdited a m caller name db method → (asked : List ℕ × Option Revision) (document : Value) (rule : Rule) → edit_asked m ≡ Ok asked
+      → WritesBy (Some method) m asked.1 document → admission (terms_in caller name db) db asked.0 asked.1 document ≡ Err (write.Denied rule) → IsDue a m caller rule
+  edit_due method at asked document rule is writes denied = inr (inl (record {
+    name = name;
+    db = db;
+    id = asked.0;
+    query = asked.1;
+    document = document;
+    page = at.page;
+    own = at.place.own;
+    there = at.place.there;
+    member = at.member;
+    leads = (is_asked m asked is).leads;
+    named = (is_asked m asked is).named;
+    writes = subst (λ (x : Option RequestMethod). WritesBy x m asked.1 document) (sym at.by) writes;
+    due = edit_denied (terms_in caller name db) asked.0 (history_at db asked.0) asked.1 document rule denied;
+  }))
 
-fair_deleting : (a : Contents) (m : Message) (caller : Identity) (name : List ℕ) (db : Database) → IsIn a m name db → AreFair a m caller (document_deleted caller m name db)
-fair_deleting a m caller name db place =
-    fair_next a m caller (edit_asked m) _ (fair_asked a m caller)
-    (λ asked leads. fair_next a m caller (there_or Conflict asked.1) _ (fair_there a m caller Conflict asked.1 refl)
-    (λ rev is. fair_edit a m caller 200 asked.0 (admission (terms_in caller name db) db asked.0 (Some rev) deletion)
-    (λ rule denied. edit_due a m caller name db asked (Some rev) deletion rule place leads (inr refl) denied)))
+  fair_writing : IsEdited a m caller name db Put → AreFair a m caller (document_written caller m name db)
+  fair_writing at =
+      fair_next a m caller (edit_asked m) _ (fair_asked a m caller)
+      (λ asked is. fair_next a m caller (body_of m) _ (fair_body a m caller)
+      (λ document says. fair_edit a m caller 201 asked.0 (admission (terms_in caller name db) db asked.0 asked.1 document)
+      (λ rule denied. edit_due Put at asked document rule is says denied)))
+
+  -- a deletion that names no revision is denied by the condition on writing design documents alone
+  unnamed_due : IsEdited a m caller name db Delete → (id : List ℕ) (rule : Rule) → edit_asked m ≡ Ok (id, None)
+      → unnamed_deletion (terms_in caller name db) id ≡ Err (write.Denied rule) → IsDue a m caller rule
+  unnamed_due at id rule is denied = inr (inr (record {
+    name = name;
+    db = db;
+    id = id;
+    page = at.page;
+    method = at.by;
+    own = at.place.own;
+    there = at.place.there;
+    member = at.member;
+    leads = (is_asked m (id, None) is).leads;
+    named = (is_asked m (id, None) is).named;
+    due = unnamed_denied (terms_in caller name db) id rule denied;
+  }))
+
+  fair_deletion : IsEdited a m caller name db Delete → (id : List ℕ) (query : Option Revision) → edit_asked m ≡ Ok (id, query)
+      → AreFair a m caller (edit_done caller 200 id (deletion_outcome (terms_in caller name db) db id query))
+  fair_deletion at id None is = fair_edit a m caller 200 id (unnamed_deletion (terms_in caller name db) id) (λ rule denied. unnamed_due at id rule is denied)
+  fair_deletion at id (Some rev) is =
+      fair_edit a m caller 200 id (admission (terms_in caller name db) db id (Some rev) deletion)
+      (λ rule denied. edit_due Delete at (id, Some rev) deletion rule is (refl, refl) denied)
+
+  fair_deleting : IsEdited a m caller name db Delete → AreFair a m caller (document_deleted caller m name db)
+  fair_deleting at = fair_next a m caller (edit_asked m) _ (fair_asked a m caller) (λ asked is. fair_deletion at asked.0 asked.1 is)
 
 fair_documents : (a : Contents) (m : Message) (caller : Identity) (name : List ℕ) (db : Database) → AreFair a m caller (documents_written caller m name db)
 fair_documents a m caller name db =
@@ -227,9 +267,9 @@ fair_finds a m caller db =
     (λ v said. fair_next a m caller (there_or Body (query_in v)) _ (fair_there a m caller Body (query_in v) refl) (λ query asked. fair_ok a m caller _)))
 
 -- an index is denied as a design document alone, by the security object of its database
-fair_index : (a : Contents) (m : Message) (caller : Identity) (name : List ℕ) (db : Database) (asked : IndexAsked) → IsIn a m name db → is_design_id asked.design ≡ true
-    → AreFair a m caller (index_asked_in caller name db asked)
-fair_index a m caller name db asked place design = by (index_admission terms db asked.design asked.name asked.fields) refl
+fair_index : (a : Contents) (m : Message) (caller : Identity) (name : List ℕ) (db : Database) (asked : IndexAsked) → MayDeny m WriteDesign → IsIn a m name db
+    → is_design_id asked.design ≡ true → AreFair a m caller (index_asked_in caller name db asked)
+fair_index a m caller name db asked may place design = by (index_admission terms db asked.design asked.name asked.fields) refl
   where
     terms : Terms
     terms = terms_in caller name db
@@ -238,7 +278,8 @@ fair_index a m caller name db asked place design = by (index_admission terms db 
     due rule e = inl (record {
       action = WriteDesign;
       security = db.security;
-      asked = inr (name, db, place.own, place.there, refl);
+      asked = may;
+      of = record { name = name; db = db; own = place.own; there = place.there; is = refl };
       first = (index_denied terms asked.design (history_at db asked.design) asked.name asked.fields rule design e).first;
     })
 
@@ -252,12 +293,12 @@ fair_index a m caller name db asked place design = by (index_admission terms db 
     by (Err (write.Store fault)) is = fair_other a m caller Conflict refl
     by (Err write.Memory) is = fair_other a m caller Conflict refl
 
-fair_indexing : (a : Contents) (m : Message) (caller : Identity) (name : List ℕ) (db : Database) → IsIn a m name db → AreFair a m caller (index_written caller m name db)
-fair_indexing a m caller name db place =
+fair_indexing : (a : Contents) (m : Message) (caller : Identity) (name : List ℕ) (db : Database) → MayDeny m WriteDesign → IsIn a m name db → AreFair a m caller (index_written caller m name db)
+fair_indexing a m caller name db may place =
     fair_next a m caller (plain m) _ (fair_plain a m caller)
     (λ u is. fair_next a m caller (body_of m) _ (fair_body a m caller)
     (λ v said. fair_next a m caller (there_or Body (index_in v)) _ (fair_there a m caller Body (index_in v) refl)
-    (λ asked is. fair_index a m caller name db asked place (index_in-design v asked (named Body (index_in v) asked is)))))
+    (λ asked is. fair_index a m caller name db asked may place (index_in-design v asked (named Body (index_in v) asked is)))))
 
 fair_view : (a : Contents) (m : Message) (caller : Identity) (db : Database) → AreFair a m caller (view_read m db)
 fair_view a m caller db =
@@ -302,18 +343,24 @@ fair_storing a m caller db =
 
 -- ---- what is asked
 
+-- the request asks for this action, under the security object of the database that its path leads into
+record IsInside (a : Contents) (m : Message) (action : Action) : Type 0 where
+  asked : MayDeny m action
+  of : (security : Value) → IsOwn a m security → IsOf action a m security
+
 abbrev IsFairTask : Contents → Message → Identity → Task → Type 0
 IsFairTask a m caller (told value) = ⊤
 IsFairTask a m caller listed = ⊤
 IsFairTask a m caller (created name asked) = AreFair a m caller asked
 IsFairTask a m caller (removed name asked) = AreFair a m caller asked
-IsFairTask a m caller (worked action name work) = (database_name_in m.path ≡ Some name) × ((db : Database) → IsIn a m name db → AreFair a m caller (work db))
+IsFairTask a m caller (worked action name work) =
+    (database_name_in m.path ≡ Some name) × ((db : Database) → IsIn a m name db → verdict action caller db.security ≡ None → AreFair a m caller (work db)) × IsInside a m action
 
-fair_work : (a : Contents) (m : Message) (caller : Identity) (action : Action) (w : List ℕ → Work) (task : Task) → ((name : List ℕ) (db : Database) → IsIn a m name db → AreFair a m caller (w name db))
-    → work_task action m w ≡ Ok task → IsFairTask a m caller task
-fair_work a m caller action w task all e =
+fair_work : (a : Contents) (m : Message) (caller : Identity) (action : Action) (w : List ℕ → Work) (task : Task) → IsInside a m action
+    → ((name : List ℕ) (db : Database) → IsIn a m name db → verdict action caller db.security ≡ None → AreFair a m caller (w name db)) → work_task action m w ≡ Ok task → IsFairTask a m caller task
+fair_work a m caller action w task inside all e =
     let k = went (database_name_of m) (λ name. Ok (worked action name (w name))) task e in
-    subst (λ (x : Task). IsFairTask a m caller x) (same {A = Task} _ task k.then) (named DatabaseName (database_name_in m.path) k.first k.was, all k.first)
+    subst (λ (x : Task). IsFairTask a m caller x) (same {A = Task} _ task k.then) (named DatabaseName (database_name_in m.path) k.first k.was, all k.first, inside)
 
 fair_admin : (a : Contents) (m : Message) (caller : Identity) (t : List ℕ → Task) (task : Task) → ((name : List ℕ) → IsFairTask a m caller (t name)) → admin_task caller m t ≡ Ok task → IsFairTask a m caller task
 fair_admin a m caller t task all e =
@@ -321,31 +368,39 @@ fair_admin a m caller t task all e =
     let l = went (administration caller) (λ _. Ok (t k.first)) task k.then in
     subst (λ (x : Task). IsFairTask a m caller x) (same {A = Task} _ task l.then) (all k.first)
 
-fair_task : (a : Contents) (page : Page) (method : Option RequestMethod) (caller : Identity) (m : Message) (task : Task) → task_of page method caller m ≡ Ok task → IsFairTask a m caller task
-fair_task a Welcome (Some Get) caller m task e =
+-- the request is for this page by this method
+abbrev IsFor : Page → Option RequestMethod → Message → Type 0
+IsFor page method m = (page_of m.path ≡ Some page) × (method_of m.method ≡ method)
+
+-- so each action may deny it that these ask for
+may : (page : Page) (method : Option RequestMethod) (m : Message) → IsFor page method m → (action : Action) → IsAskedAt page method action → MayDeny m action
+may page method m is action asked = record { page = page; leads = is.0; asked = subst (λ (x : Option RequestMethod). IsAskedAt page x action) (sym is.1) asked }
+
+fair_task : (a : Contents) (page : Page) (method : Option RequestMethod) (caller : Identity) (m : Message) (task : Task) → IsFor page method m → task_of page method caller m ≡ Ok task → IsFairTask a m caller task
+fair_task a Welcome (Some Get) caller m task is e =
     let k = went (plain m) (λ _. Ok _) task e in subst (λ (x : Task). IsFairTask a m caller x) (same {A = Task} _ task k.then) tt
-fair_task a AllDatabases (Some Get) caller m task e =
+fair_task a AllDatabases (Some Get) caller m task is e =
     let k = went (administration caller) (λ _. next (plain m) (λ _. Ok listed)) task e in
     let l = went (plain m) (λ _. Ok listed) task k.then in
     subst (λ (x : Task). IsFairTask a m caller x) (same {A = Task} _ task l.then) tt
-fair_task a DatabasePage (Some Get) caller m task e = fair_work a m caller Read (λ name. read_work (database_read m name)) task (λ name db place. fair_read a m caller (database_read m name) db (fair_database a m caller name db)) e
-fair_task a DatabasePage (Some Put) caller m task e = fair_admin a m caller (λ name. created name (plain m)) task (λ name. fair_plain a m caller) e
-fair_task a DatabasePage (Some Delete) caller m task e = fair_admin a m caller (λ name. removed name (plain m)) task (λ name. fair_plain a m caller) e
-fair_task a Security (Some Get) caller m task e = fair_work a m caller Read (λ name. read_work (security_read m)) task (λ name db place. fair_read a m caller (security_read m) db (fair_security a m caller db)) e
-fair_task a Security (Some Put) caller m task e = fair_work a m caller WriteSecurity (λ name. security_written m) task (λ name db place. fair_securing a m caller db) e
-fair_task a BulkDocuments (Some Post) caller m task e = fair_work a m caller WriteDocument (λ name. documents_written caller m name) task (λ name db place. fair_documents a m caller name db) e
-fair_task a AllDocuments (Some Get) caller m task e = fair_work a m caller Read (λ name. read_work (document_list m)) task (λ name db place. fair_read a m caller (document_list m) db (fair_listing a m caller db)) e
-fair_task a Changes (Some Get) caller m task e = fair_work a m caller Read (λ name. read_work (change_list m)) task (λ name db place. fair_read a m caller (change_list m) db (fair_changes a m caller db)) e
-fair_task a Differences (Some Post) caller m task e = fair_work a m caller Read (λ name. read_work (difference_list m)) task (λ name db place. fair_read a m caller (difference_list m) db (fair_differences a m caller db)) e
-fair_task a Document (Some Get) caller m task e = fair_work a m caller Read (λ name. read_work (document_read m)) task (λ name db place. fair_read a m caller (document_read m) db (fair_document a m caller db)) e
-fair_task a Document (Some Put) caller m task e = fair_work a m caller WriteDocument (λ name. document_written caller m name) task (λ name db place. fair_writing a m caller name db place) e
-fair_task a Document (Some Delete) caller m task e = fair_work a m caller WriteDocument (λ name. document_deleted caller m name) task (λ name db place. fair_deleting a m caller name db place) e
-fair_task a Find (Some Post) caller m task e = fair_work a m caller Read (λ name. read_work (document_finds m)) task (λ name db place. fair_read a m caller (document_finds m) db (fair_finds a m caller db)) e
-fair_task a Index (Some Post) caller m task e = fair_work a m caller WriteDocument (λ name. index_written caller m name) task (λ name db place. fair_indexing a m caller name db place) e
-fair_task a View (Some Get) caller m task e = fair_work a m caller Read (λ name. read_work (view_read m)) task (λ name db place. fair_read a m caller (view_read m) db (fair_view a m caller db)) e
-fair_task a LocalDocumentPage (Some Get) caller m task e = fair_work a m caller Read (λ name. read_work (local_read m)) task (λ name db place. fair_read a m caller (local_read m) db (fair_local a m caller db)) e
-fair_task a LocalDocumentPage (Some Put) caller m task e = fair_work a m caller Read (λ name. local_written caller m) task (λ name db place. fair_storing a m caller db) e
-fair_task a page method caller m task e = absurd cc
+fair_task a DatabasePage (Some Get) caller m task is e = fair_work a m caller Read (λ name. read_work (database_read m name)) task (record { asked = may DatabasePage (Some Get) m is Read refl; of = λ security own. own }) (λ name db place member. fair_read a m caller (database_read m name) db (fair_database a m caller name db)) e
+fair_task a DatabasePage (Some Put) caller m task is e = fair_admin a m caller (λ name. created name (plain m)) task (λ name. fair_plain a m caller) e
+fair_task a DatabasePage (Some Delete) caller m task is e = fair_admin a m caller (λ name. removed name (plain m)) task (λ name. fair_plain a m caller) e
+fair_task a Security (Some Get) caller m task is e = fair_work a m caller Read (λ name. read_work (security_read m)) task (record { asked = may Security (Some Get) m is Read refl; of = λ security own. own }) (λ name db place member. fair_read a m caller (security_read m) db (fair_security a m caller db)) e
+fair_task a Security (Some Put) caller m task is e = fair_work a m caller WriteSecurity (λ name. security_written m) task (record { asked = may Security (Some Put) m is WriteSecurity refl; of = λ security own. own }) (λ name db place member. fair_securing a m caller db) e
+fair_task a BulkDocuments (Some Post) caller m task is e = fair_work a m caller WriteDocument (λ name. documents_written caller m name) task (record { asked = may BulkDocuments (Some Post) m is WriteDocument refl; of = λ security own. own }) (λ name db place member. fair_documents a m caller name db) e
+fair_task a AllDocuments (Some Get) caller m task is e = fair_work a m caller Read (λ name. read_work (document_list m)) task (record { asked = may AllDocuments (Some Get) m is Read refl; of = λ security own. own }) (λ name db place member. fair_read a m caller (document_list m) db (fair_listing a m caller db)) e
+fair_task a Changes (Some Get) caller m task is e = fair_work a m caller Read (λ name. read_work (change_list m)) task (record { asked = may Changes (Some Get) m is Read refl; of = λ security own. own }) (λ name db place member. fair_read a m caller (change_list m) db (fair_changes a m caller db)) e
+fair_task a Differences (Some Post) caller m task is e = fair_work a m caller Read (λ name. read_work (difference_list m)) task (record { asked = may Differences (Some Post) m is Read refl; of = λ security own. own }) (λ name db place member. fair_read a m caller (difference_list m) db (fair_differences a m caller db)) e
+fair_task a Document (Some Get) caller m task is e = fair_work a m caller Read (λ name. read_work (document_read m)) task (record { asked = may Document (Some Get) m is Read refl; of = λ security own. own }) (λ name db place member. fair_read a m caller (document_read m) db (fair_document a m caller db)) e
+fair_task a Document (Some Put) caller m task is e = fair_work a m caller WriteDocument (λ name. document_written caller m name) task (record { asked = may Document (Some Put) m is WriteDocument refl; of = λ security own. own }) (λ name db place member. fair_writing a m caller name db (record { place = place; member = member; page = is.0; by = is.1 })) e
+fair_task a Document (Some Delete) caller m task is e = fair_work a m caller WriteDocument (λ name. document_deleted caller m name) task (record { asked = may Document (Some Delete) m is WriteDocument refl; of = λ security own. own }) (λ name db place member. fair_deleting a m caller name db (record { place = place; member = member; page = is.0; by = is.1 })) e
+fair_task a Find (Some Post) caller m task is e = fair_work a m caller Read (λ name. read_work (document_finds m)) task (record { asked = may Find (Some Post) m is Read refl; of = λ security own. own }) (λ name db place member. fair_read a m caller (document_finds m) db (fair_finds a m caller db)) e
+fair_task a Index (Some Post) caller m task is e = fair_work a m caller WriteDocument (λ name. index_written caller m name) task (record { asked = may Index (Some Post) m is WriteDocument (inl refl); of = λ security own. own }) (λ name db place member. fair_indexing a m caller name db (may Index (Some Post) m is WriteDesign (inr refl)) place) e
+fair_task a View (Some Get) caller m task is e = fair_work a m caller Read (λ name. read_work (view_read m)) task (record { asked = may View (Some Get) m is Read refl; of = λ security own. own }) (λ name db place member. fair_read a m caller (view_read m) db (fair_view a m caller db)) e
+fair_task a LocalDocumentPage (Some Get) caller m task is e = fair_work a m caller Read (λ name. read_work (local_read m)) task (record { asked = may LocalDocumentPage (Some Get) m is Read refl; of = λ security own. own }) (λ name db place member. fair_read a m caller (local_read m) db (fair_local a m caller db)) e
+fair_task a LocalDocumentPage (Some Put) caller m task is e = fair_work a m caller Read (λ name. local_written caller m) task (record { asked = may LocalDocumentPage (Some Put) m is Read refl; of = λ security own. own }) (λ name db place member. fair_storing a m caller db) e
+fair_task a page method caller m task is e = absurd cc
 
 fair_named : (a : Contents) (m : Message) (caller : Identity) → AreFair a m caller (database_name_of m)
 fair_named a m caller = fair_there a m caller DatabaseName (database_name_in m.path) refl
@@ -353,44 +408,59 @@ fair_named a m caller = fair_there a m caller DatabaseName (database_name_in m.p
 fair_work_asked : (a : Contents) (m : Message) (caller : Identity) (action : Action) (w : List ℕ → Work) → AreFair a m caller (work_task action m w)
 fair_work_asked a m caller action w = fair_next a m caller (database_name_of m) _ (fair_named a m caller) (λ name is. fair_ok a m caller _)
 
-fair_admin_asked : (a : Contents) (m : Message) (caller : Identity) (t : List ℕ → Task) → AreFair a m caller (admin_task caller m t)
-fair_admin_asked a m caller t =
+fair_admin_asked : (a : Contents) (m : Message) (caller : Identity) (t : List ℕ → Task) → MayDeny m Administer → AreFair a m caller (admin_task caller m t)
+fair_admin_asked a m caller t may =
     fair_next a m caller (database_name_of m) _ (fair_named a m caller)
-    (λ name is. fair_next a m caller (administration caller) _ (fair_administration a m caller) (λ u allowed. fair_ok a m caller _))
+    (λ name is. fair_next a m caller (administration caller) _ (fair_administration a m caller may) (λ u allowed. fair_ok a m caller _))
 
-fair_page : (a : Contents) (page : Page) (method : Option RequestMethod) (caller : Identity) (m : Message) → AreFair a m caller (task_of page method caller m)
-fair_page a Welcome (Some Get) caller m = fair_next a m caller (plain m) _ (fair_plain a m caller) (λ u is. fair_ok a m caller _)
-fair_page a AllDatabases (Some Get) caller m =
-    fair_next a m caller (administration caller) _ (fair_administration a m caller) (λ u is. fair_next a m caller (plain m) _ (fair_plain a m caller) (λ v plainly. fair_ok a m caller _))
-fair_page a DatabasePage (Some Get) caller m = fair_work_asked a m caller Read _
-fair_page a DatabasePage (Some Put) caller m = fair_admin_asked a m caller _
-fair_page a DatabasePage (Some Delete) caller m = fair_admin_asked a m caller _
-fair_page a Security (Some Get) caller m = fair_work_asked a m caller Read _
-fair_page a Security (Some Put) caller m = fair_work_asked a m caller WriteSecurity _
-fair_page a BulkDocuments (Some Post) caller m = fair_work_asked a m caller WriteDocument _
-fair_page a AllDocuments (Some Get) caller m = fair_work_asked a m caller Read _
-fair_page a Changes (Some Get) caller m = fair_work_asked a m caller Read _
-fair_page a Differences (Some Post) caller m = fair_work_asked a m caller Read _
-fair_page a Document (Some Get) caller m = fair_work_asked a m caller Read _
-fair_page a Document (Some Put) caller m = fair_work_asked a m caller WriteDocument _
-fair_page a Document (Some Delete) caller m = fair_work_asked a m caller WriteDocument _
-fair_page a Find (Some Post) caller m = fair_work_asked a m caller Read _
-fair_page a Index (Some Post) caller m = fair_work_asked a m caller WriteDocument _
-fair_page a View (Some Get) caller m = fair_work_asked a m caller Read _
-fair_page a LocalDocumentPage (Some Get) caller m = fair_work_asked a m caller Read _
-fair_page a LocalDocumentPage (Some Put) caller m = fair_work_asked a m caller Read _
-fair_page a page method caller m = fair_other a m caller Method refl
+fair_page : (a : Contents) (page : Page) (method : Option RequestMethod) (caller : Identity) (m : Message) → IsFor page method m → AreFair a m caller (task_of page method caller m)
+fair_page a Welcome (Some Get) caller m for = fair_next a m caller (plain m) _ (fair_plain a m caller) (λ u is. fair_ok a m caller _)
+fair_page a AllDatabases (Some Get) caller m for =
+    fair_next a m caller (administration caller) _ (fair_administration a m caller (may _ _ m for Administer refl)) (λ u is. fair_next a m caller (plain m) _ (fair_plain a m caller) (λ v plainly. fair_ok a m caller _))
+fair_page a DatabasePage (Some Get) caller m for = fair_work_asked a m caller Read _
+fair_page a DatabasePage (Some Put) caller m for = fair_admin_asked a m caller _ (may _ _ m for Administer refl)
+fair_page a DatabasePage (Some Delete) caller m for = fair_admin_asked a m caller _ (may _ _ m for Administer refl)
+fair_page a Security (Some Get) caller m for = fair_work_asked a m caller Read _
+fair_page a Security (Some Put) caller m for = fair_work_asked a m caller WriteSecurity _
+fair_page a BulkDocuments (Some Post) caller m for = fair_work_asked a m caller WriteDocument _
+fair_page a AllDocuments (Some Get) caller m for = fair_work_asked a m caller Read _
+fair_page a Changes (Some Get) caller m for = fair_work_asked a m caller Read _
+fair_page a Differences (Some Post) caller m for = fair_work_asked a m caller Read _
+fair_page a Document (Some Get) caller m for = fair_work_asked a m caller Read _
+fair_page a Document (Some Put) caller m for = fair_work_asked a m caller WriteDocument _
+fair_page a Document (Some Delete) caller m for = fair_work_asked a m caller WriteDocument _
+fair_page a Find (Some Post) caller m for = fair_work_asked a m caller Read _
+fair_page a Index (Some Post) caller m for = fair_work_asked a m caller WriteDocument _
+fair_page a View (Some Get) caller m for = fair_work_asked a m caller Read _
+fair_page a LocalDocumentPage (Some Get) caller m for = fair_work_asked a m caller Read _
+fair_page a LocalDocumentPage (Some Put) caller m for = fair_work_asked a m caller Read _
+fair_page a page method caller m for = fair_other a m caller Method refl
 
 -- ---- what comes of it
 
-fair_entry : (a : Contents) (m : Message) (caller : Identity) (action : Action) (name : List ℕ) (o : Option Database) → database_name_in m.path ≡ Some name → get a name ≡ o
-    → AreFair a m caller (entry caller action o)
-fair_entry a m caller action name None own is = fair_other a m caller NoDatabase refl
-fair_entry a m caller action name (Some db) own is =
+fair_entry : (a : Contents) (m : Message) (caller : Identity) (action : Action) (name : List ℕ) (o : Option Database) → IsInside a m action → database_name_in m.path ≡ Some name
+    → get a name ≡ o → AreFair a m caller (entry caller action o)
+fair_entry a m caller action name None inside own is = fair_other a m caller NoDatabase refl
+fair_entry a m caller action name (Some db) inside own is =
     fair_next a m caller (permission caller (verdict action caller db.security)) _
     (fair_permission a m caller (verdict action caller db.security)
-    (λ rule first. inl (record { action = action; security = db.security; asked = inr (name, db, own, is, refl); first = first })))
+    (λ rule first. inl (record {
+      action = action;
+      security = db.security;
+      asked = inside.asked;
+      of = inside.of db.security (record { name = name; db = db; own = own; there = is; is = refl });
+      first = first;
+    })))
     (λ u allowed. fair_ok a m caller db)
+
+-- whom the policy lets in is refused by none of its conditions
+admitted : (caller : Identity) (action : Action) (o : Option Database) (db : Database) → entry caller action o ≡ Ok db → verdict action caller db.security ≡ None
+admitted caller action None db e = absurd cc
+admitted caller action (Some d) db e = by (verdict action caller d.security) refl e
+  where
+    by : (v : Option Rule) → verdict action caller d.security ≡ v → next (permission caller v) (λ _. Ok d) ≡ Ok db → verdict action caller db.security ≡ None
+    by None is k = subst (λ (x : Database). verdict action caller x.security ≡ None) (same {A = Database} d db k) is
+    by (Some rule) is k = absurd cc
 
 fair_outcome : (a : Contents) (m : Message) (caller : Identity) (task : Task) → IsFairTask a m caller task → AreFair a m caller (task_outcome caller a task)
 fair_outcome a m caller (told value) fair = fair_ok a m caller _
@@ -402,14 +472,18 @@ fair_outcome a m caller (removed name asked) fair =
     fair_next a m caller (there_or NoDatabase (get a name)) _ (fair_there a m caller NoDatabase (get a name) refl)
     (λ u is. fair_next a m caller asked _ fair (λ v may. fair_ok a m caller _))
 fair_outcome a m caller (worked action name work) fair =
-    fair_next a m caller (entry caller action (get a name)) _ (fair_entry a m caller action name (get a name) fair.0 refl)
-    (λ db is. fair_next a m caller (work db) _ (fair.1 db (record { own = fair.0; there = there caller action (get a name) db is })) (λ d done. fair_ok a m caller _))
+    fair_next a m caller (entry caller action (get a name)) _ (fair_entry a m caller action name (get a name) fair.2 fair.0 refl)
+    (λ db is. fair_next a m caller (work db) _ (fair.1 db (record { own = fair.0; there = there caller action (get a name) db is }) (admitted caller action (get a name) db is))
+    (λ d done. fair_ok a m caller _))
 
 fair_answer : (a : Contents) (m : Message) (caller : Identity) → AreFair a m caller (next (there_or Path (page_of m.path)) (λ page. page_outcome page (method_of m.method) caller a m))
 fair_answer a m caller =
     fair_next a m caller (there_or Path (page_of m.path)) _ (fair_there a m caller Path (page_of m.path) refl)
-    (λ page is. fair_next a m caller (task_of page (method_of m.method) caller m) _ (fair_page a page (method_of m.method) caller m)
-    (λ task asked. fair_outcome a m caller task (fair_task a page (method_of m.method) caller m task asked)))
+    (λ page is. fair_next a m caller (task_of page (method_of m.method) caller m) _ (fair_page a page (method_of m.method) caller m (for page is))
+    (λ task asked. fair_outcome a m caller task (fair_task a page (method_of m.method) caller m task (for page is) asked)))
+  where
+    for : (page : Page) → there_or Path (page_of m.path) ≡ Ok page → IsFor page (method_of m.method) m
+    for page is = (named Path (page_of m.path) page is, refl)
 
 -- ---- all requests
 

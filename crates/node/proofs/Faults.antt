@@ -1,5 +1,5 @@
 -- A fault that a store's caller can't mend has a cause.
-use Rattle.std.proofs.Common.{◌≡◌, ◌≢◌, ◌≤◌, ℕ, IfErr, List, Option, Some, None, Result, Ok, Err, true, is_some, subst, arith, inl, inr, option_map}
+use Rattle.std.proofs.Common.{◌≡◌, ◌≢◌, ◌≤◌, ◌∙◌, ◌⊎◌, ◌^◌, ◌-◌, ℕ, Bool, false, nat_eq, nat_lt, refl, ap, sym, IfErr, List, Option, Some, None, Result, Ok, Err, true, is_some, subst, arith, inl, inr, option_map}
 use Rattle.std.specs.FinMap.{get, insert}
 use Rattle.store.specs.Calls.{OnlyReads}
 use Rattle.store.specs.Causes.{HasFailed}
@@ -16,9 +16,15 @@ use Rattle.write.specs.declared.planned.Changes.{Changes}
 use Rattle.write.specs.declared.planned.Changes.TheVariants.{Local, Writes, Security}
 use Rattle.write.specs.declared.fault.WriteFault.{WriteFault}
 use Rattle.write.specs.declared.fault.WriteFault.TheVariants as write
-use Rattle.node.specs.Answer.{Change, creation, inside, kept, removal, with_change}
+use Rattle.auth.specs.Callers.{Configuration}
+use Rattle.couch_http.specs.Message.{Message}
+use Rattle.couch_http.specs.Reply.{Reply}
+use Rattle.std.proofs.lemmas.Bool.Decides.{nat_tests}
+use Rattle.node.proofs.Steps.{answer_served}
+use Rattle.node.specs.Step.{IsStep}
+use Rattle.node.specs.Answer.{Change, answer, creation, inside, kept, removal, with_change}
 use Rattle.node.specs.Answered.{change_inside}
-use Rattle.node.specs.Causes.{Ends, EndsBefore, HasCause, LacksNumbers, stop_of_change}
+use Rattle.node.specs.Causes.{Ends, EndsBefore, HasCause, IsFailure, LacksNumbers, stop_of_change}
 use Rattle.node.specs.Work.{appended, local_put, nothing, secured}
 use Rattle.api.specs.declared.refusal.Refusal.{Refusal}
 use Rattle.node.specs.declared.stop.Stop.{Stop}
@@ -104,3 +110,28 @@ pub all_end_before : {S A : Type 0} (g : Ghosts S) (a b c : S) (change whole : C
     → IfErr r (EndsBefore g b c change) → IfErr r (EndsBefore g a c whole)
 all_end_before g a b c change whole (Ok v) reads onward same h = h
 all_end_before g a b c change whole (Err stop) reads onward same h = ends_before_from g a b c change whole stop reads onward same h
+
+-- ---- a reply of 500
+
+-- the count of faults rose or has reached its greatest value, or it did not
+failed_or_not : (old new : ℕ) → HasFailed old new ⊎ ¬ (HasFailed old new)
+failed_or_not old new = by (nat_lt old new) refl (nat_eq new (2 ^ 64 - 1)) refl
+  where
+    by : (b : Bool) → nat_lt old new ≡ b → (c : Bool) → nat_eq new (2 ^ 64 - 1) ≡ c → HasFailed old new ⊎ ¬ (HasFailed old new)
+    by true is c end = inl (inl (grind (arith, nat_tests)))
+    by false is true end = inl (inr (grind (arith, nat_tests)))
+    by false is false end = inr (λ failed. elim failed [ inl rose ↦ grind (arith, nat_tests) | inr full ↦ grind (arith, nat_tests) ])
+
+-- a step whose reply is 500 has a cause, whether the store is honest or not
+pub failure : {S : Type 0} (g : Ghosts S) (old new : S) (c : Configuration) (m : Message) (reply : Reply)
+    → (g.is_honest new → IsStep c (g.contents old) m (HasCause g old new) reply (g.contents new)) → reply.status ≡ 500
+    → IsFailure g old new (answer c (g.contents old) m).change
+failure g old new c m reply step is = elim (failed_or_not (g.fault_count old) (g.fault_count new)) [
+  | inl failed ↦ inl failed
+  | inr not ↦ inr (λ honest. elim (step honest) [
+    | inl done ↦ absurd ((answer_served c (g.contents old) m).0 (sym (ap (λ (r : Reply). r.status) done.0) ∙ is))
+    | inr (inl lacking) ↦ absurd (let other : reply.status ≡ 503 = ap (λ (r : Reply). r.status) lacking.0 in omega (arith, other, is))
+    | inr (inr (told, same, inl failed)) ↦ absurd (not failed)
+    | inr (inr (told, same, inr lacks)) ↦ lacks
+  ])
+]

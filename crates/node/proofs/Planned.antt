@@ -1,5 +1,5 @@
 -- What is planned for a database has the effect that the definition says.
-use Rattle.std.proofs.Common.{◌≡◌, ◌≢◌, refl, ℕ, Bool, true, false, is_some, List, [], ◌∷◌, Option, Some, None, Result, Ok, Err, ap, subst, sym, ◌∙◌, map}
+use Rattle.std.proofs.Common.{◌≡◌, ◌≢◌, refl, ℕ, Bool, true, is_some, List, [], ◌∷◌, Option, Some, None, Result, Ok, Err, ap, subst, sym, ◌∙◌, map}
 use Rattle.auth.specs.Callers.{Identity}
 use Rattle.couch_json.specs.Value.{Value, null, object}
 use Rattle.store.specs.Contents.{IfThere}
@@ -19,7 +19,7 @@ use Rattle.write.specs.declared.planned.Changes.{Changes}
 use Rattle.write.specs.declared.planned.Changes.TheVariants.{Local, Writes, Security}
 use Rattle.write.specs.declared.planned.DocumentResult.{DocumentResult}
 use Rattle.write.specs.declared.planned.Outcome.{Outcome}
-use Rattle.write.specs.declared.planned.Outcome.TheVariants.{Known, Made, Refused}
+use Rattle.write.specs.declared.planned.Outcome.TheVariants.{Made}
 use Rattle.write.specs.declared.planned.Planned.{Planned}
 use Rattle.node.specs.Answered.{effect_of, says_made}
 use Rattle.api.specs.Bulk.{Bulk}

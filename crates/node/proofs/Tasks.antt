@@ -19,7 +19,8 @@ use Rattle.write.proofs.LocalBodies.{local_has_body}
 use Rattle.write.specs.Terms.{Terms, terms_in}
 use Rattle.write.specs.declared.fault.WriteFault.{WriteFault}
 use Rattle.find.specs.Indexes.{index_in}
-use Rattle.write.specs.Admission.{admission}
+use Rattle.policy.specs.declared.rule.Rule.{Rule}
+use Rattle.write.specs.Admission.{admission, design_refusal, unless_denied}
 use Rattle.write.specs.Bulk.{DocumentOutcome, writes_in}
 use Rattle.write.specs.IndexWrites.{index_admission}
 use Rattle.write.proofs.Acceptances.{all_acceptable, edit_acceptable, index_alone_acceptable}
@@ -28,18 +29,19 @@ use Rattle.api.specs.Asking.{asker, body_of, method_of, plain}
 use Rattle.api.specs.Bulk.{bulk_in}
 use Rattle.api.specs.Routing.{page_of}
 use Rattle.write.specs.declared.fault.WriteFault.TheVariants.{BadDocument}
+use Rattle.write.specs.declared.fault.WriteFault.TheVariants as write
 use Rattle.node.specs.Answer.{Change, Outcome, Task, administration, permission, change_at, created, creation, entry, admin_task, inside, judgement, kept, listed, database_name_of, outcome_in, task_outcome, removal, removed, page_outcome, task_of, told, welcome, worked, work_task}
 use Rattle.node.specs.Effects.{Fits}
 use Rattle.api.specs.Paths.{database_name_in, local_id_in}
 use Rattle.node.specs.Work.{Done, Effect, Work, appended, local_put, nothing, read_work, secured, value_done}
 use Rattle.api.specs.Refusals.{next, there_or, true_or}
-use Rattle.node.specs.Works.{change_list, database_read, difference_list, document_deleted, document_finds, document_list, document_read, document_written, documents_written, deletion, done, edit_asked, bulk_written, edit_done, edit_in, index_asked_in, index_done, index_written, local_read, local_set, local_written, security_read, security_set, security_written, view_read}
+use Rattle.node.specs.Works.{change_list, database_read, difference_list, document_deleted, document_finds, document_list, document_read, document_written, documents_written, deletion, deletion_outcome, done, edit_asked, bulk_written, edit_done, edit_in, index_asked_in, index_done, index_written, local_read, local_set, local_written, security_read, security_set, security_written, view_read}
 use Rattle.api.specs.declared.method.RequestMethod.{RequestMethod}
 use Rattle.api.specs.declared.method.RequestMethod.TheVariants.{Get, Put, Post, Delete}
 use Rattle.api.specs.declared.page.Page.{Page}
 use Rattle.api.specs.declared.page.Page.TheVariants.{Welcome, AllDatabases, Database as DatabasePage, Security, BulkDocuments, AllDocuments, Changes, Differences, Find, Index, View, Document, LocalDocument as LocalDocumentPage}
 use Rattle.api.specs.declared.refusal.Refusal.{Refusal}
-use Rattle.api.specs.declared.refusal.Refusal.TheVariants.{Body, Conflict, Id, DatabaseName, NoDatabase, Exists, Path}
+use Rattle.api.specs.declared.refusal.Refusal.TheVariants.{Body, Id, DatabaseName, NoDatabase, Exists, Path}
 
 -- ---- one step after another
 
@@ -116,12 +118,20 @@ sound_document caller m name db d e =
     let l = went (body_of m) (λ document. edit_in caller 201 name db k.first.0 k.first.1 document) d k.then in
     sound_edited caller 201 k.first.0 db (admission terms db k.first.0 k.first.1 l.first) d (inr refl) (λ w. edit_fits terms db k.first.0 k.first.1 l.first w) l.then
 
+unnamed_refused : (o : Option Rule) (w : DocumentWrite) → unless_denied o (Err write.Conflict) ≡ Ok w → ⊥
+unnamed_refused None w e = absurd cc
+unnamed_refused (Some rule) w e = absurd cc
+
+deletion_fits : (terms : Terms) (db : Database) (id : List ℕ) (named : Option Revision) (w : DocumentWrite) → deletion_outcome terms db id named ≡ Ok w → IsLawful db
+    → AreAcceptable db (w ∷ [])
+deletion_fits terms db id None w e lawful = absurd (unnamed_refused (design_refusal terms id) w e)
+deletion_fits terms db id (Some rev) w e lawful = edit_fits terms db id (Some rev) deletion w e lawful
+
 sound_deletion : (caller : Identity) (m : Message) (name : List ℕ) → AreSound (document_deleted caller m name)
 sound_deletion caller m name db d e =
     let terms = terms_in caller name db in
-    let k = went (edit_asked m) (λ asked. next (there_or Conflict asked.1) (λ rev. edit_in caller 200 name db asked.0 (Some rev) deletion)) d e in
-    let l = went (there_or Conflict k.first.1) (λ rev. edit_in caller 200 name db k.first.0 (Some rev) deletion) d k.then in
-    sound_edited caller 200 k.first.0 db (admission terms db k.first.0 (Some l.first) deletion) d (inl refl) (λ w. edit_fits terms db k.first.0 (Some l.first) deletion w) l.then
+    let k = went (edit_asked m) (λ asked. edit_done caller 200 asked.0 (deletion_outcome terms db asked.0 asked.1)) d e in
+    sound_edited caller 200 k.first.0 db (deletion_outcome terms db k.first.0 k.first.1) d (inl refl) (λ w. deletion_fits terms db k.first.0 k.first.1 w) k.then
 
 sound_documents : (caller : Identity) (m : Message) (name : List ℕ) → AreSound (documents_written caller m name)
 sound_documents caller m name db d e =

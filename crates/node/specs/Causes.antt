@@ -31,6 +31,11 @@ LacksNumbers g s (inside name (local_put id document)) = ⊥
 abbrev pub HasCause : {S : Type 0} → Ghosts S → S → S → Change → Type 0
 HasCause g old new change = HasFailed (g.fault_count old) (g.fault_count new) ⊎ LacksNumbers g old change
 
+-- Why a reply of 500 comes, over whatever store: a fault was counted; or else the store isn't honest, or had no number left for this
+-- change.
+abbrev pub IsFailure : {S : Type 0} → Ghosts S → S → S → Change → Type 0
+IsFailure g old new change = HasFailed (g.fault_count old) (g.fault_count new) ⊎ (g.is_honest new → LacksNumbers g old change)
+
 -- what has to hold where the work on a request ends so before anything is changed
 abbrev pub Ends : {S : Type 0} → Ghosts S → S → S → Stop → Type 0
 Ends g old new Failed = g.is_honest new → HasFailed (g.fault_count old) (g.fault_count new)

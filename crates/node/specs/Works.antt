@@ -22,12 +22,12 @@ use Rattle.store.specs.Contents.{local_at, local_revision}
 use Rattle.store.specs.Database.{Database, DocumentWrite, history_at}
 use Rattle.store.specs.declared.local_document.LocalDocument.{LocalDocument}
 use Rattle.tree.specs.Revision.{Revision}
-use Rattle.write.specs.Admission.{admission}
+use Rattle.write.specs.Admission.{admission, unnamed_deletion}
 use Rattle.write.specs.Bulk.{DocumentOutcome, all_told, outcome_told, outcomes, put_before, writes_in}
 use Rattle.write.specs.IndexWrites.{index_admission}
 use Rattle.write.specs.LocalWrites.{local_outcome}
 use Rattle.write.specs.Planning.{security_outcome}
-use Rattle.write.specs.Terms.{terms_in}
+use Rattle.write.specs.Terms.{Terms, terms_in}
 use Rattle.write.specs.declared.fault.WriteFault.{WriteFault}
 use Rattle.api.specs.Asking.{body_of, plain}
 use Rattle.api.specs.Bulk.{Bulk, bulk_in}
@@ -40,7 +40,7 @@ use Rattle.node.specs.Edits.{refusal_of_edit}
 use Rattle.node.specs.Work.{Done, Work, appended, local_put, secured}
 use Rattle.api.specs.Refusals.{next, there_or}
 use Rattle.api.specs.declared.refusal.Refusal.{Refusal}
-use Rattle.api.specs.declared.refusal.Refusal.TheVariants.{Id, Query, Body, Conflict, Missing, Deleted}
+use Rattle.api.specs.declared.refusal.Refusal.TheVariants.{Id, Query, Body, Missing, Deleted}
 
 -- ---- the database itself
 
@@ -189,11 +189,14 @@ document_written caller m name db =
 abbrev pub deletion : Value
 deletion = object (put (codes "_deleted") (truth true) no_members)
 
--- a deletion has to name the revision that it deletes
+-- what becomes of a deletion: it is the edit that deletes the revision which the query names
+abbrev pub deletion_outcome : Terms → Database → List ℕ → Option Revision → Result DocumentWrite WriteFault
+deletion_outcome terms db id None = unnamed_deletion terms id
+deletion_outcome terms db id (Some rev) = admission terms db id (Some rev) deletion
+
 abbrev pub document_deleted : Identity → Message → List ℕ → Work
 document_deleted caller m name db =
-    next (edit_asked m) (λ asked.
-    next (there_or Conflict asked.1) (λ rev. edit_in caller 200 name db asked.0 (Some rev) deletion))
+    next (edit_asked m) (λ asked. edit_done caller 200 asked.0 (deletion_outcome (terms_in caller name db) db asked.0 asked.1))
 
 -- ---- writing several documents
 

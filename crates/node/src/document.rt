@@ -1,14 +1,16 @@
 //! A document's page: `GET`, `PUT` and `DELETE /{db}/{id}` (CouchDB manual, api/document/common).
 
-ghost use Rattle.std.specs.Prelude.{◌≡◌, IfOk, IfErr, Some, false, option_map};
+ghost use Rattle.std.specs.Prelude.{◌≡◌, IfOk, IfErr, Err, Some, false, option_map};
 ghost use Rattle.std.specs.FinMap as map;
 ghost use Rattle.couch_http.specs.Message.{message_of};
 ghost use Rattle.couch_json.specs.View.{view};
 ghost use Rattle.read.specs.Answers.{Answers};
 ghost use Rattle.store.specs.Calls.{OnlyReads};
 ghost use Rattle.tree.specs.DocumentId.{is_local_id};
+ghost use Rattle.write.specs.Admission.{unnamed_deletion};
 ghost use Rattle.write.specs.BulkResults.{IsMadeOutcome, OfFirst};
 ghost use Rattle.write.specs.Planning.{MayBeMade};
+ghost use Rattle.write.specs.Terms.{terms_in};
 ghost use Rattle.node.specs.Bulk.{made_members};
 ghost use Rattle.couch_json.specs.Value.{object};
 ghost use Rattle.node.specs.Answered.{done_of};
@@ -16,7 +18,7 @@ ghost use Rattle.node.specs.Causes.{Ends};
 ghost use Rattle.node.specs.Coming.{Comes, OfThere};
 ghost use Rattle.api.specs.Saying.{Says};
 ghost use Rattle.api.specs.Queried.{asked_of, query_of};
-ghost use Rattle.node.specs.Works.{deletion, document_deleted, document_read, document_written, edit_asked, edit_in, found, read_by};
+ghost use Rattle.node.specs.Works.{deletion, document_deleted, document_read, document_written, edit_asked, edit_done, edit_in, found, read_by};
 
 use crate::answered::Worked;
 use crate::bulk_reply::{made_members, refusal_of_edit};
@@ -32,7 +34,7 @@ use std::alloc::Global;
 use std::collections::BTreeMap;
 use store::{DbName, Store};
 use tree::{DocId, Rev};
-use write::{DocumentResult, Outcome, WriteFault, edit};
+use write::{DocumentResult, Outcome, WriteFault, edit, judge_unnamed_deletion};
 
 /// Reads a document.
 pub(crate) fn read_document<S: Store>(
@@ -114,7 +116,8 @@ pub(crate) fn write_document<S: Store>(
     edit_document(alloc, store, caller, name, &id, rev, document, 201)
 }
 
-/// Deletes a document on one of its branches, but for the change of the store itself.
+/// Deletes a document on one of its branches, but for the change of the store itself. A deletion that
+/// names no branch is refused.
 pub(crate) fn delete_document<S: Store>(
     alloc: Global,
     store: &mut S,
@@ -131,7 +134,7 @@ pub(crate) fn delete_document<S: Store>(
 {
     let (id, rev) = edit_asked(alloc, request)?;
     let Some(rev) = rev else {
-        return Err(Stop::Refused(Refusal::Conflict));
+        return Err(refuse_deletion(store, caller, name, &id));
     };
     let document = deletion(alloc)?;
     edit_document(alloc, store, caller, name, &id, Some(rev), document, 200)
@@ -145,6 +148,20 @@ fn edit_asked(alloc: Global, request: &Request) -> Result<(DocId, Option<Rev>), 
     let id = document_id(alloc, &request.path)?;
     let rev = revision_query(alloc, request)?;
     Ok((id, rev))
+}
+
+/// Tells what a deletion that names no revision comes to.
+fn refuse_deletion<S: Store>(store: &mut S, caller: &Caller, name: &DbName, id: &DocId) -> Stop
+    ensures comes { S.is_honest store.new → OfThere (S.contents store.old) name.now (λ db. Comes (done_of db) (Err result)
+        (edit_done caller.now 200 id.now (unnamed_deletion (terms_in caller.now name.now db) id.now))) }
+    ensures ends { Ends S.Store store.old store.new result }
+    ensures reads { OnlyReads S.Store store.old store.new }
+{
+    match judge_unnamed_deletion(store, name, caller, id) {
+        WriteFault::Memory => Stop::NoRoom,
+        WriteFault::Store(fault) => Stop::from(fault),
+        fault => Stop::Refused(refusal_of_edit(caller, fault)),
+    }
 }
 
 /// Builds the document of an edit that deletes.

@@ -53,9 +53,10 @@ pub fn answers_keep_databases_lawful()
 
 /// A denial is told rightly. Where no proxy vouches for the caller whom the headers name, the rule is
 /// that of the token. Else the caller is known, and the rule is the first that refuses: of the
-/// policy's conditions for the action, or of those of the edit of the document. A caller without a
-/// name is answered with 401, one with a name with 403, and no other refusal has one of these
-/// statuses.
+/// policy's conditions for an action that page and method ask for, under the security object of the
+/// database or, of who administers the server, the closed one; or of those of the edit of the document.
+/// A caller without a name is answered with 401, one with a name with 403, and no other refusal has one
+/// of these statuses.
 #[tactic(auto, using(crate::proofs::Denials::judged_denied, crate::proofs::Denials::denial_status, crate::proofs::Denials::other_status, crate::proofs::Denials::rule_told))]
 pub fn denials_name_the_first_refusing_rule()
     ensures due { (c : Configuration) (databases : Contents) (m : Message) (refusal : Refusal) (rule : Rule) → judgement c databases m ≡ Err refusal

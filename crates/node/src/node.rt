@@ -40,7 +40,8 @@ impl<S: Store + Drop> Node<S> {
     ghost use Rattle.std.specs.Prelude.{◌≡◌};
     ghost use Rattle.couch_http.specs.Message.{message_of};
     ghost use Rattle.store.specs.Calls.{GoesOn};
-    ghost use Rattle.node.specs.Causes.{HasCause};
+    ghost use Rattle.node.specs.Answer.{answer};
+    ghost use Rattle.node.specs.Causes.{HasCause, IsFailure};
     ghost use Rattle.node.specs.Step.{IsStep};
 
     /// Makes a node over a store. Takes no memory.
@@ -59,10 +60,13 @@ impl<S: Store + Drop> Node<S> {
     /// Answers a request; the store is then as the definition of the answer says.
     ///
     /// Where memory runs out the reply is the fixed 503, where the store fails the fixed 500, and the
-    /// databases are as they were.
+    /// databases are as they were. Over whatever store, a 500 has its cause: a fault that was counted, or
+    /// a store that isn't honest or has no number left.
     pub fn handle(&mut self, request: &Request) -> Response
         ensures step { S.is_honest self.new.store → IsStep self.old.configuration (S.contents self.old.store) (message_of request.now)
             (HasCause S.Store self.old.store self.new.store) result (S.contents self.new.store) }
+        ensures failure { result.status ≡ 500 → IsFailure S.Store self.old.store self.new.store
+            (answer self.old.configuration (S.contents self.old.store) (message_of request.now)).change }
         ensures configuration { self.new.configuration ≡ self.old.configuration }
         ensures onward { GoesOn S.Store self.old.store self.new.store }
     {

@@ -1,6 +1,6 @@
 -- A pass of replication: what it asks, and what each reply makes of it.
 -- CouchDB manual, replication/protocol. How losses are counted, and that a checkpoint whose write was lost is read again, are this project's own.
-use Rattle.std.specs.Prelude.{ℕ, ◌+◌, ◌==◌, ◌&&◌, Bool, false, min, nat_le, List, [], ◌∷◌, ◌++◌, length, drop, pos, Option, Some, None, Result, Ok, Err, bytes_eq, if◌then◌else◌, codes}
+use Rattle.std.specs.Prelude.{ℕ, ◌+◌, ◌==◌, ◌&&◌, Bool, false, min, nat_le, List, [], ◌∷◌, ◌++◌, length, drop, pos, Option, Some, None, Result, Ok, Err, bytes_eq, if◌then◌else◌, codes, true}
 use Rattle.couch_json.specs.Value.{Value, whole, array, object, no_members, put}
 use Rattle.couch_json.specs.View.{items_of}
 use Rattle.couch_http.specs.Message.{Message}
@@ -90,6 +90,15 @@ step_in (Stopped why) p = stopped why
 
 abbrev pub step_of : Pass → Step
 step_of p = step_in p.phase p
+
+-- nothing more is called
+abbrev pub is_end : Step → Bool
+is_end (called side call) = false
+is_end finished = true
+is_end (stopped why) = true
+
+abbrev pub has_ended : Pass → Bool
+has_ended p = is_end (step_of p)
 
 -- what is reported of a pass
 pub record Summary : Type 0 where

@@ -9,7 +9,7 @@ ghost use Rattle.repl.specs.Checkpoints.{checkpoint_id, history_of};
 ghost use Rattle.repl.specs.Configuration.{configuration_of};
 ghost use Rattle.repl.specs.Kept.{checkpoint_of, session_of};
 ghost use Rattle.repl.specs.Listed.{revisions_of};
-ghost use Rattle.repl.specs.Passes.{answered_in, answered_of, asked_of, checkpoint_after, first_of_pending, first_pass, is_written, lost_of, phase_after_list, with_failures, with_opened, phase_after_loss, phase_with, sent_to, summary_of, with_loss};
+ghost use Rattle.repl.specs.Passes.{answered_in, answered_of, asked_of, checkpoint_after, first_of_pending, first_pass, has_ended, is_written, lost_of, phase_after_list, with_failures, with_opened, phase_after_loss, phase_with, sent_to, summary_of, with_loss};
 ghost use Rattle.repl.specs.Taken.{opened_of};
 
 use crate::ask::Ask;
@@ -134,6 +134,13 @@ impl Replication {
             Phase::Done => Ok(Ask::Done(self.report()?)),
             Phase::Stopped(why) => Ok(Ask::Stopped(why, self.report()?)),
         }
+    }
+
+    /// Tells whether the pass has ended, so that it asks no more. Takes no memory.
+    pub fn has_ended(&self) -> bool
+        ensures { result ≡ has_ended (pass_of self.now) }
+    {
+        matches!(self.phase, Phase::Done | Phase::Stopped(_))
     }
 
     /// Asks a side for its checkpoint.

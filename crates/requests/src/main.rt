@@ -1,8 +1,9 @@
-//! Plays rows on whole nodes in memory: requests as bytes, pages of a store, scripts of the
-//! laboratory and command lines. A file's ending says which kind its rows are of.
+//! Plays rows on whole nodes in memory: requests as bytes, pieces on connections, pages of a store,
+//! scripts of the laboratory and command lines. A file's ending says which kind its rows are of.
 #![tactic(auto)]
 
 mod command_lines;
+mod connections;
 mod key_pages;
 mod nodes;
 mod pages;
@@ -61,7 +62,7 @@ fn play_file(alloc: Global, name: &str, text: &str, report: &mut Report) -> Resu
             let mut kind = command_lines::CommandLines { alloc };
             play(alloc, name, text, &mut kind, report)
         }
-        "lab" | "pages" | "requests" => {
+        "connections" | "lab" | "pages" | "requests" => {
             play_over::<PlainStore>(alloc, name, ending, text, report)?;
             let name = format!(in alloc; "{name} over tables")?;
             play_over::<MemoryStore>(alloc, name.as_str(), ending, text, report)
@@ -79,6 +80,10 @@ fn play_over<S: LabStore>(
     report: &mut Report,
 ) -> Result<(), RowsFault> {
     match ending {
+        "connections" => {
+            let mut kind = connections::Connections::<S>::new(alloc);
+            play(alloc, name, text, &mut kind, report)
+        }
         "lab" => {
             let mut kind = scripts::Scripts::<S>::new(alloc);
             play(alloc, name, text, &mut kind, report)

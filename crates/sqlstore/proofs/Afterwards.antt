@@ -1,5 +1,5 @@
 -- What a reader answers after other readers.
-use Rattle.std.proofs.Common.{◌≡◌, ◌+◌, ℕ, zero, suc, List, [], ◌∷◌, drop, subst, Option, Some, Result, Ok, Err, ap, ◌∙◌}
+use Rattle.std.proofs.Common.{◌≡◌, ◌+◌, ℕ, zero, suc, List, [], ◌∷◌, drop, subst, Option, Result, Ok, Err, ap, ◌∙◌}
 use Rattle.std.specs.List.{AllByRecursion}
 use Rattle.store.specs.declared.fault.StoreFault.{StoreFault}
 use Rattle.store.specs.declared.fault.StoreFault.TheVariants.{Memory, Failed, NoDatabase, Exists, Damaged, Full}
@@ -21,16 +21,6 @@ module _ {S : Type 0} (g : Ghosts S) (old mid new : SqlStore S g) where
   afterwards view defined further (Err Exists) s same h = absurd h
   afterwards view defined further (Err Damaged) s same h = h
   afterwards view defined further (Err Full) s same h = absurd h
-
-  -- its fault is one of the whole, where what it reads is always there
-  pub fault_afterwards : {X Y A B : Type 0} (view : X → A) (other : Y → B) (x : A) (further : Option B) (fault : StoreFault) → Stands g old mid
-      → Answers g {X = X} mid new view (Some x) (Err fault) → Answers g {X = Y} old new other further (Err fault)
-  fault_afterwards view other x further Memory s h = tt
-  fault_afterwards view other x further Failed s h = failed_later g old.faults mid.faults new.faults s.counted h
-  fault_afterwards view other x further NoDatabase s h = λ honest. absurd (let none = h honest in cc)
-  fault_afterwards view other x further Exists s h = absurd h
-  fault_afterwards view other x further Damaged s h = h
-  fault_afterwards view other x further Full s h = absurd h
 
 module _ {S : Type 0} (g : Ghosts S) (old new : SqlStore S g) where
   pub stands_same : Stands g old new → trees_of g new ≡ trees_of g old

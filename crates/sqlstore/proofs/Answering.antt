@@ -24,7 +24,6 @@ use Rattle.tables.specs.Shown.{IsShownDatabase, IsShownLocal, local_shown}
 use Rattle.tables.proofs.Laid.{shown_databases, shown_locals}
 use Rattle.tables.proofs.Lookups.{database_found, local_found}
 use Rattle.transactions.proofs.Rows.{all_left, all_shown}
-use Rattle.sqlstore.specs.Causes.{IsJudged}
 use Rattle.sqlstore.specs.Model.{Answers, OnlyReads, Stands, contents_of, is_honest, trees_of}
 use Rattle.transactions.specs.Reading.{IsRead}
 use Rattle.sqlstore.specs.Reading.{FoundValues, found_in, found_shown}
@@ -36,14 +35,6 @@ first_shown show read said same [] = refl
 first_shown show read said same (r ∷ rows) = ap Some (sym (same r))
 
 module _ {S : Type 0} (g : Ghosts S) (old new : SqlStore S g) where
-  pub judged : {X A : Type 0} (view : X → A) (defined : Option A) (fault : StoreFault) → IsJudged old.faults new.faults fault → Answers g old new view defined (Err fault)
-  judged view defined Memory h = tt
-  judged view defined Failed h = h
-  judged view defined NoDatabase h = absurd h
-  judged view defined Exists h = absurd h
-  judged view defined Damaged h = absurd h
-  judged view defined Full h = absurd h
-
   pub answered : {X A : Type 0} (view : X → A) (defined said : Option A) (intact : Type 0) (r : Result X StoreFault) → IsRead view said intact r → (is_honest g new → (¬ ¬ intact) × (defined ≡ said)) → Answers g old new view defined r
   answered view defined said intact (Ok x) h is = λ honest. (is honest).1 ∙ h
   answered view defined said intact (Err Memory) h is = tt

@@ -1,50 +1,58 @@
 -- What a change of a store leaves.
-use Rattle.std.proofs.Common.{◌≡◌, ℕ, ℤ, pos, List, Bool, false, Option, None, Some, is_some, Result, Ok, Err, IsTrue, OnOk, OnErr, refl, sym, ap, subst, ◌∙◌, arith}
+use Rattle.std.proofs.Common.{◌≡◌, Bool, false, Option, None, Some, is_some, Result, Ok, Err, IsTrue, OnOk, OnErr, refl, sym, ap, subst, ◌∙◌, arith}
 use Rattle.std.proofs.Math.Logic.{∥∥₁_elim, ∥∥₁_map}
-use Rattle.couch_json.specs.Canonical.{canonical}
-use Rattle.policy.specs.Security.{closed_security}
 use Rattle.sqlite_trees.specs.declared.store.Store.{Ghosts}
 use Rattle.sqlite.specs.Effect.{Database}
 use Rattle.sqlite.specs.Held.{Held, state}
 use Rattle.sqlite.specs.State.{HasCleanDisk}
 use Rattle.tables.specs.Layout.{IsStore}
-use Rattle.tables.specs.Rows.{contents_in, database_cells, rows_with_security, with_cells}
-use Rattle.tables.specs.Schema.{dbs_tree}
-use Rattle.tables.specs.Steps.{Changes}
+use Rattle.tables.specs.Rows.{contents_in}
 use Rattle.transactions.proofs.Committing.{on_err}
 use Rattle.sqlstore.specs.Model.{ChangesWhole, Moves, Stands, contents_of, is_honest}
-use Rattle.sqlite_trees.specs.Tree.{Trees}
-use Rattle.sqlstore.specs.Reading.{HasNumber}
-use Rattle.transactions.specs.Sequences.{Replaces}
 use Rattle.transactions.specs.Endings.{Turns}
-use Rattle.sqlstore.specs.Standing.{IsHeld, WasStore}
+use Rattle.sqlstore.specs.Standing.{Holds, IsStanding, WasStore}
 use Rattle.sqlstore.specs.declared.sql_store.SqlStore.{SqlStore}
 
-module _ {S : Type 0} (g : Ghosts S) (old new origin last : Held S) where
-  -- a transaction that was undone leaves what is held
-  pub held_undone : Turns g old new → (HasCleanDisk (state g new) → IsTrue (state g new).is_open → ((state g new).now ≡ (state g old).committed) × ((state g new).committed ≡ (state g old).committed))
-      → IsHeld g old origin last → IsHeld g new origin last
-  held_undone turns undone held clean is =
-      ∥∥₁_map (held (turns.clean clean) is) (λ h. record {
-        store = h.store;
-        now = λ up. (undone clean up).0 ∙ h.committed (turns.was_open clean up);
-        committed = λ up. (undone clean up).1 ∙ h.committed (turns.was_open clean up);
-      })
+module _ {S : Type 0} (g : Ghosts S) (old new origin last : Held S) (turns : Turns g old new) (s : IsStanding g old origin last) where
+  -- a transaction that was undone leaves a store standing
+  pub undone : (IsStore (state g old).now → (state g old).now.trees ≡ (state g last).now.trees → HasCleanDisk (state g new) → WasStore g origin → IsTrue (state g new).is_open
+      → ((state g new).now ≡ (state g old).committed) × ((state g new).committed ≡ (state g old).committed)) → IsStanding g new origin last
+  undone left = record {
+    idle = turns.idle;
+    unlimited = turns.limit ∙ s.unlimited;
+    held = λ clean is. ∥∥₁_map (s.held (turns.clean clean) is) (λ h.
+        let same = λ (up : IsTrue (state g new).is_open). h.now (turns.was_open clean up) in
+        let settled = λ (up : IsTrue (state g new).is_open). left (subst IsStore (sym (same up)) h.store) (ap (λ (d : Database). d.trees) (same up)) clean is up in
+        record {
+          store = h.store;
+          now = λ up. (settled up).0 ∙ h.committed (turns.was_open clean up);
+          committed = λ up. (settled up).1 ∙ h.committed (turns.was_open clean up);
+        });
+  }
 
-  -- one that was committed leaves what is held by it
-  pub held_done : (HasCleanDisk (state g new) → HasCleanDisk (state g old)) → (HasCleanDisk (state g new) → IsTrue (state g old).is_open × IsTrue (state g new).is_open × ((state g new).now ≡ (state g new).committed))
-      → (HasCleanDisk (state g new) → WasStore g origin → IsStore (state g old).now → IsStore (state g new).now) → (next : Held S) → next ≡ new → IsHeld g old origin last → IsHeld g new origin next
-  held_done was done keeps next is_new held clean is =
-      ∥∥₁_map (held (was clean) is) (λ h. record {
-        store = subst (λ x. IsStore (state g x).now) (sym is_new) (keeps clean is (subst IsStore (sym (h.now (done clean).0)) h.store));
+  -- One that was committed makes a store of one, and this of its rows. So the store stands on the new ones, and it is so of those that the last change left.
+  module _ (done : HasCleanDisk (state g new) → IsTrue (state g old).is_open × IsTrue (state g new).is_open × ((state g new).now ≡ (state g new).committed)) (P : Database → Type 0)
+      (makes : HasCleanDisk (state g new) → HasCleanDisk (state g old) → WasStore g origin → IsStore (state g old).now → (state g old).now.trees ≡ (state g last).now.trees
+      → IsStore (state g new).now × P (state g old).now) where
+    made : HasCleanDisk (state g new) → WasStore g origin → Holds g old last → IsStore (state g new).now × P (state g last).now
+    made clean is h =
+        let same = h.now (done clean).0 in
+        let m = makes clean (turns.clean clean) is (subst IsStore (sym same) h.store) (ap (λ (d : Database). d.trees) same) in
+        (m.0, subst P same m.1)
+
+    pub stands : (next : Held S) → next ≡ new → IsStanding g new origin next
+    stands next is_new = record {
+      idle = turns.idle;
+      unlimited = turns.limit ∙ s.unlimited;
+      held = λ clean is. ∥∥₁_map (s.held (turns.clean clean) is) (λ h. record {
+        store = subst (λ x. IsStore (state g x).now) (sym is_new) (made clean is h).0;
         now = λ up. ap (λ x. (state g x).now) (sym is_new);
         committed = λ up. sym (done clean).2 ∙ ap (λ x. (state g x).now) (sym is_new);
-      })
+      });
+    }
 
-  -- what follows of the rows of an open connection holds of those that the last change left
-  pub from_held : (P : Database → Type 0) → IsProp (P (state g last).now) → IsHeld g old origin last → HasCleanDisk (state g old) → WasStore g origin → IsTrue (state g old).is_open
-      → (IsStore (state g old).now → P (state g old).now) → P (state g last).now
-  from_held P prop held clean is up follows = ∥∥₁_elim (held clean is) prop (λ h. subst P (h.now up) (follows (subst IsStore (sym (h.now up)) h.store)))
+    pub told : IsProp (P (state g last).now) → HasCleanDisk (state g new) → WasStore g origin → P (state g last).now
+    told prop clean is = ∥∥₁_elim (s.held (turns.clean clean) is) prop (λ h. (made clean is h).1)
 
 pub on_ok : {X F P : Type 0} (r : Result X F) → P → OnOk r P
 on_ok (Ok x) p = p
@@ -83,25 +91,3 @@ module _ {S : Type 0} (g : Ghosts S) where
   -- a refusal before anything was changed
   pub unchanged : {X F : Type 0} (a b : SqlStore S g) (r : Result X F) → Stands g a b → ChangesWhole g a b r
   unchanged a b r p = whole a b r (stood a b p) (λ honest. on_err r (ap (λ h. contents_in (state g h).now.trees) p.last))
-
--- the row of a new database, by its name and the text of its security object
-pub new_row : (old new : Database) (name given text : List ℕ) → given ≡ name → text ≡ canonical closed_security
-    → Changes dbs_tree (with_cells (old.trees dbs_tree) (database_cells given text (pos 0))) old new
-    → Changes dbs_tree (with_cells (old.trees dbs_tree) (database_cells name (canonical closed_security) (pos 0))) old new
-new_row old new name given text named spelled change =
-    subst (λ t. Changes dbs_tree (with_cells (old.trees dbs_tree) (database_cells name t (pos 0))) old new) spelled
-    (subst (λ n. Changes dbs_tree (with_cells (old.trees dbs_tree) (database_cells n text (pos 0))) old new) named change)
-
--- the number of a database, in the same rows
-pub number_at : (trees others : Trees) (name : List ℕ) (n : ℤ) → trees ≡ others → HasNumber others name n → HasNumber trees name n
-number_at trees others name n same has = subst (λ t. HasNumber t name n) (sym same) has
-
--- the rows with another security object, by the same number and the same text
-pub secured_row : (old new : Database) (n m : ℤ) (t u : List ℕ) → m ≡ n → t ≡ u → Changes dbs_tree (rows_with_security n t (old.trees dbs_tree)) old new → Changes dbs_tree (rows_with_security m u (old.trees dbs_tree)) old new
-secured_row old new n m t u same text change =
-    subst (λ k. Changes dbs_tree (rows_with_security k u (old.trees dbs_tree)) old new) (sym same) (subst (λ x. Changes dbs_tree (rows_with_security n x (old.trees dbs_tree)) old new) text change)
-
--- a local document put in, by the same number, id and text
-pub local_row : (old new : Database) (n m : ℤ) (i j : List ℕ) (number : ℕ) (t u : List ℕ) → m ≡ n → i ≡ j → t ≡ u → Replaces n i number t old new → Replaces m j number u old new
-local_row old new n m i j number t u same named text change =
-    subst (λ k. Replaces k j number u old new) (sym same) (subst (λ x. Replaces n x number u old new) named (subst (λ x. Replaces n i number x old new) text change))

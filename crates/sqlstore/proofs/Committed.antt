@@ -1,10 +1,9 @@
 -- What a store makes of writes that are committed together.
-use Rattle.std.proofs.Common.{◌≡◌, ◌+◌, ◌<◌, ◌^◌, ℕ, ℤ, List, filter, length, option_map, slice_get, Some, IsTrue, sym, ap, subst, ◌∙◌, arith}
-use Rattle.std.proofs.Math.Logic.{∥∥₁_elim, ∥∥₁_map}
+use Rattle.std.proofs.Common.{◌≡◌, ◌+◌, ◌<◌, ◌^◌, ℕ, ℤ, List, length, Some, sym, ap, subst, arith}
+use Rattle.std.proofs.Math.Logic.{∥∥₁_elim}
 use Rattle.std.specs.FinMap as finite
 use Rattle.sqlite_trees.specs.declared.store.Store.{Ghosts}
 use Rattle.sqlite_trees.specs.Tree.{Trees}
-use Rattle.sqlite_value.specs.Order.{Row}
 use Rattle.sqlite.specs.Effect.{Database}
 use Rattle.sqlite.specs.Held.{Held, state}
 use Rattle.sqlite.specs.State.{HasCleanDisk}
@@ -14,28 +13,17 @@ use Rattle.store.specs.Database.{with_all}
 use Rattle.store.specs.Writing.{Addition, writings_in}
 use Rattle.store.specs.declared.fault.StoreFault.{StoreFault}
 use Rattle.store.specs.declared.fault.StoreFault.TheVariants.{Memory, Failed, NoDatabase, Exists, Damaged, Full}
-use Rattle.tables.specs.Edits.{HasWritten}
 use Rattle.tables.specs.Layout.{IsStore}
-use Rattle.tables.specs.Rows.{contents_in, database_of, is_named}
-use Rattle.tables.specs.Schema.{dbs_tree}
-use Rattle.tables.proofs.Lookups.{database_there}
+use Rattle.tables.specs.Rows.{contents_in, database_of}
 use Rattle.sqlstore.specs.Causes.{IsJudged}
 use Rattle.transactions.specs.Commits.{AreDue, IsSound, IsUnwritten}
 use Rattle.sqlstore.specs.Commits.{IsToldAs, IsUncommitted}
 use Rattle.sqlstore.specs.Reading.{FoundValues}
-use Rattle.transactions.specs.Endings.{Turns}
 use Rattle.sqlstore.specs.Standing.{IsHeld, WasStore}
-use Rattle.transactions.specs.declared.write_fault.WriteFault.{WriteFault}
-use Rattle.transactions.specs.declared.write_fault.WriteFault.TheVariants as write
+use Rattle.transactions.specs.declared.commit_fault.CommitFault.{CommitFault}
+use Rattle.transactions.specs.declared.commit_fault.CommitFault.TheVariants as write
 use Rattle.sqlstore.proofs.Answering.{IsThere}
 use Rattle.transactions.proofs.Committing.{length-writings_in}
-
--- the contents with the writes that were done
-pub contents_written : (all : List Addition) (name : List ℕ) (r : Row) (old new : Database) → IsStore old → slice_get (filter (is_named name) (old.trees dbs_tree)) 0 ≡ Some r
-    → HasWritten (writings_in (database_of old.trees r) all) name r old new
-    → option_map (λ db. finite.insert (contents_in old.trees) name (with_all db (writings_in db all))) (finite.get (contents_in old.trees) name) ≡ Some (contents_in new.trees)
-contents_written all name r old new is first h =
-    ap (option_map (λ db. finite.insert (contents_in old.trees) name (with_all db (writings_in db all)))) (database_there old.trees is.laid name r first) ∙ ap Some (sym h.contents)
 
 -- the same writes are due in the same rows
 pub due_at : (all : List Addition) (name : List ℕ) (number : ℤ) (sequence : ℕ) (trees others : Trees) → trees ≡ others → AreDue all name number sequence others → AreDue all name number sequence trees
@@ -61,7 +49,7 @@ lacks_there all trees name k t lacks =
     (db, t.database, λ room. lacks (omega (arith, room, count, length-writings_in db all)))
 
 -- what a store tells, from why the writes were not done
-pub told : (old new : ℕ) (sound honest : Type 0) (fault : WriteFault) (said : StoreFault) → IsUnwritten sound fault → IsToldAs old new fault said → (honest → ¬ ¬ sound) → IsUncommitted old new honest said
+pub told : (old new : ℕ) (sound honest : Type 0) (fault : CommitFault) (said : StoreFault) → IsUnwritten sound fault → IsToldAs old new fault said → (honest → ¬ ¬ sound) → IsUncommitted old new honest said
 told old new sound honest (write.Sqlite e) said h judged is = judged_as said judged
   where
     judged_as : (f : StoreFault) → IsJudged old new f → IsUncommitted old new honest f
@@ -87,17 +75,3 @@ module _ {S : Type 0} (g : Ghosts S) (Fits : Trees → Type 0) (old new origin l
   sound was held clean is fits none =
       ∥∥₁_elim (held (was clean) is) (λ p q. absurd p)
       (λ h. none (clean, λ up. (subst IsStore (sym (h.now up)) h.store, subst (λ (d : Database). Fits d.trees) (sym (h.now up)) fits)))
-
-  -- a transaction that is undone where the rows are fit leaves what is held
-  pub held_undone_fit : Turns g old new → (IsStore (state g old).now → Fits (state g old).now.trees → HasCleanDisk (state g new) → IsTrue (state g new).is_open → ((state g new).now ≡ (state g old).committed) × ((state g new).committed ≡ (state g old).committed))
-      → (HasCleanDisk (state g old) → WasStore g origin → Fits (state g last).now.trees) → IsHeld g old origin last → IsHeld g new origin last
-  held_undone_fit turns undone fits held clean is =
-      let was = turns.clean clean in
-      ∥∥₁_map (held was is) (λ h.
-      let store = λ (up : IsTrue (state g old).is_open). subst IsStore (sym (h.now up)) h.store in
-      let fit = λ (up : IsTrue (state g old).is_open). subst (λ (d : Database). Fits d.trees) (sym (h.now up)) (fits was is) in
-      record {
-        store = h.store;
-        now = λ up. let was_up = turns.was_open clean up in (undone (store was_up) (fit was_up) clean up).0 ∙ h.committed was_up;
-        committed = λ up. let was_up = turns.was_open clean up in (undone (store was_up) (fit was_up) clean up).1 ∙ h.committed was_up;
-      })

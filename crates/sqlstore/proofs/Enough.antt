@@ -127,13 +127,7 @@ enough_by_id range start end plain s e all rows is =
     subst (AreEnoughById range all) (sym is)
     (enough range (lies_between (least_of range.descending start end) (least_of range.descending end start)) (within_range range start end s e) plain all)
 
-pub all_enough_by_id : (range : IdRange) (all rows : List Row) → rows ≡ all → AreEnoughById range all rows
-all_enough_by_id range all rows is = subst (AreEnoughById range all) (sym is) (record { page = refl; intact = λ h. h })
-
 -- ---- rows by sequence
-
-pub all_enough_by_sequence : (range : SeqRange) (all rows : List Row) → rows ≡ all → AreEnoughBySequence range all rows
-all_enough_by_sequence range all rows is = subst (AreEnoughBySequence range all) (sym is) (record { page = λ sequence. refl; intact = λ h. h })
 
 all_taken : (P : Row → Type 0) (n : ℤ) (rows : List Row) → AllByRecursion P rows → AllByRecursion P (first_rows n rows)
 all_taken P (negsuc n) rows all = all

@@ -19,10 +19,6 @@ module _ (fields : List (List ℕ)) (history : List ℕ → HistoryContent) wher
   one_indexed ids left id among after is made =
       ap (with_documents fields history left) (sym made) ∙ sym (with_documents-push left id among) ∙ ap (λ ks. with_documents fields history ks among) (sym is)
 
-  -- none is left
-  pub all_indexed : (ids : List (List ℕ)) (among : List (IndexPlace × Value)) → ids ≡ [] → with_documents fields history ids among ≡ among
-  all_indexed ids among none = ap (λ ks. with_documents fields history ks among) none
-
 pub places_listed : (fields : List (List ℕ)) (history : List ℕ → HistoryContent) (ids : List (List ℕ)) (es : List (IndexPlace × Json)) → with_documents fields history ids [] ≡ place_views es
     → places_of fields history ids ≡ map (λ e. e.0) es
 places_listed fields history ids es is = ap (map (λ (e : IndexPlace × Value). e.0)) is ∙ firsts es

@@ -10,3 +10,5 @@ pub mod Enough
 pub mod FoundPages
 pub mod Afterwards
 pub mod Indexing
+mod OpenedAgain
+pub mod Making

@@ -1,15 +1,18 @@
 -- What calls of a store leave, one after the other.
-use Rattle.std.proofs.Common.{◌≡◌, ◌⊎◌, inl, inr, IsTrue, sym, ap, subst, ◌∙◌}
+use Rattle.std.proofs.Common.{◌≡◌, ◌⊎◌, inl, inr, IfOk, IsTrue, Result, Ok, Err, sym, ap, subst, ◌∙◌}
 use Rattle.std.proofs.Math.Logic.{∥∥₁_elim, ∥∥₁_map}
 use Rattle.sqlite_trees.specs.declared.store.Store.{Ghosts}
 use Rattle.sqlite_trees.specs.Props.{Trees-set}
 use Rattle.sqlite_trees.specs.Tree.{Trees}
+use Rattle.sqlite.specs.Effect.{Database}
 use Rattle.sqlite.specs.Held.{Held, state}
 use Rattle.sqlite.specs.State.{HasCleanDisk}
-use Rattle.tables.specs.Calls.{Asks, Looks}
+use Rattle.tables.specs.Calls.{Reads}
+use Rattle.tables.specs.Steps.{Asks, OnlyLooks}
 use Rattle.tables.specs.Layout.{IsStore}
 use Rattle.tables.specs.Schema.{schema}
-use Rattle.sqlstore.specs.Standing.{Holds, IsHeld, WasStore}
+use Rattle.sqlstore.specs.Standing.{Holds, IsHeld, IsStanding, WasStore}
+use Rattle.sqlstore.specs.declared.sql_store.SqlStore.{SqlStore}
 
 module _ {S : Type 0} (g : Ghosts S) (old new origin last : Held S) where
   -- the rows are as they were, whichever way a query ended
@@ -18,25 +21,38 @@ module _ {S : Type 0} (g : Ghosts S) (old new origin last : Held S) where
   same_rows h up (inr is) = is ∙ h.committed up
 
   same_schema : Holds g old last → IsTrue (state g old).is_open → old.schema ≡ schema
-  same_schema h up = ap (λ (d : Rattle.sqlite.specs.Effect.Database). d.schema) (h.now up) ∙ h.store.schema_is
+  same_schema h up = ap (λ (d : Database). d.schema) (h.now up) ∙ h.store.schema_is
 
   -- a query leaves what is held
-  holds_on : Asks g old new → Looks g old new → HasCleanDisk (state g new) → Holds g old last → Holds g new last
+  holds_on : Asks (state g old) (state g new) → (old.schema ≡ schema → OnlyLooks (state g old) (state g new)) → HasCleanDisk (state g new) → Holds g old last → Holds g new last
   holds_on asks looks clean h = record {
     store = h.store;
     now = λ up. let was = asks.was_open clean up in same_rows h was ((looks (same_schema h was)).rows clean up);
     committed = λ up. let was = asks.was_open clean up in ((looks (same_schema h was)).kept clean).committed up ∙ h.committed was;
   }
 
-  pub held_on : Asks g old new → Looks g old new → IsHeld g old origin last → IsHeld g new origin last
-  held_on asks looks held clean is = ∥∥₁_map (held (asks.clean clean) is) (holds_on asks looks clean)
+  -- and the store stands
+  pub still : {X E : Type 0} {IsFit : Database → Type 0} {Is : Trees → X → Type 0} {r : Result X E} → Reads g IsFit old new Is r → IsStanding g old origin last → IsStanding g new origin last
+  still reads s = record {
+    idle = reads.asks.mode s.idle;
+    unlimited = reads.asks.limit ∙ s.unlimited;
+    held = λ clean is. ∥∥₁_map (s.held (reads.asks.clean clean) is) (holds_on reads.asks reads.looks clean);
+  }
 
-  -- what a query of an open connection finds is so in the rows that the last change left
-  pub found : (P : Trees → Type 0) → IsProp (P (state g last).now.trees) → IsHeld g old origin last → Asks g old new → HasCleanDisk (state g new) → WasStore g origin
-      → IsTrue (state g old).is_open → (IsStore (state g old).now → P (state g old).now.trees) → P (state g last).now.trees
-  found P prop held asks clean is up finds =
-      ∥∥₁_elim (held (asks.clean clean) is) prop (λ h. subst (λ (d : Rattle.sqlite.specs.Effect.Database). P d.trees) (h.now up) (finds (subst IsStore (sym (h.now up)) h.store)))
+  -- what a query answers is so in the rows that the last change left
+  pub found : {X E F : Type 0} {Is : Trees → X → Type 0} (P : Trees → X → Type 0) → ((trees : Trees) (x : X) → IsProp (P trees x)) → ((trees : Trees) (x : X) → Is trees x → P trees x)
+      → (answer : Result X E) (r : Result X F) → IfOk r (λ x. answer ≡ Ok x) → Reads g IsStore old new Is answer → IsHeld g old origin last → HasCleanDisk (state g new) → WasStore g origin
+      → IfOk r (P (state g last).now.trees)
+  found P prop so answer (Err e) is reads held clean was = tt
+  found {Is = Is} P prop so answer (Ok x) is reads held clean was =
+      let read = subst (Reads g IsStore old new Is) is reads in
+      let up = read.served clean in
+      ∥∥₁_elim (held (read.asks.clean clean) was) (prop _ x) (λ h. subst (λ (d : Database). P d.trees x) (h.now up) (so _ x (read.found clean (subst IsStore (sym (h.now up)) h.store))))
 
   -- an open connection has the rows that the last change left
   pub same_trees : IsHeld g old origin last → HasCleanDisk (state g old) → WasStore g origin → IsTrue (state g old).is_open → (state g old).now.trees ≡ (state g last).now.trees
-  same_trees held clean is up = ∥∥₁_elim (held clean is) (Trees-set _ _) (λ h. ap (λ (d : Rattle.sqlite.specs.Effect.Database). d.trees) (h.now up))
+  same_trees held clean is up = ∥∥₁_elim (held clean is) (Trees-set _ _) (λ h. ap (λ (d : Database). d.trees) (h.now up))
+
+-- all that a store keeps true of its connection
+pub standing : {S : Type 0} (g : Ghosts S) (s : SqlStore S g) → IsStanding g s.conn s.origin.value s.last.value
+standing g s = record { idle = s.idle; unlimited = s.unlimited; held = s.held }

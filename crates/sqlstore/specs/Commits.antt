@@ -4,12 +4,12 @@ use Rattle.std.specs.Prelude.{◌≡◌, ℕ, ⊤}
 use Rattle.store.specs.Causes.{HasFailed}
 use Rattle.store.specs.declared.fault.StoreFault.{StoreFault}
 use Rattle.store.specs.declared.fault.StoreFault.TheVariants.{Memory, Failed, NoDatabase, Exists, Damaged, Full}
-use Rattle.transactions.specs.declared.write_fault.WriteFault.{WriteFault}
-use Rattle.transactions.specs.declared.write_fault.WriteFault.TheVariants as write
+use Rattle.transactions.specs.declared.commit_fault.CommitFault.{CommitFault}
+use Rattle.transactions.specs.declared.commit_fault.CommitFault.TheVariants as write
 use Rattle.sqlstore.specs.Causes.{IsJudged}
 
 -- the fault that a store tells of it
-abbrev pub IsToldAs : ℕ → ℕ → WriteFault → StoreFault → Type 0
+abbrev pub IsToldAs : ℕ → ℕ → CommitFault → StoreFault → Type 0
 IsToldAs old new (write.Sqlite e) told = IsJudged old new told
 IsToldAs old new (write.Store fault) told = told ≡ fault
 

@@ -1,6 +1,6 @@
 -- What a store keeps true of its connection: as the store opened it, as the last change left it, and as it is.
 -- This server's own: facts hold where the disk returned what was written and the tables were laid out when they were opened.
-use Rattle.std.specs.Prelude.{◌≡◌, IsTrue}
+use Rattle.std.specs.Prelude.{◌≡◌, false, None, IsTrue}
 use Rattle.sqlite_trees.specs.declared.store.Store.{Ghosts}
 use Rattle.sqlite.specs.Held.{Held, state}
 use Rattle.sqlite.specs.State.{HasCleanDisk}
@@ -20,3 +20,9 @@ module _ {S : Type 0} (g : Ghosts S) where
   -- where the connection is honest, it is so
   abbrev pub IsHeld : Held S → Held S → Held S → Type 0
   IsHeld conn origin last = HasCleanDisk (state g conn) → WasStore origin → ∥ Holds conn last ∥₁
+
+  -- all that a store keeps true of it
+  pub record IsStanding (conn origin last : Held S) : Type 0 where
+    pub idle : conn.in_transaction ≡ false
+    pub unlimited : conn.step_limit ≡ None
+    pub held : IsHeld conn origin last

@@ -1,12 +1,12 @@
 //! What a store makes of an error of SQLite, and of writes that were not done.
 
-ghost use Rattle.std.specs.Prelude.{◌≤◌};
+ghost use Rattle.std.specs.Prelude.{◌≡◌, ◌≤◌, IfErr, IfOk, Ok};
 ghost use Rattle.sqlstore.specs.Causes.{IsJudged};
 ghost use Rattle.sqlstore.specs.Commits.{IsToldAs};
 
 use sqlite::{Error, ErrorCode};
 use store::StoreFault;
-use transactions::WriteFault;
+use transactions::CommitFault;
 
 /// Tells what fault an error is, and counts it, but for want of memory.
 pub(crate) fn judge(faults: &mut u64, error: Error) -> StoreFault
@@ -20,13 +20,25 @@ pub(crate) fn judge(faults: &mut u64, error: Error) -> StoreFault
     StoreFault::Failed
 }
 
+/// Returns what a statement answered, or tells what fault its error is.
+pub(crate) fn judge_answer<T>(faults: &mut u64, answer: Result<T, Error>) -> Result<T, StoreFault>
+    ensures ok { IfOk result (λ told. answer ≡ Ok told) }
+    ensures judged { IfErr result (IsJudged faults.old faults.new) }
+    ensures counted { faults.old ≤ faults.new }
+{
+    match answer {
+        Ok(told) => Ok(told),
+        Err(error) => Err(judge(faults, error)),
+    }
+}
+
 /// Tells what fault of a store it is, and counts an error of SQLite, but for want of memory.
-pub(crate) fn judge_write(faults: &mut u64, fault: WriteFault) -> StoreFault
+pub(crate) fn judge_write(faults: &mut u64, fault: CommitFault) -> StoreFault
     ensures told { IsToldAs faults.old faults.new fault result }
     ensures counted { faults.old ≤ faults.new }
 {
     match fault {
-        WriteFault::Sqlite(error) => judge(faults, error),
-        WriteFault::Store(fault) => fault,
+        CommitFault::Sqlite(error) => judge(faults, error),
+        CommitFault::Store(fault) => fault,
     }
 }

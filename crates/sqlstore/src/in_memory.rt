@@ -41,6 +41,18 @@ impl MemoryStore {
             Err((OpenFault::Failed | OpenFault::NotOurs, _)) => Err(StoreFault::Failed),
         }
     }
+
+    /// Closes the store, and opens again what its tables hold: the same contents.
+    pub fn reopen(self) -> Result<MemoryStore, StoreFault>
+        ensures { IfOk result (λ s. model.contents_of over_memory s.store ≡ model.contents_of over_memory self.store) }
+    {
+        let MemoryStore { store } = self;
+        match store.reopen() {
+            Ok(store) => Ok(MemoryStore { store }),
+            Err((OpenFault::Memory, _)) => Err(StoreFault::Memory),
+            Err((OpenFault::Failed | OpenFault::NotOurs, _)) => Err(StoreFault::Failed),
+        }
+    }
 }
 
 impl Store for MemoryStore {

@@ -3,7 +3,7 @@
 ghost use Rattle.std.specs.Prelude.{◌≡◌, ◌⊎◌, false, true, Err, IsTrue, None, OnErr, OnOk};
 ghost use Rattle.sqlite.specs.Held.{state};
 ghost use Rattle.sqlite.specs.State.{HasCleanDisk};
-ghost use Rattle.tables.specs.Calls.{Asks, IsServed, Looks, Stands};
+ghost use Rattle.tables.specs.Calls.{Reads};
 ghost use Rattle.tables.specs.Layout.{IsNew, IsStore};
 ghost use Rattle.tables.specs.Presence.{has_all, has_any, is_first};
 ghost use Rattle.tables.specs.Schema.{meta_tree, no_schema, schema};
@@ -17,10 +17,7 @@ use transactions::begin_tables;
 /// Looks whether the version is that of this layout.
 fn check_version<S: Alter>(conn: &mut Connection<S>) -> Result<(), OpenFault>
     ensures not_ours { result ≡ Err OpenFault.NotOurs → HasCleanDisk (state S.Store conn.new) → ¬ IsStore (state S.Store conn.old).now }
-    ensures version { HasCleanDisk (state S.Store conn.new) → conn.old.schema ≡ schema → OnOk result (is_first ((state S.Store conn.old).now.trees meta_tree) ≡ true) }
-    ensures stands { Stands S.Store conn.old conn.new result }
-    ensures looks { Looks S.Store conn.old conn.new }
-    ensures asks { Asks S.Store conn.old conn.new }
+    ensures reads { Reads S.Store (λ db. db.schema ≡ schema) conn.old conn.new (λ trees _. is_first (trees meta_tree) ≡ true) result }
 {
     match is_first_version(conn) {
         Ok(true) => Ok(()),
@@ -36,6 +33,7 @@ fn make_tables<S: Alter>(conn: &mut Connection<S>) -> Result<(), OpenFault>
     ensures ours { result ≡ Err OpenFault.NotOurs → ⊥ }
     ensures turns { Turns S.Store conn.old conn.new }
     ensures undone { IsUndone S.Store conn.old conn.new result }
+    ensures served { HasCleanDisk (state S.Store conn.new) → OnOk result (IsTrue (state S.Store conn.old).is_open) }
 {
     match begin_tables(conn) {
         Ok(()) => Ok(()),
@@ -59,6 +57,7 @@ pub(crate) fn find_tables<S: Alter>(conn: &mut Connection<S>) -> Result<(), Open
     ensures refused { (has_all conn.old.schema ≡ true → conn.old.schema ≡ schema) → HasCleanDisk (state S.Store conn.new) → IsTrue (state S.Store conn.new).is_open
         → OnErr result (((state S.Store conn.new).now ≡ (state S.Store conn.old).now) ⊎ ((state S.Store conn.new).now ≡ (state S.Store conn.old).committed)) }
     ensures turns { Turns S.Store conn.old conn.new }
+    ensures served { HasCleanDisk (state S.Store conn.new) → OnOk result (IsTrue (state S.Store conn.old).is_open) }
 {
     match tables_in(conn.schema()) {
         FoundTables::All => check_version(conn),

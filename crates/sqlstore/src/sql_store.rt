@@ -48,7 +48,7 @@ impl<S: Alter> SqlStore<S> {
 }
 
 impl<S: Alter + Drop> SqlStore<S> {
-    ghost use Rattle.std.specs.Prelude.{◌⊎◌, Err, IfErr, IfOk, IsTrue, true};
+    ghost use Rattle.std.specs.Prelude.{◌⊎◌, ◌≢◌, Err, IfErr, IfOk, IsTrue, true};
     ghost use Rattle.std.specs.FinMap.{empty};
     ghost use Rattle.sqlite.specs.Held.{state};
     ghost use Rattle.sqlite.specs.State.{HasCleanDisk};
@@ -71,15 +71,18 @@ impl<S: Alter + Drop> SqlStore<S> {
         ensures made { IfOk result (λ s. is_clean S.Store s → conn.schema ≡ no_schema → is_honest S.Store s × (contents_of S.Store s ≡ empty)) }
         ensures no_faults { IfOk result (λ s. fault_count S.Store s ≡ 0) }
         ensures clean { IfOk result (λ s. is_clean S.Store s → HasCleanDisk (state S.Store conn)) }
+        ensures served { IfOk result (λ s. is_clean S.Store s → IsTrue (state S.Store conn).is_open) }
         ensures not_ours { IfErr result (λ e. e.0 ≡ OpenFault.NotOurs → (conn.in_transaction ≡ true) ⊎ (HasCleanDisk (state S.Store e.1) → ¬ IsStore (state S.Store conn).now)) }
 
         // What is opened has none of the tables or all, and if they are those of this layout, the version.
         ensures all { IfOk result (λ _. has_any conn.schema ≡ true → has_all conn.schema ≡ true) }
         ensures version { IfOk result (λ s. is_clean S.Store s → conn.schema ≡ schema → is_first ((state S.Store conn).now.trees meta_tree) ≡ true) }
 
-        // Where it is refused the rows are as they were, if tables of these names are those of this layout.
+        // Where it is refused the rows are as they were, if tables of these names are those of this layout,
+        // and a connection that was shut is not opened.
         ensures refused { IfErr result (λ e. (has_all conn.schema ≡ true → conn.schema ≡ schema) → HasCleanDisk (state S.Store e.1) → IsTrue (state S.Store e.1).is_open
             → (state S.Store e.1).now ≡ (state S.Store conn).now) }
+        ensures shut { IfErr result (λ e. HasCleanDisk (state S.Store e.1) → HasCleanDisk (state S.Store conn) × (IsTrue (state S.Store e.1).is_open → IsTrue (state S.Store conn).is_open)) }
     {
         if !conn.is_autocommit() {
             return Err((OpenFault::NotOurs, conn));
@@ -103,10 +106,11 @@ impl<S: Alter + Drop> SqlStore<S> {
     }
 
     /// Closes the store, and gives back its connection, which is in no transaction and has the rows that
-    /// hold the contents.
+    /// hold the contents, laid out as a store's.
     pub fn close(self) -> Connection<S>
         ensures idle { result.in_transaction ≡ false }
         ensures contents { is_honest S.Store self → IsTrue (state S.Store result).is_open → contents_in (state S.Store result).now.trees ≡ contents_of S.Store self }
+        ensures laid { is_honest S.Store self → IsTrue (state S.Store result).is_open → ∥ IsStore (state S.Store result).now ∥₁ }
         ensures clean { HasCleanDisk (state S.Store result) → is_clean S.Store self }
     {
         let SqlStore {
@@ -117,5 +121,21 @@ impl<S: Alter + Drop> SqlStore<S> {
             faults: _,
         } = self;
         conn
+    }
+
+    /// Closes the store, and opens again what its tables hold. The connection comes back where that is refused.
+    pub fn reopen(self) -> Result<SqlStore<S>, (OpenFault, Connection<S>)>
+        // It has the same contents, and has met no fault.
+        ensures same { is_honest S.Store self → IfOk result (λ s. is_clean S.Store s → is_honest S.Store s × (contents_of S.Store s ≡ contents_of S.Store self)) }
+        ensures no_faults { IfOk result (λ s. fault_count S.Store s ≡ 0) }
+        ensures clean { IfOk result (λ s. is_clean S.Store s → is_clean S.Store self) }
+
+        // Where it is refused the tables are those of a store nevertheless, with the same contents.
+        ensures ours { is_honest S.Store self → IfErr result (λ e. HasCleanDisk (state S.Store e.1) → IsTrue (state S.Store e.1).is_open → e.0 ≢ OpenFault.NotOurs) }
+        ensures refused { is_honest S.Store self → IfErr result (λ e. HasCleanDisk (state S.Store e.1) → IsTrue (state S.Store e.1).is_open
+            → ∥ IsStore (state S.Store e.1).now ∥₁ × (contents_in (state S.Store e.1).now.trees ≡ contents_of S.Store self)) }
+    {
+        let alloc = self.alloc;
+        SqlStore::open(alloc, self.close())
     }
 }

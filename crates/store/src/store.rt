@@ -152,7 +152,8 @@ pub trait Store {
     /// Writes a local document in the place of the one of this id, whatever its number. `NoDatabase`
     /// comes if and only if there is no database of this name; `Full` never comes.
     ///
-    /// The caller owes that the body is an object at most 100 deep.
+    /// The caller owes that the body is an object at most 100 deep. The id is a local one, `_local/` and
+    /// a name; no store tests that.
     fn set_local(
         &mut self,
         name: &DbName,

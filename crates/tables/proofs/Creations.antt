@@ -1,9 +1,11 @@
 -- What the texts that make the tables mean.
-use Rattle.std.proofs.Common.{◌≡◌, ◌⊎◌, inl, inr, ℕ, List, [], codes, false, None, Ok, Err, Result, OnOk, refl, sym, ap, subst, ◌∙◌}
+use Rattle.std.proofs.Common.{◌≡◌, ℕ, List, [], codes, false, None, Ok, Err, Result, OnOk, refl, sym, ap, subst, ◌∙◌}
 use Rattle.sqlite_catalog.specs.Change.{created, next_tree, KeepsRows}
 use Rattle.sqlite.specs.Effect.{Database}
 use Rattle.sqlite.specs.Does.{Tally, lacks_sequence}
 use Rattle.sqlite.specs.State.{State, Writes}
+use Rattle.tables.proofs.Writes.{same_value, went}
+use Rattle.tables.specs.Layout.{IsEmpty}
 use Rattle.tables.specs.Steps.{Ran, AddsTable}
 use Rattle.sqlite_schema.specs.declared.schema.Schema.{Schema}
 use Rattle.sqlite_schema.specs.declared.schema.Table.{Table}
@@ -57,14 +59,6 @@ pub locals_made : Creates tables.schema_4 locals_text tables.locals
 unfolding understood everything
 locals_made = record { command = refl; whole = refl; defined = refl; plain = (refl, refl); uncounted = refl }
 
--- a part that gave a value did not stop on the way
-went : {B E R : Type 0} {b : B} {Stops : E → Type 0} → ((stop : E) × Stops stop × (Ok b ≡ Err stop)) ⊎ R → R
-went (inl stopped) = absurd (let e = stopped.2 in cc)
-went (inr on) = on
-
-same_value : {B E : Type 0} {a b : B} → ◌≡◌ {A = Result B E} (Ok a) (Ok b) → a ≡ b
-same_value e = cc
-
 -- a text that makes a table makes it
 pub adds_table : (schema : Schema) (text : List ℕ) (table : Table) (old new : State) → Creates schema text table → old.now.schema ≡ schema → Ran text [] old new → AddsTable schema table old.now new.now
 adds_table schema text table old new creates has ran =
@@ -83,6 +77,24 @@ adds_table schema text table old new creates has ran =
       others = subst (λ (d : Database). KeepsRows schema.tables old.now.trees d.trees) (sym now) (subst (λ (s : Schema). KeepsRows s.tables old.now.trees first.0.trees) has made.others);
     }
 
-pub adds_if_ran : (schema : Schema) (text : List ℕ) (table : Table) (old new : State) → Creates schema text table → {X E : Type 0} → (r : Result X E) → old.now.schema ≡ schema → OnOk r (Ran text [] old new) → OnOk r (AddsTable schema table old.now new.now)
-adds_if_ran schema text table old new creates (Err e) has h = tt
-adds_if_ran schema text table old new creates (Ok x) has h = adds_table schema text table old new creates has h
+-- the five texts, one after the other where there was no table, make all
+pub makes_all : (a b c d e f : State) → a.now.schema ≡ tables.no_schema → Ran meta_text [] a b → Ran dbs_text [] b c → Ran docs_text [] c d → Ran revs_text [] d e → Ran locals_text [] e f → IsEmpty f.now
+makes_all a b c d e f has first second third fourth fifth =
+    let one = adds_table tables.no_schema meta_text tables.meta a b meta_made has first in
+    let two = adds_table tables.schema_1 dbs_text tables.dbs b c dbs_made one.schema_is second in
+    let three = adds_table tables.schema_2 docs_text tables.docs c d docs_made two.schema_is third in
+    let four = adds_table tables.schema_3 revs_text tables.revs d e revs_made three.schema_is fourth in
+    let five = adds_table tables.schema_4 locals_text tables.locals e f locals_made four.schema_is fifth in
+    record {
+      schema_is = five.schema_is;
+      meta = five.others.0 ∙ four.others.0 ∙ three.others.0 ∙ two.others.0 ∙ one.empty;
+      dbs = five.others.1.0 ∙ four.others.1.0 ∙ three.others.1.0 ∙ two.empty;
+      docs = five.others.1.1.0 ∙ four.others.1.1.0 ∙ three.empty;
+      revs = five.others.1.1.1.0 ∙ four.empty;
+      locals = five.empty;
+    }
+
+pub makes_if_ran : {X E : Type 0} (a b c d e f : State) (r : Result X E) → a.now.schema ≡ tables.no_schema → Ran meta_text [] a b → Ran dbs_text [] b c → Ran docs_text [] c d → Ran revs_text [] d e
+    → OnOk r (Ran locals_text [] e f) → OnOk r (IsEmpty f.now)
+makes_if_ran a b c d e f (Err x) has first second third fourth fifth = tt
+makes_if_ran a b c d e f (Ok x) has first second third fourth fifth = makes_all a b c d e f has first second third fourth fifth

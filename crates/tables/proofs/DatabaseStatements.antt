@@ -1,5 +1,5 @@
 -- What the statements on databases mean.
-use Rattle.std.proofs.Common.{◌≡◌, ℕ, ℤ, pos, List, [], ◌∷◌, map, filter, codes, true, false, not, Ok, Err, Result, IfErr, IfOk, OnOk, ◌⊎◌, bytes_eq, refl, ap, ap₂, subst, drop, ◌∙◌, ◌≢◌, is_eq, Equal, Bool, ◌||◌, ◌&&◌}
+use Rattle.std.proofs.Common.{◌≡◌, ℕ, ℤ, pos, List, [], ◌∷◌, map, filter, codes, true, false, not, Ok, Err, Result, IfOk, OnOk, bytes_eq, refl, ap, ap₂, subst, drop, ◌∙◌, ◌≢◌, is_eq, Equal}
 use Rattle.std.specs.List.{AllByRecursion, list_all}
 use Rattle.sqlite_value.specs.declared.value.Value.TheVariants.{Null, Int, Text, Blob}
 use Rattle.sqlite_value.specs.Order.{Row, column}
@@ -21,16 +21,9 @@ use Rattle.sqlite_schema.specs.declared.command.Command.TheVariants.{Insert, Del
 use Rattle.sqlite_schema.specs.declared.command.Source.TheVariants.{Values}
 use Rattle.sqlite_tied.specs.Compute.{everything}
 use Rattle.sqlite.specs.Listing.{understood, reads_listing}
-use Rattle.sqlite.specs.State.{State, Shown, FailsToQuery}
-use Rattle.sqlite.specs.declared.error.Error.{Error}
-use Rattle.tables.proofs.Failures.{IsWhole, looks_fail}
-use Rattle.tables.specs.Causes.{IsFault, IsEnded, IsInterrupted, IsRefused}
+use Rattle.sqlite.specs.State.{State, Shown}
 use Rattle.tables.proofs.Cells.{is_param, same_int, same_blob, cast_null, cast_int}
 use Rattle.tables.proofs.Deletes.{deletes_where}
-use Rattle.sqlite_keyed.specs.Lists.{update_where}
-use Rattle.tables.proofs.Clears.{fails_to_delete}
-use Rattle.tables.proofs.Replaces.{fails_to_update}
-use Rattle.tables.proofs.Inserts.{FitsTable, IsUnreferred, fails_to_insert}
 use Rattle.tables.proofs.Finds.{finds_one}
 use Rattle.tables.proofs.Queries.{program_on, unlimited}
 use Rattle.tables.proofs.Single.{one_row, fails}
@@ -38,9 +31,9 @@ use Rattle.tables.proofs.Tables.{meta_plain, dbs_plain, databases_laid, numbered
 use Rattle.tables.proofs.Updates.{updates_where}
 use Rattle.tables.proofs.Writes.{IsCommand, inserts}
 use Rattle.tables.specs.Layout.{AreNumbered, AreDatabaseRows, IsStore}
-use Rattle.tables.specs.Rows.{number_of, has_number, name_of, is_named, security_text, length_of, database_row, database_cells, rows_with_security, rows_at_sequence, row_with_security, row_at_sequence, by_name, shown_name, shown_database, count, next_number, with_cells}
+use Rattle.tables.specs.Rows.{number_of, has_number, name_of, is_named, security_text, length_of, database_row, database_cells, rows_with_security, rows_at_sequence, by_name, shown_name, shown_database, count, with_cells}
 use Rattle.tables.specs.Schema.{schema, meta_tree, meta_table, dbs_tree, dbs_table}
-use Rattle.tables.specs.Steps.{Ran, Changes, FailsToRun}
+use Rattle.tables.specs.Steps.{Ran, Changes}
 
 -- ---- the version
 
@@ -110,13 +103,6 @@ pub finds_database : {X E : Type 0} (old new : State) → IsStore old.now → (n
 finds_database old new is name r items h =
     finds_one schema old new is.schema_is find_text dbs_tree with_name (col 1 0 ∷ col 1 3 ∷ col 1 4 ∷ []) (codes "num" ∷ codes "sec" ∷ codes "seq" ∷ []) find_is find_unlisted (Blob name ∷ []) (is_named name) shown_database
     refl (λ r. refl) (tests_name name _ (databases_laid old.now.trees is.laid)) (one_named (old.now.trees dbs_tree) is.laid.names_apart name) r items h
-
-find_whole : IsWhole schema find_text 1
-unfolding understood everything
-find_whole = record { ends = refl; given = refl; same = refl }
-
-pub find_fails : {X : Type 0} (old new : State) → old.now.schema ≡ schema → (name : List ℕ) (r : Result X Error) → IfErr r (FailsToQuery find_text (Blob name ∷ []) old new) → IfErr r (λ e. IsFault old new e ⊎ IsInterrupted old e)
-find_fails old new has name r h = looks_fail schema old new has find_text dbs_tree with_name (col 1 0 ∷ col 1 3 ∷ col 1 4 ∷ []) [] unlimited (codes "num" ∷ codes "sec" ∷ codes "seq" ∷ []) find_is find_unlisted (Blob name ∷ []) find_whole refl r h
 
 cast : (name security : List ℕ) → cast_row dbs_table (Null ∷ database_cells name security (pos 0)) ≡ Null ∷ database_cells name security (pos 0)
 cast name security = λ i. cast_null i ∷ cast_null i ∷ Blob name ∷ Text security ∷ cast_int (pos 0) i ∷ []
@@ -214,88 +200,4 @@ lists_names {X} old new is r items h =
     names_agree (λ a b k l p q apart. names_apart a b apart) refl (λ x. refl) (all_of (λ x. true ≡ true) (λ x. refl) (old.now.trees dbs_tree))
     (databases_laid old.now.trees is.laid).each is.laid.names_apart r items h)
 
-names_whole : IsWhole schema names_text 0
-unfolding understood everything
-names_whole = record { ends = refl; given = refl; same = refl }
-
-pub names_fails : {X : Type 0} (old new : State) → old.now.schema ≡ schema → (r : Result X Error) → IfErr r (FailsToQuery names_text ([]) old new) → IfErr r (λ e. IsFault old new e ⊎ IsInterrupted old e)
-names_fails old new has r h = looks_fail schema old new has names_text dbs_tree [] (col 1 2 ∷ []) name_order unlimited (codes "name" ∷ []) names_is names_unlisted ([]) names_whole refl r h
-
 -- ---- why the changes fail
-
-version_text_whole : IsWhole schema version_text 0
-unfolding understood everything
-version_text_whole = record { ends = refl; given = refl; same = refl }
-
-meta_unreferred : IsUnreferred meta_table
-meta_unreferred = record { fits = both }
-  where
-    both : (a b : Bool) → ((not a || true) && (not b || true)) ≡ true
-    both true true = refl
-    both true false = refl
-    both false true = refl
-    both false false = refl
-
-version_fits : (n : ℤ) → FitsTable meta_table (Int n ∷ (count 1 ∷ []))
-version_fits n = record { typed = λ trees. refl; present = λ trees. refl; checked = λ trees. refl }
-
-pub version_fails : {X : Type 0} (old new : State) → old.now.schema ≡ schema → AreNumbered (old.now.trees meta_tree) → (r : Result X Error) → IfErr r (FailsToRun version_text ([]) old new)
-    → IfErr r (λ e. IsFault old new e ⊎ (IsEnded old e ⊎ (IsInterrupted old e ⊎ IsRefused meta_table old.now.trees (with_cells (old.now.trees meta_tree) ((count 1 ∷ []))) ((Int (next_number (old.now.trees meta_tree)) ∷ (count 1 ∷ [])) ∷ []) e)))
-version_fails old new has fit r h =
-    fails_to_insert old new has 0 meta_table meta_plain meta_unreferred version_text version_values 2 version_is ([]) version_text_whole refl (Null ∷ (count 1 ∷ [])) ((count 1 ∷ [])) refl (λ i. cast_null i ∷ cast_int (pos 1) i ∷ [])
-    (version_fits _) fit r h
-
-insert_text_whole : IsWhole schema insert_text 2
-unfolding understood everything
-insert_text_whole = record { ends = refl; given = refl; same = refl }
-
-delete_text_whole : IsWhole schema delete_text 1
-unfolding understood everything
-delete_text_whole = record { ends = refl; given = refl; same = refl }
-
-dbs_unreferred : IsUnreferred dbs_table
-dbs_unreferred = record { fits = both }
-  where
-    both : (a b : Bool) → ((not a || true) && (not b || true)) ≡ true
-    both true true = refl
-    both true false = refl
-    both false true = refl
-    both false false = refl
-
-insert_fits : (n : ℤ) (name security : List ℕ) → FitsTable dbs_table (Int n ∷ database_cells name security (pos 0))
-insert_fits n name security = record { typed = λ trees. refl; present = λ trees. refl; checked = λ trees. refl }
-
-pub insert_fails : {X : Type 0} (old new : State) → old.now.schema ≡ schema → AreDatabaseRows (old.now.trees dbs_tree) → (name security : List ℕ) → (r : Result X Error) → IfErr r (FailsToRun insert_text (Blob name ∷ Text security ∷ []) old new)
-    → IfErr r (λ e. IsFault old new e ⊎ (IsEnded old e ⊎ (IsInterrupted old e ⊎ IsRefused dbs_table old.now.trees (with_cells (old.now.trees dbs_tree) (database_cells name security (pos 0))) ((Int (next_number (old.now.trees dbs_tree)) ∷ database_cells name security (pos 0)) ∷ []) e)))
-insert_fails old new has fit name security r h =
-    fails_to_insert old new has 1 dbs_table dbs_plain dbs_unreferred insert_text values 5 insert_is (Blob name ∷ Text security ∷ []) insert_text_whole refl (Null ∷ database_cells name security (pos 0)) (database_cells name security (pos 0)) refl (cast name security)
-    (insert_fits _ name security) (numbered_databases _ fit) r h
-
-pub delete_fails : {X : Type 0} (old new : State) → old.now.schema ≡ schema → AreDatabaseRows (old.now.trees dbs_tree) → (n : ℤ) → (r : Result X Error) → IfErr r (FailsToRun delete_text (Int n ∷ []) old new)
-    → IfErr r (λ e. IsFault old new e ⊎ (IsEnded old e ⊎ (IsInterrupted old e ⊎ IsRefused dbs_table old.now.trees (filter (λ l. not (has_number n l)) (old.now.trees dbs_tree)) ([]) e)))
-delete_fails old new has fit n r h =
-    fails_to_delete old new has 1 dbs_table dbs_plain dbs_unreferred delete_text by_number delete_is (Int n ∷ []) delete_text_whole refl (has_number n) refl (numbered_databases _ fit) (tests_number n [] _ (numbered_databases _ fit)) r h
-
-secure_whole : IsWhole schema secure_text 2
-unfolding understood everything
-secure_whole = record { ends = refl; given = refl; same = refl }
-
-pub secure_fails : {X : Type 0} (old new : State) → old.now.schema ≡ schema → AreDatabaseRows (old.now.trees dbs_tree) → (n : ℤ) → (text : List ℕ) → (r : Result X Error) → IfErr r (FailsToRun secure_text (Int n ∷ Text text ∷ []) old new)
-    → IfErr r (λ e. IsFault old new e ⊎ (IsEnded old e ⊎ (IsInterrupted old e ⊎ IsRefused dbs_table old.now.trees (update_where (has_number n) (row_with_security text) (old.now.trees dbs_tree)) (map (row_with_security text) (filter (has_number n) (old.now.trees dbs_tree))) e)))
-secure_fails old new has laid n text r h =
-    fails_to_update 1 dbs_table dbs_plain old new has secure_text by_number (col 1 0 ∷ col 1 0 ∷ lit Null ∷ col 1 2 ∷ col 0 1 ∷ col 1 4 ∷ []) secure_is (Int n ∷ Text text ∷ []) (has_number n)
-    (shown_secured text) (row_with_security text) IsOne refl (λ x. refl) (λ x. refl) (λ x k. ap (λ y. cast_row dbs_table (drop 1 (shown_secured text y))) k ∙ cast_secured text (number_of x) (name_of x) (security_text x) (pos (length_of x))) (λ x. refl) (λ x. refl)
-    (numbered_databases _ laid) laid.each (one_numbered _ laid.rising n) (tests_number n (Text text ∷ []) _ (numbered_databases _ laid))
-    (λ x k. record { typed = λ trees. refl; present = λ trees. refl; checked = λ trees. refl }) dbs_unreferred secure_whole refl r h
-
-advance_whole : IsWhole schema advance_text 2
-unfolding understood everything
-advance_whole = record { ends = refl; given = refl; same = refl }
-
-pub advance_fails : {X : Type 0} (old new : State) → old.now.schema ≡ schema → AreDatabaseRows (old.now.trees dbs_tree) → (n : ℤ) → (sequence : ℤ) → (r : Result X Error) → IfErr r (FailsToRun advance_text (Int n ∷ Int sequence ∷ []) old new)
-    → IfErr r (λ e. IsFault old new e ⊎ (IsEnded old e ⊎ (IsInterrupted old e ⊎ IsRefused dbs_table old.now.trees (update_where (has_number n) (row_at_sequence sequence) (old.now.trees dbs_tree)) (map (row_at_sequence sequence) (filter (has_number n) (old.now.trees dbs_tree))) e)))
-advance_fails old new has laid n sequence r h =
-    fails_to_update 1 dbs_table dbs_plain old new has advance_text by_number (col 1 0 ∷ col 1 0 ∷ lit Null ∷ col 1 2 ∷ col 1 3 ∷ col 0 1 ∷ []) advance_is (Int n ∷ Int sequence ∷ []) (has_number n)
-    (shown_advanced sequence) (row_at_sequence sequence) IsOne refl (λ x. refl) (λ x. refl) (λ x k. ap (λ y. cast_row dbs_table (drop 1 (shown_advanced sequence y))) k ∙ cast_advanced sequence (number_of x) (name_of x) (security_text x) (pos (length_of x))) (λ x. refl) (λ x. refl)
-    (numbered_databases _ laid) laid.each (one_numbered _ laid.rising n) (tests_number n (Int sequence ∷ []) _ (numbered_databases _ laid))
-    (λ x k. record { typed = λ trees. refl; present = λ trees. refl; checked = λ trees. refl }) dbs_unreferred advance_whole refl r h

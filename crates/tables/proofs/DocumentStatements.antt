@@ -1,5 +1,5 @@
 -- What the statements on documents mean.
-use Rattle.std.proofs.Common.{◌≡◌, ℕ, ℤ, pos, negsuc, Ordering, List, [], ◌∷◌, map, filter, codes, Bool, true, false, not, cond, Ok, Err, Result, IfErr, IfOk, OnOk, ◌⊎◌, refl, sym, ap, ap₂, subst, ◌∙◌, ◌≢◌, bytes_eq, nat_cmp, int_cmp, is_eq, arith, Equal, ◌||◌, ◌&&◌}
+use Rattle.std.proofs.Common.{◌≡◌, ℕ, ℤ, pos, negsuc, Ordering, List, [], ◌∷◌, map, filter, codes, Bool, true, false, not, cond, Ok, Err, Result, IfOk, OnOk, refl, sym, ap, ap₂, subst, ◌∙◌, ◌≢◌, bytes_eq, nat_cmp, int_cmp, is_eq, arith, Equal, ◌&&◌}
 use Rattle.sqlite_value.specs.declared.value.Value.TheVariants.{Null, Int, Text, Blob}
 use Rattle.sqlite_sql.specs.Query.{as_count, limited}
 use Rattle.sqlite_sql.specs.Term.{Term, lit, col, holds}
@@ -8,15 +8,9 @@ use Rattle.sqlite_schema.specs.declared.command.Command.TheVariants.{Insert, Del
 use Rattle.sqlite_schema.specs.declared.command.Source.TheVariants.{Values}
 use Rattle.sqlite_tied.specs.Compute.{everything}
 use Rattle.sqlite.specs.Listing.{understood, reads_listing}
-use Rattle.sqlite.specs.State.{State, Shown, FailsToQuery}
-use Rattle.sqlite.specs.declared.error.Error.{Error}
-use Rattle.tables.proofs.Failures.{IsWhole, looks_fail}
-use Rattle.tables.specs.Causes.{IsFault, IsEnded, IsInterrupted, IsRefused}
+use Rattle.sqlite.specs.State.{State, Shown}
 use Rattle.tables.proofs.Cells.{by_db, by_id, by_later, by_range, cast_null, cast_int, test_later, tests_db, tests_id, tests_range}
 use Rattle.tables.proofs.Deletes.{deletes_where}
-use Rattle.tables.proofs.Clears.{fails_to_delete}
-use Rattle.tables.proofs.Inserts.{FitsTable, IsUnreferred, fails_to_insert}
-use Rattle.tables.proofs.Finds.{finds_one}
 use Rattle.sqlite_value.specs.Order.{Row}
 use Rattle.std.specs.Cmp.{IsTotalOrder}
 use Rattle.std.specs.List.{AllByRecursion, list_all}
@@ -38,13 +32,13 @@ use Rattle.tables.specs.Rows as order
 use Rattle.tables.proofs.Numbered.{numbered_from_keyed}
 use Rattle.tables.proofs.Queries.{first_program, program_on, unlimited}
 use Rattle.tables.proofs.Single.{one_row, fails}
-use Rattle.tables.proofs.Tables.{docs_plain, docs_keyed, one_of}
+use Rattle.tables.proofs.Tables.{docs_plain, docs_keyed}
 use Rattle.tables.proofs.Writes.{IsCommand, inserts}
 use Rattle.tables.specs.Listings.{comes_after, first_rows, lies_between, listed_id}
 use Rattle.tables.specs.Layout.{AreKeyed, IsStore, IsDocumentRow}
-use Rattle.tables.specs.Rows.{is_in, is_of, shown_document, listed_document, number_of, db_of, id_of, sequence_of, winner_text, is_gone, document_row, document_cells, next_number, with_cells}
+use Rattle.tables.specs.Rows.{is_in, is_of, listed_document, number_of, db_of, id_of, sequence_of, winner_text, is_gone, document_row, document_cells, with_cells}
 use Rattle.tables.specs.Schema.{schema, docs_tree, docs_table}
-use Rattle.tables.specs.Steps.{Ran, Changes, FailsToRun}
+use Rattle.tables.specs.Steps.{Ran, Changes}
 
 abbrev pub insert_text : List ℕ
 insert_text = codes "INSERT INTO docs (db, id, seq, winner, del) VALUES (?1, ?2, ?3, ?4, ?5)"
@@ -90,31 +84,6 @@ module _ {X E : Type 0} (old new : State) (has : old.now.schema ≡ schema) (key
       → OnOk r (Changes docs_tree (filter (λ l. not (is_in db l)) (old.now.trees docs_tree)) old.now new.now)
   clears_documents db r h = deletes_where schema 2 docs_table docs_plain old new has clear_text by_db clear_is (Int db ∷ []) (is_in db) refl
       (numbered_from_keyed _ keyed) (tests_db db _ keyed) r h
-
-abbrev pub find_text : List ℕ
-find_text = codes "SELECT seq, winner, del FROM docs WHERE db = ?1 AND id = ?2"
-
-pub find_is : IsCommand schema find_text (Select (program_on docs_tree by_id (col 1 3 ∷ col 1 4 ∷ col 1 5 ∷ []) []) (codes "seq" ∷ codes "winner" ∷ codes "del" ∷ []))
-unfolding understood everything
-find_is = record { is = refl; plain = (refl, refl) }
-
-find_unlisted : reads_listing schema find_text ≡ false
-unfolding understood everything
-find_unlisted = refl
-
-pub finds_document : {X E : Type 0} (old new : State) → IsStore old.now → (db : ℤ) (id : List ℕ) (r : Result X E) (items : X → List Row) → IfOk r (λ x. Shown find_text (Int db ∷ Blob id ∷ []) old new (items x))
-    → IfOk r (λ x. items x ≡ map shown_document (filter (is_of db id) (old.now.trees docs_tree)))
-finds_document old new is db id r items h = finds_one schema old new is.schema_is find_text docs_tree by_id (col 1 3 ∷ col 1 4 ∷ col 1 5 ∷ []) (codes "seq" ∷ codes "winner" ∷ codes "del" ∷ []) find_is find_unlisted (Int db ∷ Blob id ∷ []) (is_of db id) shown_document refl (λ r. refl)
-    (tests_id db id _ (docs_keyed old.now.trees is.laid)) (one_of (old.now.trees docs_tree) is.laid.ids_apart db id) r items h
-
-find_whole : IsWhole schema find_text 2
-unfolding understood everything
-find_whole = record { ends = refl; given = refl; same = refl }
-
-pub find_fails : {X : Type 0} (old new : State) → old.now.schema ≡ schema → (db : ℤ) (id : List ℕ) (r : Result X Error) → IfErr r (FailsToQuery find_text (Int db ∷ Blob id ∷ []) old new)
-    → IfErr r (λ e. IsFault old new e ⊎ IsInterrupted old e)
-find_fails old new has db id r h =
-    looks_fail schema old new has find_text docs_tree by_id (col 1 3 ∷ col 1 4 ∷ col 1 5 ∷ []) [] unlimited (codes "seq" ∷ codes "winner" ∷ codes "del" ∷ []) find_is find_unlisted (Int db ∷ Blob id ∷ []) find_whole refl r h
 
 -- ---- all documents of a database, in order
 
@@ -179,20 +148,6 @@ same_db db a b p q = same_int (db_of a) db p ∙ sym (same_int (db_of b) db q)
 ones : (old : State) → IsStore old.now → AllByRecursion IsOne (old.now.trees docs_tree)
 ones old is = all_weaker (IsDocumentRow old.now.trees) IsOne (λ x k. k.is) (old.now.trees docs_tree) is.laid.docs
 
-ids_whole : IsWhole schema ids_text 1
-unfolding understood everything
-ids_whole = record { ends = refl; given = refl; same = refl }
-
-pub ids_fails : {X : Type 0} (old new : State) → old.now.schema ≡ schema → (db : ℤ) (r : Result X Error) → IfErr r (FailsToQuery ids_text (Int db ∷ []) old new) → IfErr r (λ e. IsFault old new e ⊎ IsInterrupted old e)
-ids_fails old new has db r h = looks_fail schema old new has ids_text docs_tree by_db listed id_order unlimited headings ids_is ids_unlisted (Int db ∷ []) ids_whole refl r h
-
-sequences_whole : IsWhole schema sequences_text 1
-unfolding understood everything
-sequences_whole = record { ends = refl; given = refl; same = refl }
-
-pub sequences_fails : {X : Type 0} (old new : State) → old.now.schema ≡ schema → (db : ℤ) (r : Result X Error) → IfErr r (FailsToQuery sequences_text (Int db ∷ []) old new) → IfErr r (λ e. IsFault old new e ⊎ IsInterrupted old e)
-sequences_fails old new has db r h = looks_fail schema old new has sequences_text docs_tree by_db listed sequence_order unlimited headings sequences_is sequences_unlisted (Int db ∷ []) sequences_whole refl r h
-
 module _ {X E : Type 0} (old new : State) (is : IsStore old.now) (db : ℤ) (r : Result X E) (items : X → List Row) where
   pub lists_by_id : IfOk r (λ x. Shown ids_text (Int db ∷ []) old new (items x)) → IfOk r (λ x. items x ≡ map listed_document (sort_by order.by_id (filter (is_in db) (old.now.trees docs_tree))))
   lists_by_id h =
@@ -226,10 +181,6 @@ range_unlisted : reads_listing schema range_text ≡ false
 unfolding understood everything
 range_unlisted = refl
 
-range_whole : IsWhole schema range_text 3
-unfolding understood everything
-range_whole = record { ends = refl; given = refl; same = refl }
-
 pub later_is : IsCommand schema later_text (Select (first_program docs_tree by_later listed sequence_order most_rows) headings)
 unfolding understood everything
 later_is = record { is = refl; plain = (refl, refl) }
@@ -237,20 +188,6 @@ later_is = record { is = refl; plain = (refl, refl) }
 later_unlisted : reads_listing schema later_text ≡ false
 unfolding understood everything
 later_unlisted = refl
-
-later_whole : IsWhole schema later_text 3
-unfolding understood everything
-later_whole = record { ends = refl; given = refl; same = refl }
-
-pub range_fails : {X : Type 0} (old new : State) → old.now.schema ≡ schema → (db : ℤ) (first last : List ℕ) (r : Result X Error) → IfErr r (FailsToQuery range_text (Int db ∷ Blob first ∷ Blob last ∷ []) old new)
-    → IfErr r (λ e. IsFault old new e ⊎ IsInterrupted old e)
-range_fails old new has db first last r h =
-    looks_fail schema old new has range_text docs_tree by_range listed id_order unlimited headings range_is range_unlisted (Int db ∷ Blob first ∷ Blob last ∷ []) range_whole refl r h
-
-pub later_fails : {X : Type 0} (old new : State) → old.now.schema ≡ schema → (db since limit : ℤ) (r : Result X Error) → IfErr r (FailsToQuery later_text (Int db ∷ Int since ∷ Int limit ∷ []) old new)
-    → IfErr r (λ e. IsFault old new e ⊎ IsInterrupted old e)
-later_fails old new has db since limit r h =
-    looks_fail schema old new has later_text docs_tree by_later listed sequence_order most_rows headings later_is later_unlisted (Int db ∷ Int since ∷ Int limit ∷ []) later_whole refl r h
 
 -- rows of a kind among those of a database, in an order
 left_in_order : (by : Row → Row → Ordering) → IsTotalOrder by → (db : ℤ) (q : Row → Bool) (rows : List Row)
@@ -296,43 +233,3 @@ module _ {X E : Type 0} (old new : State) (is : IsStore old.now) (db : ℤ) (r :
       (later_ones db since limit _ (ones old is)) (ones old is) is.laid.sequences_apart r items h)
 
 -- ---- why the changes fail
-
-insert_text_whole : IsWhole schema insert_text 5
-unfolding understood everything
-insert_text_whole = record { ends = refl; given = refl; same = refl }
-
-delete_text_whole : IsWhole schema delete_text 2
-unfolding understood everything
-delete_text_whole = record { ends = refl; given = refl; same = refl }
-
-clear_text_whole : IsWhole schema clear_text 1
-unfolding understood everything
-clear_text_whole = record { ends = refl; given = refl; same = refl }
-
-docs_unreferred : IsUnreferred docs_table
-docs_unreferred = record { fits = both }
-  where
-    both : (a b : Bool) → ((not a || true) && (not b || true)) ≡ true
-    both true true = refl
-    both true false = refl
-    both false true = refl
-    both false false = refl
-
-insert_fits : (n : ℤ) (db : ℤ) (id : List ℕ) (sequence : ℤ) (winner : List ℕ) (deleted : Bool) → FitsTable docs_table (Int n ∷ document_cells db id sequence winner deleted)
-insert_fits n db id sequence winner deleted = record { typed = λ trees. refl; present = λ trees. refl; checked = λ trees. refl }
-
-pub insert_fails : {X : Type 0} (old new : State) → old.now.schema ≡ schema → AreKeyed (old.now.trees docs_tree) → (db : ℤ) (id : List ℕ) (sequence : ℤ) (winner : List ℕ) (deleted : Bool) → (r : Result X Error) → IfErr r (FailsToRun insert_text (document_cells db id sequence winner deleted) old new)
-    → IfErr r (λ e. IsFault old new e ⊎ (IsEnded old e ⊎ (IsInterrupted old e ⊎ IsRefused docs_table old.now.trees (with_cells (old.now.trees docs_tree) (document_cells db id sequence winner deleted)) ((Int (next_number (old.now.trees docs_tree)) ∷ document_cells db id sequence winner deleted) ∷ []) e)))
-insert_fails old new has fit db id sequence winner deleted r h =
-    fails_to_insert old new has 2 docs_table docs_plain docs_unreferred insert_text values 6 insert_is (document_cells db id sequence winner deleted) insert_text_whole refl (Null ∷ document_cells db id sequence winner deleted) (document_cells db id sequence winner deleted) refl (cast db id sequence winner deleted)
-    (insert_fits _ db id sequence winner deleted) (numbered_from_keyed _ fit) r h
-
-pub delete_fails : {X : Type 0} (old new : State) → old.now.schema ≡ schema → AreKeyed (old.now.trees docs_tree) → (db : ℤ) (id : List ℕ) → (r : Result X Error) → IfErr r (FailsToRun delete_text (Int db ∷ Blob id ∷ []) old new)
-    → IfErr r (λ e. IsFault old new e ⊎ (IsEnded old e ⊎ (IsInterrupted old e ⊎ IsRefused docs_table old.now.trees (filter (λ l. not (is_of db id l)) (old.now.trees docs_tree)) ([]) e)))
-delete_fails old new has fit db id r h =
-    fails_to_delete old new has 2 docs_table docs_plain docs_unreferred delete_text by_id delete_is (Int db ∷ Blob id ∷ []) delete_text_whole refl (is_of db id) refl (numbered_from_keyed _ fit) (tests_id db id _ fit) r h
-
-pub clear_fails : {X : Type 0} (old new : State) → old.now.schema ≡ schema → AreKeyed (old.now.trees docs_tree) → (db : ℤ) → (r : Result X Error) → IfErr r (FailsToRun clear_text (Int db ∷ []) old new)
-    → IfErr r (λ e. IsFault old new e ⊎ (IsEnded old e ⊎ (IsInterrupted old e ⊎ IsRefused docs_table old.now.trees (filter (λ l. not (is_in db l)) (old.now.trees docs_tree)) ([]) e)))
-clear_fails old new has fit db r h =
-    fails_to_delete old new has 2 docs_table docs_plain docs_unreferred clear_text by_db clear_is (Int db ∷ []) clear_text_whole refl (is_in db) refl (numbered_from_keyed _ fit) (tests_db db _ fit) r h

@@ -1,17 +1,16 @@
 -- What a write of the code brings: the revisions of its own path that are not known, since all that stands behind its parent is known and so lawful.
-use Rattle.std.proofs.Common.{◌≡◌, ◌≤◌, ℕ, ℤ, zero, suc, Bool, true, false, not, cond, List, [], ◌∷◌, ◌++◌, filter, Option, Some, None, refl, ap, ◌∙◌, arith, leb-true}
+use Rattle.std.proofs.Common.{◌≡◌, ℤ, Bool, true, not, cond, List, [], ◌∷◌, ◌++◌, filter, Option, Some, None, refl, ap, ◌∙◌}
 use Rattle.std.specs.Prelude.{IsTrue, IsUtf8}
 use Rattle.std.specs.List.{AllByRecursion}
 use Rattle.couch_json.specs.Lawful as json
 use Rattle.tree.specs.DocumentId.{is_document_id}
-use Rattle.tree.specs.History.{HistoryContent, is_known, parent_of, path_entries, line, onward, behind}
+use Rattle.tree.specs.History.{HistoryContent, is_known, path_entries, behind}
 use Rattle.tree.specs.Nodes.{entries_before, next_of}
 use Rattle.tree.specs.Revision.{Revision, is_revision}
 use Rattle.tree.specs.Write.{head}
 use Rattle.tree.specs.declared.entry.Entry.{Entry}
 use Rattle.tree.specs.declared.entry.Held.{Held}
 use Rattle.tree.proofs.Behind.{AllKnown, behind_known}
-use Rattle.tree.proofs.RevisionText.{parts}
 use Rattle.store.specs.Writing.{Addition, written_in}
 use Rattle.sqlite_trees.specs.Tree.{Trees}
 use Rattle.sqlite_keyed.proofs.ListLemmas.{all-append}
@@ -41,14 +40,6 @@ module _ (h : HistoryContent) where
 
 pub news_of_addition : (h : HistoryContent) (a : Addition) → new_entries h (written_in h a).write ≡ filter (λ e. not (is_known h e.0)) (entries_before (Some (record { deleted = a.deleted; body = a.body })) a.path (head (behind h a.parent)))
 news_of_addition h a = new_in_front h (Some (record { deleted = a.deleted; body = a.body })) a.path (behind h a.parent) (behind_known h a.parent)
-
--- the last of the path follows the parent where that is known, and else nothing
-pub known_parent : (h : HistoryContent) (p : Revision) → IsTrue (is_revision p) → head (behind h (Some p)) ≡ cond (is_known h p) (Some p) None
-known_parent h p lawful = by p.number (leb-true 1 p.number (parts _ _ (parts _ _ lawful).0).0)
-  where
-    by : (n : ℕ) → 1 ≤ n → head (line h n p) ≡ cond (is_known h p) (Some p) None
-    by zero low = absurd (omega arith)
-    by (suc n) low = elim (is_known h p) as (λ b. head (cond b (p ∷ onward (λ q. line h n q) (parent_of h p)) []) ≡ cond b (Some p) None) [ true ↦ refl | false ↦ refl ]
 
 all_lawful : (h : HistoryContent) (rs : List Revision) → AllKnown h rs → ((q : Revision) → is_known h q ≡ true → is_revision q ≡ true) → AllByRecursion (λ v. IsTrue (is_revision v)) rs
 all_lawful h [] known lawful = tt

@@ -1,5 +1,5 @@
 -- Revisions that are put in one after another are one change, and what the statements of a write make of all tables.
-use Rattle.std.proofs.Common.{◌≡◌, ◌≢◌, ◌+◌, ℕ, ℤ, pos, not, List, [], ◌∷◌, ◌++◌, filter, refl, sym, ap, subst, ◌∙◌, arith}
+use Rattle.std.proofs.Common.{◌≡◌, ◌≢◌, ◌+◌, ℕ, ℤ, pos, not, List, [], ◌∷◌, filter, refl, sym, ap, subst, ◌∙◌, arith}
 use Rattle.std.specs.List.{AllByRecursion}
 use Rattle.sqlite_value.specs.Order.{Row}
 use Rattle.sqlite_schema.specs.declared.schema.Schema.{Schema}
@@ -37,11 +37,6 @@ revisions_changed [] db id a c same = subst (Changes revs_tree (a.trees revs_tre
 revisions_changed (e ∷ es) db id a c h =
     changes_then revs_tree _ _ a h.0 c h.1
     (subst (λ (rows : List Row). Changes revs_tree (with_revisions rows db id es) h.0 c) h.1.rows (revisions_changed es db id h.0 c h.2))
-
-pub inserted_more : (es : List (Revision × Entry)) (e : Revision × Entry) (db : ℤ) (id : List ℕ) (a b c : Database) → AreInserted es db id a b → Changes revs_tree (with_cells (b.trees revs_tree) (revision_cells db id e.0 e.1)) b c
-    → AreInserted (es ++ e ∷ []) db id a c
-inserted_more [] e db id a b c same h = (c, subst (λ (x : Database). Changes revs_tree (with_cells (x.trees revs_tree) (revision_cells db id e.0 e.1)) x c) (sym same) h, refl)
-inserted_more (f ∷ es) e db id a b c h k = (h.0, h.1, inserted_more es e db id h.0 b c h.2 k)
 
 pub keyed-with_revisions : (es : List (Revision × Entry)) (rows : List Row) (db : ℤ) (id : List ℕ) → AreKeyed rows → AreKeyed (with_revisions rows db id es)
 keyed-with_revisions [] rows db id h = h

@@ -1,5 +1,5 @@
 -- What a query by tests on one table finds.
-use Rattle.std.proofs.Common.{◌≡◌, ℕ, List, [], ◌∷◌, map, filter, Bool, false, Ok, Err, Result, IfOk, sym, subst, IsPermutation}
+use Rattle.std.proofs.Common.{◌≡◌, ℕ, List, [], ◌∷◌, map, filter, Bool, false, Ok, Err, Result, IfOk, sym, subst, IsPermutation, IsTrue, OnOk}
 use Rattle.std.specs.List.{AllByRecursion, list_all}
 use Rattle.sqlite_value.specs.Order.{Row}
 use Rattle.sqlite_sql.specs.Program.{overlay}
@@ -8,14 +8,51 @@ use Rattle.sqlite_schema.specs.declared.command.Command.{Command}
 use Rattle.sqlite_schema.specs.declared.command.Command.TheVariants.{Select}
 use Rattle.sqlite_schema.specs.declared.schema.Schema.{Schema}
 use Rattle.sqlite.specs.Listing.{understood, reads_listing}
-use Rattle.sqlite.specs.State.{State, Shown}
+use Rattle.sqlite.specs.State.{State, HasCleanDisk, IsUnchanged, Shown}
 use Rattle.sqlite.proofs.Callers.{IsPlain, reads_as}
 use Rattle.tables.proofs.Queries.{program_on, selects}
 use Rattle.tables.proofs.Single.{HasOneAtMost, one_order}
 use Rattle.tables.proofs.Writes.{IsCommand}
+use Rattle.sqlite.specs.Effect.{Database}
+use Rattle.sqlite.specs.Held.{Held, state}
+use Rattle.sqlite_trees.specs.Tree.{Trees}
+use Rattle.sqlite_trees.specs.declared.store.Store.{Ghosts}
+use Rattle.tables.specs.Calls.{Reads, ReadsInside}
+use Rattle.tables.specs.Schema as tables
+use Rattle.tables.specs.Steps.{Asks, AsksInside, OnlyLooks, Proceeds}
 
-pub plain_in : (schema : Schema) (text : List ℕ) (command : Command) → IsCommand schema text command → (s : Schema) → s ≡ schema → IsPlain (understood s text)
-plain_in schema text command it s is = subst (λ x. IsPlain (understood x text)) (sym is) it.plain
+plain_in : (text : List ℕ) (command : Command) → IsCommand tables.schema text command → (s : Schema) → s ≡ tables.schema → IsPlain (understood s text)
+plain_in text command it s is = subst (λ x. IsPlain (understood x text)) (sym is) it.plain
+
+-- a query whose text is one command at our schema reads, whatever it finds
+module _ {S X E : Type 0} {IsFit : Database → Type 0} {Is : Trees → X → Type 0} (g : Ghosts S) (old new : Held S) (text : List ℕ) (command : Command) (it : IsCommand tables.schema text command) (r : Result X E)
+    (found : HasCleanDisk (state g new) → IsFit (state g old).now → IfOk r (Is (state g old).now.trees)) (served : HasCleanDisk (state g new) → OnOk r (IsTrue (state g old).is_open))
+    (stands : IsPlain (understood old.schema text) → HasCleanDisk (state g new) → OnOk r (IsUnchanged (state g old) (state g new))) where
+  pub reads_of : (IsPlain (understood old.schema text) → OnlyLooks (state g old) (state g new)) → Asks (state g old) (state g new) → Reads g IsFit old new Is r
+  reads_of looks asks = record {
+    found = found;
+    served = served;
+    stands = λ is. stands (plain_in text command it old.schema is);
+    looks = λ is. looks (plain_in text command it old.schema is);
+    asks = asks;
+  }
+
+  pub reads_inside : (IsPlain (understood old.schema text) → Proceeds (state g old) (state g new)) → AsksInside (state g old) (state g new) → ReadsInside g IsFit old new Is r
+  reads_inside looks asks = record {
+    found = found;
+    served = served;
+    stands = λ is. stands (plain_in text command it old.schema is);
+    looks = λ is. looks (plain_in text command it old.schema is);
+    asks = asks;
+  }
+
+-- what is made of an answer is told of it, and an error tells nothing
+module _ {S X Y E : Type 0} {IsFit : Database → Type 0} {Is : Trees → X → Type 0} {IsOther : Trees → Y → Type 0} (g : Ghosts S) (old new : Held S) where
+  pub reads_so : (x : X) (y : Y) → ((trees : Trees) → Is trees x → IsOther trees y) → Reads {E = E} g IsFit old new Is (Ok x) → Reads {E = E} g IsFit old new IsOther (Ok y)
+  reads_so x y so h = record { found = λ clean fit. so _ (h.found clean fit); served = h.served; stands = h.stands; looks = h.looks; asks = h.asks }
+
+  pub reads_nothing : (e : E) (r : Result Y E) → r ≡ Err e → Reads {X = X} g IsFit old new Is (Err e) → Reads g IsFit old new IsOther r
+  reads_nothing e r is h = subst (Reads g IsFit old new IsOther) (sym is) (record { found = λ clean fit. tt; served = λ clean. tt; stands = λ has clean. tt; looks = h.looks; asks = h.asks })
 
 module _ {X E : Type 0} (schema : Schema) (old new : State) (has : old.now.schema ≡ schema) (text : List ℕ) (tree : ℕ) (tests shown : List Term) (names : List (List ℕ))
     (command : IsCommand schema text (Select (program_on tree tests shown []) names)) (unlisted : reads_listing schema text ≡ false) (params : Row) (p : Row → Bool) (show : Row → Row)

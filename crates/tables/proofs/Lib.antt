@@ -16,12 +16,6 @@ pub mod Updates
 pub mod Sorted
 pub mod DatabaseStatements
 pub mod Kept
-pub mod Failures
-pub mod Refusals
-pub mod Inserts
-pub mod Clears
-pub mod Makes
-pub mod Names
 pub mod DocumentWriteSteps
 pub mod DocumentWriteEntries
 pub mod DocumentWriteHistories
@@ -30,12 +24,10 @@ pub mod DocumentWriteDocuments
 pub mod DocumentWrite
 pub mod DocumentWrites
 pub mod DocumentWriteNews
-pub mod Replaces
 pub mod MetaStatements
 pub mod Laid
 pub mod ListingOrders
 pub mod ListingRows
-pub mod Setup
 pub mod RowMaps
 pub mod Lookups
 pub mod Rests

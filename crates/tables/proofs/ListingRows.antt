@@ -133,10 +133,6 @@ module _ (trees : Trees) (d : Row) (h : IsLaid trees) where
           sum_by-IsPermutation (λ r. cond (p r) 1 0) (sort_by by rows) rows (IsPermutation-sort_by by total rows)
           ∙ sym (counted q p listed_document (sort_by by rows) (all_of (λ r. q (listed_document r) ≡ p r) same (sort_by by rows)))
 
-pub counts_by_id : (trees : Trees) (d : Row) → IsLaid trees
-    → document_counts (finite.entries (database_of trees d).documents) ≡ listed_counts (map listed_document (sort_by by_id (filter (is_in (number_of d)) (trees docs_tree))))
-counts_by_id trees d h = listed_documents trees d h by_id (on_total id_of nat_list_cmp_total)
-
 pub counts_by_sequence : (trees : Trees) (d : Row) → IsLaid trees
     → document_counts (finite.entries (database_of trees d).documents) ≡ listed_counts (map listed_document (sort_by by_sequence (filter (is_in (number_of d)) (trees docs_tree))))
 counts_by_sequence trees d h = listed_documents trees d h by_sequence (on_total sequence_of nat_cmp_total)

@@ -1,5 +1,5 @@
 -- What the statements on local documents mean.
-use Rattle.std.proofs.Common.{◌≡◌, ℕ, ℤ, pos, List, [], ◌∷◌, map, filter, codes, false, not, Ok, Err, Result, IfErr, IfOk, OnOk, ◌⊎◌, refl, subst, Bool, true, ◌||◌, ◌&&◌}
+use Rattle.std.proofs.Common.{◌≡◌, ℕ, ℤ, pos, List, [], ◌∷◌, map, filter, codes, false, not, Ok, Err, Result, IfOk, OnOk, refl, subst}
 use Rattle.sqlite_value.specs.declared.value.Value.TheVariants.{Null, Int, Text, Blob}
 use Rattle.sqlite_value.specs.Order.{Row}
 use Rattle.sqlite_sql.specs.Term.{Term, lit, col}
@@ -9,22 +9,17 @@ use Rattle.sqlite_schema.specs.declared.program.Program.{Program}
 use Rattle.sqlite_tied.specs.Compute.{everything}
 use Rattle.sqlite.specs.Listing.{understood, reads_listing}
 use Rattle.tables.proofs.Cells.{by_db, by_id, cast_null, cast_int, tests_db, tests_id}
-use Rattle.tables.proofs.Queries.{program_on, unlimited}
+use Rattle.tables.proofs.Queries.{program_on}
 use Rattle.tables.proofs.Writes.{IsCommand, inserts}
 use Rattle.tables.proofs.Deletes.{deletes_where}
-use Rattle.tables.proofs.Clears.{fails_to_delete}
-use Rattle.tables.proofs.Inserts.{FitsTable, IsUnreferred, fails_to_insert}
 use Rattle.tables.proofs.Finds.{finds_one}
 use Rattle.tables.proofs.Numbered.{numbered_from_keyed}
 use Rattle.tables.proofs.Single.{one_row}
 use Rattle.tables.proofs.Tables.{locals_plain, locals_keyed, one_of}
 use Rattle.tables.specs.Layout.{AreKeyed, IsStore}
-use Rattle.tables.specs.Rows.{is_in, is_of, shown_local, local_cells, next_number, with_cells}
-use Rattle.tables.specs.Steps.{Ran, Changes, FailsToRun}
-use Rattle.sqlite.specs.State.{State, Shown, FailsToQuery}
-use Rattle.sqlite.specs.declared.error.Error.{Error}
-use Rattle.tables.proofs.Failures.{IsWhole, looks_fail}
-use Rattle.tables.specs.Causes.{IsFault, IsEnded, IsInterrupted, IsRefused}
+use Rattle.tables.specs.Rows.{is_in, is_of, shown_local, local_cells, with_cells}
+use Rattle.tables.specs.Steps.{Ran, Changes}
+use Rattle.sqlite.specs.State.{State, Shown}
 use Rattle.sqlite_rules.specs.Cast.{cast_row}
 use Rattle.tables.specs.Schema.{schema, locals_tree, locals_table}
 
@@ -95,51 +90,4 @@ pub finds_local : {X E : Type 0} (old new : State) → IsStore old.now → (db :
 finds_local old new is db id r items h = finds_one schema old new is.schema_is find_text locals_tree by_id (col 1 3 ∷ col 1 4 ∷ []) (codes "n" ∷ codes "body" ∷ []) find_is find_unlisted (Int db ∷ Blob id ∷ []) (is_of db id) shown_local refl (λ r. refl)
     (tests_id db id _ (locals_keyed old.now.trees is.laid)) (one_of (old.now.trees locals_tree) is.laid.local_ids_apart db id) r items h
 
-find_whole : IsWhole schema find_text 2
-unfolding understood everything
-find_whole = record { ends = refl; given = refl; same = refl }
-
-pub find_fails : {X : Type 0} (old new : State) → old.now.schema ≡ schema → (db : ℤ) (id : List ℕ) (r : Result X Error) → IfErr r (FailsToQuery find_text (Int db ∷ Blob id ∷ []) old new) → IfErr r (λ e. IsFault old new e ⊎ IsInterrupted old e)
-find_fails old new has db id r h = looks_fail schema old new has find_text locals_tree by_id (col 1 3 ∷ col 1 4 ∷ []) [] unlimited (codes "n" ∷ codes "body" ∷ []) find_is find_unlisted (Int db ∷ Blob id ∷ []) find_whole refl r h
-
 -- ---- why the changes fail
-
-insert_text_whole : IsWhole schema insert_text 4
-unfolding understood everything
-insert_text_whole = record { ends = refl; given = refl; same = refl }
-
-delete_text_whole : IsWhole schema delete_text 2
-unfolding understood everything
-delete_text_whole = record { ends = refl; given = refl; same = refl }
-
-clear_text_whole : IsWhole schema clear_text 1
-unfolding understood everything
-clear_text_whole = record { ends = refl; given = refl; same = refl }
-
-locals_unreferred : IsUnreferred locals_table
-locals_unreferred = record { fits = both }
-  where
-    both : (a b : Bool) → ((not a || true) && (not b || true)) ≡ true
-    both true true = refl
-    both true false = refl
-    both false true = refl
-    both false false = refl
-
-insert_fits : (number : ℤ) (db : ℤ) (id : List ℕ) (n : ℕ) (body : List ℕ) → FitsTable locals_table (Int number ∷ local_cells db id n body)
-insert_fits number db id n body = record { typed = λ trees. refl; present = λ trees. refl; checked = λ trees. refl }
-
-pub insert_fails : {X : Type 0} (old new : State) → old.now.schema ≡ schema → AreKeyed (old.now.trees locals_tree) → (db : ℤ) (id : List ℕ) (n : ℕ) (body : List ℕ) → (r : Result X Error) → IfErr r (FailsToRun insert_text (local_cells db id n body) old new)
-    → IfErr r (λ e. IsFault old new e ⊎ (IsEnded old e ⊎ (IsInterrupted old e ⊎ IsRefused locals_table old.now.trees (with_cells (old.now.trees locals_tree) (local_cells db id n body)) ((Int (next_number (old.now.trees locals_tree)) ∷ local_cells db id n body) ∷ []) e)))
-insert_fails old new has fit db id n body r h =
-    fails_to_insert old new has 4 locals_table locals_plain locals_unreferred insert_text values 5 insert_is (local_cells db id n body) insert_text_whole refl (Null ∷ local_cells db id n body) (local_cells db id n body) refl (cast db id n body)
-    (insert_fits _ db id n body) (numbered_from_keyed _ fit) r h
-
-pub delete_fails : {X : Type 0} (old new : State) → old.now.schema ≡ schema → AreKeyed (old.now.trees locals_tree) → (db : ℤ) (id : List ℕ) → (r : Result X Error) → IfErr r (FailsToRun delete_text (Int db ∷ Blob id ∷ []) old new)
-    → IfErr r (λ e. IsFault old new e ⊎ (IsEnded old e ⊎ (IsInterrupted old e ⊎ IsRefused locals_table old.now.trees (filter (λ l. not (is_of db id l)) (old.now.trees locals_tree)) ([]) e)))
-delete_fails old new has fit db id r h =
-    fails_to_delete old new has 4 locals_table locals_plain locals_unreferred delete_text by_id delete_is (Int db ∷ Blob id ∷ []) delete_text_whole refl (is_of db id) refl (numbered_from_keyed _ fit) (tests_id db id _ fit) r h
-
-pub clear_fails : {X : Type 0} (old new : State) → old.now.schema ≡ schema → AreKeyed (old.now.trees locals_tree) → (db : ℤ) → (r : Result X Error) → IfErr r (FailsToRun clear_text (Int db ∷ []) old new)
-    → IfErr r (λ e. IsFault old new e ⊎ (IsEnded old e ⊎ (IsInterrupted old e ⊎ IsRefused locals_table old.now.trees (filter (λ l. not (is_in db l)) (old.now.trees locals_tree)) ([]) e)))
-clear_fails old new has fit db r h =
-    fails_to_delete old new has 4 locals_table locals_plain locals_unreferred clear_text by_db clear_is (Int db ∷ []) clear_text_whole refl (is_in db) refl (numbered_from_keyed _ fit) (tests_db db _ fit) r h

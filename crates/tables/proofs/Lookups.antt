@@ -21,7 +21,7 @@ use Rattle.tables.specs.Schema.{dbs_tree, docs_tree, revs_tree, locals_tree}
 use Rattle.tables.proofs.ListingOrders.{entries_by_key}
 use Rattle.tables.proofs.RowMaps.{any_found, filter_both, find_passes, get_filtered, one_test, only_found, rows_changed, text_exact, text_tests}
 use Rattle.tables.proofs.Single.{few, fails}
-use Rattle.tables.proofs.Tables.{one_named, one_numbered, one_of}
+use Rattle.tables.proofs.Tables.{one_named, one_numbered}
 
 -- ---- databases by name
 
@@ -47,10 +47,6 @@ module _ (db : ℤ) (id : List ℕ) where
 
 pub local_found : (trees : Trees) (d : Row) (id : List ℕ) → finite.get (database_of trees d).locals id ≡ option_map local_of (slice_get (filter (is_of (number_of d) id) (trees locals_tree)) 0)
 local_found trees d id = get_id (number_of d) id local_of (trees locals_tree)
-
-pub one_local : (trees : Trees) (d : Row) (id : List ℕ) → IsLaid trees
-    → (filter (is_of (number_of d) id) (trees locals_tree) ≡ []) ⊎ ((r : Row) × (filter (is_of (number_of d) id) (trees locals_tree) ≡ r ∷ []))
-one_local trees d id h = few (is_of (number_of d) id) (trees locals_tree) (one_of (trees locals_tree) h.local_ids_apart (number_of d) id)
 
 module _ (trees : Trees) (db : ℤ) (id : List ℕ) where
   -- where no row of a document is of the id, no row of a revision is

@@ -1,5 +1,5 @@
 -- What the statement on the version means.
-use Rattle.std.proofs.Common.{◌≡◌, ◌⊎◌, ℕ, List, [], ◌∷◌, map, codes, true, false, Result, IfErr, IfOk, IsPermutation, refl, ap, subst, arith}
+use Rattle.std.proofs.Common.{◌≡◌, ℕ, List, [], ◌∷◌, map, codes, true, false, Result, IfOk, IsPermutation, refl, ap, subst, arith}
 use Rattle.std.proofs.lemmas.List.Sorted.{length_permutation}
 use Rattle.sqlite_value.specs.Order.{Row}
 use Rattle.sqlite_sql.specs.Term.{col}
@@ -8,13 +8,10 @@ use Rattle.sqlite_tied.specs.Compute.{everything}
 use Rattle.sqlite_keyed.proofs.ListLemmas.{all_of, filter_all}
 use Rattle.sqlite.proofs.Callers.{one_permutation}
 use Rattle.sqlite.specs.Listing.{understood, reads_listing}
-use Rattle.sqlite.specs.State.{State, Shown, FailsToQuery}
-use Rattle.sqlite.specs.declared.error.Error.{Error}
-use Rattle.tables.proofs.Failures.{IsWhole, looks_fail}
+use Rattle.sqlite.specs.State.{State, Shown}
 use Rattle.tables.proofs.Finds.{finds_where}
-use Rattle.tables.proofs.Queries.{program_on, unlimited}
+use Rattle.tables.proofs.Queries.{program_on}
 use Rattle.tables.proofs.Writes.{IsCommand}
-use Rattle.tables.specs.Causes.{IsFault, IsInterrupted}
 use Rattle.tables.specs.Presence.{shown_version, shows_first, is_first}
 use Rattle.tables.specs.Schema.{schema, meta_tree}
 
@@ -28,13 +25,6 @@ find_is = record { is = refl; plain = (refl, refl) }
 find_unlisted : reads_listing schema find_text ≡ false
 unfolding understood everything
 find_unlisted = refl
-
-find_whole : IsWhole schema find_text 0
-unfolding understood everything
-find_whole = record { ends = refl; given = refl; same = refl }
-
-pub find_fails : {X : Type 0} (old new : State) → old.now.schema ≡ schema → (r : Result X Error) → IfErr r (FailsToQuery find_text [] old new) → IfErr r (λ e. IsFault old new e ⊎ IsInterrupted old e)
-find_fails old new has r h = looks_fail schema old new has find_text meta_tree [] (col 1 1 ∷ []) [] unlimited (codes "version" ∷ []) find_is find_unlisted [] find_whole refl r h
 
 pub finds_version : {X E : Type 0} (old new : State) → old.now.schema ≡ schema → (r : Result X E) (items : X → List Row) → IfOk r (λ x. Shown find_text [] old new (items x))
     → IfOk r (λ x. IsPermutation (map shown_version (old.now.trees meta_tree)) (items x))

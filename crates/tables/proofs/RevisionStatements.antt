@@ -1,40 +1,30 @@
 -- What the statements on revisions mean.
-use Rattle.std.proofs.Common.{◌≡◌, ℕ, ℤ, pos, List, [], ◌∷◌, map, filter, codes, Bool, false, not, cond, Ok, Err, Result, IfErr, IfOk, OnOk, ◌⊎◌, IsPermutation, refl, subst, true, ◌||◌, ◌&&◌, Option, None, Some}
+use Rattle.std.proofs.Common.{◌≡◌, ℕ, ℤ, pos, List, [], ◌∷◌, map, filter, codes, Bool, false, not, cond, Ok, Err, Result, IfOk, OnOk, IsPermutation, refl, subst}
 use Rattle.sqlite_value.specs.declared.value.Value.{Value}
 use Rattle.sqlite_value.specs.declared.value.Value.TheVariants.{Null, Int, Text, Blob}
 use Rattle.sqlite_sql.specs.Term.{Term, lit, col}
 use Rattle.sqlite_rules.specs.Cast.{cast_row, as_text}
-use Rattle.sqlite_typing.specs.Types.{accepts_terms}
 use Rattle.sqlite_schema.specs.declared.command.Command.TheVariants.{Insert, Delete, Select}
 use Rattle.sqlite_schema.specs.declared.command.Source.TheVariants.{Values}
 use Rattle.sqlite_tied.specs.Compute.{everything}
-use Rattle.sqlite.specs.Values.{or_null}
 use Rattle.sqlite.specs.Listing.{understood, reads_listing}
-use Rattle.sqlite.specs.State.{State, Shown, FailsToQuery}
-use Rattle.sqlite.specs.declared.error.Error.{Error}
-use Rattle.tables.proofs.Failures.{IsWhole, looks_fail}
-use Rattle.tables.specs.Causes.{IsFault, IsEnded, IsInterrupted, IsRefused}
+use Rattle.sqlite.specs.State.{State, Shown}
 use Rattle.tables.proofs.Cells.{by_db, by_id, cast_null, cast_int, tests_db, tests_id}
 use Rattle.tables.proofs.Deletes.{deletes_where}
-use Rattle.tables.proofs.Clears.{fails_to_delete}
-use Rattle.tables.proofs.Inserts.{FitsTable, IsUnreferred, fails_to_insert}
 use Rattle.tables.proofs.Finds.{finds_where}
 use Rattle.sqlite_value.specs.Order.{Row}
 use Rattle.tables.proofs.Numbered.{numbered_from_keyed}
-use Rattle.tables.proofs.Queries.{program_on, unlimited}
+use Rattle.tables.proofs.Queries.{program_on}
 use Rattle.tables.proofs.Single.{one_row}
 use Rattle.tables.proofs.Tables.{revs_plain, revs_keyed}
 use Rattle.tables.proofs.Writes.{IsCommand, inserts}
 use Rattle.tables.specs.Layout.{AreKeyed, IsStore}
-use Rattle.tables.specs.Rows.{is_in, is_of, shown_revision, given_cells, next_number, with_cells}
+use Rattle.tables.specs.Rows.{is_in, is_of, shown_revision, given_cells, with_cells}
 use Rattle.tables.specs.Schema.{schema, revs_tree, revs_table}
-use Rattle.tables.specs.Steps.{Ran, Changes, FailsToRun}
+use Rattle.tables.specs.Steps.{Ran, Changes}
 
 abbrev pub insert_text : List ℕ
 insert_text = codes "INSERT INTO revs (db, id, n, hash, parent, held, del, body) VALUES (?1, ?2, ?3, ?4, ?5, ?6, ?7, ?8)"
-
-abbrev pub delete_text : List ℕ
-delete_text = codes "DELETE FROM revs WHERE db = ?1 AND id = ?2"
 
 abbrev pub clear_text : List ℕ
 clear_text = codes "DELETE FROM revs WHERE db = ?1"
@@ -45,10 +35,6 @@ values = lit Null ∷ col 0 0 ∷ col 0 1 ∷ col 0 2 ∷ col 0 3 ∷ col 0 4 �
 pub insert_is : IsCommand schema insert_text (Insert 3 (Values values 9))
 unfolding understood everything
 insert_is = record { is = refl; plain = (refl, refl) }
-
-pub delete_is : IsCommand schema delete_text (Delete 3 (program_on revs_tree by_id (col 1 0 ∷ []) []))
-unfolding understood everything
-delete_is = record { is = refl; plain = (refl, refl) }
 
 pub clear_is : IsCommand schema clear_text (Delete 3 (program_on revs_tree by_db (col 1 0 ∷ []) []))
 unfolding understood everything
@@ -64,11 +50,6 @@ module _ {X E : Type 0} (old new : State) (has : old.now.schema ≡ schema) (key
   inserts_revision db id n hash parent held deleted body parent_text body_text (Ok x) h =
       let rows = one_row old.now.trees revs_table (Null ∷ given_cells db id n hash parent held deleted body) (given_cells db id n hash parent held deleted body) (cast db id n hash parent held deleted body parent_text body_text) (numbered_from_keyed _ keyed) in
       subst (λ l. Changes revs_tree l old.now new.now) rows (inserts schema 3 revs_table revs_plain old new has insert_text values 9 insert_is (given_cells db id n hash parent held deleted body) h)
-
-  pub deletes_revision : (db : ℤ) (id : List ℕ) (r : Result X E) → OnOk r (Ran delete_text (Int db ∷ Blob id ∷ []) old new)
-      → OnOk r (Changes revs_tree (filter (λ l. not (is_of db id l)) (old.now.trees revs_tree)) old.now new.now)
-  deletes_revision db id r h = deletes_where schema 3 revs_table revs_plain old new has delete_text by_id delete_is (Int db ∷ Blob id ∷ []) (is_of db id) refl
-      (numbered_from_keyed _ keyed) (tests_id db id _ keyed) r h
 
   pub clears_revisions : (db : ℤ) (r : Result X E) → OnOk r (Ran clear_text (Int db ∷ []) old new)
       → OnOk r (Changes revs_tree (filter (λ l. not (is_in db l)) (old.now.trees revs_tree)) old.now new.now)
@@ -90,75 +71,3 @@ pub finds_revisions : {X E : Type 0} (old new : State) → IsStore old.now → (
     → IfOk r (λ x. IsPermutation (map shown_revision (filter (is_of db id) (old.now.trees revs_tree))) (items x))
 finds_revisions old new is db id r items h = finds_where schema old new is.schema_is find_text revs_tree by_id (col 1 3 ∷ col 1 4 ∷ col 1 5 ∷ col 1 6 ∷ col 1 7 ∷ col 1 8 ∷ []) (codes "n" ∷ codes "hash" ∷ codes "parent" ∷ codes "held" ∷ codes "del" ∷ codes "body" ∷ []) find_is find_unlisted (Int db ∷ Blob id ∷ []) (is_of db id) shown_revision refl (λ r. refl)
     (tests_id db id _ (revs_keyed old.now.trees is.laid)) r items h
-
-find_whole : IsWhole schema find_text 2
-unfolding understood everything
-find_whole = record { ends = refl; given = refl; same = refl }
-
-pub find_fails : {X : Type 0} (old new : State) → old.now.schema ≡ schema → (db : ℤ) (id : List ℕ) (r : Result X Error) → IfErr r (FailsToQuery find_text (Int db ∷ Blob id ∷ []) old new) → IfErr r (λ e. IsFault old new e ⊎ IsInterrupted old e)
-find_fails old new has db id r h = looks_fail schema old new has find_text revs_tree by_id (col 1 3 ∷ col 1 4 ∷ col 1 5 ∷ col 1 6 ∷ col 1 7 ∷ col 1 8 ∷ []) [] unlimited (codes "n" ∷ codes "hash" ∷ codes "parent" ∷ codes "held" ∷ codes "del" ∷ codes "body" ∷ []) find_is find_unlisted (Int db ∷ Blob id ∷ []) find_whole refl r h
-
--- ---- why the changes fail
-
-insert_text_whole : IsWhole schema insert_text 8
-unfolding understood everything
-insert_text_whole = record { ends = refl; given = refl; same = refl }
-
-delete_text_whole : IsWhole schema delete_text 2
-unfolding understood everything
-delete_text_whole = record { ends = refl; given = refl; same = refl }
-
-clear_text_whole : IsWhole schema clear_text 1
-unfolding understood everything
-clear_text_whole = record { ends = refl; given = refl; same = refl }
-
-revs_unreferred : IsUnreferred revs_table
-revs_unreferred = record { fits = both }
-  where
-    both : (a b : Bool) → ((not a || true) && (not b || true)) ≡ true
-    both true true = refl
-    both true false = refl
-    both false true = refl
-    both false false = refl
-
-text_kept : {X : Type 0} (f : X → List ℕ) (o : Option X) → as_text (or_null (λ x. Text (f x)) o) ≡ or_null (λ x. Text (f x)) o
-text_kept f None = refl
-text_kept f (Some x) = refl
-
--- a parent and a body, each there or not
-module _ {P B : Type 0} (f : P → List ℕ) (g : B → List ℕ) where
-  abbrev pub cells_of : ℤ → List ℕ → ℕ → List ℕ → Option P → Bool → Bool → Option B → Row
-  cells_of db id n hash parent held deleted body = given_cells db id n hash (or_null (λ x. Text (f x)) parent) held deleted (or_null (λ x. Text (g x)) body)
-
-  insert_fits : (number db : ℤ) (id : List ℕ) (n : ℕ) (hash : List ℕ) (parent : Option P) (held deleted : Bool) (body : Option B) → FitsTable revs_table (Int number ∷ cells_of db id n hash parent held deleted body)
-  insert_fits number db id n hash None held deleted None = record { typed = λ trees. refl; present = λ trees. refl; checked = λ trees. refl }
-  insert_fits number db id n hash None held deleted (Some body) = record { typed = λ trees. refl; present = λ trees. refl; checked = λ trees. refl }
-  insert_fits number db id n hash (Some parent) held deleted None = record { typed = λ trees. refl; present = λ trees. refl; checked = λ trees. refl }
-  insert_fits number db id n hash (Some parent) held deleted (Some body) = record { typed = λ trees. refl; present = λ trees. refl; checked = λ trees. refl }
-
-  insert_typed : (db : ℤ) (id : List ℕ) (n : ℕ) (hash : List ℕ) (parent : Option P) (held deleted : Bool) (body : Option B) → accepts_terms values (cells_of db id n hash parent held deleted body) ≡ true
-  insert_typed db id n hash None held deleted None = refl
-  insert_typed db id n hash None held deleted (Some body) = refl
-  insert_typed db id n hash (Some parent) held deleted None = refl
-  insert_typed db id n hash (Some parent) held deleted (Some body) = refl
-
-  pub insert_fails : {X : Type 0} (old new : State) → old.now.schema ≡ schema → AreKeyed (old.now.trees revs_tree)
-      → (db : ℤ) (id : List ℕ) (n : ℕ) (hash : List ℕ) (parent : Option P) (held deleted : Bool) (body : Option B) → (r : Result X Error)
-      → IfErr r (FailsToRun insert_text (cells_of db id n hash parent held deleted body) old new)
-      → IfErr r (λ e. IsFault old new e ⊎ (IsEnded old e ⊎ (IsInterrupted old e ⊎ IsRefused revs_table old.now.trees (with_cells (old.now.trees revs_tree) (cells_of db id n hash parent held deleted body))
-      ((Int (next_number (old.now.trees revs_tree)) ∷ cells_of db id n hash parent held deleted body) ∷ []) e)))
-  insert_fails old new has fit db id n hash parent held deleted body r h =
-      fails_to_insert old new has 3 revs_table revs_plain revs_unreferred insert_text values 9 insert_is (cells_of db id n hash parent held deleted body) insert_text_whole (insert_typed db id n hash parent held deleted body)
-      (Null ∷ cells_of db id n hash parent held deleted body) (cells_of db id n hash parent held deleted body) refl
-      (cast db id n hash (or_null (λ x. Text (f x)) parent) held deleted (or_null (λ x. Text (g x)) body) (text_kept f parent) (text_kept g body))
-      (insert_fits _ db id n hash parent held deleted body) (numbered_from_keyed _ fit) r h
-
-pub delete_fails : {X : Type 0} (old new : State) → old.now.schema ≡ schema → AreKeyed (old.now.trees revs_tree) → (db : ℤ) (id : List ℕ) → (r : Result X Error) → IfErr r (FailsToRun delete_text (Int db ∷ Blob id ∷ []) old new)
-    → IfErr r (λ e. IsFault old new e ⊎ (IsEnded old e ⊎ (IsInterrupted old e ⊎ IsRefused revs_table old.now.trees (filter (λ l. not (is_of db id l)) (old.now.trees revs_tree)) ([]) e)))
-delete_fails old new has fit db id r h =
-    fails_to_delete old new has 3 revs_table revs_plain revs_unreferred delete_text by_id delete_is (Int db ∷ Blob id ∷ []) delete_text_whole refl (is_of db id) refl (numbered_from_keyed _ fit) (tests_id db id _ fit) r h
-
-pub clear_fails : {X : Type 0} (old new : State) → old.now.schema ≡ schema → AreKeyed (old.now.trees revs_tree) → (db : ℤ) → (r : Result X Error) → IfErr r (FailsToRun clear_text (Int db ∷ []) old new)
-    → IfErr r (λ e. IsFault old new e ⊎ (IsEnded old e ⊎ (IsInterrupted old e ⊎ IsRefused revs_table old.now.trees (filter (λ l. not (is_in db l)) (old.now.trees revs_tree)) ([]) e)))
-clear_fails old new has fit db r h =
-    fails_to_delete old new has 3 revs_table revs_plain revs_unreferred clear_text by_db clear_is (Int db ∷ []) clear_text_whole refl (is_in db) refl (numbered_from_keyed _ fit) (tests_db db _ fit) r h

@@ -4,7 +4,7 @@ use Rattle.std.proofs.lemmas.Bool.{both_ways, false_from_ne_true, not_from_false
 use Rattle.std.proofs.lemmas.Cmp.{nat_list_cmp_total}
 use Rattle.std.proofs.lemmas.List.{map-append}
 use Rattle.std.proofs.lemmas.Map.Text.{is_eq-slice_cmp}
-use Rattle.std.specs.Cmp.{IsTotalOrder, Equal-is, tied_itself, eq_by_cmp_equiv}
+use Rattle.std.specs.Cmp.{IsTotalOrder, Equal-is, eq_by_cmp_equiv}
 use Rattle.std.specs.Cmp.Lexicographic.{slice_cmp}
 use Rattle.std.specs.FinMap as finite
 use Rattle.std.specs.FinMap.{FinMap, IsAntisymmetric, slice_cmp-IsAntisymmetric, nat_cmp-IsAntisymmetric}
@@ -115,9 +115,6 @@ module _ {A K : Type 0} {R : K → K → Ordering} (total : IsTotalOrder R) (exa
 
   pub key_of : (q : K) (r : A) → at q r ≡ true → q ≡ key r
   key_of q r is = same_key q (key r) (tests q r ∙ is)
-
-  pub at_own : (r : A) → at (key r) r ≡ true
-  at_own r = sym (tests (key r) r) ∙ (Equal-is (R (key r) (key r))).1 (tied_itself total (key r))
 
   -- a row of the key k is none of another key
   at_other : (q k : K) (r : A) → eq_by_cmp R q k ≡ false → at k r ≡ true → at q r ≡ false

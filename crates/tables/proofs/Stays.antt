@@ -1,17 +1,15 @@
 -- Statements one after the other, and what a query leaves.
-use Rattle.std.proofs.Common.{◌≡◌, ◌⊎◌, inl, inr, ℕ, List, Bool, true, false, Ok, Err, Result, None, Some, IsTrue, OnOk, IfOk, IfErr, refl, subst, ◌∙◌, arith}
+use Rattle.std.proofs.Common.{◌≡◌, ◌⊎◌, inl, inr, ℕ, List, false, Ok, Err, Result, None, Some, IsTrue, OnOk, IfOk, IfErr, refl, subst, arith}
 use Rattle.sqlite_value.specs.Order.{Row}
 use Rattle.sqlite.specs.Listing.{understood}
-use Rattle.sqlite.specs.State.{State, HasCleanDisk, ExecutesInside, KeepsCommit, Survives, IsUnchanged, IsRolledBack, FailsToQuery, FailsToShow, IsNotRun, Shown, ShowsRows, CommitsShowing}
+use Rattle.sqlite.specs.State.{State, HasCleanDisk, KeepsCommit, Survives, IsUnchanged, IsRolledBack, FailsToQuery, FailsToShow, IsNotRun, Shown, ShowsRows, CommitsShowing}
 use Rattle.sqlite.specs.Given.{IsPlain}
 use Rattle.sqlite.specs.declared.error.Error.{Error}
-use Rattle.sqlite.specs.declared.error.Error.TheVariants.{SqliteFailure}
-use Rattle.sqlite.specs.declared.error.ErrorCode.TheVariants as code
 use Rattle.sqlite_resolve.specs.declared.compiled.Compiled.{Compiled}
 use Rattle.sqlite.proofs.StateLemmas.{survives_then, survives_weaker}
 use Rattle.sqlite.proofs.InsideLemmas.{keeps_then, unchanged_keeps}
 use Rattle.sqlite.proofs.Callers.{never_commits}
-use Rattle.tables.specs.Steps.{FailsToRun, Ran, StaysInside, Proceeds, OnlyLooks, Asks}
+use Rattle.tables.specs.Steps.{Proceeds, OnlyLooks, Asks}
 
 pub proceeds_then : (a b c : State) → Proceeds a b → Proceeds b c → Proceeds a c
 proceeds_then a b c p q = record {
@@ -19,26 +17,8 @@ proceeds_then a b c p q = record {
   survives = survives_then a b c _ _ (λ _. ⊥) (λ _ db none. none) (λ _ db none. none) p.survives q.survives;
 }
 
-pub stays_then : (a b c : State) → StaysInside a b → StaysInside b c → StaysInside a c
-stays_then a b c p q = record { is_open = q.is_open; inside = q.inside; committed = q.committed ∙ p.committed }
-
 pub keeps_itself : (a : State) → KeepsCommit a a
 keeps_itself a = record { was_open = λ h. h; committed = λ h. refl }
-
--- a statement that ended well ran, and the transaction goes on
-pub inside_ran : (sql : List ℕ) (params : Row) (old new : State) (r : Result ℕ Error) → ExecutesInside 0 sql params old new r → OnOk r (Ran sql params old new × StaysInside old new)
-inside_ran sql params old new (Err e) h = tt
-inside_ran sql params old new (Ok count) h = ((count, h.0), record { is_open = h.1.is_open; inside = h.1.mode; committed = h.1.committed_is })
-
-same_error : {X : Type 0} {d e : Error} → ◌≡◌ {A = Result X Error} (Err d) (Err e) → d ≡ e
-same_error is = cc
-
--- a statement that failed did so as its text says, or its transaction was over
-pub did_not_run : {X : Type 0} (sql : List ℕ) (params : Row) (old new : State) (e : Error) (inside : Bool) → old.in_transaction ≡ inside
-    → (old.in_transaction ≡ false → ◌≡◌ {A = Result X Error} (Err e) (Err (SqliteFailure code.TransactionState))) → (IsTrue old.in_transaction → ExecutesInside 0 sql params old new (Err e))
-    → FailsToRun sql params old new e
-did_not_run sql params old new e true is ended ran = inr (ran is)
-did_not_run sql params old new e false is ended ran = inl (same_error (ended is), is)
 
 looks_shown : (old new : State) (sql : List ℕ) (c : Compiled) (params : Row) (e : Error) (what : _) → FailsToShow old new sql c params e what → IsUnchanged old new ⊎ IsRolledBack old new
 looks_shown old new sql c params e None h = inl h.3

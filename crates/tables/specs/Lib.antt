@@ -1,6 +1,5 @@
 pub mod Schema
 pub mod Rows
-pub mod Causes
 pub mod Steps
 pub mod Layout
 pub mod Edits

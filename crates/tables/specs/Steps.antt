@@ -1,23 +1,17 @@
 -- What a statement leaves of a connection, whatever it reads or writes.
 -- This server's own words for the states of a connection, which are those of the kit's SQLite.
-use Rattle.std.specs.Prelude.{◌≡◌, ◌≢◌, ◌⊎◌, ℕ, true, false, List, [], Ok, Err, IsTrue}
+use Rattle.std.specs.Prelude.{◌≡◌, ◌≢◌, ◌⊎◌, ℕ, true, false, List, [], Ok, IsTrue}
 use Rattle.std.specs.List.{AllByRecursion}
 use Rattle.sqlite_value.specs.Order.{Row}
 use Rattle.sqlite_schema.specs.declared.schema.Schema.{Schema}
 use Rattle.sqlite_schema.specs.declared.schema.Table.{Table}
 use Rattle.sqlite_catalog.specs.Change.{created, next_tree, KeepsRows}
 use Rattle.sqlite.specs.Effect.{Database}
-use Rattle.sqlite.specs.declared.error.Error.{Error}
-use Rattle.tables.specs.Causes.{IsEnded}
-use Rattle.sqlite.specs.State.{State, HasCleanDisk, Executes, ExecutesInside, KeepsCommit, Survives}
+use Rattle.sqlite.specs.State.{State, HasCleanDisk, Executes, KeepsCommit, Survives}
 
 -- the statement ran as its text says
 abbrev pub Ran : List ℕ → Row → State → State → Type 0
 Ran sql params old new = (count : ℕ) × Executes sql params old new (Ok count)
-
--- it failed as its text says, or found the transaction ended
-abbrev pub FailsToRun : List ℕ → Row → State → State → Error → Type 0
-FailsToRun sql params old new e = IsEnded old e ⊎ ExecutesInside 0 sql params old new (Err e)
 
 -- the transaction goes on, and nothing was committed
 pub record StaysInside (old new : State) : Type 0 where

@@ -1,26 +1,23 @@
 //! What the tables say by name and by id, and what the databases that they hold become as rows are
 //! changed. Each function has an empty body: its contract is the law.
 
-ghost use Rattle.std.specs.Prelude.{◌≡◌, ◌≢◌, ◌<◌, ◌^◌, ◌⊎◌, ◌∷◌, [], IsTrue, List, None, Some, filter, map, not, option_map, pos, slice_get, ℕ};
+ghost use Rattle.std.specs.Prelude.{◌≡◌, ◌<◌, ◌^◌, ◌⊎◌, ◌∷◌, [], IsTrue, List, None, Some, filter, not, option_map, pos, slice_get, ℕ};
 ghost use Rattle.std.specs.FinMap as finite;
-ghost use Rattle.std.specs.List.{AllByRecursion};
 ghost use Rattle.couch_json.specs.Canonical.{canonical};
 ghost use Rattle.couch_json.specs.Lawful.{IsLawful};
 ghost use Rattle.couch_json.specs.Value.{Value};
 ghost use Rattle.policy.specs.Security.{closed_security, is_security};
 ghost use Rattle.store.specs.Contents as store;
-ghost use Rattle.store.specs.Database.{history_at};
 ghost use Rattle.store.specs.DatabaseName.{is_database_name};
 ghost use Rattle.store.specs.Lawful.{IsBody};
 ghost use Rattle.store.specs.declared.local_document.LocalDocument.{LocalDocument};
 ghost use Rattle.tree.specs.DocumentId.{is_document_id};
 ghost use Rattle.sqlite.specs.Effect as sqlite;
-ghost use Rattle.sqlite_keyed.specs.Lists.{sort_by};
 ghost use Rattle.sqlite_trees.specs.Tree.{Trees};
 ghost use Rattle.sqlite_value.specs.Order.{Row};
-ghost use Rattle.tables.specs.Layout.{AreDatabaseRows, AreKeyed, IsLaid, IsStore};
-ghost use Rattle.tables.specs.Rows.{by_name, contents_in, database_cells, database_of, has_number, history_in, is_in, is_named, is_of, local_cells, local_of, name_of, number_of, rows_with_security, with_cells};
-ghost use Rattle.tables.specs.Schema.{dbs_tree, docs_tree, locals_tree, meta_tree, revs_tree, schema};
+ghost use Rattle.tables.specs.Layout.{IsLaid, IsStore};
+ghost use Rattle.tables.specs.Rows.{contents_in, database_cells, database_of, has_number, is_in, is_named, is_of, local_cells, number_of, rows_with_security, with_cells};
+ghost use Rattle.tables.specs.Schema.{dbs_tree, docs_tree, locals_tree, revs_tree};
 ghost use Rattle.tables.specs.Steps.{Changes};
 
 /// The database of a name is that of the row of this name, and at most one row has it.
@@ -29,36 +26,6 @@ pub fn database_found()
         → finite.get (contents_in trees) name ≡ option_map (database_of trees) (slice_get (filter (is_named name) (trees dbs_tree)) 0) }
     ensures one { (trees : Trees) (name : List ℕ) → IsLaid trees
         → (filter (is_named name) (trees dbs_tree) ≡ []) ⊎ ((d : Row) × (filter (is_named name) (trees dbs_tree) ≡ d ∷ [])) }
-{}
-
-/// The history of a document is what the rows of its revisions say, and a local document what its row
-/// says, of which there is at most one.
-pub fn document_found()
-    ensures history { (trees : Trees) (d : Row) (id : List ℕ) → IsLaid trees
-        → history_at (database_of trees d) id ≡ history_in (trees revs_tree) (number_of d) id }
-    ensures local { (trees : Trees) (d : Row) (id : List ℕ)
-        → finite.get (database_of trees d).locals id ≡ option_map local_of (slice_get (filter (is_of (number_of d) id) (trees locals_tree)) 0) }
-    ensures one_local { (trees : Trees) (d : Row) (id : List ℕ) → IsLaid trees
-        → (filter (is_of (number_of d) id) (trees locals_tree) ≡ []) ⊎ ((r : Row) × (filter (is_of (number_of d) id) (trees locals_tree) ≡ r ∷ [])) }
-{}
-
-/// The names of all databases are those of their rows, sorted.
-pub fn names_found()
-    ensures { (trees : Trees) → IsLaid trees → finite.keys (contents_in trees) ≡ map name_of (sort_by by_name (trees dbs_tree)) }
-{}
-
-/// The rows of tables that are laid out are fit for each change of their table.
-pub fn rows_before_a_change()
-    ensures databases { (trees : Trees) → IsLaid trees → AreDatabaseRows (trees dbs_tree) }
-    ensures documents { (trees : Trees) → IsLaid trees → AreKeyed (trees docs_tree) }
-    ensures revisions { (trees : Trees) → IsLaid trees → AreKeyed (trees revs_tree) }
-    ensures locals { (trees : Trees) → IsLaid trees → AreKeyed (trees locals_tree) }
-{}
-
-/// A change of one table leaves the rows of the others.
-pub fn rows_of_other_tables()
-    ensures { (tree : ℕ) (rows : List Row) (old new : sqlite.Database) → old.schema ≡ schema → Changes tree rows old new
-        → AllByRecursion (λ t. t ≢ tree → new.trees t ≡ old.trees t) (meta_tree ∷ dbs_tree ∷ docs_tree ∷ revs_tree ∷ locals_tree ∷ []) }
 {}
 
 /// A row that is put behind the others, of a name that no database has, is a new database.

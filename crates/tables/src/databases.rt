@@ -2,10 +2,10 @@
 
 ghost use Rattle.std.specs.Prelude.{◌≡◌, not, pos, filter, map};
 ghost use Rattle.sqlite_keyed.specs.Lists.{sort_by};
-ghost use Rattle.tables.specs.Calls.{Alters, Asks, Fails, FailsToDelete, FailsToInsert, FailsToUpdate, Finds, IsServed, Looks, Proceeds, Stands, Stays};
-ghost use Rattle.tables.specs.Layout.{AreDatabaseRows};
-ghost use Rattle.tables.specs.Rows.{rows_at_sequence, by_name, database_cells, has_number, is_named, row_at_sequence, row_with_security, rows_with_security, shown_database, shown_name, with_cells};
-ghost use Rattle.tables.specs.Schema.{dbs_table, dbs_tree};
+ghost use Rattle.tables.specs.Calls.{Alters, Proceeds, Reads, Stays};
+ghost use Rattle.tables.specs.Layout.{AreDatabaseRows, IsStore};
+ghost use Rattle.tables.specs.Rows.{rows_at_sequence, by_name, database_cells, has_number, is_named, rows_with_security, shown_database, shown_name, with_cells};
+ghost use Rattle.tables.specs.Schema.{dbs_tree};
 
 use crate::statement::{change, query};
 use sqlite::{Alter, Connection, Error, Row, Transaction, params};
@@ -13,12 +13,7 @@ use sqlite::{Alter, Connection, Error, Row, Transaction, params};
 /// Returns the row of the database of this name, if there is one: its number, its security object
 /// and its sequence.
 pub fn database_rows<S: Alter>(conn: &mut Connection<S>, name: &[u8]) -> Result<Vec<Row>, Error>
-    ensures ok { Finds S.Store conn.old conn.new (λ trees rows. rows.items ≡ map shown_database (filter (is_named name.now) (trees dbs_tree))) result }
-    ensures err { Fails S.Store conn.old conn.new result }
-    ensures stands { Stands S.Store conn.old conn.new result }
-    ensures looks { Looks S.Store conn.old conn.new }
-    ensures asks { Asks S.Store conn.old conn.new }
-    ensures served { IsServed S.Store conn.old conn.new result }
+    ensures { Reads S.Store IsStore conn.old conn.new (λ trees rows. rows.items ≡ map shown_database (filter (is_named name.now) (trees dbs_tree))) result }
 {
     query(
         conn,
@@ -35,7 +30,6 @@ pub fn insert_database<S: Alter>(
 ) -> Result<(), Error>
     ensures same_reference { tx.new.conn.ghost_name ≡ tx.old.conn.ghost_name }
     ensures ok { Alters S.Store dbs_tree AreDatabaseRows (λ rows. with_cells rows (database_cells name.now security.now (pos 0))) tx.old.conn.now tx.new.conn.now result }
-    ensures err { FailsToInsert S.Store dbs_table AreDatabaseRows (database_cells name.now security.now (pos 0)) tx.old.conn.now tx.new.conn.now result }
     ensures inside { Stays S.Store tx.old.conn.now tx.new.conn.now result }
     ensures proceeds { Proceeds S.Store tx.old.conn.now tx.new.conn.now }
 {
@@ -50,7 +44,6 @@ pub fn insert_database<S: Alter>(
 pub fn delete_database<S: Alter>(tx: &mut Transaction<'_, S>, number: &i64) -> Result<(), Error>
     ensures same_reference { tx.new.conn.ghost_name ≡ tx.old.conn.ghost_name }
     ensures ok { Alters S.Store dbs_tree AreDatabaseRows (λ rows. filter (λ r. not (has_number number.now r)) rows) tx.old.conn.now tx.new.conn.now result }
-    ensures err { FailsToDelete S.Store dbs_table AreDatabaseRows (has_number number.now) tx.old.conn.now tx.new.conn.now result }
     ensures inside { Stays S.Store tx.old.conn.now tx.new.conn.now result }
     ensures proceeds { Proceeds S.Store tx.old.conn.now tx.new.conn.now }
 {
@@ -65,7 +58,6 @@ pub fn secure_database<S: Alter>(
 ) -> Result<(), Error>
     ensures same_reference { tx.new.conn.ghost_name ≡ tx.old.conn.ghost_name }
     ensures ok { Alters S.Store dbs_tree AreDatabaseRows (rows_with_security number.now security.now) tx.old.conn.now tx.new.conn.now result }
-    ensures err { FailsToUpdate S.Store dbs_table AreDatabaseRows (has_number number.now) (row_with_security security.now) tx.old.conn.now tx.new.conn.now result }
     ensures inside { Stays S.Store tx.old.conn.now tx.new.conn.now result }
     ensures proceeds { Proceeds S.Store tx.old.conn.now tx.new.conn.now }
 {
@@ -84,7 +76,6 @@ pub fn advance_database<S: Alter>(
 ) -> Result<(), Error>
     ensures same_reference { tx.new.conn.ghost_name ≡ tx.old.conn.ghost_name }
     ensures ok { Alters S.Store dbs_tree AreDatabaseRows (rows_at_sequence number.now sequence.now) tx.old.conn.now tx.new.conn.now result }
-    ensures err { FailsToUpdate S.Store dbs_table AreDatabaseRows (has_number number.now) (row_at_sequence sequence.now) tx.old.conn.now tx.new.conn.now result }
     ensures inside { Stays S.Store tx.old.conn.now tx.new.conn.now result }
     ensures proceeds { Proceeds S.Store tx.old.conn.now tx.new.conn.now }
 {
@@ -97,12 +88,7 @@ pub fn advance_database<S: Alter>(
 
 /// Returns the names of all databases, in the order of their bytes.
 pub fn name_rows<S: Alter>(conn: &mut Connection<S>) -> Result<Vec<Row>, Error>
-    ensures ok { Finds S.Store conn.old conn.new (λ trees rows. rows.items ≡ map shown_name (sort_by by_name (trees dbs_tree))) result }
-    ensures err { Fails S.Store conn.old conn.new result }
-    ensures stands { Stands S.Store conn.old conn.new result }
-    ensures looks { Looks S.Store conn.old conn.new }
-    ensures asks { Asks S.Store conn.old conn.new }
-    ensures served { IsServed S.Store conn.old conn.new result }
+    ensures { Reads S.Store IsStore conn.old conn.new (λ trees rows. rows.items ≡ map shown_name (sort_by by_name (trees dbs_tree))) result }
 {
     query(conn, "SELECT name FROM dbs ORDER BY name", &[])
 }

@@ -5,9 +5,9 @@ ghost use Rattle.couch_json.specs.View.{view};
 ghost use Rattle.sqlite_value.specs.Order.{bytes, column};
 ghost use Rattle.sqlite_value.specs.declared.value.Value.TheVariants.{Text};
 ghost use Rattle.tree.specs.Revision.{revision_read, text_of};
-ghost use Rattle.tables.specs.Rows.{count_in, is_set, json_in, parent_in, whole_in};
+ghost use Rattle.tables.specs.Rows.{count_in, json_in, parent_in, whole_in};
 ghost use Rattle.tables.specs.Listings.{IsListedDocument, SpellsId, listed_id, listed_mark, listed_sequence, listed_winner};
-ghost use Rattle.tables.specs.Shown.{IsCount, IsShownDatabase, IsShownDocument, IsShownLocal, IsShownRevision, IsSmall, IsWhole, ShowsHeld, SpellsHash, SpellsHashOf, SpellsJson, SpellsParentOf, SpellsRevision, held_shown, local_shown, parent_shown, revision_shown};
+ghost use Rattle.tables.specs.Shown.{IsCount, IsShownDatabase, IsShownLocal, IsShownRevision, IsSmall, IsWhole, ShowsHeld, SpellsHash, SpellsHashOf, SpellsJson, SpellsParentOf, SpellsRevision, held_shown, local_shown, parent_shown, revision_shown};
 
 use couch_json::{Json, JsonFault};
 use sqlite::{Error, ErrorCode, Row};
@@ -27,17 +27,6 @@ pub enum RowFault {
     /// The row is not laid out as this server lays it out.
     #[error("a damaged row")]
     Damaged = 2,
-}
-
-/// The row of a document, as a query shows it.
-#[derive(Clone, Copy)]
-pub struct FoundDocument {
-    /// The sequence of its latest write.
-    pub sequence: u64,
-    /// Its best revision.
-    pub winner: Rev,
-    /// Whether that is deleted.
-    pub deleted: bool,
 }
 
 /// The row of a document, as a list of them shows it.
@@ -221,23 +210,6 @@ pub fn read_local(alloc: Global, row: &Row) -> Result<LocalDocument, RowFault>
     let number = number_at(row, 0)?;
     let body = Body::new(json_at(alloc, row, 1)?);
     Ok(LocalDocument { number, body })
-}
-
-/// Reads what a row of `document_rows` shows.
-pub fn read_document(row: &Row) -> Result<FoundDocument, RowFault>
-    ensures sequence { IfOk result (λ d. d.sequence ≡ count_in (column row.now 0)) }
-    ensures winner { IfOk result (λ d. text_of d.winner ≡ bytes (column row.now 1)) }
-    ensures deleted { IfOk result (λ d. d.deleted ≡ is_set (column row.now 2)) }
-    ensures damaged { result ≡ Err RowFault.Damaged → ¬ (IsShownDocument row.now) }
-{
-    let sequence = count_at(row, 0)?;
-    let winner = revision_at(row, 1)?;
-    let deleted = count_at(row, 2)? > 0;
-    Ok(FoundDocument {
-        sequence,
-        winner,
-        deleted,
-    })
 }
 
 /// Reads what a row of `rows_by_id` or `rows_by_sequence` shows.

@@ -2,11 +2,11 @@
 
 ghost use Rattle.std.specs.Prelude.{◌≡◌, not, filter, map};
 ghost use Rattle.sqlite_keyed.specs.Lists.{sort_by};
-ghost use Rattle.tables.specs.Calls.{Alters, Asks, Fails, FailsToDelete, FailsToInsert, Finds, IsServed, Looks, Proceeds, Stands, Stays};
-ghost use Rattle.tables.specs.Layout.{AreKeyed};
+ghost use Rattle.tables.specs.Calls.{Alters, Proceeds, Reads, Stays};
+ghost use Rattle.tables.specs.Layout.{AreKeyed, IsStore};
 ghost use Rattle.tables.specs.Listings.{comes_after, first_rows, lies_between, listed_id};
-ghost use Rattle.tables.specs.Rows.{by_id, by_sequence, is_in, is_of, listed_document, shown_document, document_cells, with_cells};
-ghost use Rattle.tables.specs.Schema.{docs_table, docs_tree};
+ghost use Rattle.tables.specs.Rows.{by_id, by_sequence, is_in, is_of, listed_document, document_cells, with_cells};
+ghost use Rattle.tables.specs.Schema.{docs_tree};
 
 use crate::statement::{change, query};
 use sqlite::{Alter, Connection, Error, Row, Transaction, params};
@@ -22,7 +22,6 @@ pub fn insert_document<S: Alter>(
 ) -> Result<(), Error>
     ensures same_reference { tx.new.conn.ghost_name ≡ tx.old.conn.ghost_name }
     ensures ok { Alters S.Store docs_tree AreKeyed (λ rows. with_cells rows (document_cells db.now id.now sequence.now winner.now deleted)) tx.old.conn.now tx.new.conn.now result }
-    ensures err { FailsToInsert S.Store docs_table AreKeyed (document_cells db.now id.now sequence.now winner.now deleted) tx.old.conn.now tx.new.conn.now result }
     ensures inside { Stays S.Store tx.old.conn.now tx.new.conn.now result }
     ensures proceeds { Proceeds S.Store tx.old.conn.now tx.new.conn.now }
 {
@@ -41,7 +40,6 @@ pub fn delete_document<S: Alter>(
 ) -> Result<(), Error>
     ensures same_reference { tx.new.conn.ghost_name ≡ tx.old.conn.ghost_name }
     ensures ok { Alters S.Store docs_tree AreKeyed (λ rows. filter (λ r. not (is_of db.now id.now r)) rows) tx.old.conn.now tx.new.conn.now result }
-    ensures err { FailsToDelete S.Store docs_table AreKeyed (is_of db.now id.now) tx.old.conn.now tx.new.conn.now result }
     ensures inside { Stays S.Store tx.old.conn.now tx.new.conn.now result }
     ensures proceeds { Proceeds S.Store tx.old.conn.now tx.new.conn.now }
 {
@@ -56,42 +54,16 @@ pub fn delete_document<S: Alter>(
 pub fn clear_documents<S: Alter>(tx: &mut Transaction<'_, S>, db: &i64) -> Result<(), Error>
     ensures same_reference { tx.new.conn.ghost_name ≡ tx.old.conn.ghost_name }
     ensures ok { Alters S.Store docs_tree AreKeyed (λ rows. filter (λ r. not (is_in db.now r)) rows) tx.old.conn.now tx.new.conn.now result }
-    ensures err { FailsToDelete S.Store docs_table AreKeyed (is_in db.now) tx.old.conn.now tx.new.conn.now result }
     ensures inside { Stays S.Store tx.old.conn.now tx.new.conn.now result }
     ensures proceeds { Proceeds S.Store tx.old.conn.now tx.new.conn.now }
 {
     change(tx, "DELETE FROM docs WHERE db = ?1", params![db])
 }
 
-/// Returns the row of a document, if there is one: its sequence, its winner and whether that is deleted.
-pub fn document_rows<S: Alter>(
-    conn: &mut Connection<S>,
-    db: &i64,
-    id: &[u8],
-) -> Result<Vec<Row>, Error>
-    ensures ok { Finds S.Store conn.old conn.new (λ trees rows. rows.items ≡ map shown_document (filter (is_of db.now id.now) (trees docs_tree))) result }
-    ensures err { Fails S.Store conn.old conn.new result }
-    ensures stands { Stands S.Store conn.old conn.new result }
-    ensures looks { Looks S.Store conn.old conn.new }
-    ensures asks { Asks S.Store conn.old conn.new }
-    ensures served { IsServed S.Store conn.old conn.new result }
-{
-    query(
-        conn,
-        "SELECT seq, winner, del FROM docs WHERE db = ?1 AND id = ?2",
-        params![db, id],
-    )
-}
-
 /// Returns the rows of all documents of a database, by the bytes of their ids: the id, the sequence, the
 /// winner and whether that is deleted.
 pub fn rows_by_id<S: Alter>(conn: &mut Connection<S>, db: &i64) -> Result<Vec<Row>, Error>
-    ensures ok { Finds S.Store conn.old conn.new (λ trees rows. rows.items ≡ map listed_document (sort_by by_id (filter (is_in db.now) (trees docs_tree)))) result }
-    ensures err { Fails S.Store conn.old conn.new result }
-    ensures stands { Stands S.Store conn.old conn.new result }
-    ensures looks { Looks S.Store conn.old conn.new }
-    ensures asks { Asks S.Store conn.old conn.new }
-    ensures served { IsServed S.Store conn.old conn.new result }
+    ensures { Reads S.Store IsStore conn.old conn.new (λ trees rows. rows.items ≡ map listed_document (sort_by by_id (filter (is_in db.now) (trees docs_tree)))) result }
 {
     query(
         conn,
@@ -103,12 +75,7 @@ pub fn rows_by_id<S: Alter>(conn: &mut Connection<S>, db: &i64) -> Result<Vec<Ro
 /// Returns the rows of all documents of a database, by their sequences: the id, the sequence, the
 /// winner and whether that is deleted.
 pub fn rows_by_sequence<S: Alter>(conn: &mut Connection<S>, db: &i64) -> Result<Vec<Row>, Error>
-    ensures ok { Finds S.Store conn.old conn.new (λ trees rows. rows.items ≡ map listed_document (sort_by by_sequence (filter (is_in db.now) (trees docs_tree)))) result }
-    ensures err { Fails S.Store conn.old conn.new result }
-    ensures stands { Stands S.Store conn.old conn.new result }
-    ensures looks { Looks S.Store conn.old conn.new }
-    ensures asks { Asks S.Store conn.old conn.new }
-    ensures served { IsServed S.Store conn.old conn.new result }
+    ensures { Reads S.Store IsStore conn.old conn.new (λ trees rows. rows.items ≡ map listed_document (sort_by by_sequence (filter (is_in db.now) (trees docs_tree)))) result }
 {
     query(
         conn,
@@ -124,12 +91,7 @@ pub fn rows_between<S: Alter>(
     first: &[u8],
     last: &[u8],
 ) -> Result<Vec<Row>, Error>
-    ensures ok { Finds S.Store conn.old conn.new (λ trees rows. rows.items ≡ filter (λ s. lies_between first.now last.now (listed_id s)) (map listed_document (sort_by by_id (filter (is_in db.now) (trees docs_tree))))) result }
-    ensures err { Fails S.Store conn.old conn.new result }
-    ensures stands { Stands S.Store conn.old conn.new result }
-    ensures looks { Looks S.Store conn.old conn.new }
-    ensures asks { Asks S.Store conn.old conn.new }
-    ensures served { IsServed S.Store conn.old conn.new result }
+    ensures { Reads S.Store IsStore conn.old conn.new (λ trees rows. rows.items ≡ filter (λ s. lies_between first.now last.now (listed_id s)) (map listed_document (sort_by by_id (filter (is_in db.now) (trees docs_tree))))) result }
 {
     query(
         conn,
@@ -146,12 +108,7 @@ pub fn rows_after<S: Alter>(
     sequence: &i64,
     limit: &i64,
 ) -> Result<Vec<Row>, Error>
-    ensures ok { Finds S.Store conn.old conn.new (λ trees rows. rows.items ≡ first_rows limit.now (filter (comes_after sequence.now) (map listed_document (sort_by by_sequence (filter (is_in db.now) (trees docs_tree)))))) result }
-    ensures err { Fails S.Store conn.old conn.new result }
-    ensures stands { Stands S.Store conn.old conn.new result }
-    ensures looks { Looks S.Store conn.old conn.new }
-    ensures asks { Asks S.Store conn.old conn.new }
-    ensures served { IsServed S.Store conn.old conn.new result }
+    ensures { Reads S.Store IsStore conn.old conn.new (λ trees rows. rows.items ≡ first_rows limit.now (filter (comes_after sequence.now) (map listed_document (sort_by by_sequence (filter (is_in db.now) (trees docs_tree)))))) result }
 {
     query(
         conn,

@@ -1,10 +1,10 @@
 //! The rows of the local documents.
 
 ghost use Rattle.std.specs.Prelude.{◌≡◌, not, filter, map};
-ghost use Rattle.tables.specs.Calls.{Alters, Asks, Fails, FailsToDelete, FailsToInsert, Finds, IsServed, Looks, Proceeds, Stands, Stays};
-ghost use Rattle.tables.specs.Layout.{AreKeyed};
+ghost use Rattle.tables.specs.Calls.{Alters, Proceeds, Reads, Stays};
+ghost use Rattle.tables.specs.Layout.{AreKeyed, IsStore};
 ghost use Rattle.tables.specs.Rows.{is_in, is_of, shown_local, local_cells, with_cells};
-ghost use Rattle.tables.specs.Schema.{locals_table, locals_tree};
+ghost use Rattle.tables.specs.Schema.{locals_tree};
 
 use crate::statement::{change, query};
 use sqlite::{Alter, Connection, Error, Row, Transaction, params};
@@ -19,7 +19,6 @@ pub fn insert_local<S: Alter>(
 ) -> Result<(), Error>
     ensures same_reference { tx.new.conn.ghost_name ≡ tx.old.conn.ghost_name }
     ensures ok { Alters S.Store locals_tree AreKeyed (λ rows. with_cells rows (local_cells db.now id.now number body.now)) tx.old.conn.now tx.new.conn.now result }
-    ensures err { FailsToInsert S.Store locals_table AreKeyed (local_cells db.now id.now number body.now) tx.old.conn.now tx.new.conn.now result }
     ensures inside { Stays S.Store tx.old.conn.now tx.new.conn.now result }
     ensures proceeds { Proceeds S.Store tx.old.conn.now tx.new.conn.now }
 {
@@ -34,7 +33,6 @@ pub fn insert_local<S: Alter>(
 pub fn delete_local<S: Alter>(tx: &mut Transaction<'_, S>, db: &i64, id: &[u8]) -> Result<(), Error>
     ensures same_reference { tx.new.conn.ghost_name ≡ tx.old.conn.ghost_name }
     ensures ok { Alters S.Store locals_tree AreKeyed (λ rows. filter (λ r. not (is_of db.now id.now r)) rows) tx.old.conn.now tx.new.conn.now result }
-    ensures err { FailsToDelete S.Store locals_table AreKeyed (is_of db.now id.now) tx.old.conn.now tx.new.conn.now result }
     ensures inside { Stays S.Store tx.old.conn.now tx.new.conn.now result }
     ensures proceeds { Proceeds S.Store tx.old.conn.now tx.new.conn.now }
 {
@@ -49,7 +47,6 @@ pub fn delete_local<S: Alter>(tx: &mut Transaction<'_, S>, db: &i64, id: &[u8]) 
 pub fn clear_locals<S: Alter>(tx: &mut Transaction<'_, S>, db: &i64) -> Result<(), Error>
     ensures same_reference { tx.new.conn.ghost_name ≡ tx.old.conn.ghost_name }
     ensures ok { Alters S.Store locals_tree AreKeyed (λ rows. filter (λ r. not (is_in db.now r)) rows) tx.old.conn.now tx.new.conn.now result }
-    ensures err { FailsToDelete S.Store locals_table AreKeyed (is_in db.now) tx.old.conn.now tx.new.conn.now result }
     ensures inside { Stays S.Store tx.old.conn.now tx.new.conn.now result }
     ensures proceeds { Proceeds S.Store tx.old.conn.now tx.new.conn.now }
 {
@@ -62,12 +59,7 @@ pub fn local_rows<S: Alter>(
     db: &i64,
     id: &[u8],
 ) -> Result<Vec<Row>, Error>
-    ensures ok { Finds S.Store conn.old conn.new (λ trees rows. rows.items ≡ map shown_local (filter (is_of db.now id.now) (trees locals_tree))) result }
-    ensures err { Fails S.Store conn.old conn.new result }
-    ensures stands { Stands S.Store conn.old conn.new result }
-    ensures looks { Looks S.Store conn.old conn.new }
-    ensures asks { Asks S.Store conn.old conn.new }
-    ensures served { IsServed S.Store conn.old conn.new result }
+    ensures { Reads S.Store IsStore conn.old conn.new (λ trees rows. rows.items ≡ map shown_local (filter (is_of db.now id.now) (trees locals_tree))) result }
 {
     query(
         conn,

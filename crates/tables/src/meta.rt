@@ -1,9 +1,7 @@
 //! Whether the tables are there, and their version.
 
-ghost use Rattle.std.specs.Prelude.{◌≡◌, ◌↔◌, false, true, IfOk, IsPermutation, map};
-ghost use Rattle.sqlite.specs.Held.{state};
-ghost use Rattle.sqlite.specs.State.{HasCleanDisk};
-ghost use Rattle.tables.specs.Calls.{Asks, Fails, IsServed, Looks, Stands};
+ghost use Rattle.std.specs.Prelude.{◌≡◌, ◌↔◌, false, true, IsPermutation, map};
+ghost use Rattle.tables.specs.Calls.{Reads};
 ghost use Rattle.tables.specs.Presence.{has_all, has_any, has_table, is_first, shown_version, shows_first};
 ghost use Rattle.tables.specs.Schema as tables;
 ghost use Rattle.tables.specs.Schema.{meta_tree};
@@ -78,13 +76,7 @@ pub fn tables_in(schema: &Schema) -> FoundTables
 }
 
 fn version_rows<S: Alter>(conn: &mut Connection<S>) -> Result<Vec<Row>, Error>
-    ensures ok { HasCleanDisk (state S.Store conn.new) → conn.old.schema ≡ tables.schema
-        → IfOk result (λ rows. IsPermutation (map shown_version ((state S.Store conn.old).now.trees meta_tree)) rows.items) }
-    ensures err { Fails S.Store conn.old conn.new result }
-    ensures stands { Stands S.Store conn.old conn.new result }
-    ensures looks { Looks S.Store conn.old conn.new }
-    ensures asks { Asks S.Store conn.old conn.new }
-    ensures served { IsServed S.Store conn.old conn.new result }
+    ensures { Reads S.Store (λ db. db.schema ≡ tables.schema) conn.old conn.new (λ trees rows. IsPermutation (map shown_version (trees meta_tree)) rows.items) result }
 {
     query(conn, "SELECT version FROM meta", &[])
 }
@@ -100,13 +92,7 @@ fn is_first(rows: &[Row]) -> bool
 
 /// Tells whether `meta` has one row, which has the version of this layout.
 pub fn is_first_version<S: Alter>(conn: &mut Connection<S>) -> Result<bool, Error>
-    ensures ok { HasCleanDisk (state S.Store conn.new) → conn.old.schema ≡ tables.schema
-        → IfOk result (λ first. first ≡ is_first ((state S.Store conn.old).now.trees meta_tree)) }
-    ensures err { Fails S.Store conn.old conn.new result }
-    ensures stands { Stands S.Store conn.old conn.new result }
-    ensures looks { Looks S.Store conn.old conn.new }
-    ensures asks { Asks S.Store conn.old conn.new }
-    ensures served { IsServed S.Store conn.old conn.new result }
+    ensures { Reads S.Store (λ db. db.schema ≡ tables.schema) conn.old conn.new (λ trees first. first ≡ is_first (trees meta_tree)) result }
 {
     let rows = version_rows(conn)?;
     Ok(is_first(&rows))

@@ -3,10 +3,10 @@
 ghost use Rattle.std.specs.Prelude.{◌≡◌, not, filter, map, IsPermutation};
 ghost use Rattle.sqlite.specs.Values.{or_null};
 ghost use Rattle.sqlite_value.specs.declared.value.Value.TheVariants.{Text};
-ghost use Rattle.tables.specs.Calls.{Alters, Asks, Fails, FailsToDelete, FailsToInsert, Finds, IsServed, Looks, Proceeds, Stands, Stays};
-ghost use Rattle.tables.specs.Layout.{AreKeyed};
+ghost use Rattle.tables.specs.Calls.{Alters, Proceeds, Reads, Stays};
+ghost use Rattle.tables.specs.Layout.{AreKeyed, IsStore};
 ghost use Rattle.tables.specs.Rows.{is_in, is_of, shown_revision, given_cells, with_cells};
-ghost use Rattle.tables.specs.Schema.{revs_table, revs_tree};
+ghost use Rattle.tables.specs.Schema.{revs_tree};
 
 use crate::statement::{change, query};
 use sqlite::{Alter, Connection, Error, Row, Transaction, params};
@@ -25,7 +25,6 @@ pub fn insert_revision<S: Alter>(
 ) -> Result<(), Error>
     ensures same_reference { tx.new.conn.ghost_name ≡ tx.old.conn.ghost_name }
     ensures ok { Alters S.Store revs_tree AreKeyed (λ rows. with_cells rows (given_cells db.now id.now number hash.now (or_null (λ s. Text s.now) parent.entry) held deleted (or_null (λ s. Text s.now) body.entry))) tx.old.conn.now tx.new.conn.now result }
-    ensures err { FailsToInsert S.Store revs_table AreKeyed (given_cells db.now id.now number hash.now (or_null (λ s. Text s.now) parent.entry) held deleted (or_null (λ s. Text s.now) body.entry)) tx.old.conn.now tx.new.conn.now result }
     ensures inside { Stays S.Store tx.old.conn.now tx.new.conn.now result }
     ensures proceeds { Proceeds S.Store tx.old.conn.now tx.new.conn.now }
 {
@@ -36,30 +35,10 @@ pub fn insert_revision<S: Alter>(
     )
 }
 
-/// Takes out the rows of all revisions of the document of this id.
-pub fn delete_revisions_of<S: Alter>(
-    tx: &mut Transaction<'_, S>,
-    db: &i64,
-    id: &[u8],
-) -> Result<(), Error>
-    ensures same_reference { tx.new.conn.ghost_name ≡ tx.old.conn.ghost_name }
-    ensures ok { Alters S.Store revs_tree AreKeyed (λ rows. filter (λ r. not (is_of db.now id.now r)) rows) tx.old.conn.now tx.new.conn.now result }
-    ensures err { FailsToDelete S.Store revs_table AreKeyed (is_of db.now id.now) tx.old.conn.now tx.new.conn.now result }
-    ensures inside { Stays S.Store tx.old.conn.now tx.new.conn.now result }
-    ensures proceeds { Proceeds S.Store tx.old.conn.now tx.new.conn.now }
-{
-    change(
-        tx,
-        "DELETE FROM revs WHERE db = ?1 AND id = ?2",
-        params![db, id],
-    )
-}
-
 /// Takes out the rows of all revisions of a database.
 pub fn clear_revisions<S: Alter>(tx: &mut Transaction<'_, S>, db: &i64) -> Result<(), Error>
     ensures same_reference { tx.new.conn.ghost_name ≡ tx.old.conn.ghost_name }
     ensures ok { Alters S.Store revs_tree AreKeyed (λ rows. filter (λ r. not (is_in db.now r)) rows) tx.old.conn.now tx.new.conn.now result }
-    ensures err { FailsToDelete S.Store revs_table AreKeyed (is_in db.now) tx.old.conn.now tx.new.conn.now result }
     ensures inside { Stays S.Store tx.old.conn.now tx.new.conn.now result }
     ensures proceeds { Proceeds S.Store tx.old.conn.now tx.new.conn.now }
 {
@@ -72,12 +51,7 @@ pub fn revision_rows<S: Alter>(
     db: &i64,
     id: &[u8],
 ) -> Result<Vec<Row>, Error>
-    ensures ok { Finds S.Store conn.old conn.new (λ trees rows. IsPermutation (map shown_revision (filter (is_of db.now id.now) (trees revs_tree))) rows.items) result }
-    ensures err { Fails S.Store conn.old conn.new result }
-    ensures stands { Stands S.Store conn.old conn.new result }
-    ensures looks { Looks S.Store conn.old conn.new }
-    ensures asks { Asks S.Store conn.old conn.new }
-    ensures served { IsServed S.Store conn.old conn.new result }
+    ensures { Reads S.Store IsStore conn.old conn.new (λ trees rows. IsPermutation (map shown_revision (filter (is_of db.now id.now) (trees revs_tree))) rows.items) result }
 {
     query(
         conn,

@@ -1,7 +1,12 @@
 -- Writes of a database that are done one after another in a transaction.
-use Rattle.std.proofs.Common.{◌≡◌, ◌+◌, ◌<◌, ◌^◌, suc, ℕ, ℤ, pos, List, [], ◌∷◌, ◌++◌, drop, take, filter, get_or, length, length-append, map, Some, Result, Ok, Err, OnErr, IsPermutation, IsTrue, inl, inr, refl, true, sym, ap, subst, ◌∙◌, arith}
+use Rattle.std.proofs.Common.{◌≡◌, ◌+◌, ◌<◌, ◌^◌, suc, ℕ, ℤ, pos, List, [], ◌∷◌, ◌++◌, drop, take, filter, get_or, length, length-append, map, Some, Result, Ok, Err, OnErr, IsPermutation, IsTrue, cond, inl, inr, refl, true, sym, ap, subst, ◌∙◌, arith}
+use Rattle.std.proofs.Math.Bool.{Bool-set}
+use Rattle.std.proofs.Math.Logic.{∥∥₁_elim}
 use Rattle.std.proofs.Math.Seq.{drop-cons}
 use Rattle.std.proofs.lemmas.List.{length-map, length-take, map-append, take-append-drop, take_more}
+use Rattle.std.proofs.lemmas.Slice.Eq.{bytes_eq-Decides}
+use Rattle.std.specs.FinMap as finite
+use Rattle.std.specs.Prelude.{bytes_eq}
 use Rattle.sqlite_trees.specs.Tree.{Trees}
 use Rattle.sqlite_value.specs.Order.{Row}
 use Rattle.sqlite.specs.Effect.{Database}
@@ -9,28 +14,31 @@ use Rattle.sqlite.specs.State.{State, IsRolledBack, KeepsCommit}
 use Rattle.sqlite.specs.Steps.{FailsToCommit}
 use Rattle.sqlite.specs.declared.error.Error.{Error}
 use Rattle.sqlite.proofs.StateLemmas.{survives_then}
-use Rattle.store.specs.Contents.{AreAcceptable}
+use Rattle.store.specs.Contents.{AreAcceptable, IsAcceptable}
+use Rattle.store.specs.Lawful.{IsLawful}
+use Rattle.store.specs.Plain.{with_addition}
 use Rattle.store.specs.Database as store
 use Rattle.store.specs.Database.{history_at, with_all, with_one}
 use Rattle.store.specs.Writing.{Addition, addition_of, additions, writings_in, written_at, written_in}
 use Rattle.store.specs.declared.fault.StoreFault.{StoreFault}
 use Rattle.store.specs.declared.fault.StoreFault.TheVariants.{Memory, Failed, NoDatabase, Exists, Damaged, Full}
 use Rattle.store.specs.declared.write.Write.{Write}
-use Rattle.store.proofs.Contents.{writings_in-append}
+use Rattle.store.proofs.Contents.{document_after, writings_in-append}
+use Rattle.store.proofs.Lawfuls.{has_winner, lawful_by_one}
 use Rattle.tree.specs.History.{HistoryContent}
 use Rattle.tables.specs.Edits.{HasWritten, IsStorable, IsWrite, row_after}
 use Rattle.tables.specs.Layout.{IsLaid, IsStore}
-use Rattle.tables.specs.Rows.{database_of, history_in, is_of, length_of, number_of, shown_revision}
+use Rattle.tables.specs.Rows.{contents_in, database_of, history_in, is_of, length_of, number_of, shown_revision}
 use Rattle.tables.specs.Schema.{revs_tree}
 use Rattle.tables.specs.Steps.{AsksInside, Proceeds}
 use Rattle.tables.proofs.DocumentWriteNews.{storable_addition}
 use Rattle.tables.proofs.DocumentWrites.{acceptable_in_turn, one_more_written}
-use Rattle.tables.proofs.Lookups.{document_found}
-use Rattle.transactions.specs.Commits.{AreDue, IsUnwritten}
+use Rattle.tables.proofs.Lookups.{database_there, document_found}
+use Rattle.transactions.specs.Commits.{AreDue, IsUnwritten, history_with}
 use Rattle.transactions.specs.Inserting.{IsLawfulAddition}
-use Rattle.transactions.specs.Reading.{IsRead, history_shown}
-use Rattle.transactions.specs.declared.write_fault.WriteFault.{WriteFault}
-use Rattle.transactions.specs.declared.write_fault.WriteFault.TheVariants as write
+use Rattle.transactions.specs.Reading.{HasBest, IsRead, history_shown}
+use Rattle.transactions.specs.declared.commit_fault.CommitFault.{CommitFault}
+use Rattle.transactions.specs.declared.commit_fault.CommitFault.TheVariants as write
 use Rattle.transactions.proofs.HistoryRows.{history_made}
 
 -- ---- the history that is read
@@ -54,7 +62,7 @@ lost said intact sound Exists h k = absurd h
 lost said intact sound Full h k = absurd h
 
 -- a refusal tells the same of what another fact follows from
-pub unwritten_of : (sound other : Type 0) (fault : WriteFault) → (other → sound) → IsUnwritten sound fault → IsUnwritten other fault
+pub unwritten_of : (sound other : Type 0) (fault : CommitFault) → (other → sound) → IsUnwritten sound fault → IsUnwritten other fault
 unwritten_of sound other (write.Sqlite e) f h = tt
 unwritten_of sound other (write.Store Memory) f h = tt
 unwritten_of sound other (write.Store Damaged) f h = λ o. h (f o)
@@ -144,3 +152,36 @@ further ws i w name db sequence next old mid new lt is room at due h lawful writ
     subst (λ all. HasWritten (writings_in (database_of old.trees r) all) name r old new) (sym grown)
     (one_more (additions ws) before more a name r old mid new all due.acceptable (omega (arith, due.counted, size, room)) h lawful
     (writes (row_after r (length before)) (sym due.numbered) (at ∙ ap pos number)))
+
+-- ---- the history of a write that may be done has a best revision
+
+best_after : (db : store.Database) (a : Addition) → IsLawful db → IsAcceptable db (written_at db a) → HasBest (with_addition (history_at db a.id) a)
+best_after db a lawful ok =
+    let w = written_at db a in
+    let own : bytes_eq a.id a.id ≡ true = (bytes_eq-Decides a.id a.id).1 refl in
+    let d : store.Document = record { sequence = db.length + 1; history = with_addition (history_at db a.id) a } in
+    has_winner d.history
+    ((lawful_by_one db w lawful ok).documents a.id d (document_after db w a.id ∙ ap (λ b. cond b (Some d) (finite.get db.documents a.id)) own))
+
+pub has_best : (all before more : List Addition) (a : Addition) (name : List ℕ) (r : Row) (old mid : Database) → all ≡ before ++ a ∷ more → AreAcceptable (database_of old.trees r) (writings_in (database_of old.trees r) all)
+    → HasWritten (writings_in (database_of old.trees r) before) name r old mid → HasBest (history_with mid.trees (number_of r) a)
+has_best all before more a name r old mid cut acceptable h =
+    let db = database_of old.trees r in
+    let ws = writings_in db before in
+    let then = with_all db ws in
+    let known : history_in (mid.trees revs_tree) (number_of r) a.id ≡ history_at then a.id =
+    sym (document_found mid.trees (row_after r (length ws)) a.id h.store.laid) ∙ ap (λ (d : store.Database). history_at d a.id) h.database in
+    let w = written_at then a in
+    let turn = acceptable_in_turn ws db w (writings_in (with_one then w) more) (subst (AreAcceptable db) (ap (writings_in db) cut ∙ writings_in-append db before (a ∷ more)) acceptable) in
+    let there : finite.get (contents_in mid.trees) name ≡ Some then = database_there mid.trees h.store.laid name (row_after r (length ws)) h.row ∙ ap Some h.database in
+    subst (λ (k : HistoryContent). HasBest (with_addition k a)) (sym known)
+    (∥∥₁_elim h.store.laid.lawful (Bool-set _ _) (λ lawful. best_after then a (lawful name then there) turn))
+
+pub best_in_turn : (ws : List Write) (i : ℕ) (w : Write) (name : List ℕ) (db : ℤ) (sequence : ℕ) (old mid : Database) → i < length ws → w ≡ get_or ws i w
+    → (due : AreDue (additions ws) name db sequence old.trees) → HasWritten (writings_in (database_of old.trees due.row) (additions (take i ws))) name due.row old mid → HasBest (history_with mid.trees db (addition_of w))
+best_in_turn ws i w name db sequence old mid lt is due h =
+    let before = additions (take i ws) in
+    let more = additions (drop (suc i) ws) in
+    let cut : ws ≡ take i ws ++ w ∷ drop (suc i) ws = sym (take-append-drop i ws) ∙ ap (λ l. take i ws ++ l) (drop-cons ws i w lt ∙ ap (λ x. x ∷ drop (suc i) ws) (sym is)) in
+    let all : additions ws ≡ before ++ addition_of w ∷ more = ap additions cut ∙ map-append addition_of (take i ws) (w ∷ drop (suc i) ws) in
+    subst (λ n. HasBest (history_with mid.trees n (addition_of w))) due.numbered (has_best (additions ws) before more (addition_of w) name due.row old mid all due.acceptable h)

@@ -21,11 +21,18 @@ use Rattle.tables.specs.Edits.{HasWritten, row_after}
 use Rattle.tables.specs.Rows.{database_of, history_in, number_of}
 use Rattle.tables.specs.Schema.{revs_tree}
 use Rattle.tables.proofs.Lookups.{document_found}
-use Rattle.transactions.specs.Histories.{AreStored, IsWith}
+use Rattle.sqlite.specs.State.{State}
+use Rattle.transactions.specs.Histories.{AreStored, IsHeldOpen, IsWith}
 
 -- an empty map holds no history
 pub none_stored : (m : BTreeMap (List ℕ) HistoryContent) (M : List ℕ → HistoryContent) → IsEmpty m → AreStored m M
 none_stored m M empty id h is =
+    let gone : get (slice_cmp nat_cmp) m id ≡ None = ap (lookup (is_at (slice_cmp nat_cmp id))) empty in
+    let apart : ◌≡◌ {A = Option HistoryContent} None (Some h) = sym gone ∙ is in
+    absurd (cc)
+
+pub none_open : (m : BTreeMap (List ℕ) HistoryContent) (s : State) → IsEmpty m → IsHeldOpen m s
+none_open m s empty id h is =
     let gone : get (slice_cmp nat_cmp) m id ≡ None = ap (lookup (is_at (slice_cmp nat_cmp id))) empty in
     let apart : ◌≡◌ {A = Option HistoryContent} None (Some h) = sym gone ∙ is in
     absurd (cc)

@@ -7,13 +7,15 @@ use Rattle.sqlite_value.specs.Order.{Row}
 use Rattle.sqlite.specs.Held.{Held, state}
 use Rattle.sqlite.specs.State.{HasCleanDisk}
 use Rattle.store.specs.Contents.{AreAcceptable}
+use Rattle.store.specs.Plain.{with_addition}
 use Rattle.store.specs.Writing.{Addition, writings_in}
 use Rattle.tables.specs.Layout.{IsStore}
-use Rattle.tables.specs.Rows.{database_of, is_named, length_of, number_of}
-use Rattle.tables.specs.Schema.{dbs_tree}
+use Rattle.tables.specs.Rows.{database_of, history_in, is_named, length_of, number_of}
+use Rattle.tables.specs.Schema.{dbs_tree, revs_tree}
+use Rattle.tree.specs.History.{HistoryContent}
 use Rattle.transactions.specs.Reading.{IsLost}
-use Rattle.transactions.specs.declared.write_fault.WriteFault.{WriteFault}
-use Rattle.transactions.specs.declared.write_fault.WriteFault.TheVariants as write
+use Rattle.transactions.specs.declared.commit_fault.CommitFault.{CommitFault}
+use Rattle.transactions.specs.declared.commit_fault.CommitFault.TheVariants as write
 
 -- the database of this name has this number and this sequence, and the writes may be appended to it, each after those before it
 pub record AreDue (all : List Addition) (name : List ℕ) (number : ℤ) (sequence : ℕ) (trees : Trees) : Type 0 where
@@ -27,7 +29,11 @@ pub record AreDue (all : List Addition) (name : List ℕ) (number : ℤ) (sequen
 abbrev pub IsSound : {S : Type 0} → Ghosts S → (Trees → Type 0) → Held S → Held S → Type 0
 IsSound g Holds old new = HasCleanDisk (state g new) × (IsTrue (state g old).is_open → IsStore (state g old).now × Holds (state g old).now.trees)
 
--- why writes were not done: a statement failed, memory ran out, or a row that was read is not intact
-abbrev pub IsUnwritten : Type 0 → WriteFault → Type 0
+-- the history of the write's document, with the write
+abbrev pub history_with : Trees → ℤ → Addition → HistoryContent
+history_with trees db a = with_addition (history_in (trees revs_tree) db a.id) a
+
+-- why writes were not done: a statement failed, memory ran out, or what was read is not intact
+abbrev pub IsUnwritten : Type 0 → CommitFault → Type 0
 IsUnwritten intact (write.Sqlite e) = ⊤
 IsUnwritten intact (write.Store fault) = IsLost intact fault

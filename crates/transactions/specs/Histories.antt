@@ -1,14 +1,19 @@
 -- The histories of documents that were read in a transaction, by id.
 -- This server's own: what is stored of a document is said by `tables`.
-use Rattle.std.specs.Prelude.{◌≡◌, ℕ, List, if◌then◌else◌, Some}
+use Rattle.std.specs.Prelude.{◌≡◌, ℕ, IsTrue, List, if◌then◌else◌, Some}
 use Rattle.std.specs.BTreeMap.{BTreeMap, get}
 use Rattle.std.specs.Ordering.{is_eq, nat_cmp}
 use Rattle.std.specs.Cmp.Lexicographic.{slice_cmp}
+use Rattle.sqlite.specs.State.{State}
 use Rattle.tree.specs.History.{HistoryContent}
 
 -- those in the map are what is stored
 abbrev pub AreStored : BTreeMap (List ℕ) HistoryContent → (List ℕ → HistoryContent) → Type 0
 AreStored m stored = (id : List ℕ) (h : HistoryContent) → get (slice_cmp nat_cmp) m id ≡ Some h → h ≡ stored id
+
+-- they were read of a connection that is open
+abbrev pub IsHeldOpen : BTreeMap (List ℕ) HistoryContent → State → Type 0
+IsHeldOpen m s = (id : List ℕ) (h : HistoryContent) → get (slice_cmp nat_cmp) m id ≡ Some h → IsTrue s.is_open
 
 -- a map with this history for the id, and else with what another has
 abbrev pub IsWith : BTreeMap (List ℕ) HistoryContent → List ℕ → HistoryContent → BTreeMap (List ℕ) HistoryContent → Type 0

@@ -1,14 +1,16 @@
 -- What is read of the rows that a query shows, and the history that they make.
 -- This server's own: rows are read by the words of `tables`; what is not intact is told as damaged.
-use Rattle.std.specs.Prelude.{◌≡◌, List, map, Option, Some, None, Result, Ok, Err, ⊤}
+use Rattle.std.specs.Prelude.{◌≡◌, IsTrue, List, map, is_some, Option, Some, None, Result, Ok, Err, ⊤}
 use Rattle.std.specs.FinMap as finite
 use Rattle.store.specs.declared.fault.StoreFault.{StoreFault}
 use Rattle.store.specs.declared.fault.StoreFault.TheVariants.{Memory, Failed, NoDatabase, Exists, Damaged, Full}
 use Rattle.sqlite_value.specs.Order.{Row}
-use Rattle.tree.specs.History.{HistoryContent, row_of, with_entries}
+use Rattle.tree.specs.History.{HistoryContent, row_of, winner, with_entries}
 use Rattle.tree.specs.Revision.{Revision}
 use Rattle.tree.specs.declared.entry.Entry.{Entry}
 use Rattle.tables.specs.Shown.{held_shown, parent_shown, revision_shown}
+use Rattle.transactions.specs.declared.history_fault.HistoryFault.{HistoryFault}
+use Rattle.transactions.specs.declared.history_fault.HistoryFault.TheVariants as history
 
 -- What is read: what is said; that nothing is, where there is no database; want of memory; or that not all is intact.
 abbrev pub IsRead : {X A : Type 0} → (X → A) → Option A → Type 0 → Result X StoreFault → Type 0
@@ -28,6 +30,20 @@ IsLost intact Failed = ⊥
 IsLost intact NoDatabase = ⊥
 IsLost intact Exists = ⊥
 IsLost intact Full = ⊥
+
+-- the history has a best revision, as each has that writes made
+abbrev pub HasBest : HistoryContent → Type 0
+HasBest h = IsTrue (is_some (winner h))
+
+-- why the best revision of a history was not told: memory ran out, or it has none
+abbrev pub IsMissed : HistoryContent → HistoryFault → Type 0
+IsMissed h history.Memory = ⊤
+IsMissed h history.Damaged = ¬ HasBest h
+
+-- what the store tells of that
+abbrev pub store_fault_of : HistoryFault → StoreFault
+store_fault_of history.Memory = Memory
+store_fault_of history.Damaged = Damaged
 
 -- a known revision
 abbrev pub entry_shown : Row → Revision × Entry

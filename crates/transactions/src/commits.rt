@@ -1,26 +1,27 @@
 //! Writes of a database that are committed together.
 
-ghost use Rattle.std.specs.Prelude.{◌≡◌, ◌+◌, ◌<◌, ◌^◌, ℕ, List, false, length, pos, IfErr, IfOk, OnOk, true, ⊤};
+ghost use Rattle.std.specs.Prelude.{◌≡◌, ◌+◌, ◌<◌, ◌^◌, ℕ, IsTrue, List, false, length, pos, IfErr, IfOk, OnOk, true, ⊤};
 ghost use Rattle.sqlite.specs.Held.{state};
 ghost use Rattle.sqlite.specs.State.{HasCleanDisk, KeepsCommit};
 ghost use Rattle.sqlite_value.specs.Order.{Row};
 ghost use Rattle.store.specs.Plain.{with_addition};
 ghost use Rattle.store.specs.Writing.{addition_of, additions, writings_in, written_in};
-ghost use Rattle.tables.specs.Calls.{AsksInside, LooksInside, Proceeds, Stands, Stays};
+ghost use Rattle.tables.specs.Calls.{AsksInside, IsServed, LooksInside, Proceeds, Stands, Stays};
 ghost use Rattle.tables.specs.Edits.{HasWritten, IsWrite};
 ghost use Rattle.tables.specs.Layout.{IsStore};
 ghost use Rattle.tables.specs.Rows.{database_of, history_in, length_of, number_of};
 ghost use Rattle.tables.specs.Schema.{revs_tree};
-ghost use Rattle.transactions.specs.Commits.{AreDue, IsSound, IsUnwritten};
-ghost use Rattle.transactions.specs.Histories.{AreStored, IsWith};
+ghost use Rattle.transactions.specs.Commits.{AreDue, IsSound, IsUnwritten, history_with};
+ghost use Rattle.transactions.specs.Histories.{AreStored, IsHeldOpen, IsWith};
 ghost use Rattle.transactions.specs.Inserting.{IsLawfulAddition};
 ghost use Rattle.transactions.specs.Endings.{IsDone, IsUndone, Turns};
+ghost use Rattle.transactions.specs.Reading.{HasBest};
 
+use crate::commit_fault::CommitFault;
 use crate::document_write::add_write;
 use crate::histories::read_history;
-use crate::write_fault::WriteFault;
 use couch_json::Got;
-use sqlite::{Alter, Connection, Error, Transaction};
+use sqlite::{Alter, Connection, Transaction};
 use std::alloc::Global;
 use std::collections::BTreeMap;
 use store::Write;
@@ -33,12 +34,13 @@ fn read_document<S: Alter>(
     tx: &mut Transaction<'_, S>,
     db: &i64,
     id: &[u8],
-) -> Result<History, WriteFault>
+) -> Result<History, CommitFault>
     ensures same_reference { tx.new.conn.ghost_name ≡ tx.old.conn.ghost_name }
     ensures ok { HasCleanDisk (state S.Store tx.new.conn.now) → IsStore (state S.Store tx.old.conn.now).now
         → IfOk result (λ history. history ≡ history_in ((state S.Store tx.old.conn.now).now.trees revs_tree) db.now id.now) }
     ensures err { IfErr result (IsUnwritten (IsSound S.Store (λ _. ⊤) tx.old.conn.now tx.new.conn.now)) }
     ensures stands { Stands S.Store tx.old.conn.now tx.new.conn.now result }
+    ensures served { IsServed S.Store tx.old.conn.now tx.new.conn.now result }
     ensures looks { LooksInside S.Store tx.old.conn.now tx.new.conn.now }
     ensures asks { AsksInside S.Store tx.old.conn.now tx.new.conn.now }
 {
@@ -55,13 +57,14 @@ fn write_known<S: Alter>(
     sequence: &i64,
     history: History,
     write: &Write,
-) -> Result<History, Error>
+) -> Result<History, CommitFault>
     ensures same_reference { tx.new.conn.ghost_name ≡ tx.old.conn.ghost_name }
     ensures ok { (r : Row) → HasCleanDisk (state S.Store tx.new.conn.now) → IsStore (state S.Store tx.old.conn.now).now
         → history ≡ history_in ((state S.Store tx.old.conn.now).now.trees revs_tree) (number_of r) (addition_of write.now).id
         → db.now ≡ number_of r → sequence.now ≡ pos (length_of r + 1)
         → OnOk result (IsWrite r (written_in history (addition_of write.now)) (state S.Store tx.old.conn.now).now (state S.Store tx.new.conn.now).now) }
     ensures after { IfOk result (λ after. after ≡ with_addition history (addition_of write.now)) }
+    ensures err { IfErr result (IsUnwritten (HasBest (with_addition history (addition_of write.now)))) }
     ensures lawful { OnOk result (IsLawfulAddition (addition_of write.now)) }
     ensures inside { Stays S.Store tx.old.conn.now tx.new.conn.now result }
     ensures proceeds { Proceeds S.Store tx.old.conn.now tx.new.conn.now }
@@ -78,7 +81,7 @@ fn write_unread<S: Alter>(
     db: &i64,
     sequence: &i64,
     write: &Write,
-) -> Result<History, WriteFault>
+) -> Result<History, CommitFault>
     ensures same_reference { tx.new.conn.ghost_name ≡ tx.old.conn.ghost_name }
     ensures ok { (r : Row) → HasCleanDisk (state S.Store tx.new.conn.now) → IsStore (state S.Store tx.old.conn.now).now
         → db.now ≡ number_of r → sequence.now ≡ pos (length_of r + 1)
@@ -87,13 +90,14 @@ fn write_unread<S: Alter>(
     ensures after { HasCleanDisk (state S.Store tx.new.conn.now) → IsStore (state S.Store tx.old.conn.now).now
         → IfOk result (λ after. after ≡ with_addition (history_in ((state S.Store tx.old.conn.now).now.trees revs_tree) db.now (addition_of write.now).id) (addition_of write.now)) }
     ensures lawful { OnOk result (IsLawfulAddition (addition_of write.now)) }
-    ensures inside { HasCleanDisk (state S.Store tx.new.conn.now) → OnOk result ((state S.Store tx.new.conn.now).in_transaction ≡ true) }
-    ensures err { IfErr result (IsUnwritten (IsSound S.Store (λ _. ⊤) tx.old.conn.now tx.new.conn.now)) }
+    ensures inside { HasCleanDisk (state S.Store tx.new.conn.now) → OnOk result (IsTrue (state S.Store tx.new.conn.now).is_open × ((state S.Store tx.new.conn.now).in_transaction ≡ true)) }
+    ensures err { IfErr result (IsUnwritten (IsSound S.Store (λ trees. HasBest (history_with trees db.now (addition_of write.now))) tx.old.conn.now tx.new.conn.now)) }
     ensures looks { LooksInside S.Store tx.old.conn.now tx.new.conn.now }
     ensures asks { AsksInside S.Store tx.old.conn.now tx.new.conn.now }
 {
     let history = read_document(alloc, tx, db, write.id.as_str().as_bytes())?;
-    Ok(write_known(alloc, tx, db, sequence, history, write)?)
+    let after = write_known(alloc, tx, db, sequence, history, write)?;
+    Ok(after)
 }
 
 /// Puts the history of a document in.
@@ -118,7 +122,7 @@ fn write_document<S: Alter>(
     sequence: &i64,
     histories: &mut BTreeMap<DocId, History>,
     write: &Write,
-) -> Result<(), WriteFault>
+) -> Result<(), CommitFault>
     ensures same_reference { tx.new.conn.ghost_name ≡ tx.old.conn.ghost_name }
     ensures ok { (r : Row) → HasCleanDisk (state S.Store tx.new.conn.now) → IsStore (state S.Store tx.old.conn.now).now
         → AreStored histories.old (history_in ((state S.Store tx.old.conn.now).now.trees revs_tree) db.now)
@@ -130,8 +134,9 @@ fn write_document<S: Alter>(
         → OnOk result (IsWith histories.old (addition_of write.now).id
         (with_addition (history_in ((state S.Store tx.old.conn.now).now.trees revs_tree) db.now (addition_of write.now).id) (addition_of write.now)) histories.new) }
     ensures lawful { OnOk result (IsLawfulAddition (addition_of write.now)) }
-    ensures inside { HasCleanDisk (state S.Store tx.new.conn.now) → OnOk result ((state S.Store tx.new.conn.now).in_transaction ≡ true) }
-    ensures err { IfErr result (IsUnwritten (IsSound S.Store (λ _. ⊤) tx.old.conn.now tx.new.conn.now)) }
+    ensures inside { HasCleanDisk (state S.Store tx.new.conn.now) → OnOk result (IsTrue (state S.Store tx.new.conn.now).is_open × ((state S.Store tx.new.conn.now).in_transaction ≡ true)) }
+    ensures err { IfErr result (IsUnwritten (IsHeldOpen histories.old (state S.Store tx.old.conn.now)
+        × IsSound S.Store (λ trees. AreStored histories.old (history_in (trees revs_tree) db.now) × HasBest (history_with trees db.now (addition_of write.now))) tx.old.conn.now tx.new.conn.now)) }
     ensures looks { LooksInside S.Store tx.old.conn.now tx.new.conn.now }
     ensures asks { AsksInside S.Store tx.old.conn.now tx.new.conn.now }
 {
@@ -160,7 +165,7 @@ fn write_all<S: Alter>(
     db: &i64,
     sequence: u64,
     writes: &[Write],
-) -> Result<(), WriteFault>
+) -> Result<(), CommitFault>
     requires { sequence + length writes.now < 2 ^ 63 }
     ensures same_reference { tx.new.conn.ghost_name ≡ tx.old.conn.ghost_name }
     ensures ok { (name : List ℕ) → HasCleanDisk (state S.Store tx.new.conn.now) → IsStore (state S.Store tx.old.conn.now).now
@@ -189,7 +194,7 @@ pub fn commit_writes<S: Alter>(
     db: &i64,
     sequence: u64,
     writes: &[Write],
-) -> Result<(), WriteFault>
+) -> Result<(), CommitFault>
     requires idle { conn.old.in_transaction ≡ false }
     requires room { sequence + length writes.now < 2 ^ 63 }
     ensures ok { (name : List ℕ) → HasCleanDisk (state S.Store conn.new) → IsStore (state S.Store conn.old).now

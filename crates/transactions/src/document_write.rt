@@ -1,6 +1,6 @@
 //! One write of a document, as statements of a transaction.
 
-ghost use Rattle.std.specs.Prelude.{◌≡◌, ◌+◌, ◌∷◌, [], pos, None, Some, IfOk, OnOk, string_bytes};
+ghost use Rattle.std.specs.Prelude.{◌≡◌, ◌+◌, ◌∷◌, [], pos, None, Some, IfErr, IfOk, OnOk, string_bytes, ⊤};
 ghost use Rattle.std.specs.Prelude.{IsTrue};
 ghost use Rattle.std.specs.List.{AllByRecursion};
 ghost use Rattle.couch_json.specs.Canonical.{canonical};
@@ -21,10 +21,14 @@ ghost use Rattle.tree.specs.History.{behind, held_of, is_deleted};
 ghost use Rattle.tree.specs.Nodes.{entries_before, next_of};
 ghost use Rattle.tree.specs.Revision.{is_revision};
 ghost use Rattle.tree.specs.Write.{head};
+ghost use Rattle.transactions.specs.Commits.{IsUnwritten};
 ghost use Rattle.transactions.specs.Inserting.{InsertsAll, IsBest, IsLawfulAddition, IsPlaced, entries_of, unknown_in};
+ghost use Rattle.transactions.specs.Reading.{HasBest, IsMissed};
 
+use crate::commit_fault::CommitFault;
+use crate::history_fault::HistoryFault;
 use couch_json::canon;
-use sqlite::{Alter, Error, ErrorCode, Transaction};
+use sqlite::{Alter, Error, Transaction};
 use std::alloc::Global;
 use store::Write;
 use tables::databases::advance_database;
@@ -178,17 +182,16 @@ fn insert_revisions<S: Alter>(
     db: &i64,
     history: &History,
     write: &Write,
-) -> Result<(), Error>
+) -> Result<(), CommitFault>
     ensures same_reference { tx.new.conn.ghost_name ≡ tx.old.conn.ghost_name }
     ensures ok { InsertsAll S.Store (unknown_in history.now (entries_of history.now (addition_of write.now))) db.now (addition_of write.now).id tx.old.conn.now tx.new.conn.now result }
+    ensures err { IfErr result (IsUnwritten ⊤) }
     ensures lawful { OnOk result (IsLawfulAddition (addition_of write.now)) }
     ensures proceeds { Proceeds S.Store tx.old.conn.now tx.new.conn.now }
 {
     let id = write.id.as_str();
     walk_path(&write.path);
-    let Ok(text) = canon(alloc, &write.body) else {
-        return Err(Error::SqliteFailure(ErrorCode::OutOfMemory));
-    };
+    let text = canon(alloc, &write.body)?;
     let parent = known_parent(history, &write.parent);
     insert_path(
         tx,
@@ -199,7 +202,8 @@ fn insert_revisions<S: Alter>(
         &parent,
         write.deleted,
         text.as_str(),
-    )
+    )?;
+    Ok(())
 }
 
 /// Puts the row of a document in the place of the one of its id.
@@ -232,17 +236,16 @@ fn is_deleted(history: &History, rev: &Rev) -> bool
 }
 
 /// Returns the text of the best revision, and whether it is deleted.
-fn best_of(alloc: Global, history: &History) -> Result<(String, bool), Error>
-    ensures { IfOk result (λ best. IsBest history.now (string_bytes best.0) best.1) }
+fn best_of(alloc: Global, history: &History) -> Result<(String, bool), HistoryFault>
+    ensures ok { IfOk result (λ best. IsBest history.now (string_bytes best.0) best.1) }
+    ensures err { IfErr result (IsMissed history.now) }
 {
     let Some(rev) = history.winner() else {
-        return Err(Error::QueryReturnedNoRows);
+        return Err(HistoryFault::Damaged);
     };
     let deleted = is_deleted(history, rev);
-    match rev.text(alloc) {
-        Ok(text) => Ok((text, deleted)),
-        Err(_) => Err(Error::SqliteFailure(ErrorCode::OutOfMemory)),
-    }
+    let text = rev.text(alloc)?;
+    Ok((text, deleted))
 }
 
 /// Returns the parent of a write where the history knows it.
@@ -264,23 +267,23 @@ pub(crate) fn add_write<S: Alter>(
     sequence: &i64,
     history: &mut History,
     write: &Write,
-) -> Result<(), Error>
+) -> Result<(), CommitFault>
     ensures same_reference { tx.new.conn.ghost_name ≡ tx.old.conn.ghost_name }
     ensures ok { (r : Row) → HasCleanDisk (state S.Store tx.new.conn.now) → IsStore (state S.Store tx.old.conn.now).now
         → history.old ≡ history_in ((state S.Store tx.old.conn.now).now.trees revs_tree) (number_of r) (addition_of write.now).id
         → db.now ≡ number_of r → sequence.now ≡ pos (length_of r + 1)
         → OnOk result (IsWrite r (written_in history.old (addition_of write.now)) (state S.Store tx.old.conn.now).now (state S.Store tx.new.conn.now).now) }
     ensures after { OnOk result (history.new ≡ with_addition history.old (addition_of write.now)) }
+    ensures err { IfErr result (IsUnwritten (HasBest (with_addition history.old (addition_of write.now)))) }
     ensures lawful { OnOk result (IsLawfulAddition (addition_of write.now)) }
     ensures inside { Stays S.Store tx.old.conn.now tx.new.conn.now result }
     ensures proceeds { Proceeds S.Store tx.old.conn.now tx.new.conn.now }
 {
     insert_revisions(alloc, tx, db, history, write)?;
-    let Ok(()) = history.put(&write.path, write.parent, write.deleted, &write.body) else {
-        return Err(Error::SqliteFailure(ErrorCode::OutOfMemory));
-    };
+    history.put(&write.path, write.parent, write.deleted, &write.body)?;
     let (text, deleted) = best_of(alloc, history)?;
     let id = write.id.as_str().as_bytes();
     replace_document(tx, db, id, sequence, text.as_str(), deleted)?;
-    advance_database(tx, db, sequence)
+    advance_database(tx, db, sequence)?;
+    Ok(())
 }

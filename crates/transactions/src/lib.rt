@@ -2,12 +2,13 @@
 #![tactic(auto)]
 
 mod changes;
+mod commit_fault;
 mod commits;
 mod document_write;
 mod histories;
-mod write_fault;
+mod history_fault;
 
 pub use changes::{add_database, begin_tables, change_security, remove_database, write_local};
+pub use commit_fault::CommitFault;
 pub use commits::{commit_writes, integer_of};
 pub use histories::read_history;
-pub use write_fault::WriteFault;

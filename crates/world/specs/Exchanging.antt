@@ -1,6 +1,6 @@
 -- What comes of an exchange of a pass: one request at one node, whose reply the pass takes in.
 -- CouchDB manual, replication/protocol; losses are this project's own.
-use Rattle.std.specs.Prelude.{◌≡◌, ◌⊎◌, ℕ, Bool, true, false, List, [], ◌∷◌, Some}
+use Rattle.std.specs.Prelude.{◌≡◌, ℕ, Bool, true, false, List, [], ◌∷◌, Some}
 use Rattle.couch_http.specs.Message.{Message}
 use Rattle.couch_http.specs.Reply.{Reply}
 use Rattle.node.specs.Step.{Serving}
@@ -17,10 +17,9 @@ pub record IsReplied {S : Type 0} (step : StepOf S) (old : List (Serving S)) (pl
   pub handled : IsHandled step old place m reply new
   pub outcome : said reply
 
--- A reply has come: the status that is seen, and the pass afterwards. Where memory for taking the reply in is wanting, it is lost.
+-- a reply has come: its status is seen, and the pass has taken it in
 abbrev pub IsTaken : Pass → Reply → ℕ → Pass → Type 0
-IsTaken before reply status after =
-    ((status ≡ reply.status) × (after ≡ answered_of before reply.status reply.body)) ⊎ ((status ≡ 0) × (after ≡ lost_of before))
+IsTaken before reply status after = (status ≡ reply.status) × (after ≡ answered_of before reply.status reply.body)
 
 -- A pass that asks a node of this number, by the fate of its request and the reply: the status that is seen, 0 for none, the
 -- nodes, and the pass afterwards.

@@ -1,6 +1,6 @@
 -- What nodes reply to requests that arrive one after another, each at the node of its connection.
 -- RFC 9112, section 9.3.2, for the order on a connection; between connections they are served as they arrive.
-use Rattle.std.specs.Prelude.{◌≡◌, ◌≢◌, ℕ, List, [], ◌∷◌, Some, slice_set}
+use Rattle.std.specs.Prelude.{◌≡◌, ℕ, List, [], ◌∷◌, Some, slice_set}
 use Rattle.std.specs.List.{slice_get}
 use Rattle.auth.specs.Callers.{Configuration}
 use Rattle.couch_http.specs.Message.{Message}

@@ -1,5 +1,5 @@
 -- A local document that is written has a body.
-use Rattle.std.proofs.Common.{◌≡◌, ℕ, Bool, true, false, List, Option, Some, None, option_map, Result, Ok, refl, ap, sym, subst}
+use Rattle.std.proofs.Common.{◌≡◌, ℕ, Bool, true, false, List, Option, Some, None, option_map, Result, Ok, refl, ap, subst}
 use Rattle.couch_json.specs.Value.{Value, null, truth, whole, text, array, object}
 use Rattle.store.specs.Lawful.{IsBody}
 use Rattle.store.specs.declared.local_document.LocalDocument.{LocalDocument}

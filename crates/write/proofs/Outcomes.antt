@@ -1,5 +1,5 @@
 -- What is known of a write that was accepted, and of one that was denied.
-use Rattle.std.proofs.Common.{◌≡◌, ◌⊎◌, ◌==◌, ℕ, Bool, true, false, cond, List, length, Option, Some, None, option_and_then, Result, Ok, Err, refl, sym, ap, subst, ◌∙◌, inl, inr}
+use Rattle.std.proofs.Common.{◌≡◌, ◌⊎◌, ◌==◌, ℕ, Bool, true, false, cond, List, length, Option, Some, None, option_map, Result, Ok, Err, refl, sym, ap, subst, ◌∙◌, inl, inr}
 use Rattle.couch_json.specs.Value.{Value}
 use Rattle.policy.specs.Argument.{argument}
 use Rattle.policy.specs.UpdateRules.{update_verdict}
@@ -13,13 +13,15 @@ use Rattle.tree.specs.declared.placement.Placed.{Placed}
 use Rattle.tree.specs.declared.placement.Placed.TheVariants.{Added, Known}
 use Rattle.tree.specs.declared.placement.TreeFault.{TreeFault}
 use Rattle.tree.specs.declared.placement.TreeFault.TheVariants.{BadPath}
-use Rattle.store.specs.Database.{DocumentWrite}
-use Rattle.write.specs.Admission.{ancestors, ancestry_outcome, ancestry_placement, appended_edit, base, design_refusal, held_document, document_of, edit_after, edit_by, edit_with_revision, edit_of, edit_outcome, edit_path, nearest_held, placement_outcome, replicated_by, replicated_outcome, revision_after, rule_refusal, unless_denied, write_at}
-use Rattle.write.specs.Denials.{EditHasLeave, EditIsDueTo, HasLeave, IsDesignDenial, IsDueTo, IsUpdateDenial, ReplicationHasLeave, ReplicationIsDueTo}
+use Rattle.auth.specs.Callers.{Identity}
+use Rattle.store.specs.Contents.{IfThere}
+use Rattle.store.specs.Database.{Database, DocumentWrite}
+use Rattle.write.specs.Admission.{ancestors, ancestry_outcome, ancestry_placement, appended_edit, base, design_refusal, held_document, document_of, edit_after, edit_by, edit_with_revision, edit_of, edit_outcome, edit_path, is_known_if_any, nearest_held, placement_outcome, replicated_by, replicated_outcome, revision_after, rule_refusal, unless_denied, unnamed_deletion, write_at}
+use Rattle.write.specs.Denials.{EditHasLeave, EditIsDueTo, HasLeave, IsDesignDenial, IsEditDenial, IsReplicationDenial, IsUpdateDenial, ReplicationHasLeave, ReplicationIsDueTo}
 use Rattle.write.specs.Document.{Ancestry, ancestry_in, sent_in}
-use Rattle.write.specs.Bulk.{DocumentOutcome, as_outcome}
+use Rattle.write.specs.Bulk.{as_outcome}
 use Rattle.write.specs.IndexWrites.{has_index, index_document, index_outcome}
-use Rattle.write.specs.Terms.{Terms}
+use Rattle.write.specs.Terms.{Terms, terms_in}
 use Rattle.write.specs.declared.document.Sent.{Sent}
 use Rattle.write.specs.declared.fault.WriteFault.{WriteFault}
 use Rattle.write.specs.declared.fault.WriteFault.TheVariants.{Conflict, Denied, Generation}
@@ -119,28 +121,29 @@ edit_accepted terms id h query document v e = by_edit terms id h query document 
 -- ---- denied edits
 
 made_denied : (terms : Terms) (id : List ℕ) (h : HistoryContent) (sent : Sent) (parent next : Option Revision) (rule : Rule)
-    → edit_with_revision terms id h sent parent next ≡ Err (Denied rule) → IsUpdateDenial terms id h sent parent rule
-made_denied terms id h sent parent None rule e = by (denied_by (rule_refusal terms id h sent parent) (Err Generation) rule e)
+    → edit_with_revision terms id h sent parent next ≡ Err (Denied rule) → (is_known_if_any h next ≡ false) × IsUpdateDenial terms id h sent parent rule
+made_denied terms id h sent parent next rule e = by (is_known_if_any h next) refl e
   where
-    by : (rule_refusal terms id h sent parent ≡ Some rule) ⊎ (appended_edit id h sent parent None ≡ Err (Denied rule)) → IsUpdateDenial terms id h sent parent rule
-    by (inl k) = update_denial terms id h sent parent rule k
-    by (inr k) = absurd cc
-made_denied terms id h sent parent (Some r) rule e = by (is_known h r) e
-  where
-    of_rule : (rule_refusal terms id h sent parent ≡ Some rule) ⊎ (appended_edit id h sent parent (Some r) ≡ Err (Denied rule)) → IsUpdateDenial terms id h sent parent rule
-    of_rule (inl k) = update_denial terms id h sent parent rule k
-    of_rule (inr k) = absurd cc
+    appended : (next : Option Revision) → appended_edit id h sent parent next ≡ Err (Denied rule) → ⊥
+    appended None k = cc
+    appended (Some r) k = cc
 
-    by : (known : Bool)
-        → cond known (Err Conflict) (unless_denied (rule_refusal terms id h sent parent) (appended_edit id h sent parent (Some r))) ≡ Err (Denied rule)
-        → IsUpdateDenial terms id h sent parent rule
-    by true e = absurd cc
-    by false e = of_rule (denied_by (rule_refusal terms id h sent parent) (appended_edit id h sent parent (Some r)) rule e)
+    of_rule : (rule_refusal terms id h sent parent ≡ Some rule) ⊎ (appended_edit id h sent parent next ≡ Err (Denied rule)) → IsUpdateDenial terms id h sent parent rule
+    of_rule (inl k) = update_denial terms id h sent parent rule k
+    of_rule (inr k) = absurd (appended next k)
+
+    by : (known : Bool) → is_known_if_any h next ≡ known
+        → cond known (Err Conflict) (unless_denied (rule_refusal terms id h sent parent) (appended_edit id h sent parent next)) ≡ Err (Denied rule)
+        → (is_known_if_any h next ≡ false) × IsUpdateDenial terms id h sent parent rule
+    by true is e = absurd cc
+    by false is e = (is, of_rule (denied_by (rule_refusal terms id h sent parent) (appended_edit id h sent parent next) rule e))
 
 base_denied : (terms : Terms) (id : List ℕ) (h : HistoryContent) (sent : Sent) (parent : Option (Option Revision)) (rule : Rule)
-    → edit_after terms id h sent parent ≡ Err (Denied rule) → IsUpdateDenial terms id h sent (option_and_then (λ r. r) parent) rule
-base_denied terms id h sent None rule e = absurd cc
-base_denied terms id h sent (Some parent) rule e = made_denied terms id h sent parent (revision_after sent parent) rule e
+    → base h sent.rev ≡ parent → edit_after terms id h sent parent ≡ Err (Denied rule) → IsEditDenial terms id h sent rule
+base_denied terms id h sent None rule follows e = absurd cc
+base_denied terms id h sent (Some parent) rule follows e =
+    let k = made_denied terms id h sent parent (revision_after sent parent) rule e in
+    record { parent = parent; follows = follows; unknown = k.0; due = k.1 }
 
 edit_by-denied : (terms : Terms) (id : List ℕ) (h : HistoryContent) (query : Option Revision) (document : Value) (edit : Option Sent) (rule : Rule)
     → edit_of id query document ≡ edit → edit_by terms id h edit ≡ Err (Denied rule) → EditIsDueTo terms id h query document rule
@@ -149,13 +152,33 @@ edit_by-denied terms id h query document (Some sent) rule says e =
     record { sent = sent; says = says; due = by (denied_by (design_refusal terms id) (edit_after terms id h sent (base h sent.rev)) rule e) }
   where
     by : (design_refusal terms id ≡ Some rule) ⊎ (edit_after terms id h sent (base h sent.rev) ≡ Err (Denied rule))
-        → IsDueTo terms id h sent (option_and_then (λ parent. parent) (base h sent.rev)) rule
+        → IsDesignDenial terms id rule ⊎ IsEditDenial terms id h sent rule
     by (inl k) = inl (design_denial terms id rule k)
-    by (inr k) = inr (base_denied terms id h sent (base h sent.rev) rule k)
+    by (inr k) = inr (base_denied terms id h sent (base h sent.rev) rule refl k)
 
 pub edit_denied : (terms : Terms) (id : List ℕ) (h : HistoryContent) (query : Option Revision) (document : Value) (rule : Rule)
     → edit_outcome terms id h query document ≡ Err (Denied rule) → EditIsDueTo terms id h query document rule
 edit_denied terms id h query document rule e = edit_by-denied terms id h query document (edit_of id query document) rule refl e
+
+abbrev conflicting : Result DocumentWrite WriteFault
+conflicting = Err Conflict
+
+-- a deletion that names no revision is denied as a design document alone
+pub unnamed_denied : (terms : Terms) (id : List ℕ) (rule : Rule) → unnamed_deletion terms id ≡ Err (Denied rule) → IsDesignDenial terms id rule
+unnamed_denied terms id rule e = by (denied_by (design_refusal terms id) conflicting rule e)
+  where
+    by : (design_refusal terms id ≡ Some rule) ⊎ (conflicting ≡ Err (Denied rule)) → IsDesignDenial terms id rule
+    by (inl k) = design_denial terms id rule k
+    by (inr k) = absurd cc
+
+-- in a database with this security object it is refused by the rule that was found, or else for the conflict
+pub unnamed_refused : (caller : Identity) (name id : List ℕ) (security : Value) (stored : Option Database) (found : Option Rule) (fault : WriteFault)
+    → option_map (λ d. d.security) stored ≡ Some security → found ≡ cond (is_design_id id) (verdict WriteDesign caller security) None
+    → unless_denied {A = DocumentWrite} found (Err Conflict) ≡ Err fault → IfThere stored (λ d. unnamed_deletion (terms_in caller name d) id ≡ Err fault)
+unnamed_refused caller name id security None found fault is by e = tt
+unnamed_refused caller name id security (Some d) found fault is by e =
+    let same : security ≡ d.security = cc in
+    subst (λ (o : Option Rule). unless_denied {A = DocumentWrite} o (Err Conflict) ≡ Err fault) (by ∙ ap (λ (s : Value). cond (is_design_id id) (verdict WriteDesign caller s) None) same) e
 
 -- ---- indexes
 
@@ -163,17 +186,17 @@ as_outcome-denied : (r : Result DocumentWrite WriteFault) (rule : Rule) → as_o
 as_outcome-denied (Ok w) rule e = absurd cc
 as_outcome-denied (Err fault) rule e = cc
 
-design_alone : (terms : Terms) (id : List ℕ) (h : HistoryContent) (sent : Sent) (rev : Option Revision) (rule : Rule) → is_design_id id ≡ true
-    → IsDueTo terms id h sent rev rule → IsDesignDenial terms id rule
-design_alone terms id h sent rev rule design (inl k) = k
-design_alone terms id h sent rev rule design (inr k) = absurd (let wrong : true ≡ false = sym design ∙ k.other in cc)
+design_alone : (terms : Terms) (id : List ℕ) (h : HistoryContent) (sent : Sent) (rule : Rule) → is_design_id id ≡ true
+    → IsDesignDenial terms id rule ⊎ IsEditDenial terms id h sent rule → IsDesignDenial terms id rule
+design_alone terms id h sent rule design (inl k) = k
+design_alone terms id h sent rule design (inr k) = absurd (let wrong : true ≡ false = sym design ∙ k.due.other in cc)
 
 -- the edit of a design document is denied as one alone
 design_edit_denied : (terms : Terms) (id : List ℕ) (h : HistoryContent) (query : Option Revision) (document : Value) (rule : Rule) → is_design_id id ≡ true
     → edit_outcome terms id h query document ≡ Err (Denied rule) → IsDesignDenial terms id rule
 design_edit_denied terms id h query document rule design e =
     let k = edit_denied terms id h query document rule e in
-    design_alone terms id h k.sent (option_and_then (λ parent. parent) (base h k.sent.rev)) rule design k.due
+    design_alone terms id h k.sent rule design k.due
 
 index_edit_denied : (has : Bool) (r : Result DocumentWrite WriteFault) (rule : Rule) → cond has (Ok None) (as_outcome r) ≡ Err (Denied rule) → r ≡ Err (Denied rule)
 index_edit_denied true r rule e = absurd cc
@@ -208,6 +231,7 @@ pub record IsReplicated (terms : Terms) (id : List ℕ) (h : HistoryContent) (do
   pub says : sent_in id document ≡ Some sent
   pub leads : ancestry_in document sent.rev ≡ Some ancestry
   pub allowed : design_refusal terms id ≡ None
+  pub whole : ancestry_placement h ancestry ≡ placement h ancestry.path
   pub taken : IsTaken terms id h sent ancestry.path w
 
 whole_placed : (h : HistoryContent) (ancestry : Ancestry) (placed : Placed) → ancestry_placement h ancestry ≡ Ok placed → placement h ancestry.path ≡ Ok placed
@@ -229,6 +253,11 @@ taken_by terms id h sent ancestry (Ok Added) (Some v) is e =
     undenied (rule_refusal terms id h sent (nearest_held h (ancestors ancestry.path))) (Ok (Some (write_at id ancestry.path sent))) (Some v) e in
     (whole_placed h ancestry Added is, cc, unrefused (rule_refusal terms id h sent (nearest_held h (ancestors ancestry.path))) (Ok (Some (write_at id ancestry.path sent))) (Some v) e)
 
+whole_by : (terms : Terms) (id : List ℕ) (h : HistoryContent) (sent : Sent) (ancestry : Ancestry) (placed : Result Placed TreeFault) (w : Option DocumentWrite)
+    → ancestry_placement h ancestry ≡ placed → placement_outcome terms id h sent ancestry.path placed ≡ Ok w → ancestry_placement h ancestry ≡ placement h ancestry.path
+whole_by terms id h sent ancestry (Err fault) w is e = absurd cc
+whole_by terms id h sent ancestry (Ok placed) w is e = is ∙ sym (whole_placed h ancestry placed is)
+
 by_ancestry : (terms : Terms) (id : List ℕ) (h : HistoryContent) (document : Value) (sent : Sent) (ancestry : Option Ancestry) (w : Option DocumentWrite)
     → sent_in id document ≡ Some sent → ancestry_in document sent.rev ≡ ancestry → ancestry_outcome terms id h sent ancestry ≡ Ok w → IsReplicated terms id h document w
 by_ancestry terms id h document sent None w says leads e = absurd cc
@@ -239,6 +268,8 @@ by_ancestry terms id h document sent (Some ancestry) w says leads e =
       says = says;
       leads = leads;
       allowed = unrefused (design_refusal terms id) (placement_outcome terms id h sent ancestry.path (ancestry_placement h ancestry)) w e;
+      whole = whole_by terms id h sent ancestry (ancestry_placement h ancestry) w refl
+          (undenied (design_refusal terms id) (placement_outcome terms id h sent ancestry.path (ancestry_placement h ancestry)) w e);
       taken = taken_by terms id h sent ancestry (ancestry_placement h ancestry) w refl
           (undenied (design_refusal terms id) (placement_outcome terms id h sent ancestry.path (ancestry_placement h ancestry)) w e);
     }
@@ -254,16 +285,16 @@ replicated_accepted terms id h document w e = by_sent terms id h document (sent_
 
 -- ---- denied replicated writes
 
-placed_denied : (terms : Terms) (id : List ℕ) (h : HistoryContent) (sent : Sent) (path : List Revision) (placed : Result Placed TreeFault) (rule : Rule)
-    → placement_outcome terms id h sent path placed ≡ Err (Denied rule) → IsUpdateDenial terms id h sent (nearest_held h (ancestors path)) rule
-placed_denied terms id h sent path (Err fault) rule e = absurd cc
-placed_denied terms id h sent path (Ok Known) rule e = absurd cc
-placed_denied terms id h sent path (Ok Added) rule e =
-    by (denied_by (rule_refusal terms id h sent (nearest_held h (ancestors path))) (Ok (Some (write_at id path sent))) rule e)
+placed_denied : (terms : Terms) (id : List ℕ) (h : HistoryContent) (sent : Sent) (ancestry : Ancestry) (placed : Result Placed TreeFault) (rule : Rule)
+    → ancestry_placement h ancestry ≡ placed → placement_outcome terms id h sent ancestry.path placed ≡ Err (Denied rule) → IsReplicationDenial terms id h sent ancestry rule
+placed_denied terms id h sent ancestry (Err fault) rule is e = absurd cc
+placed_denied terms id h sent ancestry (Ok Known) rule is e = absurd cc
+placed_denied terms id h sent ancestry (Ok Added) rule is e =
+    record { placed = is; due = by (denied_by (rule_refusal terms id h sent (nearest_held h (ancestors ancestry.path))) (Ok (Some (write_at id ancestry.path sent))) rule e) }
   where
-    by : (rule_refusal terms id h sent (nearest_held h (ancestors path)) ≡ Some rule) ⊎ (Ok (Some (write_at id path sent)) ≡ Err (Denied rule))
-        → IsUpdateDenial terms id h sent (nearest_held h (ancestors path)) rule
-    by (inl k) = update_denial terms id h sent (nearest_held h (ancestors path)) rule k
+    by : (rule_refusal terms id h sent (nearest_held h (ancestors ancestry.path)) ≡ Some rule) ⊎ (Ok (Some (write_at id ancestry.path sent)) ≡ Err (Denied rule))
+        → IsUpdateDenial terms id h sent (nearest_held h (ancestors ancestry.path)) rule
+    by (inl k) = update_denial terms id h sent (nearest_held h (ancestors ancestry.path)) rule k
     by (inr k) = absurd cc
 
 ancestry_denied : (terms : Terms) (id : List ℕ) (h : HistoryContent) (document : Value) (sent : Sent) (ancestry : Option Ancestry) (rule : Rule)
@@ -280,9 +311,9 @@ ancestry_denied terms id h document sent (Some ancestry) rule says leads e =
     }
   where
     by : (design_refusal terms id ≡ Some rule) ⊎ (placement_outcome terms id h sent ancestry.path (ancestry_placement h ancestry) ≡ Err (Denied rule))
-        → IsDueTo terms id h sent (nearest_held h (ancestors ancestry.path)) rule
+        → IsDesignDenial terms id rule ⊎ IsReplicationDenial terms id h sent ancestry rule
     by (inl k) = inl (design_denial terms id rule k)
-    by (inr k) = inr (placed_denied terms id h sent ancestry.path (ancestry_placement h ancestry) rule k)
+    by (inr k) = inr (placed_denied terms id h sent ancestry (ancestry_placement h ancestry) rule refl k)
 
 sent_denied : (terms : Terms) (id : List ℕ) (h : HistoryContent) (document : Value) (sent : Option Sent) (rule : Rule)
     → sent_in id document ≡ sent → replicated_by terms id h document sent ≡ Err (Denied rule) → ReplicationIsDueTo terms id h document rule
@@ -312,9 +343,11 @@ edit_leave terms id h query document v e =
     let k = edit_accepted terms id h query document v e in
     record {
       sent = k.sent;
+      parent = k.parent;
       says = k.says;
-      leave = subst (λ parent. HasLeave terms id h k.sent (option_and_then (λ p. p) parent)) (sym k.follows)
-          (leave terms id h k.sent k.parent (edit_allowed terms id h (edit_of id query document) v e) k.ruled);
+      follows = k.follows;
+      unknown = ap (is_known_if_any h) k.makes ∙ k.unknown;
+      leave = leave terms id h k.sent k.parent (edit_allowed terms id h (edit_of id query document) v e) k.ruled;
     }
 
 pub replicated_leave : (terms : Terms) (id : List ℕ) (h : HistoryContent) (document : Value) (v : DocumentWrite)
@@ -326,5 +359,6 @@ replicated_leave terms id h document v e =
       ancestry = k.ancestry;
       says = k.says;
       leads = k.leads;
+      placed = k.whole ∙ k.taken.0;
       leave = leave terms id h k.sent (nearest_held h (ancestors k.ancestry.path)) k.allowed k.taken.2;
     }

@@ -124,6 +124,11 @@ edit_outcome terms id h query document = edit_by terms id h (edit_of id query do
 abbrev pub admission : Terms → Database → List ℕ → Option Revision → Value → Result DocumentWrite WriteFault
 admission terms db id query document = edit_outcome terms id (history_at db id) query document
 
+-- what becomes of a deletion that names no revision: there is nothing that it may follow, which is a conflict where the caller may write the
+-- document at all
+abbrev pub unnamed_deletion : Terms → List ℕ → Result DocumentWrite WriteFault
+unnamed_deletion terms id = unless_denied (design_refusal terms id) (Err Conflict)
+
 -- the revision that a write makes
 abbrev pub new_revision : DocumentWrite → Option Revision
 new_revision w = head w.write.path

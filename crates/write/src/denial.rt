@@ -1,17 +1,21 @@
 //! The rules that refuse a write.
 
-ghost use Rattle.std.specs.Prelude.{◌≡◌, IfOk, is_some, option_map};
+ghost use Rattle.std.specs.Prelude.{◌≡◌, IfOk, None, if◌then◌else◌, is_some, option_map};
 ghost use Rattle.couch_json.specs.View.{view};
 ghost use Rattle.tree.specs.History.{held_of};
 ghost use Rattle.policy.specs.Argument.{old_document};
 ghost use Rattle.policy.specs.UpdateRules.{update_verdict};
+ghost use Rattle.policy.specs.Verdict.{verdict};
+ghost use Rattle.policy.specs.declared.action.Action.TheVariants.{WriteDesign};
+ghost use Rattle.tree.specs.DocumentId.{is_design_id};
 ghost use Rattle.write.specs.Admission.{ancestors, design_refusal, held_document, nearest_held, rule_refusal};
 ghost use Rattle.write.specs.TermsRead.{terms_of};
 
 use crate::document::Sent;
 use crate::terms::Terms;
+use auth::Caller;
 use couch_json::{Got, Json};
-use policy::{Action, Rule, argument, refusal, show_new};
+use policy::{Action, Rule, Security, argument, refusal, show_new};
 use std::alloc::Global;
 use tree::{DocId, History, Rev, show};
 
@@ -19,8 +23,16 @@ use tree::{DocId, History, Rev, show};
 pub(crate) fn find_design_refusal(terms: &Terms, id: &DocId) -> Option<Rule>
     ensures { result ≡ design_refusal (terms_of terms.now) id.now }
 {
+    find_design_rule(terms.caller, &terms.security, id)
+}
+
+/// Finds the rule by which this caller may not write this document under a security object, whatever it
+/// says: who is no admin of the database writes no design document.
+pub(crate) fn find_design_rule(caller: &Caller, security: &Security, id: &DocId) -> Option<Rule>
+    ensures { result ≡ (if is_design_id id.now then verdict WriteDesign caller.now security.now else None) }
+{
     if id.is_design() {
-        refusal(Action::WriteDesign, terms.caller, &terms.security)
+        refusal(Action::WriteDesign, caller, security)
     } else {
         None
     }

@@ -11,9 +11,9 @@ ghost use Rattle.tree.specs.declared.placement.TreeFault.{TreeFault};
 ghost use Rattle.store.specs.Contents.{AreAcceptable, IsAcceptable};
 ghost use Rattle.store.specs.Database.{Database, DocumentWrite, history_at, with_all};
 ghost use Rattle.store.specs.Lawful.{IsLawful};
-ghost use Rattle.write.specs.Admission.{admission, base, edit_path, replication};
+ghost use Rattle.write.specs.Admission.{admission, base, edit_path, replication, unnamed_deletion};
 ghost use Rattle.write.specs.Bulk.{Histories, DocumentOutcome, outcome_in, outcomes, writes_in};
-ghost use Rattle.write.specs.Denials.{EditHasLeave, EditIsDueTo, ReplicationHasLeave, ReplicationIsDueTo};
+ghost use Rattle.write.specs.Denials.{EditHasLeave, EditIsDueTo, IsDesignDenial, ReplicationHasLeave, ReplicationIsDueTo};
 ghost use Rattle.write.specs.Settling.{AreKnownOrRefused, after_all};
 ghost use Rattle.write.specs.Terms.{Terms};
 ghost use Rattle.write.specs.declared.fault.WriteFault.TheVariants.{Denied};
@@ -60,16 +60,20 @@ pub fn plans_are_acceptable()
 
 /// A denial names the first rule that refuses: of a design document the first condition on writing
 /// one that the caller doesn't meet, of another document the first update rule of the terms that does
-/// not hold of it.
+/// not hold of it. An update rule denies only where the document could be written else: an edit follows
+/// a leaf that was found and its revision is not known, a replicated document has a place in the tree.
+/// A deletion that names no revision is denied of a design document alone.
 pub fn denials_name_the_first_refusing_rule()
     ensures edited { (terms : Terms) (db : Database) (id : List ℕ) (query : Option Revision) (document : Value) (rule : Rule)
         → admission terms db id query document ≡ Err (Denied rule) → EditIsDueTo terms id (history_at db id) query document rule }
     ensures replicated { (terms : Terms) (db : Database) (id : List ℕ) (document : Value) (rule : Rule)
         → replication terms db id document ≡ Err (Denied rule) → ReplicationIsDueTo terms id (history_at db id) document rule }
+    ensures unnamed { (terms : Terms) (id : List ℕ) (rule : Rule) → unnamed_deletion terms id ≡ Err (Denied rule) → IsDesignDenial terms id rule }
 {}
 
 /// A write that is appended is refused by no rule: a design document's caller may write it, and of
-/// another document each update rule of the terms holds.
+/// another document each update rule of the terms holds. An edit has followed a leaf that was found,
+/// and its revision was not known; a replicated document had a place in the tree.
 pub fn appended_writes_have_leave()
     ensures edited { (terms : Terms) (db : Database) (id : List ℕ) (query : Option Revision) (document : Value) (w : DocumentWrite)
         → admission terms db id query document ≡ Ok w → EditHasLeave terms id (history_at db id) query document }

@@ -14,6 +14,7 @@ mod admission;
 mod ancestry;
 mod applying;
 mod bulk_writes;
+mod deleting;
 mod denial;
 mod document;
 mod editing;
@@ -30,6 +31,7 @@ mod terms;
 
 pub use applying::apply;
 pub use bulk_writes::bulk;
+pub use deleting::judge_unnamed_deletion;
 pub use editing::edit;
 pub use fault::WriteFault;
 pub use index_writes::put_index;

@@ -24,6 +24,9 @@ const GREATEST_NUMBER: u32 = 2_147_483_647;
 
 /// Plans what becomes of a local document that is written. It reads the store and changes nothing.
 ///
+/// The id is a local one, `_local/` and a name: whoever reads a path sees to that, and it isn't tested
+/// here.
+///
 /// The first write names no revision, each later one names the stored one, `0-N`, by `_rev`, and
 /// makes `0-M` with M one greater. `BadDocument` comes if and only if the document is no object, has
 /// another special member than `_id` and `_rev`, another `_id` than this id, a `_rev` that is no text,

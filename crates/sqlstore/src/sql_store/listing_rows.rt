@@ -1,6 +1,6 @@
 //! The rows of the documents of a database, that a store reads.
 
-use crate::fault::judge;
+use crate::fault::judge_answer;
 use crate::sql_store::SqlStore;
 use sqlite::{Alter, Row};
 use store::StoreFault;
@@ -19,10 +19,8 @@ impl<S: Alter> SqlStore<S> {
         ensures judged { IfErr result (IsJudged self.old.faults self.new.faults) }
         ensures stands { Stands S.Store self.old self.new }
     {
-        match documents::rows_by_id(&mut self.conn, db) {
-            Ok(rows) => Ok(rows),
-            Err(error) => Err(judge(&mut self.faults, error)),
-        }
+        let rows = documents::rows_by_id(&mut self.conn, db);
+        judge_answer(&mut self.faults, rows)
     }
 
     /// Returns the rows of all documents of a database, by their sequences.
@@ -31,10 +29,8 @@ impl<S: Alter> SqlStore<S> {
         ensures judged { IfErr result (IsJudged self.old.faults self.new.faults) }
         ensures stands { Stands S.Store self.old self.new }
     {
-        match documents::rows_by_sequence(&mut self.conn, db) {
-            Ok(rows) => Ok(rows),
-            Err(error) => Err(judge(&mut self.faults, error)),
-        }
+        let rows = documents::rows_by_sequence(&mut self.conn, db);
+        judge_answer(&mut self.faults, rows)
     }
 
     /// Returns the rows of the documents whose ids lie between two, or are one of them.
@@ -48,10 +44,8 @@ impl<S: Alter> SqlStore<S> {
         ensures judged { IfErr result (IsJudged self.old.faults self.new.faults) }
         ensures stands { Stands S.Store self.old self.new }
     {
-        match documents::rows_between(&mut self.conn, db, first, last) {
-            Ok(rows) => Ok(rows),
-            Err(error) => Err(judge(&mut self.faults, error)),
-        }
+        let rows = documents::rows_between(&mut self.conn, db, first, last);
+        judge_answer(&mut self.faults, rows)
     }
 
     /// Returns the rows of the documents whose sequences are above one: the first of them, up to a limit,
@@ -66,9 +60,7 @@ impl<S: Alter> SqlStore<S> {
         ensures judged { IfErr result (IsJudged self.old.faults self.new.faults) }
         ensures stands { Stands S.Store self.old self.new }
     {
-        match documents::rows_after(&mut self.conn, db, sequence, limit) {
-            Ok(rows) => Ok(rows),
-            Err(error) => Err(judge(&mut self.faults, error)),
-        }
+        let rows = documents::rows_after(&mut self.conn, db, sequence, limit);
+        judge_answer(&mut self.faults, rows)
     }
 }

@@ -1,6 +1,6 @@
 //! The rows that a store reads.
 
-use crate::fault::judge;
+use crate::fault::judge_answer;
 use crate::sql_store::SqlStore;
 use sqlite::{Alter, Row};
 use store::StoreFault;
@@ -20,10 +20,8 @@ impl<S: Alter> SqlStore<S> {
         ensures judged { IfErr result (IsJudged self.old.faults self.new.faults) }
         ensures stands { Stands S.Store self.old self.new }
     {
-        match databases::database_rows(&mut self.conn, name) {
-            Ok(rows) => Ok(rows),
-            Err(error) => Err(judge(&mut self.faults, error)),
-        }
+        let rows = databases::database_rows(&mut self.conn, name);
+        judge_answer(&mut self.faults, rows)
     }
 
     /// Returns the rows of the names of all databases, in the order of their bytes.
@@ -32,10 +30,8 @@ impl<S: Alter> SqlStore<S> {
         ensures judged { IfErr result (IsJudged self.old.faults self.new.faults) }
         ensures stands { Stands S.Store self.old self.new }
     {
-        match databases::name_rows(&mut self.conn) {
-            Ok(rows) => Ok(rows),
-            Err(error) => Err(judge(&mut self.faults, error)),
-        }
+        let rows = databases::name_rows(&mut self.conn);
+        judge_answer(&mut self.faults, rows)
     }
 
     /// Returns the rows of the known revisions of a document, in some order.
@@ -44,10 +40,8 @@ impl<S: Alter> SqlStore<S> {
         ensures judged { IfErr result (IsJudged self.old.faults self.new.faults) }
         ensures stands { Stands S.Store self.old self.new }
     {
-        match revisions::revision_rows(&mut self.conn, db, id) {
-            Ok(rows) => Ok(rows),
-            Err(error) => Err(judge(&mut self.faults, error)),
-        }
+        let rows = revisions::revision_rows(&mut self.conn, db, id);
+        judge_answer(&mut self.faults, rows)
     }
 
     /// Returns the row of a local document, if there is one.
@@ -56,9 +50,7 @@ impl<S: Alter> SqlStore<S> {
         ensures judged { IfErr result (IsJudged self.old.faults self.new.faults) }
         ensures stands { Stands S.Store self.old self.new }
     {
-        match locals::local_rows(&mut self.conn, db, id) {
-            Ok(rows) => Ok(rows),
-            Err(error) => Err(judge(&mut self.faults, error)),
-        }
+        let rows = locals::local_rows(&mut self.conn, db, id);
+        judge_answer(&mut self.faults, rows)
     }
 }

@@ -1,4 +1,5 @@
 use Rattle.std.proofs.Common.{◌∙◌}
+use Rattle.lab.proofs.PlayLemmas.{OnOk-then}
 use Rattle.lab.proofs.RunLemmas.{run_ended, run_on, run_over}
 use Rattle.lab.proofs.showing.run.Goals as goal
 
@@ -16,5 +17,6 @@ loop-turn-preserved g c =
 
 pub returns-clause-ran : goal.returns-clause-ran
 returns-clause-ran g c =
-    run_over g.S.Store c.args.most c.loop-turn._turn c.args.repl c.args.name.now c.args.world.now c.loop-turn.world (g.W.Write.contents c.args.out.now) (g.W.Write.contents c.loop-turn.out)
-    c.loop-turn.invariant c.loop-turn-test.false
+    OnOk-then c.show_end.result c.show_end.ensures.said
+    (λ q. run_over g.S.Store c.args.most c.loop-turn._turn c.args.repl c.args.name.now q.0 c.args.world.now c.loop-turn.world c.show_end.new.world (g.W.Write.contents c.args.out.now)
+    (g.W.Write.contents c.loop-turn.out) (g.W.Write.contents c.show_end.new.out) c.loop-turn.invariant c.loop-turn-test.false q.1 q.2)

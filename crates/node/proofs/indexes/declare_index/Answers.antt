@@ -1,4 +1,4 @@
-use Rattle.std.proofs.Common.{◌≡◌, ℕ, List, [], ◌∷◌, Ok, ap, ◌∙◌, rules}
+use Rattle.std.proofs.Common.{◌≡◌, [], ◌∷◌, Ok, ap, ◌∙◌, rules}
 use Rattle.couch_json.specs.Value.{null}
 use Rattle.couch_json.specs.View.{view}
 use Rattle.find.specs.IndexRead.{index_asked}

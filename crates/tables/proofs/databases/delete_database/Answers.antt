@@ -1,12 +1,8 @@
 use Rattle.sqlite.specs.Held.{state}
-use Rattle.tables.proofs.DatabaseStatements.{deletes_database, delete_fails}
+use Rattle.tables.proofs.DatabaseStatements.{deletes_database}
 use Rattle.tables.proofs.databases.delete_database.Goals as goal
 
 pub returns-clause-ok : goal.returns-clause-ok
 returns-clause-ok g c clean has laid =
     deletes_database (state g.S.Store c.args.tx.now.conn.now) (state g.S.Store c.change.new.tx.conn.now) has laid c.args.number.now c.change.result
     (rw c.params-to_sql.ensures at (c.change.ensures.ok clean))
-
-pub returns-clause-err : goal.returns-clause-err
-returns-clause-err g c clean has fit =
-    delete_fails (state g.S.Store c.args.tx.now.conn.now) (state g.S.Store c.change.new.tx.conn.now) has fit c.args.number.now c.change.result (rw c.params-to_sql.ensures at (c.change.ensures.err clean))

@@ -1,21 +1,11 @@
 use Rattle.sqlite.specs.Held.{state}
-use Rattle.tables.proofs.Finds.{plain_in}
-use Rattle.tables.proofs.DocumentStatements.{range_text, range_is, range_fails, lists_range}
-use Rattle.tables.specs.Schema.{schema}
+use Rattle.tables.proofs.Finds.{reads_of}
+use Rattle.tables.proofs.DocumentStatements.{range_text, range_is, lists_range}
 use Rattle.tables.proofs.documents.rows_between.Goals as goal
 
-pub returns-clause-ok : goal.returns-clause-ok
-returns-clause-ok g c clean is =
-    lists_range (state g.S.Store c.args.conn.now) (state g.S.Store c.query.new.conn) is c.args.db.now c.query.result (λ rows. rows.items) c.args.first.now c.args.last.now
-    (rw (c.params-to_sql.ensures, c.params-to_sql-2.ensures, c.params-to_sql-3.ensures) at (c.query.ensures.ok clean))
-
-pub returns-clause-err : goal.returns-clause-err
-returns-clause-err g c clean has =
-    range_fails (state g.S.Store c.args.conn.now) (state g.S.Store c.query.new.conn) has c.args.db.now c.args.first.now c.args.last.now c.query.result
-    (rw (c.params-to_sql.ensures, c.params-to_sql-2.ensures, c.params-to_sql-3.ensures) at (c.query.ensures.err clean))
-
-pub returns-clause-stands : goal.returns-clause-stands
-returns-clause-stands g c has clean = c.query.ensures.stands (plain_in schema range_text _ range_is _ has) clean
-
-pub returns-clause-looks : goal.returns-clause-looks
-returns-clause-looks g c has = c.query.ensures.looks (plain_in schema range_text _ range_is _ has)
+pub returns : goal.returns
+returns g c =
+    let e = c.query.ensures in
+    reads_of g.S.Store c.args.conn.now c.query.new.conn range_text _ range_is c.query.result
+    (λ clean is. lists_range (state g.S.Store c.args.conn.now) (state g.S.Store c.query.new.conn) is c.args.db.now c.query.result (λ rows. rows.items) c.args.first.now c.args.last.now (rw (c.params-to_sql.ensures, c.params-to_sql-2.ensures, c.params-to_sql-3.ensures) at (e.ok clean)))
+    e.served e.stands e.looks e.asks

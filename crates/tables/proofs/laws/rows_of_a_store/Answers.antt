@@ -1,11 +1,8 @@
-use Rattle.tables.proofs.Laid.{shown_databases, shown_documents, shown_revisions, shown_locals}
+use Rattle.tables.proofs.Laid.{shown_databases, shown_revisions, shown_locals}
 use Rattle.tables.proofs.laws.rows_of_a_store.Goals as goal
 
 pub returns-clause-databases : goal.returns-clause-databases
 returns-clause-databases c = shown_databases
-
-pub returns-clause-documents : goal.returns-clause-documents
-returns-clause-documents c = shown_documents
 
 pub returns-clause-revisions : goal.returns-clause-revisions
 returns-clause-revisions c = shown_revisions

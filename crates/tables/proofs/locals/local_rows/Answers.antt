@@ -1,20 +1,11 @@
 use Rattle.sqlite.specs.Held.{state}
-use Rattle.tables.proofs.Finds.{plain_in}
-use Rattle.tables.proofs.LocalStatements.{find_text, find_is, find_fails, finds_local}
-use Rattle.tables.specs.Schema.{schema}
+use Rattle.tables.proofs.Finds.{reads_of}
+use Rattle.tables.proofs.LocalStatements.{find_text, find_is, finds_local}
 use Rattle.tables.proofs.locals.local_rows.Goals as goal
 
-pub returns-clause-ok : goal.returns-clause-ok
-returns-clause-ok g c clean is =
-    finds_local (state g.S.Store c.args.conn.now) (state g.S.Store c.query.new.conn) is c.args.db.now c.args.id.now c.query.result (λ rows. rows.items)
-    (rw (c.params-to_sql.ensures, c.params-to_sql-2.ensures) at (c.query.ensures.ok clean))
-
-pub returns-clause-err : goal.returns-clause-err
-returns-clause-err g c clean has =
-    find_fails (state g.S.Store c.args.conn.now) (state g.S.Store c.query.new.conn) has c.args.db.now c.args.id.now c.query.result (rw (c.params-to_sql.ensures, c.params-to_sql-2.ensures) at (c.query.ensures.err clean))
-
-pub returns-clause-stands : goal.returns-clause-stands
-returns-clause-stands g c has clean = c.query.ensures.stands (plain_in schema find_text _ find_is _ has) clean
-
-pub returns-clause-looks : goal.returns-clause-looks
-returns-clause-looks g c has = c.query.ensures.looks (plain_in schema find_text _ find_is _ has)
+pub returns : goal.returns
+returns g c =
+    let e = c.query.ensures in
+    reads_of g.S.Store c.args.conn.now c.query.new.conn find_text _ find_is c.query.result
+    (λ clean is. finds_local (state g.S.Store c.args.conn.now) (state g.S.Store c.query.new.conn) is c.args.db.now c.args.id.now c.query.result (λ rows. rows.items) (rw (c.params-to_sql.ensures, c.params-to_sql-2.ensures) at (e.ok clean)))
+    e.served e.stands e.looks e.asks

@@ -1,8 +1,15 @@
-use Rattle.std.proofs.Common.{ap, ◌∙◌}
+use Rattle.std.proofs.Common.{rules, ◌≡◌, Err, ap, ◌∙◌}
 use Rattle.tables.specs.Presence.{shows_first}
+use Rattle.tables.proofs.Finds.{reads_nothing, reads_so}
 use Rattle.tables.proofs.MetaStatements.{shows_version}
 use Rattle.tables.proofs.meta.is_first_version.Goals as goal
 
-pub returns-clause-ok : goal.returns-clause-ok
-returns-clause-ok g c clean has =
-    c.is_first.ensures ∙ ap shows_first c.deref.ensures.value ∙ shows_version _ _ (c.in_ok-rows.ensures.ok clean has)
+pub returns-in_err-rows : goal.returns-in_err-rows
+returns-in_err-rows g c =
+    let is : c.from_residual.result ≡ Err c.in_err-rows.field-0.0 = search rules in
+    reads_nothing g.S.Store c.args.conn.now c.version_rows.new.conn c.in_err-rows.field-0.0 c.from_residual.result is c.in_err-rows.ensures
+
+pub returns : goal.returns
+returns g c =
+    reads_so g.S.Store c.args.conn.now c.version_rows.new.conn c.in_ok-rows.rows c.is_first.result
+    (λ trees is. c.is_first.ensures ∙ ap shows_first c.deref.ensures.value ∙ shows_version _ _ is) c.in_ok-rows.ensures

@@ -1,21 +1,11 @@
 use Rattle.sqlite.specs.Held.{state}
-use Rattle.tables.proofs.Finds.{plain_in}
-use Rattle.tables.proofs.RevisionStatements.{find_text, find_is, find_fails, finds_revisions}
-use Rattle.tables.specs.Schema.{schema}
+use Rattle.tables.proofs.Finds.{reads_inside}
+use Rattle.tables.proofs.RevisionStatements.{find_text, find_is, finds_revisions}
 use Rattle.tables.proofs.reads_in.revision_rows_in.Goals as goal
 
-pub returns-clause-ok : goal.returns-clause-ok
-returns-clause-ok g c clean is =
-    finds_revisions (state g.S.Store c.args.tx.now.conn.now) (state g.S.Store c.query_in.new.tx.conn.now) is c.args.db.now c.args.id.now c.query_in.result (λ rows. rows.items)
-    (rw (c.params-to_sql.ensures, c.params-to_sql-2.ensures) at (c.query_in.ensures.ok clean))
-
-pub returns-clause-err : goal.returns-clause-err
-returns-clause-err g c clean has =
-    find_fails (state g.S.Store c.args.tx.now.conn.now) (state g.S.Store c.query_in.new.tx.conn.now) has c.args.db.now c.args.id.now c.query_in.result
-    (rw (c.params-to_sql.ensures, c.params-to_sql-2.ensures) at (c.query_in.ensures.err (plain_in schema find_text _ find_is _ has) clean))
-
-pub returns-clause-stands : goal.returns-clause-stands
-returns-clause-stands g c has clean = c.query_in.ensures.stands (plain_in schema find_text _ find_is _ has) clean
-
-pub returns-clause-looks : goal.returns-clause-looks
-returns-clause-looks g c has = c.query_in.ensures.proceeds (plain_in schema find_text _ find_is _ has)
+pub returns-clause-reads : goal.returns-clause-reads
+returns-clause-reads g c =
+    let e = c.query_in.ensures in
+    reads_inside g.S.Store c.args.tx.now.conn.now c.query_in.new.tx.conn.now find_text _ find_is c.query_in.result
+    (λ clean is. finds_revisions (state g.S.Store c.args.tx.now.conn.now) (state g.S.Store c.query_in.new.tx.conn.now) is c.args.db.now c.args.id.now c.query_in.result (λ rows. rows.items) (rw (c.params-to_sql.ensures, c.params-to_sql-2.ensures) at (e.ok clean)))
+    e.served e.stands e.proceeds e.asks

@@ -1,12 +1,8 @@
 use Rattle.sqlite.specs.Held.{state}
-use Rattle.tables.proofs.RevisionStatements.{clears_revisions, clear_fails}
+use Rattle.tables.proofs.RevisionStatements.{clears_revisions}
 use Rattle.tables.proofs.revisions.clear_revisions.Goals as goal
 
 pub returns-clause-ok : goal.returns-clause-ok
 returns-clause-ok g c clean has keyed =
     clears_revisions (state g.S.Store c.args.tx.now.conn.now) (state g.S.Store c.change.new.tx.conn.now) has keyed c.args.db.now c.change.result
     (rw c.params-to_sql.ensures at (c.change.ensures.ok clean))
-
-pub returns-clause-err : goal.returns-clause-err
-returns-clause-err g c clean has fit =
-    clear_fails (state g.S.Store c.args.tx.now.conn.now) (state g.S.Store c.change.new.tx.conn.now) has fit c.args.db.now c.change.result (rw c.params-to_sql.ensures at (c.change.ensures.err clean))

@@ -3,7 +3,7 @@ use Rattle.sqlite_value.specs.declared.value.Value.TheVariants.{Text}
 use Rattle.sqlite_rules.specs.Cast.{as_text}
 use Rattle.sqlite.specs.Held.{state}
 use Rattle.sqlite.specs.Values.{bound_value, or_null}
-use Rattle.tables.proofs.RevisionStatements.{inserts_revision, insert_fails}
+use Rattle.tables.proofs.RevisionStatements.{inserts_revision}
 use Rattle.tables.proofs.revisions.insert_revision.Goals as goal
 
 text_kept : {X : Type 0} (f : X → _) (o : Option X) → as_text (or_null (λ s. Text (f s)) o) ≡ or_null (λ s. Text (f s)) o
@@ -20,9 +20,3 @@ returns-clause-ok g c clean has keyed =
     (or_null (λ s. Text s.now) c.args.parent) c.args.held c.args.deleted (or_null (λ s. Text s.now) c.args.body)
     (text_kept (λ s. s.now) c.args.parent) (text_kept (λ s. s.now) c.args.body) c.change.result
     (rw (c.params-to_sql.ensures, c.params-to_sql-2.ensures, c.params-to_sql-3.ensures, c.params-to_sql-4.ensures, c.params-to_sql-5.ensures, c.params-to_sql-6.ensures, c.params-to_sql-7.ensures, c.params-to_sql-8.ensures, text_bound (λ s. s.now) c.args.parent, text_bound (λ s. s.now) c.args.body) at (c.change.ensures.ok clean))
-
-pub returns-clause-err : goal.returns-clause-err
-returns-clause-err g c clean has fit =
-    insert_fails (λ s. s.now) (λ s. s.now) (state g.S.Store c.args.tx.now.conn.now) (state g.S.Store c.change.new.tx.conn.now) has fit c.args.db.now c.args.id.now c.args.number c.args.hash.now
-    c.args.parent c.args.held c.args.deleted c.args.body c.change.result
-    (rw (c.params-to_sql.ensures, c.params-to_sql-2.ensures, c.params-to_sql-3.ensures, c.params-to_sql-4.ensures, c.params-to_sql-5.ensures, c.params-to_sql-6.ensures, c.params-to_sql-7.ensures, c.params-to_sql-8.ensures, text_bound (λ s. s.now) c.args.parent, text_bound (λ s. s.now) c.args.body) at (c.change.ensures.err clean))

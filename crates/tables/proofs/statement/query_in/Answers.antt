@@ -1,10 +1,7 @@
 use Rattle.sqlite.specs.Held.{state}
-use Rattle.tables.proofs.QueriesInside.{asks_inside, fails_inside, proceeds, stood}
+use Rattle.tables.proofs.QueriesInside.{asks_inside, proceeds, stood}
 use Rattle.tables.proofs.Stays.{served}
 use Rattle.tables.proofs.statement.query_in.Goals as goal
-
-pub returns-clause-err : goal.returns-clause-err
-returns-clause-err g c plain clean = fails_inside (state g.S.Store c.args.tx.now.conn.now) (state g.S.Store c.query_all.new.self.conn.now) c.args.sql.now _ plain c.query_all.result (c.query_all.ensures.err clean)
 
 pub returns-clause-stands : goal.returns-clause-stands
 returns-clause-stands g c plain clean =

@@ -7,7 +7,7 @@ use Rattle.tables.specs.Edits.{HasWritten}
 use Rattle.tables.specs.Layout.{IsStore}
 use Rattle.tables.specs.Rows.{database_of}
 use Rattle.transactions.specs.Commits.{AreDue, IsSound, IsUnwritten}
-use Rattle.transactions.specs.declared.write_fault.WriteFault.{WriteFault}
+use Rattle.transactions.specs.declared.commit_fault.CommitFault.{CommitFault}
 use Rattle.transactions.proofs.Committing.{on_err, refused_then, undone_then, unwritten_of}
 use Rattle.transactions.proofs.commits.commit_writes.Goals as goal
 
@@ -22,7 +22,7 @@ returns-in_err-write_all-clause-err g c name =
     let is : c.from_residual.result ≡ Err fault = search rules in
     let same : end ≡ c.conn-1.given.0 = search rules in
     subst (λ h. IfErr c.from_residual.result (IsUnwritten (IsSound g.S.Store due conn h))) same
-    (subst (λ (r : Result (Unit {0}) WriteFault). IfErr r (IsUnwritten (IsSound g.S.Store due conn end))) (sym is)
+    (subst (λ (r : Result (Unit {0}) CommitFault). IfErr r (IsUnwritten (IsSound g.S.Store due conn end))) (sym is)
     (unwritten_of (IsSound g.S.Store due begun mid) (IsSound g.S.Store due conn end) fault
     (λ it. (
       omega (arith, c.drop-tx.ensures.survives.clean, it.0),

@@ -6,8 +6,8 @@ use Rattle.tables.specs.Schema.{revs_tree}
 use Rattle.tree.specs.History.{HistoryContent}
 use Rattle.transactions.specs.Commits.{IsSound, IsUnwritten}
 use Rattle.transactions.specs.Reading.{history_shown}
-use Rattle.transactions.specs.declared.write_fault.WriteFault.{WriteFault}
-use Rattle.transactions.specs.declared.write_fault.WriteFault.TheVariants as write
+use Rattle.transactions.specs.declared.commit_fault.CommitFault.{CommitFault}
+use Rattle.transactions.specs.declared.commit_fault.CommitFault.TheVariants as write
 use Rattle.transactions.proofs.Committing.{history_read, lost}
 use Rattle.transactions.proofs.HistoryRows.{history_intact}
 use Rattle.transactions.proofs.commits.read_document.Goals as goal
@@ -18,7 +18,7 @@ returns-clause-ok g c clean store =
     let db = c.args.db.now in
     let id = c.args.id.now in
     history_read trees db id c.deref.result.now _ store.laid
-    (subst (IsPermutation (map shown_revision (filter (is_of db id) (trees revs_tree)))) (sym c.deref.ensures.value) (c.in_ok-rows.ensures.ok clean store)) c.in_ok-history.ensures
+    (subst (IsPermutation (map shown_revision (filter (is_of db id) (trees revs_tree)))) (sym c.deref.ensures.value) (c.in_ok-rows.ensures.reads.found clean store)) c.in_ok-history.ensures
 
 pub returns-in_err-history-clause-err : goal.returns-in_err-history-clause-err
 returns-in_err-history-clause-err g c =
@@ -29,9 +29,9 @@ returns-in_err-history-clause-err g c =
     let fault = c.in_err-history.field-0.0 in
     let sound : Type 0 = IsSound g.S.Store (λ _. ⊤) old c.revision_rows_in.new.tx.conn.now in
     let is : c.from_residual-in_err-history.result ≡ Err (write.Store fault) = search rules in
-    subst (λ (r : Result HistoryContent WriteFault). IfErr r (IsUnwritten sound)) (sym is)
+    subst (λ (r : Result HistoryContent CommitFault). IfErr r (IsUnwritten sound)) (sym is)
     (lost (history_shown c.deref.result.now) _ sound fault c.in_err-history.ensures
     (λ it.
-    let store = (it.1 (c.in_ok-rows.ensures.served it.0)).0 in
+    let store = (it.1 (c.in_ok-rows.ensures.reads.served it.0)).0 in
     history_intact trees (is_of db id) _ store.laid
-    (subst (IsPermutation (map shown_revision (filter (is_of db id) (trees revs_tree)))) (sym c.deref.ensures.value) (c.in_ok-rows.ensures.ok it.0 store))))
+    (subst (IsPermutation (map shown_revision (filter (is_of db id) (trees revs_tree)))) (sym c.deref.ensures.value) (c.in_ok-rows.ensures.reads.found it.0 store))))

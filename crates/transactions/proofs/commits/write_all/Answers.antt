@@ -1,18 +1,20 @@
 use Rattle.std.proofs.Common.{rules, ◌≡◌, ◌∙◌, Err, IfErr, Result, arith, refl, subst, sym, to_z-of_z, w64}
 use Rattle.std.proofs.lemmas.List.{take_all}
-use Rattle.std.specs.Prelude.{⊤}
 use Rattle.sqlite.specs.Held.{state}
 use Rattle.sqlite.specs.State.{HasCleanDisk}
 use Rattle.sqlite.proofs.InsideLemmas.{keeps_then}
-use Rattle.store.specs.Writing.{additions, writings_in}
+use Rattle.store.specs.Writing.{addition_of, additions, writings_in}
 use Rattle.tables.specs.Edits.{HasWritten}
-use Rattle.tables.specs.Rows.{database_of}
+use Rattle.tables.specs.Rows.{database_of, history_in}
+use Rattle.tables.specs.Schema.{revs_tree}
 use Rattle.tables.proofs.DocumentWrites.{none_written}
 use Rattle.tables.proofs.Stays.{keeps_itself}
-use Rattle.transactions.specs.Commits.{AreDue, IsSound, IsUnwritten}
-use Rattle.transactions.specs.declared.write_fault.WriteFault.{WriteFault}
-use Rattle.transactions.proofs.Committing.{asks_itself, asks_then, further, unwritten_of}
-use Rattle.transactions.proofs.HeldHistories.{none_stored, stored_further}
+use Rattle.transactions.specs.Commits.{AreDue, IsSound, IsUnwritten, history_with}
+use Rattle.transactions.specs.Histories.{AreStored, IsHeldOpen}
+use Rattle.transactions.specs.Reading.{HasBest}
+use Rattle.transactions.specs.declared.commit_fault.CommitFault.{CommitFault}
+use Rattle.transactions.proofs.Committing.{asks_itself, asks_then, best_in_turn, further, unwritten_of}
+use Rattle.transactions.proofs.HeldHistories.{none_open, none_stored, stored_further}
 use Rattle.transactions.proofs.commits.write_all.Goals as goal
 
 pub loop-i-init : goal.loop-i-init
@@ -22,6 +24,7 @@ loop-i-init g c =
       same = refl;
       asks = asks_itself old;
       inside = λ clean within. within;
+      served = λ clean. none_open c.new-histories.result old c.new-histories.ensures.empty;
       so_far = λ name clean store due. (none_written old.now name due.row store due.first, keeps_itself old, none_stored c.new-histories.result _ c.new-histories.ensures.empty);
     }
 
@@ -35,7 +38,8 @@ loop-i-preserved g c =
     record {
       same = e.same_reference ∙ inv.same;
       asks = asks_then old mid new inv.asks e.asks;
-      inside = λ clean within. e.inside clean;
+      inside = λ clean within. (e.inside clean).1;
+      served = λ clean id h is. (e.inside clean).0;
       so_far = λ name clean store due.
           let was : HasCleanDisk mid = omega (arith, e.asks.survives.clean, clean) in
           let before = inv.so_far name was store due in
@@ -60,14 +64,26 @@ returns-in_err-write_document-clause-err g c name =
     let fault = c.in_err-write_document.field-0.0 in
     let due = AreDue (additions c.args.writes.now) name c.args.db.now c.args.sequence in
     let is : c.from_residual.result ≡ Err fault = search rules in
-    subst (λ (r : Result (Unit {0}) WriteFault). IfErr r (IsUnwritten (IsSound g.S.Store due first now))) (sym is)
-    (unwritten_of (IsSound g.S.Store (λ _. ⊤) last now) (IsSound g.S.Store due first now) fault
-    (λ it. (
-      it.0,
-      λ up.
-          let was : HasCleanDisk (state g.S.Store last) = omega (arith, e.asks.survives.clean, it.0) in
-          let had = it.1 (inv.asks.was_open was up) in
-          ((inv.so_far name was had.0 had.1).0.store, tt),
+    subst (λ (r : Result (Unit {0}) CommitFault). IfErr r (IsUnwritten (IsSound g.S.Store due first now))) (sym is)
+    (unwritten_of
+    (IsHeldOpen c.loop-i.histories (state g.S.Store last)
+    × IsSound g.S.Store (λ trees. AreStored c.loop-i.histories (history_in (trees revs_tree) c.args.db.now) × HasBest (history_with trees c.args.db.now (addition_of c.index-writes-i.result))) last now)
+    (IsSound g.S.Store due first now) fault
+    (λ it.
+    let was : HasCleanDisk (state g.S.Store last) = omega (arith, e.asks.survives.clean, it.0) in (
+      inv.served was,
+      (
+        it.0,
+        λ up.
+            let had = it.1 (inv.asks.was_open was up) in
+            let far = inv.so_far name was had.0 had.1 in (
+              far.0.store,
+              (
+                far.2,
+                best_in_turn c.args.writes.now c.loop-i.i c.index-writes-i.result name c.args.db.now c.args.sequence (state g.S.Store first).now (state g.S.Store last).now c.loop-i-test.true c.index-writes-i.is had.1 far.0,
+              ),
+            ),
+      ),
     )) e.err)
 
 pub returns-in_err-write_document-clause-kept : goal.returns-in_err-write_document-clause-kept

@@ -13,7 +13,7 @@ returns-clause-ok g c r clean store numbered at =
     let mid = state g.S.Store c.read_document.new.tx.conn.now in
     let new = state g.S.Store c.write_known.new.tx.conn.now in
     let a = addition_of c.args.write.now in
-    let was : HasCleanDisk mid = omega (arith, c.in_ok-write_known.ensures.proceeds.survives.clean, clean) in
+    let was : HasCleanDisk mid = omega (arith, c.in_ok-after.ensures.proceeds.survives.clean, clean) in
     let same : mid.now ≡ old.now = (c.in_ok-history.ensures.stands store.schema_is was).0.now_is in
     let known = history_of (old.now.trees revs_tree) c.args.db.now (number_of r) c.as_bytes.result.now a.id c.in_ok-history.history numbered (c.as_bytes.ensures.value ∙ c.as_str.ensures.text) (c.in_ok-history.ensures.ok was store) in
-    document_written r c.in_ok-history.history a old.now mid.now new.now same store known (λ is knows. c.in_ok-write_known.ensures.ok r clean is knows numbered at)
+    document_written r c.in_ok-history.history a old.now mid.now new.now same store known (λ is knows. c.in_ok-after.ensures.ok r clean is knows numbered at)

@@ -1,10 +1,11 @@
-use Rattle.std.proofs.Common.{◌≡◌, ◌∙◌, ◌++◌, arith, ap, refl, subst, sym, string_bytes}
+use Rattle.std.proofs.Common.{Ok, ◌≡◌, ◌∙◌, ◌++◌, arith, ap, refl, subst, sym, string_bytes}
 use Rattle.sqlite.specs.Held.{state}
 use Rattle.sqlite.specs.State.{HasCleanDisk}
 use Rattle.store.specs.Writing.{addition_of, written_in}
 use Rattle.tree.specs.History.{behind, with_write}
 use Rattle.tables.proofs.Tables.{revs_keyed}
 use Rattle.transactions.specs.Inserting.{IsBest, IsPlaced, entries_of, unknown_in}
+use Rattle.transactions.specs.declared.commit_fault.CommitFault.{CommitFault}
 use Rattle.transactions.proofs.DocumentWriting.{dbs_fit, docs_fit, schema_after, schema_placed, written}
 use Rattle.transactions.proofs.document_write.add_write.Goals as goal
 
@@ -24,12 +25,12 @@ returns-clause-ok g c r clean store known numbered at =
     let es = unknown_in h (entries_of h a) in
     let revisions = c.in_ok-insert_revisions.ensures.ok first store.schema_is (revs_keyed old.now.trees store.laid) in
     let after : c.put.new.self ≡ with_write h (written_in h a).write =
-    c.in-Ok.ensures.ok ∙ ap (λ path. with_write h (record { path = path ++ behind h a.parent; deleted = a.deleted; body = a.body })) c.deref.ensures.value in
+    c.in_ok-put.ensures.ok ∙ ap (λ path. with_write h (record { path = path ++ behind h a.parent; deleted = a.deleted; body = a.body })) c.deref.ensures.value in
     let best : IsBest (with_write h (written_in h a).write) text deleted =
     subst (λ t. IsBest (with_write h (written_in h a).write) t deleted) (sym c.as_str-2.ensures.value)
-    (subst (λ k. IsBest k (string_bytes c.in_ok-text.text) deleted) after c.in_ok-text.ensures) in
+    (subst (λ k. IsBest k (string_bytes c.in_ok-text.text) deleted) after c.in_ok-text.ensures.ok) in
     let document = subst (λ i. IsPlaced db i c.args.sequence.now text deleted inserted.now placed.now) (c.as_bytes-id.ensures.value ∙ c.as_str.ensures.text)
     (c.in_ok-replace_document.ensures.ok second (schema_after es db a.id old.now inserted.now store revisions) (docs_fit es db a.id old.now inserted.now store revisions)) in
-    written h a text deleted c.advance_database.result r db c.args.sequence.now a.id old.now inserted.now placed.now new.now known numbered at refl revisions best document
-    (c.advance_database.ensures.ok clean (schema_placed es db a.id old.now inserted.now store revisions c.args.sequence.now text deleted placed.now document)
+    written h a text deleted {X = Unit {0}} {E = CommitFault} (Ok tt) r db c.args.sequence.now a.id old.now inserted.now placed.now new.now known numbered at refl revisions best document
+    (c.in_ok-advance_database.ensures.ok clean (schema_placed es db a.id old.now inserted.now store revisions c.args.sequence.now text deleted placed.now document)
     (dbs_fit es db a.id old.now inserted.now store revisions c.args.sequence.now text deleted placed.now document))

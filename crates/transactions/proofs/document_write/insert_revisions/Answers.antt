@@ -1,4 +1,4 @@
-use Rattle.std.proofs.Common.{◌∙◌, List, ℕ, OnOk, Option, Some, subst}
+use Rattle.std.proofs.Common.{◌∙◌, List, ℕ, Option, Some, subst}
 use Rattle.sqlite.specs.Held.{state}
 use Rattle.store.specs.Writing.{addition_of}
 use Rattle.tables.specs.Edits.{AreInserted}
@@ -16,8 +16,8 @@ returns-clause-ok g c clean has keyed =
     let h = c.args.history.now in
     let a = addition_of c.args.write.now in
     let db = c.args.db.now in
-    let P : List Revision → Option Revision → List ℕ → Type 0 = λ path parent id. OnOk c.insert_path.result (AreInserted (unknown_in h (entries_before (Some (record { deleted = a.deleted; body = a.body })) path parent)) db id old.now new.now) in
+    let P : List Revision → Option Revision → List ℕ → Type 0 = λ path parent id. AreInserted (unknown_in h (entries_before (Some (record { deleted = a.deleted; body = a.body })) path parent)) db id old.now new.now in
     subst (P a.path (head (behind h a.parent))) (c.as_bytes.ensures.value ∙ c.as_str-id.ensures.text)
     (subst (λ parent. P a.path parent c.as_bytes.result.now) c.known_parent-parent.ensures
     (subst (λ path. P path c.known_parent-parent.result c.as_bytes.result.now) c.deref-2.ensures.value
-    (c.insert_path.ensures.ok a.body (c.as_str.ensures.value ∙ c.in-Ok.ensures.text) clean has keyed)))
+    (c.in_ok-insert_path.ensures.ok a.body (c.as_str.ensures.value ∙ c.in_ok-text.ensures.text) clean has keyed)))

@@ -1,0 +1,93 @@
+-- What each change makes of the tables, whose rows are those that the last change left.
+use Rattle.std.proofs.Common.{◌≡◌, ◌<◌, ◌^◌, ◌∙◌, ℕ, ℤ, pos, List, IsTrue, None, Some, option_map, ap, subst, sym}
+use Rattle.std.specs.FinMap.{get, insert, remove}
+use Rattle.couch_json.specs.Canonical.{canonical}
+use Rattle.couch_json.specs.Lawful.{IsLawful}
+use Rattle.couch_json.specs.Value.{Value}
+use Rattle.policy.specs.Security.{closed_security, is_security}
+use Rattle.sqlite.specs.Effect.{Database}
+use Rattle.sqlite_trees.specs.Tree.{Trees}
+use Rattle.store.specs.Contents.{new_database, with_local, with_security}
+use Rattle.store.specs.Database.{with_all}
+use Rattle.store.specs.DatabaseName.{is_database_name}
+use Rattle.store.specs.Lawful.{IsBody}
+use Rattle.store.specs.Writing.{Addition, writings_in}
+use Rattle.store.specs.declared.local_document.LocalDocument.{LocalDocument}
+use Rattle.tables.proofs.Lookups.{database_there}
+use Rattle.tables.proofs.LocalChanges.{another_local, written_store}
+use Rattle.tables.proofs.NewDatabases.{new_contents, new_store}
+use Rattle.tables.proofs.Removed.{fewer_databases, removed_store}
+use Rattle.tables.proofs.Secured.{another_security, secured_store}
+use Rattle.tables.specs.Edits.{HasWritten}
+use Rattle.tables.specs.Layout.{IsStore}
+use Rattle.tables.specs.Rows.{contents_in, database_cells, database_of, rows_with_security, with_cells}
+use Rattle.tables.specs.Schema.{dbs_tree}
+use Rattle.tables.specs.Steps.{Changes}
+use Rattle.tree.specs.DocumentId.{is_document_id}
+use Rattle.transactions.specs.Commits.{AreDue}
+use Rattle.transactions.specs.Sequences.{Clears, Replaces}
+use Rattle.sqlstore.specs.Reading.{HasNumber}
+
+module _ (new : Database) (name : List ℕ) where
+  -- a new database was put in
+  abbrev pub IsAdded : Database → Type 0
+  IsAdded old = contents_in new.trees ≡ insert (contents_in old.trees) name new_database
+
+  -- the database has another security object
+  abbrev pub IsSecured : Value → Database → Type 0
+  IsSecured v old = option_map (λ db. insert (contents_in old.trees) name (with_security db v)) (get (contents_in old.trees) name) ≡ Some (contents_in new.trees)
+
+  -- it was taken out
+  abbrev pub IsRemoved : Database → Type 0
+  IsRemoved old = contents_in new.trees ≡ remove (contents_in old.trees) name
+
+  -- it has this local document
+  abbrev pub HasLocal : List ℕ → LocalDocument → Database → Type 0
+  HasLocal id document old = option_map (λ db. insert (contents_in old.trees) name (with_local db id document)) (get (contents_in old.trees) name) ≡ Some (contents_in new.trees)
+
+  -- it has the writes
+  abbrev pub IsWritten : List Addition → Database → Type 0
+  IsWritten all old = option_map (λ db. insert (contents_in old.trees) name (with_all db (writings_in db all))) (get (contents_in old.trees) name) ≡ Some (contents_in new.trees)
+
+  module _ (old : Database) (last : Trees) (is : IsStore old) (same : old.trees ≡ last) where
+    pub adds : (given text : List ℕ) → IsTrue (is_database_name name) → get (contents_in last) name ≡ None → given ≡ name → text ≡ canonical closed_security
+        → Changes dbs_tree (with_cells (old.trees dbs_tree) (database_cells given text (pos 0))) old new → IsStore new × IsAdded old
+    adds given text lawful none named spelled change =
+        let free = ap (λ trees. get (contents_in trees) name) same ∙ none in
+        let row = subst (λ t. Changes dbs_tree (with_cells (old.trees dbs_tree) (database_cells name t (pos 0))) old new) spelled
+        (subst (λ n. Changes dbs_tree (with_cells (old.trees dbs_tree) (database_cells n text (pos 0))) old new) named change) in
+        (new_store old new name is lawful free row, new_contents old new name is lawful free row)
+
+    module _ (number : ℤ) (has : HasNumber last name number) where
+      there : HasNumber old.trees name number
+      there = subst (λ trees. HasNumber trees name number) (sym same) has
+
+      pub secures : (v : Value) (text : List ℕ) → IsTrue (is_security v) → IsLawful v → text ≡ canonical v → Changes dbs_tree (rows_with_security number text (old.trees dbs_tree)) old new
+          → IsStore new × IsSecured v old
+      secures v text security lawful spelled change =
+          let row = subst (λ k. Changes dbs_tree (rows_with_security k (canonical v) (old.trees dbs_tree)) old new) (sym there.numbered)
+          (subst (λ t. Changes dbs_tree (rows_with_security number t (old.trees dbs_tree)) old new) spelled change) in
+          (secured_store old new name there.row v is there.first security lawful row, another_security old new name there.row v is there.first security lawful row)
+
+      pub clears : Clears number old new → IsStore new × IsRemoved old
+      clears change =
+          let c = subst (λ n. Clears n old new) (sym there.numbered) change in (
+            removed_store old c.undocumented c.unwritten c.bare new name there.row is there.first c.documents c.revisions c.locals c.row,
+            fewer_databases old c.undocumented c.unwritten c.bare new name there.row is there.first c.documents c.revisions c.locals c.row,
+          )
+
+      pub puts : (id given text : List ℕ) (document : LocalDocument) → IsTrue (is_document_id id) → IsBody document.body → IsLawful document.body → document.number < 2 ^ 32 → given ≡ id → text ≡ canonical document.body
+          → Replaces number given document.number text old new → IsStore new × HasLocal id document old
+      puts id given text document named body lawful small same_id spelled change =
+          let c = subst (λ k. Replaces k id document.number (canonical document.body) old new) (sym there.numbered)
+          (subst (λ x. Replaces number x document.number (canonical document.body) old new) same_id (subst (λ x. Replaces number given document.number x old new) spelled change)) in (
+            written_store old c.mid new name there.row id document is there.first named body lawful small c.out c.put,
+            another_local old c.mid new name there.row id document is there.first named body lawful small c.out c.put,
+          )
+
+    pub appends : (all : List Addition) (number : ℤ) (sequence : ℕ) → AreDue all name number sequence last
+        → ((due : AreDue all name number sequence old.trees) → HasWritten (writings_in (database_of old.trees due.row) all) name due.row old new) → IsStore new × IsWritten all old
+    appends all number sequence due writes =
+        let here = subst (AreDue all name number sequence) (sym same) due in
+        let w = writes here in
+        (w.store, ap (option_map (λ db. insert (contents_in old.trees) name (with_all db (writings_in db all)))) (database_there old.trees is.laid name here.row here.first) ∙ ap Some (sym w.contents))

@@ -1,0 +1,59 @@
+-- A store that is closed and opened again is as it was.
+use Rattle.std.proofs.Common.{◌≡◌, ◌≢◌, ◌⊎◌, inl, inr, false, true, Result, Ok, Err, IsTrue, ap, subst, sym, ◌∙◌}
+use Rattle.std.proofs.Math.Logic.{∥∥₁_elim, ∥∥₁_map, ∥∥₁_prop}
+use Rattle.std.specs.Prelude.{IfErr, IfOk}
+use Rattle.sqlite_trees.specs.declared.store.Store.{Ghosts}
+use Rattle.sqlite.specs.Effect.{Database}
+use Rattle.sqlite.specs.Held.{Held, state}
+use Rattle.sqlite.specs.State.{HasCleanDisk}
+use Rattle.store.specs.Contents.{Contents}
+use Rattle.tables.specs.Layout.{IsStore}
+use Rattle.tables.specs.Presence.{has_all}
+use Rattle.tables.specs.Rows.{contents_in}
+use Rattle.tables.specs.Schema.{schema}
+use Rattle.sqlstore.proofs.ContentsCode.{contents_set}
+use Rattle.sqlstore.specs.Model.{contents_of, is_clean, is_honest}
+use Rattle.sqlstore.specs.declared.open_fault.OpenFault.{OpenFault}
+use Rattle.sqlstore.specs.declared.open_fault.OpenFault.TheVariants.{NotOurs}
+use Rattle.sqlstore.specs.declared.sql_store.SqlStore.{SqlStore}
+
+-- a connection that, where it is open, has the rows of a store with these contents
+module _ {S : Type 0} (g : Ghosts S) (contents : Contents) (conn : Held S)
+    (laid : IsTrue (state g conn).is_open → ∥ IsStore (state g conn).now ∥₁) (holds : IsTrue (state g conn).is_open → contents_in (state g conn).now.trees ≡ contents) where
+  -- what is opened from it has these contents
+  pub same_opened : (r : Result (SqlStore S g) (OpenFault × Held S)) → IfOk r (λ s. is_clean g s → IsStore (state g conn).now → is_honest g s × (contents_of g s ≡ contents_in (state g conn).now.trees))
+      → IfOk r (λ s. is_clean g s → IsTrue (state g conn).is_open) → IfOk r (λ s. is_clean g s → is_honest g s × (contents_of g s ≡ contents))
+  same_opened (Err e) found served = tt
+  same_opened (Ok s) found served = λ clean.
+      let store = laid (served clean) in (
+        (clean, ∥∥₁_elim store ∥∥₁_prop (λ is. (found clean is).0.1)),
+        ∥∥₁_elim store (contents_set (contents_of g s) (contents_in (state g conn).now.trees)) (λ is. (found clean is).1) ∙ holds (served clean),
+      )
+
+  absurd_prop : IsProp ⊥
+  absurd_prop a b = absurd a
+
+  -- it is never told to be none of ours
+  pub never_not_ours : (r : Result (SqlStore S g) (OpenFault × Held S)) → conn.in_transaction ≡ false
+      → IfErr r (λ e. HasCleanDisk (state g e.1) → HasCleanDisk (state g conn) × (IsTrue (state g e.1).is_open → IsTrue (state g conn).is_open))
+      → IfErr r (λ e. e.0 ≡ NotOurs → (conn.in_transaction ≡ true) ⊎ (HasCleanDisk (state g e.1) → ¬ IsStore (state g conn).now))
+      → IfErr r (λ e. HasCleanDisk (state g e.1) → IsTrue (state g e.1).is_open → e.0 ≢ NotOurs)
+  never_not_ours (Ok s) idle was told = tt
+  never_not_ours (Err e) idle was told = λ clean up is. by clean up (told is)
+    where
+      by : HasCleanDisk (state g e.1) → IsTrue (state g e.1).is_open → (conn.in_transaction ≡ true) ⊎ (HasCleanDisk (state g e.1) → ¬ IsStore (state g conn).now) → ⊥
+      by clean up (inl within) = cc
+      by clean up (inr none) = ∥∥₁_elim (laid ((was clean).1 up)) absurd_prop (none clean)
+
+  -- where it comes back it has the rows that it had
+  pub same_refused : (r : Result (SqlStore S g) (OpenFault × Held S))
+      → IfErr r (λ e. HasCleanDisk (state g e.1) → HasCleanDisk (state g conn) × (IsTrue (state g e.1).is_open → IsTrue (state g conn).is_open))
+      → IfErr r (λ e. (has_all conn.schema ≡ true → conn.schema ≡ schema) → HasCleanDisk (state g e.1) → IsTrue (state g e.1).is_open → (state g e.1).now ≡ (state g conn).now)
+      → IfErr r (λ e. HasCleanDisk (state g e.1) → IsTrue (state g e.1).is_open → ∥ IsStore (state g e.1).now ∥₁ × (contents_in (state g e.1).now.trees ≡ contents))
+  same_refused (Ok s) was rows = tt
+  same_refused (Err e) was rows = λ clean up.
+      let before = (was clean).1 up in
+      let kept = λ (is : IsStore (state g conn).now). rows (λ has. is.schema_is) clean up in (
+        ∥∥₁_map (laid before) (λ is. subst IsStore (sym (kept is)) is),
+        ∥∥₁_elim (laid before) (contents_set (contents_in (state g e.1).now.trees) (contents_in (state g conn).now.trees)) (λ is. ap (λ (d : Database). contents_in d.trees) (kept is)) ∙ holds before,
+      )
