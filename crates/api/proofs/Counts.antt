@@ -6,7 +6,8 @@ use Rattle.std.specs.Str.{all_ascii_digits}
 use Rattle.std.specs.Str.Parse.{ParsesUnsigned, digits_value}
 use Rattle.std.proofs.lemmas.Str.Parse.{parse_gives, digits_value_short}
 use Rattle.tree.proofs.RevisionText.{decimals}
-use Rattle.api.specs.Listings.{count_in, greatest_count, is_count_text}
+use Rattle.couch_json.specs.Range.{greatest_count}
+use Rattle.api.specs.Listings.{count_in, is_count_text}
 
 are_digits : (bs : List ℕ) → list_all is_ascii_digit bs ≡ all_ascii_digits bs
 are_digits [] = refl

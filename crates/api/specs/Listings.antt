@@ -4,6 +4,7 @@ use Rattle.std.specs.Prelude.{ℕ, Bool, true, false, ◌&&◌, if◌then◌else
 use Rattle.std.specs.Char.{is_ascii_digit}
 use Rattle.std.specs.List.{list_all}
 use Rattle.std.specs.Str.Parse.{digits_value}
+use Rattle.couch_json.specs.Range.{greatest_count}
 use Rattle.couch_json.specs.Parts.{members_in, text_in}
 use Rattle.couch_json.specs.Reading.{reading}
 use Rattle.couch_json.specs.Value.{Value, Members, no_members, member}
@@ -15,10 +16,6 @@ use Rattle.read.specs.Differences.{RevisionsOf}
 use Rattle.api.specs.Queries.{are_named, parameters_in, revisions_listed, sole_value}
 
 -- ---- values of parameters
-
--- 2^63 - 1
-abbrev pub greatest_count : ℕ
-greatest_count = 9223372036854775807
 
 -- 1 to 19 decimal digits
 abbrev pub is_count_text : List ℕ → Bool

@@ -1,11 +1,11 @@
 //! The parameters of a query (URL Standard, section 5.1).
 
-ghost use Rattle.std.specs.Prelude.{◌≡◌, IfOk, bytes_eq, map, option_map, option_copied, string_bytes};
+ghost use Rattle.std.specs.Prelude.{◌≡◌, IfOk, map, option_map, option_copied, string_bytes};
 ghost use Rattle.api.specs.Queried.{texts_of};
 ghost use Rattle.api.specs.Queries.{are_named, flag, parameter_of, parameters_in, sole_value};
 ghost use Rattle.form_urlencoded.specs.Form.{raw_pairs};
-ghost use Rattle.std.specs.List.{list_any};
 
+use couch_json::is_among;
 use std::alloc::{AllocError, Global};
 
 /// Returns the parameters of a query, each a name and a value.
@@ -42,18 +42,6 @@ pub(crate) fn are_named(parameters: &[(String, String)], names: &[&str]) -> bool
         }
     }
     true
-}
-
-/// Tells whether the name is one of these.
-fn is_among(name: &str, names: &[&str]) -> bool
-    ensures { result ≡ list_any (λ known. bytes_eq known name.now) (map (λ known. known.now) names.now) }
-{
-    for known in names {
-        if *known == name {
-            return true;
-        }
-    }
-    false
 }
 
 /// Finds the value of the parameter of this name, or that there is none. `None` where the name stands

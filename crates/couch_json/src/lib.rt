@@ -27,7 +27,7 @@ mod writing;
 pub use collation::collate;
 pub use fault::JsonFault;
 pub use field_path::{FieldPath, PathFault, at};
-pub use members::put_member;
+pub use members::{is_among, put_member};
 pub use no_memory::{Got, NoMemory};
 pub use number::Number;
 pub use reading::read;

@@ -38,7 +38,8 @@ pub(crate) fn are_named(members: &BTreeMap<String, Json>, names: &[&str]) -> boo
     true
 }
 
-fn is_among(name: &str, names: &[&str]) -> bool
+/// Tells whether a name is one of these, byte for byte.
+pub fn is_among(name: &str, names: &[&str]) -> bool
     ensures { result ≡ list_any (λ known. bytes_eq known name.now) (map (λ known. known.now) names.now) }
 {
     for known in names {

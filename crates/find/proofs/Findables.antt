@@ -17,8 +17,9 @@ use Rattle.store.specs.Database.{Database}
 use Rattle.store.specs.Indexes.{IndexPlace, field_values, index_entries, index_over, place_order, put_at_values, put_in_index}
 use Rattle.find.proofs.Filtered.{HasKeys}
 use Rattle.find.proofs.Indexed.{After, after_index, not_tied, seen}
-use Rattle.find.proofs.Turned.{reverse-cons}
-use Rattle.find.specs.Found.{IsFindable, found_documents, in_direction, matching_documents, sorted_documents}
+use Rattle.store.proofs.Directed.{from_directed, from_drop, in_directed}
+use Rattle.store.specs.Pages.{in_direction}
+use Rattle.find.specs.Found.{IsFindable, found_documents, matching_documents, sorted_documents}
 use Rattle.find.specs.declared.query.Query.{Query}
 
 -- ---- values that are put in
@@ -110,41 +111,6 @@ in_index fields (f ∷ es) e v values h (inr i) is has =
     kept_one fields f.0 (seen f) (index_over fields es) v (after_index fields f.0 es (first_so _ _ h)) (in_index fields es e v values (second_so _ _ h) i is has)
 
 -- ---- turned and cut
-
-from_append : {X : Type 0} (xs : List X) (y x : X) → In (xs ++ y ∷ []) x → (y ≡ x) ⊎ In xs x
-from_append [] y x (inl i) = inl i
-from_append [] y x (inr i) = absurd i
-from_append (z ∷ xs) y x (inl i) = inr (inl i)
-from_append (z ∷ xs) y x (inr i) = elim (from_append xs y x i) as (λ _. (y ≡ x) ⊎ In (z ∷ xs) x) [ inl k ↦ inl k | inr k ↦ inr (inr k) ]
-
-in_append : {X : Type 0} (xs : List X) (y x : X) → (y ≡ x) ⊎ In xs x → In (xs ++ y ∷ []) x
-in_append [] y x (inl i) = inl i
-in_append [] y x (inr i) = absurd i
-in_append (z ∷ xs) y x (inl i) = inr (in_append xs y x (inl i))
-in_append (z ∷ xs) y x (inr (inl i)) = inl i
-in_append (z ∷ xs) y x (inr (inr i)) = inr (in_append xs y x (inr i))
-
-from_reverse : {X : Type 0} (xs : List X) (x : X) → In (reverse xs) x → In xs x
-from_reverse [] x i = i
-from_reverse (y ∷ xs) x i = elim (from_append (reverse xs) y x (subst (λ zs. In zs x) (reverse-cons y xs) i)) as (λ _. In (y ∷ xs) x) [ inl k ↦ inl k | inr k ↦ inr (from_reverse xs x k) ]
-
-in_reverse : {X : Type 0} (xs : List X) (x : X) → In xs x → In (reverse xs) x
-in_reverse [] x i = i
-in_reverse (y ∷ xs) x (inl i) = subst (λ zs. In zs x) (sym (reverse-cons y xs)) (in_append (reverse xs) y x (inl i))
-in_reverse (y ∷ xs) x (inr i) = subst (λ zs. In zs x) (sym (reverse-cons y xs)) (in_append (reverse xs) y x (inr (in_reverse xs x i)))
-
-from_directed : {X : Type 0} (descending : Bool) (xs : List X) (x : X) → In (in_direction descending xs) x → In xs x
-from_directed true xs x i = from_reverse xs x i
-from_directed false xs x i = i
-
-in_directed : {X : Type 0} (descending : Bool) (xs : List X) (x : X) → In xs x → In (in_direction descending xs) x
-in_directed true xs x i = in_reverse xs x i
-in_directed false xs x i = i
-
-from_drop : {X : Type 0} (n : ℕ) (xs : List X) (x : X) → In (drop n xs) x → In xs x
-from_drop zero xs x i = i
-from_drop (suc n) [] x i = i
-from_drop (suc n) (y ∷ xs) x i = inr (from_drop n xs x i)
 
 all_taken : {X : Type 0} (n : ℕ) (xs : List X) → length xs ≤ n → take n xs ≡ xs
 all_taken zero [] le = refl

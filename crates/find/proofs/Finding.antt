@@ -12,7 +12,7 @@ use Rattle.store.specs.Calls.{OnlyReads}
 use Rattle.store.specs.Causes.{HasFailed}
 use Rattle.store.specs.Database.{Database}
 use Rattle.store.specs.Indexes.{index_entries}
-use Rattle.store.specs.Pages.{IdPage, live_rows, page_of_ids}
+use Rattle.store.specs.Pages.{IdPage, in_direction, live_rows, page_of_ids}
 use Rattle.store.specs.declared.fault.StoreFault.{StoreFault}
 use Rattle.store.specs.declared.fault.StoreFault.TheVariants as store
 use Rattle.store.specs.declared.page.IdRange.{IdRange}
@@ -23,9 +23,9 @@ use Rattle.read.specs.declared.fault.ReadFault.{ReadFault}
 use Rattle.read.specs.declared.fault.ReadFault.TheVariants.{Missing, Deleted, BadQuery, Store, Memory}
 use Rattle.find.proofs.Filtered.{filter-seconds}
 use Rattle.find.proofs.Indexed.{AreOf, filter_index, index_by_id, index_of, rows_match, rows_sorted}
-use Rattle.find.proofs.Turned.{filter-directed, options-directed}
+use Rattle.store.proofs.Directed.{filter-directed, options-directed}
 use Rattle.find.specs.Answers.{Finds}
-use Rattle.find.specs.Found.{found_documents, in_direction, sorted_documents}
+use Rattle.find.specs.Found.{found_documents, sorted_documents}
 use Rattle.find.specs.Matching.{match_in, matches_of, put_matches}
 use Rattle.find.specs.declared.query.Query.{Query}
 

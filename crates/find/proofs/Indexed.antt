@@ -27,7 +27,7 @@ use Rattle.store.specs.Plain.{place_views}
 use Rattle.store.specs.Pages.{live_rev, live_rows, with_row}
 use Rattle.store.specs.declared.page.IdRow.{IdRow}
 use Rattle.find.proofs.Filtered.{HasKeys, filter-put, keys_put, put_front}
-use Rattle.find.proofs.Turned.{reverse-cons}
+use Rattle.store.proofs.Directed.{reverse-cons}
 use Rattle.find.specs.Matching.{if_matches, match_in, matches_of, put_matches}
 
 -- ---- the map of the code

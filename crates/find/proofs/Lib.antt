@@ -5,5 +5,4 @@ mod Ids
 mod Indexed
 mod Ordered
 mod Parts
-pub mod Turned
 pub mod Indexing

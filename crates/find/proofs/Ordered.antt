@@ -13,6 +13,7 @@ use Rattle.couch_json.specs.Collation.{collation}
 use Rattle.couch_json.specs.Value.{Value, Items, array}
 use Rattle.selector.specs.Truth.{selector_matches}
 use Rattle.tree.proofs.Kept.{true_from_T}
+use Rattle.store.proofs.Directed.{pairs_drop, pairs_reverse}
 use Rattle.store.proofs.Among.{all_in, from_map}
 use Rattle.store.proofs.Listings.{Entry, In}
 use Rattle.store.proofs.RowOrders.{pairs_take}
@@ -23,7 +24,8 @@ use Rattle.find.proofs.Filtered.{below}
 use Rattle.find.proofs.Findables.{findable}
 use Rattle.find.proofs.Ids.{id_of-queried_document}
 use Rattle.find.proofs.Indexed.{After, after_index, not_tied, seen, sorted_index}
-use Rattle.find.specs.Found.{IsFindable, found_documents, id_of, in_direction, is_before, place_by, place_of, sorted_documents}
+use Rattle.store.specs.Pages.{in_direction}
+use Rattle.find.specs.Found.{IsFindable, found_documents, id_of, is_before, place_by, place_of, sorted_documents}
 use Rattle.find.specs.declared.query.Query.{Query}
 
 -- ---- each document stands at its place
@@ -86,18 +88,6 @@ documents_ascend fields (e ∷ es) h k =
     (documents_ascend fields es (second_so _ _ h) (λ x i. k x (inr i)))
 
 -- ---- turned and cut
-
-pairs_drop : {X : Type 0} (R : X → X → Type 0) (n : ℕ) (xs : List X) → AllPairs R xs → AllPairs R (drop n xs)
-pairs_drop R zero xs h = h
-pairs_drop R (suc n) [] h = h
-pairs_drop R (suc n) (x ∷ xs) h = pairs_drop R n xs (λ i j d lt within. h (suc i) (suc j) d (omega arith) (omega arith))
-
-pairs_reverse : {X : Type 0} (R : X → X → Type 0) (xs : List X) → AllPairs (λ a b. R b a) xs → AllPairs R (reverse xs)
-pairs_reverse R xs h = λ i j d lt within.
-    let long = length-reverse xs in
-    let a : get_or (reverse xs) i d ≡ get_or xs (length xs - 1 - i) d = get_or-reverse xs i d (omega arith) in
-    let b : get_or (reverse xs) j d ≡ get_or xs (length xs - 1 - j) d = get_or-reverse xs j d (omega arith) in
-    rw (a, b) (h (length xs - 1 - j) (length xs - 1 - i) d (omega arith) (omega arith))
 
 turned : (o : Ordering) → is_lt o ≡ true → is_gt (ordering_reverse o) ≡ true
 turned Less e = refl

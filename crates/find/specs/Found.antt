@@ -7,11 +7,9 @@ use Rattle.couch_json.specs.Parts.{text_in}
 use Rattle.couch_json.specs.Value.{Items, Value, array, member_of}
 use Rattle.selector.specs.Truth.{selector_matches}
 use Rattle.store.specs.Database.{Database, Document}
+use Rattle.store.specs.Pages.{in_direction}
 use Rattle.store.specs.Indexes.{IndexPlace, field_values, index_entries, place_order, queried_document}
 use Rattle.find.specs.declared.query.Query.{Query}
-
-abbrev pub in_direction : {A : Type 0} → Bool → List A → List A
-in_direction descending xs = if descending then reverse xs else xs
 
 -- the documents that have all these fields, in the direction of a sort by them: by their values, and by id where these are the same
 abbrev pub sorted_documents : List (List ℕ) → Bool → Database → List Value

@@ -2,6 +2,7 @@
 -- CouchDB manual, api/database/find (`selector`, `sort`, `limit`, `skip`, "Sort Syntax"); that an object has no other members, that a sort has at most 8 fields, and the greatest number, are this server's own.
 use Rattle.std.specs.Prelude.{ℕ, Bool, false, true, List, [], ◌∷◌, Option, Some, None, option_and_then, option_map, bytes_eq, codes, if◌then◌else◌, nat_le, pos}
 use Rattle.couch_json.specs.FieldPath.{is_field_path}
+use Rattle.couch_json.specs.Range.{greatest_count}
 use Rattle.couch_json.specs.Parts.{has_only, is_there_and, items_in, text_in}
 use Rattle.couch_json.specs.Value.{Value, whole, text, object, Items, no_items, item, Members, no_members, member, member_of}
 use Rattle.selector.specs.Truth.{items_length}
@@ -9,10 +10,6 @@ use Rattle.policy.specs.UpdateRules.{selector_in}
 use Rattle.find.specs.declared.query.Query.{Query}
 
 -- ---- numbers
-
--- 2^63 - 1
-abbrev pub greatest_count : ℕ
-greatest_count = 9223372036854775807
 
 -- a number from 0 to the greatest
 abbrev pub count_in : Value → Option ℕ

@@ -9,7 +9,7 @@ ghost use Rattle.store.specs.Database.{Database};
 ghost use Rattle.store.specs.Indexes.{put_in_index};
 ghost use Rattle.store.specs.Plain.{place_views};
 ghost use Rattle.read.specs.Answers.{Stops};
-ghost use Rattle.find.specs.Found.{in_direction};
+ghost use Rattle.store.specs.Pages.{in_direction};
 ghost use Rattle.find.specs.Matching.{match_in, put_matches};
 
 use crate::matching::read_match;
@@ -19,12 +19,12 @@ use couch_json::{FieldPath, Got, Json};
 use read::ReadFault;
 use std::alloc::Global;
 use std::collections::BTreeMap;
-use store::{DbName, IdRow, IndexKey, KeyRow, Store, values_at};
+use store::{DbName, IdRow, IndexKey, KeyRow, Store, reverse_if, values_at};
 use tree::DocId;
 
 /// Finds the documents of these rows that match and have all fields of the sort, sorts them, and
 /// takes the part that is asked for.
-#[tactic(auto, using(crate::proofs::Turned::map_directed))]
+#[tactic(auto, using(store::proofs::Directed::map_directed))]
 pub(crate) fn find_sorted<S: Store>(
     alloc: Global,
     store: &mut S,
@@ -39,7 +39,7 @@ pub(crate) fn find_sorted<S: Store>(
     ensures reads { OnlyReads S.Store store.old store.new }
 {
     let sorted = sort_matches(alloc, store, db, rows, query)?;
-    let documents = turn(documents_of(alloc, sorted)?, query.descending);
+    let documents = reverse_if(documents_of(alloc, sorted)?, query.descending);
     Ok(take_part(alloc, documents, query)?)
 }
 
@@ -106,17 +106,6 @@ fn make_key(values: Vec<Json>) -> IndexKey
     ensures { result ≡ array (items_view values.items) }
 {
     IndexKey::new(Json::Array(values))
-}
-
-/// Turns the documents round, if they are to go down.
-fn turn(documents: Vec<Json>, descending: bool) -> Vec<Json>
-    ensures { result.items ≡ in_direction descending documents.items }
-{
-    let mut documents = documents;
-    if descending {
-        documents.reverse();
-    }
-    documents
 }
 
 /// Lists the documents in the order of their places.

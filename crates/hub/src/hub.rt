@@ -115,15 +115,4 @@ impl<S: Store + Drop> Hub<S> {
     {
         self.node.handle(request)
     }
-
-    /// Returns the node.
-    pub fn into_node(self) -> Node<S>
-        ensures { result ≡ self.node }
-    {
-        let Hub {
-            node,
-            connections: _,
-        } = self;
-        node
-    }
 }

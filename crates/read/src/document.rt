@@ -1,6 +1,5 @@
 ghost use Rattle.std.specs.Prelude.{◌≡◌, None, option_copied};
 ghost use Rattle.store.specs.Calls.{OnlyReads};
-ghost use Rattle.tree.specs.History.{held_of, is_deleted};
 ghost use Rattle.read.specs.Answers.{Answers, Shows};
 ghost use Rattle.read.specs.Shown.{document_by, document_in, found, shown_document};
 
@@ -49,19 +48,10 @@ pub(crate) fn winning_document(
     let Some(winner) = history.winner() else {
         return Err(ReadFault::Missing);
     };
-    if is_deleted(history, winner) {
+    if history.is_deleted(winner) {
         return Err(ReadFault::Deleted);
     }
     document(alloc, history, id, winner, revs)
-}
-
-fn is_deleted(history: &History, rev: &Rev) -> bool
-    ensures { result ≡ is_deleted (held_of history.now rev.now) }
-{
-    match history.body(rev) {
-        Some((deleted, _body)) => deleted,
-        None => false,
-    }
 }
 
 /// Returns a revision of a history, deleted or not, as it is shown.

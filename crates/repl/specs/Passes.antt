@@ -8,7 +8,7 @@ use Rattle.repl.specs.Calls.{Call, Revisions, read_checkpoint, write_checkpoint,
 use Rattle.repl.specs.Checkpoints.{Checkpoint, checkpoint_id, history_of, next_checkpoint, start_of}
 use Rattle.repl.specs.Configuration.{Configuration}
 use Rattle.repl.specs.Replies.{Changes, Opened, Stored, changes_listed, checkpoint_read, checkpoint_written, differences_read, documents_of, documents_pushed, missing_reports, revisions_opened}
-use Rattle.repl.specs.Shapes.{greatest_count}
+use Rattle.couch_json.specs.Range.{greatest_count}
 use Rattle.repl.specs.declared.phase.Phase.{Phase}
 use Rattle.repl.specs.declared.phase.Phase.TheVariants.{ReadSource, ReadTarget, ListChanges, Compare, Open, Push, WriteSource, WriteTarget, RereadSource, RereadTarget, Done, Stopped}
 use Rattle.repl.specs.declared.side.Side.{Side}

@@ -2,11 +2,8 @@
 -- RFC 8259 for the values; the greatest count, 2^63 - 1, is this server's own.
 use Rattle.std.specs.Prelude.{ℕ, ℤ, pos, negsuc, nat_le, if◌then◌else◌, List, [], ◌∷◌, Option, Some, None, option_map, option_and_then}
 use Rattle.couch_json.specs.Parts.{items_in, text_in, whole_in}
+use Rattle.couch_json.specs.Range.{greatest_count}
 use Rattle.couch_json.specs.Value.{Value, Items, no_items, item, member_of}
-
--- 2^63 - 1
-abbrev pub greatest_count : ℕ
-greatest_count = 9223372036854775807
 
 -- the number, where it is not less than 0 and not too great
 abbrev pub count_of : ℤ → Option ℕ

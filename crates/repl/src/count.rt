@@ -1,7 +1,8 @@
 ghost use Rattle.std.specs.Prelude.{◌≡◌, ◌<◌, ◌^◌, ◌+◌, min, nat_le, nat_lt, if◌then◌else◌, pos, option_map};
 ghost use Rattle.couch_json.specs.Value.{whole};
 ghost use Rattle.couch_json.specs.View.{view};
-ghost use Rattle.repl.specs.Shapes.{count_in, count_of, greatest_count};
+ghost use Rattle.couch_json.specs.Range.{greatest_count};
+ghost use Rattle.repl.specs.Shapes.{count_in, count_of};
 
 use couch_json::{Json, Number};
 

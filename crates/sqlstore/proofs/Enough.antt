@@ -9,6 +9,7 @@ use Rattle.std.specs.Cmp.Lexicographic.{slice_cmp}
 use Rattle.std.specs.List.{AllByRecursion}
 use Rattle.std.specs.Option.{option_to_list}
 use Rattle.std.specs.Ordering.{ordering_reverse}
+use Rattle.store.proofs.Directed.{filter-directed}
 use Rattle.store.specs.Pages.{SequenceRow, id_page, if_counted, in_direction, is_after_end_of, is_before_start_of, is_within, last_sequence, later_rows, row_counts, rows_within, up_to_limit}
 use Rattle.store.specs.declared.page.IdRange.{IdRange}
 use Rattle.store.specs.declared.page.IdRow.{IdRow}
@@ -65,21 +66,6 @@ within_range range start end s e id h =
 
 -- ---- rows by id
 
-reverse-cons : {X : Type 0} (x : X) (xs : List X) → reverse (x ∷ xs) ≡ reverse xs ++ x ∷ []
-reverse-cons x xs = reverse-append (x ∷ []) xs
-
-filter-reverse : {X : Type 0} (p : X → Bool) (xs : List X) → filter p (reverse xs) ≡ reverse (filter p xs)
-filter-reverse p [] = refl
-filter-reverse p (x ∷ xs) = ap (filter p) (reverse-cons x xs) ∙ filter-append p (reverse xs) (x ∷ []) ∙ ap (λ ys. ys ++ filter p (x ∷ [])) (filter-reverse p xs) ∙ by (p x)
-  where
-    by : (b : Bool) → reverse (filter p xs) ++ cond b (x ∷ []) [] ≡ reverse (cond b (x ∷ filter p xs) (filter p xs))
-    by true = sym (reverse-cons x (filter p xs))
-    by false = append-nil (reverse (filter p xs))
-
-filter_directed : {X : Type 0} (p : X → Bool) (descending : Bool) (xs : List X) → filter p (in_direction descending xs) ≡ in_direction descending (filter p xs)
-filter_directed p true xs = filter-reverse p xs
-filter_directed p false xs = refl
-
 abbrev shown : List ℕ → Bool → Option Revision → List IdRow
 shown id gone won = option_to_list (cond gone None (option_map (λ w. record { id = id; rev = w }) won))
 
@@ -107,7 +93,7 @@ live_left p (s ∷ rows) =
 module _ (range : IdRange) (p : List ℕ → Bool) (kept : (id : List ℕ) → is_within range id ≡ true → p id ≡ true) where
   within_left : (rs : List IdRow) → rows_within range (filter (λ (r : IdRow). p r.id) rs) ≡ rows_within range rs
   within_left rs =
-      ap (filter (λ (r : IdRow). is_within range r.id)) (sym (filter_directed (λ (r : IdRow). p r.id) range.descending rs))
+      ap (filter (λ (r : IdRow). is_within range r.id)) (sym (filter-directed (λ (r : IdRow). p r.id) range.descending rs))
       ∙ filter-filter (λ (r : IdRow). is_within range r.id) (λ (r : IdRow). p r.id) (λ r. kept r.id) (in_direction range.descending rs)
 
   uncounted_page : range.counted ≡ false → (a b : List IdRow) → rows_within range a ≡ rows_within range b → id_page range a ≡ id_page range b

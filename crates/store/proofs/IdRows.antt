@@ -15,6 +15,7 @@ use Rattle.store.specs.Pages.{IsIdRowOf, comes_before, in_direction, is_within, 
 use Rattle.store.specs.declared.page.IdRange.{IdRange}
 use Rattle.store.specs.declared.page.IdRow.{IdRow}
 use Rattle.store.proofs.Among.{all_in, from_filter, from_limited, in_filter}
+use Rattle.store.proofs.Directed.{from_directed, from_drop, in_directed, pairs_drop, pairs_reverse}
 use Rattle.store.proofs.Listings.{Entry, In, below_in, found_in, in_found}
 use Rattle.store.proofs.RowOrders.{pairs_limited}
 
@@ -53,46 +54,6 @@ in_live [] e v i is = absurd i
 in_live (f ∷ es) e v (inl i) is = subst (λ (x : Entry). In (live_rows (f ∷ es)) (record { id = x.0; rev = v })) i (row_first f (live_rev f.1.history) (live_rows es) v (ap (λ (x : Entry). live_rev x.1.history) i ∙ is))
 in_live (f ∷ es) e v (inr i) is = row_later f (live_rev f.1.history) (live_rows es) _ (in_live es e v i is)
 
--- ---- turned, cut
-
-from_append : {X : Type 0} (xs : List X) (y x : X) → In (xs ++ y ∷ []) x → (y ≡ x) ⊎ In xs x
-from_append [] y x (inl i) = inl i
-from_append [] y x (inr i) = absurd i
-from_append (z ∷ xs) y x (inl i) = inr (inl i)
-from_append (z ∷ xs) y x (inr i) = elim (from_append xs y x i) as (λ _. (y ≡ x) ⊎ In (z ∷ xs) x) [ inl k ↦ inl k | inr k ↦ inr (inr k) ]
-
-in_append : {X : Type 0} (xs : List X) (y x : X) → (y ≡ x) ⊎ In xs x → In (xs ++ y ∷ []) x
-in_append [] y x (inl i) = inl i
-in_append [] y x (inr i) = absurd i
-in_append (z ∷ xs) y x (inl i) = inr (in_append xs y x (inl i))
-in_append (z ∷ xs) y x (inr (inl i)) = inl i
-in_append (z ∷ xs) y x (inr (inr i)) = inr (in_append xs y x (inr i))
-
-reverse-cons : {X : Type 0} (y : X) (xs : List X) → reverse (y ∷ xs) ≡ reverse xs ++ y ∷ []
-reverse-cons y xs = reverse-append (y ∷ []) xs
-
-from_reverse : {X : Type 0} (xs : List X) (x : X) → In (reverse xs) x → In xs x
-from_reverse [] x i = i
-from_reverse (y ∷ xs) x i = elim (from_append (reverse xs) y x (subst (λ zs. In zs x) (reverse-cons y xs) i)) as (λ _. In (y ∷ xs) x) [ inl k ↦ inl k | inr k ↦ inr (from_reverse xs x k) ]
-
-in_reverse : {X : Type 0} (xs : List X) (x : X) → In xs x → In (reverse xs) x
-in_reverse [] x i = i
-in_reverse (y ∷ xs) x (inl i) = subst (λ zs. In zs x) (sym (reverse-cons y xs)) (in_append (reverse xs) y x (inl i))
-in_reverse (y ∷ xs) x (inr i) = subst (λ zs. In zs x) (sym (reverse-cons y xs)) (in_append (reverse xs) y x (inr (in_reverse xs x i)))
-
-pub from_directed : (descending : Bool) (rs : List IdRow) (r : IdRow) → In (in_direction descending rs) r → In rs r
-from_directed true rs r i = from_reverse rs r i
-from_directed false rs r i = i
-
-in_directed : (descending : Bool) (rs : List IdRow) (r : IdRow) → In rs r → In (in_direction descending rs) r
-in_directed true rs r i = in_reverse rs r i
-in_directed false rs r i = i
-
-from_drop : {X : Type 0} (n : ℕ) (xs : List X) (x : X) → In (drop n xs) x → In xs x
-from_drop zero xs x i = i
-from_drop (suc n) [] x i = i
-from_drop (suc n) (y ∷ xs) x i = inr (from_drop n xs x i)
-
 -- ---- both ways
 
 pub id_row_from : (range : IdRange) (db : Database) (r : IdRow) → In (page_of_ids range db).rows r → IsIdRowOf range db r
@@ -123,18 +84,6 @@ live_ascends (e ∷ es) h = by (live_rev e.1.history) (live_ascends es (second_s
         AllPairs-cons (λ (a b : IdRow). slice_cmp nat_cmp a.id b.id ≡ Less) (record { id = e.0; rev = v }) (live_rows es)
         (all_in (λ (b : IdRow). slice_cmp nat_cmp e.0 b.id ≡ Less) (live_rows es)
         (λ b i. let k = from_live es b i in ap (slice_cmp nat_cmp e.0) (sym k.key) ∙ below_in e.0 es k.entry (first_so _ _ h) k.among)) rest
-
-pairs_drop : {X : Type 0} (R : X → X → Type 0) (n : ℕ) (xs : List X) → AllPairs R xs → AllPairs R (drop n xs)
-pairs_drop R zero xs h = h
-pairs_drop R (suc n) [] h = h
-pairs_drop R (suc n) (x ∷ xs) h = pairs_drop R n xs (λ i j d lt within. h (suc i) (suc j) d (omega arith) (omega arith))
-
-pairs_reverse : {X : Type 0} (R : X → X → Type 0) (xs : List X) → AllPairs (λ a b. R b a) xs → AllPairs R (reverse xs)
-pairs_reverse R xs h = λ i j d lt within.
-    let long = length-reverse xs in
-    let a : get_or (reverse xs) i d ≡ get_or xs (length xs - 1 - i) d = get_or-reverse xs i d (omega arith) in
-    let b : get_or (reverse xs) j d ≡ get_or xs (length xs - 1 - j) d = get_or-reverse xs j d (omega arith) in
-    rw (a, b) (h (length xs - 1 - j) (length xs - 1 - i) d (omega arith) (omega arith))
 
 pairs_weaker : {X : Type 0} (R S : X → X → Type 0) (xs : List X) → ((a b : X) → R a b → S a b) → AllPairs R xs → AllPairs S xs
 pairs_weaker R S xs k h = λ i j d lt within. k _ _ (h i j d lt within)

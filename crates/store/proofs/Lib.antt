@@ -13,6 +13,7 @@ pub mod Bounds
 pub mod Cuts
 pub mod Calls
 pub mod RowOrders
+pub mod Directed
 pub mod IdRows
 pub mod NoRows
 pub mod FieldValues

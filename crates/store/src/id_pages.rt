@@ -61,7 +61,7 @@ pub fn cut_by_id(rows: Vec<IdRow>, range: &IdRange) -> Got<PageById>
 {
     let total = rows.len() as u64;
     let before = count_before(&rows, range);
-    let mut rows = rows_within(turn(rows, range.descending), range);
+    let mut rows = rows_within(reverse_if(rows, range.descending), range);
     let skipped = min(range.skip, rows.len() as u64);
     let rows = rows.split_off(skipped as usize)?;
     Ok(PageById {
@@ -106,15 +106,15 @@ pub(crate) fn find_live_rev(history: &History) -> Option<Rev>
     }
 }
 
-/// Turns the rows round where a listing goes down.
-pub(crate) fn turn<T: Drop>(rows: Vec<T>, descending: bool) -> Vec<T>
-    ensures { result.items ≡ in_direction descending rows.items }
+/// Returns the items as they are, or in reverse where a listing goes down.
+pub fn reverse_if<T: Drop>(items: Vec<T>, descending: bool) -> Vec<T>
+    ensures { result.items ≡ in_direction descending items.items }
 {
-    let mut rows = rows;
+    let mut items = items;
     if descending {
-        rows.reverse();
+        items.reverse();
     }
-    rows
+    items
 }
 
 /// Counts how many rows come before the start of the range.

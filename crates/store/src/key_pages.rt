@@ -12,7 +12,7 @@ ghost use Rattle.store.specs.Pages.{in_direction};
 ghost use Rattle.store.specs.Plain.{document_entries, gathered_after, history_after, place_views, places_over};
 ghost use Rattle.store.specs.Writing.{additions};
 
-use crate::id_pages::{counts_if, turn};
+use crate::id_pages::{counts_if, reverse_if};
 use crate::indexes::{read_index_fields, show_queried, values_at};
 use crate::key_page::{CutSide, IndexKey, KeyCut, KeyRange, KeyRow, PageByKey};
 use crate::order::{cut_to_limit, put_sorted};
@@ -68,7 +68,7 @@ pub fn cut_by_key(rows: Vec<KeyRow>, range: &KeyRange) -> Got<PageByKey>
 {
     let total = rows.len() as u64;
     let before = count_before(&rows, range);
-    let mut rows = rows_within(turn(rows, range.descending), range);
+    let mut rows = rows_within(reverse_if(rows, range.descending), range);
     let skipped = min(range.skip, rows.len() as u64);
     let rows = rows.split_off(skipped as usize)?;
     Ok(PageByKey {

@@ -33,6 +33,7 @@ mod write;
 pub use database_name::{DbName, NameFault};
 pub use failing_store::FailingStore;
 pub use fault::StoreFault;
+pub use id_pages::reverse_if;
 pub use indexes::{find_index, find_winning_body, show_queried, values_at};
 pub use key_page::{CutSide, IndexKey, KeyCut, KeyRange, KeyRow, PageByKey};
 pub use local_document::LocalDocument;

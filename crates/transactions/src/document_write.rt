@@ -17,8 +17,8 @@ ghost use Rattle.tables.specs.Edits.{IsWrite};
 ghost use Rattle.tables.specs.Layout.{AreKeyed, IsStore};
 ghost use Rattle.tables.specs.Rows.{history_in, length_of, number_of, parent_cell};
 ghost use Rattle.tables.specs.Schema.{docs_tree, revs_tree, schema};
-ghost use Rattle.tree.specs.History.{behind, held_of, is_deleted};
-ghost use Rattle.tree.specs.Nodes.{entries_before, next_of};
+ghost use Rattle.tree.specs.History.{behind};
+ghost use Rattle.tree.specs.Nodes.{entries_before};
 ghost use Rattle.tree.specs.Revision.{is_revision};
 ghost use Rattle.tree.specs.Write.{head};
 ghost use Rattle.transactions.specs.Commits.{IsUnwritten};
@@ -34,7 +34,7 @@ use store::Write;
 use tables::databases::advance_database;
 use tables::documents::{delete_document, insert_document};
 use tables::revisions::insert_revision;
-use tree::{History, Rev};
+use tree::{History, Rev, find_next};
 
 /// Puts in the row of one revision of a document that only stands in a path, if the history doesn't
 /// know it.
@@ -74,16 +74,6 @@ fn hash_of(parent: &Option<Rev>) -> Option<&str>
     match parent {
         Some(rev) => Some(rev.hash()),
         None => None,
-    }
-}
-
-/// Finds the newest revision of a path, or what it follows where it has none.
-fn find_next(path: &[Rev], parent: &Option<Rev>) -> Option<Rev>
-    ensures { result ≡ next_of path.now parent.now }
-{
-    match path.first() {
-        Some(rev) => Some(*rev),
-        None => *parent,
     }
 }
 
@@ -192,7 +182,7 @@ fn insert_revisions<S: Alter>(
     let id = write.id.as_str();
     walk_path(&write.path);
     let text = canon(alloc, &write.body)?;
-    let parent = known_parent(history, &write.parent);
+    let parent = history.known_parent(write.parent);
     insert_path(
         tx,
         db,
@@ -225,16 +215,6 @@ fn replace_document<S: Alter>(
     insert_document(tx, db, id, sequence, winner, deleted)
 }
 
-/// Tells whether a revision is deleted, as far as the history knows.
-fn is_deleted(history: &History, rev: &Rev) -> bool
-    ensures { result ≡ is_deleted (held_of history.now rev.now) }
-{
-    match history.body(rev) {
-        Some((deleted, _)) => deleted,
-        None => false,
-    }
-}
-
 /// Returns the text of the best revision, and whether it is deleted.
 fn best_of(alloc: Global, history: &History) -> Result<(String, bool), HistoryFault>
     ensures ok { IfOk result (λ best. IsBest history.now (string_bytes best.0) best.1) }
@@ -243,20 +223,9 @@ fn best_of(alloc: Global, history: &History) -> Result<(String, bool), HistoryFa
     let Some(rev) = history.winner() else {
         return Err(HistoryFault::Damaged);
     };
-    let deleted = is_deleted(history, rev);
+    let deleted = history.is_deleted(rev);
     let text = rev.text(alloc)?;
     Ok((text, deleted))
-}
-
-/// Returns the parent of a write where the history knows it.
-fn known_parent(history: &History, parent: &Option<Rev>) -> Option<Rev>
-    ensures { result ≡ head (behind history.now parent.now) }
-{
-    let Some(rev) = parent else {
-        return None;
-    };
-    prove!(rev.number() > 0);
-    if history.knows(rev) { Some(*rev) } else { None }
 }
 
 /// Does one write of a document, whose history is as it is before the write.

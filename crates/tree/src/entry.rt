@@ -1,5 +1,5 @@
 ghost use Rattle.std.specs.Prelude.{◌≡◌, IfOk};
-ghost use Rattle.tree.specs.History.{is_marked, names, same_parent};
+ghost use Rattle.tree.specs.History.{is_marked, same_parent};
 
 use crate::body::Body;
 use crate::revision::Rev;
@@ -49,16 +49,6 @@ impl Entry {
             parent: self.parent,
             held,
         })
-    }
-
-    /// Tells whether this is its parent.
-    pub fn has_parent(&self, rev: &Rev) -> bool
-        ensures { result ≡ names self.now.parent rev.now }
-    {
-        match self.parent {
-            Some(parent) => parent.cmp(rev).is_eq(),
-            None => false,
-        }
     }
 
     /// Tells whether it is deleted, or not, as the mark says.

@@ -2,7 +2,7 @@ ghost use Rattle.std.specs.Prelude.{◌≡◌, ◌≢◌, ◌++◌, Option, Some
 ghost use Rattle.std.specs.FinMap as map;
 ghost use Rattle.couch_json.specs.View.{view};
 ghost use Rattle.tree.specs.Write.{counts_down, head, is_whole};
-ghost use Rattle.tree.specs.History.{GoesOn, agrees, behind, chain, has_child, held_of, is_head_known, is_known, is_leaf, is_leaf_in, is_live, keeps_parents, leaves, leaves_marked, line, placement, row_of, winner, with_new, with_write};
+ghost use Rattle.tree.specs.History.{GoesOn, agrees, behind, chain, has_child, held_of, is_deleted, is_head_known, is_known, is_leaf, is_leaf_in, is_live, keeps_parents, leaves, leaves_marked, line, placement, row_of, winner, with_new, with_write};
 
 use crate::body::Body;
 use crate::entry::{Entry, Held};
@@ -121,7 +121,7 @@ impl History {
         let alloc = self.alloc;
         let body = Body::new(body.copy(alloc)?);
         let held = Held { deleted, body };
-        let parent = self.keep_known(parent);
+        let parent = self.known_parent(parent);
         nodes::put_path(
             alloc,
             &mut self.nodes,
@@ -207,6 +207,17 @@ impl History {
         Some((held.deleted, held.body.json()))
     }
 
+    /// Tells whether a revision deleted the document, as far as the history knows: one that is not known, or
+    /// only came inside a path, did not.
+    pub fn is_deleted(&self, rev: &Rev) -> bool
+        ensures { result ≡ is_deleted (held_of self.now rev.now) }
+    {
+        match self.body(rev) {
+            Some((deleted, _body)) => deleted,
+            None => false,
+        }
+    }
+
     /// Tells whether a revision is known and no known revision follows it.
     pub fn is_leaf(&self, rev: &Rev) -> bool
         ensures { result ≡ is_leaf self.now rev.now }
@@ -239,6 +250,19 @@ impl History {
             Ok(Placed::Known)
         } else {
             Ok(Placed::Added)
+        }
+    }
+
+    /// Returns the parent of a write where it is known.
+    pub fn known_parent(&self, parent: Option<Rev>) -> Option<Rev>
+        ensures { result ≡ head (behind self.now parent) }
+    {
+        let parent = parent?;
+        prove!(parent.number() > 0);
+        if self.knows(&parent) {
+            Some(parent)
+        } else {
+            None
         }
     }
 
@@ -334,19 +358,6 @@ impl History {
         match path.first() {
             Some(head) => self.knows(head),
             None => false,
-        }
-    }
-
-    /// Keeps the parent of a write where it is known.
-    fn keep_known(&self, parent: Option<Rev>) -> Option<Rev>
-        ensures { result ≡ head (behind self.now parent) }
-    {
-        let parent = parent?;
-        prove!(parent.number() > 0);
-        if self.knows(&parent) {
-            Some(parent)
-        } else {
-            None
         }
     }
 

@@ -26,6 +26,7 @@ pub use body::Body;
 pub use document_id::{DocId, IdFault};
 pub use history::History;
 pub use next_revision::{RevFault, next_rev};
+pub use nodes::find_next;
 pub use placement::{Placed, TreeFault};
 pub use revision::Rev;
 pub use shown_document::{show, show_members};

@@ -60,7 +60,7 @@ pub(crate) fn put_path(
 }
 
 /// Finds the newest revision of a path, or what it follows where it has none.
-fn find_next(path: &[Rev], parent: &Option<Rev>) -> Option<Rev>
+pub fn find_next(path: &[Rev], parent: &Option<Rev>) -> Option<Rev>
     ensures { result ≡ next_of path.now parent.now }
 {
     match path.first() {

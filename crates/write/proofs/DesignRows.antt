@@ -20,7 +20,8 @@ use Rattle.store.specs.Pages.{IdPage, in_direction, is_after_end_of, is_before_s
 use Rattle.store.specs.declared.page.IdRange.{IdRange}
 use Rattle.store.specs.declared.page.IdRow.{IdRow}
 use Rattle.store.proofs.Listings.{Entry, In, in_found}
-use Rattle.write.specs.Terms.{Terms, as_design_document, design_document_of, design_documents_in, live_body, rules_in, terms_in}
+use Rattle.write.specs.Terms.{Terms, as_design_document, design_document_of, design_documents_in, rules_in, terms_in}
+use Rattle.store.specs.Indexes.{winning_body}
 use Rattle.write.specs.declared.fault.WriteFault.{WriteFault}
 use Rattle.write.specs.TermsRead.{IsDesignRange, document_at}
 
@@ -68,7 +69,7 @@ rows_give range d [] is found = refl
 rows_give range d (e ∷ es) is found = by (rows_give range d es is (λ x i. found x (inr i))) (live_rev e.1.history) refl
   where
     read : document_at d e.0 ≡ design_document_of e
-    read = ap (λ o. as_design_document e.0 (live_body (history_in o))) (found e (inl refl))
+    read = ap (λ o. as_design_document e.0 (winning_body (history_in o))) (found e (inl refl))
 
     within : Gives range d es → (r : Revision) (b : Bool) → is_within range e.0 ≡ b
         → flat_map (λ r. document_at d r.id) (cond b (record { id = e.0; rev = r } ∷ filter (λ r. is_within range r.id) (live_rows es)) (filter (λ r. is_within range r.id) (live_rows es)))

@@ -1,6 +1,6 @@
 -- The terms on which a caller writes into a database: who writes where, and the rules that the database has as the request finds it.
 -- CouchDB manual, ddocs/ddocs, "Validate Document Update Functions"; that the winner of a design document decides, and that the terms stay for a whole request, is this server's own.
-use Rattle.std.specs.Prelude.{ℕ, List, [], Option, option_and_then, option_map, if◌then◌else◌}
+use Rattle.std.specs.Prelude.{ℕ, List, [], Option, option_map, if◌then◌else◌}
 use Rattle.std.specs.List.{flat_map}
 use Rattle.std.specs.Option.{option_to_list}
 use Rattle.std.specs.FinMap.{entries}
@@ -8,9 +8,8 @@ use Rattle.auth.specs.Callers.{Identity}
 use Rattle.couch_json.specs.Value.{Value}
 use Rattle.policy.specs.UpdateRules.{Rules, rules_of}
 use Rattle.tree.specs.DocumentId.{is_design_id}
-use Rattle.tree.specs.History.{HistoryContent, held_of}
 use Rattle.store.specs.Database.{Database, Document}
-use Rattle.store.specs.Pages.{live_rev}
+use Rattle.store.specs.Indexes.{winning_body}
 
 pub record Terms : Type 0 where
   -- who writes
@@ -22,16 +21,12 @@ pub record Terms : Type 0 where
   -- its update rules
   pub rules : Rules
 
--- the body of the winner, where that is not deleted
-abbrev pub live_body : HistoryContent → Option Value
-live_body h = option_and_then (λ r. option_map (λ d. d.body) (held_of h r)) (live_rev h)
-
 -- the id and the body, where it is a design document and there is a body
 abbrev pub as_design_document : List ℕ → Option Value → List (List ℕ × Value)
 as_design_document id body = if is_design_id id then option_to_list (option_map (λ b. (id, b)) body) else []
 
 abbrev pub design_document_of : List ℕ × Document → List (List ℕ × Value)
-design_document_of document = as_design_document document.0 (live_body document.1.history)
+design_document_of document = as_design_document document.0 (winning_body document.1.history)
 
 -- the design documents that are not deleted, each with the body of its winner, by id
 abbrev pub design_documents_in : Database → List (List ℕ × Value)

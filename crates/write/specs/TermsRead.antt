@@ -4,10 +4,11 @@ use Rattle.std.specs.Prelude.{◌≡◌, ℕ, false, true, List, None}
 use Rattle.couch_json.specs.Value.{Value}
 use Rattle.tree.specs.DocumentId.{is_design_id}
 use Rattle.store.specs.Database.{Database, history_at}
+use Rattle.store.specs.Indexes.{winning_body}
 use Rattle.store.specs.Pages.{is_within}
 use Rattle.store.specs.declared.page.IdRange.{IdRange}
 use Rattle.write.specs.Terms as defined
-use Rattle.write.specs.Terms.{as_design_document, live_body}
+use Rattle.write.specs.Terms.{as_design_document}
 use Rattle.write.specs.declared.terms.Terms.{Terms}
 
 abbrev pub terms_of : Terms → defined.Terms
@@ -15,7 +16,7 @@ terms_of t = record { caller = t.caller.now; name = t.name.now; security = t.sec
 
 -- what the document of this id is among the design documents of the database
 abbrev pub document_at : Database → List ℕ → List (List ℕ × Value)
-document_at db id = as_design_document id (live_body (history_at db id))
+document_at db id = as_design_document id (winning_body (history_at db id))
 
 -- all rows of design documents are in the range, ascending
 pub record IsDesignRange (range : IdRange) : Type 0 where

@@ -8,7 +8,8 @@ ghost use Rattle.store.specs.Database.{Database};
 ghost use Rattle.tree.specs.DocumentId.{is_design_id};
 ghost use Rattle.policy.specs.UpdateRules.{rules_of, with_rules};
 ghost use Rattle.write.specs.Refusing.{IsDecided, Refuses};
-ghost use Rattle.write.specs.Terms.{as_design_document, live_body, rules_in, terms_in};
+ghost use Rattle.store.specs.Indexes.{winning_body};
+ghost use Rattle.write.specs.Terms.{as_design_document, rules_in, terms_in};
 ghost use Rattle.write.specs.TermsRead.{IsDesignRange, document_at, terms_of};
 
 use crate::fault::WriteFault;
@@ -16,7 +17,7 @@ use auth::Caller;
 use couch_json::Got;
 use policy::{RuleSet, Security};
 use std::alloc::Global;
-use store::{DbName, IdRange, IdRow, RangeKey, Store};
+use store::{DbName, IdRange, IdRow, RangeKey, Store, find_winning_body};
 use tree::{DocId, History};
 
 /// The terms on which a caller writes into a database, as a request finds it.
@@ -143,13 +144,10 @@ fn take_rule<S: Store>(
 /// declares one.
 fn put_rule(rules: &mut RuleSet, id: &DocId, history: &History) -> Got<()>
     requires { is_design_id id.now ≡ true }
-    ensures ok { OnOk result (rules.new ≡ with_rules rules.old (as_design_document id.now (live_body history.now))) }
+    ensures ok { OnOk result (rules.new ≡ with_rules rules.old (as_design_document id.now (winning_body history.now))) }
 {
-    let Some(rev) = history.winner() else {
-        return Ok(());
-    };
-    match history.body(rev) {
-        Some((false, body)) => rules.put(id, body),
-        _ => Ok(()),
+    match find_winning_body(history) {
+        Some(body) => rules.put(id, body),
+        None => Ok(()),
     }
 }

@@ -3,12 +3,12 @@ use Rattle.std.proofs.Common.{◌≡◌, [], drop, length, map, rules, sym, take
 use Rattle.std.specs.FinMap as finite
 use Rattle.couch_json.specs.View.{view}
 use Rattle.store.specs.Contents.{Contents}
-use Rattle.store.specs.Pages.{page_of_ids}
+use Rattle.store.specs.Pages.{in_direction, page_of_ids}
 use Rattle.store.specs.Paging.{id_page_of}
 use Rattle.store.specs.declared.page.IdRange.{IdRange}
 use Rattle.store.proofs.Pagings.{no_length}
 use Rattle.find.proofs.Finding.{found_by_id, found_from, found_sorted}
-use Rattle.find.specs.Found.{found_documents, in_direction}
+use Rattle.find.specs.Found.{found_documents}
 use Rattle.find.specs.Matching.{matches_of, put_matches}
 use Rattle.find.proofs.documents.find.Goals as goal
 

@@ -8,7 +8,7 @@ returns-clause-page c =
     let range = c.args.range.now in
     let all = c.args.rows.items in
     let within = c.rows_within-rows.result.items in
-    let made = c.rows_within-rows.ensures.rows ∙ ap (filter (λ r. is_within range r.id)) c.turn.ensures in
+    let made = c.rows_within-rows.ensures.rows ∙ ap (filter (λ r. is_within range r.id)) c.reverse_if.ensures in
     let count : c.len.result ≡ length c.rows_within-rows.result.items = search rules in
     let least = c.min-skipped.ensures ∙ smaller range.skip c.len.result ∙ ap (min range.skip) count in
     let cut = c.cut_to_limit.ensures ∙ ap (up_to_limit range.limit) c.in_ok-rows.ensures.tail in
@@ -19,7 +19,7 @@ pub returns-clause-counted : goal.returns-clause-counted
 returns-clause-counted c =
     let range = c.args.range.now in
     let rows = c.args.rows.items in
-    let made = c.rows_within-rows.ensures.rows ∙ ap (filter (λ r. is_within range r.id)) c.turn.ensures in
+    let made = c.rows_within-rows.ensures.rows ∙ ap (filter (λ r. is_within range r.id)) c.reverse_if.ensures in
     let count : c.len.result ≡ length c.rows_within-rows.result.items = search rules in
     let least = c.min-skipped.ensures ∙ smaller range.skip c.len.result in
     let total : c.len-total.result ≡ length c.args.rows.items = search rules in
