@@ -1,16 +1,13 @@
 //! The program `couchd`: a laboratory that plays a script of nodes and connections, and a server.
 #![tactic(auto)]
 
-mod serve;
-mod store_file;
-
-use crate::serve::serve_file;
-use lab::{Plan, PlanFault, ProgramFault, Refusal, lab, plan};
+use command_line::{Plan, ProgramFault, Refusal, plan, words_of};
+use lab::lab;
+use server::serve_file;
 use sqlite::Unknown;
-use std::env::Env;
+use std::io;
 use std::io::{BufReader, BufWriter, Write};
 use std::process::ExitCode;
-use std::{env, io};
 
 /// Reads the command line and does what it says. The status is 0 at the end; 1 for a fault, with
 /// `couchd: ` and `file`, `socket`, `line N` or `memory` on standard error; 2 where the command line
@@ -48,15 +45,6 @@ fn run(rt: &HostRuntime) -> Result<u8, Refusal> {
                 conns,
             )?)
         }
-    }
-}
-
-/// Returns the words of the command line. One that is no text makes them invalid.
-fn words_of<R: Env + AllocGlobal>(rt: &R) -> Result<Vec<String>, PlanFault> {
-    match env::args(rt) {
-        Ok(words) => Ok(words.collect(rt.alloc())?),
-        Err(error) if error.kind() == io::ErrorKind::OutOfMemory => Err(PlanFault::Memory),
-        Err(_) => Err(PlanFault::Usage),
     }
 }
 
