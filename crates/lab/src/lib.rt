@@ -4,6 +4,7 @@
 
 mod escapes;
 mod fault;
+mod input;
 mod lab_store;
 mod layout;
 mod line;
@@ -19,5 +20,6 @@ mod stage;
 mod turn;
 mod words;
 
+pub use input::play_input;
 pub use lab_store::LabStore;
 pub use scripts::{lab, play_script};
