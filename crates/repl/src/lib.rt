@@ -7,6 +7,7 @@ mod calls;
 mod checkpoint;
 mod config;
 mod count;
+mod element;
 pub mod laws;
 mod members;
 mod opened;
