@@ -2,6 +2,7 @@
 #![tactic(auto)]
 
 mod ask;
+mod batch;
 mod bodies;
 mod calls;
 mod checkpoint;
@@ -24,6 +25,7 @@ mod spelling;
 mod why;
 
 pub use ask::Ask;
+pub use batch::Batch;
 pub use config::{Config, User};
 pub use phase::Phase;
 pub use replication::Replication;
