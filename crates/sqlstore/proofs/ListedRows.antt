@@ -18,16 +18,15 @@ use Rattle.store.specs.declared.page.SeqRange.{SeqRange}
 use Rattle.store.specs.declared.page.SeqRow.{SeqRow}
 use Rattle.sqlite_value.specs.Order.{Row}
 use Rattle.sqlite_trees.specs.Tree.{Trees}
-use Rattle.sqlite_keyed.proofs.ListLemmas.{all_both, map-map}
+use Rattle.sqlite_keyed.proofs.ListLemmas.{all-filter, all_both, all_map, map-map}
 use Rattle.sqlite_keyed.specs.Lists.{sort_by}
 use Rattle.tables.specs.Layout.{IsDatabaseRow, IsDocumentRow, IsLaid}
 use Rattle.tables.specs.Listings.{IsListedDocument, leaves_row, listed_counts, listed_mark, sequence_row}
 use Rattle.tables.specs.Rows.{by_id, by_sequence, is_in, listed_document, sequence_of}
 use Rattle.tables.specs.Schema.{dbs_tree, docs_tree, revs_tree}
-use Rattle.tables.proofs.ListingRows.{rows_of_a_listing}
+use Rattle.tables.proofs.ListingRows.{both_counted, rows_of_a_listing}
 use Rattle.tables.proofs.Sorted.{all_sorted}
 use Rattle.sqlstore.specs.Listing.{IsSequenceRow, listed_by_sequence, page_with_leaves, row_counts, with_leaves}
-use Rattle.transactions.proofs.Rows.{all_left, all_shown}
 
 -- ---- rows are told apart by numbers
 
@@ -52,7 +51,7 @@ places_set = Coded-set (coded_list place_code)
 
 pub listed_intact : (by : Row → Row → Ordering) (trees : Trees) (db : ℤ) → IsLaid trees → AllByRecursion IsListedDocument (map listed_document (sort_by by (filter (is_in db) (trees docs_tree))))
 listed_intact by trees db l =
-    all_shown IsListedDocument listed_document _ (all_sorted (λ r. IsListedDocument (listed_document r)) by _ (all_left (λ r. IsListedDocument (listed_document r)) (is_in db) _ (rows_of_a_listing trees l)))
+    all_map IsListedDocument listed_document _ (all_sorted (λ r. IsListedDocument (listed_document r)) by _ (all-filter (λ r. IsListedDocument (listed_document r)) (is_in db) _ (rows_of_a_listing trees l)))
 
 -- the row that is found is that of a database
 database_at : (p : Row → Bool) (rows : List Row) → AllByRecursion IsDatabaseRow rows → list_any p rows ≡ true → (d : Row) × (find p rows ≡ Some d) × IsDatabaseRow d
@@ -74,7 +73,7 @@ sequences_intact trees db l =
     let P : Row → Type 0 = λ r. IsSequenceRow (listed_document r) in
     let each : AllByRecursion (λ r. IsSequenceRow (listed_document r)) (trees docs_tree) =
     all_both (λ r. IsListedDocument (listed_document r)) (IsDocumentRow trees) P (λ r listed k. record { listed = listed; small = small_sequence trees l r k }) (trees docs_tree) (rows_of_a_listing trees l) l.docs in
-    all_shown IsSequenceRow listed_document _ (all_sorted P by_sequence _ (all_left P (is_in db) _ each))
+    all_map IsSequenceRow listed_document _ (all_sorted P by_sequence _ (all-filter P (is_in db) _ each))
 
 -- ---- counts
 
@@ -88,15 +87,6 @@ marked (s ∷ rows) (r ∷ read) e =
     sum_by-cons (λ (y : SeqRow). cond y.deleted 1 0) r read
     ∙ ap₂ (λ b n. cond b 1 0 + n) (sym (ap (λ (q : SequenceRow). q.deleted) first)) (marked rows read rest)
     ∙ sym (sum_by-cons (λ y. cond (listed_mark y) 1 0) s rows)
-
-both_counted : (p : Row → Bool) (xs : List Row) → count_by p xs + count_by (λ x. not (p x)) xs ≡ length xs
-both_counted p [] = omega arith
-both_counted p (x ∷ xs) =
-    go (p x) (count_by p (x ∷ xs)) (count_by (λ y. not (p y)) (x ∷ xs)) (sum_by-cons (λ y. cond (p y) 1 0) x xs) (sum_by-cons (λ y. cond (not (p y)) 1 0) x xs) (both_counted p xs)
-  where
-    go : (c : Bool) (m n : ℕ) → m ≡ cond c 1 0 + count_by p xs → n ≡ cond (not c) 1 0 + count_by (λ y. not (p y)) xs → count_by p xs + count_by (λ y. not (p y)) xs ≡ length xs → m + n ≡ length (x ∷ xs)
-    go true m n a b more = omega (arith, a, b, more)
-    go false m n a b more = omega (arith, a, b, more)
 
 pub counts_read : (rows : List Row) (read : List SeqRow) → map sequence_row rows ≡ sequence_rows read → row_counts read ≡ listed_counts rows
 counts_read rows read is =

@@ -14,10 +14,10 @@ use Rattle.store.specs.Lawful.{IsBody}
 use Rattle.store.specs.Writing.{Addition, writings_in}
 use Rattle.store.specs.declared.local_document.LocalDocument.{LocalDocument}
 use Rattle.tables.proofs.Lookups.{database_there}
-use Rattle.tables.proofs.LocalChanges.{another_local, written_store}
-use Rattle.tables.proofs.NewDatabases.{new_contents, new_store}
-use Rattle.tables.proofs.Removed.{fewer_databases, removed_store}
-use Rattle.tables.proofs.Secured.{another_security, secured_store}
+use Rattle.tables.proofs.LocalChanges.{written_store}
+use Rattle.tables.proofs.NewDatabases.{new_store}
+use Rattle.tables.proofs.Removed.{removed_store}
+use Rattle.tables.proofs.Secured.{secured_store}
 use Rattle.tables.specs.Edits.{HasWritten}
 use Rattle.tables.specs.Layout.{IsStore}
 use Rattle.tables.specs.Rows.{contents_in, database_cells, database_of, rows_with_security, with_cells}
@@ -56,7 +56,7 @@ module _ (new : Database) (name : List ℕ) where
         let free = ap (λ trees. get (contents_in trees) name) same ∙ none in
         let row = subst (λ t. Changes dbs_tree (with_cells (old.trees dbs_tree) (database_cells name t (pos 0))) old new) spelled
         (subst (λ n. Changes dbs_tree (with_cells (old.trees dbs_tree) (database_cells n text (pos 0))) old new) named change) in
-        (new_store old new name is lawful free row, new_contents old new name is lawful free row)
+        new_store old new name is lawful free row
 
     module _ (number : ℤ) (has : HasNumber last name number) where
       there : HasNumber old.trees name number
@@ -67,23 +67,19 @@ module _ (new : Database) (name : List ℕ) where
       secures v text security lawful spelled change =
           let row = subst (λ k. Changes dbs_tree (rows_with_security k (canonical v) (old.trees dbs_tree)) old new) (sym there.numbered)
           (subst (λ t. Changes dbs_tree (rows_with_security number t (old.trees dbs_tree)) old new) spelled change) in
-          (secured_store old new name there.row v is there.first security lawful row, another_security old new name there.row v is there.first security lawful row)
+          secured_store old new name there.row v is there.first security lawful row
 
       pub clears : Clears number old new → IsStore new × IsRemoved old
       clears change =
-          let c = subst (λ n. Clears n old new) (sym there.numbered) change in (
-            removed_store old c.undocumented c.unwritten c.bare new name there.row is there.first c.documents c.revisions c.locals c.row,
-            fewer_databases old c.undocumented c.unwritten c.bare new name there.row is there.first c.documents c.revisions c.locals c.row,
-          )
+          let c = subst (λ n. Clears n old new) (sym there.numbered) change in
+          removed_store old c.undocumented c.unwritten c.bare new name there.row is there.first c.documents c.revisions c.locals c.row
 
       pub puts : (id given text : List ℕ) (document : LocalDocument) → IsTrue (is_document_id id) → IsBody document.body → IsLawful document.body → document.number < 2 ^ 32 → given ≡ id → text ≡ canonical document.body
           → Replaces number given document.number text old new → IsStore new × HasLocal id document old
       puts id given text document named body lawful small same_id spelled change =
           let c = subst (λ k. Replaces k id document.number (canonical document.body) old new) (sym there.numbered)
-          (subst (λ x. Replaces number x document.number (canonical document.body) old new) same_id (subst (λ x. Replaces number given document.number x old new) spelled change)) in (
-            written_store old c.mid new name there.row id document is there.first named body lawful small c.out c.put,
-            another_local old c.mid new name there.row id document is there.first named body lawful small c.out c.put,
-          )
+          (subst (λ x. Replaces number x document.number (canonical document.body) old new) same_id (subst (λ x. Replaces number given document.number x old new) spelled change)) in
+          written_store old c.mid new name there.row id document is there.first named body lawful small c.out c.put
 
     pub appends : (all : List Addition) (number : ℤ) (sequence : ℕ) → AreDue all name number sequence last
         → ((due : AreDue all name number sequence old.trees) → HasWritten (writings_in (database_of old.trees due.row) all) name due.row old new) → IsStore new × IsWritten all old

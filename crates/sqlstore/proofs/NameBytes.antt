@@ -15,14 +15,13 @@ use Rattle.sqlite_value.specs.Order.{Row, column}
 use Rattle.sqlite_trees.specs.Tree.{Trees}
 use Rattle.sqlite_trees.proofs.ListLemmas.{all-permutation}
 use Rattle.sqlite_keyed.specs.Lists.{sort_by}
-use Rattle.sqlite_keyed.proofs.ListLemmas.{all_weaker, map-map}
+use Rattle.sqlite_keyed.proofs.ListLemmas.{all_map, all_weaker, map-map}
 use Rattle.sqlite_keyed.proofs.SortLemmas.{IsPermutation-sort_by}
 use Rattle.tables.specs.Layout.{IsDatabaseRow, IsLaid}
 use Rattle.tables.specs.Rows.{by_name, contents_in, name_of, shown_name}
 use Rattle.tables.specs.Schema.{dbs_tree}
 use Rattle.tables.proofs.Lookups.{names_found}
 use Rattle.sqlstore.specs.Reading.{IsShownName, name_shown}
-use Rattle.transactions.proofs.Rows.{all_shown}
 
 small : (b : ℕ) → is_name_byte b ≡ true → b < 128
 small b h = grind arith
@@ -41,7 +40,7 @@ shown_row r h = record { width = refl; name = ap (λ x. column x 2) h.is; lawful
 pub names_intact : (trees : Trees) (rows : List Row) → IsLaid trees → rows ≡ map shown_name (sort_by by_name (trees dbs_tree)) → AllByRecursion IsShownName rows
 names_intact trees rows l is =
     subst (AllByRecursion IsShownName) (sym is)
-    (all_shown IsShownName shown_name _ (all-permutation (λ r. IsShownName (shown_name r)) (trees dbs_tree) _ (IsPermutation-sym _ _ (IsPermutation-sort_by by_name (on_total name_of nat_list_cmp_total) (trees dbs_tree))) (all_weaker IsDatabaseRow (λ r. IsShownName (shown_name r)) shown_row _ l.dbs)))
+    (all_map IsShownName shown_name _ (all-permutation (λ r. IsShownName (shown_name r)) (trees dbs_tree) _ (IsPermutation-sym _ _ (IsPermutation-sort_by by_name (on_total name_of nat_list_cmp_total) (trees dbs_tree))) (all_weaker IsDatabaseRow (λ r. IsShownName (shown_name r)) shown_row _ l.dbs)))
 
 pub names_set : IsSet (Option (List (List ℕ)))
 names_set = Coded-set (coded_option (coded_list (coded_list coded_ℕ)))

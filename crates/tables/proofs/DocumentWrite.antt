@@ -28,14 +28,15 @@ use Rattle.tables.proofs.DocumentWriteDatabases as dbs
 use Rattle.tables.proofs.DocumentWriteDocuments as docs
 use Rattle.tables.proofs.DocumentWriteEntries.{IsKept, IsPathEntry, path_entries_are, entries_apart, entry_again, flag_again}
 use Rattle.tables.proofs.DocumentWriteHistories.{IsOther, AreApart, all-with_revisions, history_own, history_others, with_new_entries, unknown_apart, revisions_stay_apart}
-use Rattle.tables.proofs.DocumentWriteSteps.{IsAfter, written, revisions_changed, keyed-with_revisions}
+use Rattle.tables.proofs.DocumentWriteSteps.{after_write, written, revisions_changed, keyed-with_revisions}
+use Rattle.tables.proofs.Rests.{AreSame}
 use Rattle.tables.proofs.Lookups.{database_there, document_found, number_there, of_these, one_changed}
 use Rattle.tables.proofs.Single.{fails}
 use Rattle.tables.proofs.Tables.{databases_laid, docs_keyed, numbered_databases, revs_keyed}
 use Rattle.tables.proofs.Numbered.{numbered_from_keyed}
 use Rattle.tables.proofs.Kept.{databases-advanced}
 
-module _ (t u : Trees) (laid : IsLaid t) (name : List ℕ) (r : Row) (w : DocumentWrite) (best : Revision) (ok : IsWritable t name r w) (best_is : winner (history_after t r w) ≡ Some best) (after : IsAfter t u r w best) where
+module _ (t u : Trees) (laid : IsLaid t) (name : List ℕ) (r : Row) (w : DocumentWrite) (best : Revision) (ok : IsWritable t name r w) (best_is : winner (history_after t r w) ≡ Some best) (after : AreSame (after_write t r w best) u) where
   abbrev db : ℤ
   db = number_of r
 
@@ -242,7 +243,7 @@ module _ (t u : Trees) (laid : IsLaid t) (name : List ℕ) (r : Row) (w : Docume
 -- ---- the statements
 
 module _ (a e : sqlite.Database) (name : List ℕ) (r : Row) (w : DocumentWrite) (is : IsStore a) (ok : IsWritable a.trees name r w) (h : IsWrite r w a e) where
-  abbrev after : IsAfter a.trees e.trees r w h.best
+  abbrev after : AreSame (after_write a.trees r w h.best) e.trees
   after = written r w a e is.schema_is h
 
   pub one_write-store : IsStore e

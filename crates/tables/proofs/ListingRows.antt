@@ -83,7 +83,7 @@ counted p q f [] all = refl
 counted p q f (x ∷ xs) all =
     sum_by-cons (λ y. cond (p y) 1 0) (f x) (map f xs) ∙ ap₂ (λ b n. cond b 1 0 + n) all.0 (counted p q f xs all.1) ∙ sym (sum_by-cons (λ y. cond (q y) 1 0) x xs)
 
-both_counted : {A : Type 0} (p : A → Bool) (xs : List A) → count_by p xs + count_by (λ x. not (p x)) xs ≡ length xs
+pub both_counted : {A : Type 0} (p : A → Bool) (xs : List A) → count_by p xs + count_by (λ x. not (p x)) xs ≡ length xs
 both_counted p [] = omega arith
 both_counted p (x ∷ xs) =
     let a = sum_by-cons (λ y. cond (p y) 1 0) x xs in

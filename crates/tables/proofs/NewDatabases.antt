@@ -22,11 +22,11 @@ use Rattle.sqlite_keyed.proofs.ListLemmas.{all-append, all_weaker, ascending-app
 use Rattle.sqlite.specs.Effect as sqlite
 use Rattle.tables.specs.Layout.{IsDatabaseNumber, IsDatabaseRow, IsDocumentRow, IsLocalRow, IsRevisionRow, IsLaid, IsStore}
 use Rattle.tables.specs.Rows.{contents_in, database_cells, database_of, database_row, db_of, document_of, id_of, is_in, length_of, local_of, name_of, next_number, number_of, security_of, with_cells}
-use Rattle.tables.specs.Schema.{dbs_tree, docs_tree, revs_tree, locals_tree, meta_tree}
+use Rattle.tables.specs.Schema.{dbs_tree, docs_tree, revs_tree, locals_tree}
 use Rattle.tables.specs.Steps.{Changes}
 use Rattle.tables.proofs.Kept.{below_next, databases-with_cells}
 use Rattle.tables.proofs.RowMaps.{find_push, get_rows, rows_pushed, text_exact, text_tests}
-use Rattle.tables.proofs.Rests.{Leaves, contents_same, document_kept, laid_same, leaves, length_at, local_kept, revision_kept, spelled, trees_of}
+use Rattle.tables.proofs.Rests.{contents_same, document_kept, length_at, local_kept, next, revision_kept, spelled, store_of, unchanged, with_rows}
 use Rattle.tables.proofs.Single.{fails}
 use Rattle.tables.proofs.Tables.{databases_laid, numbered_databases}
 
@@ -80,7 +80,7 @@ module _ (trees : Trees) (h : IsLaid trees) (name : List ℕ) (is_name : IsTrue 
   new_row = database_row next name (canonical closed_security) (pos 0)
 
   abbrev made : Trees
-  made = trees_of (trees meta_tree) (rows ++ new_row ∷ []) (trees docs_tree) (trees revs_tree) (trees locals_tree)
+  made = with_rows trees dbs_tree (rows ++ new_row ∷ [])
 
   is_closed : security_of new_row ≡ closed_security
   is_closed = spelled closed_security closed_is_lawful (omega arith)
@@ -108,14 +108,14 @@ module _ (trees : Trees) (h : IsLaid trees) (name : List ℕ) (is_name : IsTrue 
     documents = finite.from_entries (map (λ r. (id_of r, document_of (trees revs_tree) r)) (no_documents i));
   }
 
-  pub made_contents : contents_in made ≡ finite.insert (contents_in trees) name new_database
+  made_contents : contents_in made ≡ finite.insert (contents_in trees) name new_database
   made_contents =
       rows_pushed nat_list_cmp_total text_exact name_of named (text_tests name_of) (database_of made) rows new_row fresh ∙ ap (finite.insert (contents_in trees) name) database_is
 
   lengths : (n : ℤ) → IsDatabaseNumber trees n → length_at (rows ++ new_row ∷ []) n ≡ length_at rows n
   lengths n there = ap (option_map length_of) (find_push (λ r. int_eq (number_of r) n) rows new_row there)
 
-  pub made_laid : IsLaid made
+  made_laid : IsLaid made
   made_laid = record {
     version = h.version;
     dbs_numbered = numbered_databases (rows ++ new_row ∷ []) (databases-with_cells rows name (canonical closed_security) 0 (databases_laid trees h));
@@ -139,16 +139,10 @@ module _ (trees : Trees) (h : IsLaid trees) (name : List ℕ) (is_name : IsTrue 
 
 module _ (old new : sqlite.Database) (name : List ℕ) (h : IsStore old) (is_name : IsTrue (is_database_name name)) (none : finite.get (contents_in old.trees) name ≡ None)
     (c : Changes dbs_tree (with_cells (old.trees dbs_tree) (database_cells name (canonical closed_security) (pos 0))) old new) where
-  rest : Leaves dbs_tree old.trees new.trees
-  rest = leaves dbs_tree (with_cells (old.trees dbs_tree) (database_cells name (canonical closed_security) (pos 0))) old new h.schema_is c
+  abbrev after : Trees
+  after = made old.trees h.laid name is_name none
 
-  pub new_store : IsStore new
-  new_store = record {
-    schema_is = c.schema ∙ h.schema_is;
-    laid = laid_same (made old.trees h.laid name is_name none) new.trees (rest.meta (omega arith)) c.rows (rest.docs (omega arith)) (rest.revs (omega arith)) (rest.locals (omega arith)) (made_laid old.trees h.laid name is_name none);
-  }
-
-  pub new_contents : contents_in new.trees ≡ finite.insert (contents_in old.trees) name new_database
-  new_contents =
-      contents_same (made old.trees h.laid name is_name none) new.trees (rest.meta (omega arith)) c.rows (rest.docs (omega arith)) (rest.revs (omega arith)) (rest.locals (omega arith))
-      ∙ made_contents old.trees h.laid name is_name none
+  pub new_store : IsStore new × (contents_in new.trees ≡ finite.insert (contents_in old.trees) name new_database)
+  new_store =
+      let same = next old.trees old new dbs_tree _ _ h.schema_is (unchanged old.trees) c refl in
+      (store_of after new (c.schema ∙ h.schema_is) same (made_laid old.trees h.laid name is_name none), contents_same after new.trees same ∙ made_contents old.trees h.laid name is_name none)

@@ -17,7 +17,7 @@ use Rattle.sqlite_rules.specs.Calls.{ids_of}
 use Rattle.sqlite_rules.specs.Action.{works}
 use Rattle.sqlite.specs.Effect.{Database, Answers, value_rows}
 use Rattle.sqlite.specs.Does.{Tally, Does, AtPlace, OnRows, Concludes}
-use Rattle.sqlite.specs.Listing.{understood}
+use Rattle.sqlite.specs.Listing.{understood, reads_listing}
 use Rattle.sqlite.specs.Rows.{Part, Written, Task, Edited, stamped, rowids_for, count_of, sequence, Counts, CountsIn, Gives}
 use Rattle.sqlite.specs.State.{State, Writes, mode_of}
 use Rattle.sqlite.proofs.Callers.{IsPlain, command_of, runs_as, one_step}
@@ -34,6 +34,7 @@ pub record IsPlainTable (schema : Schema) (at : ℕ) (table : Table) : Type 0 wh
 pub record IsCommand (schema : Schema) (text : List ℕ) (command : Command) : Type 0 where
   pub is : command_of (understood schema text) ≡ command
   pub plain : IsPlain (understood schema text)
+  pub unlisted : reads_listing schema text ≡ false
 
 -- a part that gave a value did not stop on the way
 pub went : {B E R : Type 0} {b : B} {Stops : E → Type 0} → ((stop : E) × Stops stop × (Ok b ≡ Err stop)) ⊎ R → R

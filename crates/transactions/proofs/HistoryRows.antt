@@ -16,7 +16,7 @@ use Rattle.tree.proofs.Revisions.{revision_cmp_exact}
 use Rattle.sqlite_value.specs.Order.{Row}
 use Rattle.sqlite_trees.specs.Tree.{IsAscending, Trees}
 use Rattle.sqlite_trees.proofs.ListLemmas.{all-permutation}
-use Rattle.sqlite_keyed.proofs.ListLemmas.{IsPermutation-filter, map-map}
+use Rattle.sqlite_keyed.proofs.ListLemmas.{IsPermutation-filter, all-filter, all_map, map-map}
 use Rattle.tables.specs.Layout.{IsLaid}
 use Rattle.tables.specs.Rows.{db_of, entry_of, history_in, id_of, is_of, revision_of, shown_revision}
 use Rattle.tables.specs.Schema.{revs_tree}
@@ -26,7 +26,6 @@ use Rattle.tables.proofs.Lookups.{of_these}
 use Rattle.tables.proofs.RowMaps.{get_filtered}
 use Rattle.tables.proofs.Single.{HasOneAtMost, one_order}
 use Rattle.transactions.specs.Reading.{entry_shown, history_shown}
-use Rattle.transactions.proofs.Rows.{all_left, all_shown}
 
 -- rows that are apart are so as they are shown, where some are left out
 module _ (R Q : Row → Row → Type 0) (show : Row → Row) (p : Row → Bool) (apart : (a b : Row) → p a ≡ true → p b ≡ true → R a b → Q (show a) (show b)) where
@@ -91,4 +90,4 @@ pub history_set : IsSet (Option HistoryContent)
 history_set = Coded-set (coded_option content_code)
 
 pub history_intact : (trees : Trees) (p : Row → Bool) (rows : List Row) → IsLaid trees → IsPermutation (map shown_revision (filter p (trees revs_tree))) rows → AllByRecursion IsShownRevision rows
-history_intact trees p rows l same = all-permutation IsShownRevision _ rows same (all_shown IsShownRevision shown_revision _ (all_left _ p _ (shown_revisions trees l)))
+history_intact trees p rows l same = all-permutation IsShownRevision _ rows same (all_map IsShownRevision shown_revision _ (all-filter _ p _ (shown_revisions trees l)))

@@ -1,4 +1,3 @@
-pub mod Rows
 pub mod Sequences
 pub mod HistoryRows
 pub mod Inserting

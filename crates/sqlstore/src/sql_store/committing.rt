@@ -1,8 +1,10 @@
 //! How writes of documents are appended to a database, in one transaction.
 
-ghost use Rattle.std.specs.Prelude.{◌+◌, ◌<◌, ◌^◌, ◌↔◌, IsTrue};
+ghost use Rattle.std.specs.Prelude.{◌≡◌, ◌+◌, ◌<◌, ◌^◌, ◌↔◌, IsTrue, option_map};
+ghost use Rattle.sqlstore.specs.Reading.{at_sequence};
 
 use crate::fault::judge_write;
+use crate::known_database::KnownDatabase;
 use crate::sql_store::SqlStore;
 use sqlite::Alter;
 use std::snapshot::Snapshot;
@@ -16,6 +18,16 @@ pub(crate) fn has_room(sequence: u64, count: usize) -> bool
     match sequence.checked_add(count as u64) {
         Some(last) => last < 1 << 63,
         None => false,
+    }
+}
+
+/// Returns what is known of a database, if something is, after its sequence moved to this one.
+fn advance(known: Option<KnownDatabase>, sequence: u64) -> Option<KnownDatabase>
+    ensures { result ≡ option_map (at_sequence sequence) known }
+{
+    match known {
+        Some(known) => Some(known.at_sequence(sequence)),
+        None => None,
     }
 }
 
@@ -44,9 +56,11 @@ impl<S: Alter> SqlStore<S> {
         ensures kept { OnErr result (self.new.last.value ≡ self.old.last.value) }
         ensures moves { Moves S.Store self.old self.new }
     {
+        let known = self.take_known(name);
         match commit_writes(self.alloc, &mut self.conn, number, sequence, writes) {
             Ok(()) => {
                 self.last = Snapshot::of(&self.conn);
+                self.known = advance(known, sequence + writes.len() as u64);
                 Ok(())
             }
             Err(fault) => Err(judge_write(&mut self.faults, fault)),

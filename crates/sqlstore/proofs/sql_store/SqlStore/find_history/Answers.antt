@@ -18,7 +18,7 @@ returns-clause-answer g c =
     answered g.S.Store s end (λ v. v) _ _ _ c.read_history.result c.read_history.ensures
     (λ honest.
     let rows : ∥ IsPermutation (shown id) c.deref.result.now ∥₁ =
-    ∥∥₁_map (c.in_ok-rows.ensures.ok honest)
+    ∥∥₁_map (c.in_ok-rows.ensures.found honest)
     (λ same. subst (IsPermutation (shown id)) (sym c.deref.ensures.value) (subst (λ l. IsPermutation l c.in_ok-rows.rows.items) (ap shown (c.as_bytes.ensures.value ∙ c.as_str.ensures.text)) same)) in
     let lay = laid g.S.Store s (was_honest g.S.Store s end c.revision_rows.ensures.stands honest) in (
       (λ none. ∥∥₁_elim lay (λ p q. absurd p) (λ l. ∥∥₁_elim rows (λ p q. absurd p) (λ same. none (history_intact trees (is_of n id) _ l same)))),

@@ -16,6 +16,6 @@ returns-clause-answer g c =
     let n = c.args.number.now in
     answered g.S.Store s end (λ ids. ids.items) _ _ _ c.read_ids.result c.read_ids.ensures
     (λ honest.
-    let rows = c.deref.ensures.value ∙ c.in_ok-rows.ensures.ok honest in
+    let rows = c.deref.ensures.value ∙ c.in_ok-rows.ensures.found honest in
     let lay = laid g.S.Store s (was_honest g.S.Store s end c.rows_by_id.ensures.stands honest) in
     ((λ none. ∥∥₁_elim lay (λ p q. absurd p) (λ l. none (subst (AllByRecursion IsListedDocument) (sym rows) (listed_intact by_id trees n l)))), ap (λ l. Some (map listed_id l)) (sym rows)))

@@ -19,6 +19,6 @@ returns-clause-answer g c =
     answered g.S.Store s end id_page_of _ _ _ c.read_page_by_id.result c.read_page_by_id.ensures.page
     (λ honest.
     let rows = c.deref.ensures.value in
-    let enough = c.in_ok-rows.ensures.ok honest in
+    let enough = c.in_ok-rows.ensures.found honest in
     let lay = laid g.S.Store s (was_honest g.S.Store s end c.rows_for_page_by_id.ensures.stands honest) in
     ((λ none. ∥∥₁_elim lay (λ p q. absurd p) (λ l. none (subst (AllByRecursion IsListedDocument) (sym rows) (enough.intact (listed_intact by_id trees n l))))), ap Some (sym enough.page) ∙ ap (λ l. Some (id_page c.args.range.now (live_rows l))) (sym rows)))

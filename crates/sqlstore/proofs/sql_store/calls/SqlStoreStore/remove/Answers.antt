@@ -1,4 +1,5 @@
 use Rattle.std.proofs.Common.{rules, ◌≡◌, Err, is_some, ap}
+use Rattle.sqlstore.specs.Reading.{numbers_in}
 use Rattle.sqlstore.specs.Model.{trees_of}
 use Rattle.sqlstore.proofs.Answering.{missing, there}
 use Rattle.sqlstore.proofs.Changing.{moves_then, same_contents, unchanged, whole, on_ok, was_honest}
@@ -14,7 +15,7 @@ returns-in_err-found-clause-changes g c = unchanged g.S.Store c.args.self.now c.
 
 pub returns-clause-there : goal.returns-clause-there
 returns-clause-there g c honest =
-    let found = there (trees_of g.S.Store c.args.self.now) c.args.name.now _ (c.in_ok-found.ensures.answer (was_honest g.S.Store c.find.new.self c.clear.new.self c.clear.ensures.moves honest)) in
+    let found = there numbers_in (trees_of g.S.Store c.args.self.now) c.args.name.now _ (c.in_ok-found.ensures.answer (was_honest g.S.Store c.find.new.self c.clear.new.self c.clear.ensures.moves honest)) in
     on_ok c.clear.result (ap is_some found.database)
 
 pub returns-clause-changes : goal.returns-clause-changes

@@ -1,6 +1,7 @@
 use Rattle.std.proofs.Common.{rules, ◌≡◌, Err, subst}
 use Rattle.store.specs.Contents.{IfThere}
 use Rattle.store.specs.Lawful.{IsBody}
+use Rattle.sqlstore.specs.Reading.{numbers_in}
 use Rattle.sqlstore.specs.Model.{trees_of}
 use Rattle.sqlstore.proofs.Answering.{missing, there, was_honest}
 use Rattle.sqlstore.proofs.Changing.{moves_then, same_contents, unchanged, whole}
@@ -16,7 +17,7 @@ returns-in_err-found-clause-changes g c = unchanged g.S.Store c.args.self.now c.
 
 pub put_local-requires-clause-body : goal.put_local-requires-clause-body
 put_local-requires-clause-body g c honest =
-    let found = there (trees_of g.S.Store c.args.self.now) c.args.name.now _ (c.in_ok-found.ensures.answer honest) in
+    let found = there numbers_in (trees_of g.S.Store c.args.self.now) c.args.name.now _ (c.in_ok-found.ensures.answer honest) in
     subst (λ o. IfThere o (λ _. IsBody c.args.document.now.body)) found.database (c.requires (was_honest g.S.Store c.args.self.now c.find.new.self c.find.ensures.stands honest))
 
 pub returns-clause-changes : goal.returns-clause-changes

@@ -12,4 +12,4 @@ returns-clause-answer g c =
     (λ honest.
     let was = was_honest g.S.Store c.args.self.now c.database_rows.new.self c.database_rows.ensures.stands honest in
     let shown = λ (n : List ℕ). map shown_database (filter (is_named n) (trees_of g.S.Store c.args.self.now dbs_tree)) in
-    database_read g.S.Store c.args.self.now c.args.name.now _ was (c.deref.ensures.value ∙ c.in_ok-rows.ensures.ok honest ∙ ap shown (c.as_bytes.ensures.value ∙ c.as_str.ensures.text)))
+    database_read g.S.Store c.args.self.now c.args.name.now _ was (c.deref.ensures.value ∙ c.in_ok-rows.ensures.found honest ∙ ap shown (c.as_bytes.ensures.value ∙ c.as_str.ensures.text)))
