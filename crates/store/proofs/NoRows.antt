@@ -15,7 +15,7 @@ use Rattle.store.specs.Plain.{gathered_after, with_write_at}
 use Rattle.store.specs.Writing.{Addition}
 use Rattle.store.specs.declared.page.IdRange.{IdRange}
 use Rattle.store.specs.declared.page.IdRow.{IdRow}
-use Rattle.store.proofs.IdRows.{from_directed}
+use Rattle.store.proofs.Directed.{from_directed}
 use Rattle.store.proofs.Listings.{In}
 
 -- none of the documents has an id that passes the test
