@@ -18,7 +18,7 @@ use Rattle.store.specs.Contents.{local_at}
 use Rattle.couch_json.specs.View.{view}
 use Rattle.sqlstore.specs.declared.known_database.DatabaseNumbers.{DatabaseNumbers}
 use Rattle.tables.specs.Layout.{IsDatabaseRow, IsLaid}
-use Rattle.sqlstore.specs.Standing.{WasStore}
+use Rattle.sqlstore.specs.Standing.{IsStanding, WasStore}
 use Rattle.tables.specs.Rows.{contents_in, database_of, is_named, is_of, local_of, next_number, shown_database, shown_local}
 use Rattle.tables.specs.Schema.{dbs_tree, locals_tree}
 use Rattle.tables.specs.Shown.{IsShownDatabase, IsShownLocal, local_shown}
@@ -26,7 +26,8 @@ use Rattle.tables.proofs.Laid.{shown_databases, shown_locals}
 use Rattle.tables.proofs.Lookups.{database_found, local_found}
 use Rattle.sqlstore.specs.Model.{Answers, OnlyReads, Stands, contents_of, is_honest, trees_of}
 use Rattle.transactions.specs.Reading.{IsRead}
-use Rattle.sqlstore.specs.Reading.{FoundValues, NumberValues, found_in, found_shown, numbers_in}
+use Rattle.sqlstore.specs.Reading.{FoundValues, NumberValues, found_in, found_shown, known_values, numbers_in}
+use Rattle.sqlstore.specs.declared.known_database.KnownDatabase.{KnownDatabase}
 use Rattle.sqlstore.specs.declared.sql_store.SqlStore.{SqlStore}
 
 -- what is said of the first of the shown rows is what is said of the first row
@@ -175,3 +176,13 @@ missing g old new name r fault is told h honest =
   where
     same_fault : {Y : Type 0} {a b : StoreFault} → ◌≡◌ {A = Result Y StoreFault} (Err a) (Err b) → a ≡ b
     same_fault e = cc
+
+-- what was found of a database may be known of it
+pub known_so : {S : Type 0} (g : Ghosts S) (old new : SqlStore S g) (name : List ℕ) (known : KnownDatabase) → Stands g old new → known.name ≡ name
+    → (is_honest g new → option_map found_in (slice_get (filter (is_named name) (trees_of g old dbs_tree)) 0) ≡ Some (known_values known)) → IsStanding g new.conn new.origin.value new.last.value (Some known)
+known_so g old new name known s named found = record {
+  idle = new.standing.idle;
+  unlimited = new.standing.unlimited;
+  held = new.standing.held;
+  known_so = λ clean was. (λ i. option_map found_in (slice_get (filter (is_named (named i)) ((state g (s.last i)).now.trees dbs_tree)) 0)) ∙ found (clean, was);
+}

@@ -1,7 +1,7 @@
 -- Contents are told apart by numbers, so any two proofs that they are equal are one.
 use base.Stored.{Coded-set}
 use Rattle.std.proofs.Common.{ℕ, List, Option, refl}
-use Rattle.std.specs.Coded.{Coded, code_by, coded×, coded_list, coded_option, coded_ℕ}
+use Rattle.std.specs.Coded.{Coded, code_by, coded×, coded_list, coded_option, coded_ℕ, coded_ℤ}
 use Rattle.std.specs.FinMap.{code}
 use Rattle.couch_json.specs.Code.{value_code}
 use Rattle.couch_json.specs.Value as json
@@ -10,6 +10,7 @@ use Rattle.tree.specs.HistoryCode.{content_code}
 use Rattle.store.specs.Contents.{Contents}
 use Rattle.store.specs.Database.{Database, Document, TextMap}
 use Rattle.store.specs.declared.local_document.LocalDocument.{LocalDocument}
+use Rattle.sqlstore.specs.Reading.{FoundValues}
 use Rattle.store.specs.contracts.local_document.LocalDocument as local
 
 text_code : Coded (List ℕ)
@@ -29,3 +30,6 @@ contents_set = Coded-set (code text_code database_code)
 
 pub some_contents_set : IsSet (Option Contents)
 some_contents_set = Coded-set (coded_option (code text_code database_code))
+
+pub found_set : IsSet (Option FoundValues)
+found_set = Coded-set (coded_option (coded× coded_ℤ (coded× value_code coded_ℕ)))

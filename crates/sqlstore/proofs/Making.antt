@@ -1,5 +1,5 @@
 -- What each change makes of the tables, whose rows are those that the last change left.
-use Rattle.std.proofs.Common.{◌≡◌, ◌<◌, ◌^◌, ◌∙◌, ℕ, ℤ, pos, List, IsTrue, None, Some, option_map, ap, subst, sym}
+use Rattle.std.proofs.Common.{IfSome, Option, ◌+◌, ap₂, filter, length, slice_get, ◌≡◌, ◌<◌, ◌^◌, ◌∙◌, ℕ, ℤ, pos, List, IsTrue, None, Some, option_map, ap, subst, sym}
 use Rattle.std.specs.FinMap.{get, insert, remove}
 use Rattle.couch_json.specs.Canonical.{canonical}
 use Rattle.couch_json.specs.Lawful.{IsLawful}
@@ -20,13 +20,17 @@ use Rattle.tables.proofs.Removed.{removed_store}
 use Rattle.tables.proofs.Secured.{secured_store}
 use Rattle.tables.specs.Edits.{HasWritten}
 use Rattle.tables.specs.Layout.{IsStore}
-use Rattle.tables.specs.Rows.{contents_in, database_cells, database_of, rows_with_security, with_cells}
+use Rattle.tables.specs.Rows.{contents_in, database_cells, database_of, is_named, length_of, rows_with_security, with_cells}
 use Rattle.tables.specs.Schema.{dbs_tree}
 use Rattle.tables.specs.Steps.{Changes}
 use Rattle.tree.specs.DocumentId.{is_document_id}
 use Rattle.transactions.specs.Commits.{AreDue}
 use Rattle.transactions.specs.Sequences.{Clears, Replaces}
-use Rattle.sqlstore.specs.Reading.{HasNumber}
+use Rattle.sqlstore.specs.Reading.{HasNumber, at_sequence, found_in, known_values}
+use Rattle.sqlstore.specs.Standing.{IsKnown}
+use Rattle.sqlstore.specs.declared.known_database.KnownDatabase.{KnownDatabase}
+use Rattle.sqlstore.proofs.ListedRows.{same_values}
+use Rattle.transactions.proofs.Committing.{length-writings_in}
 
 module _ (new : Database) (name : List ℕ) where
   -- a new database was put in
@@ -87,3 +91,24 @@ module _ (new : Database) (name : List ℕ) where
         let here = subst (AreDue all name number sequence) (sym same) due in
         let w = writes here in
         (w.store, ap (option_map (λ db. insert (contents_in old.trees) name (with_all db (writings_in db all)))) (database_there old.trees is.laid name here.row here.first) ∙ ap Some (sym w.contents))
+
+    -- what was known of the database is known of it at its new sequence
+    pub advances : (all : List Addition) (number : ℤ) (sequence : ℕ) → AreDue all name number sequence last
+        → ((due : AreDue all name number sequence old.trees) → HasWritten (writings_in (database_of old.trees due.row) all) name due.row old new)
+        → (k : KnownDatabase) → k.name ≡ name → IsKnown last (Some k) → IsKnown new.trees (Some (at_sequence (sequence + length all) k))
+    advances all number sequence due writes k named known =
+        let here = subst (AreDue all name number sequence) (sym same) due in
+        let w = writes here in
+        let was : Some (found_in here.row) ≡ Some (known_values k) =
+        ap (option_map found_in) (sym here.first) ∙ ap₂ (λ (t : Trees) n. option_map found_in (slice_get (filter (is_named n) (t dbs_tree)) 0)) same (sym named) ∙ known in
+        let values : found_in here.row ≡ known_values k = same_values _ _ was in
+        let count : length_of here.row + length (writings_in (database_of old.trees here.row) all) ≡ sequence + length all = ap₂ ◌+◌ here.counted (length-writings_in (database_of old.trees here.row) all) in
+        ap (λ n. option_map found_in (slice_get (filter (is_named n) (new.trees dbs_tree)) 0)) named ∙ ap (option_map found_in) w.row
+        ∙ (λ i. Some ((values i).0, (values i).1, count i))
+
+-- what is known after it, of what was known before
+pub known_after : (trees : Trees) (known : Option KnownDatabase) (name : List ℕ) (sequence : ℕ) (r : Option KnownDatabase)
+    → IfSome r (λ now. (was : KnownDatabase) × (known ≡ Some was) × (was.name ≡ name) × (now ≡ at_sequence sequence was))
+    → ((was : KnownDatabase) → known ≡ Some was → was.name ≡ name → IsKnown trees (Some (at_sequence sequence was))) → IsKnown trees r
+known_after trees known name sequence None h so = tt
+known_after trees known name sequence (Some now) h so = subst (λ k. IsKnown trees (Some k)) (sym h.3) (so h.0 h.1 h.2)

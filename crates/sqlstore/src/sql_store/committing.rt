@@ -1,6 +1,7 @@
 //! How writes of documents are appended to a database, in one transaction.
 
-ghost use Rattle.std.specs.Prelude.{◌≡◌, ◌+◌, ◌<◌, ◌^◌, ◌↔◌, IsTrue, option_map};
+ghost use Rattle.std.specs.Prelude.{◌≡◌, ◌+◌, ◌<◌, ◌^◌, ◌↔◌, IfSome, IsTrue, Some};
+ghost use Rattle.sqlstore.specs.declared.known_database.KnownDatabase.{KnownDatabase};
 ghost use Rattle.sqlstore.specs.Reading.{at_sequence};
 
 use crate::fault::judge_write;
@@ -21,13 +22,20 @@ pub(crate) fn has_room(sequence: u64, count: usize) -> bool
     }
 }
 
-/// Returns what is known of a database, if something is, after its sequence moved to this one.
-fn advance(known: Option<KnownDatabase>, sequence: u64) -> Option<KnownDatabase>
-    ensures { result ≡ option_map (at_sequence sequence) known }
+/// Returns what is known of the database of this name, if it is the known one, after its sequence moved to
+/// this one.
+fn advance(
+    known: Option<KnownDatabase>,
+    name: &DbName,
+    sequence: u64,
+) -> Option<KnownDatabase>
+    ensures { IfSome result (λ now. (was : KnownDatabase) × (known ≡ Some was) × (was.name ≡ name.now) × (now ≡ at_sequence sequence was)) }
 {
-    match known {
-        Some(known) => Some(known.at_sequence(sequence)),
-        None => None,
+    let known = known?;
+    if known.name == *name {
+        Some(known.at_sequence(sequence))
+    } else {
+        None
     }
 }
 
@@ -56,11 +64,11 @@ impl<S: Alter> SqlStore<S> {
         ensures kept { OnErr result (self.new.last.value ≡ self.old.last.value) }
         ensures moves { Moves S.Store self.old self.new }
     {
-        let known = self.take_known(name);
+        let known = self.known.take();
         match commit_writes(self.alloc, &mut self.conn, number, sequence, writes) {
             Ok(()) => {
                 self.last = Snapshot::of(&self.conn);
-                self.known = advance(known, sequence + writes.len() as u64);
+                self.known = advance(known, name, sequence + writes.len() as u64);
                 Ok(())
             }
             Err(fault) => Err(judge_write(&mut self.faults, fault)),

@@ -15,7 +15,7 @@ returns-clause-ok g c r clean store known numbered at =
     let inserted = state g.S.Store c.insert_revisions.new.tx.conn.now in
     let placed = state g.S.Store c.replace_document.new.tx.conn.now in
     let new = state g.S.Store c.advance_database.new.tx.conn.now in
-    let second : HasCleanDisk placed = omega (arith, c.advance_database.ensures.proceeds.survives.clean, clean) in
+    let second : HasCleanDisk placed = omega (arith, c.advance_database.ensures.alters.proceeds.survives.clean, clean) in
     let first : HasCleanDisk inserted = omega (arith, c.replace_document.ensures.proceeds.survives.clean, second) in
     let db = c.args.db.now in
     let text = c.as_str-2.result.now in
@@ -32,5 +32,5 @@ returns-clause-ok g c r clean store known numbered at =
     let document = subst (λ i. IsPlaced db i c.args.sequence.now text deleted inserted.now placed.now) (c.as_bytes-id.ensures.value ∙ c.as_str.ensures.text)
     (c.in_ok-replace_document.ensures.ok second (schema_after es db a.id old.now inserted.now store revisions) (docs_fit es db a.id old.now inserted.now store revisions)) in
     written h a text deleted {X = Unit {0}} {E = CommitFault} (Ok tt) r db c.args.sequence.now a.id old.now inserted.now placed.now new.now known numbered at refl revisions best document
-    (c.in_ok-advance_database.ensures.ok clean (schema_placed es db a.id old.now inserted.now store revisions c.args.sequence.now text deleted placed.now document)
+    (c.in_ok-advance_database.ensures.alters.ok clean (schema_placed es db a.id old.now inserted.now store revisions c.args.sequence.now text deleted placed.now document)
     (dbs_fit es db a.id old.now inserted.now store revisions c.args.sequence.now text deleted placed.now document))

@@ -1,0 +1,13 @@
+use Rattle.std.proofs.Common.{◌∙◌, ap, filter, option_map, slice_get}
+use Rattle.tables.specs.Rows.{is_named}
+use Rattle.tables.specs.Schema.{dbs_tree}
+use Rattle.sqlstore.specs.Model.{trees_of}
+use Rattle.sqlstore.specs.Reading.{found_in}
+use Rattle.sqlstore.proofs.Answering.{was_honest}
+use Rattle.sqlstore.proofs.sql_store.SqlStore.know.Goals as goal
+
+pub returns-in-Some-clause-answer : goal.returns-in-Some-clause-answer
+returns-in-Some-clause-answer g c honest =
+    let s = c.args.self.now in
+    ap (λ n. option_map found_in (slice_get (filter (is_named n) (trees_of g.S.Store s dbs_tree)) 0)) c.in-Some.ensures.named
+    ∙ c.in-Some.ensures.known (was_honest g.S.Store s c.take_known.new.self c.take_known.ensures.stands honest)
