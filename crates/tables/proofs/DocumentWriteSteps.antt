@@ -16,7 +16,7 @@ use Rattle.tables.specs.Rows.{number_of, length_of, is_of, with_cells, document_
 use Rattle.tables.specs.Schema.{schema, dbs_tree, docs_tree, revs_tree}
 use Rattle.tables.specs.Steps.{Changes}
 use Rattle.tables.proofs.Kept.{keyed-with_cells}
-use Rattle.tables.proofs.Rests.{AreSame, next, unchanged, with_rows}
+use Rattle.tables.proofs.Rests.{AreSame, after_change, unchanged, with_rows}
 
 -- two changes of one table are one
 pub changes_then : (tree : ℕ) (mid now : List Row) (a b c : Database) → Changes tree mid a b → Changes tree now b c → Changes tree now a c
@@ -60,7 +60,7 @@ written r w a e is h =
     let schema_b = one.schema ∙ is in
     let schema_c = h.removes.schema ∙ schema_b in
     let cells = document_cells (number_of r) w.id (pos (length_of r + 1)) (text_of h.best) (is_deleted (held_of (history_after a.trees r w) h.best)) in
-    let b = next a.trees a h.inserted revs_tree _ _ is (unchanged a.trees) one refl in
-    let c = next _ h.inserted h.removed docs_tree _ _ schema_b b h.removes (ap (filter (λ x. not (is_of (number_of r) w.id x))) b.docs) in
-    let d = next _ h.removed h.placed docs_tree _ _ schema_c c h.places (ap (λ rows. with_cells rows cells) c.docs) in
-    next _ h.placed e dbs_tree _ _ (h.places.schema ∙ schema_c) d h.advances (ap (rows_at_sequence (number_of r) (pos (length_of r + 1))) d.dbs)
+    let b = after_change a.trees a h.inserted revs_tree _ _ is (unchanged a.trees) one refl in
+    let c = after_change _ h.inserted h.removed docs_tree _ _ schema_b b h.removes (ap (filter (λ x. not (is_of (number_of r) w.id x))) b.docs) in
+    let d = after_change _ h.removed h.placed docs_tree _ _ schema_c c h.places (ap (λ rows. with_cells rows cells) c.docs) in
+    after_change _ h.placed e dbs_tree _ _ (h.places.schema ∙ schema_c) d h.advances (ap (rows_at_sequence (number_of r) (pos (length_of r + 1))) d.dbs)

@@ -28,7 +28,7 @@ use Rattle.tables.proofs.Kept.{keyed-filter, keyed-with_cells}
 use Rattle.tables.proofs.Lookups.{database_there, number_there, one_changed}
 use Rattle.tables.proofs.Numbered.{numbered_from_keyed}
 use Rattle.tables.proofs.RowMaps.{filter_apart, filter_left, filter_push, rows_replaced, text_exact, text_tests}
-use Rattle.tables.proofs.Rests.{contents_same, document_kept, local_kept, next, revision_kept, spelled, store_of, unchanged, with_rows}
+use Rattle.tables.proofs.Rests.{contents_same, document_kept, local_kept, after_change, revision_kept, spelled, store_of, unchanged, with_rows}
 use Rattle.tables.proofs.Single.{fails}
 use Rattle.tables.proofs.Sorted.{passing}
 use Rattle.tables.proofs.Tables.{locals_keyed}
@@ -133,9 +133,9 @@ module _ (a b c : sqlite.Database) (name : List ℕ) (d : Row) (id : List ℕ) (
 
   pub written_store : IsStore c × (option_map (λ db. finite.insert (contents_in a.trees) name (with_local db id document)) (finite.get (contents_in a.trees) name) ≡ Some (contents_in c.trees))
   written_store =
-      let one = next a.trees a b locals_tree _ _ h.schema_is (unchanged a.trees) first refl in
+      let one = after_change a.trees a b locals_tree _ _ h.schema_is (unchanged a.trees) first refl in
       let has = first.schema ∙ h.schema_is in
-      let same = next _ b c locals_tree _ _ has one second (ap (λ l. with_cells l (local_cells (number_of d) id document.number (canonical document.body))) one.locals) in (
+      let same = after_change _ b c locals_tree _ _ has one second (ap (λ l. with_cells l (local_cells (number_of d) id document.number (canonical document.body))) one.locals) in (
         store_of after c (second.schema ∙ has) same (written_laid a.trees h.laid name d is id document is_id body lawful small),
         ap (option_map (λ db. finite.insert (contents_in a.trees) name (with_local db id document))) (database_there a.trees h.laid name d is)
             ∙ ap Some (sym (contents_same after c.trees same ∙ written_contents a.trees h.laid name d is id document is_id body lawful small)),

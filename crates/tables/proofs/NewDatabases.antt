@@ -26,7 +26,7 @@ use Rattle.tables.specs.Schema.{dbs_tree, docs_tree, revs_tree, locals_tree}
 use Rattle.tables.specs.Steps.{Changes}
 use Rattle.tables.proofs.Kept.{below_next, databases-with_cells}
 use Rattle.tables.proofs.RowMaps.{find_push, get_rows, rows_pushed, text_exact, text_tests}
-use Rattle.tables.proofs.Rests.{contents_same, document_kept, length_at, local_kept, next, revision_kept, spelled, store_of, unchanged, with_rows}
+use Rattle.tables.proofs.Rests.{contents_same, document_kept, length_at, local_kept, after_change, revision_kept, spelled, store_of, unchanged, with_rows}
 use Rattle.tables.proofs.Single.{fails}
 use Rattle.tables.proofs.Tables.{databases_laid, numbered_databases}
 
@@ -144,5 +144,5 @@ module _ (old new : sqlite.Database) (name : List ℕ) (h : IsStore old) (is_nam
 
   pub new_store : IsStore new × (contents_in new.trees ≡ finite.insert (contents_in old.trees) name new_database)
   new_store =
-      let same = next old.trees old new dbs_tree _ _ h.schema_is (unchanged old.trees) c refl in
+      let same = after_change old.trees old new dbs_tree _ _ h.schema_is (unchanged old.trees) c refl in
       (store_of after new (c.schema ∙ h.schema_is) same (made_laid old.trees h.laid name is_name none), contents_same after new.trees same ∙ made_contents old.trees h.laid name is_name none)

@@ -21,7 +21,7 @@ use Rattle.tables.proofs.Kept.{databases-filter, keyed-filter}
 use Rattle.tables.proofs.Lookups.{by_number}
 use Rattle.tables.proofs.Numbered.{filter_on, numbered_from_keyed}
 use Rattle.tables.proofs.RowMaps.{any_found, filter_apart, find_apart, rows_alike, rows_removed, text_exact, text_tests}
-use Rattle.tables.proofs.Rests.{contents_same, document_kept, length_at, local_kept, next, revision_kept, store_of, unchanged, with_rows}
+use Rattle.tables.proofs.Rests.{contents_same, document_kept, length_at, local_kept, after_change, revision_kept, store_of, unchanged, with_rows}
 use Rattle.tables.proofs.Sorted.{passing}
 use Rattle.tables.proofs.Tables.{databases_laid, docs_keyed, locals_keyed, numbered_databases, revs_keyed}
 
@@ -131,8 +131,8 @@ module _ (a b c d e : sqlite.Database) (name : List ℕ) (w : Row) (h : IsStore 
       let has_b = docs.schema ∙ h.schema_is in
       let has_c = revs.schema ∙ has_b in
       let has_d = locals.schema ∙ has_c in
-      let one = next a.trees a b docs_tree _ _ h.schema_is (unchanged a.trees) docs refl in
-      let two = next _ b c revs_tree _ _ has_b one revs (ap (outside n) one.revs) in
-      let three = next _ c d locals_tree _ _ has_c two locals (ap (outside n) two.locals) in
-      let same = next _ d e dbs_tree _ _ has_d three dbs (ap (filter (λ r. not (has_number n r))) three.dbs) in
+      let one = after_change a.trees a b docs_tree _ _ h.schema_is (unchanged a.trees) docs refl in
+      let two = after_change _ b c revs_tree _ _ has_b one revs (ap (outside n) one.revs) in
+      let three = after_change _ c d locals_tree _ _ has_c two locals (ap (outside n) two.locals) in
+      let same = after_change _ d e dbs_tree _ _ has_d three dbs (ap (filter (λ r. not (has_number n r))) three.dbs) in
       (store_of after e (dbs.schema ∙ has_d) same (removed_laid a.trees h.laid name w is), contents_same after e.trees same ∙ removed_contents a.trees h.laid name w is)

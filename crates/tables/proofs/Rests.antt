@@ -110,8 +110,8 @@ abbrev pub with_rows : Trees → ℕ → List Row → Trees
 with_rows trees tree rows t = cond (eqb t tree) rows (trees t)
 
 -- a further change
-pub next : (a : Trees) (b c : sqlite.Database) (tree : ℕ) (rows now : List Row) → b.schema ≡ schema → AreSame a b.trees → Changes tree rows b c → rows ≡ now → AreSame (with_rows a tree now) c.trees
-next a b c tree rows now is same h rows_are =
+pub after_change : (a : Trees) (b c : sqlite.Database) (tree : ℕ) (rows now : List Row) → b.schema ≡ schema → AreSame a b.trees → Changes tree rows b c → rows ≡ now → AreSame (with_rows a tree now) c.trees
+after_change a b c tree rows now is same h rows_are =
     let rest = leaves tree rows b c is h in
     record { meta = at meta_tree rest.meta same.meta; dbs = at dbs_tree rest.dbs same.dbs; docs = at docs_tree rest.docs same.docs; revs = at revs_tree rest.revs same.revs; locals = at locals_tree rest.locals same.locals }
   where

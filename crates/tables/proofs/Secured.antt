@@ -23,7 +23,7 @@ use Rattle.tables.specs.Steps.{Changes}
 use Rattle.tables.proofs.Kept.{databases-secured}
 use Rattle.tables.proofs.Lookups.{database_there, one_changed}
 use Rattle.tables.proofs.RowMaps.{option_map-cond}
-use Rattle.tables.proofs.Rests.{contents_same, document_kept, length_at, local_kept, next, revision_kept, spelled, store_of, unchanged, with_rows}
+use Rattle.tables.proofs.Rests.{contents_same, document_kept, length_at, local_kept, after_change, revision_kept, spelled, store_of, unchanged, with_rows}
 use Rattle.tables.proofs.Tables.{databases_laid, numbered_databases}
 
 -- rows that keep their numbers and their lengths
@@ -123,7 +123,7 @@ module _ (old new : sqlite.Database) (name : List ℕ) (d : Row) (v : json.Value
 
   pub secured_store : IsStore new × (option_map (λ db. finite.insert (contents_in old.trees) name (with_security db v)) (finite.get (contents_in old.trees) name) ≡ Some (contents_in new.trees))
   secured_store =
-      let same = next old.trees old new dbs_tree _ _ h.schema_is (unchanged old.trees) c refl in (
+      let same = after_change old.trees old new dbs_tree _ _ h.schema_is (unchanged old.trees) c refl in (
         store_of after new (c.schema ∙ h.schema_is) same (secured_laid old.trees h.laid name d is v secure lawful),
         ap (option_map (λ db. finite.insert (contents_in old.trees) name (with_security db v))) (database_there old.trees h.laid name d is)
             ∙ ap Some (sym (contents_same after new.trees same ∙ secured_contents old.trees h.laid name d is v secure lawful)),
