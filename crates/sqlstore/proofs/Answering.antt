@@ -184,5 +184,5 @@ known_so g old new name known s named found = record {
   idle = new.standing.idle;
   unlimited = new.standing.unlimited;
   held = new.standing.held;
-  known_so = λ clean was. (λ i. option_map found_in (slice_get (filter (is_named (named i)) ((state g (s.last i)).now.trees dbs_tree)) 0)) ∙ found (clean, was);
+  known_so = λ clean was. ∣ (λ i. option_map found_in (slice_get (filter (is_named (named i)) ((state g (s.last i)).now.trees dbs_tree)) 0)) ∙ found (clean, was) ∣₁;
 }

@@ -11,12 +11,13 @@ use Rattle.transactions.proofs.Committing.{on_err}
 use Rattle.sqlstore.specs.Model.{ChangesWhole, Moves, Stands, contents_of, is_honest}
 use Rattle.transactions.specs.Endings.{Turns}
 use Rattle.sqlstore.specs.Standing.{Holds, IsStanding, WasStore}
+use Rattle.sqlstore.specs.declared.known_database.KnownDatabase.{KnownDatabase}
 use Rattle.sqlstore.specs.declared.sql_store.SqlStore.{SqlStore}
 
-module _ {S : Type 0} (g : Ghosts S) (old new origin last : Held S) (turns : Turns g old new) (s : IsStanding g old origin last None) where
+module _ {S : Type 0} (g : Ghosts S) (old new origin last : Held S) (turns : Turns g old new) {known : Option KnownDatabase} (s : IsStanding g old origin last known) where
   -- a transaction that was undone leaves a store standing
   pub undone : (IsStore (state g old).now → (state g old).now.trees ≡ (state g last).now.trees → HasCleanDisk (state g new) → WasStore g origin → IsTrue (state g new).is_open
-      → ((state g new).now ≡ (state g old).committed) × ((state g new).committed ≡ (state g old).committed)) → IsStanding g new origin last None
+      → ((state g new).now ≡ (state g old).committed) × ((state g new).committed ≡ (state g old).committed)) → IsStanding g new origin last known
   undone left = record {
     idle = turns.idle;
     unlimited = turns.limit ∙ s.unlimited;
@@ -28,7 +29,7 @@ module _ {S : Type 0} (g : Ghosts S) (old new origin last : Held S) (turns : Tur
           now = λ up. (settled up).0 ∙ h.committed (turns.was_open clean up);
           committed = λ up. (settled up).1 ∙ h.committed (turns.was_open clean up);
         });
-    known_so = λ clean is. tt;
+    known_so = λ clean is. s.known_so (turns.clean clean) is;
   }
 
   -- One that was committed makes a store of one, and this of its rows. So the store stands on the new ones, and it is so of those that the last change left.
@@ -50,7 +51,7 @@ module _ {S : Type 0} (g : Ghosts S) (old new origin last : Held S) (turns : Tur
         now = λ up. ap (λ x. (state g x).now) (sym is_new);
         committed = λ up. sym (done clean).2 ∙ ap (λ x. (state g x).now) (sym is_new);
       });
-      known_so = λ clean is. tt;
+      known_so = λ clean is. ∣ tt ∣₁;
     }
 
     pub told : IsProp (P (state g last).now) → HasCleanDisk (state g new) → WasStore g origin → P (state g last).now

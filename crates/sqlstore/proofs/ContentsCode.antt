@@ -1,6 +1,6 @@
 -- Contents are told apart by numbers, so any two proofs that they are equal are one.
 use base.Stored.{Coded-set}
-use Rattle.std.proofs.Common.{ℕ, List, Option, refl}
+use Rattle.std.proofs.Common.{ℕ, ℤ, List, Option, refl}
 use Rattle.std.specs.Coded.{Coded, code_by, coded×, coded_list, coded_option, coded_ℕ, coded_ℤ}
 use Rattle.std.specs.FinMap.{code}
 use Rattle.couch_json.specs.Code.{value_code}
@@ -31,5 +31,8 @@ contents_set = Coded-set (code text_code database_code)
 pub some_contents_set : IsSet (Option Contents)
 some_contents_set = Coded-set (coded_option (code text_code database_code))
 
+found_code : Coded FoundValues
+found_code = code_by (ℤ × (json.Value × ℕ)) (coded× coded_ℤ (coded× value_code coded_ℕ)) (λ v. (v.0, (v.1, v.2))) (λ p. (p.0, p.1.0, p.1.1)) (λ _. refl)
+
 pub found_set : IsSet (Option FoundValues)
-found_set = Coded-set (coded_option (coded× coded_ℤ (coded× value_code coded_ℕ)))
+found_set = Coded-set (coded_option found_code)

@@ -109,6 +109,6 @@ module _ (new : Database) (name : List ℕ) where
 -- what is known after it, of what was known before
 pub known_after : (trees : Trees) (known : Option KnownDatabase) (name : List ℕ) (sequence : ℕ) (r : Option KnownDatabase)
     → IfSome r (λ now. (was : KnownDatabase) × (known ≡ Some was) × (was.name ≡ name) × (now ≡ at_sequence sequence was))
-    → ((was : KnownDatabase) → known ≡ Some was → was.name ≡ name → IsKnown trees (Some (at_sequence sequence was))) → IsKnown trees r
-known_after trees known name sequence None h so = tt
-known_after trees known name sequence (Some now) h so = subst (λ k. IsKnown trees (Some k)) (sym h.3) (so h.0 h.1 h.2)
+    → ((was : KnownDatabase) → known ≡ Some was → was.name ≡ name → ∥ IsKnown trees (Some (at_sequence sequence was)) ∥₁) → ∥ IsKnown trees r ∥₁
+known_after trees known name sequence None h so = ∣ tt ∣₁
+known_after trees known name sequence (Some now) h so = subst (λ k. ∥ IsKnown trees (Some k) ∥₁) (sym h.3) (so h.0 h.1 h.2)

@@ -62,7 +62,7 @@ module _ {S : Type 0} (g : Ghosts S) (old new origin last : Held S) where
 
 -- it stands too where nothing is known of a database
 pub dropped : {S : Type 0} (g : Ghosts S) {conn origin last : Held S} {known : Option KnownDatabase} → IsStanding g conn origin last known → IsStanding g conn origin last None
-dropped g s = record { idle = s.idle; unlimited = s.unlimited; held = s.held; known_so = λ clean is. tt }
+dropped g s = record { idle = s.idle; unlimited = s.unlimited; held = s.held; known_so = λ clean is. ∣ tt ∣₁ }
 
 -- what a statement reads and its answer told are what a store finds
 module _ {S : Type 0} (g : Ghosts S) (old new : SqlStore S g) {X : Type 0} (P : Trees → X → Type 0) (prop : (trees : Trees) (x : X) → IsProp (P trees x)) where

@@ -36,4 +36,4 @@ module _ {S : Type 0} (g : Ghosts S) where
     pub idle : conn.in_transaction ≡ false
     pub unlimited : conn.step_limit ≡ None
     pub held : IsHeld conn origin last
-    pub known_so : HasCleanDisk (state g conn) → WasStore origin → IsKnown (state g last).now.trees known
+    pub known_so : HasCleanDisk (state g conn) → WasStore origin → ∥ IsKnown (state g last).now.trees known ∥₁

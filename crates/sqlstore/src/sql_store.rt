@@ -49,7 +49,7 @@ impl<S: Alter> SqlStore<S> {
 }
 
 impl<S: Alter + Drop> SqlStore<S> {
-    ghost use Rattle.std.specs.Prelude.{◌⊎◌, ◌≢◌, Err, IfErr, IfOk, IsTrue, true};
+    ghost use Rattle.std.specs.Prelude.{◌≡◌, ◌⊎◌, ◌≢◌, Err, IfErr, IfOk, IsTrue, false, true};
     ghost use Rattle.std.specs.FinMap.{empty};
     ghost use Rattle.sqlite.specs.Held.{state};
     ghost use Rattle.sqlite.specs.State.{HasCleanDisk};

@@ -64,10 +64,10 @@ impl<S: Alter> SqlStore<S> {
         ensures kept { OnErr result (self.new.last.value ≡ self.old.last.value) }
         ensures moves { Moves S.Store self.old self.new }
     {
-        let known = self.known.take();
         match commit_writes(self.alloc, &mut self.conn, number, sequence, writes) {
             Ok(()) => {
                 self.last = Snapshot::of(&self.conn);
+                let known = self.known.take();
                 self.known = advance(known, name, sequence + writes.len() as u64);
                 Ok(())
             }

@@ -17,7 +17,7 @@ impl<S: Alter> SqlStore<S> {
     /// Takes out what is known of a database, where it is the one of this name.
     fn take_known(&mut self, name: &DbName) -> Option<KnownDatabase>
         ensures named { IfSome result (λ known. known.name ≡ name.now) }
-        ensures known { is_honest S.Store self.old → IsKnown (trees_of S.Store self.old) result }
+        ensures known { is_honest S.Store self.old → ∥ IsKnown (trees_of S.Store self.old) result ∥₁ }
         ensures stands { Stands S.Store self.old self.new }
     {
         let known = self.known.take()?;

@@ -1,4 +1,5 @@
 use Rattle.std.proofs.Common.{◌∙◌, ◌+◌, Some, ap, filter, length, option_map, slice_get, subst, sym}
+use Rattle.std.proofs.Math.Logic.{∥∥₁_map, ∥∥₁_prop}
 use Rattle.std.proofs.lemmas.List.{length-map}
 use Rattle.sqlite.specs.Held.{Held, state}
 use Rattle.store.specs.Writing.{addition_of, additions}
@@ -9,7 +10,7 @@ use Rattle.sqlstore.specs.Standing.{IsKnown}
 use Rattle.transactions.specs.Commits.{AreDue}
 use Rattle.sqlstore.proofs.Changing.{stands, told, undone}
 use Rattle.sqlstore.proofs.Committed.{due_at, sound, told as told_of}
-use Rattle.sqlstore.proofs.ContentsCode.{found_set, some_contents_set}
+use Rattle.sqlstore.proofs.ContentsCode.{some_contents_set}
 use Rattle.sqlstore.proofs.Making.{IsWritten, advances, appends, known_after}
 use Rattle.sqlstore.proofs.Standing.{dropped}
 use Rattle.sqlstore.proofs.sql_store.SqlStore.append.Goals as goal
@@ -24,14 +25,15 @@ invariant_of-self g c =
     let x = stands g.S.Store s.conn c.commit_writes.new.conn s.origin.value s.last.value e.turns (dropped g.S.Store s.standing) e.done (IsWritten new.now name all)
     (λ clean was is store same. appends new.now name _ _ store same all c.args.number.now c.args.sequence (c.requires.due (was, is)) (e.ok name clean store)) c.of.result.value c.of.ensures in
     record { standing = record { idle = x.idle; unlimited = x.unlimited; held = x.held; known_so = λ clean is.
-        known_after (state g.S.Store c.of.result.value).now.trees s.known name (c.args.sequence + length c.args.writes.now) c.advance.result c.advance.ensures (λ was kept named.
-        ap (λ (h : Held g.row.S.Denot). option_map found_in (slice_get (filter (is_named was.name) ((state g.S.Store h).now.trees dbs_tree)) 0)) c.of.ensures
-        ∙ told g.S.Store s.conn c.commit_writes.new.conn s.origin.value s.last.value e.turns (dropped g.S.Store s.standing) e.done (λ _. IsKnown new.now.trees (Some (at_sequence (c.args.sequence + length all) was)))
+        known_after (state g.S.Store c.of.result.value).now.trees c.take-known.result name (c.args.sequence + length c.args.writes.now) c.advance.result c.advance.ensures (λ was kept named.
+        subst (λ (h : Held g.row.S.Denot). ∥ IsKnown (state g.S.Store h).now.trees (Some (at_sequence (c.args.sequence + length c.args.writes.now) was)) ∥₁) (sym c.of.ensures)
+        (subst (λ n. ∥ IsKnown new.now.trees (Some (at_sequence (c.args.sequence + n) was)) ∥₁) (length-map c.args.writes.now addition_of)
+        (told g.S.Store s.conn c.commit_writes.new.conn s.origin.value s.last.value e.turns (dropped g.S.Store s.standing) e.done (λ _. ∥ IsKnown new.now.trees (Some (at_sequence (c.args.sequence + length all) was)) ∥₁)
         (λ clean honest is store same. (
           (appends new.now name _ _ store same all c.args.number.now c.args.sequence (c.requires.due (honest, is)) (e.ok name clean store)).0,
-          advances new.now name _ _ store same all c.args.number.now c.args.sequence (c.requires.due (honest, is)) (e.ok name clean store) was named (subst (IsKnown (state g.S.Store s.last.value).now.trees) kept (s.standing.known_so honest is)),
-        )) (found_set _ _) clean is
-        ∙ ap (λ n. Some (known_values (at_sequence (c.args.sequence + n) was))) (length-map c.args.writes.now addition_of)) } }
+          ∥∥₁_map (subst (λ k. ∥ IsKnown (state g.S.Store s.last.value).now.trees k ∥₁) (sym c.take-known.ensures.value ∙ kept) (s.standing.known_so honest is))
+              (advances new.now name _ _ store same all c.args.number.now c.args.sequence (c.requires.due (honest, is)) (e.ok name clean store) was named),
+        )) ∥∥₁_prop clean is))) } }
 
 pub returns-in-Ok-clause-ok : goal.returns-in-Ok-clause-ok
 returns-in-Ok-clause-ok g c honest =
@@ -50,7 +52,7 @@ invariant_of-self-in-Err g c =
     let name = c.args.name.now in
     let all = additions c.args.writes.now in
     let e = c.in-Err.ensures in
-    let x = undone g.S.Store s.conn c.commit_writes.new.conn s.origin.value s.last.value e.turns (dropped g.S.Store s.standing)
+    let x = undone g.S.Store s.conn c.commit_writes.new.conn s.origin.value s.last.value e.turns s.standing
     (λ store same clean is up. e.undone name store (due_at all name c.args.number.now c.args.sequence _ _ same (c.requires.due (e.turns.clean clean, is))) clean up) in
     record { standing = x }
 

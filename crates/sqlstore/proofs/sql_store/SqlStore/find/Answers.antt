@@ -1,3 +1,5 @@
+use Rattle.std.proofs.Common.{◌∙◌, Some, ap, sym}
+use Rattle.sqlstore.specs.declared.known_database.DatabaseNumbers.{DatabaseNumbers}
 use Rattle.sqlstore.specs.Model.{trees_of}
 use Rattle.sqlstore.specs.Reading.{FoundValues, found_in}
 use Rattle.sqlstore.proofs.Answering.{also, known_so}
@@ -8,3 +10,4 @@ invariant_of-self g c = record { standing = known_so g.S.Store c.args.self.now c
 
 pub returns-clause-answer : goal.returns-clause-answer
 returns-clause-answer g c honest = also found_in (trees_of g.S.Store c.args.self.now) c.args.name.now (λ (v : FoundValues). (v.0, v.2)) _ (c.in_ok-known.ensures.answer honest)
+    ∙ ap (λ (d : DatabaseNumbers). Some (d.number, d.sequence)) (sym c.numbers-numbers.ensures)

@@ -1,13 +1,15 @@
-use Rattle.std.proofs.Common.{◌∙◌, ap, filter, option_map, slice_get}
+use Rattle.std.proofs.Common.{◌∙◌, ℕ, List, ap, filter, option_map, slice_get, sym}
+use Rattle.std.proofs.Math.Logic.{∥∥₁_elim}
 use Rattle.tables.specs.Rows.{is_named}
 use Rattle.tables.specs.Schema.{dbs_tree}
 use Rattle.sqlstore.specs.Model.{trees_of}
 use Rattle.sqlstore.specs.Reading.{found_in}
 use Rattle.sqlstore.proofs.Answering.{was_honest}
+use Rattle.sqlstore.proofs.ContentsCode.{found_set}
 use Rattle.sqlstore.proofs.sql_store.SqlStore.know.Goals as goal
 
 pub returns-in-Some-clause-answer : goal.returns-in-Some-clause-answer
 returns-in-Some-clause-answer g c honest =
     let s = c.args.self.now in
-    ap (λ n. option_map found_in (slice_get (filter (is_named n) (trees_of g.S.Store s dbs_tree)) 0)) c.in-Some.ensures.named
-    ∙ c.in-Some.ensures.known (was_honest g.S.Store s c.take_known.new.self c.take_known.ensures.stands honest)
+    ∥∥₁_elim (c.in-Some.ensures.known (was_honest g.S.Store s c.take_known.new.self c.take_known.ensures.stands honest)) (found_set _ _)
+    (λ known. ap (λ (n : List ℕ). option_map found_in (slice_get (filter (is_named n) (trees_of g.S.Store s dbs_tree)) 0)) (sym c.in-Some.ensures.named) ∙ known)

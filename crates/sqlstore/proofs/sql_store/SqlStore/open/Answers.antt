@@ -27,7 +27,7 @@ invariant_of-result g c =
         now = λ up. ap now (sym c.of-last.ensures);
         committed = λ up. sym (c.is_autocommit-2.ensures.settled settled up) ∙ ap now (sym c.of-last.ensures);
       });
-      known_so = λ clean was. tt;
+      known_so = λ clean was. ∣ tt ∣₁;
     } }
 
 pub returns-clause-found : goal.returns-clause-found

@@ -14,9 +14,9 @@ returns-in_err-found-clause-answer g c =
     let s = c.args.self.now in
     let end = c.database_rows.new.self in
     let defined : Option FoundValues = option_map found_in (slice_get (filter (is_named c.args.name.now) (trees_of g.S.Store s dbs_tree)) 0) in
-    let is : c.from_residual.result ≡ Err c.in_err-found.field-0.0 = search rules in
+    let is : c.from_residual-in_err-found.result ≡ Err c.in_err-found.field-0.0 = search rules in
     let shown = λ (n : List ℕ). map shown_database (filter (is_named n) (trees_of g.S.Store s dbs_tree)) in
-    let read = λ (d : FoundDatabase). (d.number, view d.security, d.sequence) in
+    let read : FoundDatabase → FoundValues = λ d. (d.number, view d.security, d.sequence) in
     subst (Answers g.S.Store {X = KnownDatabase} s end known_values defined) (sym is)
     (refused g.S.Store s end {X = FoundDatabase} read known_values defined defined c.in_err-found.field-0.0 (λ none. none)
     (answered g.S.Store s end read defined _ _ (Err c.in_err-found.field-0.0) c.in_err-found.ensures

@@ -8,6 +8,7 @@ use Rattle.sqlite.specs.Held.{Held, state}
 use Rattle.tables.specs.Rows.{is_of, shown_local}
 use Rattle.tables.specs.Schema.{locals_tree}
 use Rattle.sqlstore.specs.Reading.{numbers_in}
+use Rattle.sqlstore.specs.declared.known_database.DatabaseNumbers.{DatabaseNumbers}
 use Rattle.sqlstore.specs.Model.{Answers, contents_of, trees_of}
 use Rattle.sqlstore.proofs.Answering.{answered, laid, local_intact, local_there, not_found, reads, stands_then, there, was_honest}
 use Rattle.sqlstore.proofs.sql_store.calls.SqlStoreStore.local.Goals as goal
@@ -19,7 +20,7 @@ returns-in_err-found-clause-answer g c =
     let defined : Option (Option LocalDocument) = option_map f (finite.get (contents_of g.S.Store s) c.args.name.now) in
     let is : c.from_residual.result ≡ Err c.in_err-found.field-0.0 = search rules in
     subst (Answers g.S.Store {X = Option LocalDocument} s c.find.new.self (λ v. v) defined) (sym is)
-    (not_found g.S.Store s c.find.new.self c.args.name.now numbers_in (λ d. (d.number, d.sequence)) (λ v. v) f c.in_err-found.field-0.0 c.in_err-found.ensures.answer)
+    (not_found {X = DatabaseNumbers} g.S.Store s c.find.new.self c.args.name.now numbers_in (λ d. (d.number, d.sequence)) (λ v. v) f c.in_err-found.field-0.0 c.in_err-found.ensures.answer)
 
 pub returns-in_err-found-clause-reads : goal.returns-in_err-found-clause-reads
 returns-in_err-found-clause-reads g c = reads g.S.Store c.args.self.now c.find.new.self c.find.ensures.stands

@@ -8,6 +8,7 @@ use Rattle.store.specs.declared.page.PageById.{PageById}
 use Rattle.tables.specs.Listings.{live_rows}
 use Rattle.sqlstore.specs.Listing.{listed_by_id}
 use Rattle.sqlstore.specs.Reading.{numbers_in}
+use Rattle.sqlstore.specs.declared.known_database.DatabaseNumbers.{DatabaseNumbers}
 use Rattle.sqlstore.specs.Model.{Answers, contents_of, trees_of}
 use Rattle.sqlstore.proofs.Afterwards.{afterwards, stands_same}
 use Rattle.sqlstore.proofs.Answering.{laid, not_found, reads, stands_then, there, was_honest}
@@ -21,7 +22,7 @@ returns-in_err-found-clause-answer g c =
     let defined : Option IdPage = option_map f (finite.get (contents_of g.S.Store s) c.args.name.now) in
     let is : c.from_residual.result ≡ Err c.in_err-found.field-0.0 = search rules in
     subst (Answers g.S.Store {X = PageById} s c.find.new.self id_page_of defined) (sym is)
-    (not_found g.S.Store s c.find.new.self c.args.name.now numbers_in (λ d. (d.number, d.sequence)) id_page_of f c.in_err-found.field-0.0 c.in_err-found.ensures.answer)
+    (not_found {X = DatabaseNumbers} g.S.Store s c.find.new.self c.args.name.now numbers_in (λ d. (d.number, d.sequence)) id_page_of f c.in_err-found.field-0.0 c.in_err-found.ensures.answer)
 
 pub returns-in_err-found-clause-reads : goal.returns-in_err-found-clause-reads
 returns-in_err-found-clause-reads g c = reads g.S.Store c.args.self.now c.find.new.self c.find.ensures.stands

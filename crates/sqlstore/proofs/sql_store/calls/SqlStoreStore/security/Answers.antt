@@ -19,7 +19,7 @@ returns-in_err-known-clause-answer g c =
     let defined : Option json.Value = option_map f (map.get (contents_of g.S.Store s) c.args.name.now) in
     let is : c.from_residual.result ≡ Err c.in_err-known.field-0.0 = search rules in
     subst (Answers g.S.Store {X = json.Value} s c.know.new.self (λ v. v) defined) (sym is)
-    (not_found g.S.Store {X = KnownDatabase} s c.know.new.self c.args.name.now found_in known_values (λ v. v) f c.in_err-known.field-0.0 c.in_err-known.ensures.answer)
+    (not_found {X = KnownDatabase} g.S.Store s c.know.new.self c.args.name.now found_in known_values (λ v. v) f c.in_err-known.field-0.0 c.in_err-known.ensures.answer)
 
 pub returns-in_err-known-clause-reads : goal.returns-in_err-known-clause-reads
 returns-in_err-known-clause-reads g c = reads g.S.Store c.args.self.now c.know.new.self c.know.ensures.stands
@@ -36,4 +36,6 @@ returns-clause-answer g c =
     ))
 
 pub returns-clause-reads : goal.returns-clause-reads
-returns-clause-reads g c = reads g.S.Store c.args.self.now c.know.new.self c.know.ensures.stands
+returns-clause-reads g c =
+    let s = c.know.ensures.stands in
+    reads g.S.Store c.args.self.now _ (record { origin = s.origin; last = s.last; counted = s.counted; clean = s.clean })
