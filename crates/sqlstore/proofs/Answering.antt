@@ -1,34 +1,11 @@
 -- What a reader of a store answers, from what it read, and what it leaves.
-use Rattle.sqlite_keyed.proofs.ListLemmas.{all-filter, all_map}
-use Rattle.std.proofs.Common.{◌≡◌, ◌≤◌, ◌<◌, ◌+◌, ◌^◌, ℕ, length, inl, inr, List, [], ◌∷◌, filter, map, slice_get, Option, Some, None, option_map, Result, Ok, Err, Bool, false, IsTrue, refl, sym, ap, subst, ◌∙◌, arith}
-use Rattle.std.specs.List.{AllByRecursion}
-use Rattle.std.proofs.Math.Logic.{∥∥₁_elim, ∥∥₁_map}
-use Rattle.std.specs.FinMap.{get}
+use Rattle.sqlstore.proofs.Common.{AllByRecursion, Answers, Bool, Damaged, DatabaseNumbers, Err, Exists, Failed, FoundValues, Full, Ghosts, IsDatabaseRow, IsLaid, IsRead, IsShownDatabase, IsShownLocal, IsStanding, IsTrue, KnownDatabase, List, Memory, NoDatabase, None, NumberValues, Ok, OnlyReads, Option, Result, Row, Some, SqlStore, Stands, StoreFault, Trees, WasStore, [], all-filter, all_map, ap, arith, contents_in, contents_of, database_of, dbs_tree, false, filter, found_in, found_shown, get, inl, inr, is_honest, is_named, is_of, is_security, known_values, length, local_at, local_of, local_shown, locals_tree, map, next_number, numbers_in, option_map, refl, shown_database, shown_local, slice_get, state, subst, sym, trees_of, ℕ, ∥∥₁_elim, ∥∥₁_map, ◌+◌, ◌<◌, ◌^◌, ◌∙◌, ◌∷◌, ◌≡◌, ◌≤◌}
 use Rattle.store.specs.Causes.{HasFailed}
 use Rattle.store.specs.Database.{Database}
-use Rattle.store.specs.declared.fault.StoreFault.{StoreFault}
-use Rattle.store.specs.declared.fault.StoreFault.TheVariants.{Memory, Failed, NoDatabase, Exists, Damaged, Full}
-use Rattle.sqlite_value.specs.Order.{Row}
 use Rattle.sqlite_sql.specs.Ops.{fits_i64}
-use Rattle.sqlite_trees.specs.declared.store.Store.{Ghosts}
-use Rattle.sqlite.specs.Held.{state}
-use Rattle.policy.specs.Security.{is_security}
-use Rattle.sqlite_trees.specs.Tree.{Trees}
-use Rattle.store.specs.Contents.{local_at}
 use Rattle.couch_json.specs.View.{view}
-use Rattle.sqlstore.specs.declared.known_database.DatabaseNumbers.{DatabaseNumbers}
-use Rattle.tables.specs.Layout.{IsDatabaseRow, IsLaid}
-use Rattle.sqlstore.specs.Standing.{IsStanding, WasStore}
-use Rattle.tables.specs.Rows.{contents_in, database_of, is_named, is_of, local_of, next_number, shown_database, shown_local}
-use Rattle.tables.specs.Schema.{dbs_tree, locals_tree}
-use Rattle.tables.specs.Shown.{IsShownDatabase, IsShownLocal, local_shown}
 use Rattle.tables.proofs.Laid.{shown_databases, shown_locals}
 use Rattle.tables.proofs.Lookups.{database_found, local_found}
-use Rattle.sqlstore.specs.Model.{Answers, OnlyReads, Stands, contents_of, is_honest, trees_of}
-use Rattle.transactions.specs.Reading.{IsRead}
-use Rattle.sqlstore.specs.Reading.{FoundValues, NumberValues, found_in, found_shown, known_values, numbers_in}
-use Rattle.sqlstore.specs.declared.known_database.KnownDatabase.{KnownDatabase}
-use Rattle.sqlstore.specs.declared.sql_store.SqlStore.{SqlStore}
 
 -- what is said of the first of the shown rows is what is said of the first row
 pub first_shown : {A : Type 0} (show : Row → Row) (read : Row → A) (said : Row → A) → ((r : Row) → read (show r) ≡ said r) → (rows : List Row) → option_map said (slice_get rows 0) ≡ option_map read (slice_get (map show rows) 0)

@@ -1,18 +1,7 @@
 -- What a change of a store leaves.
-use Rattle.std.proofs.Common.{◌≡◌, Bool, false, Option, None, Some, is_some, Result, Ok, Err, IsTrue, OnOk, OnErr, refl, sym, ap, subst, ◌∙◌, arith}
-use Rattle.std.proofs.Math.Logic.{∥∥₁_elim, ∥∥₁_map}
-use Rattle.sqlite_trees.specs.declared.store.Store.{Ghosts}
-use Rattle.sqlite.specs.Effect.{Database}
-use Rattle.sqlite.specs.Held.{Held, state}
-use Rattle.sqlite.specs.State.{HasCleanDisk}
-use Rattle.tables.specs.Layout.{IsStore}
-use Rattle.tables.specs.Rows.{contents_in}
+use Rattle.sqlstore.proofs.Common.{Bool, ChangesWhole, Database, Err, Ghosts, HasCleanDisk, Held, Holds, IsStanding, IsStore, IsTrue, KnownDatabase, Moves, None, Ok, OnErr, OnOk, Option, Result, Some, SqlStore, Stands, WasStore, ap, arith, contents_in, contents_of, false, is_honest, is_some, refl, state, subst, sym, ∥∥₁_elim, ∥∥₁_map, ◌∙◌, ◌≡◌}
 use Rattle.transactions.proofs.Committing.{on_err}
-use Rattle.sqlstore.specs.Model.{ChangesWhole, Moves, Stands, contents_of, is_honest}
 use Rattle.transactions.specs.Endings.{Turns}
-use Rattle.sqlstore.specs.Standing.{Holds, IsStanding, WasStore}
-use Rattle.sqlstore.specs.declared.known_database.KnownDatabase.{KnownDatabase}
-use Rattle.sqlstore.specs.declared.sql_store.SqlStore.{SqlStore}
 
 module _ {S : Type 0} (g : Ghosts S) (old new origin last : Held S) (turns : Turns g old new) {known : Option KnownDatabase} (s : IsStanding g old origin last known) where
   -- a transaction that was undone leaves a store standing

@@ -1,26 +1,9 @@
 -- What a store makes of writes that are committed together.
-use Rattle.std.proofs.Common.{◌≡◌, ◌+◌, ◌<◌, ◌^◌, ℕ, ℤ, List, length, Some, sym, ap, subst, arith}
-use Rattle.std.proofs.Math.Logic.{∥∥₁_elim}
+use Rattle.sqlstore.proofs.Common.{Addition, AreAcceptable, AreDue, CommitFault, Damaged, Database, Exists, Failed, Full, Ghosts, HasCleanDisk, Held, IfThere, IsHeld, IsSound, IsStore, IsUnwritten, List, Memory, NoDatabase, NumberValues, Some, StoreFault, Trees, WasStore, ap, arith, contents_in, database_of, length, numbers_in, state, subst, sym, with_all, writings_in, ℕ, ℤ, ∥∥₁_elim, ◌+◌, ◌<◌, ◌^◌, ◌≡◌}
 use Rattle.std.specs.FinMap as finite
-use Rattle.sqlite_trees.specs.declared.store.Store.{Ghosts}
-use Rattle.sqlite_trees.specs.Tree.{Trees}
-use Rattle.sqlite.specs.Effect.{Database}
-use Rattle.sqlite.specs.Held.{Held, state}
-use Rattle.sqlite.specs.State.{HasCleanDisk}
-use Rattle.store.specs.Contents.{AreAcceptable, IfThere}
 use Rattle.store.specs.Database as store
-use Rattle.store.specs.Database.{with_all}
-use Rattle.store.specs.Writing.{Addition, writings_in}
-use Rattle.store.specs.declared.fault.StoreFault.{StoreFault}
-use Rattle.store.specs.declared.fault.StoreFault.TheVariants.{Memory, Failed, NoDatabase, Exists, Damaged, Full}
-use Rattle.tables.specs.Layout.{IsStore}
-use Rattle.tables.specs.Rows.{contents_in, database_of}
 use Rattle.sqlstore.specs.Causes.{IsJudged}
-use Rattle.transactions.specs.Commits.{AreDue, IsSound, IsUnwritten}
 use Rattle.sqlstore.specs.Commits.{IsToldAs, IsUncommitted}
-use Rattle.sqlstore.specs.Reading.{NumberValues, numbers_in}
-use Rattle.sqlstore.specs.Standing.{IsHeld, WasStore}
-use Rattle.transactions.specs.declared.commit_fault.CommitFault.{CommitFault}
 use Rattle.transactions.specs.declared.commit_fault.CommitFault.TheVariants as write
 use Rattle.sqlstore.proofs.Answering.{IsThere}
 use Rattle.transactions.proofs.Committing.{length-writings_in}

@@ -1,22 +1,8 @@
 -- Some rows of a list of documents make the page that all of them make.
-use Rattle.std.proofs.Common.{◌≡◌, inl, inr, ℕ, zero, suc, ℤ, pos, negsuc, Bool, true, false, not, ◌&&◌, ◌||◌, cond, List, [], ◌∷◌, ◌++◌, map, filter, take, drop, reverse, nat_lt, int_lt, Option, Some, None, option_map, Result, Ok, Err, IfOk, Ordering, Less, Equal, Greater, is_lt, is_le, nat_cmp, refl, sym, ap, ap₂, subst, ◌∙◌, arith, append-nil}
-use Rattle.std.proofs.lemmas.Cmp.{nat_list_cmp_total}
-use Rattle.std.proofs.lemmas.Int.{ints}
-use Rattle.std.proofs.lemmas.Bool.Decides.{nat_tests}
-use Rattle.std.specs.Cmp.Lexicographic.{slice_cmp}
-use Rattle.std.specs.List.{AllByRecursion, take-map}
+use Rattle.sqlstore.proofs.Common.{AllByRecursion, AreEnoughById, AreEnoughBySequence, Bool, Equal, Err, Greater, IdRow, IfOk, IsLimitFor, IsListedDocument, IsSequenceRow, Less, List, None, Ok, Option, Ordering, Result, Revision, Row, SeqRange, SequenceRow, Some, [], all-filter, ap, append-nil, ap₂, arith, comes_after, cond, drop, false, filter, filter-filter, filter-map, filter_all, filter_same, first_rows, id_page, if_counted, in_direction, inl, inr, int_lt, ints, is_after_end_of, is_before_start_of, is_le, is_lt, is_within, last_sequence, later_rows, least_of, lies_between, listed_counts, listed_id, listed_mark, listed_sequence, listed_winner, live_row, live_rows, map, nat_cmp, nat_list_cmp_total, nat_lt, nat_tests, negsuc, not, option_map, ordering_reverse, pos, refl, reverse, row_counts, rows_within, sequence_row, slice_cmp, subst, suc, sym, take, take-map, true, up_to_limit, winners_page, zero, ℕ, ℤ, ◌&&◌, ◌++◌, ◌||◌, ◌∙◌, ◌∷◌, ◌≡◌}
 use Rattle.std.specs.Option.{option_to_list}
-use Rattle.std.specs.Ordering.{ordering_reverse}
 use Rattle.store.proofs.Directed.{filter-directed}
-use Rattle.store.specs.Pages.{SequenceRow, id_page, if_counted, in_direction, is_after_end_of, is_before_start_of, is_within, last_sequence, later_rows, row_counts, rows_within, up_to_limit}
 use Rattle.store.specs.declared.page.IdRange.{IdRange}
-use Rattle.store.specs.declared.page.IdRow.{IdRow}
-use Rattle.store.specs.declared.page.SeqRange.{SeqRange}
-use Rattle.sqlite_value.specs.Order.{Row}
-use Rattle.sqlite_keyed.proofs.ListLemmas.{all-filter, filter-filter, filter-map, filter_all, filter_same}
-use Rattle.tables.specs.Listings.{IsListedDocument, comes_after, first_rows, lies_between, listed_counts, listed_id, listed_mark, listed_sequence, listed_winner, live_row, live_rows, sequence_row}
-use Rattle.tree.specs.Revision.{Revision}
-use Rattle.sqlstore.specs.Listing.{AreEnoughById, AreEnoughBySequence, IsLimitFor, IsSequenceRow, least_of, winners_page}
 use Rattle.tables.proofs.Sorted.{passing}
 
 -- ---- an id within a range lies between its ends

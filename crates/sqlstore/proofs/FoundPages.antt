@@ -1,31 +1,12 @@
 -- The pages of a database that is found by its name are those of the rows of its number.
-use base.Stored.{Coded-set}
-use Rattle.sqlite_keyed.proofs.ListLemmas.{all-filter}
-use Rattle.std.proofs.Common.{◌≡◌, ◌<◌, ◌^◌, ℕ, ℤ, true, false, List, [], ◌∷◌, map, filter, Some, None, option_map, refl, sym, ap, ap₂, subst, ◌∙◌}
-use Rattle.std.proofs.Math.Logic.{∥∥₁_elim}
+use Rattle.sqlstore.proofs.Common.{AllByRecursion, Coded-set, Document, IsDatabaseRow, IsLaid, List, None, NumberValues, Row, SeqRange, Some, Trees, [], all-filter, ap, ap₂, by_id, content_code, contents_in, database_of, db_of, docs_tree, document_counts, document_of, false, filter, history_at, history_in, id_of, id_page, if_counted, in_sequence, index_fields_of, index_over, index_rows, is_in, is_named, key_page, leaves_row, length_of, listed_by_id, listed_by_sequence, listed_counts, listed_document, listed_id, live_rows, map, number_of, numbers_in, option_map, page_by_sequence, page_of_ids, page_of_keys, page_with_leaves, places_of, put_in_index, queried_document, refl, revs_tree, rows_of, same_int, sequence_page, sequence_row, sort_by, subst, sym, true, winners_page, with_documents, ℕ, ℤ, ∥∥₁_elim, ◌<◌, ◌^◌, ◌∙◌, ◌∷◌, ◌≡◌}
 use Rattle.std.specs.FinMap as finite
-use Rattle.std.specs.List.{AllByRecursion}
-use Rattle.tree.specs.HistoryCode.{content_code}
-use Rattle.store.specs.Database.{Database, Document, history_at}
-use Rattle.store.specs.Indexes.{index_fields_of, index_over, index_rows, put_in_index, queried_document}
-use Rattle.store.specs.KeyPages.{key_page, page_of_keys}
-use Rattle.store.specs.Pages.{document_counts, id_page, if_counted, in_sequence, page_by_sequence, page_of_ids, rows_of, sequence_page}
+use Rattle.store.specs.Database.{Database}
 use Rattle.store.specs.declared.key_page.KeyRange.{KeyRange}
 use Rattle.store.specs.declared.page.IdRange.{IdRange}
-use Rattle.store.specs.declared.page.SeqRange.{SeqRange}
-use Rattle.sqlite_value.specs.Order.{Row}
-use Rattle.sqlite_trees.specs.Tree.{Trees}
-use Rattle.sqlite_keyed.proofs.KeyedLemmas.{same_int}
-use Rattle.sqlite_keyed.specs.Lists.{sort_by}
-use Rattle.tables.specs.Layout.{IsDatabaseRow, IsLaid}
-use Rattle.tables.specs.Listings.{leaves_row, listed_counts, listed_id, live_rows, sequence_row}
-use Rattle.tables.specs.Rows.{by_id, contents_in, database_of, db_of, document_of, history_in, id_of, is_in, is_named, length_of, listed_document, number_of}
-use Rattle.tables.specs.Schema.{docs_tree, revs_tree}
 use Rattle.tables.proofs.ListingRows.{counts_by_sequence, documents_by_id, leaves_by_sequence, live_by_id, winners_by_sequence}
 use Rattle.tables.proofs.Lookups.{document_found}
 use Rattle.tables.proofs.Sorted.{all_sorted, passing}
-use Rattle.sqlstore.specs.Listing.{listed_by_id, listed_by_sequence, page_with_leaves, places_of, winners_page, with_documents}
-use Rattle.sqlstore.specs.Reading.{NumberValues, numbers_in}
 use Rattle.sqlstore.proofs.Answering.{IsThere, at_first}
 use Rattle.sqlstore.proofs.ListedRows.{counts_set, id_rows_set, leaves_rows, page_kept, places_set, sequence_rows_set}
 

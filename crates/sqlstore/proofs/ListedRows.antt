@@ -1,32 +1,13 @@
 -- The rows of a list of documents: that they are intact, and what pages they make.
-use base.Stored.{Coded-set}
-use Rattle.std.proofs.Common.{◌≡◌, ◌≤◌, ◌<◌, ◌^◌, ◌+◌, ◌-◌, ◌||◌, ℕ, ℤ, Bool, true, false, not, cond, List, [], ◌∷◌, ◌++◌, length, map, filter, find, drop, get_or, nat_lt, Option, Some, None, Ordering, refl, sym, ap, ap₂, ◌∙◌, arith}
-use Rattle.std.proofs.lemmas.List.{append_assoc, append-nil, drop_all, get_or-map, length-map, take-map}
+use Rattle.sqlstore.proofs.Common.{All, AllByRecursion, Bool, Coded, Coded-set, HistoryContent, IdRow, IndexPlace, IsDatabaseRow, IsDocumentRow, IsLaid, IsListedDocument, IsSequenceRow, List, None, Option, Ordering, Revision, Row, SeqRange, SeqRow, SequenceRow, Some, Trees, [], all-filter, all_both, all_map, ap, ap₂, arith, by_id, by_sequence, code_by, coded_bool, coded_list, coded_ℕ, coded×, cond, count_by, dbs_tree, docs_tree, drop, drop_all, false, filter, find, get_or, get_or-map, is_in, last_sequence, later_rows, leaves_row, length, length-map, list_any, listed_by_sequence, listed_counts, listed_document, listed_mark, map, map-map, nat_lt, not, page_with_leaves, place_code, refl, revision_code, revs_tree, sequence_of, sequence_page, sequence_row, sequence_row_of, sequence_rows, sort_by, sym, true, up_to_limit, with_leaves, ℕ, ℤ, ◌++◌, ◌+◌, ◌-◌, ◌<◌, ◌^◌, ◌||◌, ◌∙◌, ◌∷◌, ◌≡◌, ◌≤◌}
+use Rattle.std.proofs.lemmas.List.{append_assoc, append-nil, take-map}
 use Rattle.std.proofs.lemmas.List.Sums.{sum_by-cons}
-use Rattle.std.specs.Coded.{Coded, code_by, coded×, coded_bool, coded_list, coded_ℕ}
-use Rattle.std.specs.List.{All, AllByRecursion, count_by, list_any}
-use Rattle.tree.specs.History.{HistoryContent}
-use Rattle.tree.specs.Revision.{Revision, revision_code}
-use Rattle.store.specs.Indexes.{IndexPlace, place_code}
-use Rattle.store.specs.Pages.{SequenceRow, last_sequence, later_rows, sequence_page, up_to_limit}
-use Rattle.store.specs.Paging.{sequence_row_of, sequence_rows}
 use Rattle.store.specs.contracts.page.DocumentCounts as document_counts
 use Rattle.store.specs.contracts.page.IdRow as id_row
 use Rattle.store.specs.declared.page.DocumentCounts.{DocumentCounts}
-use Rattle.store.specs.declared.page.IdRow.{IdRow}
-use Rattle.store.specs.declared.page.SeqRange.{SeqRange}
-use Rattle.store.specs.declared.page.SeqRow.{SeqRow}
-use Rattle.sqlite_value.specs.Order.{Row}
-use Rattle.sqlite_trees.specs.Tree.{Trees}
-use Rattle.sqlite_keyed.proofs.ListLemmas.{all-filter, all_both, all_map, map-map}
-use Rattle.sqlite_keyed.specs.Lists.{sort_by}
-use Rattle.tables.specs.Layout.{IsDatabaseRow, IsDocumentRow, IsLaid}
-use Rattle.tables.specs.Listings.{IsListedDocument, leaves_row, listed_counts, listed_mark, sequence_row}
-use Rattle.tables.specs.Rows.{by_id, by_sequence, is_in, listed_document, sequence_of}
-use Rattle.tables.specs.Schema.{dbs_tree, docs_tree, revs_tree}
 use Rattle.tables.proofs.ListingRows.{both_counted, rows_of_a_listing}
 use Rattle.tables.proofs.Sorted.{all_sorted}
-use Rattle.sqlstore.specs.Listing.{IsSequenceRow, listed_by_sequence, page_with_leaves, row_counts, with_leaves}
+use Rattle.sqlstore.specs.Listing.{row_counts}
 
 -- ---- rows are told apart by numbers
 

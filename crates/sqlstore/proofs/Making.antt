@@ -1,34 +1,11 @@
 -- What each change makes of the tables, whose rows are those that the last change left.
-use Rattle.std.proofs.Common.{IfSome, Option, ◌+◌, ap₂, filter, length, slice_get, ◌≡◌, ◌<◌, ◌^◌, ◌∙◌, ℕ, ℤ, pos, List, IsTrue, None, Some, option_map, ap, subst, sym}
-use Rattle.std.specs.FinMap.{get, insert, remove}
-use Rattle.couch_json.specs.Canonical.{canonical}
-use Rattle.couch_json.specs.Lawful.{IsLawful}
+use Rattle.sqlstore.proofs.Common.{Addition, AreDue, Changes, Clears, Database, HasNumber, HasWritten, IfSome, IsBody, IsKnown, IsLawful, IsStore, IsTrue, KnownDatabase, List, LocalDocument, None, Option, Replaces, Some, Trees, ap, ap₂, at_sequence, canonical, closed_security, contents_in, database_cells, database_of, dbs_tree, filter, found_in, get, insert, is_database_name, is_document_id, is_named, is_security, known_values, length, length_of, new_database, option_map, pos, remove, rows_with_security, slice_get, subst, sym, with_all, with_cells, with_local, with_security, writings_in, ℕ, ℤ, ◌+◌, ◌<◌, ◌^◌, ◌∙◌, ◌≡◌}
 use Rattle.couch_json.specs.Value.{Value}
-use Rattle.policy.specs.Security.{closed_security, is_security}
-use Rattle.sqlite.specs.Effect.{Database}
-use Rattle.sqlite_trees.specs.Tree.{Trees}
-use Rattle.store.specs.Contents.{new_database, with_local, with_security}
-use Rattle.store.specs.Database.{with_all}
-use Rattle.store.specs.DatabaseName.{is_database_name}
-use Rattle.store.specs.Lawful.{IsBody}
-use Rattle.store.specs.Writing.{Addition, writings_in}
-use Rattle.store.specs.declared.local_document.LocalDocument.{LocalDocument}
 use Rattle.tables.proofs.Lookups.{database_there}
 use Rattle.tables.proofs.LocalChanges.{written_store}
 use Rattle.tables.proofs.NewDatabases.{new_store}
 use Rattle.tables.proofs.Removed.{removed_store}
 use Rattle.tables.proofs.Secured.{secured_store}
-use Rattle.tables.specs.Edits.{HasWritten}
-use Rattle.tables.specs.Layout.{IsStore}
-use Rattle.tables.specs.Rows.{contents_in, database_cells, database_of, is_named, length_of, rows_with_security, with_cells}
-use Rattle.tables.specs.Schema.{dbs_tree}
-use Rattle.tables.specs.Steps.{Changes}
-use Rattle.tree.specs.DocumentId.{is_document_id}
-use Rattle.transactions.specs.Commits.{AreDue}
-use Rattle.transactions.specs.Sequences.{Clears, Replaces}
-use Rattle.sqlstore.specs.Reading.{HasNumber, at_sequence, found_in, known_values}
-use Rattle.sqlstore.specs.Standing.{IsKnown}
-use Rattle.sqlstore.specs.declared.known_database.KnownDatabase.{KnownDatabase}
 use Rattle.sqlstore.proofs.ListedRows.{same_values}
 use Rattle.transactions.proofs.Committing.{length-writings_in}
 

@@ -1,27 +1,11 @@
 -- The name of a database is ASCII, and the rows of the names.
-use base.Stored.{Coded-set}
-use Rattle.std.proofs.Common.{◌≡◌, ◌<◌, ℕ, true, List, [], ◌∷◌, map, Option, Some, IsTrue, refl, sym, ap, subst, ◌∙◌, arith}
-use Rattle.std.specs.Coded.{coded_list, coded_option, coded_ℕ}
+use Rattle.sqlstore.proofs.Common.{AllByRecursion, Coded-set, IsDatabaseRow, IsLaid, IsPermutation-sort_by, IsPermutation-sym, IsShownName, IsTrue, List, Option, Row, Some, Trees, [], all_map, all_weaker, and_parts, ap, arith, by_name, coded_list, coded_option, coded_ℕ, column, contents_in, dbs_tree, is_database_name, is_name_byte, list_all, map, map-map, name_of, name_shown, nat_list_cmp_total, on_total, refl, shown_name, sort_by, subst, sym, true, ℕ, ◌<◌, ◌∙◌, ◌∷◌, ◌≡◌}
 use Rattle.std.specs.FinMap as finite
-use Rattle.std.specs.List.{AllByRecursion, list_all}
 use Rattle.std.specs.Str.{IsAscii, IsUtf8}
-use Rattle.std.proofs.lemmas.Bool.{and_parts}
-use Rattle.std.proofs.lemmas.Cmp.{nat_list_cmp_total, on_total}
-use Rattle.std.proofs.lemmas.List.Sorted.{IsPermutation-sym}
 use Rattle.std.proofs.lemmas.Str.{IsUtf8-from_ascii}
 use Rattle.std.proofs.lemmas.Str.Ascii.{IsAscii-nil, IsAscii-cons}
-use Rattle.store.specs.DatabaseName.{is_database_name, is_name_byte}
-use Rattle.sqlite_value.specs.Order.{Row, column}
-use Rattle.sqlite_trees.specs.Tree.{Trees}
 use Rattle.sqlite_trees.proofs.ListLemmas.{all-permutation}
-use Rattle.sqlite_keyed.specs.Lists.{sort_by}
-use Rattle.sqlite_keyed.proofs.ListLemmas.{all_map, all_weaker, map-map}
-use Rattle.sqlite_keyed.proofs.SortLemmas.{IsPermutation-sort_by}
-use Rattle.tables.specs.Layout.{IsDatabaseRow, IsLaid}
-use Rattle.tables.specs.Rows.{by_name, contents_in, name_of, shown_name}
-use Rattle.tables.specs.Schema.{dbs_tree}
 use Rattle.tables.proofs.Lookups.{names_found}
-use Rattle.sqlstore.specs.Reading.{IsShownName, name_shown}
 
 small : (b : ℕ) → is_name_byte b ≡ true → b < 128
 small b h = grind arith

@@ -1,23 +1,6 @@
 -- What calls of a store leave, one after the other.
-use Rattle.std.proofs.Common.{◌≤◌, IfErr, ◌≡◌, ◌⊎◌, inl, inr, IfOk, IsTrue, None, Option, Result, Ok, Err, sym, ap, subst, ◌∙◌}
-use Rattle.std.proofs.Math.Logic.{∥∥₁_elim, ∥∥₁_map}
-use Rattle.sqlite_trees.specs.declared.store.Store.{Ghosts}
-use Rattle.sqlite_trees.specs.Props.{Trees-set}
-use Rattle.sqlite_trees.specs.Tree.{Trees}
-use Rattle.sqlite.specs.Effect.{Database}
-use Rattle.sqlite.specs.Held.{Held, state}
-use Rattle.sqlite.specs.State.{HasCleanDisk}
-use Rattle.sqlite.specs.declared.error.Error.{Error}
-use Rattle.store.specs.declared.fault.StoreFault.{StoreFault}
-use Rattle.tables.specs.Calls.{Reads}
-use Rattle.tables.specs.Steps.{Asks, OnlyLooks}
-use Rattle.tables.specs.Layout.{IsStore}
-use Rattle.tables.specs.Schema.{schema}
+use Rattle.sqlstore.proofs.Common.{Asks, Database, Err, Error, Finds, Ghosts, HasCleanDisk, Held, Holds, IfErr, IfOk, IsHeld, IsStanding, IsStore, IsTrue, KnownDatabase, None, Ok, OnlyLooks, Option, Reads, Result, SqlStore, StoreFault, Trees, Trees-set, WasStore, ap, inl, inr, schema, state, subst, sym, ∥∥₁_elim, ∥∥₁_map, ◌∙◌, ◌≡◌, ◌≤◌, ◌⊎◌}
 use Rattle.sqlstore.specs.Causes.{IsJudged}
-use Rattle.sqlstore.specs.Model.{Finds}
-use Rattle.sqlstore.specs.declared.sql_store.SqlStore.{SqlStore}
-use Rattle.sqlstore.specs.Standing.{Holds, IsHeld, IsStanding, WasStore}
-use Rattle.sqlstore.specs.declared.known_database.KnownDatabase.{KnownDatabase}
 
 module _ {S : Type 0} (g : Ghosts S) (old new origin last : Held S) where
   -- the rows are as they were, whichever way a query ended

@@ -1,27 +1,7 @@
 -- What the statements on databases mean.
-use Rattle.std.proofs.Common.{◌≡◌, ℕ, ℤ, pos, List, [], ◌∷◌, map, filter, codes, true, false, not, Ok, Err, Result, IfOk, OnOk, bytes_eq, refl, ap, ap₂, subst, drop, ◌∙◌, ◌≢◌, is_eq, Equal}
-use Rattle.std.specs.List.{AllByRecursion, list_all}
-use Rattle.sqlite_value.specs.declared.value.Value.TheVariants.{Null, Int, Text, Blob}
-use Rattle.sqlite_value.specs.Order.{Row, column}
-use Rattle.sqlite_trees.specs.Tree.{rowid}
-use Rattle.sqlite_sql.specs.Term.{Term, lit, col, holds}
-use Rattle.sqlite_rules.specs.Cast.{cast_row}
-use Rattle.std.specs.Ordering.{ordering_then}
-use Rattle.std.proofs.lemmas.Map.Text.{is_eq-slice_cmp}
-use Rattle.std.proofs.lemmas.Slice.Eq.{bytes_eq-Decides}
-use Rattle.sqlite_value.specs.declared.keys.Collation.TheVariants.{Binary}
-use Rattle.sqlite_value.specs.declared.keys.Key.{Key}
-use Rattle.sqlite_value.specs.Order.{value_cmp}
-use Rattle.sqlite_value.proofs.OrderLemmas.{value_cmp-Blob, then-Equal}
-use Rattle.sqlite_keyed.specs.Lists.{sort_by}
+use Rattle.tables.proofs.Common.{AllByRecursion, AreDatabaseRows, AreNumbered, Binary, Blob, Changes, Delete, Equal, Err, IfOk, Insert, Int, IsStore, Key, List, Null, Ok, OnOk, Ran, Result, Row, Select, Shown, State, Term, Text, Update, Values, [], all_of, all_weaker, ap, ap₂, by_name, bytes_eq, bytes_eq-Decides, cast_row, codes, col, column, count, database_cells, database_row, dbs_table, dbs_tree, drop, everything, false, filter, filter_all, has_number, holds, is_eq, is_eq-slice_cmp, is_named, length_of, list_all, lit, map, meta_table, meta_tree, name_of, not, number_of, ordering_then, pos, refl, rowid, rows_at_sequence, rows_with_security, schema, security_text, shown_database, shown_name, sort_by, subst, then-Equal, true, understood, value_cmp, value_cmp-Blob, with_cells, ℕ, ℤ, ◌∙◌, ◌∷◌, ◌≡◌, ◌≢◌}
 use Rattle.tables.proofs.Sorted.{lists}
-use Rattle.sqlite_keyed.proofs.ListLemmas.{all_weaker, all_of, filter_all}
 use Rattle.sqlite_typed.proofs.TestLemmas.{last_term}
-use Rattle.sqlite_schema.specs.declared.command.Command.TheVariants.{Insert, Delete, Select, Update}
-use Rattle.sqlite_schema.specs.declared.command.Source.TheVariants.{Values}
-use Rattle.sqlite_tied.specs.Compute.{everything}
-use Rattle.sqlite.specs.Listing.{understood}
-use Rattle.sqlite.specs.State.{State, Shown}
 use Rattle.tables.proofs.Cells.{is_param, same_int, same_blob, cast_null, cast_int}
 use Rattle.tables.proofs.Deletes.{deletes_where}
 use Rattle.tables.proofs.Finds.{finds_one}
@@ -31,10 +11,6 @@ use Rattle.tables.proofs.Tables.{meta_plain, dbs_plain, databases_laid, numbered
 use Rattle.tables.proofs.Updates.{updates_where}
 use Rattle.tables.proofs.Single.{inserts_row}
 use Rattle.tables.proofs.Writes.{IsCommand}
-use Rattle.tables.specs.Layout.{AreNumbered, AreDatabaseRows, IsStore}
-use Rattle.tables.specs.Rows.{number_of, has_number, name_of, is_named, security_text, length_of, database_row, database_cells, rows_with_security, rows_at_sequence, by_name, shown_name, shown_database, count, with_cells}
-use Rattle.tables.specs.Schema.{schema, meta_tree, meta_table, dbs_tree, dbs_table}
-use Rattle.tables.specs.Steps.{Ran, Changes}
 
 -- ---- the version
 

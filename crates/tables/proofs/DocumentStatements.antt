@@ -1,32 +1,7 @@
 -- What the statements on documents mean.
-use Rattle.std.proofs.Common.{◌≡◌, ℕ, ℤ, pos, negsuc, Ordering, List, [], ◌∷◌, map, filter, codes, Bool, true, false, not, cond, Ok, Err, Result, IfOk, OnOk, refl, sym, ap, ap₂, subst, ◌∙◌, ◌≢◌, bytes_eq, nat_cmp, int_cmp, is_eq, arith, Equal, ◌&&◌}
-use Rattle.sqlite_value.specs.declared.value.Value.TheVariants.{Null, Int, Text, Blob}
-use Rattle.sqlite_sql.specs.Query.{as_count, limited}
-use Rattle.sqlite_sql.specs.Term.{Term, lit, col, holds}
-use Rattle.sqlite_rules.specs.Cast.{cast_row}
-use Rattle.sqlite_schema.specs.declared.command.Command.TheVariants.{Insert, Delete, Select}
-use Rattle.sqlite_schema.specs.declared.command.Source.TheVariants.{Values}
-use Rattle.sqlite_tied.specs.Compute.{everything}
-use Rattle.sqlite.specs.Listing.{understood}
-use Rattle.sqlite.specs.State.{State, Shown}
+use Rattle.tables.proofs.Common.{AllByRecursion, AreKeyed, Binary, Blob, Bool, Changes, Delete, Equal, Err, IfOk, Insert, Int, IsDocumentRow, IsStore, IsTotalOrder, Key, List, Null, Ok, OnOk, Ordering, Ran, Result, Row, Select, Shown, State, Term, Text, Values, [], all_weaker, ap, ap₂, arith, as_count, bytes_eq, bytes_eq-Decides, cast_row, codes, col, column, comes_after, cond, db_of, docs_table, docs_tree, document_cells, document_row, everything, false, filter, filter-map, first_rows, holds, id_of, int_cmp, ints, is_eq, is_eq-slice_cmp, is_gone, is_in, is_of, lies_between, limited, list_all, listed_document, listed_id, lit, map, nat_cmp, nat_cmp_total, nat_list_cmp_total, nat_tests, negsuc, not, number_of, on_total, ordering_then, pos, refl, same_int, schema, sequence_of, sort_by, subst, sym, then-Equal, true, understood, value_cmp, value_cmp-Blob, value_cmp-Int, winner_text, with_cells, ℕ, ℤ, ◌&&◌, ◌∙◌, ◌∷◌, ◌≡◌, ◌≢◌}
 use Rattle.tables.proofs.Cells.{by_db, by_id, by_later, by_range, cast_null, cast_int, test_later, tests_db, tests_id, tests_range}
 use Rattle.tables.proofs.Deletes.{deletes_where}
-use Rattle.sqlite_value.specs.Order.{Row}
-use Rattle.std.specs.Cmp.{IsTotalOrder}
-use Rattle.std.specs.List.{AllByRecursion, list_all}
-use Rattle.std.specs.Ordering.{ordering_then}
-use Rattle.std.proofs.lemmas.Int.{ints}
-use Rattle.std.proofs.lemmas.Bool.Decides.{nat_tests}
-use Rattle.std.proofs.lemmas.Cmp.{nat_cmp_total, nat_list_cmp_total, on_total}
-use Rattle.std.proofs.lemmas.Map.Text.{is_eq-slice_cmp}
-use Rattle.std.proofs.lemmas.Slice.Eq.{bytes_eq-Decides}
-use Rattle.sqlite_value.specs.declared.keys.Collation.TheVariants.{Binary}
-use Rattle.sqlite_value.specs.declared.keys.Key.{Key}
-use Rattle.sqlite_value.specs.Order.{column, value_cmp}
-use Rattle.sqlite_value.proofs.OrderLemmas.{value_cmp-Blob, value_cmp-Int, then-Equal}
-use Rattle.sqlite_keyed.specs.Lists.{sort_by}
-use Rattle.sqlite_keyed.proofs.KeyedLemmas.{same_int}
-use Rattle.sqlite_keyed.proofs.ListLemmas.{all_weaker, filter-map}
 use Rattle.tables.proofs.Sorted.{both_left, if_equal, lists, sorted_left}
 use Rattle.tables.specs.Rows as order
 use Rattle.tables.proofs.Numbered.{numbered_from_keyed}
@@ -35,11 +10,6 @@ use Rattle.tables.proofs.Single.{fails}
 use Rattle.tables.proofs.Tables.{docs_plain, docs_keyed}
 use Rattle.tables.proofs.Single.{inserts_row}
 use Rattle.tables.proofs.Writes.{IsCommand}
-use Rattle.tables.specs.Listings.{comes_after, first_rows, lies_between, listed_id}
-use Rattle.tables.specs.Layout.{AreKeyed, IsStore, IsDocumentRow}
-use Rattle.tables.specs.Rows.{is_in, is_of, listed_document, number_of, db_of, id_of, sequence_of, winner_text, is_gone, document_row, document_cells, with_cells}
-use Rattle.tables.specs.Schema.{schema, docs_tree, docs_table}
-use Rattle.tables.specs.Steps.{Ran, Changes}
 
 abbrev pub insert_text : List ℕ
 insert_text = codes "INSERT INTO docs (db, id, seq, winner, del) VALUES (?1, ?2, ?3, ?4, ?5)"

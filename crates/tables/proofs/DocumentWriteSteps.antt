@@ -1,20 +1,5 @@
 -- Revisions that are put in one after another are one change, and what the statements of a write make of all tables.
-use Rattle.std.proofs.Common.{◌≡◌, ◌≢◌, ◌+◌, ℕ, ℤ, pos, not, List, [], ◌∷◌, filter, refl, sym, ap, subst, ◌∙◌, arith}
-use Rattle.std.specs.List.{AllByRecursion}
-use Rattle.sqlite_value.specs.Order.{Row}
-use Rattle.sqlite_schema.specs.declared.schema.Schema.{Schema}
-use Rattle.sqlite_keyed.proofs.ListLemmas.{all_of, all_both}
-use Rattle.sqlite_trees.specs.Tree.{Trees}
-use Rattle.sqlite.specs.Effect.{Database}
-use Rattle.store.specs.Database.{DocumentWrite}
-use Rattle.tree.specs.History.{is_deleted, held_of}
-use Rattle.tree.specs.Revision.{Revision, text_of}
-use Rattle.tree.specs.declared.entry.Entry.{Entry}
-use Rattle.tables.specs.Edits.{AreInserted, IsWrite, with_revisions, new_entries, history_before, history_after}
-use Rattle.tables.specs.Layout.{AreKeyed}
-use Rattle.tables.specs.Rows.{number_of, length_of, is_of, with_cells, document_cells, revision_cells, rows_at_sequence}
-use Rattle.tables.specs.Schema.{schema, dbs_tree, docs_tree, revs_tree}
-use Rattle.tables.specs.Steps.{Changes}
+use Rattle.tables.proofs.Common.{AllByRecursion, AreInserted, AreKeyed, Changes, Database, DocumentWrite, Entry, IsWrite, List, Revision, Row, Schema, Trees, [], all_both, all_of, ap, arith, dbs_tree, docs_tree, document_cells, filter, held_of, history_after, history_before, is_deleted, is_of, length_of, new_entries, not, number_of, pos, refl, revision_cells, revs_tree, rows_at_sequence, schema, subst, sym, text_of, with_cells, with_revisions, ℕ, ℤ, ◌+◌, ◌∙◌, ◌∷◌, ◌≡◌, ◌≢◌}
 use Rattle.tables.proofs.Kept.{keyed-with_cells}
 use Rattle.tables.proofs.Rests.{AreSame, after_change, unchanged, with_rows}
 

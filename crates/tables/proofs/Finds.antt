@@ -1,25 +1,10 @@
 -- What a query by tests on one table finds.
-use Rattle.std.proofs.Common.{◌≡◌, ℕ, List, [], ◌∷◌, map, filter, Bool, false, Ok, Err, Result, IfOk, sym, subst, IsPermutation, IsTrue, OnOk}
-use Rattle.std.specs.List.{AllByRecursion, list_all}
-use Rattle.sqlite_value.specs.Order.{Row}
-use Rattle.sqlite_sql.specs.Program.{overlay}
-use Rattle.sqlite_sql.specs.Term.{Term, eval_all, holds}
+use Rattle.tables.proofs.Common.{AllByRecursion, Asks, AsksInside, Bool, Database, Err, Ghosts, HasCleanDisk, Held, IfOk, IsPermutation, IsPlain, IsTrue, IsUnchanged, List, Ok, OnOk, OnlyLooks, Proceeds, Reads, ReadsInside, Result, Row, Schema, Select, Shown, State, Term, Trees, [], eval_all, false, filter, holds, list_all, map, overlay, reads_as, state, subst, sym, understood, ℕ, ◌∷◌, ◌≡◌}
 use Rattle.sqlite_schema.specs.declared.command.Command.{Command}
-use Rattle.sqlite_schema.specs.declared.command.Command.TheVariants.{Select}
-use Rattle.sqlite_schema.specs.declared.schema.Schema.{Schema}
-use Rattle.sqlite.specs.Listing.{understood}
-use Rattle.sqlite.specs.State.{State, HasCleanDisk, IsUnchanged, Shown}
-use Rattle.sqlite.proofs.Callers.{IsPlain, reads_as}
 use Rattle.tables.proofs.Queries.{program_on, selects}
 use Rattle.tables.proofs.Single.{HasOneAtMost, one_order}
 use Rattle.tables.proofs.Writes.{IsCommand}
-use Rattle.sqlite.specs.Effect.{Database}
-use Rattle.sqlite.specs.Held.{Held, state}
-use Rattle.sqlite_trees.specs.Tree.{Trees}
-use Rattle.sqlite_trees.specs.declared.store.Store.{Ghosts}
-use Rattle.tables.specs.Calls.{Reads, ReadsInside}
 use Rattle.tables.specs.Schema as tables
-use Rattle.tables.specs.Steps.{Asks, AsksInside, OnlyLooks, Proceeds}
 
 plain_in : (text : List ℕ) (command : Command) → IsCommand tables.schema text command → (s : Schema) → s ≡ tables.schema → IsPlain (understood s text)
 plain_in text command it s is = subst (λ x. IsPlain (understood x text)) (sym is) it.plain

@@ -1,29 +1,8 @@
 -- The databases that the tables hold after a local document of one is written.
-use Rattle.std.proofs.Common.{◌≡◌, ◌≢◌, ◌<◌, ◌^◌, ℕ, ℤ, true, false, not, List, [], ◌∷◌, ◌++◌, map, filter, slice_get, cond, Some, option_map, bytes_eq, IsTrue, refl, sym, ap, ap₂, subst, ◌∙◌, arith, append-nil}
-use Rattle.std.proofs.Math.Logic.{∥∥₁_map}
-use Rattle.std.proofs.lemmas.Bool.{and_from, and_left, both_ways, not-true}
-use Rattle.std.proofs.lemmas.Bool.Decides.{Decides-int_eq}
-use Rattle.std.proofs.lemmas.Cmp.{nat_list_cmp_total}
-use Rattle.std.proofs.lemmas.Slice.Eq.{bytes_eq-Decides}
+use Rattle.tables.proofs.Common.{AllByRecursion, AreLawful, Changes, Decides-int_eq, IsBody, IsDocumentRow, IsLaid, IsLawful, IsLocalRow, IsRevisionRow, IsStore, IsTrue, List, LocalDocument, Row, Some, Trees, [], all-append, all-filter, all_weaker, and_from, and_left, ap, append-nil, ap₂, arith, ascending-append, ascending-filter, both_ways, bytes_eq, bytes_eq-Decides, canonical, cond, contents_in, database_of, db_of, dbs_tree, docs_tree, false, filter, id_of, is_document_id, is_in, is_named, is_of, lawful_insert, lawful_local, local_cells, local_of, local_row, locals_in, locals_tree, map, nat_list_cmp_total, next_number, not, not-true, number_of, option_map, refl, revs_tree, same_int, slice_get, subst, sym, true, with_cells, with_local, ℕ, ℤ, ∥∥₁_map, ◌++◌, ◌<◌, ◌^◌, ◌∙◌, ◌∷◌, ◌≡◌, ◌≢◌}
 use Rattle.std.specs.FinMap as finite
-use Rattle.std.specs.List.{AllByRecursion}
 use Rattle.std.specs.Ordering.{int_eq}
-use Rattle.couch_json.specs.Canonical.{canonical}
-use Rattle.couch_json.specs.Lawful.{IsLawful}
-use Rattle.tree.specs.DocumentId.{is_document_id}
-use Rattle.store.specs.Contents.{with_local}
-use Rattle.store.specs.Lawful.{AreLawful, IsBody}
-use Rattle.store.specs.declared.local_document.LocalDocument.{LocalDocument}
-use Rattle.store.proofs.Lawfuls.{lawful_insert, lawful_local}
-use Rattle.sqlite_value.specs.Order.{Row}
-use Rattle.sqlite_trees.specs.Tree.{Trees}
-use Rattle.sqlite_keyed.proofs.KeyedLemmas.{same_int}
-use Rattle.sqlite_keyed.proofs.ListLemmas.{all-append, all-filter, all_weaker, ascending-append, ascending-filter}
 use Rattle.sqlite.specs.Effect as sqlite
-use Rattle.tables.specs.Layout.{IsDocumentRow, IsLocalRow, IsRevisionRow, IsLaid, IsStore}
-use Rattle.tables.specs.Rows.{contents_in, database_of, db_of, id_of, is_in, is_named, is_of, local_cells, local_of, local_row, locals_in, next_number, number_of, with_cells}
-use Rattle.tables.specs.Schema.{dbs_tree, docs_tree, revs_tree, locals_tree}
-use Rattle.tables.specs.Steps.{Changes}
 use Rattle.tables.proofs.Kept.{keyed-filter, keyed-with_cells}
 use Rattle.tables.proofs.Lookups.{database_there, number_there, one_changed}
 use Rattle.tables.proofs.Numbered.{numbered_from_keyed}

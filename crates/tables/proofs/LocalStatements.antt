@@ -1,13 +1,5 @@
 -- What the statements on local documents mean.
-use Rattle.std.proofs.Common.{◌≡◌, ℕ, ℤ, pos, List, [], ◌∷◌, map, filter, codes, false, not, Ok, Err, Result, IfOk, OnOk, refl, subst}
-use Rattle.sqlite_value.specs.declared.value.Value.TheVariants.{Null, Int, Text, Blob}
-use Rattle.sqlite_value.specs.Order.{Row}
-use Rattle.sqlite_sql.specs.Term.{Term, lit, col}
-use Rattle.sqlite_schema.specs.declared.command.Command.TheVariants.{Insert, Delete, Select}
-use Rattle.sqlite_schema.specs.declared.command.Source.TheVariants.{Values}
-use Rattle.sqlite_schema.specs.declared.program.Program.{Program}
-use Rattle.sqlite_tied.specs.Compute.{everything}
-use Rattle.sqlite.specs.Listing.{understood}
+use Rattle.tables.proofs.Common.{AreKeyed, Blob, Changes, Delete, Err, IfOk, Insert, Int, IsStore, List, Null, Ok, OnOk, Program, Ran, Result, Row, Select, Shown, State, Term, Text, Values, [], cast_row, codes, col, everything, false, filter, is_in, is_of, lit, local_cells, locals_table, locals_tree, map, not, pos, refl, schema, shown_local, subst, understood, with_cells, ℕ, ℤ, ◌∷◌, ◌≡◌}
 use Rattle.tables.proofs.Cells.{by_db, by_id, cast_null, cast_int, tests_db, tests_id}
 use Rattle.tables.proofs.Queries.{program_on}
 use Rattle.tables.proofs.Single.{inserts_row}
@@ -16,12 +8,6 @@ use Rattle.tables.proofs.Deletes.{deletes_where}
 use Rattle.tables.proofs.Finds.{finds_one}
 use Rattle.tables.proofs.Numbered.{numbered_from_keyed}
 use Rattle.tables.proofs.Tables.{locals_plain, locals_keyed, one_of}
-use Rattle.tables.specs.Layout.{AreKeyed, IsStore}
-use Rattle.tables.specs.Rows.{is_in, is_of, shown_local, local_cells, with_cells}
-use Rattle.tables.specs.Steps.{Ran, Changes}
-use Rattle.sqlite.specs.State.{State, Shown}
-use Rattle.sqlite_rules.specs.Cast.{cast_row}
-use Rattle.tables.specs.Schema.{schema, locals_tree, locals_table}
 
 abbrev pub insert_text : List ℕ
 insert_text = codes "INSERT INTO locals (db, id, n, body) VALUES (?1, ?2, ?3, ?4)"

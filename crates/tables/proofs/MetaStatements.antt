@@ -1,19 +1,8 @@
 -- What the statement on the version means.
-use Rattle.std.proofs.Common.{◌≡◌, ℕ, List, [], ◌∷◌, map, codes, true, false, Result, IfOk, IsPermutation, refl, ap, subst, arith}
-use Rattle.std.proofs.lemmas.List.Sorted.{length_permutation}
-use Rattle.sqlite_value.specs.Order.{Row}
-use Rattle.sqlite_sql.specs.Term.{col}
-use Rattle.sqlite_schema.specs.declared.command.Command.TheVariants.{Select}
-use Rattle.sqlite_tied.specs.Compute.{everything}
-use Rattle.sqlite_keyed.proofs.ListLemmas.{all_of, filter_all}
-use Rattle.sqlite.proofs.Callers.{one_permutation}
-use Rattle.sqlite.specs.Listing.{understood}
-use Rattle.sqlite.specs.State.{State, Shown}
+use Rattle.tables.proofs.Common.{IfOk, IsPermutation, List, Result, Row, Select, Shown, State, [], all_of, ap, arith, codes, col, everything, false, filter_all, is_first, length_permutation, map, meta_tree, one_permutation, refl, schema, shown_version, shows_first, subst, true, understood, ℕ, ◌∷◌, ◌≡◌}
 use Rattle.tables.proofs.Finds.{finds_where}
 use Rattle.tables.proofs.Queries.{program_on}
 use Rattle.tables.proofs.Writes.{IsCommand}
-use Rattle.tables.specs.Presence.{shown_version, shows_first, is_first}
-use Rattle.tables.specs.Schema.{schema, meta_tree}
 
 abbrev pub find_text : List ℕ
 find_text = codes "SELECT version FROM meta"

@@ -1,29 +1,8 @@
 -- The databases that the tables hold after one is made.
-use Rattle.std.proofs.Common.{◌≡◌, ◌≢◌, ℕ, ℤ, pos, ◌<ℤ◌, Bool, true, false, ◌||◌, List, [], ◌∷◌, ◌++◌, codes, map, filter, find, cond, Option, Some, None, option_map, bytes_eq, IsTrue, refl, sym, ap, subst, ◌∙◌, arith}
-use Rattle.std.proofs.Math.Logic.{∥∥₁_map}
-use Rattle.std.proofs.lemmas.Bool.{both_ways}
-use Rattle.std.proofs.lemmas.Cmp.{nat_list_cmp_total}
-use Rattle.std.proofs.lemmas.Int.{ints}
-use Rattle.std.proofs.lemmas.Slice.Eq.{bytes_eq-Decides}
+use Rattle.tables.proofs.Common.{AllByRecursion, AreLawful, Bool, Changes, IsDatabaseNumber, IsDatabaseRow, IsDocumentRow, IsLaid, IsLawful, IsLocalRow, IsRevisionRow, IsStore, IsTrue, List, None, Option, Row, Some, Trees, [], admins_only, all-append, all_weaker, ap, arith, ascending-append, both_ways, bytes_eq, bytes_eq-Decides, canonical, closed_security, codes, cond, contents_in, database_cells, database_of, database_row, db_of, dbs_tree, docs_tree, document_of, false, filter, filter_none, find, id_of, ints, is_database_name, is_in, is_security, lawful_empty, lawful_insert, length_of, list_any, local_of, locals_tree, map, name_of, nat_list_cmp_total, new_database, next_number, number_of, option_map, pos, refl, revs_tree, same_int, security_of, subst, sym, true, with_cells, ℕ, ℤ, ∥∥₁_map, ◌++◌, ◌<ℤ◌, ◌||◌, ◌∙◌, ◌∷◌, ◌≡◌, ◌≢◌}
 use Rattle.std.specs.FinMap as finite
-use Rattle.std.specs.List.{AllByRecursion, list_any}
 use Rattle.std.specs.Ordering.{int_eq}
-use Rattle.couch_json.specs.Canonical.{canonical}
-use Rattle.couch_json.specs.Lawful.{IsLawful}
-use Rattle.policy.specs.Security.{admins_only, closed_security, is_security}
-use Rattle.store.specs.Contents.{new_database}
-use Rattle.store.specs.DatabaseName.{is_database_name}
-use Rattle.store.specs.Lawful.{AreLawful}
-use Rattle.store.proofs.Lawfuls.{lawful_empty, lawful_insert}
-use Rattle.sqlite_value.specs.Order.{Row}
-use Rattle.sqlite_trees.specs.Tree.{Trees}
-use Rattle.sqlite_keyed.proofs.KeyedLemmas.{same_int}
-use Rattle.sqlite_keyed.proofs.ListLemmas.{all-append, all_weaker, ascending-append, filter_none}
 use Rattle.sqlite.specs.Effect as sqlite
-use Rattle.tables.specs.Layout.{IsDatabaseNumber, IsDatabaseRow, IsDocumentRow, IsLocalRow, IsRevisionRow, IsLaid, IsStore}
-use Rattle.tables.specs.Rows.{contents_in, database_cells, database_of, database_row, db_of, document_of, id_of, is_in, length_of, local_of, name_of, next_number, number_of, security_of, with_cells}
-use Rattle.tables.specs.Schema.{dbs_tree, docs_tree, revs_tree, locals_tree}
-use Rattle.tables.specs.Steps.{Changes}
 use Rattle.tables.proofs.Kept.{below_next, databases-with_cells}
 use Rattle.tables.proofs.RowMaps.{find_push, get_rows, rows_pushed, text_exact, text_tests}
 use Rattle.tables.proofs.Rests.{contents_same, document_kept, length_at, local_kept, after_change, revision_kept, spelled, store_of, unchanged, with_rows}

@@ -1,22 +1,8 @@
 -- The databases that the tables hold after one is removed with all its rows.
-use Rattle.std.proofs.Common.{refl, ◌≡◌, ◌≢◌, ℕ, ℤ, true, false, not, List, map, filter, slice_get, Some, is_some, option_map, bytes_eq, sym, ap, ap₂, ◌∙◌, subst, arith}
-use Rattle.std.proofs.Math.Logic.{∥∥₁_map}
-use Rattle.std.proofs.lemmas.Bool.{and_parts, not-true}
-use Rattle.std.proofs.lemmas.Cmp.{nat_list_cmp_total}
+use Rattle.tables.proofs.Common.{AllByRecursion, AreLawful, Changes, IsDatabaseRow, IsDocumentRow, IsLaid, IsLocalRow, IsRevisionRow, IsStore, List, Row, Some, Trees, all-filter, all_both, all_weaker, and_parts, ap, ap₂, arith, ascending-filter, bytes_eq, contents_in, database_of, db_of, dbs_tree, docs_tree, document_of, documents_in, entry_of, false, filter, has_number, history_in, id_of, is_in, is_named, is_of, is_some, lawful_remove, length_of, list_any, local_of, locals_tree, map, name_of, nat_list_cmp_total, not, not-true, number_of, option_map, refl, revision_of, revs_tree, same_int, security_of, slice_get, subst, sym, true, ℕ, ℤ, ∥∥₁_map, ◌∙◌, ◌≡◌, ◌≢◌}
 use Rattle.std.specs.FinMap as finite
-use Rattle.std.specs.List.{AllByRecursion, list_any}
 use Rattle.std.specs.Ordering.{int_eq}
-use Rattle.store.specs.Lawful.{AreLawful}
-use Rattle.store.proofs.Lawfuls.{lawful_remove}
-use Rattle.sqlite_value.specs.Order.{Row}
-use Rattle.sqlite_trees.specs.Tree.{Trees}
-use Rattle.sqlite_keyed.proofs.KeyedLemmas.{same_int}
-use Rattle.sqlite_keyed.proofs.ListLemmas.{all-filter, all_both, all_weaker, ascending-filter}
 use Rattle.sqlite.specs.Effect as sqlite
-use Rattle.tables.specs.Layout.{IsDatabaseRow, IsDocumentRow, IsLocalRow, IsRevisionRow, IsLaid, IsStore}
-use Rattle.tables.specs.Rows.{contents_in, database_of, db_of, document_of, documents_in, entry_of, has_number, history_in, id_of, is_in, is_named, is_of, length_of, local_of, name_of, number_of, revision_of, security_of}
-use Rattle.tables.specs.Schema.{dbs_tree, docs_tree, revs_tree, locals_tree}
-use Rattle.tables.specs.Steps.{Changes}
 use Rattle.tables.proofs.Kept.{databases-filter, keyed-filter}
 use Rattle.tables.proofs.Lookups.{by_number}
 use Rattle.tables.proofs.Numbered.{filter_on, numbered_from_keyed}

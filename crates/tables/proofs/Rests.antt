@@ -1,26 +1,10 @@
 -- What a change leaves of other tables and of rows that it doesn't touch, and tables that say the same.
-use Rattle.std.proofs.Common.{inl, inr, ◌≡◌, ◌≢◌, ◌≤◌, ℕ, ℤ, true, List, map, cond, eqb, Option, Some, None, is_some, option_map, refl, sym, ap, subst, ◌∙◌, arith}
-use Rattle.std.proofs.lemmas.Bool.Decides.{eqb_tells}
-use Rattle.std.specs.FinMap.{from_entries}
-use Rattle.std.specs.List.{AllByRecursion, list_any}
+use Rattle.tables.proofs.Common.{AllByRecursion, AreLawful, AreNumbered, Changes, Contents, HistoryContent, IsAscending, IsDatabaseRow, IsDocumentRow, IsLaid, IsLawful, IsLocalRow, IsRevisionRow, IsStore, List, None, Option, Revision, Row, Schema, Some, Trees, all_weaker, ap, arith, cond, contents_in, database_at, db_of, dbs_tree, docs_tree, documents_in, eqb, eqb_tells, from_entries, held_of, history_in, id_of, inl, inr, is_deleted, is_gone, is_known, is_of, is_some, json_in, length_of, list_any, locals_in, locals_tree, map, meta_tree, name_of, number_of, option_map, refl, revs_tree, schema, security_of, sequence_of, subst, sym, text_cell, text_of, true, value_or_null, winner, winner_text, ℕ, ℤ, ◌∙◌, ◌≡◌, ◌≢◌, ◌≤◌}
 use Rattle.std.specs.Ordering.{int_eq}
-use Rattle.couch_json.specs.Lawful.{IsLawful}
 use Rattle.couch_json.specs.Nesting.{max_open}
 use Rattle.couch_json.specs.Value as json
 use Rattle.couch_json.proofs.ReadingBack.{reading-canonical}
-use Rattle.tree.specs.History.{HistoryContent, held_of, is_deleted, is_known, winner}
-use Rattle.tree.specs.Revision.{Revision, text_of}
-use Rattle.store.specs.Contents.{Contents}
-use Rattle.store.specs.Lawful.{AreLawful}
-use Rattle.sqlite_value.specs.Order.{Row}
-use Rattle.sqlite_trees.specs.Tree.{Trees, IsAscending}
-use Rattle.sqlite_schema.specs.declared.schema.Schema.{Schema}
-use Rattle.sqlite_keyed.proofs.ListLemmas.{all_weaker}
 use Rattle.sqlite.specs.Effect as sqlite
-use Rattle.tables.specs.Layout.{IsStore, AreNumbered, IsDatabaseRow, IsDocumentRow, IsLocalRow, IsRevisionRow, IsLaid, database_at}
-use Rattle.tables.specs.Rows.{contents_in, db_of, documents_in, history_in, id_of, is_gone, is_of, json_in, length_of, locals_in, name_of, number_of, security_of, sequence_of, text_cell, value_or_null, winner_text}
-use Rattle.tables.specs.Schema.{schema, meta_tree, dbs_tree, docs_tree, revs_tree, locals_tree}
-use Rattle.tables.specs.Steps.{Changes}
 use Rattle.tables.proofs.RowMaps.{any_found}
 
 -- ---- the other tables

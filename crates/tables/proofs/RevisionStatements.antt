@@ -1,27 +1,13 @@
 -- What the statements on revisions mean.
-use Rattle.std.proofs.Common.{◌≡◌, ℕ, ℤ, pos, List, [], ◌∷◌, map, filter, codes, Bool, false, not, cond, Ok, Err, Result, IfOk, OnOk, IsPermutation, refl, subst}
-use Rattle.sqlite_value.specs.declared.value.Value.{Value}
-use Rattle.sqlite_value.specs.declared.value.Value.TheVariants.{Null, Int, Text, Blob}
-use Rattle.sqlite_sql.specs.Term.{Term, lit, col}
-use Rattle.sqlite_rules.specs.Cast.{cast_row, as_text}
-use Rattle.sqlite_schema.specs.declared.command.Command.TheVariants.{Insert, Delete, Select}
-use Rattle.sqlite_schema.specs.declared.command.Source.TheVariants.{Values}
-use Rattle.sqlite_tied.specs.Compute.{everything}
-use Rattle.sqlite.specs.Listing.{understood}
-use Rattle.sqlite.specs.State.{State, Shown}
+use Rattle.tables.proofs.Common.{AreKeyed, Blob, Bool, Changes, Delete, Err, IfOk, Insert, Int, IsPermutation, IsStore, List, Null, Ok, OnOk, Ran, Result, Row, Select, Shown, State, Term, Text, Value, Values, [], as_text, cast_row, codes, col, cond, everything, false, filter, given_cells, is_in, is_of, lit, map, not, pos, refl, revs_table, revs_tree, schema, shown_revision, subst, understood, with_cells, ℕ, ℤ, ◌∷◌, ◌≡◌}
 use Rattle.tables.proofs.Cells.{by_db, by_id, cast_null, cast_int, tests_db, tests_id}
 use Rattle.tables.proofs.Deletes.{deletes_where}
 use Rattle.tables.proofs.Finds.{finds_where}
-use Rattle.sqlite_value.specs.Order.{Row}
 use Rattle.tables.proofs.Numbered.{numbered_from_keyed}
 use Rattle.tables.proofs.Queries.{program_on}
 use Rattle.tables.proofs.Tables.{revs_plain, revs_keyed}
 use Rattle.tables.proofs.Single.{inserts_row}
 use Rattle.tables.proofs.Writes.{IsCommand}
-use Rattle.tables.specs.Layout.{AreKeyed, IsStore}
-use Rattle.tables.specs.Rows.{is_in, is_of, shown_revision, given_cells, with_cells}
-use Rattle.tables.specs.Schema.{schema, revs_tree, revs_table}
-use Rattle.tables.specs.Steps.{Ran, Changes}
 
 abbrev pub insert_text : List ℕ
 insert_text = codes "INSERT INTO revs (db, id, n, hash, parent, held, del, body) VALUES (?1, ?2, ?3, ?4, ?5, ?6, ?7, ?8)"

@@ -1,25 +1,9 @@
 -- The databases that the tables hold after one has another security object.
-use Rattle.std.proofs.Common.{◌≡◌, ◌≢◌, ◌≤◌, ℕ, ℤ, pos, true, false, List, [], ◌∷◌, map, filter, find, slice_get, cond, if◌then◌else◌, Some, option_map, nat_le, IsTrue, refl, sym, ap, ap₂, subst, subst₂, ◌∙◌, arith}
-use Rattle.std.proofs.Math.Logic.{∥∥₁_map}
-use Rattle.std.proofs.lemmas.Bool.{and_parts}
-use Rattle.std.proofs.lemmas.Bool.Decides.{Decides-int_eq, nat_tests}
+use Rattle.tables.proofs.Common.{AreLawful, Changes, Decides-int_eq, IsDatabaseRow, IsDocumentRow, IsLaid, IsLawful, IsLocalRow, IsRevisionRow, IsStore, IsTrue, List, Row, Some, Trees, [], all_map, all_weaker, and_parts, ap, ap₂, arith, ascending-map, ascending_weaker, canonical, cond, contents_in, database_of, database_row, db_of, dbs_tree, docs_tree, false, filter, find, has_number, if◌then◌else◌, is_named, is_security, lawful_insert, lawful_secured, length_of, locals_tree, map, map-map, map_same, name_of, nat_le, nat_tests, number_of, option_map, pos, refl, revs_tree, row_with_security, rows_with_security, security_of, slice_get, subst, subst₂, sym, true, with_security, ℕ, ℤ, ∥∥₁_map, ◌∙◌, ◌∷◌, ◌≡◌, ◌≢◌, ◌≤◌}
 use Rattle.std.specs.FinMap as finite
 use Rattle.std.specs.Ordering.{int_eq}
-use Rattle.couch_json.specs.Canonical.{canonical}
-use Rattle.couch_json.specs.Lawful.{IsLawful}
 use Rattle.couch_json.specs.Value as json
-use Rattle.policy.specs.Security.{is_security}
-use Rattle.store.specs.Contents.{with_security}
-use Rattle.store.specs.Lawful.{AreLawful}
-use Rattle.store.proofs.Lawfuls.{lawful_insert, lawful_secured}
-use Rattle.sqlite_value.specs.Order.{Row}
-use Rattle.sqlite_trees.specs.Tree.{Trees}
-use Rattle.sqlite_keyed.proofs.ListLemmas.{all_map, all_weaker, ascending-map, ascending_weaker, map-map, map_same}
 use Rattle.sqlite.specs.Effect as sqlite
-use Rattle.tables.specs.Layout.{IsDatabaseRow, IsDocumentRow, IsLocalRow, IsRevisionRow, IsLaid, IsStore}
-use Rattle.tables.specs.Rows.{contents_in, database_of, database_row, db_of, has_number, is_named, length_of, name_of, number_of, row_with_security, rows_with_security, security_of}
-use Rattle.tables.specs.Schema.{dbs_tree, docs_tree, revs_tree, locals_tree}
-use Rattle.tables.specs.Steps.{Changes}
 use Rattle.tables.proofs.Kept.{databases-secured}
 use Rattle.tables.proofs.Lookups.{database_there, one_changed}
 use Rattle.tables.proofs.RowMaps.{option_map-cond}

@@ -1,26 +1,7 @@
 -- One row put behind others, and a query that finds one row at most.
-use Rattle.std.proofs.Common.{ℕ, ◌/◌, length, Ok, Err, OnOk, Result, ◌≡◌, ◌⊎◌, inl, inr, List, [], ◌∷◌, ◌++◌, map, filter, Bool, true, false, cond, refl, sym, ap, subst, ◌∙◌, IsPermutation, arith}
-use Rattle.std.proofs.lemmas.List.Sorted.{length_permutation}
-use Rattle.sqlite_value.specs.declared.value.Value.TheVariants.{Null, Int}
-use Rattle.sqlite_value.specs.Order.{Row}
-use Rattle.sqlite_trees.specs.Tree.{Trees, IsAscending, put_row}
-use Rattle.sqlite_schema.specs.declared.schema.Table.{Table}
-use Rattle.sqlite_rules.specs.declared.error.Rowids.TheVariants.{Chosen}
-use Rattle.sqlite_rules.specs.Edit.{edit_of, edited, with_rowid}
-use Rattle.sqlite_rules.specs.Cast.{cast_row}
-use Rattle.sqlite_keyed.proofs.ListLemmas.{all_weaker, filter_none}
-use Rattle.sqlite.proofs.Callers.{one_permutation}
-use Rattle.sqlite_schema.specs.declared.command.Command.TheVariants.{Insert}
-use Rattle.sqlite_schema.specs.declared.command.Source.TheVariants.{Values}
-use Rattle.sqlite_schema.specs.declared.schema.Schema.{Schema}
-use Rattle.sqlite_sql.specs.Term.{Term}
-use Rattle.sqlite.specs.Effect.{value_rows}
-use Rattle.sqlite.specs.State.{State}
+use Rattle.tables.proofs.Common.{AreNumbered, Bool, Changes, Chosen, Err, Insert, Int, IsAscending, IsPermutation, List, Null, Ok, OnOk, Ran, Result, Row, Schema, State, Table, Term, Trees, Values, [], all_weaker, ap, arith, cast_row, cond, edit_of, edited, false, filter, filter_none, inl, inr, length, length_permutation, map, one_permutation, put_row, refl, subst, sym, true, value_rows, with_cells, with_rowid, ℕ, ◌++◌, ◌/◌, ◌∙◌, ◌∷◌, ◌≡◌, ◌⊎◌}
 use Rattle.tables.proofs.Numbered.{appends, next_is}
 use Rattle.tables.proofs.Writes.{IsCommand, IsPlainTable, inserts}
-use Rattle.tables.specs.Steps.{Changes, Ran}
-use Rattle.tables.specs.Layout.{AreNumbered}
-use Rattle.tables.specs.Rows.{with_cells}
 
 -- one row of values, which is cast to these cells
 pub one_row : (db : Trees) (table : Table) (values cells : Row) → cast_row table values ≡ Null ∷ cells → AreNumbered (db table.tree)

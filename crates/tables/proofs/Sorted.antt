@@ -1,25 +1,7 @@
 -- What a query with an order answers, where no two rows tie.
-use Rattle.std.proofs.Common.{◌≡◌, ℕ, List, [], ◌∷◌, map, filter, flat_map, Bool, true, false, ◌&&◌, cond, Ok, Err, Result, IfOk, refl, ap, ap₂, subst, ◌∙◌, IsPermutation, Ordering, Less, Equal, Greater, is_eq, is_gt, sym}
-use Rattle.std.specs.Cmp.{IsTotalOrder}
-use Rattle.std.specs.Ordering.{ordering_reverse}
-use Rattle.std.specs.List.{AllByRecursion, list_all}
-use Rattle.std.proofs.lemmas.Cmp.{upto}
-use Rattle.sqlite_value.specs.declared.value.Value.TheVariants.{Null}
-use Rattle.sqlite_value.specs.declared.keys.Key.{Key}
-use Rattle.sqlite_value.specs.Order.{Row}
-use Rattle.sqlite_trees.specs.Tree.{IsAscending}
-use Rattle.sqlite_sql.specs.Program.{overlay}
-use Rattle.sqlite_sql.specs.Term.{Term, eval, eval_all, holds}
-use Rattle.sqlite_sql.specs.Query.{Query, Output, output, output_cmp, IsAnswer, as_count, limited}
+use Rattle.tables.proofs.Common.{AllByRecursion, Bool, Equal, Err, Greater, IfOk, IsAnswer, IsAscending, IsPermutation, IsTotalOrder, Key, Less, List, Null, Ok, Ordering, Output, Query, Result, Row, Schema, Select, Shown, State, Term, [], all-filter, all_weaker, ap, ap₂, as_count, ascending-filter, ascending-map, cond, eval, eval_all, false, filter, flat_map, holds, insert_sorted, is_eq, is_gt, limited, list_all, map, map-map, map_same, ordering_reverse, output, output_cmp, overlay, reads_as, refl, sort_by, sort_by-map, sorted_is-sort_by, subst, sym, true, upto, ℕ, ◌&&◌, ◌∙◌, ◌∷◌, ◌≡◌}
 use Rattle.sqlite_sql.proofs.QueryLemmas.{output_cmp_total}
-use Rattle.sqlite_schema.specs.declared.command.Command.TheVariants.{Select}
-use Rattle.sqlite_schema.specs.declared.schema.Schema.{Schema}
-use Rattle.sqlite_keyed.specs.Lists.{insert_sorted, sort_by}
-use Rattle.sqlite_keyed.proofs.ListLemmas.{map-map, map_same, all-filter, all_weaker, ascending-map, ascending-filter}
-use Rattle.sqlite_keyed.proofs.SortLemmas.{sorted_is-sort_by, sort_by-map}
 use Rattle.sqlite.specs.Effect.{Answers}
-use Rattle.sqlite.specs.State.{State, Shown}
-use Rattle.sqlite.proofs.Callers.{reads_as}
 use Rattle.tables.proofs.Queries.{first_program, first_on, passed}
 use Rattle.tables.proofs.Writes.{IsCommand}
 

@@ -1,5 +1,4 @@
-use Rattle.sqlite.specs.Held.{state}
-use Rattle.tables.proofs.DatabaseStatements.{inserts_version}
+use Rattle.tables.proofs.Lemmas.{inserts_version, state}
 use Rattle.tables.proofs.create.insert_version.Goals as goal
 
 pub returns-clause-alters : goal.returns-clause-alters

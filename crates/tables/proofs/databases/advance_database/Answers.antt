@@ -1,5 +1,4 @@
-use Rattle.sqlite.specs.Held.{state}
-use Rattle.tables.proofs.DatabaseStatements.{advances_database}
+use Rattle.tables.proofs.Lemmas.{advances_database, state}
 use Rattle.tables.proofs.databases.advance_database.Goals as goal
 
 pub returns-clause-alters : goal.returns-clause-alters

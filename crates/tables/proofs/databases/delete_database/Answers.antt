@@ -1,5 +1,4 @@
-use Rattle.sqlite.specs.Held.{state}
-use Rattle.tables.proofs.DatabaseStatements.{deletes_database}
+use Rattle.tables.proofs.Lemmas.{deletes_database, state}
 use Rattle.tables.proofs.databases.delete_database.Goals as goal
 
 pub returns-clause-alters : goal.returns-clause-alters

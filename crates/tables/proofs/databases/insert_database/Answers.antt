@@ -1,5 +1,4 @@
-use Rattle.sqlite.specs.Held.{state}
-use Rattle.tables.proofs.DatabaseStatements.{inserts_database}
+use Rattle.tables.proofs.Lemmas.{inserts_database, state}
 use Rattle.tables.proofs.databases.insert_database.Goals as goal
 
 pub returns-clause-alters : goal.returns-clause-alters

@@ -1,5 +1,4 @@
-use Rattle.sqlite.specs.Held.{state}
-use Rattle.tables.proofs.DatabaseStatements.{secures_database}
+use Rattle.tables.proofs.Lemmas.{secures_database, state}
 use Rattle.tables.proofs.databases.secure_database.Goals as goal
 
 pub returns-clause-alters : goal.returns-clause-alters

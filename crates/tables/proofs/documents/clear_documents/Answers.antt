@@ -1,5 +1,4 @@
-use Rattle.sqlite.specs.Held.{state}
-use Rattle.tables.proofs.DocumentStatements.{clears_documents}
+use Rattle.tables.proofs.Lemmas.{clears_documents, state}
 use Rattle.tables.proofs.documents.clear_documents.Goals as goal
 
 pub returns-clause-alters : goal.returns-clause-alters

@@ -1,5 +1,4 @@
-use Rattle.sqlite.specs.Held.{state}
-use Rattle.tables.proofs.DocumentStatements.{deletes_document}
+use Rattle.tables.proofs.Lemmas.{deletes_document, state}
 use Rattle.tables.proofs.documents.delete_document.Goals as goal
 
 pub returns-clause-alters : goal.returns-clause-alters

@@ -1,5 +1,4 @@
-use Rattle.sqlite.specs.Held.{state}
-use Rattle.tables.proofs.DocumentStatements.{inserts_document}
+use Rattle.tables.proofs.Lemmas.{inserts_document, state}
 use Rattle.tables.proofs.documents.insert_document.Goals as goal
 
 pub returns-clause-alters : goal.returns-clause-alters

@@ -1,5 +1,4 @@
-use Rattle.sqlite.specs.Held.{state}
-use Rattle.tables.proofs.LocalStatements.{clears_locals}
+use Rattle.tables.proofs.Lemmas.{clears_locals, state}
 use Rattle.tables.proofs.locals.clear_locals.Goals as goal
 
 pub returns-clause-alters : goal.returns-clause-alters

@@ -1,5 +1,4 @@
-use Rattle.sqlite.specs.Held.{state}
-use Rattle.tables.proofs.LocalStatements.{deletes_local}
+use Rattle.tables.proofs.Lemmas.{deletes_local, state}
 use Rattle.tables.proofs.locals.delete_local.Goals as goal
 
 pub returns-clause-alters : goal.returns-clause-alters

@@ -1,5 +1,4 @@
-use Rattle.sqlite.specs.Held.{state}
-use Rattle.tables.proofs.LocalStatements.{inserts_local}
+use Rattle.tables.proofs.Lemmas.{inserts_local, state}
 use Rattle.tables.proofs.locals.insert_local.Goals as goal
 
 pub returns-clause-alters : goal.returns-clause-alters

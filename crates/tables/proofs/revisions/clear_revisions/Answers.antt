@@ -1,5 +1,4 @@
-use Rattle.sqlite.specs.Held.{state}
-use Rattle.tables.proofs.RevisionStatements.{clears_revisions}
+use Rattle.tables.proofs.Lemmas.{clears_revisions, state}
 use Rattle.tables.proofs.revisions.clear_revisions.Goals as goal
 
 pub returns-clause-alters : goal.returns-clause-alters

@@ -1,9 +1,5 @@
-use Rattle.std.proofs.Common.{◌≡◌, Option, None, Some, refl}
-use Rattle.sqlite_value.specs.declared.value.Value.TheVariants.{Text}
-use Rattle.sqlite_rules.specs.Cast.{as_text}
-use Rattle.sqlite.specs.Held.{state}
+use Rattle.tables.proofs.Lemmas.{None, Option, Some, Text, as_text, inserts_revision, refl, state, ◌≡◌}
 use Rattle.sqlite.specs.Values.{bound_value, or_null}
-use Rattle.tables.proofs.RevisionStatements.{inserts_revision}
 use Rattle.tables.proofs.revisions.insert_revision.Goals as goal
 
 text_kept : {X : Type 0} (f : X → _) (o : Option X) → as_text (or_null (λ s. Text (f s)) o) ≡ or_null (λ s. Text (f s)) o

@@ -1,8 +1,4 @@
-use Rattle.std.proofs.Common.{◌∙◌, arith}
-use Rattle.sqlite.specs.Held.{state}
-use Rattle.sqlite.specs.State.{HasCleanDisk}
-use Rattle.tables.proofs.Tables.{docs_keyed}
-use Rattle.transactions.proofs.Sequences.{Cleared, cleared, dbs_fit, locals_fit, revs_fit}
+use Rattle.transactions.proofs.Lemmas.{Cleared, HasCleanDisk, arith, cleared, dbs_fit, docs_keyed, locals_fit, revs_fit, state, ◌∙◌}
 use Rattle.transactions.proofs.changes.clear_database.Goals as goal
 
 pub returns-clause-ok : goal.returns-clause-ok

@@ -1,8 +1,4 @@
-use Rattle.std.proofs.Common.{◌∙◌, arith}
-use Rattle.sqlite.specs.Held.{state}
-use Rattle.sqlite.specs.State.{HasCleanDisk}
-use Rattle.tables.proofs.Tables.{locals_keyed}
-use Rattle.transactions.proofs.Sequences.{left_keyed, replaced}
+use Rattle.transactions.proofs.Lemmas.{HasCleanDisk, arith, left_keyed, locals_keyed, replaced, state, ◌∙◌}
 use Rattle.transactions.proofs.changes.replace_local.Goals as goal
 
 pub returns-clause-ok : goal.returns-clause-ok

@@ -1,11 +1,4 @@
-use Rattle.std.proofs.Common.{Ok, ◌≡◌, ◌∙◌, ◌++◌, arith, ap, refl, subst, sym, string_bytes}
-use Rattle.sqlite.specs.Held.{state}
-use Rattle.sqlite.specs.State.{HasCleanDisk}
-use Rattle.store.specs.Writing.{addition_of, written_in}
-use Rattle.tree.specs.History.{behind, with_write}
-use Rattle.tables.proofs.Tables.{revs_keyed}
-use Rattle.transactions.specs.Inserting.{IsBest, IsPlaced, entries_of, unknown_in}
-use Rattle.transactions.specs.declared.commit_fault.CommitFault.{CommitFault}
+use Rattle.transactions.proofs.Lemmas.{CommitFault, HasCleanDisk, IsBest, IsPlaced, Ok, addition_of, ap, arith, behind, entries_of, refl, revs_keyed, state, string_bytes, subst, sym, unknown_in, with_write, written_in, ◌++◌, ◌∙◌, ◌≡◌}
 use Rattle.transactions.proofs.DocumentWriting.{dbs_fit, docs_fit, schema_after, schema_placed, written}
 use Rattle.transactions.proofs.document_write.add_write.Goals as goal
 

@@ -1,10 +1,5 @@
-use Rattle.std.proofs.Common.{◌∙◌, arith, not, subst, sym}
-use Rattle.sqlite.specs.Held.{state}
-use Rattle.sqlite.specs.State.{HasCleanDisk}
-use Rattle.tables.specs.Layout.{AreKeyed}
-use Rattle.tables.specs.Rows.{is_of}
+use Rattle.transactions.proofs.Lemmas.{AreKeyed, HasCleanDisk, arith, is_of, not, placed, state, subst, sym, ◌∙◌}
 use Rattle.tables.proofs.Kept.{keyed-filter}
-use Rattle.transactions.proofs.Inserting.{placed}
 use Rattle.transactions.proofs.document_write.replace_document.Goals as goal
 
 pub returns-clause-ok : goal.returns-clause-ok

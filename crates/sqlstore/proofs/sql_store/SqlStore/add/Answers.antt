@@ -1,11 +1,4 @@
-use Rattle.std.proofs.Common.{◌∙◌, ap}
-use Rattle.couch_json.specs.Canonical.{canonical}
-use Rattle.sqlite.specs.Held.{state}
-use Rattle.tables.specs.Rows.{contents_in}
-use Rattle.sqlstore.proofs.Changing.{stands, told, undone}
-use Rattle.sqlstore.proofs.ContentsCode.{contents_set}
-use Rattle.sqlstore.proofs.Making.{IsAdded, adds}
-use Rattle.sqlstore.proofs.Standing.{dropped}
+use Rattle.sqlstore.proofs.Lemmas.{IsAdded, adds, ap, canonical, contents_in, contents_set, dropped, stands, state, told, undone, ◌∙◌}
 use Rattle.sqlstore.proofs.sql_store.SqlStore.add.Goals as goal
 
 pub invariant_of-self : goal.invariant_of-self

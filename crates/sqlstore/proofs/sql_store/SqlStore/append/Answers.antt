@@ -1,18 +1,5 @@
-use Rattle.std.proofs.Common.{◌∙◌, ◌+◌, Some, ap, filter, length, option_map, slice_get, subst, sym}
-use Rattle.std.proofs.Math.Logic.{∥∥₁_map, ∥∥₁_prop}
-use Rattle.std.proofs.lemmas.List.{length-map}
-use Rattle.sqlite.specs.Held.{Held, state}
-use Rattle.store.specs.Writing.{addition_of, additions}
-use Rattle.tables.specs.Rows.{contents_in, is_named}
-use Rattle.tables.specs.Schema.{dbs_tree}
-use Rattle.sqlstore.specs.Reading.{at_sequence, found_in, known_values}
-use Rattle.sqlstore.specs.Standing.{IsKnown}
-use Rattle.transactions.specs.Commits.{AreDue}
-use Rattle.sqlstore.proofs.Changing.{stands, told, undone}
+use Rattle.sqlstore.proofs.Lemmas.{AreDue, Held, IsKnown, IsWritten, Some, addition_of, additions, advances, ap, appends, at_sequence, contents_in, dbs_tree, dropped, filter, found_in, is_named, known_after, known_values, length, length-map, option_map, slice_get, some_contents_set, stands, state, subst, sym, told, undone, ∥∥₁_map, ∥∥₁_prop, ◌+◌, ◌∙◌}
 use Rattle.sqlstore.proofs.Committed.{due_at, sound, told as told_of}
-use Rattle.sqlstore.proofs.ContentsCode.{some_contents_set}
-use Rattle.sqlstore.proofs.Making.{IsWritten, advances, appends, known_after}
-use Rattle.sqlstore.proofs.Standing.{dropped}
 use Rattle.sqlstore.proofs.sql_store.SqlStore.append.Goals as goal
 
 pub invariant_of-self : goal.invariant_of-self

@@ -1,10 +1,4 @@
-use Rattle.std.proofs.Common.{◌∙◌, ap}
-use Rattle.sqlite.specs.Held.{state}
-use Rattle.tables.specs.Rows.{contents_in}
-use Rattle.sqlstore.proofs.Changing.{stands, told, undone}
-use Rattle.sqlstore.proofs.ContentsCode.{contents_set}
-use Rattle.sqlstore.proofs.Making.{IsRemoved, clears}
-use Rattle.sqlstore.proofs.Standing.{dropped}
+use Rattle.sqlstore.proofs.Lemmas.{IsRemoved, ap, clears, contents_in, contents_set, dropped, stands, state, told, undone, ◌∙◌}
 use Rattle.sqlstore.proofs.sql_store.SqlStore.clear.Goals as goal
 
 pub invariant_of-self : goal.invariant_of-self

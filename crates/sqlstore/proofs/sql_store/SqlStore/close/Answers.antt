@@ -1,8 +1,4 @@
-use Rattle.std.proofs.Common.{ap, subst, sym}
-use Rattle.std.proofs.Math.Logic.{∥∥₁_map}
-use Rattle.tables.specs.Layout.{IsStore}
-use Rattle.tables.specs.Rows.{contents_in}
-use Rattle.sqlstore.proofs.Standing.{same_trees}
+use Rattle.sqlstore.proofs.Lemmas.{IsStore, ap, contents_in, same_trees, subst, sym, ∥∥₁_map}
 use Rattle.sqlstore.proofs.sql_store.SqlStore.close.Goals as goal
 
 pub returns-clause-contents : goal.returns-clause-contents

@@ -1,8 +1,4 @@
-use Rattle.std.proofs.Common.{◌≡◌, filter, map, refl}
-use Rattle.sqlite_trees.specs.Props.{rows_set}
-use Rattle.tables.specs.Rows.{is_named, shown_database}
-use Rattle.tables.specs.Schema.{dbs_tree}
-use Rattle.sqlstore.proofs.Standing.{finds, still}
+use Rattle.sqlstore.proofs.Lemmas.{dbs_tree, filter, finds, is_named, map, refl, rows_set, shown_database, still, ◌≡◌}
 use Rattle.sqlstore.proofs.sql_store.SqlStore.database_rows.Goals as goal
 
 pub invariant_of-self : goal.invariant_of-self

@@ -1,8 +1,4 @@
-use Rattle.std.proofs.Common.{◌∙◌, Some, ap, sym}
-use Rattle.sqlstore.specs.declared.known_database.DatabaseNumbers.{DatabaseNumbers}
-use Rattle.sqlstore.specs.Model.{trees_of}
-use Rattle.sqlstore.specs.Reading.{FoundValues, found_in}
-use Rattle.sqlstore.proofs.Answering.{also, known_so}
+use Rattle.sqlstore.proofs.Lemmas.{DatabaseNumbers, FoundValues, Some, also, ap, found_in, known_so, sym, trees_of, ◌∙◌}
 use Rattle.sqlstore.proofs.sql_store.SqlStore.find.Goals as goal
 
 pub invariant_of-self : goal.invariant_of-self

@@ -1,9 +1,4 @@
-use Rattle.std.proofs.Common.{arith}
-use Rattle.std.proofs.Math.Logic.{∥∥₁_elim}
-use Rattle.sqlstore.specs.Reading.{numbers_in}
-use Rattle.sqlstore.specs.Model.{trees_of}
-use Rattle.sqlstore.proofs.Answering.{laid, there, was_honest}
-use Rattle.sqlstore.proofs.FoundPages.{bounded_there}
+use Rattle.sqlstore.proofs.Lemmas.{arith, bounded_there, laid, numbers_in, there, trees_of, was_honest, ∥∥₁_elim}
 use Rattle.sqlstore.proofs.sql_store.SqlStore.find_bounded.Goals as goal
 
 pub returns-then-found-clause-answer : goal.returns-then-found-clause-answer

@@ -1,10 +1,4 @@
-use Rattle.std.proofs.Common.{◌∙◌, List, ℕ, Some, filter, map, IsPermutation, ap, sym, subst}
-use Rattle.std.proofs.Math.Logic.{∥∥₁_elim, ∥∥₁_map}
-use Rattle.tables.specs.Rows.{is_of, shown_revision}
-use Rattle.tables.specs.Schema.{revs_tree}
-use Rattle.sqlstore.specs.Model.{trees_of}
-use Rattle.sqlstore.proofs.Answering.{answered, laid, was_honest}
-use Rattle.transactions.proofs.HistoryRows.{history_intact, history_made, history_set}
+use Rattle.sqlstore.proofs.Lemmas.{IsPermutation, List, Some, answered, ap, filter, history_intact, history_made, history_set, is_of, laid, map, revs_tree, shown_revision, subst, sym, trees_of, was_honest, ℕ, ∥∥₁_elim, ∥∥₁_map, ◌∙◌}
 use Rattle.sqlstore.proofs.sql_store.SqlStore.find_history.Goals as goal
 
 pub returns-clause-answer : goal.returns-clause-answer

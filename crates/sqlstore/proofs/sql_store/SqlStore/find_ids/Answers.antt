@@ -1,11 +1,4 @@
-use Rattle.std.proofs.Common.{Some, map, ap, sym, subst, ◌∙◌}
-use Rattle.std.proofs.Math.Logic.{∥∥₁_elim}
-use Rattle.std.specs.List.{AllByRecursion}
-use Rattle.tables.specs.Listings.{IsListedDocument, listed_id}
-use Rattle.tables.specs.Rows.{by_id}
-use Rattle.sqlstore.specs.Model.{trees_of}
-use Rattle.sqlstore.proofs.Answering.{answered, laid, was_honest}
-use Rattle.sqlstore.proofs.ListedRows.{listed_intact}
+use Rattle.sqlstore.proofs.Lemmas.{AllByRecursion, IsListedDocument, Some, answered, ap, by_id, laid, listed_id, listed_intact, map, subst, sym, trees_of, was_honest, ∥∥₁_elim, ◌∙◌}
 use Rattle.sqlstore.proofs.sql_store.SqlStore.find_ids.Goals as goal
 
 pub returns-clause-answer : goal.returns-clause-answer

@@ -1,13 +1,4 @@
-use Rattle.std.proofs.Common.{Some, ap, sym, subst, ◌∙◌}
-use Rattle.std.proofs.Math.Logic.{∥∥₁_elim}
-use Rattle.std.specs.List.{AllByRecursion}
-use Rattle.store.specs.Pages.{id_page}
-use Rattle.store.specs.Paging.{id_page_of}
-use Rattle.tables.specs.Listings.{IsListedDocument, live_rows}
-use Rattle.tables.specs.Rows.{by_id}
-use Rattle.sqlstore.specs.Model.{trees_of}
-use Rattle.sqlstore.proofs.Answering.{answered, laid, was_honest}
-use Rattle.sqlstore.proofs.ListedRows.{listed_intact}
+use Rattle.sqlstore.proofs.Lemmas.{AllByRecursion, IsListedDocument, Some, answered, ap, by_id, id_page, id_page_of, laid, listed_intact, live_rows, subst, sym, trees_of, was_honest, ∥∥₁_elim, ◌∙◌}
 use Rattle.sqlstore.proofs.sql_store.SqlStore.find_page_by_id.Goals as goal
 
 pub returns-clause-answer : goal.returns-clause-answer

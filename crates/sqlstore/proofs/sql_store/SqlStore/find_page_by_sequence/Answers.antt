@@ -1,11 +1,4 @@
-use Rattle.std.proofs.Common.{Some, ap, sym, subst, ◌∙◌}
-use Rattle.std.proofs.Math.Logic.{∥∥₁_elim}
-use Rattle.std.specs.List.{AllByRecursion}
-use Rattle.store.specs.Paging.{sequence_page_of}
-use Rattle.sqlstore.specs.Listing.{IsSequenceRow, winners_page}
-use Rattle.sqlstore.specs.Model.{trees_of}
-use Rattle.sqlstore.proofs.Answering.{answered, laid, was_honest}
-use Rattle.sqlstore.proofs.ListedRows.{sequences_intact}
+use Rattle.sqlstore.proofs.Lemmas.{AllByRecursion, IsSequenceRow, Some, answered, ap, laid, sequence_page_of, sequences_intact, subst, sym, trees_of, was_honest, winners_page, ∥∥₁_elim, ◌∙◌}
 use Rattle.sqlstore.proofs.sql_store.SqlStore.find_page_by_sequence.Goals as goal
 
 pub returns-clause-answer : goal.returns-clause-answer

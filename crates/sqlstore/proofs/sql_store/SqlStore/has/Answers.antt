@@ -1,9 +1,5 @@
-use Rattle.std.proofs.Common.{Option, Some, is_some, ap}
-use Rattle.sqlstore.specs.declared.known_database.DatabaseNumbers.{DatabaseNumbers}
+use Rattle.sqlstore.proofs.Lemmas.{DatabaseNumbers, Option, Some, absent, ap, is_some, numbers_in, there, told_none, trees_of}
 use Rattle.store.specs.Database.{Database}
-use Rattle.sqlstore.specs.Reading.{numbers_in}
-use Rattle.sqlstore.specs.Model.{trees_of}
-use Rattle.sqlstore.proofs.Answering.{absent, there, told_none}
 use Rattle.sqlstore.proofs.sql_store.SqlStore.has.Goals as goal
 
 pub returns-in-Err-NoDatabase-clause-answer : goal.returns-in-Err-NoDatabase-clause-answer

@@ -1,11 +1,4 @@
-use Rattle.std.proofs.Common.{◌∙◌, ℕ, List, ap, filter, option_map, slice_get, sym}
-use Rattle.std.proofs.Math.Logic.{∥∥₁_elim}
-use Rattle.tables.specs.Rows.{is_named}
-use Rattle.tables.specs.Schema.{dbs_tree}
-use Rattle.sqlstore.specs.Model.{trees_of}
-use Rattle.sqlstore.specs.Reading.{found_in}
-use Rattle.sqlstore.proofs.Answering.{was_honest}
-use Rattle.sqlstore.proofs.ContentsCode.{found_set}
+use Rattle.sqlstore.proofs.Lemmas.{List, ap, dbs_tree, filter, found_in, found_set, is_named, option_map, slice_get, sym, trees_of, was_honest, ℕ, ∥∥₁_elim, ◌∙◌}
 use Rattle.sqlstore.proofs.sql_store.SqlStore.know.Goals as goal
 
 pub returns-in-Some-clause-answer : goal.returns-in-Some-clause-answer

@@ -1,8 +1,4 @@
-use Rattle.std.proofs.Common.{◌≡◌, filter, map, refl}
-use Rattle.sqlite_trees.specs.Props.{rows_set}
-use Rattle.tables.specs.Rows.{is_of, shown_local}
-use Rattle.tables.specs.Schema.{locals_tree}
-use Rattle.sqlstore.proofs.Standing.{finds, still}
+use Rattle.sqlstore.proofs.Lemmas.{filter, finds, is_of, locals_tree, map, refl, rows_set, shown_local, still, ◌≡◌}
 use Rattle.sqlstore.proofs.sql_store.SqlStore.local_rows.Goals as goal
 
 pub invariant_of-self : goal.invariant_of-self

@@ -1,9 +1,4 @@
-use Rattle.std.proofs.Common.{◌≡◌, map, refl}
-use Rattle.sqlite_keyed.specs.Lists.{sort_by}
-use Rattle.sqlite_trees.specs.Props.{rows_set}
-use Rattle.tables.specs.Rows.{by_name, shown_name}
-use Rattle.tables.specs.Schema.{dbs_tree}
-use Rattle.sqlstore.proofs.Standing.{finds, still}
+use Rattle.sqlstore.proofs.Lemmas.{by_name, dbs_tree, finds, map, refl, rows_set, shown_name, sort_by, still, ◌≡◌}
 use Rattle.sqlstore.proofs.sql_store.SqlStore.name_rows.Goals as goal
 
 pub invariant_of-self : goal.invariant_of-self

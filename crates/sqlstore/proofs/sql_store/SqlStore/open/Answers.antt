@@ -1,12 +1,5 @@
-use Rattle.std.proofs.Common.{◌≡◌, ◌∙◌, inr, Err, IsTrue, true, not, ap, sym, subst}
-use Rattle.std.proofs.Math.Logic.{∥∥₁_map}
-use Rattle.sqlite.specs.Effect.{Database}
-use Rattle.sqlite.specs.Held.{Held, state}
-use Rattle.tables.specs.Layout.{IsStore}
-use Rattle.tables.specs.Presence.{has_all, has_any, is_first}
-use Rattle.tables.specs.Schema.{meta_tree}
-use Rattle.tables.specs.Rows.{contents_in}
-use Rattle.tables.proofs.Laid.{holds, nothing}
+use Rattle.sqlstore.proofs.Lemmas.{Database, Err, Held, IsStore, IsTrue, ap, contents_in, has_all, has_any, inr, is_first, meta_tree, not, nothing, state, subst, sym, true, ∥∥₁_map, ◌∙◌, ◌≡◌}
+use Rattle.tables.proofs.Laid.{holds}
 use Rattle.sqlstore.proofs.sql_store.SqlStore.open.Goals as goal
 
 pub returns-in-Err-clause-not_ours : goal.returns-in-Err-clause-not_ours

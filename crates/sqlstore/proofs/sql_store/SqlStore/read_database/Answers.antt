@@ -1,12 +1,6 @@
-use Rattle.std.proofs.Common.{rules, ◌≡◌, ◌∙◌, ℕ, List, Option, filter, map, option_map, slice_get, Err, ap, subst, sym}
+use Rattle.sqlstore.proofs.Lemmas.{Answers, Err, FoundValues, KnownDatabase, List, Option, answered, ap, database_read, dbs_tree, filter, found_in, is_named, known_values, map, option_map, refused, rules, shown_database, slice_get, subst, sym, trees_of, was_honest, ℕ, ◌∙◌, ◌≡◌}
 use Rattle.couch_json.specs.View.{view}
-use Rattle.tables.specs.Rows.{is_named, shown_database}
-use Rattle.tables.specs.Schema.{dbs_tree}
 use Rattle.tables.specs.declared.decode.FoundDatabase.{FoundDatabase}
-use Rattle.sqlstore.specs.Model.{Answers, trees_of}
-use Rattle.sqlstore.specs.Reading.{FoundValues, found_in, known_values}
-use Rattle.sqlstore.specs.declared.known_database.KnownDatabase.{KnownDatabase}
-use Rattle.sqlstore.proofs.Answering.{answered, database_read, refused, was_honest}
 use Rattle.sqlstore.proofs.sql_store.SqlStore.read_database.Goals as goal
 
 pub returns-in_err-found-clause-answer : goal.returns-in_err-found-clause-answer

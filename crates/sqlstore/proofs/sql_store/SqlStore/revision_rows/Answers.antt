@@ -1,8 +1,4 @@
-use Rattle.std.proofs.Common.{filter, map, IsPermutation, refl}
-use Rattle.std.proofs.Math.Logic.{∥∥₁_prop}
-use Rattle.tables.specs.Rows.{is_of, shown_revision}
-use Rattle.tables.specs.Schema.{revs_tree}
-use Rattle.sqlstore.proofs.Standing.{finds, still}
+use Rattle.sqlstore.proofs.Lemmas.{IsPermutation, filter, finds, is_of, map, refl, revs_tree, shown_revision, still, ∥∥₁_prop}
 use Rattle.sqlstore.proofs.sql_store.SqlStore.revision_rows.Goals as goal
 
 pub invariant_of-self : goal.invariant_of-self

@@ -1,8 +1,4 @@
-use Rattle.std.proofs.Common.{◌≡◌, filter, refl}
-use Rattle.sqlite_trees.specs.Props.{rows_set}
-use Rattle.tables.specs.Listings.{comes_after, first_rows}
-use Rattle.sqlstore.specs.Listing.{listed_by_sequence}
-use Rattle.sqlstore.proofs.Standing.{finds, still}
+use Rattle.sqlstore.proofs.Lemmas.{comes_after, filter, finds, first_rows, listed_by_sequence, refl, rows_set, still, ◌≡◌}
 use Rattle.sqlstore.proofs.sql_store.SqlStore.rows_after.Goals as goal
 
 pub invariant_of-self : goal.invariant_of-self

@@ -1,8 +1,4 @@
-use Rattle.std.proofs.Common.{◌≡◌, filter, refl}
-use Rattle.sqlite_trees.specs.Props.{rows_set}
-use Rattle.tables.specs.Listings.{lies_between, listed_id}
-use Rattle.sqlstore.specs.Listing.{listed_by_id}
-use Rattle.sqlstore.proofs.Standing.{finds, still}
+use Rattle.sqlstore.proofs.Lemmas.{filter, finds, lies_between, listed_by_id, listed_id, refl, rows_set, still, ◌≡◌}
 use Rattle.sqlstore.proofs.sql_store.SqlStore.rows_between.Goals as goal
 
 pub invariant_of-self : goal.invariant_of-self

@@ -1,7 +1,4 @@
-use Rattle.std.proofs.Common.{◌≡◌, refl}
-use Rattle.sqlite_trees.specs.Props.{rows_set}
-use Rattle.sqlstore.specs.Listing.{listed_by_id}
-use Rattle.sqlstore.proofs.Standing.{finds, still}
+use Rattle.sqlstore.proofs.Lemmas.{finds, listed_by_id, refl, rows_set, still, ◌≡◌}
 use Rattle.sqlstore.proofs.sql_store.SqlStore.rows_by_id.Goals as goal
 
 pub invariant_of-self : goal.invariant_of-self

@@ -1,7 +1,4 @@
-use Rattle.std.proofs.Common.{◌∙◌}
-use Rattle.sqlstore.specs.Listing.{listed_by_id}
-use Rattle.sqlstore.specs.Model.{trees_of}
-use Rattle.sqlstore.proofs.Enough.{if_enough_by_id}
+use Rattle.sqlstore.proofs.Lemmas.{if_enough_by_id, listed_by_id, trees_of, ◌∙◌}
 use Rattle.sqlstore.proofs.sql_store.SqlStore.rows_for_page_by_id.Goals as goal
 
 pub returns-in-Some-Some : goal.returns-in-Some-Some

@@ -1,7 +1,4 @@
-use Rattle.std.proofs.Common.{◌∙◌, to_z-of_z, w64}
-use Rattle.sqlstore.specs.Listing.{listed_by_sequence}
-use Rattle.sqlstore.specs.Model.{trees_of}
-use Rattle.sqlstore.proofs.Enough.{if_enough_by_sequence}
+use Rattle.sqlstore.proofs.Lemmas.{if_enough_by_sequence, listed_by_sequence, to_z-of_z, trees_of, w64, ◌∙◌}
 use Rattle.sqlstore.proofs.sql_store.SqlStore.rows_for_page_by_sequence.Goals as goal
 
 pub returns : goal.returns

@@ -1,12 +1,4 @@
-use Rattle.std.proofs.Common.{◌∙◌, Some, ap, subst, sym}
-use Rattle.couch_json.specs.Canonical.{canonical}
-use Rattle.couch_json.specs.Lawful.{IsLawful}
-use Rattle.sqlite.specs.Held.{Held, state}
-use Rattle.tables.specs.Rows.{contents_in}
-use Rattle.sqlstore.proofs.Changing.{stands, told, undone}
-use Rattle.sqlstore.proofs.ContentsCode.{some_contents_set}
-use Rattle.sqlstore.proofs.Making.{IsSecured, secures}
-use Rattle.sqlstore.proofs.Standing.{dropped}
+use Rattle.sqlstore.proofs.Lemmas.{Held, IsLawful, IsSecured, Some, ap, canonical, contents_in, dropped, secures, some_contents_set, stands, state, subst, sym, told, undone, ◌∙◌}
 use Rattle.sqlstore.proofs.sql_store.SqlStore.secure.Goals as goal
 
 pub invariant_of-self : goal.invariant_of-self

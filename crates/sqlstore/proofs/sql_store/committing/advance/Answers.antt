@@ -1,4 +1,4 @@
-use Rattle.std.proofs.Common.{rules, ◌≡◌}
+use Rattle.sqlstore.proofs.Common.{rules, ◌≡◌}
 use Rattle.std.specs.Cmp.Rules.{comparing}
 use Rattle.sqlstore.proofs.sql_store.committing.advance.Goals as goal
 

@@ -1,12 +1,4 @@
-use Rattle.std.proofs.Common.{rules, ◌≡◌, Bool, Err, ap, arith, false, length, true}
-use Rattle.std.proofs.lemmas.List.{length-map}
-use Rattle.sqlite.specs.Held.{Held, state}
-use Rattle.store.specs.Writing.{addition_of, additions}
-use Rattle.store.specs.declared.fault.StoreFault.TheVariants.{Full}
-use Rattle.sqlstore.specs.Reading.{numbers_in}
-use Rattle.sqlstore.specs.Model.{trees_of}
-use Rattle.sqlstore.proofs.Answering.{missing, there, was_honest}
-use Rattle.sqlstore.proofs.Changing.{moves_then, same_contents, unchanged, whole}
+use Rattle.sqlstore.proofs.Lemmas.{Bool, Err, Full, Held, addition_of, additions, ap, arith, false, length, length-map, missing, moves_then, numbers_in, rules, same_contents, state, there, trees_of, true, unchanged, was_honest, whole, ◌≡◌}
 use Rattle.sqlstore.proofs.Committed.{due_at, due_there, lacks_there}
 use Rattle.sqlstore.proofs.sql_store.calls.SqlStoreStore.commit.Goals as goal
 

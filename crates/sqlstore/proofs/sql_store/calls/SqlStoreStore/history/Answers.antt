@@ -1,16 +1,6 @@
-use Rattle.std.proofs.Common.{rules, ◌≡◌, ◌∙◌, Option, Some, option_map, Err, ap, sym, subst}
+use Rattle.sqlstore.proofs.Lemmas.{Answers, DatabaseNumbers, Err, HistoryContent, Option, Some, Trees, afterwards, ap, contents_of, history_at, history_in, history_there, laid, not_found, numbers_in, option_map, reads, revs_tree, rules, stands_same, stands_then, subst, sym, there, trees_of, was_honest, ◌∙◌, ◌≡◌}
 use Rattle.std.specs.FinMap as finite
-use Rattle.sqlite_trees.specs.Tree.{Trees}
-use Rattle.store.specs.Database.{Database, history_at}
-use Rattle.tree.specs.History.{HistoryContent}
-use Rattle.tables.specs.Rows.{history_in}
-use Rattle.tables.specs.Schema.{revs_tree}
-use Rattle.sqlstore.specs.Reading.{numbers_in}
-use Rattle.sqlstore.specs.declared.known_database.DatabaseNumbers.{DatabaseNumbers}
-use Rattle.sqlstore.specs.Model.{Answers, contents_of, trees_of}
-use Rattle.sqlstore.proofs.Afterwards.{afterwards, stands_same}
-use Rattle.sqlstore.proofs.Answering.{laid, not_found, reads, stands_then, there, was_honest}
-use Rattle.sqlstore.proofs.FoundPages.{history_there}
+use Rattle.store.specs.Database.{Database}
 use Rattle.sqlstore.proofs.sql_store.calls.SqlStoreStore.history.Goals as goal
 
 pub returns-in_err-found-clause-answer : goal.returns-in_err-found-clause-answer

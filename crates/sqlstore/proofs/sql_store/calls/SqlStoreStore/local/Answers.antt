@@ -1,16 +1,6 @@
-use Rattle.std.proofs.Common.{rules, ◌≡◌, ◌∙◌, List, ℕ, Option, filter, map, option_map, Err, ap, sym, subst}
-use Rattle.std.proofs.Math.Logic.{∥∥₁_elim}
+use Rattle.sqlstore.proofs.Lemmas.{Answers, DatabaseNumbers, Err, Held, List, LocalDocument, Option, answered, ap, contents_of, filter, is_of, laid, local_at, local_intact, local_there, locals_tree, map, not_found, numbers_in, option_map, reads, rules, shown_local, stands_then, state, subst, sym, there, trees_of, was_honest, ℕ, ∥∥₁_elim, ◌∙◌, ◌≡◌}
 use Rattle.std.specs.FinMap as finite
-use Rattle.store.specs.Contents.{local_at}
 use Rattle.store.specs.Database.{Database}
-use Rattle.store.specs.declared.local_document.LocalDocument.{LocalDocument}
-use Rattle.sqlite.specs.Held.{Held, state}
-use Rattle.tables.specs.Rows.{is_of, shown_local}
-use Rattle.tables.specs.Schema.{locals_tree}
-use Rattle.sqlstore.specs.Reading.{numbers_in}
-use Rattle.sqlstore.specs.declared.known_database.DatabaseNumbers.{DatabaseNumbers}
-use Rattle.sqlstore.specs.Model.{Answers, contents_of, trees_of}
-use Rattle.sqlstore.proofs.Answering.{answered, laid, local_intact, local_there, not_found, reads, stands_then, there, was_honest}
 use Rattle.sqlstore.proofs.sql_store.calls.SqlStoreStore.local.Goals as goal
 
 pub returns-in_err-found-clause-answer : goal.returns-in_err-found-clause-answer

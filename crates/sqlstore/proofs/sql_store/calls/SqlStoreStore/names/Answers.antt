@@ -1,8 +1,4 @@
-use Rattle.std.proofs.Common.{◌∙◌}
-use Rattle.std.proofs.Math.Logic.{∥∥₁_elim}
-use Rattle.sqlstore.specs.Model.{trees_of}
-use Rattle.sqlstore.proofs.Answering.{answered, laid, reads, was_honest}
-use Rattle.sqlstore.proofs.NameBytes.{names_intact, names_set, names_there}
+use Rattle.sqlstore.proofs.Lemmas.{answered, laid, names_intact, names_set, names_there, reads, trees_of, was_honest, ∥∥₁_elim, ◌∙◌}
 use Rattle.sqlstore.proofs.sql_store.calls.SqlStoreStore.names.Goals as goal
 
 pub returns-in_err-rows-clause-reads : goal.returns-in_err-rows-clause-reads

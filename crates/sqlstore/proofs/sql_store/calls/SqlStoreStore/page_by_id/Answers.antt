@@ -1,18 +1,7 @@
-use Rattle.std.proofs.Common.{rules, ◌≡◌, ◌∙◌, Option, Some, option_map, Err, ap, sym, subst}
+use Rattle.sqlstore.proofs.Lemmas.{Answers, DatabaseNumbers, Err, IdPage, Option, Some, Trees, afterwards, ap, contents_of, id_page, id_page_of, id_page_there, laid, listed_by_id, live_rows, not_found, numbers_in, option_map, page_of_ids, reads, rules, stands_same, stands_then, subst, sym, there, trees_of, was_honest, ◌∙◌, ◌≡◌}
 use Rattle.std.specs.FinMap as finite
-use Rattle.sqlite_trees.specs.Tree.{Trees}
 use Rattle.store.specs.Database.{Database}
-use Rattle.store.specs.Pages.{IdPage, id_page, page_of_ids}
-use Rattle.store.specs.Paging.{id_page_of}
 use Rattle.store.specs.declared.page.PageById.{PageById}
-use Rattle.tables.specs.Listings.{live_rows}
-use Rattle.sqlstore.specs.Listing.{listed_by_id}
-use Rattle.sqlstore.specs.Reading.{numbers_in}
-use Rattle.sqlstore.specs.declared.known_database.DatabaseNumbers.{DatabaseNumbers}
-use Rattle.sqlstore.specs.Model.{Answers, contents_of, trees_of}
-use Rattle.sqlstore.proofs.Afterwards.{afterwards, stands_same}
-use Rattle.sqlstore.proofs.Answering.{laid, not_found, reads, stands_then, there, was_honest}
-use Rattle.sqlstore.proofs.FoundPages.{id_page_there}
 use Rattle.sqlstore.proofs.sql_store.calls.SqlStoreStore.page_by_id.Goals as goal
 
 pub returns-in_err-found-clause-answer : goal.returns-in_err-found-clause-answer

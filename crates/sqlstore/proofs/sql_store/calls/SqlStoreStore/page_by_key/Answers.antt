@@ -1,22 +1,8 @@
-use Rattle.std.proofs.Common.{rules, ◌≡◌, ◌∙◌, Option, Some, None, option_map, Err, ap, sym, subst, map}
+use Rattle.sqlstore.proofs.Lemmas.{Answers, DatabaseNumbers, Err, KeyPage, None, Option, Some, Trees, ap, contents_of, history_in, index_fields_of, key_page, key_page_there, laid, listed_by_id, listed_id, map, no_index_there, not_found, numbers_in, option_map, page_of_keys, places_of, reads, revs_tree, rules, same_values, stands_same, stands_then, subst, sym, there, trees_of, was_honest, ◌∙◌, ◌≡◌}
 use Rattle.std.specs.FinMap as finite
-use Rattle.sqlite_trees.specs.Tree.{Trees}
 use Rattle.store.specs.Database.{Database}
-use Rattle.store.specs.Indexes.{index_fields_of}
-use Rattle.store.specs.KeyPages.{KeyPage, key_page, page_of_keys}
 use Rattle.store.specs.KeyPaging.{key_page_in}
 use Rattle.store.specs.declared.key_page.PageByKey.{PageByKey}
-use Rattle.tables.specs.Listings.{listed_id}
-use Rattle.tables.specs.Rows.{history_in}
-use Rattle.tables.specs.Schema.{revs_tree}
-use Rattle.sqlstore.specs.Listing.{listed_by_id, places_of}
-use Rattle.sqlstore.specs.Reading.{numbers_in}
-use Rattle.sqlstore.specs.declared.known_database.DatabaseNumbers.{DatabaseNumbers}
-use Rattle.sqlstore.specs.Model.{Answers, contents_of, trees_of}
-use Rattle.sqlstore.proofs.Afterwards.{stands_same}
-use Rattle.sqlstore.proofs.Answering.{laid, not_found, reads, stands_then, there, was_honest}
-use Rattle.sqlstore.proofs.FoundPages.{key_page_there, no_index_there}
-use Rattle.sqlstore.proofs.ListedRows.{same_values}
 use Rattle.sqlstore.proofs.sql_store.calls.SqlStoreStore.page_by_key.Goals as goal
 
 pub returns-in_err-found-clause-answer : goal.returns-in_err-found-clause-answer

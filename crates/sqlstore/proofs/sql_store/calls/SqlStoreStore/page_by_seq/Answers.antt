@@ -1,20 +1,7 @@
-use Rattle.std.proofs.Common.{rules, ◌≡◌, ◌∙◌, Option, Some, option_map, true, false, Err, ap, sym, subst}
+use Rattle.sqlstore.proofs.Lemmas.{Answers, DatabaseNumbers, Err, Option, SequencePage, Some, Trees, afterwards, ap, contents_of, false, history_in, laid, leaves_there, listed_by_sequence, not_found, numbers_in, option_map, page_by_sequence, page_with_leaves, reads, revs_tree, rules, same_values, sequence_page_of, stands_same, stands_then, subst, sym, there, trees_of, true, was_honest, winners_page, winners_there, ◌∙◌, ◌≡◌}
 use Rattle.std.specs.FinMap as finite
-use Rattle.sqlite_trees.specs.Tree.{Trees}
 use Rattle.store.specs.Database.{Database}
-use Rattle.store.specs.Pages.{SequencePage, page_by_sequence}
-use Rattle.store.specs.Paging.{sequence_page_of}
 use Rattle.store.specs.declared.page.PageBySeq.{PageBySeq}
-use Rattle.tables.specs.Rows.{history_in}
-use Rattle.tables.specs.Schema.{revs_tree}
-use Rattle.sqlstore.specs.Listing.{listed_by_sequence, page_with_leaves, winners_page}
-use Rattle.sqlstore.specs.Reading.{numbers_in}
-use Rattle.sqlstore.specs.declared.known_database.DatabaseNumbers.{DatabaseNumbers}
-use Rattle.sqlstore.specs.Model.{Answers, contents_of, trees_of}
-use Rattle.sqlstore.proofs.Afterwards.{afterwards, stands_same}
-use Rattle.sqlstore.proofs.Answering.{laid, not_found, reads, stands_then, there, was_honest}
-use Rattle.sqlstore.proofs.FoundPages.{leaves_there, winners_there}
-use Rattle.sqlstore.proofs.ListedRows.{same_values}
 use Rattle.sqlstore.proofs.sql_store.calls.SqlStoreStore.page_by_seq.Goals as goal
 
 pub returns-in_err-found-clause-answer : goal.returns-in_err-found-clause-answer

@@ -1,8 +1,5 @@
-use Rattle.std.proofs.Common.{rules, ◌≡◌, Err, is_some, ap}
-use Rattle.sqlstore.specs.Reading.{numbers_in}
-use Rattle.sqlstore.specs.Model.{trees_of}
-use Rattle.sqlstore.proofs.Answering.{missing, there}
-use Rattle.sqlstore.proofs.Changing.{moves_then, same_contents, unchanged, whole, on_ok, was_honest}
+use Rattle.sqlstore.proofs.Lemmas.{Err, ap, is_some, missing, moves_then, numbers_in, on_ok, rules, same_contents, there, trees_of, unchanged, whole, ◌≡◌}
+use Rattle.sqlstore.proofs.Changing.{was_honest}
 use Rattle.sqlstore.proofs.sql_store.calls.SqlStoreStore.remove.Goals as goal
 
 pub returns-in_err-found-clause-missing : goal.returns-in_err-found-clause-missing

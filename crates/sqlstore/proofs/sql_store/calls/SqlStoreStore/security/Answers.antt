@@ -1,12 +1,7 @@
-use Rattle.std.proofs.Common.{rules, ◌≡◌, Option, option_map, Err, sym, subst}
-use Rattle.std.proofs.Math.Logic.{∥∥₁_elim}
+use Rattle.sqlstore.proofs.Lemmas.{Answers, Err, KnownDatabase, Option, answered, contents_of, found_in, known_so, known_values, laid, not_found, option_map, reads, rules, security_intact, security_there, subst, sym, there, trees_of, was_honest, ∥∥₁_elim, ◌≡◌}
 use Rattle.std.specs.FinMap as map
 use Rattle.couch_json.specs.Value as json
 use Rattle.store.specs.Database.{Database}
-use Rattle.sqlstore.specs.Model.{Answers, contents_of, trees_of}
-use Rattle.sqlstore.specs.Reading.{found_in, known_values}
-use Rattle.sqlstore.specs.declared.known_database.KnownDatabase.{KnownDatabase}
-use Rattle.sqlstore.proofs.Answering.{answered, known_so, laid, not_found, reads, security_intact, security_there, there, was_honest}
 use Rattle.sqlstore.proofs.sql_store.calls.SqlStoreStore.security.Goals as goal
 
 pub invariant_of-self : goal.invariant_of-self

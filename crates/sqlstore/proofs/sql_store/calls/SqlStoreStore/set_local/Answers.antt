@@ -1,10 +1,4 @@
-use Rattle.std.proofs.Common.{rules, ◌≡◌, Err, subst}
-use Rattle.store.specs.Contents.{IfThere}
-use Rattle.store.specs.Lawful.{IsBody}
-use Rattle.sqlstore.specs.Reading.{numbers_in}
-use Rattle.sqlstore.specs.Model.{trees_of}
-use Rattle.sqlstore.proofs.Answering.{missing, there, was_honest}
-use Rattle.sqlstore.proofs.Changing.{moves_then, same_contents, unchanged, whole}
+use Rattle.sqlstore.proofs.Lemmas.{Err, IfThere, IsBody, missing, moves_then, numbers_in, rules, same_contents, subst, there, trees_of, unchanged, was_honest, whole, ◌≡◌}
 use Rattle.sqlstore.proofs.sql_store.calls.SqlStoreStore.set_local.Goals as goal
 
 pub returns-in_err-found-clause-missing : goal.returns-in_err-found-clause-missing
