@@ -1,6 +1,5 @@
 pub mod Joins
 pub mod PushedTexts
-pub mod ShapeLemmas
 pub mod SessionLemmas
 pub mod MadeLemmas
 pub mod PendingLemmas

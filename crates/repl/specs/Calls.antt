@@ -22,7 +22,8 @@ pub record Revisions : Type 0 where
 pub data Call : Type 0 where
   read_checkpoint : List ℕ → Call
   write_checkpoint : List ℕ → Value → Call
-  list_changes : ℕ → Call
+  -- those after a sequence, and how many at most, where not all are wanted
+  list_changes : ℕ → Option ℕ → Call
   compare_revisions : List Revisions → Call
   open_revisions : Revisions → Call
   push_documents : List Value → Call
@@ -47,9 +48,14 @@ abbrev pub documents_value : List Value → Value
 documents_value documents =
     object (member (codes "docs") (array (items_of documents)) (member (codes "new_edits") (truth false) no_members))
 
--- the changes after a sequence, with all leaves
-abbrev pub changes_query : ℕ → List ℕ
-changes_query since = codes "since=" ++ decimal since ++ codes "&style=all_docs"
+-- at most so many
+abbrev pub limit_part : Option ℕ → List ℕ
+limit_part None = []
+limit_part (Some most) = codes "&limit=" ++ decimal most
+
+-- the changes after a sequence, with all leaves: all of them, or the first ones, at most so many
+abbrev pub changes_query : ℕ → Option ℕ → List ℕ
+changes_query since most = codes "since=" ++ decimal since ++ codes "&style=all_docs" ++ limit_part most
 
 -- these revisions, each with its history
 abbrev pub revisions_query : List (List ℕ) → List ℕ
@@ -61,7 +67,7 @@ revisions_query revisions =
 abbrev pub method_of : Call → List ℕ
 method_of (read_checkpoint id) = codes "GET"
 method_of (write_checkpoint id body) = codes "PUT"
-method_of (list_changes since) = codes "GET"
+method_of (list_changes since most) = codes "GET"
 method_of (compare_revisions rs) = codes "POST"
 method_of (open_revisions r) = codes "GET"
 method_of (push_documents documents) = codes "POST"
@@ -70,7 +76,7 @@ method_of (push_documents documents) = codes "POST"
 abbrev pub page_of : Call → List ℕ
 page_of (read_checkpoint id) = codes "_local/" ++ segment id
 page_of (write_checkpoint id body) = codes "_local/" ++ segment id
-page_of (list_changes since) = codes "_changes"
+page_of (list_changes since most) = codes "_changes"
 page_of (compare_revisions rs) = codes "_revs_diff"
 page_of (open_revisions r) = document_segments r.id
 page_of (push_documents documents) = codes "_bulk_docs"
@@ -81,7 +87,7 @@ path_of db page = codes "/" ++ segment db ++ codes "/" ++ page
 abbrev pub query_of : Call → Option (List ℕ)
 query_of (read_checkpoint id) = None
 query_of (write_checkpoint id body) = None
-query_of (list_changes since) = Some (changes_query since)
+query_of (list_changes since most) = Some (changes_query since most)
 query_of (compare_revisions rs) = None
 query_of (open_revisions r) = Some (revisions_query r.revisions)
 query_of (push_documents documents) = None
@@ -89,7 +95,7 @@ query_of (push_documents documents) = None
 abbrev pub body_of : Call → List ℕ
 body_of (read_checkpoint id) = []
 body_of (write_checkpoint id body) = canonical body
-body_of (list_changes since) = []
+body_of (list_changes since most) = []
 body_of (compare_revisions rs) = canonical (revisions_value rs)
 body_of (open_revisions r) = []
 body_of (push_documents documents) = canonical (documents_value documents)

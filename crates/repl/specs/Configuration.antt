@@ -1,6 +1,7 @@
--- What a pass is told: the two databases, the user in whose name it asks, and its session.
--- CouchDB manual, replication/protocol ("Replication ID") and api/server/authn ("Proxy Authentication").
-use Rattle.std.specs.Prelude.{ℕ, List, map, Option, option_map, string_bytes}
+-- What a pass is told: the two databases, the user in whose name it asks, its session, and how much it lists at a time.
+-- CouchDB manual, replication/protocol ("Replication ID") and api/server/authn ("Proxy Authentication"); a batch's bounds are this project's own.
+use Rattle.std.specs.Prelude.{ℕ, ◌&&◌, List, map, nat_le, Option, Some, None, option_map, string_bytes, if◌then◌else◌}
+use Rattle.repl.specs.declared.batch.Batch.{Batch}
 use Rattle.repl.specs.declared.config.Config.{Config}
 use Rattle.repl.specs.declared.config.User.{User}
 use Rattle.repl.specs.declared.side.Side.{Side}
@@ -12,7 +13,8 @@ pub record Account : Type 0 where
   pub roles : List (List ℕ)
   pub token : List ℕ
 
--- a pass: the texts that name its two sides, the databases' names, its user and its session
+-- a pass: the texts that name its two sides, the databases' names, its user, its session, and how many changes it lists at a
+-- time, where it doesn't list all at once
 pub record Configuration : Type 0 where
   pub source : List ℕ
   pub source_db : List ℕ
@@ -20,11 +22,20 @@ pub record Configuration : Type 0 where
   pub target_db : List ℕ
   pub user : Option Account
   pub session : List ℕ
+  pub batch : Option ℕ
 
 -- the database of a side
 abbrev pub database_of : Configuration → Side → List ℕ
 database_of c Source = c.source_db
 database_of c Target = c.target_db
+
+-- a batch of so many changes: at least one, and at most 1,000
+abbrev pub batch_of : ℕ → Option ℕ
+batch_of size = if nat_le 1 size && nat_le size 1000 then Some size else None
+
+-- how many changes a batch of the program has
+abbrev pub batch_size : Batch → ℕ
+batch_size b = b.size
 
 -- a user of the program
 abbrev pub account_of : User → Account
@@ -43,4 +54,5 @@ configuration_of c = record {
   target_db = string_bytes c.target_db;
   user = option_map account_of c.user;
   session = string_bytes c.session;
+  batch = option_map batch_size c.batch;
 }

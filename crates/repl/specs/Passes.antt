@@ -24,10 +24,14 @@ pub record Pass : Type 0 where
   pub older : Option Checkpoint
   pub source_revision : Option (List ℕ)
   pub target_revision : Option (List ℕ)
-  -- the sequence after which changes are listed; and the start and the end that are reported, 0 before they are known
+  -- the sequence after which the pass begins, as the two checkpoints say; and the one after which this round lists changes
+  pub start : ℕ
   pub since : ℕ
+  -- the start and the end that are reported, 0 before changes are listed
   pub start_seq : ℕ
   pub last_seq : ℕ
+  -- this round's listing had as many results as a batch has, so another round follows
+  pub is_full : Bool
   -- the leaves listed; of those that are missing at the target, the ones that aren't open yet; and the documents that came
   pub leaves : List Revisions
   pub pending : List Revisions
@@ -45,9 +49,11 @@ first_pass c = record {
   older = None;
   source_revision = None;
   target_revision = None;
+  start = 0;
   since = 0;
   start_seq = 0;
   last_seq = 0;
+  is_full = false;
   leaves = [];
   pending = [];
   documents = [];
@@ -77,7 +83,7 @@ checkpoint_after p revision = next_checkpoint p.configuration.session p.last_seq
 abbrev pub step_in : Phase → Pass → Step
 step_in ReadSource p = called Source (read_checkpoint (checkpoint_id p.configuration))
 step_in ReadTarget p = called Target (read_checkpoint (checkpoint_id p.configuration))
-step_in ListChanges p = called Source (list_changes p.since)
+step_in ListChanges p = called Source (list_changes p.since p.configuration.batch)
 step_in Compare p = called Target (compare_revisions p.leaves)
 step_in Open p = called Source (open_revisions (first_of_pending p.pending))
 step_in Push p = called Target (push_documents p.documents)
@@ -151,18 +157,29 @@ abbrev pub with_source : Pass → Stored → Pass
 with_source p s = record p { phase = ReadTarget; older = s.checkpoint; source_revision = s.revision }
 
 abbrev pub with_target : Pass → Stored → Pass
-with_target p s = record p { phase = ListChanges; target_revision = s.revision; since = start_of p.older s.checkpoint }
+with_target p s = record p {
+  phase = ListChanges;
+  target_revision = s.revision;
+  start = start_of p.older s.checkpoint;
+  since = start_of p.older s.checkpoint;
+}
 
 -- where nothing was listed, the pass is done
 abbrev pub phase_after_list : List Revisions → Phase
 phase_after_list [] = Done
 phase_after_list (l ∷ ls) = Compare
 
+-- a listing has just as many results as a batch has; where there is no batch, all were listed
+abbrev pub fills : Option ℕ → List Revisions → Bool
+fills None leaves = false
+fills (Some size) leaves = length leaves == size
+
 abbrev pub with_changes : Pass → Changes → Pass
 with_changes p c = record p {
   phase = phase_after_list c.leaves;
-  start_seq = p.since;
+  start_seq = p.start;
   last_seq = c.sequence;
+  is_full = fills p.configuration.batch c.leaves;
   leaves = c.leaves;
 }
 
@@ -197,10 +214,19 @@ with_failures p failures = record p {
 abbrev pub with_source_written : Pass → List ℕ → Pass
 with_source_written p revision = record p { phase = WriteTarget; source_revision = Some revision }
 
-abbrev pub with_target_written : Pass → List ℕ → Pass
-with_target_written p revision = record p { phase = Done; target_revision = Some revision }
+-- a round ends where both checkpoints are written: if its listing was full, the next round lists what follows, else the pass is done
+abbrev pub phase_after_round : Bool → Phase
+phase_after_round false = Done
+phase_after_round true = ListChanges
 
--- a checkpoint is that of this pass
+abbrev pub with_target_written : Pass → List ℕ → Pass
+with_target_written p revision = record p {
+  phase = phase_after_round p.is_full;
+  since = p.last_seq;
+  target_revision = Some revision;
+}
+
+-- a checkpoint is that of this pass, as of this round
 abbrev pub is_written : Pass → Option Checkpoint → Bool
 is_written p None = false
 is_written p (Some c) = bytes_eq c.session p.configuration.session && c.sequence == p.last_seq
@@ -210,8 +236,11 @@ with_source_reread p s =
     record p { phase = if is_written p s.checkpoint then WriteTarget else WriteSource; source_revision = s.revision }
 
 abbrev pub with_target_reread : Pass → Stored → Pass
-with_target_reread p s =
-    record p { phase = if is_written p s.checkpoint then Done else WriteTarget; target_revision = s.revision }
+with_target_reread p s = record p {
+  phase = if is_written p s.checkpoint then phase_after_round p.is_full else WriteTarget;
+  since = if is_written p s.checkpoint then p.last_seq else p.since;
+  target_revision = s.revision;
+}
 
 -- the pass after a reply to what it asks in a phase
 abbrev pub answered_in : Phase → Pass → ℕ → List ℕ → Pass

@@ -5,12 +5,13 @@ ghost use Rattle.std.specs.List.{join_with_byte};
 ghost use Rattle.couch_json.specs.Canonical.{canonical};
 ghost use Rattle.couch_json.specs.View.{view};
 ghost use Rattle.couch_http.specs.Message.{header_field, message_of};
-ghost use Rattle.repl.specs.Calls.{account_fields, changes_query, compare_revisions, open_revisions, push_documents, headers_of, path_of, read_checkpoint, list_changes, request_of, request_with, write_checkpoint};
-ghost use Rattle.repl.specs.Configuration.{account_of, configuration_of, database_of};
+ghost use Rattle.repl.specs.Calls.{account_fields, changes_query, limit_part, compare_revisions, open_revisions, push_documents, headers_of, path_of, read_checkpoint, list_changes, request_of, request_with, write_checkpoint};
+ghost use Rattle.repl.specs.Configuration.{account_of, batch_size, configuration_of, database_of};
 ghost use Rattle.repl.specs.Joined.{after_commas};
 ghost use Rattle.repl.specs.Listed.{revisions_of};
 ghost use Rattle.repl.specs.Spelling.{segment};
 
+use crate::batch::Batch;
 use crate::bodies::{compare_body, open_query, push_body};
 use crate::config::{Config, User};
 use crate::revisions::DocumentRevisions;
@@ -53,11 +54,12 @@ pub fn write_checkpoint(
     request(alloc, config, side, Method::PUT, page.as_str(), None, body)
 }
 
-/// Makes the request that lists the changes after a sequence.
+/// Makes the request that lists the changes after a sequence: a batch of them, or all.
 pub fn list_changes(alloc: Global, config: &Config, side: Side, since: u64) -> Got<Request>
-    ensures { IfOk result (λ r. message_of r ≡ request_of (configuration_of config.now) side (list_changes since)) }
+    ensures { IfOk result (λ r. message_of r
+        ≡ request_of (configuration_of config.now) side (list_changes since (option_map batch_size config.now.batch))) }
 {
-    let query = format!(in alloc; "since={since}&style=all_docs")?;
+    let query = changes_query(alloc, since, config.batch)?;
     request(
         alloc,
         config,
@@ -67,6 +69,26 @@ pub fn list_changes(alloc: Global, config: &Config, side: Side, since: u64) -> G
         Some(query),
         Vec::new(alloc),
     )
+}
+
+/// Makes the query that lists the changes after a sequence.
+fn changes_query(alloc: Global, since: u64, batch: Option<Batch>) -> Got<String>
+    ensures { IfOk result (λ query. string_bytes query ≡ changes_query since (option_map batch_size batch)) }
+{
+    let mut query = format!(in alloc; "since={since}&style=all_docs")?;
+    push_limit(&mut query, batch)?;
+    Ok(query)
+}
+
+/// Writes how many changes are wanted at most, where not all are.
+fn push_limit(query: &mut String, batch: Option<Batch>) -> Got<()>
+    ensures { OnOk result (string_bytes query.new ≡ string_bytes query.old ++ limit_part (option_map batch_size batch)) }
+{
+    if let Some(batch) = batch {
+        let most = batch.size();
+        write!(query, "&limit={most}")?;
+    }
+    Ok(())
 }
 
 /// Makes the request that asks which revisions are missing.

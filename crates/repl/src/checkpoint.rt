@@ -5,14 +5,15 @@ ghost use Rattle.std.specs.Option.{option_or};
 ghost use Rattle.hex.specs.Hex.{encode_lower};
 ghost use Rattle.md5.specs.Md5.{md5};
 ghost use Rattle.couch_json.specs.Canonical.{canonical};
-ghost use Rattle.couch_json.specs.View.{items_view, members_view, view};
-ghost use Rattle.repl.specs.Checkpoints.{checkpoint_id, checkpoint_in, common_sequence, history_of, name_or_null, next_checkpoint, next_history, others_of, replication_value, sequence_of, session_in, session_value, start_from, start_of, with_revision};
+ghost use Rattle.couch_json.specs.View.{members_view, view};
+ghost use Rattle.repl.specs.Checkpoints.{Session, checkpoint_id, checkpoint_in, common_sequence, history_of, name_or_null, next_checkpoint, next_history, others_of, replication_value, sequence_of, session_in, session_value, start_from, start_of, with_revision};
 ghost use Rattle.repl.specs.Configuration.{account_of, configuration_of};
 ghost use Rattle.repl.specs.Kept.{checkpoint_of, sequence_at, session_of};
-ghost use Rattle.repl.specs.Shapes.{count_at, each_in, list_at, list_in, text_at};
+ghost use Rattle.repl.specs.Shapes.{count_at, list_at, list_in, text_at};
 
 use crate::config::{Config, User};
 use crate::count::Count;
+use crate::element::{Shape, read_each};
 use crate::members::{count_at, put_text, text_at};
 use couch_json::{Got, Json, canon, put_member};
 use md5::{Digest, Md5};
@@ -74,39 +75,35 @@ fn history_in(alloc: Global, value: &Json) -> Got<Option<Vec<KeptSession>>>
 {
     match value.member("history") {
         Some(history) => match history.items() {
-            Some(items) => sessions_in(alloc, items),
+            Some(items) => read_each::<SessionShape>(alloc, items),
             None => Ok(None),
         },
         None => Ok(None),
     }
 }
 
-/// Reads sessions in order.
-fn sessions_in(alloc: Global, values: &[Json]) -> Got<Option<Vec<KeptSession>>>
-    ensures { IfOk result (λ h. option_map (λ ss. map session_of ss.items) h ≡ each_in session_in (items_view values.now)) }
-{
-    let mut sessions = Vec::with_capacity(alloc, values.len())?;
-    for value in values {
-        match session_in(alloc, value)? {
-            Some(session) => sessions.push(session)?,
-            None => return Ok(None),
-        }
-    }
-    Ok(Some(sessions))
-}
+/// A session of a history.
+struct SessionShape;
 
-/// Reads a session.
-fn session_in(alloc: Global, value: &Json) -> Got<Option<KeptSession>>
-    ensures { IfOk result (λ s. option_map session_of s ≡ session_in (view value.now)) }
-{
-    let Some(session) = text_at(value, "session_id") else {
-        return Ok(None);
-    };
-    let Some(sequence) = count_at(value, "recorded_seq") else {
-        return Ok(None);
-    };
-    let session = String::from_str(alloc, session)?;
-    Ok(Some(KeptSession { session, sequence }))
+impl Shape for SessionShape {
+    type Element = KeptSession;
+
+    ghost Said = { Session };
+
+    ghost said = { session_of };
+
+    ghost said_in = { session_in };
+
+    fn read(alloc: Global, value: &Json) -> Got<Option<KeptSession>> {
+        let Some(session) = text_at(value, "session_id") else {
+            return Ok(None);
+        };
+        let Some(sequence) = count_at(value, "recorded_seq") else {
+            return Ok(None);
+        };
+        let session = String::from_str(alloc, session)?;
+        Ok(Some(KeptSession { session, sequence }))
+    }
 }
 
 /// Finds the sequence after which a pass begins.

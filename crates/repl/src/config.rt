@@ -1,3 +1,5 @@
+use crate::batch::Batch;
+
 /// The user in whose name a pass asks, as an authenticating proxy names it (CouchDB manual,
 /// api/server/authn, "Proxy Authentication").
 #[derive(Debug)]
@@ -36,6 +38,8 @@ pub struct Config {
     pub user: Option<User>,
     /// The name of this session, which the checkpoints keep.
     pub session: String,
+    /// How many changes are listed at a time; without one, all are listed at once.
+    pub batch: Option<Batch>,
 }
 
 // Written out, so that callers do not prove again how each part is dropped.
@@ -48,6 +52,7 @@ impl Drop for Config {
             target_db: _,
             user: _,
             session: _,
+            batch: _,
         } = self;
     }
 }

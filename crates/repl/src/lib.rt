@@ -2,11 +2,13 @@
 #![tactic(auto)]
 
 mod ask;
+mod batch;
 mod bodies;
 mod calls;
 mod checkpoint;
 mod config;
 mod count;
+mod element;
 pub mod laws;
 mod members;
 mod opened;
@@ -23,6 +25,7 @@ mod spelling;
 mod why;
 
 pub use ask::Ask;
+pub use batch::Batch;
 pub use config::{Config, User};
 pub use phase::Phase;
 pub use replication::Replication;

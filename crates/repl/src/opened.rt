@@ -1,12 +1,13 @@
 //! What the replies to a comparison and to opened revisions say.
 
 ghost use Rattle.std.specs.Prelude.{◌≡◌, ◌++◌, [], IfOk, OnOk, map, option_and_then, option_copied, option_map, string_bytes, codes, unwrap_or};
-ghost use Rattle.couch_json.specs.View.{items_view, members_view, view};
+ghost use Rattle.couch_json.specs.View.{members_view, view};
 ghost use Rattle.repl.specs.Listed.{revisions_of};
-ghost use Rattle.repl.specs.Replies.{are_missing_lists, differences_in, differences_read, has_missing_lists, missing_in, missing_of, missing_of_each, missing_report, opened_in, revisions_opened, unless_empty, document_by, missing};
-ghost use Rattle.repl.specs.Shapes.{each_in, list_in, text_at};
+ghost use Rattle.repl.specs.Replies.{Opened, are_missing_lists, differences_in, differences_read, has_missing_lists, missing_in, missing_of, missing_of_each, missing_report, opened_in, revisions_opened, unless_empty, document_by, missing};
+ghost use Rattle.repl.specs.Shapes.{list_in, text_at};
 ghost use Rattle.repl.specs.Taken.{opened_of, said_as};
 
+use crate::element::{Shape, read_each};
 use crate::members::{put_text, text_at};
 use crate::replies::value_in;
 use crate::revisions::DocumentRevisions;
@@ -156,36 +157,32 @@ fn elements_in(alloc: Global, value: Json) -> Got<Option<Vec<OpenedRevision>>>
     ensures { IfOk result (λ opened. option_map (λ os. map opened_of os.items) opened ≡ list_in opened_in (view value)) }
 {
     match value.items() {
-        Some(items) => each_opened(alloc, items),
+        Some(items) => read_each::<OpenedShape>(alloc, items),
         None => Ok(None),
     }
 }
 
-/// Reads opened revisions in order.
-fn each_opened(alloc: Global, values: &[Json]) -> Got<Option<Vec<OpenedRevision>>>
-    ensures { IfOk result (λ opened. option_map (λ os. map opened_of os.items) opened ≡ each_in opened_in (items_view values.now)) }
-{
-    let mut opened = Vec::with_capacity(alloc, values.len())?;
-    for value in values {
-        match opened_in(alloc, value)? {
-            Some(revision) => opened.push(revision)?,
-            None => return Ok(None),
-        }
-    }
-    Ok(Some(opened))
-}
+/// An opened revision.
+struct OpenedShape;
 
-/// Reads one opened revision.
-fn opened_in(alloc: Global, value: &Json) -> Got<Option<OpenedRevision>>
-    ensures { IfOk result (λ opened. option_map opened_of opened ≡ opened_in (view value.now)) }
-{
-    if value.has_only(&["ok"]) {
-        return document_in(alloc, value.member("ok"));
+impl Shape for OpenedShape {
+    type Element = OpenedRevision;
+
+    ghost Said = { Opened };
+
+    ghost said = { opened_of };
+
+    ghost said_in = { opened_in };
+
+    fn read(alloc: Global, value: &Json) -> Got<Option<OpenedRevision>> {
+        if value.has_only(&["ok"]) {
+            return document_in(alloc, value.member("ok"));
+        }
+        if value.has_only(&["missing"]) {
+            return lost_in(alloc, value);
+        }
+        Ok(None)
     }
-    if value.has_only(&["missing"]) {
-        return lost_in(alloc, value);
-    }
-    Ok(None)
 }
 
 /// Copies the document of an opened revision.

@@ -1,12 +1,13 @@
 //! What the reply to a push says.
 
 ghost use Rattle.std.specs.Prelude.{◌≡◌, IfOk, OnOk, map, option_copied, option_map};
-ghost use Rattle.couch_json.specs.Value.{put};
-ghost use Rattle.couch_json.specs.View.{items_view, members_view, view};
+ghost use Rattle.couch_json.specs.Value.{Value, put};
+ghost use Rattle.couch_json.specs.View.{members_view, view};
 ghost use Rattle.repl.specs.Replies.{documents_pushed, failure_in, failure_report, label_value, with_rule};
-ghost use Rattle.repl.specs.Shapes.{each_in, list_in};
+ghost use Rattle.repl.specs.Shapes.{list_in};
 ghost use Rattle.repl.specs.Taken.{said_as};
 
+use crate::element::{Shape, read_each};
 use crate::members::{put_text, text_at};
 use crate::replies::value_in;
 use crate::shapes::{label_at, rule_in};
@@ -33,45 +34,41 @@ fn failures_in(alloc: Global, value: &Json) -> Got<Option<Vec<Json>>>
     ensures { IfOk result (λ reports. option_map (λ rs. map view rs.items) reports ≡ list_in failure_in (view value.now)) }
 {
     match value.items() {
-        Some(items) => each_failure(alloc, items),
+        Some(items) => read_each::<FailureShape>(alloc, items),
         None => Ok(None),
     }
 }
 
-/// Reads failures in order.
-fn each_failure(alloc: Global, values: &[Json]) -> Got<Option<Vec<Json>>>
-    ensures { IfOk result (λ reports. option_map (λ rs. map view rs.items) reports ≡ each_in failure_in (items_view values.now)) }
-{
-    let mut reports = Vec::with_capacity(alloc, values.len())?;
-    for value in values {
-        match failure_in(alloc, value)? {
-            Some(report) => reports.push(report)?,
-            None => return Ok(None),
-        }
-    }
-    Ok(Some(reports))
-}
+/// A failure of a push. What is made of it is its report.
+struct FailureShape;
 
-/// Reads one failure, and makes what is reported of it.
-fn failure_in(alloc: Global, value: &Json) -> Got<Option<Json>>
-    ensures { IfOk result (λ report. option_map view report ≡ failure_in (view value.now)) }
-{
-    let Some(error) = text_at(value, "error") else {
-        return Ok(None);
-    };
-    let Some(id) = label_at(value, "id") else {
-        return Ok(None);
-    };
-    let Some(reason) = text_at(value, "reason") else {
-        return Ok(None);
-    };
-    let Some(rev) = label_at(value, "rev") else {
-        return Ok(None);
-    };
-    let Some(rule) = rule_in(value.member("rule")) else {
-        return Ok(None);
-    };
-    Ok(Some(failure_report(alloc, error, id, reason, rev, rule)?))
+impl Shape for FailureShape {
+    type Element = Json;
+
+    ghost Said = { Value };
+
+    ghost said = { view };
+
+    ghost said_in = { failure_in };
+
+    fn read(alloc: Global, value: &Json) -> Got<Option<Json>> {
+        let Some(error) = text_at(value, "error") else {
+            return Ok(None);
+        };
+        let Some(id) = label_at(value, "id") else {
+            return Ok(None);
+        };
+        let Some(reason) = text_at(value, "reason") else {
+            return Ok(None);
+        };
+        let Some(rev) = label_at(value, "rev") else {
+            return Ok(None);
+        };
+        let Some(rule) = rule_in(value.member("rule")) else {
+            return Ok(None);
+        };
+        Ok(Some(failure_report(alloc, error, id, reason, rev, rule)?))
+    }
 }
 
 /// Makes what is reported of a document that could not be written.

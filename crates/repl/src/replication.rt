@@ -6,13 +6,14 @@ ghost use Rattle.couch_http.specs.Message.{message_of};
 ghost use Rattle.repl.specs.Asks.{ask_of, pass_of, report_of};
 ghost use Rattle.repl.specs.Calls.{read_checkpoint, request_of, write_checkpoint, open_revisions};
 ghost use Rattle.repl.specs.Checkpoints.{checkpoint_id, history_of};
-ghost use Rattle.repl.specs.Configuration.{configuration_of};
+ghost use Rattle.repl.specs.Configuration.{batch_size, configuration_of};
 ghost use Rattle.repl.specs.Kept.{checkpoint_of, session_of};
 ghost use Rattle.repl.specs.Listed.{revisions_of};
-ghost use Rattle.repl.specs.Passes.{answered_in, answered_of, asked_of, checkpoint_after, first_of_pending, first_pass, has_ended, is_written, lost_of, phase_after_list, with_failures, with_opened, phase_after_loss, phase_with, sent_to, summary_of, with_loss};
+ghost use Rattle.repl.specs.Passes.{answered_in, answered_of, asked_of, checkpoint_after, fills, first_of_pending, first_pass, has_ended, is_written, lost_of, phase_after_list, phase_after_round, with_failures, with_opened, phase_after_loss, phase_with, sent_to, summary_of, with_loss};
 ghost use Rattle.repl.specs.Taken.{opened_of};
 
 use crate::ask::Ask;
+use crate::batch::Batch;
 use crate::calls::{
     compare_revisions, list_changes, open_revisions, push_documents, read_checkpoint,
     write_checkpoint,
@@ -43,9 +44,14 @@ pub struct Replication {
     older: Option<KeptCheckpoint>,
     source_revision: Option<String>,
     target_revision: Option<String>,
+    /// The start that the two checkpoints gave.
+    start: Count,
+    /// The sequence after which this round lists.
     since: Count,
     start_seq: Count,
     last_seq: Count,
+    /// This round's listing had as many results as a batch has.
+    is_full: bool,
     leaves: Vec<DocumentRevisions>,
     pending: VecDeque<DocumentRevisions>,
     documents: Vec<Json>,
@@ -64,9 +70,11 @@ impl Drop for Replication {
             older: _,
             source_revision: _,
             target_revision: _,
+            start: _,
             since: _,
             start_seq: _,
             last_seq: _,
+            is_full: _,
             leaves: _,
             pending: _,
             documents: _,
@@ -89,9 +97,11 @@ impl Replication {
             older: None,
             source_revision: None,
             target_revision: None,
+            start: Count::ZERO,
             since: Count::ZERO,
             start_seq: Count::ZERO,
             last_seq: Count::ZERO,
+            is_full: false,
             leaves: Vec::new(alloc),
             pending: VecDeque::new(alloc),
             documents: Vec::new(alloc),
@@ -259,7 +269,9 @@ impl Replication {
     {
         match checkpoint_read(self.alloc, status, body)? {
             Ok(found) => {
-                self.since = start_of(self.alloc, &self.older, &found.checkpoint)?;
+                let start = start_of(self.alloc, &self.older, &found.checkpoint)?;
+                self.start = start;
+                self.since = start;
                 self.target_revision = found.revision;
                 self.phase = Phase::ListChanges;
                 Ok(())
@@ -279,8 +291,9 @@ impl Replication {
         match changes_listed(self.alloc, status, body)? {
             Ok(changes) => {
                 self.phase = phase_after_list(&changes.leaves);
-                self.start_seq = self.since;
+                self.start_seq = self.start;
                 self.last_seq = changes.sequence;
+                self.is_full = fills(&self.config.batch, &changes.leaves);
                 self.leaves = changes.leaves;
                 Ok(())
             }
@@ -356,7 +369,7 @@ impl Replication {
         }
     }
 
-    /// Takes in that the checkpoint of the target was written.
+    /// Takes in that the checkpoint of the target was written, which ends the round.
     fn take_target_written(&mut self, status: u16, body: &[u8]) -> Got<()>
         ensures ok { OnOk result (pass_of self.new ≡ answered_in Phase.WriteTarget (pass_of self.old) status body.now) }
         ensures err { OnErr result (pass_of self.new ≡ pass_of self.old) }
@@ -364,7 +377,8 @@ impl Replication {
         match checkpoint_written(self.alloc, status, body)? {
             Ok(revision) => {
                 self.target_revision = Some(revision);
-                self.phase = Phase::Done;
+                self.phase = phase_after_round(self.is_full);
+                self.since = self.last_seq;
                 Ok(())
             }
             Err(why) => {
@@ -405,9 +419,10 @@ impl Replication {
             Ok(found) => {
                 self.phase = self.phase_after_reread(
                     &found.checkpoint,
-                    Phase::Done,
+                    phase_after_round(self.is_full),
                     Phase::WriteTarget,
                 );
+                self.since = self.since_after_reread(&found.checkpoint);
                 self.target_revision = found.revision;
                 Ok(())
             }
@@ -457,6 +472,16 @@ impl Replication {
             return written;
         }
         unwritten
+    }
+
+    /// Returns the sequence after which changes are listed next, where this may be the checkpoint that ends the round.
+    fn since_after_reread(&self, checkpoint: &Option<KeptCheckpoint>) -> Count
+        ensures { let p = pass_of self.now in result.value ≡ (if is_written p (option_map checkpoint_of checkpoint.now) then p.last_seq else p.since) }
+    {
+        if self.is_written(checkpoint) {
+            return self.last_seq;
+        }
+        self.since
     }
 
     /// Tells whether a checkpoint is that of this pass.
@@ -520,6 +545,16 @@ fn send_to(side: Side, request: Request) -> Ask
     }
 }
 
+/// Tells whether a listing has just as many results as a batch has. Without a batch it never is.
+fn fills(batch: &Option<Batch>, leaves: &[DocumentRevisions]) -> bool
+    ensures { result ≡ fills (option_map batch_size batch.now) (map revisions_of leaves.now) }
+{
+    match batch {
+        Some(batch) => leaves.len() as u64 == batch.size(),
+        None => false,
+    }
+}
+
 /// Returns the phase that follows the changes.
 fn phase_after_list(leaves: &[DocumentRevisions]) -> Phase
     ensures { result ≡ phase_after_list (map revisions_of leaves.now) }
@@ -528,6 +563,16 @@ fn phase_after_list(leaves: &[DocumentRevisions]) -> Phase
         [] => Phase::Done,
         [_, ..] => Phase::Compare,
     }
+}
+
+/// Returns the phase after a round whose listing was full or was not.
+fn phase_after_round(is_full: bool) -> Phase
+    ensures { result ≡ phase_after_round is_full }
+{
+    if is_full {
+        return Phase::ListChanges;
+    }
+    Phase::Done
 }
 
 /// Returns the phase in which these documents are pending, and those have come.

@@ -10,9 +10,10 @@ ghost use Rattle.repl.specs.Taken.{changes_of, said_as, stored_of};
 
 use crate::checkpoint::{KeptCheckpoint, checkpoint_in};
 use crate::count::Count;
+use crate::element::read_each;
 use crate::members::{count_at, text_at};
 use crate::revisions::DocumentRevisions;
-use crate::shapes::{changes_in, items_at};
+use crate::shapes::{ChangeShape, items_at};
 use crate::why::Why;
 use couch_json::{Got, Json, JsonFault, NoMemory, read};
 use std::alloc::Global;
@@ -146,7 +147,7 @@ fn results_in(alloc: Global, value: &Json) -> Got<Option<Vec<DocumentRevisions>>
     ensures { IfOk result (λ results. option_map (λ rs. map revisions_of rs.items) results ≡ list_at (codes "results") change_in (view value.now)) }
 {
     match items_at(value, "results") {
-        Some(items) => changes_in(alloc, items),
+        Some(items) => read_each::<ChangeShape>(alloc, items),
         None => Ok(None),
     }
 }

@@ -1,13 +1,15 @@
-//! Lists of the shapes in which replies say what they say.
+//! The shapes in which replies say what they say.
 
-ghost use Rattle.std.specs.Prelude.{◌≡◌, IfOk, map, option_and_then, option_copied, option_map, string_bytes, codes};
+ghost use Rattle.std.specs.Prelude.{◌≡◌, ℕ, List, IfOk, map, option_and_then, option_copied, option_map, string_bytes, codes};
 ghost use Rattle.couch_json.specs.Parts.{items_in, text_in};
 ghost use Rattle.couch_json.specs.Value.{member_of};
 ghost use Rattle.couch_json.specs.View.{items_view, view};
+ghost use Rattle.repl.specs.Calls.{Revisions};
 ghost use Rattle.repl.specs.Listed.{revisions_of};
 ghost use Rattle.repl.specs.Replies.{change_in, label_at, label_in, missing_in, revision_in, rule_in};
-ghost use Rattle.repl.specs.Shapes.{each_in, list_at, texts_at};
+ghost use Rattle.repl.specs.Shapes.{list_at, texts_at};
 
+use crate::element::{Shape, read_each};
 use crate::members::text_at;
 use crate::revisions::DocumentRevisions;
 use couch_json::{Got, Json};
@@ -18,7 +20,7 @@ pub fn texts_at(alloc: Global, value: &Json, name: &str) -> Got<Option<Vec<Strin
     ensures { IfOk result (λ texts. option_map (λ ts. map string_bytes ts.items) texts ≡ texts_at name.now (view value.now)) }
 {
     match items_at(value, name) {
-        Some(items) => texts_in(alloc, items),
+        Some(items) => read_each::<TextShape>(alloc, items),
         None => Ok(None),
     }
 }
@@ -33,46 +35,48 @@ pub fn items_at<'a>(value: &'a Json, name: &str) -> Option<&'a [Json]>
     }
 }
 
-/// Reads texts in order.
-fn texts_in(alloc: Global, values: &[Json]) -> Got<Option<Vec<String>>>
-    ensures { IfOk result (λ texts. option_map (λ ts. map string_bytes ts.items) texts ≡ each_in text_in (items_view values.now)) }
-{
-    let mut texts = Vec::with_capacity(alloc, values.len())?;
-    for value in values {
+/// A text.
+struct TextShape;
+
+impl Shape for TextShape {
+    type Element = String;
+
+    ghost Said = { List ℕ };
+
+    ghost said = { string_bytes };
+
+    ghost said_in = { text_in };
+
+    fn read(alloc: Global, value: &Json) -> Got<Option<String>> {
         match value.text() {
-            Some(text) => texts.push(String::from_str(alloc, text)?)?,
-            None => return Ok(None),
+            Some(text) => Ok(Some(String::from_str(alloc, text)?)),
+            None => Ok(None),
         }
     }
-    Ok(Some(texts))
 }
 
-/// Reads changes in order.
-pub fn changes_in(alloc: Global, values: &[Json]) -> Got<Option<Vec<DocumentRevisions>>>
-    ensures { IfOk result (λ changes. option_map (λ cs. map revisions_of cs.items) changes ≡ each_in change_in (items_view values.now)) }
-{
-    let mut changes = Vec::with_capacity(alloc, values.len())?;
-    for value in values {
-        match change_in(alloc, value)? {
-            Some(change) => changes.push(change)?,
-            None => return Ok(None),
-        }
+/// A change: a document and its leaves.
+pub struct ChangeShape;
+
+impl Shape for ChangeShape {
+    type Element = DocumentRevisions;
+
+    ghost Said = { Revisions };
+
+    ghost said = { revisions_of };
+
+    ghost said_in = { change_in };
+
+    fn read(alloc: Global, value: &Json) -> Got<Option<DocumentRevisions>> {
+        let Some(id) = text_at(value, "id") else {
+            return Ok(None);
+        };
+        let Some(revisions) = leaves_in(alloc, value)? else {
+            return Ok(None);
+        };
+        let id = String::from_str(alloc, id)?;
+        Ok(Some(DocumentRevisions { id, revisions }))
     }
-    Ok(Some(changes))
-}
-
-/// Reads one change: a document and its leaves.
-fn change_in(alloc: Global, value: &Json) -> Got<Option<DocumentRevisions>>
-    ensures { IfOk result (λ change. option_map revisions_of change ≡ change_in (view value.now)) }
-{
-    let Some(id) = text_at(value, "id") else {
-        return Ok(None);
-    };
-    let Some(revisions) = leaves_in(alloc, value)? else {
-        return Ok(None);
-    };
-    let id = String::from_str(alloc, id)?;
-    Ok(Some(DocumentRevisions { id, revisions }))
 }
 
 /// Reads the leaves of a change.
@@ -80,23 +84,29 @@ fn leaves_in(alloc: Global, value: &Json) -> Got<Option<Vec<String>>>
     ensures { IfOk result (λ leaves. option_map (λ ls. map string_bytes ls.items) leaves ≡ list_at (codes "changes") revision_in (view value.now)) }
 {
     match items_at(value, "changes") {
-        Some(items) => revisions_in(alloc, items),
+        Some(items) => read_each::<LeafShape>(alloc, items),
         None => Ok(None),
     }
 }
 
-/// Reads revisions in order.
-fn revisions_in(alloc: Global, values: &[Json]) -> Got<Option<Vec<String>>>
-    ensures { IfOk result (λ revisions. option_map (λ rs. map string_bytes rs.items) revisions ≡ each_in revision_in (items_view values.now)) }
-{
-    let mut revisions = Vec::with_capacity(alloc, values.len())?;
-    for value in values {
+/// A leaf of a change: its revision.
+struct LeafShape;
+
+impl Shape for LeafShape {
+    type Element = String;
+
+    ghost Said = { List ℕ };
+
+    ghost said = { string_bytes };
+
+    ghost said_in = { revision_in };
+
+    fn read(alloc: Global, value: &Json) -> Got<Option<String>> {
         match text_at(value, "rev") {
-            Some(revision) => revisions.push(String::from_str(alloc, revision)?)?,
-            None => return Ok(None),
+            Some(revision) => Ok(Some(String::from_str(alloc, revision)?)),
+            None => Ok(None),
         }
     }
-    Ok(Some(revisions))
 }
 
 /// Returns the text of a member, or `None` inside where null stands for it.

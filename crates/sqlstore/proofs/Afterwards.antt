@@ -1,14 +1,5 @@
 -- What a reader answers after other readers.
-use Rattle.std.proofs.Common.{◌≡◌, ◌+◌, ℕ, zero, suc, List, [], ◌∷◌, drop, subst, Option, Result, Ok, Err, ap, ◌∙◌}
-use Rattle.std.specs.List.{AllByRecursion}
-use Rattle.store.specs.declared.fault.StoreFault.{StoreFault}
-use Rattle.store.specs.declared.fault.StoreFault.TheVariants.{Memory, Failed, NoDatabase, Exists, Damaged, Full}
-use Rattle.sqlite_value.specs.Order.{Row}
-use Rattle.sqlite_trees.specs.declared.store.Store.{Ghosts}
-use Rattle.sqlite.specs.Held.{state}
-use Rattle.sqlstore.specs.Model.{Answers, Stands, is_honest, trees_of}
-use Rattle.transactions.specs.Reading.{IsLost, IsRead}
-use Rattle.sqlstore.specs.declared.sql_store.SqlStore.{SqlStore}
+use Rattle.sqlstore.proofs.Common.{AllByRecursion, Answers, Damaged, Err, Exists, Failed, Full, Ghosts, IsLost, IsRead, List, Memory, NoDatabase, Ok, Option, Result, Row, SqlStore, Stands, StoreFault, [], ap, drop, is_honest, state, subst, suc, trees_of, zero, ℕ, ◌+◌, ◌∙◌, ◌∷◌, ◌≡◌}
 use Rattle.sqlstore.proofs.Answering.{failed_later}
 
 module _ {S : Type 0} (g : Ghosts S) (old mid new : SqlStore S g) where

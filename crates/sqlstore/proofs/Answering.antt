@@ -1,33 +1,11 @@
 -- What a reader of a store answers, from what it read, and what it leaves.
-use Rattle.std.proofs.Common.{◌≡◌, ◌≤◌, ◌<◌, ◌+◌, ◌^◌, ℕ, length, inl, inr, List, [], ◌∷◌, filter, map, slice_get, Option, Some, None, option_map, Result, Ok, Err, Bool, false, IsTrue, refl, sym, ap, subst, ◌∙◌, arith}
-use Rattle.std.specs.List.{AllByRecursion}
-use Rattle.std.proofs.Math.Logic.{∥∥₁_elim, ∥∥₁_map}
-use Rattle.std.specs.FinMap.{get}
+use Rattle.sqlstore.proofs.Common.{AllByRecursion, Answers, Bool, Damaged, DatabaseNumbers, Err, Exists, Failed, FoundValues, Full, Ghosts, IsDatabaseRow, IsLaid, IsRead, IsShownDatabase, IsShownLocal, IsStanding, IsTrue, KnownDatabase, List, Memory, NoDatabase, None, NumberValues, Ok, OnlyReads, Option, Result, Row, Some, SqlStore, Stands, StoreFault, Trees, WasStore, [], all-filter, all_map, ap, arith, contents_in, contents_of, database_of, dbs_tree, false, filter, found_in, found_shown, get, inl, inr, is_honest, is_named, is_of, is_security, known_values, length, local_at, local_of, local_shown, locals_tree, map, next_number, numbers_in, option_map, refl, shown_database, shown_local, slice_get, state, subst, sym, trees_of, ℕ, ∥∥₁_elim, ∥∥₁_map, ◌+◌, ◌<◌, ◌^◌, ◌∙◌, ◌∷◌, ◌≡◌, ◌≤◌}
 use Rattle.store.specs.Causes.{HasFailed}
 use Rattle.store.specs.Database.{Database}
-use Rattle.store.specs.declared.fault.StoreFault.{StoreFault}
-use Rattle.store.specs.declared.fault.StoreFault.TheVariants.{Memory, Failed, NoDatabase, Exists, Damaged, Full}
-use Rattle.sqlite_value.specs.Order.{Row}
 use Rattle.sqlite_sql.specs.Ops.{fits_i64}
-use Rattle.sqlite_trees.specs.declared.store.Store.{Ghosts}
-use Rattle.sqlite.specs.Held.{state}
-use Rattle.policy.specs.Security.{is_security}
-use Rattle.sqlite_trees.specs.Tree.{Trees}
-use Rattle.store.specs.Contents.{local_at}
 use Rattle.couch_json.specs.View.{view}
-use Rattle.tables.specs.declared.decode.FoundDatabase.{FoundDatabase}
-use Rattle.tables.specs.Layout.{IsDatabaseRow, IsLaid}
-use Rattle.sqlstore.specs.Standing.{WasStore}
-use Rattle.tables.specs.Rows.{contents_in, database_of, is_named, is_of, local_of, next_number, shown_database, shown_local}
-use Rattle.tables.specs.Schema.{dbs_tree, locals_tree}
-use Rattle.tables.specs.Shown.{IsShownDatabase, IsShownLocal, local_shown}
 use Rattle.tables.proofs.Laid.{shown_databases, shown_locals}
 use Rattle.tables.proofs.Lookups.{database_found, local_found}
-use Rattle.transactions.proofs.Rows.{all_left, all_shown}
-use Rattle.sqlstore.specs.Model.{Answers, OnlyReads, Stands, contents_of, is_honest, trees_of}
-use Rattle.transactions.specs.Reading.{IsRead}
-use Rattle.sqlstore.specs.Reading.{FoundValues, found_in, found_shown}
-use Rattle.sqlstore.specs.declared.sql_store.SqlStore.{SqlStore}
 
 -- what is said of the first of the shown rows is what is said of the first row
 pub first_shown : {A : Type 0} (show : Row → Row) (read : Row → A) (said : Row → A) → ((r : Row) → read (show r) ≡ said r) → (rows : List Row) → option_map said (slice_get rows 0) ≡ option_map read (slice_get (map show rows) 0)
@@ -87,13 +65,13 @@ module _ {S : Type 0} (g : Ghosts S) where
 
   -- the rows of an honest store are laid out
   pub laid : (s : SqlStore S g) → is_honest g s → ∥ IsLaid (trees_of g s) ∥₁
-  laid s honest = ∥∥₁_map (s.held honest.0 honest.1) (λ holds. holds.store.laid)
+  laid s honest = ∥∥₁_map (s.standing.held honest.0 honest.1) (λ holds. holds.store.laid)
 
 -- the rows that the query of a database shows are intact, and say what is found
 pub database_read : {S : Type 0} (g : Ghosts S) (s : SqlStore S g) (name : List ℕ) (rows : List Row) → is_honest g s → rows ≡ map shown_database (filter (is_named name) (trees_of g s dbs_tree))
     → (¬ ¬ AllByRecursion IsShownDatabase rows) × (option_map found_in (slice_get (filter (is_named name) (trees_of g s dbs_tree)) 0) ≡ option_map found_shown (slice_get rows 0))
 database_read g s name rows honest is = (
-  λ none. ∥∥₁_elim (laid g s honest) (λ p q. absurd p) (λ l. none (subst (AllByRecursion IsShownDatabase) (sym is) (all_shown IsShownDatabase shown_database _ (all_left _ (is_named name) _ (shown_databases _ l))))),
+  λ none. ∥∥₁_elim (laid g s honest) (λ p q. absurd p) (λ l. none (subst (AllByRecursion IsShownDatabase) (sym is) (all_map IsShownDatabase shown_database _ (all-filter _ (is_named name) _ (shown_databases _ l))))),
   first_shown shown_database found_shown found_in (λ r. refl) _ ∙ ap (λ l. option_map found_shown (slice_get l 0)) (sym is),
 )
 
@@ -104,66 +82,84 @@ at_first P (s ∷ rows) r all is = subst P (some_same s r is) all.0
     some_same : (a b : Row) → Some a ≡ Some b → a ≡ b
     some_same a b h = cc
 
--- the row of a database that is found, and the database
-pub record IsThere (trees : Trees) (name : List ℕ) (k : FoundValues) : Type 0 where
+-- the row of a database that is found, what is read of it, and the database
+pub record IsThere {A : Type 0} (read : Row → A) (trees : Trees) (name : List ℕ) (k : A) : Type 0 where
   pub row : Row
   pub first : slice_get (filter (is_named name) (trees dbs_tree)) 0 ≡ Some row
-  pub values : found_in row ≡ k
+  pub values : read row ≡ k
   pub database : get (contents_in trees) name ≡ Some (database_of trees row)
 
-pub there : (trees : Trees) (name : List ℕ) (k : FoundValues) → option_map found_in (slice_get (filter (is_named name) (trees dbs_tree)) 0) ≡ Some k → IsThere trees name k
-there trees name k h = go (slice_get (filter (is_named name) (trees dbs_tree)) 0) refl h
-  where
-    go : (o : Option Row) → slice_get (filter (is_named name) (trees dbs_tree)) 0 ≡ o → option_map found_in o ≡ Some k → IsThere trees name k
-    go None is h = absurd (cc)
-    go (Some r) is h = record { row = r; first = is; values = cc; database = database_found trees name ∙ ap (option_map (database_of trees)) is }
+module _ {A : Type 0} (read : Row → A) (trees : Trees) (name : List ℕ) where
+  abbrev first : Option Row
+  first = slice_get (filter (is_named name) (trees dbs_tree)) 0
 
--- where no row is found there is no database
-pub none_there : {B : Type 0} (trees : Trees) (name : List ℕ) (f : Database → B) → option_map found_in (slice_get (filter (is_named name) (trees dbs_tree)) 0) ≡ None → option_map f (get (contents_in trees) name) ≡ None
-none_there trees name f h = ap (option_map f) (database_found trees name) ∙ go (slice_get (filter (is_named name) (trees dbs_tree)) 0) h
-  where
-    go : (o : Option Row) → option_map found_in o ≡ None → option_map f (option_map (database_of trees) o) ≡ None
-    go None h = refl
-    go (Some r) h = absurd (cc)
+  pub there : (k : A) → option_map read first ≡ Some k → IsThere read trees name k
+  there k h = go first refl h
+    where
+      same : (a b : A) → Some a ≡ Some b → a ≡ b
+      same a b e = cc
 
-pub absent : (trees : Trees) (name : List ℕ) → option_map found_in (slice_get (filter (is_named name) (trees dbs_tree)) 0) ≡ None → get (contents_in trees) name ≡ None
-absent trees name h = database_found trees name ∙ go (slice_get (filter (is_named name) (trees dbs_tree)) 0) h
-  where
-    go : (o : Option Row) → option_map found_in o ≡ None → option_map (database_of trees) o ≡ None
-    go None h = refl
-    go (Some r) h = absurd (cc)
+      go : (o : Option Row) → first ≡ o → option_map read o ≡ Some k → IsThere read trees name k
+      go None is h = absurd (cc)
+      go (Some r) is h = record { row = r; first = is; values = same (read r) k h; database = database_found trees name ∙ ap (option_map (database_of trees)) is }
+
+  -- where no row is found there is no database
+  pub absent : option_map read first ≡ None → get (contents_in trees) name ≡ None
+  absent h = database_found trees name ∙ go first h
+    where
+      go : (o : Option Row) → option_map read o ≡ None → option_map (database_of trees) o ≡ None
+      go None h = refl
+      go (Some r) h = absurd (cc)
+
+  -- what is read of the row of a name is read of the one that is found
+  pub also : {B : Type 0} (f : A → B) (k : A) → option_map read first ≡ Some k → option_map (λ r. f (read r)) first ≡ Some (f k)
+  also f k h = go first h
+    where
+      go : (o : Option Row) → option_map read o ≡ Some k → option_map (λ r. f (read r)) o ≡ Some (f k)
+      go None h = absurd (cc)
+      go (Some r) h = cc
 
 -- the security object of a database that is found
-pub security_there : (trees : Trees) (name : List ℕ) (k : FoundValues) → IsThere trees name k → option_map (λ (db : Database). db.security) (get (contents_in trees) name) ≡ Some k.1
+pub security_there : (trees : Trees) (name : List ℕ) (k : FoundValues) → IsThere found_in trees name k → option_map (λ (db : Database). db.security) (get (contents_in trees) name) ≡ Some k.1
 security_there trees name k t = ap (option_map (λ (db : Database). db.security)) t.database ∙ ap (λ (v : FoundValues). Some v.1) t.values
 
-pub security_intact : (trees : Trees) (name : List ℕ) (k : FoundValues) → IsLaid trees → IsThere trees name k → IsTrue (is_security k.1)
-security_intact trees name k l t = subst (λ (v : FoundValues). IsTrue (is_security v.1)) t.values (at_first IsDatabaseRow _ t.row (all_left IsDatabaseRow (is_named name) _ l.dbs) t.first).security
+pub security_intact : (trees : Trees) (name : List ℕ) (k : FoundValues) → IsLaid trees → IsThere found_in trees name k → IsTrue (is_security k.1)
+security_intact trees name k l t = subst (λ (v : FoundValues). IsTrue (is_security v.1)) t.values (at_first IsDatabaseRow _ t.row (all-filter IsDatabaseRow (is_named name) _ l.dbs) t.first).security
 
 -- a local document of a database that is found
-pub local_there : (trees : Trees) (name id : List ℕ) (k : FoundValues) (rows : List Row) → IsThere trees name k → rows ≡ map shown_local (filter (is_of k.0 id) (trees locals_tree))
+pub local_there : (trees : Trees) (name id : List ℕ) (k : NumberValues) (rows : List Row) → IsThere numbers_in trees name k → rows ≡ map shown_local (filter (is_of k.0 id) (trees locals_tree))
     → option_map (λ (db : Database). local_at db id) (get (contents_in trees) name) ≡ Some (option_map local_shown (slice_get rows 0))
 local_there trees name id k rows t is =
     ap (option_map (λ (db : Database). local_at db id)) t.database
-    ∙ ap Some (local_found trees t.row id ∙ ap (λ (v : FoundValues). option_map local_of (slice_get (filter (is_of v.0 id) (trees locals_tree)) 0)) t.values
+    ∙ ap Some (local_found trees t.row id ∙ ap (λ (v : NumberValues). option_map local_of (slice_get (filter (is_of v.0 id) (trees locals_tree)) 0)) t.values
     ∙ first_shown shown_local local_shown local_of (λ r. refl) _ ∙ ap (λ l. option_map local_shown (slice_get l 0)) (sym is))
 
 pub local_intact : (trees : Trees) (p : Row → Bool) (rows : List Row) → IsLaid trees → rows ≡ map shown_local (filter p (trees locals_tree)) → AllByRecursion IsShownLocal rows
-local_intact trees p rows l is = subst (AllByRecursion IsShownLocal) (sym is) (all_shown IsShownLocal shown_local _ (all_left _ p _ (shown_locals trees l)))
+local_intact trees p rows l is = subst (AllByRecursion IsShownLocal) (sym is) (all_map IsShownLocal shown_local _ (all-filter _ p _ (shown_locals trees l)))
 
 -- what a reader of a database answers where none was found
-pub not_found : {S Y B : Type 0} (g : Ghosts S) (old new : SqlStore S g) (name : List ℕ) (other : Y → B) (f : Database → B) (fault : StoreFault)
-    → Answers g {X = FoundDatabase} old new (λ d. (d.number, view d.security, d.sequence)) (option_map found_in (slice_get (filter (is_named name) (trees_of g old dbs_tree)) 0)) (Err fault)
+pub not_found : {S X Y A B : Type 0} (g : Ghosts S) (old new : SqlStore S g) (name : List ℕ) (read : Row → A) (shown : X → A) (other : Y → B) (f : Database → B) (fault : StoreFault)
+    → Answers g {X = X} old new shown (option_map read (slice_get (filter (is_named name) (trees_of g old dbs_tree)) 0)) (Err fault)
     → Answers g {X = Y} old new other (option_map f (get (contents_of g old) name)) (Err fault)
-not_found g old new name other f fault h =
-    refused g old new {X = FoundDatabase} (λ d. (d.number, view d.security, d.sequence)) other _ _ fault (none_there (trees_of g old) name f) h
+not_found {X = X} g old new name read shown other f fault h =
+    refused g old new {X = X} shown other _ _ fault (λ none. ap (option_map f) (absent read (trees_of g old) name none)) h
 
 -- a change of a database says that there is none only where there is none
 pub missing : {S X : Type 0} (g : Ghosts S) (old new : SqlStore S g) (name : List ℕ) (r : Result X StoreFault) (fault : StoreFault) → r ≡ Err fault → r ≡ Err NoDatabase
-    → Answers g {X = FoundDatabase} old new (λ d. (d.number, view d.security, d.sequence)) (option_map found_in (slice_get (filter (is_named name) (trees_of g old dbs_tree)) 0)) (Err fault)
+    → Answers g {X = DatabaseNumbers} old new (λ d. (d.number, d.sequence)) (option_map numbers_in (slice_get (filter (is_named name) (trees_of g old dbs_tree)) 0)) (Err fault)
     → is_honest g new → get (contents_of g old) name ≡ None
 missing g old new name r fault is told h honest =
-    absent (trees_of g old) name (told_none g old new {X = FoundDatabase} (λ d. (d.number, view d.security, d.sequence)) _ fault (same_fault (sym is ∙ told)) h honest)
+    absent numbers_in (trees_of g old) name (told_none g old new {X = DatabaseNumbers} (λ d. (d.number, d.sequence)) _ fault (same_fault (sym is ∙ told)) h honest)
   where
     same_fault : {Y : Type 0} {a b : StoreFault} → ◌≡◌ {A = Result Y StoreFault} (Err a) (Err b) → a ≡ b
     same_fault e = cc
+
+-- what was found of a database may be known of it
+pub known_so : {S : Type 0} (g : Ghosts S) (old new : SqlStore S g) (name : List ℕ) (known : KnownDatabase) → Stands g old new → known.name ≡ name
+    → (is_honest g new → option_map found_in (slice_get (filter (is_named name) (trees_of g old dbs_tree)) 0) ≡ Some (known_values known)) → IsStanding g new.conn new.origin.value new.last.value (Some known)
+known_so g old new name known s named found = record {
+  idle = new.standing.idle;
+  unlimited = new.standing.unlimited;
+  held = new.standing.held;
+  known_so = λ clean was. ∣ (λ i. option_map found_in (slice_get (filter (is_named (named i)) ((state g (s.last i)).now.trees dbs_tree)) 0)) ∙ found (clean, was) ∣₁;
+}

@@ -1,22 +1,12 @@
 -- What a change of a store leaves.
-use Rattle.std.proofs.Common.{◌≡◌, Bool, false, Option, None, Some, is_some, Result, Ok, Err, IsTrue, OnOk, OnErr, refl, sym, ap, subst, ◌∙◌, arith}
-use Rattle.std.proofs.Math.Logic.{∥∥₁_elim, ∥∥₁_map}
-use Rattle.sqlite_trees.specs.declared.store.Store.{Ghosts}
-use Rattle.sqlite.specs.Effect.{Database}
-use Rattle.sqlite.specs.Held.{Held, state}
-use Rattle.sqlite.specs.State.{HasCleanDisk}
-use Rattle.tables.specs.Layout.{IsStore}
-use Rattle.tables.specs.Rows.{contents_in}
+use Rattle.sqlstore.proofs.Common.{Bool, ChangesWhole, Database, Err, Ghosts, HasCleanDisk, Held, Holds, IsStanding, IsStore, IsTrue, KnownDatabase, Moves, None, Ok, OnErr, OnOk, Option, Result, Some, SqlStore, Stands, WasStore, ap, arith, contents_in, contents_of, false, is_honest, is_some, refl, state, subst, sym, ∥∥₁_elim, ∥∥₁_map, ◌∙◌, ◌≡◌}
 use Rattle.transactions.proofs.Committing.{on_err}
-use Rattle.sqlstore.specs.Model.{ChangesWhole, Moves, Stands, contents_of, is_honest}
 use Rattle.transactions.specs.Endings.{Turns}
-use Rattle.sqlstore.specs.Standing.{Holds, IsStanding, WasStore}
-use Rattle.sqlstore.specs.declared.sql_store.SqlStore.{SqlStore}
 
-module _ {S : Type 0} (g : Ghosts S) (old new origin last : Held S) (turns : Turns g old new) (s : IsStanding g old origin last) where
+module _ {S : Type 0} (g : Ghosts S) (old new origin last : Held S) (turns : Turns g old new) {known : Option KnownDatabase} (s : IsStanding g old origin last known) where
   -- a transaction that was undone leaves a store standing
   pub undone : (IsStore (state g old).now → (state g old).now.trees ≡ (state g last).now.trees → HasCleanDisk (state g new) → WasStore g origin → IsTrue (state g new).is_open
-      → ((state g new).now ≡ (state g old).committed) × ((state g new).committed ≡ (state g old).committed)) → IsStanding g new origin last
+      → ((state g new).now ≡ (state g old).committed) × ((state g new).committed ≡ (state g old).committed)) → IsStanding g new origin last known
   undone left = record {
     idle = turns.idle;
     unlimited = turns.limit ∙ s.unlimited;
@@ -28,6 +18,7 @@ module _ {S : Type 0} (g : Ghosts S) (old new origin last : Held S) (turns : Tur
           now = λ up. (settled up).0 ∙ h.committed (turns.was_open clean up);
           committed = λ up. (settled up).1 ∙ h.committed (turns.was_open clean up);
         });
+    known_so = λ clean is. s.known_so (turns.clean clean) is;
   }
 
   -- One that was committed makes a store of one, and this of its rows. So the store stands on the new ones, and it is so of those that the last change left.
@@ -40,7 +31,7 @@ module _ {S : Type 0} (g : Ghosts S) (old new origin last : Held S) (turns : Tur
         let m = makes clean (turns.clean clean) is (subst IsStore (sym same) h.store) (ap (λ (d : Database). d.trees) same) in
         (m.0, subst P same m.1)
 
-    pub stands : (next : Held S) → next ≡ new → IsStanding g new origin next
+    pub stands : (next : Held S) → next ≡ new → IsStanding g new origin next None
     stands next is_new = record {
       idle = turns.idle;
       unlimited = turns.limit ∙ s.unlimited;
@@ -49,6 +40,7 @@ module _ {S : Type 0} (g : Ghosts S) (old new origin last : Held S) (turns : Tur
         now = λ up. ap (λ x. (state g x).now) (sym is_new);
         committed = λ up. sym (done clean).2 ∙ ap (λ x. (state g x).now) (sym is_new);
       });
+      known_so = λ clean is. ∣ tt ∣₁;
     }
 
     pub told : IsProp (P (state g last).now) → HasCleanDisk (state g new) → WasStore g origin → P (state g last).now

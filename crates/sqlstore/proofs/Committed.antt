@@ -1,26 +1,9 @@
 -- What a store makes of writes that are committed together.
-use Rattle.std.proofs.Common.{◌≡◌, ◌+◌, ◌<◌, ◌^◌, ℕ, ℤ, List, length, Some, sym, ap, subst, arith}
-use Rattle.std.proofs.Math.Logic.{∥∥₁_elim}
+use Rattle.sqlstore.proofs.Common.{Addition, AreAcceptable, AreDue, CommitFault, Damaged, Database, Exists, Failed, Full, Ghosts, HasCleanDisk, Held, IfThere, IsHeld, IsSound, IsStore, IsUnwritten, List, Memory, NoDatabase, NumberValues, Some, StoreFault, Trees, WasStore, ap, arith, contents_in, database_of, length, numbers_in, state, subst, sym, with_all, writings_in, ℕ, ℤ, ∥∥₁_elim, ◌+◌, ◌<◌, ◌^◌, ◌≡◌}
 use Rattle.std.specs.FinMap as finite
-use Rattle.sqlite_trees.specs.declared.store.Store.{Ghosts}
-use Rattle.sqlite_trees.specs.Tree.{Trees}
-use Rattle.sqlite.specs.Effect.{Database}
-use Rattle.sqlite.specs.Held.{Held, state}
-use Rattle.sqlite.specs.State.{HasCleanDisk}
-use Rattle.store.specs.Contents.{AreAcceptable, IfThere}
 use Rattle.store.specs.Database as store
-use Rattle.store.specs.Database.{with_all}
-use Rattle.store.specs.Writing.{Addition, writings_in}
-use Rattle.store.specs.declared.fault.StoreFault.{StoreFault}
-use Rattle.store.specs.declared.fault.StoreFault.TheVariants.{Memory, Failed, NoDatabase, Exists, Damaged, Full}
-use Rattle.tables.specs.Layout.{IsStore}
-use Rattle.tables.specs.Rows.{contents_in, database_of}
 use Rattle.sqlstore.specs.Causes.{IsJudged}
-use Rattle.transactions.specs.Commits.{AreDue, IsSound, IsUnwritten}
 use Rattle.sqlstore.specs.Commits.{IsToldAs, IsUncommitted}
-use Rattle.sqlstore.specs.Reading.{FoundValues}
-use Rattle.sqlstore.specs.Standing.{IsHeld, WasStore}
-use Rattle.transactions.specs.declared.commit_fault.CommitFault.{CommitFault}
 use Rattle.transactions.specs.declared.commit_fault.CommitFault.TheVariants as write
 use Rattle.sqlstore.proofs.Answering.{IsThere}
 use Rattle.transactions.proofs.Committing.{length-writings_in}
@@ -30,21 +13,21 @@ pub due_at : (all : List Addition) (name : List ℕ) (number : ℤ) (sequence : 
 due_at all name number sequence trees others same due = subst (AreDue all name number sequence) (sym same) due
 
 -- writes are due in a database that is found, where they are acceptable
-pub due_there : (all : List Addition) (trees : Trees) (name : List ℕ) (k : FoundValues) → IsThere trees name k → IfThere (finite.get (contents_in trees) name) (λ db. AreAcceptable db (writings_in db all)) → AreDue all name k.0 k.2 trees
+pub due_there : (all : List Addition) (trees : Trees) (name : List ℕ) (k : NumberValues) → IsThere numbers_in trees name k → IfThere (finite.get (contents_in trees) name) (λ db. AreAcceptable db (writings_in db all)) → AreDue all name k.0 k.1 trees
 due_there all trees name k t acceptable = record {
   row = t.row;
   first = t.first;
-  numbered = ap (λ (v : FoundValues). v.0) t.values;
-  counted = ap (λ (v : FoundValues). v.2) t.values;
+  numbered = ap (λ (v : NumberValues). v.0) t.values;
+  counted = ap (λ (v : NumberValues). v.1) t.values;
   acceptable = subst (λ o. IfThere o (λ db. AreAcceptable db (writings_in db all))) t.database acceptable;
 }
 
 -- a database that is found lacks the room that its sequence lacks
-pub lacks_there : (all : List Addition) (trees : Trees) (name : List ℕ) (k : FoundValues) → IsThere trees name k → ¬ (k.2 + length all < 2 ^ 63)
+pub lacks_there : (all : List Addition) (trees : Trees) (name : List ℕ) (k : NumberValues) → IsThere numbers_in trees name k → ¬ (k.1 + length all < 2 ^ 63)
     → IfThere (finite.get (contents_in trees) name) (λ db. (d : store.Database) × (finite.get (contents_in trees) name ≡ Some d) × ¬ (d.length + length (writings_in db all) < 2 ^ 63))
 lacks_there all trees name k t lacks =
     let db = database_of trees t.row in
-    let count : db.length ≡ k.2 = ap (λ (v : FoundValues). v.2) t.values in
+    let count : db.length ≡ k.1 = ap (λ (v : NumberValues). v.1) t.values in
     subst (λ o. IfThere o (λ db. (d : store.Database) × (finite.get (contents_in trees) name ≡ Some d) × ¬ (d.length + length (writings_in db all) < 2 ^ 63))) (sym t.database)
     (db, t.database, λ room. lacks (omega (arith, room, count, length-writings_in db all)))
 

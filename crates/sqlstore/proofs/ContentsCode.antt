@@ -1,15 +1,8 @@
 -- Contents are told apart by numbers, so any two proofs that they are equal are one.
-use base.Stored.{Coded-set}
-use Rattle.std.proofs.Common.{ℕ, List, Option, refl}
-use Rattle.std.specs.Coded.{Coded, code_by, coded×, coded_list, coded_option, coded_ℕ}
-use Rattle.std.specs.FinMap.{code}
+use Rattle.sqlstore.proofs.Common.{Coded, Coded-set, Contents, Document, FoundValues, HistoryContent, List, LocalDocument, Option, TextMap, code, code_by, coded_list, coded_option, coded_ℕ, coded_ℤ, coded×, content_code, refl, ℕ, ℤ}
 use Rattle.couch_json.specs.Code.{value_code}
 use Rattle.couch_json.specs.Value as json
-use Rattle.tree.specs.History.{HistoryContent}
-use Rattle.tree.specs.HistoryCode.{content_code}
-use Rattle.store.specs.Contents.{Contents}
-use Rattle.store.specs.Database.{Database, Document, TextMap}
-use Rattle.store.specs.declared.local_document.LocalDocument.{LocalDocument}
+use Rattle.store.specs.Database.{Database}
 use Rattle.store.specs.contracts.local_document.LocalDocument as local
 
 text_code : Coded (List ℕ)
@@ -29,3 +22,9 @@ contents_set = Coded-set (code text_code database_code)
 
 pub some_contents_set : IsSet (Option Contents)
 some_contents_set = Coded-set (coded_option (code text_code database_code))
+
+found_code : Coded FoundValues
+found_code = code_by (ℤ × (json.Value × ℕ)) (coded× coded_ℤ (coded× value_code coded_ℕ)) (λ v. (v.0, (v.1, v.2))) (λ p. (p.0, p.1.0, p.1.1)) (λ _. refl)
+
+pub found_set : IsSet (Option FoundValues)
+found_set = Coded-set (coded_option found_code)

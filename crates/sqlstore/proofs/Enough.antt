@@ -1,25 +1,9 @@
 -- Some rows of a list of documents make the page that all of them make.
-use Rattle.std.proofs.Common.{◌≡◌, inl, inr, ℕ, zero, suc, ℤ, pos, negsuc, Bool, true, false, not, ◌&&◌, ◌||◌, cond, List, [], ◌∷◌, ◌++◌, map, filter, take, drop, reverse, nat_lt, int_lt, Option, Some, None, option_map, Result, Ok, Err, IfOk, Ordering, Less, Equal, Greater, is_lt, is_le, nat_cmp, refl, sym, ap, ap₂, subst, ◌∙◌, arith, append-nil}
-use Rattle.std.proofs.lemmas.Cmp.{nat_list_cmp_total}
-use Rattle.std.proofs.lemmas.Int.{ints}
-use Rattle.std.proofs.lemmas.Bool.Decides.{nat_tests}
-use Rattle.std.proofs.lemmas.List.{reverse-append}
-use Rattle.std.proofs.lemmas.List.Elements.{filter-append}
-use Rattle.std.specs.Cmp.Lexicographic.{slice_cmp}
-use Rattle.std.specs.List.{AllByRecursion}
+use Rattle.sqlstore.proofs.Common.{AllByRecursion, AreEnoughById, AreEnoughBySequence, Bool, Equal, Err, Greater, IdRow, IfOk, IsLimitFor, IsListedDocument, IsSequenceRow, Less, List, None, Ok, Option, Ordering, Result, Revision, Row, SeqRange, SequenceRow, Some, [], all-filter, ap, append-nil, ap₂, arith, comes_after, cond, drop, false, filter, filter-filter, filter-map, filter_all, filter_same, first_rows, id_page, if_counted, in_direction, inl, inr, int_lt, ints, is_after_end_of, is_before_start_of, is_le, is_lt, is_within, last_sequence, later_rows, least_of, lies_between, listed_counts, listed_id, listed_mark, listed_sequence, listed_winner, live_row, live_rows, map, nat_cmp, nat_list_cmp_total, nat_lt, nat_tests, negsuc, not, option_map, ordering_reverse, pos, refl, reverse, row_counts, rows_within, sequence_row, slice_cmp, subst, suc, sym, take, take-map, true, up_to_limit, winners_page, zero, ℕ, ℤ, ◌&&◌, ◌++◌, ◌||◌, ◌∙◌, ◌∷◌, ◌≡◌}
 use Rattle.std.specs.Option.{option_to_list}
-use Rattle.std.specs.Ordering.{ordering_reverse}
 use Rattle.store.proofs.Directed.{filter-directed}
-use Rattle.store.specs.Pages.{SequenceRow, id_page, if_counted, in_direction, is_after_end_of, is_before_start_of, is_within, last_sequence, later_rows, row_counts, rows_within, up_to_limit}
 use Rattle.store.specs.declared.page.IdRange.{IdRange}
-use Rattle.store.specs.declared.page.IdRow.{IdRow}
-use Rattle.store.specs.declared.page.SeqRange.{SeqRange}
-use Rattle.sqlite_value.specs.Order.{Row}
-use Rattle.sqlite_keyed.proofs.ListLemmas.{filter-filter, filter-map, filter_all, filter_same}
-use Rattle.tables.specs.Listings.{IsListedDocument, comes_after, first_rows, lies_between, listed_counts, listed_id, listed_mark, listed_sequence, listed_winner, live_row, live_rows, sequence_row}
-use Rattle.tree.specs.Revision.{Revision}
-use Rattle.sqlstore.specs.Listing.{AreEnoughById, AreEnoughBySequence, IsLimitFor, IsSequenceRow, least_of, winners_page}
-use Rattle.transactions.proofs.Rows.{all_left}
+use Rattle.tables.proofs.Sorted.{passing}
 
 -- ---- an id within a range lies between its ends
 
@@ -104,7 +88,7 @@ module _ (range : IdRange) (p : List ℕ → Bool) (kept : (id : List ℕ) → i
   enough : range.counted ≡ false → (all : List Row) → AreEnoughById range all (filter (λ s. p (listed_id s)) all)
   enough plain all = record {
     page = ap (id_page range) (live_left p all) ∙ uncounted_page plain (filter (λ (r : IdRow). p r.id) (live_rows all)) (live_rows all) (within_left (live_rows all));
-    intact = all_left IsListedDocument (λ s. p (listed_id s)) all;
+    intact = all-filter IsListedDocument (λ s. p (listed_id s)) all;
   }
 
 pub enough_by_id : (range : IdRange) (start end : List ℕ) → range.counted ≡ false → range.start ≡ Some start → range.end ≡ Some end → (all rows : List Row)
@@ -115,45 +99,27 @@ enough_by_id range start end plain s e all rows is =
 
 -- ---- rows by sequence
 
+all_first : {X : Type 0} (P : X → Type 0) (n : ℕ) (xs : List X) → AllByRecursion P xs → AllByRecursion P (take n xs)
+all_first P zero xs all = tt
+all_first P (suc n) [] all = tt
+all_first P (suc n) (x ∷ xs) all = (all.0, all_first P n xs all.1)
+
 all_taken : (P : Row → Type 0) (n : ℤ) (rows : List Row) → AllByRecursion P rows → AllByRecursion P (first_rows n rows)
 all_taken P (negsuc n) rows all = all
-all_taken P (pos n) rows all = go n rows all
-  where
-    go : (n : ℕ) (rows : List Row) → AllByRecursion P rows → AllByRecursion P (take n rows)
-    go zero rows all = tt
-    go (suc n) [] all = tt
-    go (suc n) (r ∷ rows) all = (all.0, go n rows all.1)
-
-all_later : {X : Type 0} (p : X → Bool) (n : ℕ) (xs : List X) → AllByRecursion (λ x. p x ≡ true) xs → AllByRecursion (λ x. p x ≡ true) (take n xs)
-all_later p zero xs all = tt
-all_later p (suc n) [] all = tt
-all_later p (suc n) (x ∷ xs) all = (all.0, all_later p n xs all.1)
-
-all_passed : {X : Type 0} (p : X → Bool) (xs : List X) → AllByRecursion (λ x. p x ≡ true) (filter p xs)
-all_passed p [] = tt
-all_passed p (x ∷ xs) = go (p x) refl (all_passed p xs)
-  where
-    go : (b : Bool) → p x ≡ b → AllByRecursion (λ y. p y ≡ true) (filter p xs) → AllByRecursion (λ y. p y ≡ true) (cond b (x ∷ filter p xs) (filter p xs))
-    go true is more = (is, more)
-    go false is more = more
+all_taken P (pos n) rows all = all_first P n rows all
 
 taken_twice : {X : Type 0} (n : ℕ) (xs : List X) → take n (take n xs) ≡ take n xs
 taken_twice zero xs = refl
 taken_twice (suc n) [] = refl
 taken_twice (suc n) (x ∷ xs) = ap (λ l. x ∷ l) (taken_twice n xs)
 
-map_taken : {X Y : Type 0} (f : X → Y) (n : ℕ) (xs : List X) → map f (take n xs) ≡ take n (map f xs)
-map_taken f zero xs = refl
-map_taken f (suc n) [] = refl
-map_taken f (suc n) (x ∷ xs) = ap (λ l. f x ∷ l) (map_taken f n xs)
-
 -- rows that pass, once and again, with a limit or none
 module _ {X : Type 0} (q : X → Bool) (xs : List X) where
   again : (limit : Option ℕ) → up_to_limit limit (filter q (filter q xs)) ≡ up_to_limit limit (filter q xs)
-  again limit = ap (up_to_limit limit) (filter_all q (filter q xs) (all_passed q xs))
+  again limit = ap (up_to_limit limit) (filter_all q (filter q xs) (passing q xs))
 
   limited_again : (n : ℕ) → take n (filter q (take n (filter q xs))) ≡ take n (filter q xs)
-  limited_again n = ap (take n) (filter_all q (take n (filter q xs)) (all_later q n (filter q xs) (all_passed q xs))) ∙ taken_twice n (filter q xs)
+  limited_again n = ap (take n) (filter_all q (take n (filter q xs)) (all_first (λ x. q x ≡ true) n (filter q xs) (passing q xs))) ∙ taken_twice n (filter q xs)
 
 later_same : (n m : ℕ) → int_lt (pos n) (pos m) ≡ nat_lt n m
 later_same n m = grind (arith, ints, nat_tests)
@@ -178,7 +144,7 @@ module _ (range : SeqRange) (all : List Row) where
           let same : limit ≡ pos n = cc in
           ap (λ k. later_rows range (map sequence_row (first_rows k (filter (comes_after (pos range.since)) all)))) same
           ∙ ap (λ o. up_to_limit o (filter is_later (map sequence_row (take n (filter (comes_after (pos range.since)) all))))) is
-          ∙ ap (λ l. take n (filter is_later l)) (map_taken sequence_row n (filter (comes_after (pos range.since)) all) ∙ ap (take n) rows_left)
+          ∙ ap (λ l. take n (filter is_later l)) (sym (take-map sequence_row n (filter (comes_after (pos range.since)) all)) ∙ ap (take n) rows_left)
           ∙ limited_again is_later (map sequence_row all) n
           ∙ sym (ap (λ o. up_to_limit o (filter is_later (map sequence_row all))) is)
 
@@ -192,7 +158,7 @@ module _ (range : SeqRange) (all : List Row) where
       subst (AreEnoughBySequence range all) (sym found)
       (record {
         page = uncounted_winners plain (first_rows limit (filter (comes_after (pos range.since)) all)) (later_left limit is);
-        intact = λ h. all_taken IsSequenceRow limit (filter (comes_after (pos range.since)) all) (all_left IsSequenceRow (comes_after (pos range.since)) all h);
+        intact = λ h. all_taken IsSequenceRow limit (filter (comes_after (pos range.since)) all) (all-filter IsSequenceRow (comes_after (pos range.since)) all h);
       })
 
 -- ---- where they are answered

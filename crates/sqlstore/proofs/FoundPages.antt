@@ -1,44 +1,25 @@
 -- The pages of a database that is found by its name are those of the rows of its number.
-use base.Stored.{Coded-set}
-use Rattle.std.proofs.Common.{◌≡◌, ◌<◌, ◌^◌, ℕ, ℤ, true, false, List, [], ◌∷◌, map, filter, Some, None, option_map, refl, sym, ap, ap₂, subst, ◌∙◌}
-use Rattle.std.proofs.Math.Logic.{∥∥₁_elim}
+use Rattle.sqlstore.proofs.Common.{AllByRecursion, Coded-set, Document, IsDatabaseRow, IsLaid, List, None, NumberValues, Row, SeqRange, Some, Trees, [], all-filter, ap, ap₂, by_id, content_code, contents_in, database_of, db_of, docs_tree, document_counts, document_of, false, filter, history_at, history_in, id_of, id_page, if_counted, in_sequence, index_fields_of, index_over, index_rows, is_in, is_named, key_page, leaves_row, length_of, listed_by_id, listed_by_sequence, listed_counts, listed_document, listed_id, live_rows, map, number_of, numbers_in, option_map, page_by_sequence, page_of_ids, page_of_keys, page_with_leaves, places_of, put_in_index, queried_document, refl, revs_tree, rows_of, same_int, sequence_page, sequence_row, sort_by, subst, sym, true, winners_page, with_documents, ℕ, ℤ, ∥∥₁_elim, ◌<◌, ◌^◌, ◌∙◌, ◌∷◌, ◌≡◌}
 use Rattle.std.specs.FinMap as finite
-use Rattle.std.specs.List.{AllByRecursion}
-use Rattle.tree.specs.HistoryCode.{content_code}
-use Rattle.store.specs.Database.{Database, Document, history_at}
-use Rattle.store.specs.Indexes.{index_fields_of, index_over, index_rows, put_in_index, queried_document}
-use Rattle.store.specs.KeyPages.{key_page, page_of_keys}
-use Rattle.store.specs.Pages.{document_counts, id_page, if_counted, in_sequence, page_by_sequence, page_of_ids, rows_of, sequence_page}
+use Rattle.store.specs.Database.{Database}
 use Rattle.store.specs.declared.key_page.KeyRange.{KeyRange}
 use Rattle.store.specs.declared.page.IdRange.{IdRange}
-use Rattle.store.specs.declared.page.SeqRange.{SeqRange}
-use Rattle.sqlite_value.specs.Order.{Row}
-use Rattle.sqlite_trees.specs.Tree.{Trees}
-use Rattle.sqlite_keyed.proofs.KeyedLemmas.{same_int}
-use Rattle.sqlite_keyed.specs.Lists.{sort_by}
-use Rattle.tables.specs.Layout.{IsDatabaseRow, IsLaid}
-use Rattle.tables.specs.Listings.{leaves_row, listed_counts, listed_id, live_rows, sequence_row}
-use Rattle.tables.specs.Rows.{by_id, contents_in, database_of, db_of, document_of, history_in, id_of, is_in, is_named, length_of, listed_document, number_of}
-use Rattle.tables.specs.Schema.{docs_tree, revs_tree}
 use Rattle.tables.proofs.ListingRows.{counts_by_sequence, documents_by_id, leaves_by_sequence, live_by_id, winners_by_sequence}
 use Rattle.tables.proofs.Lookups.{document_found}
 use Rattle.tables.proofs.Sorted.{all_sorted, passing}
-use Rattle.sqlstore.specs.Listing.{listed_by_id, listed_by_sequence, page_with_leaves, places_of, winners_page, with_documents}
-use Rattle.sqlstore.specs.Reading.{FoundValues}
-use Rattle.transactions.proofs.Rows.{all_left}
 use Rattle.sqlstore.proofs.Answering.{IsThere, at_first}
 use Rattle.sqlstore.proofs.ListedRows.{counts_set, id_rows_set, leaves_rows, page_kept, places_set, sequence_rows_set}
 
 -- the database's own sequence is one that a page may hold
-pub bounded_there : (trees : Trees) (name : List ℕ) (k : FoundValues) → IsLaid trees → IsThere trees name k → k.2 < 2 ^ 63
+pub bounded_there : (trees : Trees) (name : List ℕ) (k : NumberValues) → IsLaid trees → IsThere numbers_in trees name k → k.1 < 2 ^ 63
 bounded_there trees name k l t =
-    subst (λ (v : FoundValues). v.2 < 2 ^ 63) t.values (at_first IsDatabaseRow _ t.row (all_left IsDatabaseRow (is_named name) _ l.dbs) t.first).bounded
+    subst (λ (v : NumberValues). v.1 < 2 ^ 63) t.values (at_first IsDatabaseRow _ t.row (all-filter IsDatabaseRow (is_named name) _ l.dbs) t.first).bounded
 
-module _ (trees : Trees) (name : List ℕ) (k : FoundValues) (lay : ∥ IsLaid trees ∥₁) (t : IsThere trees name k) where
+module _ (trees : Trees) (name : List ℕ) (k : NumberValues) (lay : ∥ IsLaid trees ∥₁) (t : IsThere numbers_in trees name k) where
   -- ---- histories
 
   history_of : (id : List ℕ) → history_at (database_of trees t.row) id ≡ history_in (trees revs_tree) k.0 id
-  history_of id = ∥∥₁_elim lay (Coded-set content_code _ _) (document_found trees t.row id) ∙ ap (λ (v : FoundValues). history_in (trees revs_tree) v.0 id) t.values
+  history_of id = ∥∥₁_elim lay (Coded-set content_code _ _) (document_found trees t.row id) ∙ ap (λ (v : NumberValues). history_in (trees revs_tree) v.0 id) t.values
 
   pub history_there : (id : List ℕ) → option_map (λ (db : Database). history_at db id) (finite.get (contents_in trees) name) ≡ Some (history_in (trees revs_tree) k.0 id)
   history_there id = ap (option_map (λ (db : Database). history_at db id)) t.database ∙ ap Some (history_of id)
@@ -48,7 +29,7 @@ module _ (trees : Trees) (name : List ℕ) (k : FoundValues) (lay : ∥ IsLaid t
   pub id_page_there : (range : IdRange) → option_map (λ (db : Database). page_of_ids range db) (finite.get (contents_in trees) name) ≡ Some (id_page range (live_rows (listed_by_id trees k.0)))
   id_page_there range =
       ap (option_map (λ (db : Database). page_of_ids range db)) t.database
-      ∙ ap (λ rs. Some (id_page range rs)) (∥∥₁_elim lay (id_rows_set _ _) (live_by_id trees t.row) ∙ ap (λ (v : FoundValues). live_rows (listed_by_id trees v.0)) t.values)
+      ∙ ap (λ rs. Some (id_page range rs)) (∥∥₁_elim lay (id_rows_set _ _) (live_by_id trees t.row) ∙ ap (λ (v : NumberValues). live_rows (listed_by_id trees v.0)) t.values)
 
   -- ---- by sequence
 
@@ -73,22 +54,22 @@ module _ (trees : Trees) (name : List ℕ) (k : FoundValues) (lay : ∥ IsLaid t
       ∙ ap (λ c. Some (sequence_page range (length_of t.row) (if_counted range.counted c) (in_sequence (rows_of range.all_leaves documents)))) counts
 
   pub winners_there : (range : SeqRange) → range.all_leaves ≡ false
-      → option_map (λ (db : Database). page_by_sequence range db) (finite.get (contents_in trees) name) ≡ Some (winners_page range k.2 (listed_by_sequence trees k.0))
+      → option_map (λ (db : Database). page_by_sequence range db) (finite.get (contents_in trees) name) ≡ Some (winners_page range k.1 (listed_by_sequence trees k.0))
   winners_there range is =
       let rows = ap (λ all. in_sequence (rows_of all documents)) is ∙ with_winners in
       page_there range
       ∙ ap (λ rs. Some (sequence_page range (length_of t.row) (if_counted range.counted (listed_counts (listed_by_sequence trees (number_of t.row)))) rs)) rows
-      ∙ ap (λ (v : FoundValues). Some (winners_page range v.2 (listed_by_sequence trees v.0))) t.values
+      ∙ ap (λ (v : NumberValues). Some (winners_page range v.1 (listed_by_sequence trees v.0))) t.values
 
   pub leaves_there : (range : SeqRange) → range.all_leaves ≡ true
-      → option_map (λ (db : Database). page_by_sequence range db) (finite.get (contents_in trees) name) ≡ Some (page_with_leaves (history_in (trees revs_tree) k.0) (winners_page range k.2 (listed_by_sequence trees k.0)))
+      → option_map (λ (db : Database). page_by_sequence range db) (finite.get (contents_in trees) name) ≡ Some (page_with_leaves (history_in (trees revs_tree) k.0) (winners_page range k.1 (listed_by_sequence trees k.0)))
   leaves_there range is =
       let n = number_of t.row in
       let rows = ap (λ all. in_sequence (rows_of all documents)) is ∙ with_all ∙ leaves_rows trees n (listed_by_sequence trees n) in
       page_there range
       ∙ ap (λ rs. Some (sequence_page range (length_of t.row) (if_counted range.counted (listed_counts (listed_by_sequence trees n))) rs)) rows
       ∙ ap Some (page_kept (history_in (trees revs_tree) n) range (length_of t.row) (if_counted range.counted (listed_counts (listed_by_sequence trees n))) (map sequence_row (listed_by_sequence trees n)))
-      ∙ ap (λ (v : FoundValues). Some (page_with_leaves (history_in (trees revs_tree) v.0) (winners_page range v.2 (listed_by_sequence trees v.0)))) t.values
+      ∙ ap (λ (v : NumberValues). Some (page_with_leaves (history_in (trees revs_tree) v.0) (winners_page range v.1 (listed_by_sequence trees v.0)))) t.values
 
 -- the documents of the rows in an index
 indexed : (trees : Trees) (db : ℤ) (fields : List (List ℕ)) (rows : List Row) → AllByRecursion (λ r. is_in db r ≡ true) rows
@@ -97,7 +78,7 @@ indexed trees db fields [] all = refl
 indexed trees db fields (r ∷ rows) all =
     ap₂ (λ n es. put_in_index fields (id_of r) (queried_document (id_of r) (history_in (trees revs_tree) n (id_of r))) es) (same_int (db_of r) db all.0) (indexed trees db fields rows all.1)
 
-module _ (trees : Trees) (name : List ℕ) (k : FoundValues) (lay : ∥ IsLaid trees ∥₁) (t : IsThere trees name k) where
+module _ (trees : Trees) (name : List ℕ) (k : NumberValues) (lay : ∥ IsLaid trees ∥₁) (t : IsThere numbers_in trees name k) where
   -- ---- by key
 
   places_found : (fields : List (List ℕ)) → index_rows fields (database_of trees t.row) ≡ places_of fields (history_in (trees revs_tree) k.0) (map listed_id (listed_by_id trees k.0))
@@ -105,7 +86,7 @@ module _ (trees : Trees) (name : List ℕ) (k : FoundValues) (lay : ∥ IsLaid t
       let n = number_of t.row in
       let own = all_sorted (λ r. is_in n r ≡ true) by_id (filter (is_in n) (trees docs_tree)) (passing (is_in n) (trees docs_tree)) in
       ∥∥₁_elim lay (places_set _ _) (λ l. ap (λ es. map (λ e. e.0) (index_over fields es)) (documents_by_id trees t.row l) ∙ ap (map (λ e. e.0)) (indexed trees n fields (sort_by by_id (filter (is_in n) (trees docs_tree))) own))
-      ∙ ap (λ (v : FoundValues). places_of fields (history_in (trees revs_tree) v.0) (map listed_id (listed_by_id trees v.0))) t.values
+      ∙ ap (λ (v : NumberValues). places_of fields (history_in (trees revs_tree) v.0) (map listed_id (listed_by_id trees v.0))) t.values
 
   key_page_by : (range : KeyRange) (design index : List ℕ) → option_map (λ (db : Database). page_of_keys range design index db) (finite.get (contents_in trees) name)
       ≡ Some (option_map (λ fields. key_page range (index_rows fields (database_of trees t.row))) (index_fields_of design (history_in (trees revs_tree) k.0 design) index))

@@ -1,11 +1,7 @@
 -- An index that is made a document at a time, the last first.
-use Rattle.std.proofs.Common.{◌≡◌, ℕ, List, [], ◌∷◌, ◌++◌, map, refl, sym, ap, ◌∙◌}
+use Rattle.sqlstore.proofs.Common.{HistoryContent, IndexPlace, List, [], ap, map, place_views, places_of, put_in_index, queried_document, refl, sym, with_documents, ℕ, ◌++◌, ◌∙◌, ◌∷◌, ◌≡◌}
 use Rattle.couch_json.specs.Value.{Value}
 use Rattle.couch_json.specs.declared.value.Json.{Json}
-use Rattle.tree.specs.History.{HistoryContent}
-use Rattle.store.specs.Indexes.{IndexPlace, put_in_index, queried_document}
-use Rattle.store.specs.Plain.{place_views}
-use Rattle.sqlstore.specs.Listing.{places_of, with_documents}
 
 module _ (fields : List (List ℕ)) (history : List ℕ → HistoryContent) where
   with_documents-push : (ids : List (List ℕ)) (id : List ℕ) (among : List (IndexPlace × Value))

@@ -1,3 +1,4 @@
+pub mod Common
 pub mod Standing
 pub mod ContentsCode
 pub mod Changing
@@ -12,3 +13,4 @@ pub mod Afterwards
 pub mod Indexing
 mod OpenedAgain
 pub mod Making
+pub mod Lemmas

@@ -1,33 +1,13 @@
 -- The rows of a list of documents: that they are intact, and what pages they make.
-use base.Stored.{Coded-set}
-use Rattle.std.proofs.Common.{◌≡◌, ◌≤◌, ◌<◌, ◌^◌, ◌+◌, ◌-◌, ◌||◌, ℕ, ℤ, Bool, true, false, not, cond, List, [], ◌∷◌, ◌++◌, length, map, filter, find, drop, get_or, nat_lt, Option, Some, None, Ordering, refl, sym, ap, ap₂, ◌∙◌, arith}
-use Rattle.std.proofs.lemmas.List.{append_assoc, append-nil, drop_all, get_or-map, length-map, take-map}
+use Rattle.sqlstore.proofs.Common.{All, AllByRecursion, Bool, Coded, Coded-set, HistoryContent, IdRow, IndexPlace, IsDatabaseRow, IsDocumentRow, IsLaid, IsListedDocument, IsSequenceRow, List, None, Option, Ordering, Revision, Row, SeqRange, SeqRow, SequenceRow, Some, Trees, [], all-filter, all_both, all_map, ap, ap₂, arith, by_id, by_sequence, code_by, coded_bool, coded_list, coded_ℕ, coded×, cond, count_by, dbs_tree, docs_tree, drop, drop_all, false, filter, find, get_or, get_or-map, is_in, last_sequence, later_rows, leaves_row, length, length-map, list_any, listed_by_sequence, listed_counts, listed_document, listed_mark, map, map-map, nat_lt, not, page_with_leaves, place_code, refl, revision_code, revs_tree, sequence_of, sequence_page, sequence_row, sequence_row_of, sequence_rows, sort_by, sym, true, up_to_limit, with_leaves, ℕ, ℤ, ◌++◌, ◌+◌, ◌-◌, ◌<◌, ◌^◌, ◌||◌, ◌∙◌, ◌∷◌, ◌≡◌, ◌≤◌}
+use Rattle.std.proofs.lemmas.List.{append_assoc, append-nil, take-map}
 use Rattle.std.proofs.lemmas.List.Sums.{sum_by-cons}
-use Rattle.std.specs.Coded.{Coded, code_by, coded×, coded_bool, coded_list, coded_ℕ}
-use Rattle.std.specs.List.{All, AllByRecursion, count_by, list_any}
-use Rattle.tree.specs.History.{HistoryContent}
-use Rattle.tree.specs.Revision.{Revision, revision_code}
-use Rattle.store.specs.Indexes.{IndexPlace, place_code}
-use Rattle.store.specs.Pages.{SequenceRow, last_sequence, later_rows, sequence_page, up_to_limit}
-use Rattle.store.specs.Paging.{sequence_row_of, sequence_rows}
 use Rattle.store.specs.contracts.page.DocumentCounts as document_counts
 use Rattle.store.specs.contracts.page.IdRow as id_row
 use Rattle.store.specs.declared.page.DocumentCounts.{DocumentCounts}
-use Rattle.store.specs.declared.page.IdRow.{IdRow}
-use Rattle.store.specs.declared.page.SeqRange.{SeqRange}
-use Rattle.store.specs.declared.page.SeqRow.{SeqRow}
-use Rattle.sqlite_value.specs.Order.{Row}
-use Rattle.sqlite_trees.specs.Tree.{Trees}
-use Rattle.sqlite_keyed.proofs.ListLemmas.{all_both, map-map}
-use Rattle.sqlite_keyed.specs.Lists.{sort_by}
-use Rattle.tables.specs.Layout.{IsDatabaseRow, IsDocumentRow, IsLaid}
-use Rattle.tables.specs.Listings.{IsListedDocument, leaves_row, listed_counts, listed_mark, sequence_row}
-use Rattle.tables.specs.Rows.{by_id, by_sequence, is_in, listed_document, sequence_of}
-use Rattle.tables.specs.Schema.{dbs_tree, docs_tree, revs_tree}
-use Rattle.tables.proofs.ListingRows.{rows_of_a_listing}
+use Rattle.tables.proofs.ListingRows.{both_counted, rows_of_a_listing}
 use Rattle.tables.proofs.Sorted.{all_sorted}
-use Rattle.sqlstore.specs.Listing.{IsSequenceRow, listed_by_sequence, page_with_leaves, row_counts, with_leaves}
-use Rattle.transactions.proofs.Rows.{all_left, all_shown}
+use Rattle.sqlstore.specs.Listing.{row_counts}
 
 -- ---- rows are told apart by numbers
 
@@ -52,7 +32,7 @@ places_set = Coded-set (coded_list place_code)
 
 pub listed_intact : (by : Row → Row → Ordering) (trees : Trees) (db : ℤ) → IsLaid trees → AllByRecursion IsListedDocument (map listed_document (sort_by by (filter (is_in db) (trees docs_tree))))
 listed_intact by trees db l =
-    all_shown IsListedDocument listed_document _ (all_sorted (λ r. IsListedDocument (listed_document r)) by _ (all_left (λ r. IsListedDocument (listed_document r)) (is_in db) _ (rows_of_a_listing trees l)))
+    all_map IsListedDocument listed_document _ (all_sorted (λ r. IsListedDocument (listed_document r)) by _ (all-filter (λ r. IsListedDocument (listed_document r)) (is_in db) _ (rows_of_a_listing trees l)))
 
 -- the row that is found is that of a database
 database_at : (p : Row → Bool) (rows : List Row) → AllByRecursion IsDatabaseRow rows → list_any p rows ≡ true → (d : Row) × (find p rows ≡ Some d) × IsDatabaseRow d
@@ -74,7 +54,7 @@ sequences_intact trees db l =
     let P : Row → Type 0 = λ r. IsSequenceRow (listed_document r) in
     let each : AllByRecursion (λ r. IsSequenceRow (listed_document r)) (trees docs_tree) =
     all_both (λ r. IsListedDocument (listed_document r)) (IsDocumentRow trees) P (λ r listed k. record { listed = listed; small = small_sequence trees l r k }) (trees docs_tree) (rows_of_a_listing trees l) l.docs in
-    all_shown IsSequenceRow listed_document _ (all_sorted P by_sequence _ (all_left P (is_in db) _ each))
+    all_map IsSequenceRow listed_document _ (all_sorted P by_sequence _ (all-filter P (is_in db) _ each))
 
 -- ---- counts
 
@@ -88,15 +68,6 @@ marked (s ∷ rows) (r ∷ read) e =
     sum_by-cons (λ (y : SeqRow). cond y.deleted 1 0) r read
     ∙ ap₂ (λ b n. cond b 1 0 + n) (sym (ap (λ (q : SequenceRow). q.deleted) first)) (marked rows read rest)
     ∙ sym (sum_by-cons (λ y. cond (listed_mark y) 1 0) s rows)
-
-both_counted : (p : Row → Bool) (xs : List Row) → count_by p xs + count_by (λ x. not (p x)) xs ≡ length xs
-both_counted p [] = omega arith
-both_counted p (x ∷ xs) =
-    go (p x) (count_by p (x ∷ xs)) (count_by (λ y. not (p y)) (x ∷ xs)) (sum_by-cons (λ y. cond (p y) 1 0) x xs) (sum_by-cons (λ y. cond (not (p y)) 1 0) x xs) (both_counted p xs)
-  where
-    go : (c : Bool) (m n : ℕ) → m ≡ cond c 1 0 + count_by p xs → n ≡ cond (not c) 1 0 + count_by (λ y. not (p y)) xs → count_by p xs + count_by (λ y. not (p y)) xs ≡ length xs → m + n ≡ length (x ∷ xs)
-    go true m n a b more = omega (arith, a, b, more)
-    go false m n a b more = omega (arith, a, b, more)
 
 pub counts_read : (rows : List Row) (read : List SeqRow) → map sequence_row rows ≡ sequence_rows read → row_counts read ≡ listed_counts rows
 counts_read rows read is =

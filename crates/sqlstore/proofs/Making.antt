@@ -1,32 +1,13 @@
 -- What each change makes of the tables, whose rows are those that the last change left.
-use Rattle.std.proofs.Common.{◌≡◌, ◌<◌, ◌^◌, ◌∙◌, ℕ, ℤ, pos, List, IsTrue, None, Some, option_map, ap, subst, sym}
-use Rattle.std.specs.FinMap.{get, insert, remove}
-use Rattle.couch_json.specs.Canonical.{canonical}
-use Rattle.couch_json.specs.Lawful.{IsLawful}
+use Rattle.sqlstore.proofs.Common.{Addition, AreDue, Changes, Clears, Database, HasNumber, HasWritten, IfSome, IsBody, IsKnown, IsLawful, IsStore, IsTrue, KnownDatabase, List, LocalDocument, None, Option, Replaces, Some, Trees, ap, ap₂, at_sequence, canonical, closed_security, contents_in, database_cells, database_of, dbs_tree, filter, found_in, get, insert, is_database_name, is_document_id, is_named, is_security, known_values, length, length_of, new_database, option_map, pos, remove, rows_with_security, slice_get, subst, sym, with_all, with_cells, with_local, with_security, writings_in, ℕ, ℤ, ◌+◌, ◌<◌, ◌^◌, ◌∙◌, ◌≡◌}
 use Rattle.couch_json.specs.Value.{Value}
-use Rattle.policy.specs.Security.{closed_security, is_security}
-use Rattle.sqlite.specs.Effect.{Database}
-use Rattle.sqlite_trees.specs.Tree.{Trees}
-use Rattle.store.specs.Contents.{new_database, with_local, with_security}
-use Rattle.store.specs.Database.{with_all}
-use Rattle.store.specs.DatabaseName.{is_database_name}
-use Rattle.store.specs.Lawful.{IsBody}
-use Rattle.store.specs.Writing.{Addition, writings_in}
-use Rattle.store.specs.declared.local_document.LocalDocument.{LocalDocument}
 use Rattle.tables.proofs.Lookups.{database_there}
-use Rattle.tables.proofs.LocalChanges.{another_local, written_store}
-use Rattle.tables.proofs.NewDatabases.{new_contents, new_store}
-use Rattle.tables.proofs.Removed.{fewer_databases, removed_store}
-use Rattle.tables.proofs.Secured.{another_security, secured_store}
-use Rattle.tables.specs.Edits.{HasWritten}
-use Rattle.tables.specs.Layout.{IsStore}
-use Rattle.tables.specs.Rows.{contents_in, database_cells, database_of, rows_with_security, with_cells}
-use Rattle.tables.specs.Schema.{dbs_tree}
-use Rattle.tables.specs.Steps.{Changes}
-use Rattle.tree.specs.DocumentId.{is_document_id}
-use Rattle.transactions.specs.Commits.{AreDue}
-use Rattle.transactions.specs.Sequences.{Clears, Replaces}
-use Rattle.sqlstore.specs.Reading.{HasNumber}
+use Rattle.tables.proofs.LocalChanges.{written_store}
+use Rattle.tables.proofs.NewDatabases.{new_store}
+use Rattle.tables.proofs.Removed.{removed_store}
+use Rattle.tables.proofs.Secured.{secured_store}
+use Rattle.sqlstore.proofs.ListedRows.{same_values}
+use Rattle.transactions.proofs.Committing.{length-writings_in}
 
 module _ (new : Database) (name : List ℕ) where
   -- a new database was put in
@@ -56,7 +37,7 @@ module _ (new : Database) (name : List ℕ) where
         let free = ap (λ trees. get (contents_in trees) name) same ∙ none in
         let row = subst (λ t. Changes dbs_tree (with_cells (old.trees dbs_tree) (database_cells name t (pos 0))) old new) spelled
         (subst (λ n. Changes dbs_tree (with_cells (old.trees dbs_tree) (database_cells n text (pos 0))) old new) named change) in
-        (new_store old new name is lawful free row, new_contents old new name is lawful free row)
+        new_store old new name is lawful free row
 
     module _ (number : ℤ) (has : HasNumber last name number) where
       there : HasNumber old.trees name number
@@ -67,23 +48,19 @@ module _ (new : Database) (name : List ℕ) where
       secures v text security lawful spelled change =
           let row = subst (λ k. Changes dbs_tree (rows_with_security k (canonical v) (old.trees dbs_tree)) old new) (sym there.numbered)
           (subst (λ t. Changes dbs_tree (rows_with_security number t (old.trees dbs_tree)) old new) spelled change) in
-          (secured_store old new name there.row v is there.first security lawful row, another_security old new name there.row v is there.first security lawful row)
+          secured_store old new name there.row v is there.first security lawful row
 
       pub clears : Clears number old new → IsStore new × IsRemoved old
       clears change =
-          let c = subst (λ n. Clears n old new) (sym there.numbered) change in (
-            removed_store old c.undocumented c.unwritten c.bare new name there.row is there.first c.documents c.revisions c.locals c.row,
-            fewer_databases old c.undocumented c.unwritten c.bare new name there.row is there.first c.documents c.revisions c.locals c.row,
-          )
+          let c = subst (λ n. Clears n old new) (sym there.numbered) change in
+          removed_store old c.undocumented c.unwritten c.bare new name there.row is there.first c.documents c.revisions c.locals c.row
 
       pub puts : (id given text : List ℕ) (document : LocalDocument) → IsTrue (is_document_id id) → IsBody document.body → IsLawful document.body → document.number < 2 ^ 32 → given ≡ id → text ≡ canonical document.body
           → Replaces number given document.number text old new → IsStore new × HasLocal id document old
       puts id given text document named body lawful small same_id spelled change =
           let c = subst (λ k. Replaces k id document.number (canonical document.body) old new) (sym there.numbered)
-          (subst (λ x. Replaces number x document.number (canonical document.body) old new) same_id (subst (λ x. Replaces number given document.number x old new) spelled change)) in (
-            written_store old c.mid new name there.row id document is there.first named body lawful small c.out c.put,
-            another_local old c.mid new name there.row id document is there.first named body lawful small c.out c.put,
-          )
+          (subst (λ x. Replaces number x document.number (canonical document.body) old new) same_id (subst (λ x. Replaces number given document.number x old new) spelled change)) in
+          written_store old c.mid new name there.row id document is there.first named body lawful small c.out c.put
 
     pub appends : (all : List Addition) (number : ℤ) (sequence : ℕ) → AreDue all name number sequence last
         → ((due : AreDue all name number sequence old.trees) → HasWritten (writings_in (database_of old.trees due.row) all) name due.row old new) → IsStore new × IsWritten all old
@@ -91,3 +68,24 @@ module _ (new : Database) (name : List ℕ) where
         let here = subst (AreDue all name number sequence) (sym same) due in
         let w = writes here in
         (w.store, ap (option_map (λ db. insert (contents_in old.trees) name (with_all db (writings_in db all)))) (database_there old.trees is.laid name here.row here.first) ∙ ap Some (sym w.contents))
+
+    -- what was known of the database is known of it at its new sequence
+    pub advances : (all : List Addition) (number : ℤ) (sequence : ℕ) → AreDue all name number sequence last
+        → ((due : AreDue all name number sequence old.trees) → HasWritten (writings_in (database_of old.trees due.row) all) name due.row old new)
+        → (k : KnownDatabase) → k.name ≡ name → IsKnown last (Some k) → IsKnown new.trees (Some (at_sequence (sequence + length all) k))
+    advances all number sequence due writes k named known =
+        let here = subst (AreDue all name number sequence) (sym same) due in
+        let w = writes here in
+        let was : Some (found_in here.row) ≡ Some (known_values k) =
+        ap (option_map found_in) (sym here.first) ∙ ap₂ (λ (t : Trees) n. option_map found_in (slice_get (filter (is_named n) (t dbs_tree)) 0)) same (sym named) ∙ known in
+        let values : found_in here.row ≡ known_values k = same_values _ _ was in
+        let count : length_of here.row + length (writings_in (database_of old.trees here.row) all) ≡ sequence + length all = ap₂ ◌+◌ here.counted (length-writings_in (database_of old.trees here.row) all) in
+        ap (λ n. option_map found_in (slice_get (filter (is_named n) (new.trees dbs_tree)) 0)) named ∙ ap (option_map found_in) w.row
+        ∙ (λ i. Some ((values i).0, (values i).1, count i))
+
+-- what is known after it, of what was known before
+pub known_after : (trees : Trees) (known : Option KnownDatabase) (name : List ℕ) (sequence : ℕ) (r : Option KnownDatabase)
+    → IfSome r (λ now. (was : KnownDatabase) × (known ≡ Some was) × (was.name ≡ name) × (now ≡ at_sequence sequence was))
+    → ((was : KnownDatabase) → known ≡ Some was → was.name ≡ name → ∥ IsKnown trees (Some (at_sequence sequence was)) ∥₁) → ∥ IsKnown trees r ∥₁
+known_after trees known name sequence None h so = ∣ tt ∣₁
+known_after trees known name sequence (Some now) h so = subst (λ k. ∥ IsKnown trees (Some k) ∥₁) (sym h.3) (so h.0 h.1 h.2)

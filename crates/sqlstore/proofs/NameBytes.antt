@@ -1,28 +1,11 @@
 -- The name of a database is ASCII, and the rows of the names.
-use base.Stored.{Coded-set}
-use Rattle.std.proofs.Common.{◌≡◌, ◌<◌, ℕ, true, List, [], ◌∷◌, map, Option, Some, IsTrue, refl, sym, ap, subst, ◌∙◌, arith}
-use Rattle.std.specs.Coded.{coded_list, coded_option, coded_ℕ}
+use Rattle.sqlstore.proofs.Common.{AllByRecursion, Coded-set, IsDatabaseRow, IsLaid, IsPermutation-sort_by, IsPermutation-sym, IsShownName, IsTrue, List, Option, Row, Some, Trees, [], all_map, all_weaker, and_parts, ap, arith, by_name, coded_list, coded_option, coded_ℕ, column, contents_in, dbs_tree, is_database_name, is_name_byte, list_all, map, map-map, name_of, name_shown, nat_list_cmp_total, on_total, refl, shown_name, sort_by, subst, sym, true, ℕ, ◌<◌, ◌∙◌, ◌∷◌, ◌≡◌}
 use Rattle.std.specs.FinMap as finite
-use Rattle.std.specs.List.{AllByRecursion, list_all}
 use Rattle.std.specs.Str.{IsAscii, IsUtf8}
-use Rattle.std.proofs.lemmas.Bool.{and_parts}
-use Rattle.std.proofs.lemmas.Cmp.{nat_list_cmp_total, on_total}
-use Rattle.std.proofs.lemmas.List.Sorted.{IsPermutation-sym}
 use Rattle.std.proofs.lemmas.Str.{IsUtf8-from_ascii}
 use Rattle.std.proofs.lemmas.Str.Ascii.{IsAscii-nil, IsAscii-cons}
-use Rattle.store.specs.DatabaseName.{is_database_name, is_name_byte}
-use Rattle.sqlite_value.specs.Order.{Row, column}
-use Rattle.sqlite_trees.specs.Tree.{Trees}
 use Rattle.sqlite_trees.proofs.ListLemmas.{all-permutation}
-use Rattle.sqlite_keyed.specs.Lists.{sort_by}
-use Rattle.sqlite_keyed.proofs.ListLemmas.{all_weaker, map-map}
-use Rattle.sqlite_keyed.proofs.SortLemmas.{IsPermutation-sort_by}
-use Rattle.tables.specs.Layout.{IsDatabaseRow, IsLaid}
-use Rattle.tables.specs.Rows.{by_name, contents_in, name_of, shown_name}
-use Rattle.tables.specs.Schema.{dbs_tree}
 use Rattle.tables.proofs.Lookups.{names_found}
-use Rattle.sqlstore.specs.Reading.{IsShownName, name_shown}
-use Rattle.transactions.proofs.Rows.{all_shown}
 
 small : (b : ℕ) → is_name_byte b ≡ true → b < 128
 small b h = grind arith
@@ -41,7 +24,7 @@ shown_row r h = record { width = refl; name = ap (λ x. column x 2) h.is; lawful
 pub names_intact : (trees : Trees) (rows : List Row) → IsLaid trees → rows ≡ map shown_name (sort_by by_name (trees dbs_tree)) → AllByRecursion IsShownName rows
 names_intact trees rows l is =
     subst (AllByRecursion IsShownName) (sym is)
-    (all_shown IsShownName shown_name _ (all-permutation (λ r. IsShownName (shown_name r)) (trees dbs_tree) _ (IsPermutation-sym _ _ (IsPermutation-sort_by by_name (on_total name_of nat_list_cmp_total) (trees dbs_tree))) (all_weaker IsDatabaseRow (λ r. IsShownName (shown_name r)) shown_row _ l.dbs)))
+    (all_map IsShownName shown_name _ (all-permutation (λ r. IsShownName (shown_name r)) (trees dbs_tree) _ (IsPermutation-sym _ _ (IsPermutation-sort_by by_name (on_total name_of nat_list_cmp_total) (trees dbs_tree))) (all_weaker IsDatabaseRow (λ r. IsShownName (shown_name r)) shown_row _ l.dbs)))
 
 pub names_set : IsSet (Option (List (List ℕ)))
 names_set = Coded-set (coded_option (coded_list (coded_list coded_ℕ)))

@@ -1,21 +1,9 @@
 -- A store that is closed and opened again is as it was.
-use Rattle.std.proofs.Common.{◌≡◌, ◌≢◌, ◌⊎◌, inl, inr, false, true, Result, Ok, Err, IsTrue, ap, subst, sym, ◌∙◌}
-use Rattle.std.proofs.Math.Logic.{∥∥₁_elim, ∥∥₁_map, ∥∥₁_prop}
+use Rattle.sqlstore.proofs.Common.{Contents, Database, Err, Ghosts, HasCleanDisk, Held, IsStore, IsTrue, Ok, Result, SqlStore, ap, contents_in, contents_of, false, has_all, inl, inr, is_clean, is_honest, schema, state, subst, sym, true, ∥∥₁_elim, ∥∥₁_map, ∥∥₁_prop, ◌∙◌, ◌≡◌, ◌≢◌, ◌⊎◌}
 use Rattle.std.specs.Prelude.{IfErr, IfOk}
-use Rattle.sqlite_trees.specs.declared.store.Store.{Ghosts}
-use Rattle.sqlite.specs.Effect.{Database}
-use Rattle.sqlite.specs.Held.{Held, state}
-use Rattle.sqlite.specs.State.{HasCleanDisk}
-use Rattle.store.specs.Contents.{Contents}
-use Rattle.tables.specs.Layout.{IsStore}
-use Rattle.tables.specs.Presence.{has_all}
-use Rattle.tables.specs.Rows.{contents_in}
-use Rattle.tables.specs.Schema.{schema}
 use Rattle.sqlstore.proofs.ContentsCode.{contents_set}
-use Rattle.sqlstore.specs.Model.{contents_of, is_clean, is_honest}
 use Rattle.sqlstore.specs.declared.open_fault.OpenFault.{OpenFault}
 use Rattle.sqlstore.specs.declared.open_fault.OpenFault.TheVariants.{NotOurs}
-use Rattle.sqlstore.specs.declared.sql_store.SqlStore.{SqlStore}
 
 -- a connection that, where it is open, has the rows of a store with these contents
 module _ {S : Type 0} (g : Ghosts S) (contents : Contents) (conn : Held S)

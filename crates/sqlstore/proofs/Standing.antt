@@ -1,18 +1,6 @@
 -- What calls of a store leave, one after the other.
-use Rattle.std.proofs.Common.{◌≡◌, ◌⊎◌, inl, inr, IfOk, IsTrue, Result, Ok, Err, sym, ap, subst, ◌∙◌}
-use Rattle.std.proofs.Math.Logic.{∥∥₁_elim, ∥∥₁_map}
-use Rattle.sqlite_trees.specs.declared.store.Store.{Ghosts}
-use Rattle.sqlite_trees.specs.Props.{Trees-set}
-use Rattle.sqlite_trees.specs.Tree.{Trees}
-use Rattle.sqlite.specs.Effect.{Database}
-use Rattle.sqlite.specs.Held.{Held, state}
-use Rattle.sqlite.specs.State.{HasCleanDisk}
-use Rattle.tables.specs.Calls.{Reads}
-use Rattle.tables.specs.Steps.{Asks, OnlyLooks}
-use Rattle.tables.specs.Layout.{IsStore}
-use Rattle.tables.specs.Schema.{schema}
-use Rattle.sqlstore.specs.Standing.{Holds, IsHeld, IsStanding, WasStore}
-use Rattle.sqlstore.specs.declared.sql_store.SqlStore.{SqlStore}
+use Rattle.sqlstore.proofs.Common.{Asks, Database, Err, Error, Finds, Ghosts, HasCleanDisk, Held, Holds, IfErr, IfOk, IsHeld, IsStanding, IsStore, IsTrue, KnownDatabase, None, Ok, OnlyLooks, Option, Reads, Result, SqlStore, StoreFault, Trees, Trees-set, WasStore, ap, inl, inr, schema, state, subst, sym, ∥∥₁_elim, ∥∥₁_map, ◌∙◌, ◌≡◌, ◌≤◌, ◌⊎◌}
+use Rattle.sqlstore.specs.Causes.{IsJudged}
 
 module _ {S : Type 0} (g : Ghosts S) (old new origin last : Held S) where
   -- the rows are as they were, whichever way a query ended
@@ -32,11 +20,13 @@ module _ {S : Type 0} (g : Ghosts S) (old new origin last : Held S) where
   }
 
   -- and the store stands
-  pub still : {X E : Type 0} {IsFit : Database → Type 0} {Is : Trees → X → Type 0} {r : Result X E} → Reads g IsFit old new Is r → IsStanding g old origin last → IsStanding g new origin last
+  pub still : {X E : Type 0} {IsFit : Database → Type 0} {Is : Trees → X → Type 0} {r : Result X E} {known : Option KnownDatabase} → Reads g IsFit old new Is r
+      → IsStanding g old origin last known → IsStanding g new origin last known
   still reads s = record {
     idle = reads.asks.mode s.idle;
     unlimited = reads.asks.limit ∙ s.unlimited;
     held = λ clean is. ∥∥₁_map (s.held (reads.asks.clean clean) is) (holds_on reads.asks reads.looks clean);
+    known_so = λ clean is. s.known_so (reads.asks.clean clean) is;
   }
 
   -- what a query answers is so in the rows that the last change left
@@ -53,6 +43,17 @@ module _ {S : Type 0} (g : Ghosts S) (old new origin last : Held S) where
   pub same_trees : IsHeld g old origin last → HasCleanDisk (state g old) → WasStore g origin → IsTrue (state g old).is_open → (state g old).now.trees ≡ (state g last).now.trees
   same_trees held clean is up = ∥∥₁_elim (held clean is) (Trees-set _ _) (λ h. ap (λ (d : Database). d.trees) (h.now up))
 
--- all that a store keeps true of its connection
-pub standing : {S : Type 0} (g : Ghosts S) (s : SqlStore S g) → IsStanding g s.conn s.origin.value s.last.value
-standing g s = record { idle = s.idle; unlimited = s.unlimited; held = s.held }
+-- it stands too where nothing is known of a database
+pub dropped : {S : Type 0} (g : Ghosts S) {conn origin last : Held S} {known : Option KnownDatabase} → IsStanding g conn origin last known → IsStanding g conn origin last None
+dropped g s = record { idle = s.idle; unlimited = s.unlimited; held = s.held; known_so = λ clean is. ∣ tt ∣₁ }
+
+-- what a statement reads and its answer told are what a store finds
+module _ {S : Type 0} (g : Ghosts S) (old new : SqlStore S g) {X : Type 0} (P : Trees → X → Type 0) (prop : (trees : Trees) (x : X) → IsProp (P trees x)) where
+  pub finds : {Is : Trees → X → Type 0} → ((trees : Trees) (x : X) → Is trees x → P trees x) → (answer : Result X Error) (r : Result X StoreFault)
+      → new.origin.value ≡ old.origin.value → new.last.value ≡ old.last.value → old.faults ≤ new.faults → IfOk r (λ x. answer ≡ Ok x) → IfErr r (IsJudged old.faults new.faults)
+      → Reads g IsStore old.conn new.conn Is answer → Finds g P old new r
+  finds so answer r origin last counted told judged reads = record {
+    found = λ honest. found g old.conn new.conn old.origin.value old.last.value P prop so answer r told reads old.standing.held honest.0 (subst (WasStore g) origin honest.1);
+    judged = judged;
+    stands = record { origin = origin; last = last; counted = counted; clean = reads.asks.clean };
+  }

@@ -1,10 +1,5 @@
 -- What is told of the tables of a store.
-use Rattle.std.proofs.Common.{◌≡◌, true, false, Bool, ap, ◌∙◌}
-use Rattle.sqlite.specs.Effect.{Database}
-use Rattle.sqlite_schema.specs.declared.schema.Schema.{Schema}
-use Rattle.tables.specs.Layout.{IsStore}
-use Rattle.tables.specs.Presence.{has_all}
-use Rattle.tables.specs.Schema.{schema}
+use Rattle.sqlstore.proofs.Common.{Bool, Database, IsStore, Schema, ap, false, has_all, schema, true, ◌∙◌, ◌≡◌}
 use Rattle.tables.specs.declared.meta.FoundTables.{FoundTables}
 use Rattle.tables.specs.declared.meta.FoundTables.TheVariants.{Nothing, Others, All}
 use Rattle.tables.proofs.Laid.{ours_has_all}

@@ -1,6 +1,6 @@
 pub mod Causes
+pub mod Reading
 pub mod Standing
 pub mod Model
-pub mod Reading
 pub mod Commits
 pub mod Listing

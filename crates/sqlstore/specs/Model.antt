@@ -1,6 +1,6 @@
 -- What a store over SQLite holds, when clauses say something of it, and what a reader leaves.
 -- This server's own: the contents are those of the rows as the last change left them; the words of calls are those of the trait `Store`.
-use Rattle.std.specs.Prelude.{◌≡◌, ◌≤◌, ◌<◌, ◌+◌, ◌^◌, ℕ, false, List, length, Option, Some, Result}
+use Rattle.std.specs.Prelude.{◌≡◌, ◌≤◌, ◌<◌, ◌+◌, ◌^◌, ℕ, false, List, length, Option, Some, Result, IfErr, IfOk}
 use Rattle.std.specs.FinMap.{get}
 use Rattle.sqlite_trees.specs.declared.store.Store.{Ghosts}
 use Rattle.sqlite_trees.specs.Tree.{Trees}
@@ -11,6 +11,7 @@ use Rattle.store.specs.Contents.{Contents}
 use Rattle.store.specs.Database.{Database, DocumentWrite}
 use Rattle.store.specs.Leaving as leaving
 use Rattle.store.specs.declared.fault.StoreFault.{StoreFault}
+use Rattle.sqlstore.specs.Causes.{IsJudged}
 use Rattle.sqlstore.specs.Standing.{WasStore}
 use Rattle.tables.specs.Rows.{contents_in, next_number}
 use Rattle.tables.specs.Schema.{dbs_tree}
@@ -49,6 +50,12 @@ module _ {S : Type 0} (g : Ghosts S) where
     pub last : new.last.value ≡ old.last.value
     pub counted : old.faults ≤ new.faults
     pub clean : is_clean new → is_clean old
+
+  -- what a query answers, of the rows as the last change left them, and what it leaves
+  pub record Finds {X : Type 0} (Is : Trees → X → Type 0) (old new : SqlStore S g) (r : Result X StoreFault) : Type 0 where
+    pub found : is_honest new → IfOk r (Is (trees_of old))
+    pub judged : IfErr r (IsJudged old.faults new.faults)
+    pub stands : Stands old new
 
   abbrev pub OnlyReads : SqlStore S g → SqlStore S g → Type 0
   OnlyReads old new = leaving.OnlyReads contents_of is_honest is_clean fault_count lacks_room lacks_number old new

@@ -2,12 +2,14 @@
 -- This server's own: rows are read by the words of `tables`.
 use Rattle.std.specs.Prelude.{◌≡◌, ℕ, ℤ, IsTrue, List, length, filter, slice_get, Some}
 use Rattle.couch_json.specs.Value as json
+use Rattle.couch_json.specs.View.{view}
 use Rattle.store.specs.DatabaseName.{is_database_name}
 use Rattle.sqlite_value.specs.declared.value.Value.TheVariants.{Blob}
 use Rattle.sqlite_value.specs.Order.{Row, bytes, column}
 use Rattle.tables.specs.Rows.{count_in, is_named, json_in, length_of, number_of, security_of, whole_in}
 use Rattle.sqlite_trees.specs.Tree.{Trees}
 use Rattle.tables.specs.Schema.{dbs_tree}
+use Rattle.sqlstore.specs.declared.known_database.KnownDatabase.{KnownDatabase}
 
 -- the number, the security object and the sequence of a database
 abbrev pub FoundValues : Type 0
@@ -16,6 +18,21 @@ FoundValues = ℤ × json.Value × ℕ
 -- of its row
 abbrev pub found_in : Row → FoundValues
 found_in r = (number_of r, security_of r, length_of r)
+
+-- its number and its sequence alone
+abbrev pub NumberValues : Type 0
+NumberValues = ℤ × ℕ
+
+abbrev pub numbers_in : Row → NumberValues
+numbers_in r = (number_of r, length_of r)
+
+-- what is known of a database
+abbrev pub known_values : KnownDatabase → FoundValues
+known_values k = (k.found.number, view k.found.security, k.found.sequence)
+
+-- the same, with this sequence
+abbrev pub at_sequence : ℕ → KnownDatabase → KnownDatabase
+at_sequence sequence k = record k { found = record k.found { sequence = sequence } }
 
 -- of what a query shows of its row
 abbrev pub found_shown : Row → FoundValues

@@ -1,10 +1,20 @@
 -- What a store keeps true of its connection: as the store opened it, as the last change left it, and as it is.
 -- This server's own: facts hold where the disk returned what was written and the tables were laid out when they were opened.
-use Rattle.std.specs.Prelude.{◌≡◌, false, None, IsTrue}
+use Rattle.std.specs.Prelude.{◌≡◌, false, filter, None, Option, option_map, slice_get, Some, IsTrue, ⊤}
 use Rattle.sqlite_trees.specs.declared.store.Store.{Ghosts}
 use Rattle.sqlite.specs.Held.{Held, state}
 use Rattle.sqlite.specs.State.{HasCleanDisk}
+use Rattle.sqlite_trees.specs.Tree.{Trees}
 use Rattle.tables.specs.Layout.{IsStore}
+use Rattle.tables.specs.Rows.{is_named}
+use Rattle.tables.specs.Schema.{dbs_tree}
+use Rattle.sqlstore.specs.Reading.{found_in, known_values}
+use Rattle.sqlstore.specs.declared.known_database.KnownDatabase.{KnownDatabase}
+
+-- what is known of a database is what its row says
+abbrev pub IsKnown : Trees → Option KnownDatabase → Type 0
+IsKnown trees None = ⊤
+IsKnown trees (Some k) = option_map found_in (slice_get (filter (is_named k.name) (trees dbs_tree)) 0) ≡ Some (known_values k)
 
 module _ {S : Type 0} (g : Ghosts S) where
   -- the tables are laid out as the last change left them, and an open connection has those rows, with nothing that waits for a commit
@@ -22,7 +32,8 @@ module _ {S : Type 0} (g : Ghosts S) where
   IsHeld conn origin last = HasCleanDisk (state g conn) → WasStore origin → ∥ Holds conn last ∥₁
 
   -- all that a store keeps true of it
-  pub record IsStanding (conn origin last : Held S) : Type 0 where
+  pub record IsStanding (conn origin last : Held S) (known : Option KnownDatabase) : Type 0 where
     pub idle : conn.in_transaction ≡ false
     pub unlimited : conn.step_limit ≡ None
     pub held : IsHeld conn origin last
+    pub known_so : HasCleanDisk (state g conn) → WasStore origin → ∥ IsKnown (state g last).now.trees known ∥₁

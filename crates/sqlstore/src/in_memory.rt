@@ -131,5 +131,5 @@ impl Store for MemoryStore {
         self.store.faults()
     }
 
-    ghost lawful = { λ s honest. ∥∥₁_elim (s.store.held honest.0 honest.1) ∥∥₁_prop (λ h. h.store.laid.lawful) };
+    ghost lawful = { λ s honest. ∥∥₁_elim (s.store.standing.held honest.0 honest.1) ∥∥₁_prop (λ h. h.store.laid.lawful) };
 }

@@ -3,6 +3,7 @@
 
 mod fault;
 mod in_memory;
+mod known_database;
 mod listings;
 mod names;
 mod open_fault;

@@ -1,5 +1,4 @@
-ghost use Rattle.std.specs.Prelude.{◌≡◌, false, None};
-ghost use Rattle.sqlstore.specs.Standing.{IsHeld};
+ghost use Rattle.sqlstore.specs.Standing.{IsStanding};
 
 mod calls;
 mod changing;
@@ -10,6 +9,7 @@ mod numbered;
 mod page_rows;
 mod rows;
 
+use crate::known_database::KnownDatabase;
 use crate::open_fault::OpenFault;
 use crate::opening::find_tables;
 use sqlite::{Alter, Connection};
@@ -24,10 +24,10 @@ pub struct SqlStore<S: Alter> {
     origin: Snapshot<Connection<S>>,
     /// As the last change left it, for clauses alone.
     last: Snapshot<Connection<S>>,
+    /// The database that was asked for last. Whatever changes its row changes this or drops it.
+    known: Option<KnownDatabase>,
     faults: u64,
-    ghost idle: { conn.in_transaction ≡ false },
-    ghost unlimited: { conn.step_limit ≡ None },
-    ghost held: { IsHeld S.Store conn origin.value last.value },
+    ghost standing: { IsStanding S.Store conn origin.value last.value known },
 }
 
 // It is written out, so that a caller does not prove again how each part is dropped.
@@ -38,6 +38,7 @@ impl<S: Alter + Drop> Drop for SqlStore<S> {
             conn: _,
             origin: _,
             last: _,
+            known: _,
             faults: _,
         } = self;
     }
@@ -48,7 +49,7 @@ impl<S: Alter> SqlStore<S> {
 }
 
 impl<S: Alter + Drop> SqlStore<S> {
-    ghost use Rattle.std.specs.Prelude.{◌⊎◌, ◌≢◌, Err, IfErr, IfOk, IsTrue, true};
+    ghost use Rattle.std.specs.Prelude.{◌≡◌, ◌⊎◌, ◌≢◌, Err, IfErr, IfOk, IsTrue, false, true};
     ghost use Rattle.std.specs.FinMap.{empty};
     ghost use Rattle.sqlite.specs.Held.{state};
     ghost use Rattle.sqlite.specs.State.{HasCleanDisk};
@@ -101,6 +102,7 @@ impl<S: Alter + Drop> SqlStore<S> {
             conn,
             origin,
             last,
+            known: None,
             faults: 0,
         })
     }
@@ -118,6 +120,7 @@ impl<S: Alter + Drop> SqlStore<S> {
             conn,
             origin: _,
             last: _,
+            known: _,
             faults: _,
         } = self;
         conn

@@ -1,24 +1,12 @@
 -- What the tests of a statement say of the cells of a row.
-use Rattle.std.proofs.Common.{◌≡◌, ℕ, ℤ, pos, Bool, true, false, ◌&&◌, cond, bytes_eq, List, [], ◌∷◌, refl, ap, ◌∙◌, int_eq, int_lt}
-use Rattle.std.proofs.lemmas.Map.Text.{is_eq-slice_cmp}
-use Rattle.sqlite_value.specs.declared.value.Value.{Value}
-use Rattle.sqlite_value.specs.declared.value.Value.TheVariants.{Null, Int, Blob}
-use Rattle.sqlite_value.specs.declared.keys.Collation.TheVariants.{Binary}
-use Rattle.sqlite_value.specs.Order.{Row, column}
+use Rattle.tables.proofs.Common.{AllByRecursion, AreKeyed, Binary, Blob, Bool, Int, IsKeyed, List, Null, Row, Term, Value, [], all_weaker, ap, bytes_eq, cast, col, column, cond, db_of, false, holds, id_of, int_eq, int_lt, is_eq-slice_cmp, is_in, is_of, lies_between, list_all, op2, pos, refl, true, ℕ, ℤ, ◌&&◌, ◌∙◌, ◌∷◌, ◌≡◌}
 use Rattle.sqlite_sql.specs.declared.ops.BinaryOp.TheVariants.{Compare}
 use Rattle.sqlite_sql.specs.declared.ops.CompareOp.{CompareOp}
 use Rattle.sqlite_sql.specs.declared.ops.CompareOp.TheVariants.{Eq, Ge, Gt, Le}
 use Rattle.sqlite_sql.specs.Ops.{binary, unary, is_true}
-use Rattle.sqlite_sql.specs.Term.{Term, col, op2, holds}
-use Rattle.sqlite_rules.specs.Cast.{cast}
 use Rattle.sqlite_schema.specs.declared.schema.Kind.TheVariants.{Integer}
 use Rattle.sqlite_typed.proofs.TestLemmas.{at_ints, at_blobs, by_order, int_test, then_term, last_term}
 use Rattle.sqlite_typed.specs.Tests.{bytes_cmp}
-use Rattle.sqlite_keyed.proofs.ListLemmas.{all_weaker}
-use Rattle.std.specs.List.{AllByRecursion, list_all}
-use Rattle.tables.specs.Layout.{IsKeyed, AreKeyed}
-use Rattle.tables.specs.Listings.{lies_between}
-use Rattle.tables.specs.Rows.{db_of, id_of, is_in, is_of}
 
 -- a cell of the row against a parameter
 abbrev pub is_param : ℕ → ℕ → Term

@@ -1,19 +1,9 @@
 -- What the texts that make the tables mean.
-use Rattle.std.proofs.Common.{◌≡◌, ℕ, List, [], codes, false, None, Ok, Err, Result, OnOk, refl, sym, ap, subst, ◌∙◌}
+use Rattle.tables.proofs.Common.{AddsTable, CreateTable, Database, Err, IsEmpty, IsPlain, List, None, Ok, OnOk, Ran, Result, Schema, State, Table, Writes, [], ap, codes, command_of, everything, false, refl, runs_as, statement_of, subst, sym, understood, ℕ, ◌∙◌, ◌≡◌}
 use Rattle.sqlite_catalog.specs.Change.{created, next_tree, KeepsRows}
-use Rattle.sqlite.specs.Effect.{Database}
 use Rattle.sqlite.specs.Does.{Tally, lacks_sequence}
-use Rattle.sqlite.specs.State.{State, Writes}
 use Rattle.tables.proofs.Writes.{same_value, went}
-use Rattle.tables.specs.Layout.{IsEmpty}
-use Rattle.tables.specs.Steps.{Ran, AddsTable}
-use Rattle.sqlite_schema.specs.declared.schema.Schema.{Schema}
-use Rattle.sqlite_schema.specs.declared.schema.Table.{Table}
-use Rattle.sqlite_schema.specs.declared.command.Command.TheVariants.{CreateTable}
 use Rattle.sqlite_resolve.specs.Compile.{table_defined_by}
-use Rattle.sqlite_tied.specs.Compute.{everything}
-use Rattle.sqlite.specs.Listing.{understood}
-use Rattle.sqlite.proofs.Callers.{IsPlain, command_of, statement_of, runs_as}
 use Rattle.tables.specs.Schema as tables
 
 -- the text, in this schema, makes this table

@@ -1,39 +1,16 @@
 -- What the statements on databases mean.
-use Rattle.std.proofs.Common.{◌≡◌, ℕ, ℤ, pos, List, [], ◌∷◌, map, filter, codes, true, false, not, Ok, Err, Result, IfOk, OnOk, bytes_eq, refl, ap, ap₂, subst, drop, ◌∙◌, ◌≢◌, is_eq, Equal}
-use Rattle.std.specs.List.{AllByRecursion, list_all}
-use Rattle.sqlite_value.specs.declared.value.Value.TheVariants.{Null, Int, Text, Blob}
-use Rattle.sqlite_value.specs.Order.{Row, column}
-use Rattle.sqlite_trees.specs.Tree.{rowid}
-use Rattle.sqlite_sql.specs.Term.{Term, lit, col, holds}
-use Rattle.sqlite_rules.specs.Cast.{cast_row}
-use Rattle.std.specs.Ordering.{ordering_then}
-use Rattle.std.proofs.lemmas.Map.Text.{is_eq-slice_cmp}
-use Rattle.std.proofs.lemmas.Slice.Eq.{bytes_eq-Decides}
-use Rattle.sqlite_value.specs.declared.keys.Collation.TheVariants.{Binary}
-use Rattle.sqlite_value.specs.declared.keys.Key.{Key}
-use Rattle.sqlite_value.specs.Order.{value_cmp}
-use Rattle.sqlite_value.proofs.OrderLemmas.{value_cmp-Blob, then-Equal}
-use Rattle.sqlite_keyed.specs.Lists.{sort_by}
+use Rattle.tables.proofs.Common.{AllByRecursion, AreDatabaseRows, AreNumbered, Binary, Blob, Changes, Delete, Equal, Err, IfOk, Insert, Int, IsStore, Key, List, Null, Ok, OnOk, Ran, Result, Row, Select, Shown, State, Term, Text, Update, Values, [], all_of, all_weaker, ap, ap₂, by_name, bytes_eq, bytes_eq-Decides, cast_row, codes, col, column, count, database_cells, database_row, dbs_table, dbs_tree, drop, everything, false, filter, filter_all, has_number, holds, is_eq, is_eq-slice_cmp, is_named, length_of, list_all, lit, map, meta_table, meta_tree, name_of, not, number_of, ordering_then, pos, refl, rowid, rows_at_sequence, rows_with_security, schema, security_text, shown_database, shown_name, sort_by, subst, then-Equal, true, understood, value_cmp, value_cmp-Blob, with_cells, ℕ, ℤ, ◌∙◌, ◌∷◌, ◌≡◌, ◌≢◌}
 use Rattle.tables.proofs.Sorted.{lists}
-use Rattle.sqlite_keyed.proofs.ListLemmas.{all_weaker, all_of, filter_all}
 use Rattle.sqlite_typed.proofs.TestLemmas.{last_term}
-use Rattle.sqlite_schema.specs.declared.command.Command.TheVariants.{Insert, Delete, Select, Update}
-use Rattle.sqlite_schema.specs.declared.command.Source.TheVariants.{Values}
-use Rattle.sqlite_tied.specs.Compute.{everything}
-use Rattle.sqlite.specs.Listing.{understood, reads_listing}
-use Rattle.sqlite.specs.State.{State, Shown}
 use Rattle.tables.proofs.Cells.{is_param, same_int, same_blob, cast_null, cast_int}
 use Rattle.tables.proofs.Deletes.{deletes_where}
 use Rattle.tables.proofs.Finds.{finds_one}
 use Rattle.tables.proofs.Queries.{program_on, unlimited}
-use Rattle.tables.proofs.Single.{one_row, fails}
+use Rattle.tables.proofs.Single.{fails}
 use Rattle.tables.proofs.Tables.{meta_plain, dbs_plain, databases_laid, numbered_databases, one_named, one_numbered}
 use Rattle.tables.proofs.Updates.{updates_where}
-use Rattle.tables.proofs.Writes.{IsCommand, inserts}
-use Rattle.tables.specs.Layout.{AreNumbered, AreDatabaseRows, IsStore}
-use Rattle.tables.specs.Rows.{number_of, has_number, name_of, is_named, security_text, length_of, database_row, database_cells, rows_with_security, rows_at_sequence, by_name, shown_name, shown_database, count, with_cells}
-use Rattle.tables.specs.Schema.{schema, meta_tree, meta_table, dbs_tree, dbs_table}
-use Rattle.tables.specs.Steps.{Ran, Changes}
+use Rattle.tables.proofs.Single.{inserts_row}
+use Rattle.tables.proofs.Writes.{IsCommand}
 
 -- ---- the version
 
@@ -45,14 +22,11 @@ version_values = lit Null ∷ lit (Int (pos 1)) ∷ []
 
 pub version_is : IsCommand schema version_text (Insert 0 (Values version_values 2))
 unfolding understood everything
-version_is = record { is = refl; plain = (refl, refl) }
+version_is = record { is = refl; plain = (refl, refl); unlisted = refl }
 
 pub inserts_version : {X E : Type 0} (old new : State) → old.now.schema ≡ schema → AreNumbered (old.now.trees meta_tree) → (r : Result X E) → OnOk r (Ran version_text [] old new)
     → OnOk r (Changes meta_tree (with_cells (old.now.trees meta_tree) (count 1 ∷ [])) old.now new.now)
-inserts_version old new has numbered (Err e) h = tt
-inserts_version old new has numbered (Ok x) h =
-    let rows = one_row old.now.trees meta_table (Null ∷ count 1 ∷ []) (count 1 ∷ []) (λ i. cast_null i ∷ cast_int (pos 1) i ∷ []) numbered in
-    subst (λ l. Changes meta_tree l old.now new.now) rows (inserts schema 0 meta_table meta_plain old new has version_text version_values 2 version_is [] h)
+inserts_version old new has numbered r h = inserts_row schema 0 meta_table meta_plain old new has version_text version_values 2 version_is [] (Null ∷ count 1 ∷ []) (count 1 ∷ []) (λ i. cast_null i ∷ cast_int (pos 1) i ∷ []) numbered refl r h
 
 -- ---- databases
 
@@ -84,24 +58,20 @@ find_text = codes "SELECT num, sec, seq FROM dbs WHERE name = ?1"
 
 pub insert_is : IsCommand schema insert_text (Insert 1 (Values values 5))
 unfolding understood everything
-insert_is = record { is = refl; plain = (refl, refl) }
+insert_is = record { is = refl; plain = (refl, refl); unlisted = refl }
 
 pub delete_is : IsCommand schema delete_text (Delete 1 (program_on dbs_tree by_number (col 1 0 ∷ []) []))
 unfolding understood everything
-delete_is = record { is = refl; plain = (refl, refl) }
+delete_is = record { is = refl; plain = (refl, refl); unlisted = refl }
 
 pub find_is : IsCommand schema find_text (Select (program_on dbs_tree with_name (col 1 0 ∷ col 1 3 ∷ col 1 4 ∷ []) []) (codes "num" ∷ codes "sec" ∷ codes "seq" ∷ []))
 unfolding understood everything
-find_is = record { is = refl; plain = (refl, refl) }
-
-find_unlisted : reads_listing schema find_text ≡ false
-unfolding understood everything
-find_unlisted = refl
+find_is = record { is = refl; plain = (refl, refl); unlisted = refl }
 
 pub finds_database : {X E : Type 0} (old new : State) → IsStore old.now → (name : List ℕ) (r : Result X E) (items : X → List Row) → IfOk r (λ x. Shown find_text (Blob name ∷ []) old new (items x))
     → IfOk r (λ x. items x ≡ map shown_database (filter (is_named name) (old.now.trees dbs_tree)))
 finds_database old new is name r items h =
-    finds_one schema old new is.schema_is find_text dbs_tree with_name (col 1 0 ∷ col 1 3 ∷ col 1 4 ∷ []) (codes "num" ∷ codes "sec" ∷ codes "seq" ∷ []) find_is find_unlisted (Blob name ∷ []) (is_named name) shown_database
+    finds_one schema old new is.schema_is find_text dbs_tree with_name (col 1 0 ∷ col 1 3 ∷ col 1 4 ∷ []) (codes "num" ∷ codes "sec" ∷ codes "seq" ∷ []) find_is (Blob name ∷ []) (is_named name) shown_database
     refl (λ r. refl) (tests_name name _ (databases_laid old.now.trees is.laid)) (one_named (old.now.trees dbs_tree) is.laid.names_apart name) r items h
 
 cast : (name security : List ℕ) → cast_row dbs_table (Null ∷ database_cells name security (pos 0)) ≡ Null ∷ database_cells name security (pos 0)
@@ -110,10 +80,7 @@ cast name security = λ i. cast_null i ∷ cast_null i ∷ Blob name ∷ Text se
 module _ {X E : Type 0} (old new : State) (has : old.now.schema ≡ schema) (laid : AreDatabaseRows (old.now.trees dbs_tree)) where
   pub inserts_database : (name security : List ℕ) (r : Result X E) → OnOk r (Ran insert_text (Blob name ∷ Text security ∷ []) old new)
       → OnOk r (Changes dbs_tree (with_cells (old.now.trees dbs_tree) (database_cells name security (pos 0))) old.now new.now)
-  inserts_database name security (Err e) h = tt
-  inserts_database name security (Ok x) h =
-      let rows = one_row old.now.trees dbs_table (Null ∷ database_cells name security (pos 0)) (database_cells name security (pos 0)) (cast name security) (numbered_databases _ laid) in
-      subst (λ l. Changes dbs_tree l old.now new.now) rows (inserts schema 1 dbs_table dbs_plain old new has insert_text values 5 insert_is (Blob name ∷ Text security ∷ []) h)
+  inserts_database name security r h = inserts_row schema 1 dbs_table dbs_plain old new has insert_text values 5 insert_is (Blob name ∷ Text security ∷ []) (Null ∷ database_cells name security (pos 0)) (database_cells name security (pos 0)) (cast name security) (numbered_databases _ laid) refl r h
 
   pub deletes_database : (n : ℤ) (r : Result X E) → OnOk r (Ran delete_text (Int n ∷ []) old new)
       → OnOk r (Changes dbs_tree (filter (λ l. not (has_number n l)) (old.now.trees dbs_tree)) old.now new.now)
@@ -130,11 +97,11 @@ advance_text = codes "UPDATE dbs SET seq = ?2 WHERE num = ?1"
 
 pub secure_is : IsCommand schema secure_text (Update 1 (program_on dbs_tree by_number (col 1 0 ∷ col 1 0 ∷ lit Null ∷ col 1 2 ∷ col 0 1 ∷ col 1 4 ∷ []) []))
 unfolding understood everything
-secure_is = record { is = refl; plain = (refl, refl) }
+secure_is = record { is = refl; plain = (refl, refl); unlisted = refl }
 
 pub advance_is : IsCommand schema advance_text (Update 1 (program_on dbs_tree by_number (col 1 0 ∷ col 1 0 ∷ lit Null ∷ col 1 2 ∷ col 1 3 ∷ col 0 1 ∷ []) []))
 unfolding understood everything
-advance_is = record { is = refl; plain = (refl, refl) }
+advance_is = record { is = refl; plain = (refl, refl); unlisted = refl }
 
 -- a row with its security object changed, as the query shows it: its number before and after, and its columns
 abbrev shown_secured : List ℕ → Row → Row
@@ -179,11 +146,7 @@ name_order = (col 1 2, record { collation = Binary; descending = false }) ∷ []
 
 pub names_is : IsCommand schema names_text (Select (program_on dbs_tree [] (col 1 2 ∷ []) name_order) (codes "name" ∷ []))
 unfolding understood everything
-names_is = record { is = refl; plain = (refl, refl) }
-
-names_unlisted : reads_listing schema names_text ≡ false
-unfolding understood everything
-names_unlisted = refl
+names_is = record { is = refl; plain = (refl, refl); unlisted = refl }
 
 names_agree : (a b : Row) → IsOne a → IsOne b → ordering_then (value_cmp (column a 2) (column b 2)) Equal ≡ by_name a b
 names_agree a b k l =
@@ -196,8 +159,6 @@ pub lists_names : {X E : Type 0} (old new : State) → IsStore old.now → (r : 
     → IfOk r (λ x. items x ≡ map shown_name (sort_by by_name (old.now.trees dbs_tree)))
 lists_names {X} old new is r items h =
     subst (λ l. IfOk r (λ x. items x ≡ map shown_name (sort_by by_name l))) (filter_all (λ x. true) (old.now.trees dbs_tree) (all_of (λ x. true ≡ true) (λ x. refl) (old.now.trees dbs_tree)))
-    (lists schema old new is.schema_is names_text dbs_tree [] (col 1 2 ∷ []) name_order unlimited (codes "name" ∷ []) names_is names_unlisted [] (λ x. true) shown_name IsOne by_name (λ a b. name_of a ≢ name_of b)
+    (lists schema old new is.schema_is names_text dbs_tree [] (col 1 2 ∷ []) name_order unlimited (codes "name" ∷ []) names_is [] (λ x. true) shown_name IsOne by_name (λ a b. name_of a ≢ name_of b)
     names_agree (λ a b k l p q apart. names_apart a b apart) refl (λ x. refl) (all_of (λ x. true ≡ true) (λ x. refl) (old.now.trees dbs_tree))
     (databases_laid old.now.trees is.laid).each is.laid.names_apart r items h)
-
--- ---- why the changes fail

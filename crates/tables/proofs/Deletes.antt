@@ -1,19 +1,8 @@
 -- What a DELETE by tests on one table leaves of it.
-use Rattle.std.proofs.Common.{◌≡◌, ℕ, List, [], ◌∷◌, filter, Bool, not, Ok, Err, Result, OnOk, refl, subst}
-use Rattle.std.specs.List.{AllByRecursion, list_all}
-use Rattle.sqlite_value.specs.Order.{Row}
-use Rattle.sqlite_trees.specs.Tree.{rowid}
-use Rattle.sqlite_sql.specs.Program.{overlay}
-use Rattle.sqlite_sql.specs.Term.{Term, col, holds}
-use Rattle.sqlite_schema.specs.declared.schema.Schema.{Schema}
-use Rattle.sqlite_schema.specs.declared.schema.Table.{Table}
-use Rattle.sqlite_schema.specs.declared.command.Command.TheVariants.{Delete}
-use Rattle.sqlite.specs.State.{State}
+use Rattle.tables.proofs.Common.{AllByRecursion, AreNumbered, Bool, Changes, Delete, Err, List, Ok, OnOk, Ran, Result, Row, Schema, State, Table, Term, [], col, filter, holds, list_all, not, overlay, refl, rowid, subst, ℕ, ◌∷◌, ◌≡◌}
 use Rattle.tables.proofs.Numbered.{removes}
 use Rattle.tables.proofs.Queries.{program_on, selects}
 use Rattle.tables.proofs.Writes.{IsPlainTable, IsCommand, deletes}
-use Rattle.tables.specs.Layout.{AreNumbered}
-use Rattle.tables.specs.Steps.{Ran, Changes}
 
 -- the rows that pass are gone, and the others stay
 pub deletes_where : {X E : Type 0} (schema : Schema) (at : ℕ) (table : Table) → IsPlainTable schema at table → (old new : State) → old.now.schema ≡ schema → (text : List ℕ) (tests : List Term)

@@ -1,44 +1,15 @@
 -- What the statements on documents mean.
-use Rattle.std.proofs.Common.{◌≡◌, ℕ, ℤ, pos, negsuc, Ordering, List, [], ◌∷◌, map, filter, codes, Bool, true, false, not, cond, Ok, Err, Result, IfOk, OnOk, refl, sym, ap, ap₂, subst, ◌∙◌, ◌≢◌, bytes_eq, nat_cmp, int_cmp, is_eq, arith, Equal, ◌&&◌}
-use Rattle.sqlite_value.specs.declared.value.Value.TheVariants.{Null, Int, Text, Blob}
-use Rattle.sqlite_sql.specs.Query.{as_count, limited}
-use Rattle.sqlite_sql.specs.Term.{Term, lit, col, holds}
-use Rattle.sqlite_rules.specs.Cast.{cast_row}
-use Rattle.sqlite_schema.specs.declared.command.Command.TheVariants.{Insert, Delete, Select}
-use Rattle.sqlite_schema.specs.declared.command.Source.TheVariants.{Values}
-use Rattle.sqlite_tied.specs.Compute.{everything}
-use Rattle.sqlite.specs.Listing.{understood, reads_listing}
-use Rattle.sqlite.specs.State.{State, Shown}
+use Rattle.tables.proofs.Common.{AllByRecursion, AreKeyed, Binary, Blob, Bool, Changes, Delete, Equal, Err, IfOk, Insert, Int, IsDocumentRow, IsStore, IsTotalOrder, Key, List, Null, Ok, OnOk, Ordering, Ran, Result, Row, Select, Shown, State, Term, Text, Values, [], all_weaker, ap, ap₂, arith, as_count, bytes_eq, bytes_eq-Decides, cast_row, codes, col, column, comes_after, cond, db_of, docs_table, docs_tree, document_cells, document_row, everything, false, filter, filter-map, first_rows, holds, id_of, int_cmp, ints, is_eq, is_eq-slice_cmp, is_gone, is_in, is_of, lies_between, limited, list_all, listed_document, listed_id, lit, map, nat_cmp, nat_cmp_total, nat_list_cmp_total, nat_tests, negsuc, not, number_of, on_total, ordering_then, pos, refl, same_int, schema, sequence_of, sort_by, subst, sym, then-Equal, true, understood, value_cmp, value_cmp-Blob, value_cmp-Int, winner_text, with_cells, ℕ, ℤ, ◌&&◌, ◌∙◌, ◌∷◌, ◌≡◌, ◌≢◌}
 use Rattle.tables.proofs.Cells.{by_db, by_id, by_later, by_range, cast_null, cast_int, test_later, tests_db, tests_id, tests_range}
 use Rattle.tables.proofs.Deletes.{deletes_where}
-use Rattle.sqlite_value.specs.Order.{Row}
-use Rattle.std.specs.Cmp.{IsTotalOrder}
-use Rattle.std.specs.List.{AllByRecursion, list_all}
-use Rattle.std.specs.Ordering.{ordering_then}
-use Rattle.std.proofs.lemmas.Int.{ints}
-use Rattle.std.proofs.lemmas.Bool.Decides.{nat_tests}
-use Rattle.std.proofs.lemmas.Cmp.{nat_cmp_total, nat_list_cmp_total, on_total}
-use Rattle.std.proofs.lemmas.Map.Text.{is_eq-slice_cmp}
-use Rattle.std.proofs.lemmas.Slice.Eq.{bytes_eq-Decides}
-use Rattle.sqlite_value.specs.declared.keys.Collation.TheVariants.{Binary}
-use Rattle.sqlite_value.specs.declared.keys.Key.{Key}
-use Rattle.sqlite_value.specs.Order.{column, value_cmp}
-use Rattle.sqlite_value.proofs.OrderLemmas.{value_cmp-Blob, value_cmp-Int, then-Equal}
-use Rattle.sqlite_keyed.specs.Lists.{sort_by}
-use Rattle.sqlite_keyed.proofs.KeyedLemmas.{same_int}
-use Rattle.sqlite_keyed.proofs.ListLemmas.{all_weaker, filter-map}
 use Rattle.tables.proofs.Sorted.{both_left, if_equal, lists, sorted_left}
 use Rattle.tables.specs.Rows as order
 use Rattle.tables.proofs.Numbered.{numbered_from_keyed}
 use Rattle.tables.proofs.Queries.{first_program, program_on, unlimited}
-use Rattle.tables.proofs.Single.{one_row, fails}
+use Rattle.tables.proofs.Single.{fails}
 use Rattle.tables.proofs.Tables.{docs_plain, docs_keyed}
-use Rattle.tables.proofs.Writes.{IsCommand, inserts}
-use Rattle.tables.specs.Listings.{comes_after, first_rows, lies_between, listed_id}
-use Rattle.tables.specs.Layout.{AreKeyed, IsStore, IsDocumentRow}
-use Rattle.tables.specs.Rows.{is_in, is_of, listed_document, number_of, db_of, id_of, sequence_of, winner_text, is_gone, document_row, document_cells, with_cells}
-use Rattle.tables.specs.Schema.{schema, docs_tree, docs_table}
-use Rattle.tables.specs.Steps.{Ran, Changes}
+use Rattle.tables.proofs.Single.{inserts_row}
+use Rattle.tables.proofs.Writes.{IsCommand}
 
 abbrev pub insert_text : List ℕ
 insert_text = codes "INSERT INTO docs (db, id, seq, winner, del) VALUES (?1, ?2, ?3, ?4, ?5)"
@@ -54,15 +25,15 @@ values = lit Null ∷ col 0 0 ∷ col 0 1 ∷ col 0 2 ∷ col 0 3 ∷ col 0 4 �
 
 pub insert_is : IsCommand schema insert_text (Insert 2 (Values values 6))
 unfolding understood everything
-insert_is = record { is = refl; plain = (refl, refl) }
+insert_is = record { is = refl; plain = (refl, refl); unlisted = refl }
 
 pub delete_is : IsCommand schema delete_text (Delete 2 (program_on docs_tree by_id (col 1 0 ∷ []) []))
 unfolding understood everything
-delete_is = record { is = refl; plain = (refl, refl) }
+delete_is = record { is = refl; plain = (refl, refl); unlisted = refl }
 
 pub clear_is : IsCommand schema clear_text (Delete 2 (program_on docs_tree by_db (col 1 0 ∷ []) []))
 unfolding understood everything
-clear_is = record { is = refl; plain = (refl, refl) }
+clear_is = record { is = refl; plain = (refl, refl); unlisted = refl }
 
 cast : (db : ℤ) (id : List ℕ) (sequence : ℤ) (winner : List ℕ) (deleted : Bool) → cast_row docs_table (Null ∷ document_cells db id sequence winner deleted) ≡ Null ∷ document_cells db id sequence winner deleted
 cast db id sequence winner deleted = λ i. cast_null i ∷ cast_int db i ∷ Blob id ∷ cast_int sequence i ∷ Text winner ∷ cast_int (cond deleted (pos 1) (pos 0)) i ∷ []
@@ -70,10 +41,7 @@ cast db id sequence winner deleted = λ i. cast_null i ∷ cast_int db i ∷ Blo
 module _ {X E : Type 0} (old new : State) (has : old.now.schema ≡ schema) (keyed : AreKeyed (old.now.trees docs_tree)) where
   pub inserts_document : (db : ℤ) (id : List ℕ) (sequence : ℤ) (winner : List ℕ) (deleted : Bool) → (r : Result X E) → OnOk r (Ran insert_text (document_cells db id sequence winner deleted) old new)
       → OnOk r (Changes docs_tree (with_cells (old.now.trees docs_tree) (document_cells db id sequence winner deleted)) old.now new.now)
-  inserts_document db id sequence winner deleted (Err e) h = tt
-  inserts_document db id sequence winner deleted (Ok x) h =
-      let rows = one_row old.now.trees docs_table (Null ∷ document_cells db id sequence winner deleted) (document_cells db id sequence winner deleted) (cast db id sequence winner deleted) (numbered_from_keyed _ keyed) in
-      subst (λ l. Changes docs_tree l old.now new.now) rows (inserts schema 2 docs_table docs_plain old new has insert_text values 6 insert_is (document_cells db id sequence winner deleted) h)
+  inserts_document db id sequence winner deleted r h = inserts_row schema 2 docs_table docs_plain old new has insert_text values 6 insert_is (document_cells db id sequence winner deleted) (Null ∷ document_cells db id sequence winner deleted) (document_cells db id sequence winner deleted) (cast db id sequence winner deleted) (numbered_from_keyed _ keyed) refl r h
 
   pub deletes_document : (db : ℤ) (id : List ℕ) (r : Result X E) → OnOk r (Ran delete_text (Int db ∷ Blob id ∷ []) old new)
       → OnOk r (Changes docs_tree (filter (λ l. not (is_of db id l)) (old.now.trees docs_tree)) old.now new.now)
@@ -107,19 +75,11 @@ sequence_order = (col 1 3, record { collation = Binary; descending = false }) �
 
 pub ids_is : IsCommand schema ids_text (Select (program_on docs_tree by_db listed id_order) headings)
 unfolding understood everything
-ids_is = record { is = refl; plain = (refl, refl) }
-
-ids_unlisted : reads_listing schema ids_text ≡ false
-unfolding understood everything
-ids_unlisted = refl
+ids_is = record { is = refl; plain = (refl, refl); unlisted = refl }
 
 pub sequences_is : IsCommand schema sequences_text (Select (program_on docs_tree by_db listed sequence_order) headings)
 unfolding understood everything
-sequences_is = record { is = refl; plain = (refl, refl) }
-
-sequences_unlisted : reads_listing schema sequences_text ≡ false
-unfolding understood everything
-sequences_unlisted = refl
+sequences_is = record { is = refl; plain = (refl, refl); unlisted = refl }
 
 abbrev IsOne : Row → Type 0
 IsOne r = r ≡ document_row (number_of r) (db_of r) (id_of r) (pos (sequence_of r)) (winner_text r) (is_gone r)
@@ -151,13 +111,13 @@ ones old is = all_weaker (IsDocumentRow old.now.trees) IsOne (λ x k. k.is) (old
 module _ {X E : Type 0} (old new : State) (is : IsStore old.now) (db : ℤ) (r : Result X E) (items : X → List Row) where
   pub lists_by_id : IfOk r (λ x. Shown ids_text (Int db ∷ []) old new (items x)) → IfOk r (λ x. items x ≡ map listed_document (sort_by order.by_id (filter (is_in db) (old.now.trees docs_tree))))
   lists_by_id h =
-      lists schema old new is.schema_is ids_text docs_tree by_db listed id_order unlimited headings ids_is ids_unlisted (Int db ∷ []) (is_in db) listed_document IsOne order.by_id (λ a b. db_of a ≡ db_of b → id_of a ≢ id_of b)
+      lists schema old new is.schema_is ids_text docs_tree by_db listed id_order unlimited headings ids_is (Int db ∷ []) (is_in db) listed_document IsOne order.by_id (λ a b. db_of a ≡ db_of b → id_of a ≢ id_of b)
       ids_agree (λ a b k l p q apart. ids_apart a b (apart (same_db db a b p q))) refl (λ x. refl) (tests_db db _ (docs_keyed old.now.trees is.laid)) (ones old is) is.laid.ids_apart r items h
 
   pub lists_by_sequence : IfOk r (λ x. Shown sequences_text (Int db ∷ []) old new (items x))
       → IfOk r (λ x. items x ≡ map listed_document (sort_by order.by_sequence (filter (is_in db) (old.now.trees docs_tree))))
   lists_by_sequence h =
-      lists schema old new is.schema_is sequences_text docs_tree by_db listed sequence_order unlimited headings sequences_is sequences_unlisted (Int db ∷ []) (is_in db) listed_document IsOne order.by_sequence
+      lists schema old new is.schema_is sequences_text docs_tree by_db listed sequence_order unlimited headings sequences_is (Int db ∷ []) (is_in db) listed_document IsOne order.by_sequence
       (λ a b. db_of a ≡ db_of b → sequence_of a ≢ sequence_of b)
       sequences_agree (λ a b k l p q apart. numbers_apart (sequence_of a) (sequence_of b) (apart (same_db db a b p q))) refl (λ x. refl) (tests_db db _ (docs_keyed old.now.trees is.laid)) (ones old is)
       is.laid.sequences_apart r items h
@@ -175,19 +135,11 @@ most_rows = col 0 2
 
 pub range_is : IsCommand schema range_text (Select (program_on docs_tree by_range listed id_order) headings)
 unfolding understood everything
-range_is = record { is = refl; plain = (refl, refl) }
-
-range_unlisted : reads_listing schema range_text ≡ false
-unfolding understood everything
-range_unlisted = refl
+range_is = record { is = refl; plain = (refl, refl); unlisted = refl }
 
 pub later_is : IsCommand schema later_text (Select (first_program docs_tree by_later listed sequence_order most_rows) headings)
 unfolding understood everything
-later_is = record { is = refl; plain = (refl, refl) }
-
-later_unlisted : reads_listing schema later_text ≡ false
-unfolding understood everything
-later_unlisted = refl
+later_is = record { is = refl; plain = (refl, refl); unlisted = refl }
 
 -- rows of a kind among those of a database, in an order
 left_in_order : (by : Row → Row → Ordering) → IsTotalOrder by → (db : ℤ) (q : Row → Bool) (rows : List Row)
@@ -217,7 +169,7 @@ module _ {X E : Type 0} (old new : State) (is : IsStore old.now) (db : ℤ) (r :
   lists_range first last h =
       if_equal r items _ _
       (left_in_order order.by_id (on_total id_of nat_list_cmp_total) db (λ s. lies_between first last (listed_id s)) (old.now.trees docs_tree))
-      (lists schema old new is.schema_is range_text docs_tree by_range listed id_order unlimited headings range_is range_unlisted (Int db ∷ Blob first ∷ Blob last ∷ [])
+      (lists schema old new is.schema_is range_text docs_tree by_range listed id_order unlimited headings range_is (Int db ∷ Blob first ∷ Blob last ∷ [])
       (λ l. is_in db l && lies_between first last (id_of l)) listed_document IsOne order.by_id (λ a b. db_of a ≡ db_of b → id_of a ≢ id_of b)
       ids_agree (λ a b k l p q apart. ids_apart a b (apart (same_db db a b (first_of_both _ _ p) (first_of_both _ _ q)))) refl (λ x. refl)
       (tests_range db first last _ (docs_keyed old.now.trees is.laid)) (ones old is) is.laid.ids_apart r items h)
@@ -227,9 +179,7 @@ module _ {X E : Type 0} (old new : State) (is : IsStore old.now) (db : ℤ) (r :
   lists_later since limit h =
       if_equal r items _ _
       (limited_to limit _ ∙ ap (first_rows limit) (left_in_order order.by_sequence (on_total sequence_of nat_cmp_total) db (comes_after since) (old.now.trees docs_tree)))
-      (lists schema old new is.schema_is later_text docs_tree by_later listed sequence_order most_rows headings later_is later_unlisted (Int db ∷ Int since ∷ Int limit ∷ [])
+      (lists schema old new is.schema_is later_text docs_tree by_later listed sequence_order most_rows headings later_is (Int db ∷ Int since ∷ Int limit ∷ [])
       (λ l. is_in db l && comes_after since (listed_document l)) listed_document IsOne order.by_sequence (λ a b. db_of a ≡ db_of b → sequence_of a ≢ sequence_of b)
       sequences_agree (λ a b k l p q apart. numbers_apart (sequence_of a) (sequence_of b) (apart (same_db db a b (first_of_both _ _ p) (first_of_both _ _ q)))) refl (λ x. refl)
       (later_ones db since limit _ (ones old is)) (ones old is) is.laid.sequences_apart r items h)
-
--- ---- why the changes fail

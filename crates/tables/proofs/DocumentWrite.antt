@@ -1,41 +1,22 @@
 -- One write of a document: the tables are laid out after it, and hold the database with the write.
-use Rattle.std.proofs.Common.{◌≡◌, ◌≢◌, ◌<◌, ◌+◌, ℕ, ℤ, pos, Bool, true, false, not, List, [], ◌∷◌, map, filter, slice_get, Some, None, option_map, int_eq, is_some, refl, sym, ap, ap₂, subst, ◌∙◌, arith}
-use Rattle.std.proofs.Math.Logic.{∥∥₁_map}
-use Rattle.std.proofs.lemmas.Bool.{both_ways}
-use Rattle.std.proofs.lemmas.Bool.Decides.{Decides-int_eq}
+use Rattle.tables.proofs.Common.{AllByRecursion, AreLawful, AreNumbered, Bool, Decides-int_eq, DocumentWrite, Entry, HistoryContent, IsAscending, IsDatabaseNumber, IsDatabaseRow, IsDocumentRow, IsLaid, IsLocalRow, IsRevisionRow, IsStore, IsWritable, IsWrite, List, None, Revision, Row, Some, StandsIn, Trees, [], all-append, all-filter, all_of, all_weaker, ap, ap₂, arith, ascending-filter, both_ways, contents_in, counts_down, database_at, database_of, db_of, dbs_tree, docs_tree, document_row, documents_in, entry_kept, entry_of, false, filter, has_number, held_by, held_of, history_after, history_at, history_before, history_in, id_of, inside, int_eq, is_deleted, is_known, is_named, is_of, is_some, lawful_by_one, lawful_insert, length_of, list_any, locals_in, locals_tree, map, map-map, map_same, name_of, new_entries, not, number_of, option_map, placement, pos, refl, revision_row, revs_tree, right_some, row_at_sequence, security_of, sequence_of, slice_get, stands_found, subst, sym, text_of, true, whole_counts, winner, with_one, with_write, write_entries, write_shows, ℕ, ℤ, ∥∥₁_map, ◌+◌, ◌<◌, ◌↔◌, ◌∙◌, ◌∷◌, ◌≡◌, ◌≢◌}
 use Rattle.std.specs.FinMap as finite
-use Rattle.std.specs.List.{AllByRecursion, list_any}
-use Rattle.std.specs.Prelude.{◌↔◌}
-use Rattle.tree.specs.History.{HistoryContent, is_known, is_deleted, held_of, placement, winner, with_write, write_entries}
-use Rattle.tree.specs.Revision.{Revision, text_of}
-use Rattle.tree.specs.Write.{StandsIn, counts_down, held_by}
-use Rattle.tree.specs.declared.entry.Entry.{Entry}
-use Rattle.tree.proofs.Contents.{entry_kept, write_shows}
 use Rattle.tree.proofs.Continued.{added_is}
-use Rattle.tree.proofs.Shown.{inside, right_some, stands_found, whole_counts}
-use Rattle.store.specs.Database.{Database, DocumentWrite, history_at, with_one}
-use Rattle.store.specs.Lawful.{AreLawful}
-use Rattle.store.proofs.Lawfuls.{lawful_by_one, lawful_insert}
-use Rattle.sqlite_value.specs.Order.{Row}
-use Rattle.sqlite_trees.specs.Tree.{Trees, IsAscending}
-use Rattle.sqlite_keyed.proofs.ListLemmas.{all_of, all_weaker, all-append, all-filter, ascending-filter, map-map, map_same}
+use Rattle.store.specs.Database.{Database}
 use Rattle.sqlite.specs.Effect as sqlite
-use Rattle.tables.specs.Edits.{IsWritable, IsWrite, new_entries, history_before, history_after}
-use Rattle.tables.specs.Layout.{AreNumbered, IsDatabaseNumber, IsDatabaseRow, IsDocumentRow, IsRevisionRow, IsLocalRow, IsLaid, IsStore, database_at}
-use Rattle.tables.specs.Rows.{number_of, name_of, db_of, id_of, is_of, is_named, has_number, length_of, security_of, sequence_of, document_row, revision_row, entry_of, row_at_sequence, history_in, locals_in, documents_in, database_of, contents_in}
-use Rattle.tables.specs.Schema.{dbs_tree, docs_tree, revs_tree, locals_tree}
 use Rattle.tables.proofs.DocumentWriteDatabases as dbs
 use Rattle.tables.proofs.DocumentWriteDocuments as docs
 use Rattle.tables.proofs.DocumentWriteEntries.{IsKept, IsPathEntry, path_entries_are, entries_apart, entry_again, flag_again}
 use Rattle.tables.proofs.DocumentWriteHistories.{IsOther, AreApart, all-with_revisions, history_own, history_others, with_new_entries, unknown_apart, revisions_stay_apart}
-use Rattle.tables.proofs.DocumentWriteSteps.{IsAfter, written, revisions_changed, keyed-with_revisions}
+use Rattle.tables.proofs.DocumentWriteSteps.{after_write, written, revisions_changed, keyed-with_revisions}
+use Rattle.tables.proofs.Rests.{AreSame}
 use Rattle.tables.proofs.Lookups.{database_there, document_found, number_there, of_these, one_changed}
 use Rattle.tables.proofs.Single.{fails}
 use Rattle.tables.proofs.Tables.{databases_laid, docs_keyed, numbered_databases, revs_keyed}
 use Rattle.tables.proofs.Numbered.{numbered_from_keyed}
 use Rattle.tables.proofs.Kept.{databases-advanced}
 
-module _ (t u : Trees) (laid : IsLaid t) (name : List ℕ) (r : Row) (w : DocumentWrite) (best : Revision) (ok : IsWritable t name r w) (best_is : winner (history_after t r w) ≡ Some best) (after : IsAfter t u r w best) where
+module _ (t u : Trees) (laid : IsLaid t) (name : List ℕ) (r : Row) (w : DocumentWrite) (best : Revision) (ok : IsWritable t name r w) (best_is : winner (history_after t r w) ≡ Some best) (after : AreSame (after_write t r w best) u) where
   abbrev db : ℤ
   db = number_of r
 
@@ -242,7 +223,7 @@ module _ (t u : Trees) (laid : IsLaid t) (name : List ℕ) (r : Row) (w : Docume
 -- ---- the statements
 
 module _ (a e : sqlite.Database) (name : List ℕ) (r : Row) (w : DocumentWrite) (is : IsStore a) (ok : IsWritable a.trees name r w) (h : IsWrite r w a e) where
-  abbrev after : IsAfter a.trees e.trees r w h.best
+  abbrev after : AreSame (after_write a.trees r w h.best) e.trees
   after = written r w a e is.schema_is h
 
   pub one_write-store : IsStore e

@@ -1,14 +1,5 @@
 -- The databases' rows, where the one of this number has another sequence.
-use Rattle.std.proofs.Common.{◌≡◌, ◌≢◌, ◌≤◌, ◌<◌, ◌^◌, ℕ, ℤ, pos, Bool, true, false, cond, if◌then◌else◌, List, [], ◌∷◌, map, filter, find, slice_get, Option, Some, None, option_map, int_eq, is_some, refl, sym, ap, ap₂, subst, subst₂, ◌∙◌, arith}
-use Rattle.std.proofs.lemmas.Bool.Decides.{Decides-int_eq}
-use Rattle.std.specs.List.{AllByRecursion, list_any}
-use Rattle.tree.proofs.Shown.{inside}
-use Rattle.sqlite_value.specs.Order.{Row}
-use Rattle.sqlite_trees.specs.Tree.{Trees, IsAscending}
-use Rattle.sqlite_keyed.proofs.ListLemmas.{all_both, all_weaker, all_map, ascending-map, ascending_weaker, slice_get-filter}
-use Rattle.tables.specs.Layout.{IsDatabaseRow, IsLaid, database_at}
-use Rattle.tables.specs.Schema.{dbs_tree}
-use Rattle.tables.specs.Rows.{number_of, name_of, length_of, security_text, database_row, has_number, is_named, row_at_sequence, rows_at_sequence}
+use Rattle.tables.proofs.Common.{AllByRecursion, Bool, Decides-int_eq, IsAscending, IsDatabaseRow, IsLaid, List, None, Option, Row, Some, Trees, [], all_both, all_map, all_weaker, ap, ap₂, arith, ascending-map, ascending_weaker, cond, database_at, database_row, dbs_tree, false, filter, find, has_number, if◌then◌else◌, inside, int_eq, is_named, is_some, length_of, list_any, map, name_of, number_of, option_map, pos, refl, row_at_sequence, rows_at_sequence, security_text, slice_get, slice_get-filter, subst, subst₂, sym, true, ℕ, ℤ, ◌<◌, ◌^◌, ◌∙◌, ◌∷◌, ◌≡◌, ◌≢◌, ◌≤◌}
 use Rattle.tables.proofs.Lookups.{by_number, only_named}
 use Rattle.tables.proofs.RowMaps.{any_found, find_found}
 

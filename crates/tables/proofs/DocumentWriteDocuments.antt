@@ -1,21 +1,8 @@
 -- The documents' rows, where the one of this id is put in anew, and the documents that they hold.
-use Rattle.std.proofs.Common.{◌≡◌, ◌≢◌, ◌<◌, ℕ, ℤ, pos, Bool, true, false, not, ◌&&◌, ◌||◌, cond, List, [], ◌∷◌, ◌++◌, map, filter, Some, None, int_eq, bytes_eq, nat_cmp, refl, sym, ap, ap₂, ◌∙◌, append-nil, arith}
-use Rattle.std.proofs.lemmas.Bool.{and_parts, both_ways}
-use Rattle.std.proofs.lemmas.Bool.Decides.{Decides-int_eq}
-use Rattle.std.proofs.lemmas.Cmp.{nat_list_cmp_total}
+use Rattle.tables.proofs.Common.{AllByRecursion, AreKeyed, AreNumbered, Bool, Decides-int_eq, IsAscending, List, None, Row, Some, TextMap, [], all-filter, all_weaker, and_parts, ap, append-nil, ap₂, arith, ascending-append, ascending-filter, both_ways, bytes_eq, bytes_eq-Decides, cond, db_of, document_cells, document_of, document_row, documents_in, eq_by_cmp, false, filter, history_in, id_of, int_eq, is_in, is_of, list_any, map, nat_cmp, nat_list_cmp_total, next_number, not, pos, refl, sequence_of, slice_cmp, sym, true, with_cells, ℕ, ℤ, ◌&&◌, ◌++◌, ◌<◌, ◌||◌, ◌∙◌, ◌∷◌, ◌≡◌, ◌≢◌}
 use Rattle.std.proofs.lemmas.List.Folds.{list_any-append}
 use Rattle.std.proofs.lemmas.Map.Views.{any-filter_same}
-use Rattle.std.proofs.lemmas.Slice.Eq.{bytes_eq-Decides}
-use Rattle.std.specs.Cmp.Lexicographic.{slice_cmp}
 use Rattle.std.specs.FinMap as finite
-use Rattle.std.specs.List.{AllByRecursion, list_any}
-use Rattle.std.specs.Ordering.{eq_by_cmp}
-use Rattle.store.specs.Database.{TextMap}
-use Rattle.sqlite_value.specs.Order.{Row}
-use Rattle.sqlite_trees.specs.Tree.{IsAscending}
-use Rattle.sqlite_keyed.proofs.ListLemmas.{all_weaker, all-filter, ascending-append, ascending-filter}
-use Rattle.tables.specs.Layout.{AreKeyed, AreNumbered}
-use Rattle.tables.specs.Rows.{next_number, with_cells, db_of, id_of, is_in, is_of, document_cells, document_row, sequence_of, history_in, document_of, documents_in}
 use Rattle.tables.proofs.Kept.{keyed-filter, keyed-with_cells}
 use Rattle.tables.proofs.Lookups.{of_these}
 use Rattle.tables.proofs.Numbered.{numbered_from_keyed}

@@ -1,20 +1,8 @@
 -- What a path says of its revisions is read back from the rows that are put in for them.
-use Rattle.std.proofs.Common.{◌≡◌, ◌≢◌, ◌≤◌, ◌-◌, suc, ℕ, ℤ, Bool, true, false, length, List, [], ◌∷◌, Option, Some, None, option_map, inl, inr, refl, ap, ap₂, arith, eqb-true, if◌then◌else◌}
-use Rattle.std.specs.Prelude.{◌↔◌}
-use Rattle.std.specs.List.{AllByRecursion}
+use Rattle.tables.proofs.Common.{AllByRecursion, Bool, Entry, IsAscending, IsBody, List, None, Option, Revision, Some, StandsIn, [], all_weaker, ap, ap₂, arith, body_cell, counts_down, entry_of, eqb-true, false, flag, head, if◌then◌else◌, inl, inr, inside, is_held, is_marked, is_revision, is_set, json_in, length, option_map, parent_cell, parent_in, parts, path_entries, refl, revision_row, suc, text_cell, true, ℕ, ℤ, ◌-◌, ◌↔◌, ◌∷◌, ◌≡◌, ◌≢◌, ◌≤◌}
 use Rattle.couch_json.specs.Lawful as lawful
 use Rattle.couch_json.specs.Value as json
-use Rattle.tree.specs.History.{path_entries}
-use Rattle.tree.specs.Revision.{Revision, is_revision}
-use Rattle.tree.specs.Write.{StandsIn, counts_down, head}
-use Rattle.tree.specs.declared.entry.Entry.{Entry}
 use Rattle.tree.specs.declared.entry.Held.{Held}
-use Rattle.tree.proofs.RevisionText.{parts}
-use Rattle.tree.proofs.Shown.{inside}
-use Rattle.store.specs.Lawful.{IsBody}
-use Rattle.sqlite_trees.specs.Tree.{IsAscending}
-use Rattle.sqlite_keyed.proofs.ListLemmas.{all_weaker}
-use Rattle.tables.specs.Rows.{parent_in, parent_cell, body_cell, is_held, is_marked, is_set, flag, json_in, text_cell, revision_row, entry_of}
 use Rattle.tables.proofs.Rests.{spelled}
 
 -- a body that a row can hold

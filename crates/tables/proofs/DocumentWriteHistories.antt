@@ -1,24 +1,7 @@
 -- The histories that the rows hold once the new revisions of a write are put in.
-use Rattle.std.proofs.Common.{◌≡◌, ◌≢◌, ℕ, ℤ, Bool, true, false, cond, not, ◌&&◌, List, [], ◌∷◌, ◌++◌, map, filter, Option, Some, None, int_eq, bytes_eq, is_some, refl, sym, ap, ap₂, ◌∙◌, append-nil, append_assoc}
-use Rattle.std.proofs.lemmas.Bool.{both_ways}
-use Rattle.std.proofs.lemmas.Bool.Decides.{Decides-int_eq}
-use Rattle.std.proofs.lemmas.List.{map-append}
-use Rattle.std.proofs.lemmas.Slice.Eq.{bytes_eq-Decides}
-use Rattle.std.specs.FinMap.{find, get, from_entries, get-from_entries, same_map}
+use Rattle.tables.proofs.Common.{AllByRecursion, Bool, Decides-int_eq, Entry, HistoryContent, IsAscending, List, Node, None, Option, Revision, Row, Some, [], all-append, all_both, all_kept, all_unmap, all_weaker, ap, append-nil, append_assoc, ap₂, ascending-append, both_ways, bytes_eq, bytes_eq-Decides, cond, db_of, entry_of, eq_by_cmp, false, filter, find-append, from_entries, get, get-from_entries, get-with_entries, history_in, id_of, int_eq, is_known, is_of, is_some, map, map-append, next_number, none_from_any, not, or, refl, revision_cells, revision_cmp, revision_cmp_exact, revision_cmp_total, revision_of, revision_row, same, same_map, sym, tied, true, with_cells, with_entries, with_revisions, ℕ, ℤ, ◌&&◌, ◌++◌, ◌∙◌, ◌∷◌, ◌≡◌, ◌≢◌}
+use Rattle.std.specs.FinMap.{find}
 use Rattle.std.specs.FinMap.Entries.{is_some-find}
-use Rattle.std.specs.List.{AllByRecursion}
-use Rattle.std.specs.Ordering.{eq_by_cmp}
-use Rattle.tree.specs.History.{HistoryContent, is_known, with_entries}
-use Rattle.tree.specs.Revision.{Revision, revision_cmp}
-use Rattle.tree.specs.declared.entry.Entry.{Entry}
-use Rattle.tree.proofs.Contents.{or, find-append, get-with_entries}
-use Rattle.tree.proofs.Kept.{Node, revision_cmp_total}
-use Rattle.tree.proofs.Revisions.{revision_cmp_exact, same, tied}
-use Rattle.sqlite_value.specs.Order.{Row}
-use Rattle.sqlite_trees.specs.Tree.{IsAscending}
-use Rattle.sqlite_keyed.proofs.ListLemmas.{all_weaker, all_both, all-append, all_unmap, all_kept, ascending-append, none_from_any}
-use Rattle.tables.specs.Edits.{with_revisions}
-use Rattle.tables.specs.Rows.{next_number, with_cells, db_of, id_of, is_of, revision_of, entry_of, revision_cells, revision_row, history_in}
 use Rattle.tables.proofs.RowMaps.{filter_push}
 
 abbrev node : Row → Node

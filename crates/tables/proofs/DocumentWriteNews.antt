@@ -1,23 +1,9 @@
 -- What a write of the code brings: the revisions of its own path that are not known, since all that stands behind its parent is known and so lawful.
-use Rattle.std.proofs.Common.{◌≡◌, ℤ, Bool, true, not, cond, List, [], ◌∷◌, ◌++◌, filter, Option, Some, None, refl, ap, ◌∙◌}
-use Rattle.std.specs.Prelude.{IsTrue, IsUtf8}
-use Rattle.std.specs.List.{AllByRecursion}
+use Rattle.tables.proofs.Common.{Addition, AllByRecursion, Bool, Entry, HistoryContent, IsLaid, IsStorable, IsUtf8, List, None, Option, Revision, Some, Trees, [], all-append, ap, behind, cond, entries_before, filter, head, history_in, is_document_id, is_known, is_revision, new_entries, next_of, not, path_entries, refl, revs_tree, true, written_in, ℤ, ◌++◌, ◌∙◌, ◌∷◌, ◌≡◌}
+use Rattle.std.specs.Prelude.{IsTrue}
 use Rattle.couch_json.specs.Lawful as json
-use Rattle.tree.specs.DocumentId.{is_document_id}
-use Rattle.tree.specs.History.{HistoryContent, is_known, path_entries, behind}
-use Rattle.tree.specs.Nodes.{entries_before, next_of}
-use Rattle.tree.specs.Revision.{Revision, is_revision}
-use Rattle.tree.specs.Write.{head}
-use Rattle.tree.specs.declared.entry.Entry.{Entry}
 use Rattle.tree.specs.declared.entry.Held.{Held}
 use Rattle.tree.proofs.Behind.{AllKnown, behind_known}
-use Rattle.store.specs.Writing.{Addition, written_in}
-use Rattle.sqlite_trees.specs.Tree.{Trees}
-use Rattle.sqlite_keyed.proofs.ListLemmas.{all-append}
-use Rattle.tables.specs.Edits.{IsStorable, new_entries}
-use Rattle.tables.specs.Layout.{IsLaid}
-use Rattle.tables.specs.Rows.{history_in}
-use Rattle.tables.specs.Schema.{revs_tree}
 use Rattle.tables.proofs.Laid.{known_lawful}
 
 module _ (h : HistoryContent) where

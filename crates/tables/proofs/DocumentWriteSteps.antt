@@ -1,22 +1,7 @@
 -- Revisions that are put in one after another are one change, and what the statements of a write make of all tables.
-use Rattle.std.proofs.Common.{◌≡◌, ◌≢◌, ◌+◌, ℕ, ℤ, pos, not, List, [], ◌∷◌, filter, refl, sym, ap, subst, ◌∙◌, arith}
-use Rattle.std.specs.List.{AllByRecursion}
-use Rattle.sqlite_value.specs.Order.{Row}
-use Rattle.sqlite_schema.specs.declared.schema.Schema.{Schema}
-use Rattle.sqlite_keyed.proofs.ListLemmas.{all_of, all_both}
-use Rattle.sqlite_trees.specs.Tree.{Trees}
-use Rattle.sqlite.specs.Effect.{Database}
-use Rattle.store.specs.Database.{DocumentWrite}
-use Rattle.tree.specs.History.{is_deleted, held_of}
-use Rattle.tree.specs.Revision.{Revision, text_of}
-use Rattle.tree.specs.declared.entry.Entry.{Entry}
-use Rattle.tables.specs.Edits.{AreInserted, IsWrite, with_revisions, new_entries, history_before, history_after}
-use Rattle.tables.specs.Layout.{AreKeyed}
-use Rattle.tables.specs.Rows.{number_of, length_of, is_of, with_cells, document_cells, revision_cells, rows_at_sequence}
-use Rattle.tables.specs.Schema.{schema, meta_tree, dbs_tree, docs_tree, revs_tree, locals_tree}
-use Rattle.tables.specs.Steps.{Changes}
+use Rattle.tables.proofs.Common.{AllByRecursion, AreInserted, AreKeyed, Changes, Database, DocumentWrite, Entry, IsWrite, List, Revision, Row, Schema, Trees, [], all_both, all_of, ap, arith, dbs_tree, docs_tree, document_cells, filter, held_of, history_after, history_before, is_deleted, is_of, length_of, new_entries, not, number_of, pos, refl, revision_cells, revs_tree, rows_at_sequence, schema, subst, sym, text_of, with_cells, with_revisions, ℕ, ℤ, ◌+◌, ◌∙◌, ◌∷◌, ◌≡◌, ◌≢◌}
 use Rattle.tables.proofs.Kept.{keyed-with_cells}
-use Rattle.tables.proofs.Rests.{leaves}
+use Rattle.tables.proofs.Rests.{AreSame, after_change, unchanged, with_rows}
 
 -- two changes of one table are one
 pub changes_then : (tree : ℕ) (mid now : List Row) (a b c : Database) → Changes tree mid a b → Changes tree now b c → Changes tree now a c
@@ -29,11 +14,11 @@ changes_then tree mid now a b c h k =
           (λ t before after apart. after apart ∙ before apart) a.schema.tables h.others later;
     }
 
-unchanged : (tree : ℕ) (a : Database) → Changes tree (a.trees tree) a a
-unchanged tree a = record { schema = refl; rows = refl; others = all_of (λ t. t.tree ≢ tree → a.trees t.tree ≡ a.trees t.tree) (λ t apart. refl) a.schema.tables }
+no_change : (tree : ℕ) (a : Database) → Changes tree (a.trees tree) a a
+no_change tree a = record { schema = refl; rows = refl; others = all_of (λ t. t.tree ≢ tree → a.trees t.tree ≡ a.trees t.tree) (λ t apart. refl) a.schema.tables }
 
 pub revisions_changed : (es : List (Revision × Entry)) (db : ℤ) (id : List ℕ) (a c : Database) → AreInserted es db id a c → Changes revs_tree (with_revisions (a.trees revs_tree) db id es) a c
-revisions_changed [] db id a c same = subst (Changes revs_tree (a.trees revs_tree) a) same (unchanged revs_tree a)
+revisions_changed [] db id a c same = subst (Changes revs_tree (a.trees revs_tree) a) same (no_change revs_tree a)
 revisions_changed (e ∷ es) db id a c h =
     changes_then revs_tree _ _ a h.0 c h.1
     (subst (λ (rows : List Row). Changes revs_tree (with_revisions rows db id es) h.0 c) h.1.rows (revisions_changed es db id h.0 c h.2))
@@ -46,29 +31,21 @@ pub inserted_fit : (es : List (Revision × Entry)) (db : ℤ) (id : List ℕ) (a
 inserted_fit es db id a c h fit = subst AreKeyed (sym (revisions_changed es db id a c h).rows) (keyed-with_revisions es (a.trees revs_tree) db id fit)
 
 -- the tables after a write, by those before it
-pub record IsAfter (t u : Trees) (r : Row) (w : DocumentWrite) (best : Revision) : Type 0 where
-  pub meta : u meta_tree ≡ t meta_tree
-  pub dbs : u dbs_tree ≡ rows_at_sequence (number_of r) (pos (length_of r + 1)) (t dbs_tree)
-  pub docs : u docs_tree
-      ≡ with_cells (filter (λ x. not (is_of (number_of r) w.id x)) (t docs_tree)) (document_cells (number_of r) w.id (pos (length_of r + 1)) (text_of best) (is_deleted (held_of (history_after t r w) best)))
-  pub revs : u revs_tree ≡ with_revisions (t revs_tree) (number_of r) w.id (new_entries (history_before t r w) w.write)
-  pub locals : u locals_tree ≡ t locals_tree
+abbrev pub after_write : Trees → Row → DocumentWrite → Revision → Trees
+after_write t r w best =
+    let db = number_of r in
+    let kept = filter (λ x. not (is_of db w.id x)) (t docs_tree) in
+    let cells = document_cells db w.id (pos (length_of r + 1)) (text_of best) (is_deleted (held_of (history_after t r w) best)) in
+    with_rows (with_rows (with_rows (with_rows t revs_tree (with_revisions (t revs_tree) db w.id (new_entries (history_before t r w) w.write))) docs_tree kept) docs_tree (with_cells kept cells))
+    dbs_tree (rows_at_sequence db (pos (length_of r + 1)) (t dbs_tree))
 
-pub written : (r : Row) (w : DocumentWrite) (a e : Database) → a.schema ≡ schema → (h : IsWrite r w a e) → IsAfter a.trees e.trees r w h.best
+pub written : (r : Row) (w : DocumentWrite) (a e : Database) → a.schema ≡ schema → (h : IsWrite r w a e) → AreSame (after_write a.trees r w h.best) e.trees
 written r w a e is h =
     let one = revisions_changed (new_entries (history_before a.trees r w) w.write) (number_of r) w.id a h.inserted h.revisions in
     let schema_b = one.schema ∙ is in
     let schema_c = h.removes.schema ∙ schema_b in
-    let schema_d = h.places.schema ∙ schema_c in
-    let b = leaves revs_tree _ a h.inserted is one in
-    let c = leaves docs_tree _ h.inserted h.removed schema_b h.removes in
-    let d = leaves docs_tree _ h.removed h.placed schema_c h.places in
-    let f = leaves dbs_tree _ h.placed e schema_d h.advances in
     let cells = document_cells (number_of r) w.id (pos (length_of r + 1)) (text_of h.best) (is_deleted (held_of (history_after a.trees r w) h.best)) in
-    record {
-      meta = f.meta (omega arith) ∙ d.meta (omega arith) ∙ c.meta (omega arith) ∙ b.meta (omega arith);
-      dbs = h.advances.rows ∙ ap (rows_at_sequence (number_of r) (pos (length_of r + 1))) (d.dbs (omega arith) ∙ c.dbs (omega arith) ∙ b.dbs (omega arith));
-      docs = f.docs (omega arith) ∙ h.places.rows ∙ ap (λ rows. with_cells rows cells) (h.removes.rows ∙ ap (filter (λ x. not (is_of (number_of r) w.id x))) (b.docs (omega arith)));
-      revs = f.revs (omega arith) ∙ d.revs (omega arith) ∙ c.revs (omega arith) ∙ one.rows;
-      locals = f.locals (omega arith) ∙ d.locals (omega arith) ∙ c.locals (omega arith) ∙ b.locals (omega arith);
-    }
+    let b = after_change a.trees a h.inserted revs_tree _ _ is (unchanged a.trees) one refl in
+    let c = after_change _ h.inserted h.removed docs_tree _ _ schema_b b h.removes (ap (filter (λ x. not (is_of (number_of r) w.id x))) b.docs) in
+    let d = after_change _ h.removed h.placed docs_tree _ _ schema_c c h.places (ap (λ rows. with_cells rows cells) c.docs) in
+    after_change _ h.placed e dbs_tree _ _ (h.places.schema ∙ schema_c) d h.advances (ap (rows_at_sequence (number_of r) (pos (length_of r + 1))) d.dbs)

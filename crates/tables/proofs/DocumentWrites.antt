@@ -1,20 +1,8 @@
 -- Writes of documents, one after another, are all of them in the database.
-use Rattle.std.proofs.Common.{◌≡◌, ◌+◌, ◌<◌, ◌^◌, ℕ, pos, Bool, true, false, cond, List, [], ◌∷◌, ◌++◌, length, filter, slice_get, Some, nat_cmp, refl, sym, ap, ap₂, subst, ◌∙◌, arith, length-append}
-use Rattle.std.proofs.lemmas.Cmp.{nat_list_cmp_total}
-use Rattle.std.specs.Cmp.{Equal-is}
-use Rattle.std.specs.Cmp.Lexicographic.{slice_cmp}
+use Rattle.tables.proofs.Common.{AreAcceptable, Bool, Contents, DocumentWrite, Equal-is, HasWritten, IsAcceptable, IsStorable, IsStore, IsWritable, IsWrite, List, Row, Some, [], all-filter, all-slice_get, ap, ap₂, arith, cond, contents_in, database_of, database_row, dbs_tree, eq_by_cmp, false, filter, is_named, length, length-append, length_of, name_of, nat_cmp, nat_list_cmp_total, number_of, pos, refl, row_after, row_at_sequence, security_text, slice_cmp, slice_get, subst, sym, true, with_all, with_all-append, with_one, ℕ, ◌++◌, ◌+◌, ◌<◌, ◌^◌, ◌∙◌, ◌∷◌, ◌≡◌}
 use Rattle.std.specs.FinMap as finite
-use Rattle.std.specs.Ordering.{eq_by_cmp}
-use Rattle.store.specs.Contents.{Contents, IsAcceptable, AreAcceptable}
-use Rattle.store.specs.Database.{Database, DocumentWrite, with_one, with_all}
-use Rattle.store.proofs.Contents.{with_all-append}
-use Rattle.sqlite_value.specs.Order.{Row}
-use Rattle.sqlite_keyed.proofs.ListLemmas.{all-filter, all-slice_get}
+use Rattle.store.specs.Database.{Database}
 use Rattle.sqlite.specs.Effect as sqlite
-use Rattle.tables.specs.Edits.{IsStorable, IsWritable, IsWrite, HasWritten, row_after}
-use Rattle.tables.specs.Layout.{IsStore}
-use Rattle.tables.specs.Rows.{number_of, name_of, security_text, length_of, is_named, database_row, row_at_sequence, database_of, contents_in}
-use Rattle.tables.specs.Schema.{dbs_tree}
 use Rattle.tables.proofs.DocumentWrite.{one_write-store, one_write-contents, one_write-row, one_write-database}
 use Rattle.tables.proofs.DocumentWriteDocuments.{insert_over}
 use Rattle.tables.proofs.Lookups.{database_there}

@@ -1,25 +1,10 @@
 -- What a query by tests on one table finds.
-use Rattle.std.proofs.Common.{◌≡◌, ℕ, List, [], ◌∷◌, map, filter, Bool, false, Ok, Err, Result, IfOk, sym, subst, IsPermutation, IsTrue, OnOk}
-use Rattle.std.specs.List.{AllByRecursion, list_all}
-use Rattle.sqlite_value.specs.Order.{Row}
-use Rattle.sqlite_sql.specs.Program.{overlay}
-use Rattle.sqlite_sql.specs.Term.{Term, eval_all, holds}
+use Rattle.tables.proofs.Common.{AllByRecursion, Asks, AsksInside, Bool, Database, Err, Ghosts, HasCleanDisk, Held, IfOk, IsPermutation, IsPlain, IsTrue, IsUnchanged, List, Ok, OnOk, OnlyLooks, Proceeds, Reads, ReadsInside, Result, Row, Schema, Select, Shown, State, Term, Trees, [], eval_all, false, filter, holds, list_all, map, overlay, reads_as, state, subst, sym, understood, ℕ, ◌∷◌, ◌≡◌}
 use Rattle.sqlite_schema.specs.declared.command.Command.{Command}
-use Rattle.sqlite_schema.specs.declared.command.Command.TheVariants.{Select}
-use Rattle.sqlite_schema.specs.declared.schema.Schema.{Schema}
-use Rattle.sqlite.specs.Listing.{understood, reads_listing}
-use Rattle.sqlite.specs.State.{State, HasCleanDisk, IsUnchanged, Shown}
-use Rattle.sqlite.proofs.Callers.{IsPlain, reads_as}
 use Rattle.tables.proofs.Queries.{program_on, selects}
 use Rattle.tables.proofs.Single.{HasOneAtMost, one_order}
 use Rattle.tables.proofs.Writes.{IsCommand}
-use Rattle.sqlite.specs.Effect.{Database}
-use Rattle.sqlite.specs.Held.{Held, state}
-use Rattle.sqlite_trees.specs.Tree.{Trees}
-use Rattle.sqlite_trees.specs.declared.store.Store.{Ghosts}
-use Rattle.tables.specs.Calls.{Reads, ReadsInside}
 use Rattle.tables.specs.Schema as tables
-use Rattle.tables.specs.Steps.{Asks, AsksInside, OnlyLooks, Proceeds}
 
 plain_in : (text : List ℕ) (command : Command) → IsCommand tables.schema text command → (s : Schema) → s ≡ tables.schema → IsPlain (understood s text)
 plain_in text command it s is = subst (λ x. IsPlain (understood x text)) (sym is) it.plain
@@ -55,7 +40,7 @@ module _ {S X Y E : Type 0} {IsFit : Database → Type 0} {Is : Trees → X → 
   reads_nothing e r is h = subst (Reads g IsFit old new IsOther) (sym is) (record { found = λ clean fit. tt; served = λ clean. tt; stands = λ has clean. tt; looks = h.looks; asks = h.asks })
 
 module _ {X E : Type 0} (schema : Schema) (old new : State) (has : old.now.schema ≡ schema) (text : List ℕ) (tree : ℕ) (tests shown : List Term) (names : List (List ℕ))
-    (command : IsCommand schema text (Select (program_on tree tests shown []) names)) (unlisted : reads_listing schema text ≡ false) (params : Row) (p : Row → Bool) (show : Row → Row)
+    (command : IsCommand schema text (Select (program_on tree tests shown []) names)) (params : Row) (p : Row → Bool) (show : Row → Row)
     (bare : overlay old.now.trees [] tree ≡ old.now.trees tree) (shows : (r : Row) → eval_all shown (params ∷ r ∷ []) ≡ show r)
     (passes : AllByRecursion (λ r. list_all (holds (params ∷ r ∷ [])) tests ≡ p r) (old.now.trees tree)) where
   -- the rows that pass, in some order
@@ -63,7 +48,7 @@ module _ {X E : Type 0} (schema : Schema) (old new : State) (has : old.now.schem
   finds_where (Err e) items h = tt
   finds_where (Ok x) items h =
       selects tests params p tree shown [] show old.now bare shows passes (items x)
-      (reads_as text params old new schema has (Select (program_on tree tests shown []) names) command.is command.plain unlisted (items x) h)
+      (reads_as text params old new schema has (Select (program_on tree tests shown []) names) command.is command.plain command.unlisted (items x) h)
 
   -- one row at most
   pub finds_one : HasOneAtMost p (old.now.trees tree) → (r : Result X E) (items : X → List Row) → IfOk r (λ x. Shown text params old new (items x)) → IfOk r (λ x. items x ≡ map show (filter p (old.now.trees tree)))

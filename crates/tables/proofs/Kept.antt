@@ -1,13 +1,5 @@
 -- Rows stay fit for a change as some are taken out, and as one is put in.
-use Rattle.std.proofs.Common.{◌≡◌, ℕ, ℤ, pos, ◌<ℤ◌, Bool, true, false, if◌then◌else◌, List, [], ◌∷◌, filter, map, refl, sym, subst₂}
-use Rattle.std.specs.List.{AllByRecursion}
-use Rattle.sqlite_value.specs.declared.value.Value.TheVariants.{Int, Blob}
-use Rattle.sqlite_value.specs.Order.{Row}
-use Rattle.sqlite_trees.specs.Tree.{IsAscending}
-use Rattle.sqlite_keyed.proofs.KeyedLemmas.{above_all}
-use Rattle.sqlite_keyed.proofs.ListLemmas.{all-filter, all-append, all_map, all_weaker, ascending-filter, ascending-append, ascending-map, ascending_weaker}
-use Rattle.tables.specs.Layout.{IsKeyed, AreKeyed, AreDatabaseRows}
-use Rattle.tables.specs.Rows.{number_of, next_number, with_cells, has_number, name_of, security_text, length_of, database_cells, database_row, row_with_security, row_at_sequence, rows_with_security, rows_at_sequence}
+use Rattle.tables.proofs.Common.{AllByRecursion, AreDatabaseRows, AreKeyed, Blob, Bool, Int, IsAscending, IsKeyed, List, Row, [], above_all, all-append, all-filter, all_map, all_weaker, ascending-append, ascending-filter, ascending-map, ascending_weaker, database_cells, database_row, false, filter, has_number, if◌then◌else◌, length_of, map, name_of, next_number, number_of, pos, refl, row_at_sequence, row_with_security, rows_at_sequence, rows_with_security, security_text, subst₂, sym, true, with_cells, ℕ, ℤ, ◌<ℤ◌, ◌∷◌, ◌≡◌}
 
 -- each number is below the next
 pub below_next : (rows : List Row) → IsAscending (λ a b. number_of a <ℤ number_of b) rows → AllByRecursion (λ r. number_of r <ℤ next_number rows) rows

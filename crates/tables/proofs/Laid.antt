@@ -1,35 +1,16 @@
 -- What the layout says of new tables and of the rows that are shown.
-use Rattle.std.proofs.Common.{◌≡◌, ◌<◌, ◌^◌, ◌-◌, ◌⊎◌, inl, inr, ℕ, ℤ, pos, List, [], ◌∷◌, map, filter, Bool, true, false, ◌&&◌, nat_le, cond, if◌then◌else◌, is_some, option_map, MatchOption, Option, None, Some, Result, Ok, Err, IsTrue, refl, sym, ap, subst, ◌∙◌, arith}
-use Rattle.std.proofs.lemmas.Bool.Decides.{nat_tests}
+use Rattle.tables.proofs.Common.{AllByRecursion, AreLawful, AreNumbered, Bool, Err, HistoryContent, Int, IsAscending, IsBetter, IsCount, IsDatabaseRow, IsDocumentRow, IsLaid, IsLocalRow, IsNew, IsRevisionRow, IsShownDatabase, IsShownDocument, IsShownLocal, IsShownRevision, IsStore, IsTrue, List, MatchOption, None, Ok, Option, Result, Revision, Row, Some, SpellsJson, SpellsParentOf, SpellsRevision, Text, Trees, Value, [], all-filter, all_weaker, ap, arith, body_cell, bytes, canonical, column, cond, contents_in, count_in, database_of, db_of, dbs_tree, docs_tree, entry_of, eq_by_cmp, false, filter, greatest_number, has_all, history_in, id_of, if◌then◌else◌, inl, inr, is_gone, is_held, is_known, is_leaf, is_marked, is_of, is_revision, is_set, is_some, json_in, length_of, local_of, locals_tree, map, name_of, nat_le, nat_tests, number_of, option_map, parent_cell, parent_in, pos, refl, revision_cmp, revision_cmp_total, revision_of, revs_tree, rowid, same, schema, sequence_of, shown_database, shown_document, shown_local, shown_revision, slice_cmp, subst, sym, text_of, true, value_or_null, winner, winner_text, ℕ, ℤ, ◌&&◌, ◌-◌, ◌<◌, ◌^◌, ◌∙◌, ◌∷◌, ◌≡◌, ◌⊎◌}
 use Rattle.std.specs.FinMap as map
-use Rattle.std.specs.List.{AllByRecursion}
-use Rattle.std.specs.Ordering.{eq_by_cmp, nat_cmp}
-use Rattle.std.specs.Cmp.Lexicographic.{slice_cmp}
-use Rattle.couch_json.specs.Canonical.{canonical}
+use Rattle.std.specs.Ordering.{nat_cmp}
 use Rattle.couch_json.specs.Reading.{reading}
 use Rattle.couch_json.specs.Value as json
 use Rattle.couch_json.specs.declared.fault.JsonFault.{JsonFault}
 use Rattle.couch_json.proofs.ReadingBack.{reading-canonical}
-use Rattle.tree.specs.History.{HistoryContent, is_known, is_leaf, winner, IsBetter}
-use Rattle.tree.specs.Revision.{Revision, is_revision, text_of, revision_cmp, greatest_number}
-use Rattle.tree.proofs.Kept.{revision_cmp_total}
 use Rattle.tree.proofs.Leaves.{winner_is_best}
-use Rattle.tree.proofs.Revisions.{same}
 use Rattle.store.specs.Database.{Database}
-use Rattle.store.specs.Lawful.{AreLawful}
-use Rattle.sqlite_value.specs.declared.value.Value.{Value}
-use Rattle.sqlite_value.specs.declared.value.Value.TheVariants.{Int, Text}
-use Rattle.sqlite_value.specs.Order.{Row, column, bytes}
-use Rattle.sqlite_trees.specs.Tree.{Trees, IsAscending, rowid}
-use Rattle.sqlite_keyed.proofs.ListLemmas.{all-filter, all_weaker}
 use Rattle.sqlite.specs.Effect as sqlite
-use Rattle.tables.specs.Layout.{AreNumbered, IsDatabaseRow, IsDocumentRow, IsRevisionRow, IsLocalRow, IsLaid, IsStore, IsNew}
-use Rattle.tables.specs.Rows.{number_of, count_in, json_in, value_or_null, length_of, shown_database, shown_local, shown_revision, local_of, shown_document, sequence_of, winner_text, is_gone, revision_of, entry_of, parent_in, parent_cell, body_cell, is_held, is_marked, is_set, is_of, db_of, id_of, history_in, contents_in, database_of, name_of}
 use Rattle.sqlite_schema.specs.Names.{same_name}
 use Rattle.sqlite_trees.specs.Sound.{same_name as same_text}
-use Rattle.tables.specs.Presence.{has_all}
-use Rattle.tables.specs.Schema.{schema, dbs_tree, docs_tree, revs_tree, locals_tree}
-use Rattle.tables.specs.Shown.{IsCount, SpellsRevision, SpellsJson, SpellsParentOf, IsShownDatabase, IsShownDocument, IsShownLocal, IsShownRevision}
 
 -- ---- new tables
 

@@ -1,3 +1,4 @@
+pub mod Common
 pub mod Creations
 pub mod Stays
 pub mod QueriesInside
@@ -35,3 +36,4 @@ pub mod NewDatabases
 pub mod Secured
 pub mod LocalChanges
 pub mod Removed
+pub mod Lemmas

@@ -1,18 +1,9 @@
 -- The entries of a map that is made of rows, in the order of their keys.
-use Rattle.std.proofs.Common.{◌≡◌, Bool, true, false, cond, List, [], ◌∷◌, map, filter, Option, Some, Ordering, is_eq, is_gt, refl, sym, ap, ap₂, ◌∙◌}
-use Rattle.std.proofs.lemmas.Bool.{both_ways}
-use Rattle.std.specs.Cmp.{IsTotalOrder, Equal-is}
+use Rattle.tables.proofs.Common.{AllByRecursion, Bool, Equal-is, FinMap, IsAntisymmetric, IsAscending, IsTotalOrder, List, Option, Ordering, Row, Some, [], all-filter, all_both, all_weaker, ap, ap₂, both_ways, cond, eq_by_cmp, false, filter, insert_sorted, is_eq, is_gt, map, refl, sort_by, sym, true, ◌∙◌, ◌∷◌, ◌≡◌}
 use Rattle.std.specs.declared.cmp.Ordering.TheVariants.{Less, Equal, Greater}
 use Rattle.std.specs.FinMap as finite
-use Rattle.std.specs.FinMap.{FinMap, IsAntisymmetric}
 use Rattle.std.specs.FinMap.Entries.{by_order}
-use Rattle.std.specs.List.{AllByRecursion}
-use Rattle.std.specs.Ordering.{eq_by_cmp}
 use Rattle.store.proofs.Pagings.{no_length}
-use Rattle.sqlite_value.specs.Order.{Row}
-use Rattle.sqlite_trees.specs.Tree.{IsAscending}
-use Rattle.sqlite_keyed.specs.Lists.{insert_sorted, sort_by}
-use Rattle.sqlite_keyed.proofs.ListLemmas.{all_both, all_weaker, all-filter}
 use Rattle.tables.proofs.Sorted.{all_sorted, passing}
 
 -- ---- rows by a key

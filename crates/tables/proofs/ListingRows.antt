@@ -1,34 +1,10 @@
 -- The rows of the documents of a database, and what they say in a listing.
-use Rattle.std.proofs.Common.{◌≡◌, ◌≢◌, ℕ, ◌+◌, ◌-◌, ℤ, Bool, true, false, not, cond, List, [], ◌∷◌, ◌++◌, length, map, filter, count_by, Option, Some, None, option_map, option_to_list, Ordering, is_eq, bytes_eq, nat_cmp, refl, sym, ap, ap₂, ◌∙◌, arith}
-use Rattle.std.proofs.lemmas.Cmp.{nat_cmp_total, nat_list_cmp_total, on_total}
-use Rattle.std.proofs.lemmas.List.{length-map}
-use Rattle.std.proofs.lemmas.List.Sorted.{length_permutation, sum_by-IsPermutation}
+use Rattle.tables.proofs.Common.{AllByRecursion, Bool, Document, Equal-is, HistoryContent, IdRow, IsAscending, IsDocumentRow, IsLaid, IsListedDocument, IsPermutation-sort_by, IsRevisionRow, IsShownDocument, IsTotalOrder, List, None, Option, Ordering, Revision, Row, SequenceRow, Some, Trees, [], all-filter, all_both, all_of, all_weaker, ap, ap₂, arith, ascending_weaker, by_id, by_sequence, bytes_eq, bytes_eq-Decides, column, cond, database_of, db_of, docs_tree, document_counts, document_of, false, filter, gone_count, history_in, id_of, in_sequence, is_eq, is_eq-slice_cmp, is_gone, is_gone_by, is_in, leaves, leaves_row, length, length-map, length_permutation, listed_counts, listed_document, listed_mark, live_count, live_rev, live_rev_by, live_row, live_rows, map, map-map, nat_cmp, nat_cmp-IsAntisymmetric, nat_cmp_total, nat_list_cmp_total, not, number_of, on_total, option_map, option_to_list, put_in_sequence, read_of_text, refl, revision_read, revs_tree, rows_of, same_int, sequence_of, sequence_row, shown_document, sort_by, sum_by-IsPermutation, sym, text_of, true, winner, winner_text, with_row, ℕ, ℤ, ◌++◌, ◌+◌, ◌-◌, ◌∙◌, ◌∷◌, ◌≡◌, ◌≢◌}
+use Rattle.std.proofs.Common.{count_by}
 use Rattle.std.proofs.lemmas.List.Sums.{sum_by-cons}
-use Rattle.std.proofs.lemmas.Map.Text.{is_eq-slice_cmp}
-use Rattle.std.proofs.lemmas.Slice.Eq.{bytes_eq-Decides}
-use Rattle.std.specs.Cmp.{IsTotalOrder, Equal-is}
 use Rattle.std.specs.FinMap as finite
-use Rattle.std.specs.FinMap.{nat_cmp-IsAntisymmetric}
-use Rattle.std.specs.List.{AllByRecursion}
-use Rattle.tree.specs.History.{HistoryContent, leaves, winner}
-use Rattle.tree.specs.Revision.{Revision, revision_read, text_of}
-use Rattle.tree.proofs.RevisionText.{read_of_text}
-use Rattle.store.specs.Database.{Document}
 use Rattle.store.specs.Pages as pages
-use Rattle.store.specs.Pages.{SequenceRow, document_counts, gone_count, in_sequence, is_gone_by, live_count, live_rev, live_rev_by, put_in_sequence, rows_of, with_row}
-use Rattle.store.specs.declared.page.IdRow.{IdRow}
 use Rattle.store.proofs.Pagings.{no_length}
-use Rattle.sqlite_value.specs.Order.{Row, column}
-use Rattle.sqlite_trees.specs.Tree.{Trees, IsAscending}
-use Rattle.sqlite_keyed.specs.Lists.{sort_by}
-use Rattle.sqlite_keyed.proofs.KeyedLemmas.{same_int}
-use Rattle.sqlite_keyed.proofs.ListLemmas.{all_both, all_of, all_weaker, all-filter, ascending_weaker, map-map}
-use Rattle.sqlite_keyed.proofs.SortLemmas.{IsPermutation-sort_by}
-use Rattle.tables.specs.Layout.{IsDocumentRow, IsLaid, IsRevisionRow}
-use Rattle.tables.specs.Listings.{IsListedDocument, leaves_row, listed_counts, listed_mark, live_row, live_rows, sequence_row}
-use Rattle.tables.specs.Rows.{by_id, by_sequence, database_of, db_of, document_of, history_in, id_of, is_gone, is_in, listed_document, number_of, sequence_of, shown_document, winner_text}
-use Rattle.tables.specs.Schema.{docs_tree, revs_tree}
-use Rattle.tables.specs.Shown.{IsShownDocument}
 use Rattle.tables.proofs.Laid.{known_lawful, same_texts, shown_documents, winner_known}
 use Rattle.tables.proofs.ListingOrders.{ascending_within, entries_by_key, map_sorted}
 use Rattle.tables.proofs.RowMaps.{text_exact}
@@ -83,7 +59,7 @@ counted p q f [] all = refl
 counted p q f (x ∷ xs) all =
     sum_by-cons (λ y. cond (p y) 1 0) (f x) (map f xs) ∙ ap₂ (λ b n. cond b 1 0 + n) all.0 (counted p q f xs all.1) ∙ sym (sum_by-cons (λ y. cond (q y) 1 0) x xs)
 
-both_counted : {A : Type 0} (p : A → Bool) (xs : List A) → count_by p xs + count_by (λ x. not (p x)) xs ≡ length xs
+pub both_counted : {A : Type 0} (p : A → Bool) (xs : List A) → count_by p xs + count_by (λ x. not (p x)) xs ≡ length xs
 both_counted p [] = omega arith
 both_counted p (x ∷ xs) =
     let a = sum_by-cons (λ y. cond (p y) 1 0) x xs in

@@ -1,34 +1,13 @@
 -- The databases that the tables hold after a local document of one is written.
-use Rattle.std.proofs.Common.{◌≡◌, ◌≢◌, ◌<◌, ◌^◌, ℕ, ℤ, true, false, not, List, [], ◌∷◌, ◌++◌, map, filter, slice_get, cond, Some, option_map, bytes_eq, IsTrue, refl, sym, ap, ap₂, subst, ◌∙◌, arith, append-nil}
-use Rattle.std.proofs.Math.Logic.{∥∥₁_map}
-use Rattle.std.proofs.lemmas.Bool.{and_from, and_left, both_ways, not-true}
-use Rattle.std.proofs.lemmas.Bool.Decides.{Decides-int_eq}
-use Rattle.std.proofs.lemmas.Cmp.{nat_list_cmp_total}
-use Rattle.std.proofs.lemmas.Slice.Eq.{bytes_eq-Decides}
+use Rattle.tables.proofs.Common.{AllByRecursion, AreLawful, Changes, Decides-int_eq, IsBody, IsDocumentRow, IsLaid, IsLawful, IsLocalRow, IsRevisionRow, IsStore, IsTrue, List, LocalDocument, Row, Some, Trees, [], all-append, all-filter, all_weaker, and_from, and_left, ap, append-nil, ap₂, arith, ascending-append, ascending-filter, both_ways, bytes_eq, bytes_eq-Decides, canonical, cond, contents_in, database_of, db_of, dbs_tree, docs_tree, false, filter, id_of, is_document_id, is_in, is_named, is_of, lawful_insert, lawful_local, local_cells, local_of, local_row, locals_in, locals_tree, map, nat_list_cmp_total, next_number, not, not-true, number_of, option_map, refl, revs_tree, same_int, slice_get, subst, sym, true, with_cells, with_local, ℕ, ℤ, ∥∥₁_map, ◌++◌, ◌<◌, ◌^◌, ◌∙◌, ◌∷◌, ◌≡◌, ◌≢◌}
 use Rattle.std.specs.FinMap as finite
-use Rattle.std.specs.List.{AllByRecursion}
 use Rattle.std.specs.Ordering.{int_eq}
-use Rattle.couch_json.specs.Canonical.{canonical}
-use Rattle.couch_json.specs.Lawful.{IsLawful}
-use Rattle.tree.specs.DocumentId.{is_document_id}
-use Rattle.store.specs.Contents.{with_local}
-use Rattle.store.specs.Lawful.{AreLawful, IsBody}
-use Rattle.store.specs.declared.local_document.LocalDocument.{LocalDocument}
-use Rattle.store.proofs.Lawfuls.{lawful_insert, lawful_local}
-use Rattle.sqlite_value.specs.Order.{Row}
-use Rattle.sqlite_trees.specs.Tree.{Trees}
-use Rattle.sqlite_keyed.proofs.KeyedLemmas.{same_int}
-use Rattle.sqlite_keyed.proofs.ListLemmas.{all-append, all-filter, all_weaker, ascending-append, ascending-filter}
 use Rattle.sqlite.specs.Effect as sqlite
-use Rattle.tables.specs.Layout.{IsDocumentRow, IsLocalRow, IsRevisionRow, IsLaid, IsStore}
-use Rattle.tables.specs.Rows.{contents_in, database_of, db_of, id_of, is_in, is_named, is_of, local_cells, local_of, local_row, locals_in, next_number, number_of, with_cells}
-use Rattle.tables.specs.Schema.{dbs_tree, docs_tree, revs_tree, locals_tree, meta_tree}
-use Rattle.tables.specs.Steps.{Changes}
 use Rattle.tables.proofs.Kept.{keyed-filter, keyed-with_cells}
 use Rattle.tables.proofs.Lookups.{database_there, number_there, one_changed}
 use Rattle.tables.proofs.Numbered.{numbered_from_keyed}
 use Rattle.tables.proofs.RowMaps.{filter_apart, filter_left, filter_push, rows_replaced, text_exact, text_tests}
-use Rattle.tables.proofs.Rests.{Leaves, contents_same, document_kept, laid_same, leaves, local_kept, revision_kept, spelled, trees_of}
+use Rattle.tables.proofs.Rests.{contents_same, document_kept, local_kept, after_change, revision_kept, spelled, store_of, unchanged, with_rows}
 use Rattle.tables.proofs.Single.{fails}
 use Rattle.tables.proofs.Sorted.{passing}
 use Rattle.tables.proofs.Tables.{locals_keyed}
@@ -57,7 +36,7 @@ module _ (trees : Trees) (h : IsLaid trees) (name : List ℕ) (d : Row) (is : sl
   new_row = local_row (next_number kept) n id document.number (canonical document.body)
 
   abbrev written : Trees
-  written = trees_of (trees meta_tree) (trees dbs_tree) (trees docs_tree) (trees revs_tree) (kept ++ new_row ∷ [])
+  written = with_rows (with_rows trees locals_tree kept) locals_tree (kept ++ new_row ∷ [])
 
   document_is : local_of new_row ≡ document
   document_is = ap (λ v. record { number = document.number; body = v }) (spelled document.body lawful (omega (arith, body.shallow)))
@@ -83,7 +62,7 @@ module _ (trees : Trees) (h : IsLaid trees) (name : List ℕ) (d : Row) (is : sl
       ap (λ l. finite.from_entries (map (λ r. (id_of r, local_of r)) l))
       (filter_push (is_in m) kept new_row ∙ ap₂ (λ l b. l ++ cond b (new_row ∷ []) []) (filter_apart (is_in m) (is_of n id) away (trees locals_tree)) new_away ∙ append-nil (filter (is_in m) (trees locals_tree)))
 
-  pub written_contents : contents_in written ≡ finite.insert (contents_in trees) name (with_local (database_of trees d) id document)
+  written_contents : contents_in written ≡ finite.insert (contents_in trees) name (with_local (database_of trees d) id document)
   written_contents =
       one_changed trees h name d is (database_of written) (with_local (database_of trees d) id document) (ap (λ l. record (database_of trees d) { locals = l }) own_locals)
       (λ r apart. ap (λ l. record (database_of trees r) { locals = l }) (other_locals (number_of r) apart))
@@ -99,7 +78,7 @@ module _ (trees : Trees) (h : IsLaid trees) (name : List ℕ) (d : Row) (is : sl
     body = subst (λ (x : LocalDocument). IsBody x.body) (sym document_is) body;
   }
 
-  pub written_laid : IsLaid written
+  written_laid : IsLaid written
   written_laid = record {
     version = h.version;
     dbs_numbered = h.dbs_numbered;
@@ -131,24 +110,12 @@ module _ (a b c : sqlite.Database) (name : List ℕ) (d : Row) (id : List ℕ) (
   abbrev after : Trees
   after = written a.trees h.laid name d is id document is_id body lawful small
 
-  one : Leaves locals_tree a.trees b.trees
-  one = leaves locals_tree (filter (λ r. not (is_of (number_of d) id r)) (a.trees locals_tree)) a b h.schema_is first
-
-  two : Leaves locals_tree b.trees c.trees
-  two = leaves locals_tree (with_cells (b.trees locals_tree) (local_cells (number_of d) id document.number (canonical document.body))) b c (first.schema ∙ h.schema_is) second
-
-  rows_are : c.trees locals_tree ≡ after locals_tree
-  rows_are = second.rows ∙ ap (λ l. with_cells l (local_cells (number_of d) id document.number (canonical document.body))) first.rows
-
-  pub written_store : IsStore c
-  written_store = record {
-    schema_is = second.schema ∙ first.schema ∙ h.schema_is;
-    laid = laid_same after c.trees (two.meta (omega arith) ∙ one.meta (omega arith)) (two.dbs (omega arith) ∙ one.dbs (omega arith)) (two.docs (omega arith) ∙ one.docs (omega arith)) (two.revs (omega arith) ∙ one.revs (omega arith)) rows_are
-        (written_laid a.trees h.laid name d is id document is_id body lawful small);
-  }
-
-  pub another_local : option_map (λ db. finite.insert (contents_in a.trees) name (with_local db id document)) (finite.get (contents_in a.trees) name) ≡ Some (contents_in c.trees)
-  another_local =
-      ap (option_map (λ db. finite.insert (contents_in a.trees) name (with_local db id document))) (database_there a.trees h.laid name d is)
-      ∙ ap Some (sym (contents_same after c.trees (two.meta (omega arith) ∙ one.meta (omega arith)) (two.dbs (omega arith) ∙ one.dbs (omega arith)) (two.docs (omega arith) ∙ one.docs (omega arith)) (two.revs (omega arith) ∙ one.revs (omega arith)) rows_are
-      ∙ written_contents a.trees h.laid name d is id document is_id body lawful small))
+  pub written_store : IsStore c × (option_map (λ db. finite.insert (contents_in a.trees) name (with_local db id document)) (finite.get (contents_in a.trees) name) ≡ Some (contents_in c.trees))
+  written_store =
+      let one = after_change a.trees a b locals_tree _ _ h.schema_is (unchanged a.trees) first refl in
+      let has = first.schema ∙ h.schema_is in
+      let same = after_change _ b c locals_tree _ _ has one second (ap (λ l. with_cells l (local_cells (number_of d) id document.number (canonical document.body))) one.locals) in (
+        store_of after c (second.schema ∙ has) same (written_laid a.trees h.laid name d is id document is_id body lawful small),
+        ap (option_map (λ db. finite.insert (contents_in a.trees) name (with_local db id document))) (database_there a.trees h.laid name d is)
+            ∙ ap Some (sym (contents_same after c.trees same ∙ written_contents a.trees h.laid name d is id document is_id body lawful small)),
+      )

@@ -1,27 +1,13 @@
 -- What the statements on local documents mean.
-use Rattle.std.proofs.Common.{◌≡◌, ℕ, ℤ, pos, List, [], ◌∷◌, map, filter, codes, false, not, Ok, Err, Result, IfOk, OnOk, refl, subst}
-use Rattle.sqlite_value.specs.declared.value.Value.TheVariants.{Null, Int, Text, Blob}
-use Rattle.sqlite_value.specs.Order.{Row}
-use Rattle.sqlite_sql.specs.Term.{Term, lit, col}
-use Rattle.sqlite_schema.specs.declared.command.Command.TheVariants.{Insert, Delete, Select}
-use Rattle.sqlite_schema.specs.declared.command.Source.TheVariants.{Values}
-use Rattle.sqlite_schema.specs.declared.program.Program.{Program}
-use Rattle.sqlite_tied.specs.Compute.{everything}
-use Rattle.sqlite.specs.Listing.{understood, reads_listing}
+use Rattle.tables.proofs.Common.{AreKeyed, Blob, Changes, Delete, Err, IfOk, Insert, Int, IsStore, List, Null, Ok, OnOk, Program, Ran, Result, Row, Select, Shown, State, Term, Text, Values, [], cast_row, codes, col, everything, false, filter, is_in, is_of, lit, local_cells, locals_table, locals_tree, map, not, pos, refl, schema, shown_local, subst, understood, with_cells, ℕ, ℤ, ◌∷◌, ◌≡◌}
 use Rattle.tables.proofs.Cells.{by_db, by_id, cast_null, cast_int, tests_db, tests_id}
 use Rattle.tables.proofs.Queries.{program_on}
-use Rattle.tables.proofs.Writes.{IsCommand, inserts}
+use Rattle.tables.proofs.Single.{inserts_row}
+use Rattle.tables.proofs.Writes.{IsCommand}
 use Rattle.tables.proofs.Deletes.{deletes_where}
 use Rattle.tables.proofs.Finds.{finds_one}
 use Rattle.tables.proofs.Numbered.{numbered_from_keyed}
-use Rattle.tables.proofs.Single.{one_row}
 use Rattle.tables.proofs.Tables.{locals_plain, locals_keyed, one_of}
-use Rattle.tables.specs.Layout.{AreKeyed, IsStore}
-use Rattle.tables.specs.Rows.{is_in, is_of, shown_local, local_cells, with_cells}
-use Rattle.tables.specs.Steps.{Ran, Changes}
-use Rattle.sqlite.specs.State.{State, Shown}
-use Rattle.sqlite_rules.specs.Cast.{cast_row}
-use Rattle.tables.specs.Schema.{schema, locals_tree, locals_table}
 
 abbrev pub insert_text : List ℕ
 insert_text = codes "INSERT INTO locals (db, id, n, body) VALUES (?1, ?2, ?3, ?4)"
@@ -43,15 +29,15 @@ clear_program = program_on locals_tree by_db (col 1 0 ∷ []) []
 
 pub insert_is : IsCommand schema insert_text (Insert 4 (Values values 5))
 unfolding understood everything
-insert_is = record { is = refl; plain = (refl, refl) }
+insert_is = record { is = refl; plain = (refl, refl); unlisted = refl }
 
 pub delete_is : IsCommand schema delete_text (Delete 4 delete_program)
 unfolding understood everything
-delete_is = record { is = refl; plain = (refl, refl) }
+delete_is = record { is = refl; plain = (refl, refl); unlisted = refl }
 
 pub clear_is : IsCommand schema clear_text (Delete 4 clear_program)
 unfolding understood everything
-clear_is = record { is = refl; plain = (refl, refl) }
+clear_is = record { is = refl; plain = (refl, refl); unlisted = refl }
 
 cast : (db : ℤ) (id : List ℕ) (n : ℕ) (body : List ℕ) → cast_row locals_table (Null ∷ local_cells db id n body) ≡ Null ∷ local_cells db id n body
 cast db id n body = λ i. cast_null i ∷ cast_int db i ∷ Blob id ∷ cast_int (pos n) i ∷ Text body ∷ []
@@ -59,10 +45,7 @@ cast db id n body = λ i. cast_null i ∷ cast_int db i ∷ Blob id ∷ cast_int
 module _ {X E : Type 0} (old new : State) (has : old.now.schema ≡ schema) (keyed : AreKeyed (old.now.trees locals_tree)) where
   pub inserts_local : (db : ℤ) (id : List ℕ) (n : ℕ) (body : List ℕ) (r : Result X E) → OnOk r (Ran insert_text (local_cells db id n body) old new)
       → OnOk r (Changes locals_tree (with_cells (old.now.trees locals_tree) (local_cells db id n body)) old.now new.now)
-  inserts_local db id n body (Err e) h = tt
-  inserts_local db id n body (Ok x) h =
-      let rows = one_row old.now.trees locals_table (Null ∷ local_cells db id n body) (local_cells db id n body) (cast db id n body) (numbered_from_keyed _ keyed) in
-      subst (λ l. Changes locals_tree l old.now new.now) rows (inserts schema 4 locals_table locals_plain old new has insert_text values 5 insert_is (local_cells db id n body) h)
+  inserts_local db id n body r h = inserts_row schema 4 locals_table locals_plain old new has insert_text values 5 insert_is (local_cells db id n body) (Null ∷ local_cells db id n body) (local_cells db id n body) (cast db id n body) (numbered_from_keyed _ keyed) refl r h
 
   pub deletes_local : (db : ℤ) (id : List ℕ) (r : Result X E) → OnOk r (Ran delete_text (Int db ∷ Blob id ∷ []) old new)
       → OnOk r (Changes locals_tree (filter (λ l. not (is_of db id l)) (old.now.trees locals_tree)) old.now new.now)
@@ -79,15 +62,9 @@ find_text = codes "SELECT n, body FROM locals WHERE db = ?1 AND id = ?2"
 
 pub find_is : IsCommand schema find_text (Select (program_on locals_tree by_id (col 1 3 ∷ col 1 4 ∷ []) []) (codes "n" ∷ codes "body" ∷ []))
 unfolding understood everything
-find_is = record { is = refl; plain = (refl, refl) }
-
-find_unlisted : reads_listing schema find_text ≡ false
-unfolding understood everything
-find_unlisted = refl
+find_is = record { is = refl; plain = (refl, refl); unlisted = refl }
 
 pub finds_local : {X E : Type 0} (old new : State) → IsStore old.now → (db : ℤ) (id : List ℕ) (r : Result X E) (items : X → List Row) → IfOk r (λ x. Shown find_text (Int db ∷ Blob id ∷ []) old new (items x))
     → IfOk r (λ x. items x ≡ map shown_local (filter (is_of db id) (old.now.trees locals_tree)))
-finds_local old new is db id r items h = finds_one schema old new is.schema_is find_text locals_tree by_id (col 1 3 ∷ col 1 4 ∷ []) (codes "n" ∷ codes "body" ∷ []) find_is find_unlisted (Int db ∷ Blob id ∷ []) (is_of db id) shown_local refl (λ r. refl)
+finds_local old new is db id r items h = finds_one schema old new is.schema_is find_text locals_tree by_id (col 1 3 ∷ col 1 4 ∷ []) (codes "n" ∷ codes "body" ∷ []) find_is (Int db ∷ Blob id ∷ []) (is_of db id) shown_local refl (λ r. refl)
     (tests_id db id _ (locals_keyed old.now.trees is.laid)) (one_of (old.now.trees locals_tree) is.laid.local_ids_apart db id) r items h
-
--- ---- why the changes fail

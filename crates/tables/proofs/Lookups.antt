@@ -1,23 +1,8 @@
 -- What the tables answer by name and by id is what the databases that they hold have there.
-use Rattle.std.proofs.Common.{◌≡◌, ◌⊎◌, ℕ, ℤ, Bool, true, false, ◌||◌, List, [], ◌∷◌, map, filter, find, slice_get, Option, Some, None, option_map, is_some, is_eq, bytes_eq, nat_cmp, refl, sym, ap, ap₂, subst, ◌∙◌}
-use Rattle.std.proofs.lemmas.Bool.{both_ways, and_parts}
-use Rattle.std.proofs.lemmas.Bool.Decides.{Decides-int_eq}
-use Rattle.std.proofs.lemmas.Cmp.{nat_list_cmp_total}
-use Rattle.std.proofs.lemmas.Map.Text.{is_eq-slice_cmp}
-use Rattle.std.proofs.lemmas.Slice.Eq.{bytes_eq-Decides}
-use Rattle.std.specs.Cmp.Lexicographic.{slice_cmp}
+use Rattle.tables.proofs.Common.{AllByRecursion, Bool, Decides-int_eq, IsDatabaseNumber, IsLaid, IsRevisionRow, List, None, Option, Row, Some, Trees, [], all_both, all_weaker, and_parts, ap, ap₂, ascending_weaker, both_ways, by_name, bytes_eq, bytes_eq-Decides, contents_in, database_of, db_of, dbs_tree, docs_tree, document_of, entry_of, false, filter, filter_none, find, has_number, history_in, id_of, is_eq, is_eq-slice_cmp, is_in, is_named, is_of, is_some, list_any, local_of, locals_tree, map, map-map, name_of, nat_cmp, nat_list_cmp_total, number_of, option_map, refl, revision_of, revs_tree, same_int, slice_cmp, slice_get, slice_get-filter, sort_by, subst, sym, true, ℕ, ℤ, ◌||◌, ◌∙◌, ◌∷◌, ◌≡◌, ◌⊎◌}
 use Rattle.std.specs.FinMap as finite
-use Rattle.std.specs.List.{AllByRecursion, list_any}
 use Rattle.store.specs.Database as store
 use Rattle.store.specs.Database.{Database}
-use Rattle.sqlite_value.specs.Order.{Row}
-use Rattle.sqlite_trees.specs.Tree.{Trees}
-use Rattle.sqlite_keyed.specs.Lists.{sort_by}
-use Rattle.sqlite_keyed.proofs.KeyedLemmas.{same_int}
-use Rattle.sqlite_keyed.proofs.ListLemmas.{all_both, all_weaker, ascending_weaker, map-map, slice_get-filter, filter_none}
-use Rattle.tables.specs.Layout.{IsDatabaseNumber, IsLaid, IsRevisionRow}
-use Rattle.tables.specs.Rows.{db_of, has_number, id_of, is_in, is_of, is_named, name_of, number_of, by_name, revision_of, entry_of, local_of, document_of, database_of, history_in, contents_in}
-use Rattle.tables.specs.Schema.{dbs_tree, docs_tree, revs_tree, locals_tree}
 use Rattle.tables.proofs.ListingOrders.{entries_by_key}
 use Rattle.tables.proofs.RowMaps.{any_found, filter_both, find_passes, get_filtered, one_test, only_found, rows_changed, text_exact, text_tests}
 use Rattle.tables.proofs.Single.{few, fails}

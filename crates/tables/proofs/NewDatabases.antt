@@ -1,32 +1,11 @@
 -- The databases that the tables hold after one is made.
-use Rattle.std.proofs.Common.{◌≡◌, ◌≢◌, ℕ, ℤ, pos, ◌<ℤ◌, Bool, true, false, ◌||◌, List, [], ◌∷◌, ◌++◌, codes, map, filter, find, cond, Option, Some, None, option_map, bytes_eq, IsTrue, refl, sym, ap, subst, ◌∙◌, arith}
-use Rattle.std.proofs.Math.Logic.{∥∥₁_map}
-use Rattle.std.proofs.lemmas.Bool.{both_ways}
-use Rattle.std.proofs.lemmas.Cmp.{nat_list_cmp_total}
-use Rattle.std.proofs.lemmas.Int.{ints}
-use Rattle.std.proofs.lemmas.Slice.Eq.{bytes_eq-Decides}
+use Rattle.tables.proofs.Common.{AllByRecursion, AreLawful, Bool, Changes, IsDatabaseNumber, IsDatabaseRow, IsDocumentRow, IsLaid, IsLawful, IsLocalRow, IsRevisionRow, IsStore, IsTrue, List, None, Option, Row, Some, Trees, [], admins_only, all-append, all_weaker, ap, arith, ascending-append, both_ways, bytes_eq, bytes_eq-Decides, canonical, closed_security, codes, cond, contents_in, database_cells, database_of, database_row, db_of, dbs_tree, docs_tree, document_of, false, filter, filter_none, find, id_of, ints, is_database_name, is_in, is_security, lawful_empty, lawful_insert, length_of, list_any, local_of, locals_tree, map, name_of, nat_list_cmp_total, new_database, next_number, number_of, option_map, pos, refl, revs_tree, same_int, security_of, subst, sym, true, with_cells, ℕ, ℤ, ∥∥₁_map, ◌++◌, ◌<ℤ◌, ◌||◌, ◌∙◌, ◌∷◌, ◌≡◌, ◌≢◌}
 use Rattle.std.specs.FinMap as finite
-use Rattle.std.specs.List.{AllByRecursion, list_any}
 use Rattle.std.specs.Ordering.{int_eq}
-use Rattle.couch_json.specs.Canonical.{canonical}
-use Rattle.couch_json.specs.Lawful.{IsLawful}
-use Rattle.policy.specs.Security.{admins_only, closed_security, is_security}
-use Rattle.store.specs.Contents.{new_database}
-use Rattle.store.specs.DatabaseName.{is_database_name}
-use Rattle.store.specs.Lawful.{AreLawful}
-use Rattle.store.proofs.Lawfuls.{lawful_empty, lawful_insert}
-use Rattle.sqlite_value.specs.Order.{Row}
-use Rattle.sqlite_trees.specs.Tree.{Trees}
-use Rattle.sqlite_keyed.proofs.KeyedLemmas.{same_int}
-use Rattle.sqlite_keyed.proofs.ListLemmas.{all-append, all_weaker, ascending-append, filter_none}
 use Rattle.sqlite.specs.Effect as sqlite
-use Rattle.tables.specs.Layout.{IsDatabaseNumber, IsDatabaseRow, IsDocumentRow, IsLocalRow, IsRevisionRow, IsLaid, IsStore}
-use Rattle.tables.specs.Rows.{contents_in, database_cells, database_of, database_row, db_of, document_of, id_of, is_in, length_of, local_of, name_of, next_number, number_of, security_of, with_cells}
-use Rattle.tables.specs.Schema.{dbs_tree, docs_tree, revs_tree, locals_tree, meta_tree}
-use Rattle.tables.specs.Steps.{Changes}
 use Rattle.tables.proofs.Kept.{below_next, databases-with_cells}
 use Rattle.tables.proofs.RowMaps.{find_push, get_rows, rows_pushed, text_exact, text_tests}
-use Rattle.tables.proofs.Rests.{Leaves, contents_same, document_kept, laid_same, leaves, length_at, local_kept, revision_kept, spelled, trees_of}
+use Rattle.tables.proofs.Rests.{contents_same, document_kept, length_at, local_kept, after_change, revision_kept, spelled, store_of, unchanged, with_rows}
 use Rattle.tables.proofs.Single.{fails}
 use Rattle.tables.proofs.Tables.{databases_laid, numbered_databases}
 
@@ -80,7 +59,7 @@ module _ (trees : Trees) (h : IsLaid trees) (name : List ℕ) (is_name : IsTrue 
   new_row = database_row next name (canonical closed_security) (pos 0)
 
   abbrev made : Trees
-  made = trees_of (trees meta_tree) (rows ++ new_row ∷ []) (trees docs_tree) (trees revs_tree) (trees locals_tree)
+  made = with_rows trees dbs_tree (rows ++ new_row ∷ [])
 
   is_closed : security_of new_row ≡ closed_security
   is_closed = spelled closed_security closed_is_lawful (omega arith)
@@ -108,14 +87,14 @@ module _ (trees : Trees) (h : IsLaid trees) (name : List ℕ) (is_name : IsTrue 
     documents = finite.from_entries (map (λ r. (id_of r, document_of (trees revs_tree) r)) (no_documents i));
   }
 
-  pub made_contents : contents_in made ≡ finite.insert (contents_in trees) name new_database
+  made_contents : contents_in made ≡ finite.insert (contents_in trees) name new_database
   made_contents =
       rows_pushed nat_list_cmp_total text_exact name_of named (text_tests name_of) (database_of made) rows new_row fresh ∙ ap (finite.insert (contents_in trees) name) database_is
 
   lengths : (n : ℤ) → IsDatabaseNumber trees n → length_at (rows ++ new_row ∷ []) n ≡ length_at rows n
   lengths n there = ap (option_map length_of) (find_push (λ r. int_eq (number_of r) n) rows new_row there)
 
-  pub made_laid : IsLaid made
+  made_laid : IsLaid made
   made_laid = record {
     version = h.version;
     dbs_numbered = numbered_databases (rows ++ new_row ∷ []) (databases-with_cells rows name (canonical closed_security) 0 (databases_laid trees h));
@@ -139,16 +118,10 @@ module _ (trees : Trees) (h : IsLaid trees) (name : List ℕ) (is_name : IsTrue 
 
 module _ (old new : sqlite.Database) (name : List ℕ) (h : IsStore old) (is_name : IsTrue (is_database_name name)) (none : finite.get (contents_in old.trees) name ≡ None)
     (c : Changes dbs_tree (with_cells (old.trees dbs_tree) (database_cells name (canonical closed_security) (pos 0))) old new) where
-  rest : Leaves dbs_tree old.trees new.trees
-  rest = leaves dbs_tree (with_cells (old.trees dbs_tree) (database_cells name (canonical closed_security) (pos 0))) old new h.schema_is c
+  abbrev after : Trees
+  after = made old.trees h.laid name is_name none
 
-  pub new_store : IsStore new
-  new_store = record {
-    schema_is = c.schema ∙ h.schema_is;
-    laid = laid_same (made old.trees h.laid name is_name none) new.trees (rest.meta (omega arith)) c.rows (rest.docs (omega arith)) (rest.revs (omega arith)) (rest.locals (omega arith)) (made_laid old.trees h.laid name is_name none);
-  }
-
-  pub new_contents : contents_in new.trees ≡ finite.insert (contents_in old.trees) name new_database
-  new_contents =
-      contents_same (made old.trees h.laid name is_name none) new.trees (rest.meta (omega arith)) c.rows (rest.docs (omega arith)) (rest.revs (omega arith)) (rest.locals (omega arith))
-      ∙ made_contents old.trees h.laid name is_name none
+  pub new_store : IsStore new × (contents_in new.trees ≡ finite.insert (contents_in old.trees) name new_database)
+  new_store =
+      let same = after_change old.trees old new dbs_tree _ _ h.schema_is (unchanged old.trees) c refl in
+      (store_of after new (c.schema ∙ h.schema_is) same (made_laid old.trees h.laid name is_name none), contents_same after new.trees same ∙ made_contents old.trees h.laid name is_name none)

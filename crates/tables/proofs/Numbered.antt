@@ -1,22 +1,8 @@
 -- Rows whose numbers rise, and what puts one in or takes some out.
-use Rattle.std.proofs.Common.{◌≡◌, ℤ, pos, ◌+ℤ◌, Bool, true, false, not, List, [], ◌∷◌, ◌++◌, map, filter, fold, refl, sym, ap, ap₂, ◌∙◌, int_cmp, int_eq, is_eq, cond, ◌&&◌, ◌||◌, IsPermutation}
-use Rattle.std.specs.List.{AllByRecursion, list_any}
-use Rattle.std.specs.Ordering.{match_ordering}
-use Rattle.sqlite_value.specs.declared.value.Value.{Value}
-use Rattle.sqlite_value.specs.declared.value.Value.TheVariants.{Null, Int, Real, Text, Blob}
-use Rattle.sqlite_value.specs.Order.{Row, value_cmp}
-use Rattle.sqlite_value.proofs.OrderLemmas.{value_cmp-Int}
-use Rattle.sqlite_trees.specs.Tree.{rowid, put_row, without_rowid, has_rowid}
-use Rattle.sqlite_rules.specs.Edit.{id_in, next_rowid, without_all}
-use Rattle.sqlite_rules.specs.Calls.{ids_of}
+use Rattle.tables.proofs.Common.{AllByRecursion, AreKeyed, AreNumbered, Blob, Bool, Int, IsPermutation, IsPermutation-map, List, Null, Real, Row, Text, Value, [], all-filter, all_of, all_weaker, ap, ap₂, cond, false, filter, filter_all, filter_same, fold, has_rowid, id_in, ids_of, int_cmp, int_eq, is_eq, list_any, list_any-IsPermutation, map, map-map, map_same, match_ordering, next_rowid, not, number_of, pos, put_row, refl, rowid, sym, true, value_cmp, value_cmp-Int, whole_in, without_all, without_key, without_rowid, ℤ, ◌&&◌, ◌++◌, ◌+ℤ◌, ◌||◌, ◌∙◌, ◌∷◌, ◌≡◌}
 use Rattle.sqlite_keyed.specs.Keyed.{insert_by, next_key}
-use Rattle.sqlite_keyed.specs.Lists.{without_key}
-use Rattle.sqlite_keyed.proofs.ListLemmas.{all-filter, all_weaker, filter_all, filter_same, all_of, map-map, map_same}
 use Rattle.sqlite_keyed.proofs.SliceLemmas.{insert_next}
 use Rattle.sqlite_keyed.proofs.WriteLemmas.{removes_delete}
-use Rattle.std.proofs.lemmas.List.Sorted.{list_any-IsPermutation, IsPermutation-map}
-use Rattle.tables.specs.Layout.{AreNumbered, AreKeyed}
-use Rattle.tables.specs.Rows.{number_of, whole_in}
 use Rattle.tables.proofs.RowMaps.{filter_both}
 
 pub same_whole : (v : Value) → id_in v ≡ whole_in v

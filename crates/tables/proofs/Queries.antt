@@ -1,16 +1,6 @@
 -- What a SELECT on one table answers.
-use Rattle.std.proofs.Common.{◌≡◌, ℕ, pos, negsuc, List, [], ◌∷◌, ◌++◌, map, filter, flat_map, Bool, true, false, cond, None, refl, sym, ap, subst, ◌∙◌, IsPermutation}
-use Rattle.std.specs.List.{AllByRecursion, list_all}
-use Rattle.std.proofs.lemmas.List.Sorted.{IsPermutation-map}
-use Rattle.sqlite_value.specs.declared.value.Value.TheVariants.{Int}
-use Rattle.sqlite_value.specs.declared.keys.Key.{Key}
-use Rattle.sqlite_value.specs.Order.{Row}
-use Rattle.sqlite_sql.specs.Term.{Term, lit, Env, eval_all, holds}
-use Rattle.sqlite_sql.specs.Program.{overlay}
-use Rattle.sqlite_sql.specs.Query.{Query, Output, inner, end, output, IsAnswer}
-use Rattle.sqlite_schema.specs.declared.program.Program.{Program}
-use Rattle.sqlite_keyed.proofs.ListLemmas.{map-map, map_same}
-use Rattle.sqlite.specs.Effect.{Database, Answers}
+use Rattle.tables.proofs.Common.{AllByRecursion, Bool, Database, Env, Int, IsAnswer, IsPermutation, IsPermutation-map, Key, List, None, Output, Program, Query, Row, Term, [], ap, cond, end, eval_all, false, filter, flat_map, holds, inner, list_all, lit, map, map-map, map_same, negsuc, output, overlay, pos, refl, subst, sym, true, ℕ, ◌++◌, ◌∙◌, ◌∷◌, ◌≡◌}
+use Rattle.sqlite.specs.Effect.{Answers}
 
 -- no limit
 abbrev pub unlimited : Term

@@ -1,12 +1,6 @@
 -- What a query of a transaction leaves.
-use Rattle.std.proofs.Common.{◌⊎◌, inl, inr, List, ℕ, Result, Ok, Err, IfOk, IfErr, OnOk, IsSome, IsTrue, subst}
-use Rattle.sqlite_value.specs.Order.{Row}
+use Rattle.tables.proofs.Common.{AsksInside, Err, Error, FailsToQuery, HasCleanDisk, IfErr, IfOk, IsRolledBack, IsSome, IsTooLate, IsTrue, IsUnchanged, List, Ok, OnOk, Proceeds, Result, Row, Shown, State, Survives, inl, inr, subst, unchanged_keeps, understood, ℕ, ◌⊎◌}
 use Rattle.sqlite.specs.Given.{IsPlain}
-use Rattle.sqlite.specs.Listing.{understood}
-use Rattle.sqlite.specs.State.{State, HasCleanDisk, FailsToQuery, IsRolledBack, IsTooLate, IsUnchanged, Shown, Survives}
-use Rattle.sqlite.specs.declared.error.Error.{Error}
-use Rattle.sqlite.proofs.InsideLemmas.{unchanged_keeps}
-use Rattle.tables.specs.Steps.{AsksInside, Proceeds}
 use Rattle.tables.proofs.Stays.{query_fails, query_stands, shown_open}
 
 module _ {X : Type 0} (old new : State) (sql : List ℕ) (params : Row) where

@@ -1,27 +1,13 @@
 -- The databases that the tables hold after one is removed with all its rows.
-use Rattle.std.proofs.Common.{◌≡◌, ◌≢◌, ℕ, ℤ, true, false, not, List, map, filter, slice_get, Some, is_some, option_map, bytes_eq, sym, ap, ap₂, ◌∙◌, subst, arith}
-use Rattle.std.proofs.Math.Logic.{∥∥₁_map}
-use Rattle.std.proofs.lemmas.Bool.{and_parts, not-true}
-use Rattle.std.proofs.lemmas.Cmp.{nat_list_cmp_total}
+use Rattle.tables.proofs.Common.{AllByRecursion, AreLawful, Changes, IsDatabaseRow, IsDocumentRow, IsLaid, IsLocalRow, IsRevisionRow, IsStore, List, Row, Some, Trees, all-filter, all_both, all_weaker, and_parts, ap, ap₂, arith, ascending-filter, bytes_eq, contents_in, database_of, db_of, dbs_tree, docs_tree, document_of, documents_in, entry_of, false, filter, has_number, history_in, id_of, is_in, is_named, is_of, is_some, lawful_remove, length_of, list_any, local_of, locals_tree, map, name_of, nat_list_cmp_total, not, not-true, number_of, option_map, refl, revision_of, revs_tree, same_int, security_of, slice_get, subst, sym, true, ℕ, ℤ, ∥∥₁_map, ◌∙◌, ◌≡◌, ◌≢◌}
 use Rattle.std.specs.FinMap as finite
-use Rattle.std.specs.List.{AllByRecursion, list_any}
 use Rattle.std.specs.Ordering.{int_eq}
-use Rattle.store.specs.Lawful.{AreLawful}
-use Rattle.store.proofs.Lawfuls.{lawful_remove}
-use Rattle.sqlite_value.specs.Order.{Row}
-use Rattle.sqlite_trees.specs.Tree.{Trees}
-use Rattle.sqlite_keyed.proofs.KeyedLemmas.{same_int}
-use Rattle.sqlite_keyed.proofs.ListLemmas.{all-filter, all_both, all_weaker, ascending-filter}
 use Rattle.sqlite.specs.Effect as sqlite
-use Rattle.tables.specs.Layout.{IsDatabaseRow, IsDocumentRow, IsLocalRow, IsRevisionRow, IsLaid, IsStore}
-use Rattle.tables.specs.Rows.{contents_in, database_of, db_of, document_of, documents_in, entry_of, has_number, history_in, id_of, is_in, is_named, is_of, length_of, local_of, name_of, number_of, revision_of, security_of}
-use Rattle.tables.specs.Schema.{dbs_tree, docs_tree, revs_tree, locals_tree, meta_tree}
-use Rattle.tables.specs.Steps.{Changes}
 use Rattle.tables.proofs.Kept.{databases-filter, keyed-filter}
 use Rattle.tables.proofs.Lookups.{by_number}
 use Rattle.tables.proofs.Numbered.{filter_on, numbered_from_keyed}
 use Rattle.tables.proofs.RowMaps.{any_found, filter_apart, find_apart, rows_alike, rows_removed, text_exact, text_tests}
-use Rattle.tables.proofs.Rests.{Leaves, contents_same, document_kept, laid_same, leaves, length_at, local_kept, revision_kept, trees_of}
+use Rattle.tables.proofs.Rests.{contents_same, document_kept, length_at, local_kept, after_change, revision_kept, store_of, unchanged, with_rows}
 use Rattle.tables.proofs.Sorted.{passing}
 use Rattle.tables.proofs.Tables.{databases_laid, docs_keyed, locals_keyed, numbered_databases, revs_keyed}
 
@@ -72,7 +58,7 @@ module _ (trees : Trees) (h : IsLaid trees) (name : List ℕ) (d : Row) (is : sl
   rows = filter (λ r. not (has_number (number_of d) r)) (trees dbs_tree)
 
   abbrev removed : Trees
-  removed = trees_of (trees meta_tree) rows (outside n (trees docs_tree)) (outside n (trees revs_tree)) (outside n (trees locals_tree))
+  removed = with_rows (with_rows (with_rows (with_rows trees docs_tree (outside n (trees docs_tree))) revs_tree (outside n (trees revs_tree))) locals_tree (outside n (trees locals_tree))) dbs_tree rows
 
   -- ---- contents
 
@@ -83,7 +69,7 @@ module _ (trees : Trees) (h : IsLaid trees) (name : List ℕ) (d : Row) (is : sl
       (ap (λ l. finite.from_entries (map (λ s. (id_of s, local_of s)) l)) (others_in n (number_of r) apart (trees locals_tree)))
       (other_documents n (number_of r) apart (trees docs_tree) (trees revs_tree))
 
-  pub removed_contents : contents_in removed ≡ finite.remove (contents_in trees) name
+  removed_contents : contents_in removed ≡ finite.remove (contents_in trees) name
   removed_contents =
       rows_alike nat_list_cmp_total text_exact name_of (λ q r. bytes_eq (name_of r) q) (text_tests name_of) (database_of removed) (database_of trees) rows
       (all_weaker (λ r. not (has_number n r) ≡ true) (λ r. database_of removed r ≡ database_of trees r) same_database rows (passing (λ r. not (has_number n r)) (trees dbs_tree)))
@@ -98,7 +84,7 @@ module _ (trees : Trees) (h : IsLaid trees) (name : List ℕ) (d : Row) (is : sl
   outside_all P Q all keeps each =
       all_both P (λ r. not (is_in n r) ≡ true) Q (λ r k out. keeps r k (not-true (is_in n r) out)) (outside n all) (all-filter P (λ r. not (is_in n r)) all each) (passing (λ r. not (is_in n r)) all)
 
-  pub removed_laid : IsLaid removed
+  removed_laid : IsLaid removed
   removed_laid = record {
     version = h.version;
     dbs_numbered = numbered_databases rows (databases-filter (λ r. not (has_number n r)) (trees dbs_tree) (databases_laid trees h));
@@ -125,38 +111,14 @@ module _ (a b c d e : sqlite.Database) (name : List ℕ) (w : Row) (h : IsStore 
   abbrev after : Trees
   after = removed a.trees h.laid name w is
 
-  one : Leaves docs_tree a.trees b.trees
-  one = leaves docs_tree (outside (number_of w) (a.trees docs_tree)) a b h.schema_is docs
-
-  two : Leaves revs_tree b.trees c.trees
-  two = leaves revs_tree (outside (number_of w) (b.trees revs_tree)) b c (docs.schema ∙ h.schema_is) revs
-
-  three : Leaves locals_tree c.trees d.trees
-  three = leaves locals_tree (outside (number_of w) (c.trees locals_tree)) c d (revs.schema ∙ docs.schema ∙ h.schema_is) locals
-
-  four : Leaves dbs_tree d.trees e.trees
-  four = leaves dbs_tree (filter (λ r. not (has_number (number_of w) r)) (d.trees dbs_tree)) d e (locals.schema ∙ revs.schema ∙ docs.schema ∙ h.schema_is) dbs
-
-  meta_is : e.trees meta_tree ≡ after meta_tree
-  meta_is = four.meta (omega arith) ∙ three.meta (omega arith) ∙ two.meta (omega arith) ∙ one.meta (omega arith)
-
-  dbs_are : e.trees dbs_tree ≡ after dbs_tree
-  dbs_are = dbs.rows ∙ ap (λ l. filter (λ r. not (has_number (number_of w) r)) l) (three.dbs (omega arith) ∙ two.dbs (omega arith) ∙ one.dbs (omega arith))
-
-  docs_are : e.trees docs_tree ≡ after docs_tree
-  docs_are = four.docs (omega arith) ∙ three.docs (omega arith) ∙ two.docs (omega arith) ∙ docs.rows
-
-  revs_are : e.trees revs_tree ≡ after revs_tree
-  revs_are = four.revs (omega arith) ∙ three.revs (omega arith) ∙ revs.rows ∙ ap (λ l. outside (number_of w) l) (one.revs (omega arith))
-
-  locals_are : e.trees locals_tree ≡ after locals_tree
-  locals_are = four.locals (omega arith) ∙ locals.rows ∙ ap (λ l. outside (number_of w) l) (two.locals (omega arith) ∙ one.locals (omega arith))
-
-  pub removed_store : IsStore e
-  removed_store = record {
-    schema_is = dbs.schema ∙ locals.schema ∙ revs.schema ∙ docs.schema ∙ h.schema_is;
-    laid = laid_same after e.trees meta_is dbs_are docs_are revs_are locals_are (removed_laid a.trees h.laid name w is);
-  }
-
-  pub fewer_databases : contents_in e.trees ≡ finite.remove (contents_in a.trees) name
-  fewer_databases = contents_same after e.trees meta_is dbs_are docs_are revs_are locals_are ∙ removed_contents a.trees h.laid name w is
+  pub removed_store : IsStore e × (contents_in e.trees ≡ finite.remove (contents_in a.trees) name)
+  removed_store =
+      let n = number_of w in
+      let has_b = docs.schema ∙ h.schema_is in
+      let has_c = revs.schema ∙ has_b in
+      let has_d = locals.schema ∙ has_c in
+      let one = after_change a.trees a b docs_tree _ _ h.schema_is (unchanged a.trees) docs refl in
+      let two = after_change _ b c revs_tree _ _ has_b one revs (ap (outside n) one.revs) in
+      let three = after_change _ c d locals_tree _ _ has_c two locals (ap (outside n) two.locals) in
+      let same = after_change _ d e dbs_tree _ _ has_d three dbs (ap (filter (λ r. not (has_number n r))) three.dbs) in
+      (store_of after e (dbs.schema ∙ has_d) same (removed_laid a.trees h.laid name w is), contents_same after e.trees same ∙ removed_contents a.trees h.laid name w is)

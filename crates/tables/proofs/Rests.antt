@@ -1,25 +1,10 @@
 -- What a change leaves of other tables and of rows that it doesn't touch, and tables that say the same.
-use Rattle.std.proofs.Common.{◌≡◌, ◌≢◌, ◌≤◌, ℕ, ℤ, true, List, map, cond, eqb, Option, Some, None, is_some, option_map, refl, sym, ap, subst, ◌∙◌, arith}
-use Rattle.std.specs.FinMap.{from_entries}
-use Rattle.std.specs.List.{AllByRecursion, list_any}
+use Rattle.tables.proofs.Common.{AllByRecursion, AreLawful, AreNumbered, Changes, Contents, HistoryContent, IsAscending, IsDatabaseRow, IsDocumentRow, IsLaid, IsLawful, IsLocalRow, IsRevisionRow, IsStore, List, None, Option, Revision, Row, Schema, Some, Trees, all_weaker, ap, arith, cond, contents_in, database_at, db_of, dbs_tree, docs_tree, documents_in, eqb, eqb_tells, from_entries, held_of, history_in, id_of, inl, inr, is_deleted, is_gone, is_known, is_of, is_some, json_in, length_of, list_any, locals_in, locals_tree, map, meta_tree, name_of, number_of, option_map, refl, revs_tree, schema, security_of, sequence_of, subst, sym, text_cell, text_of, true, value_or_null, winner, winner_text, ℕ, ℤ, ◌∙◌, ◌≡◌, ◌≢◌, ◌≤◌}
 use Rattle.std.specs.Ordering.{int_eq}
-use Rattle.couch_json.specs.Lawful.{IsLawful}
 use Rattle.couch_json.specs.Nesting.{max_open}
 use Rattle.couch_json.specs.Value as json
 use Rattle.couch_json.proofs.ReadingBack.{reading-canonical}
-use Rattle.tree.specs.History.{HistoryContent, held_of, is_deleted, is_known, winner}
-use Rattle.tree.specs.Revision.{Revision, text_of}
-use Rattle.store.specs.Contents.{Contents}
-use Rattle.store.specs.Lawful.{AreLawful}
-use Rattle.sqlite_value.specs.Order.{Row}
-use Rattle.sqlite_trees.specs.Tree.{Trees, IsAscending}
-use Rattle.sqlite_schema.specs.declared.schema.Schema.{Schema}
-use Rattle.sqlite_keyed.proofs.ListLemmas.{all_weaker}
 use Rattle.sqlite.specs.Effect as sqlite
-use Rattle.tables.specs.Layout.{AreNumbered, IsDatabaseRow, IsDocumentRow, IsLocalRow, IsRevisionRow, IsLaid, database_at}
-use Rattle.tables.specs.Rows.{contents_in, db_of, documents_in, history_in, id_of, is_gone, is_of, json_in, length_of, locals_in, name_of, number_of, security_of, sequence_of, text_cell, value_or_null, winner_text}
-use Rattle.tables.specs.Schema.{schema, meta_tree, dbs_tree, docs_tree, revs_tree, locals_tree}
-use Rattle.tables.specs.Steps.{Changes}
 use Rattle.tables.proofs.RowMaps.{any_found}
 
 -- ---- the other tables
@@ -92,45 +77,71 @@ module _ (old new : Trees) where
     body = k.body;
   }
 
--- ---- tables that say the same
+-- ---- tables with the same rows
+
+pub record AreSame (a b : Trees) : Type 0 where
+  pub meta : b meta_tree ≡ a meta_tree
+  pub dbs : b dbs_tree ≡ a dbs_tree
+  pub docs : b docs_tree ≡ a docs_tree
+  pub revs : b revs_tree ≡ a revs_tree
+  pub locals : b locals_tree ≡ a locals_tree
+
+pub unchanged : (a : Trees) → AreSame a a
+unchanged a = record { meta = refl; dbs = refl; docs = refl; revs = refl; locals = refl }
+
+-- the tables, where one has these rows
+abbrev pub with_rows : Trees → ℕ → List Row → Trees
+with_rows trees tree rows t = cond (eqb t tree) rows (trees t)
+
+-- a further change
+pub after_change : (a : Trees) (b c : sqlite.Database) (tree : ℕ) (rows now : List Row) → b.schema ≡ schema → AreSame a b.trees → Changes tree rows b c → rows ≡ now → AreSame (with_rows a tree now) c.trees
+after_change a b c tree rows now is same h rows_are =
+    let rest = leaves tree rows b c is h in
+    record { meta = at meta_tree rest.meta same.meta; dbs = at dbs_tree rest.dbs same.dbs; docs = at docs_tree rest.docs same.docs; revs = at revs_tree rest.revs same.revs; locals = at locals_tree rest.locals same.locals }
+  where
+    at : (t : ℕ) → (t ≢ tree → c.trees t ≡ b.trees t) → b.trees t ≡ a t → c.trees t ≡ with_rows a tree now t
+    at t other was = elim (eqb_tells t tree) [
+      | inl here ↦ ap c.trees here.1 ∙ h.rows ∙ rows_are ∙ ap (λ x. cond x now (a t)) (sym here.0)
+      | inr away ↦ other away.1 ∙ was ∙ ap (λ x. cond x now (a t)) (sym away.0)
+    ]
 
 -- the databases that rows of these tables hold
 abbrev pub contents_of : List Row → List Row → List Row → List Row → Contents
 contents_of dbs docs revs locals =
     from_entries (map (λ r. (name_of r, record { length = length_of r; security = security_of r; locals = locals_in locals (number_of r); documents = documents_in docs revs (number_of r) })) dbs)
 
--- tables of these rows
-abbrev pub trees_of : List Row → List Row → List Row → List Row → List Row → Trees
-trees_of meta dbs docs revs locals t = cond (eqb t meta_tree) meta (cond (eqb t dbs_tree) dbs (cond (eqb t docs_tree) docs (cond (eqb t revs_tree) revs locals)))
-
-module _ (a b : Trees) (meta : b meta_tree ≡ a meta_tree) (dbs : b dbs_tree ≡ a dbs_tree) (docs : b docs_tree ≡ a docs_tree) (revs : b revs_tree ≡ a revs_tree) (locals : b locals_tree ≡ a locals_tree) where
+module _ (a b : Trees) (same : AreSame a b) where
   pub contents_same : contents_in b ≡ contents_in a
-  contents_same = λ i. contents_of (dbs i) (docs i) (revs i) (locals i)
+  contents_same = λ i. contents_of (same.dbs i) (same.docs i) (same.revs i) (same.locals i)
 
   pub laid_same : IsLaid a → IsLaid b
   laid_same h =
-      let lengths : (n : ℤ) → length_at (b dbs_tree) n ≡ length_at (a dbs_tree) n = λ n. ap (λ l. length_at l n) dbs in
-      let histories : (n : ℤ) (id : List ℕ) → history_in (b revs_tree) n id ≡ history_in (a revs_tree) n id = λ n id. ap (λ l. history_in l n id) revs in
+      let lengths : (n : ℤ) → length_at (b dbs_tree) n ≡ length_at (a dbs_tree) n = λ n. ap (λ l. length_at l n) same.dbs in
+      let histories : (n : ℤ) (id : List ℕ) → history_in (b revs_tree) n id ≡ history_in (a revs_tree) n id = λ n id. ap (λ l. history_in l n id) same.revs in
       record {
-        version = meta ∙ h.version;
-        dbs_numbered = subst AreNumbered (sym dbs) h.dbs_numbered;
-        docs_numbered = subst AreNumbered (sym docs) h.docs_numbered;
-        revs_numbered = subst AreNumbered (sym revs) h.revs_numbered;
-        locals_numbered = subst AreNumbered (sym locals) h.locals_numbered;
-        dbs = subst (AllByRecursion IsDatabaseRow) (sym dbs) h.dbs;
-        names_apart = subst (IsAscending _) (sym dbs) h.names_apart;
-        docs = subst (AllByRecursion (IsDocumentRow b)) (sym docs)
+        version = same.meta ∙ h.version;
+        dbs_numbered = subst AreNumbered (sym same.dbs) h.dbs_numbered;
+        docs_numbered = subst AreNumbered (sym same.docs) h.docs_numbered;
+        revs_numbered = subst AreNumbered (sym same.revs) h.revs_numbered;
+        locals_numbered = subst AreNumbered (sym same.locals) h.locals_numbered;
+        dbs = subst (AllByRecursion IsDatabaseRow) (sym same.dbs) h.dbs;
+        names_apart = subst (IsAscending _) (sym same.dbs) h.names_apart;
+        docs = subst (AllByRecursion (IsDocumentRow b)) (sym same.docs)
             (all_weaker (IsDocumentRow a) (IsDocumentRow b) (λ r. document_kept a b r (lengths (db_of r)) (histories (db_of r) (id_of r))) (a docs_tree) h.docs);
-        ids_apart = subst (IsAscending _) (sym docs) h.ids_apart;
-        sequences_apart = subst (IsAscending _) (sym docs) h.sequences_apart;
-        revs = subst (AllByRecursion (IsRevisionRow b)) (sym revs)
-            (all_weaker (IsRevisionRow a) (IsRevisionRow b) (λ r. revision_kept a b r (ap (list_any (is_of (db_of r) (id_of r))) docs) (histories (db_of r) (id_of r))) (a revs_tree) h.revs);
-        revisions_apart = subst (IsAscending _) (sym revs) h.revisions_apart;
-        locals = subst (AllByRecursion (IsLocalRow b)) (sym locals)
+        ids_apart = subst (IsAscending _) (sym same.docs) h.ids_apart;
+        sequences_apart = subst (IsAscending _) (sym same.docs) h.sequences_apart;
+        revs = subst (AllByRecursion (IsRevisionRow b)) (sym same.revs)
+            (all_weaker (IsRevisionRow a) (IsRevisionRow b) (λ r. revision_kept a b r (ap (list_any (is_of (db_of r) (id_of r))) same.docs) (histories (db_of r) (id_of r))) (a revs_tree) h.revs);
+        revisions_apart = subst (IsAscending _) (sym same.revs) h.revisions_apart;
+        locals = subst (AllByRecursion (IsLocalRow b)) (sym same.locals)
             (all_weaker (IsLocalRow a) (IsLocalRow b) (λ r. local_kept a b r (lengths (db_of r))) (a locals_tree) h.locals);
-        local_ids_apart = subst (IsAscending _) (sym locals) h.local_ids_apart;
+        local_ids_apart = subst (IsAscending _) (sym same.locals) h.local_ids_apart;
         lawful = subst (λ c. ∥ AreLawful c ∥₁) (sym contents_same) h.lawful;
       }
+
+-- so they are those of a store
+pub store_of : (a : Trees) (new : sqlite.Database) → new.schema ≡ schema → AreSame a new.trees → IsLaid a → IsStore new
+store_of a new is same h = record { schema_is = is; laid = laid_same a new.trees same h }
 
 -- ---- texts
 

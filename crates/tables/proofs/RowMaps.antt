@@ -1,17 +1,6 @@
 -- Maps that are made of rows, where each row gives one entry: its key and its value.
-use Rattle.std.proofs.Common.{◌≡◌, ℕ, Bool, true, false, not, ◌&&◌, ◌||◌, cond, List, [], ◌∷◌, ◌++◌, map, filter, find, slice_get, Option, Some, None, is_some, option_map, Ordering, bytes_eq, nat_cmp, refl, sym, ap, ap₂, subst, ◌∙◌}
-use Rattle.std.proofs.lemmas.Bool.{both_ways, false_from_ne_true, not_from_false}
-use Rattle.std.proofs.lemmas.Cmp.{nat_list_cmp_total}
-use Rattle.std.proofs.lemmas.List.{map-append}
-use Rattle.std.proofs.lemmas.Map.Text.{is_eq-slice_cmp}
-use Rattle.std.specs.Cmp.{IsTotalOrder, Equal-is, eq_by_cmp_equiv}
-use Rattle.std.specs.Cmp.Lexicographic.{slice_cmp}
+use Rattle.tables.proofs.Common.{AllByRecursion, Bool, Equal-is, FinMap, IsAntisymmetric, IsAscending, IsTotalOrder, List, None, Option, Ordering, Some, [], all_both, all_of, all_weaker, ap, ap₂, both_ways, bytes_eq, cond, eq_by_cmp, eq_by_cmp_equiv, false, false_from_ne_true, filter, filter-filter, filter_same, find, is_eq-slice_cmp, is_some, list_any, map, map-append, nat_cmp, nat_cmp-IsAntisymmetric, nat_list_cmp_total, not, not_from_false, option_map, refl, slice_cmp, slice_cmp-IsAntisymmetric, slice_get, slice_get-filter, subst, sym, true, ℕ, ◌&&◌, ◌++◌, ◌||◌, ◌∙◌, ◌∷◌, ◌≡◌}
 use Rattle.std.specs.FinMap as finite
-use Rattle.std.specs.FinMap.{FinMap, IsAntisymmetric, slice_cmp-IsAntisymmetric, nat_cmp-IsAntisymmetric}
-use Rattle.std.specs.List.{AllByRecursion, list_any}
-use Rattle.std.specs.Ordering.{eq_by_cmp}
-use Rattle.sqlite_trees.specs.Tree.{IsAscending}
-use Rattle.sqlite_keyed.proofs.ListLemmas.{all_of, all_weaker, all_both, filter-filter, filter_same, slice_get-filter}
 
 -- ---- lists
 

@@ -1,29 +1,13 @@
 -- The databases that the tables hold after one has another security object.
-use Rattle.std.proofs.Common.{◌≡◌, ◌≢◌, ◌≤◌, ℕ, ℤ, pos, true, false, List, [], ◌∷◌, map, filter, find, slice_get, cond, if◌then◌else◌, Some, option_map, nat_le, IsTrue, refl, sym, ap, ap₂, subst, subst₂, ◌∙◌, arith}
-use Rattle.std.proofs.Math.Logic.{∥∥₁_map}
-use Rattle.std.proofs.lemmas.Bool.{and_parts}
-use Rattle.std.proofs.lemmas.Bool.Decides.{Decides-int_eq, nat_tests}
+use Rattle.tables.proofs.Common.{AreLawful, Changes, Decides-int_eq, IsDatabaseRow, IsDocumentRow, IsLaid, IsLawful, IsLocalRow, IsRevisionRow, IsStore, IsTrue, List, Row, Some, Trees, [], all_map, all_weaker, and_parts, ap, ap₂, arith, ascending-map, ascending_weaker, canonical, cond, contents_in, database_of, database_row, db_of, dbs_tree, docs_tree, false, filter, find, has_number, if◌then◌else◌, is_named, is_security, lawful_insert, lawful_secured, length_of, locals_tree, map, map-map, map_same, name_of, nat_le, nat_tests, number_of, option_map, pos, refl, revs_tree, row_with_security, rows_with_security, security_of, slice_get, subst, subst₂, sym, true, with_security, ℕ, ℤ, ∥∥₁_map, ◌∙◌, ◌∷◌, ◌≡◌, ◌≢◌, ◌≤◌}
 use Rattle.std.specs.FinMap as finite
 use Rattle.std.specs.Ordering.{int_eq}
-use Rattle.couch_json.specs.Canonical.{canonical}
-use Rattle.couch_json.specs.Lawful.{IsLawful}
 use Rattle.couch_json.specs.Value as json
-use Rattle.policy.specs.Security.{is_security}
-use Rattle.store.specs.Contents.{with_security}
-use Rattle.store.specs.Lawful.{AreLawful}
-use Rattle.store.proofs.Lawfuls.{lawful_insert, lawful_secured}
-use Rattle.sqlite_value.specs.Order.{Row}
-use Rattle.sqlite_trees.specs.Tree.{Trees}
-use Rattle.sqlite_keyed.proofs.ListLemmas.{all_map, all_weaker, ascending-map, ascending_weaker, map-map, map_same}
 use Rattle.sqlite.specs.Effect as sqlite
-use Rattle.tables.specs.Layout.{IsDatabaseRow, IsDocumentRow, IsLocalRow, IsRevisionRow, IsLaid, IsStore}
-use Rattle.tables.specs.Rows.{contents_in, database_of, database_row, db_of, has_number, is_named, length_of, name_of, number_of, row_with_security, rows_with_security, security_of}
-use Rattle.tables.specs.Schema.{dbs_tree, docs_tree, revs_tree, locals_tree, meta_tree}
-use Rattle.tables.specs.Steps.{Changes}
 use Rattle.tables.proofs.Kept.{databases-secured}
 use Rattle.tables.proofs.Lookups.{database_there, one_changed}
 use Rattle.tables.proofs.RowMaps.{option_map-cond}
-use Rattle.tables.proofs.Rests.{Leaves, contents_same, document_kept, laid_same, leaves, length_at, local_kept, revision_kept, spelled, trees_of}
+use Rattle.tables.proofs.Rests.{contents_same, document_kept, length_at, local_kept, after_change, revision_kept, spelled, store_of, unchanged, with_rows}
 use Rattle.tables.proofs.Tables.{databases_laid, numbered_databases}
 
 -- rows that keep their numbers and their lengths
@@ -46,7 +30,7 @@ module _ (trees : Trees) (h : IsLaid trees) (name : List ℕ) (d : Row) (is : sl
   changed r = if has_number (number_of d) r then row_with_security (canonical v) r else r
 
   abbrev secured : Trees
-  secured = trees_of (trees meta_tree) (rows_with_security (number_of d) (canonical v) rows) (trees docs_tree) (trees revs_tree) (trees locals_tree)
+  secured = with_rows trees dbs_tree (rows_with_security (number_of d) (canonical v) rows)
 
   text_is : (r : Row) → security_of (row_with_security (canonical v) r) ≡ v
   text_is r = spelled v lawful (low (json.depth v) (and_parts _ (nat_le (json.depth v) 100) secure).1)
@@ -74,7 +58,7 @@ module _ (trees : Trees) (h : IsLaid trees) (name : List ℕ) (d : Row) (is : sl
   others : (r : Row) → has_number (number_of d) r ≡ false → database_of secured (changed r) ≡ database_of trees r
   others r away = ap (λ b. database_of secured (cond b (row_with_security (canonical v) r) r)) away
 
-  pub secured_contents : contents_in secured ≡ finite.insert (contents_in trees) name (with_security (database_of trees d) v)
+  secured_contents : contents_in secured ≡ finite.insert (contents_in trees) name (with_security (database_of trees d) v)
   secured_contents =
       ap finite.from_entries
       (map-map (λ r. (name_of r, database_of secured r)) changed rows ∙ map_same _ (λ r. (name_of r, database_of secured (changed r))) (λ r. ap (λ k. (k, database_of secured (changed r))) (same_name r)) rows)
@@ -93,7 +77,7 @@ module _ (trees : Trees) (h : IsLaid trees) (name : List ℕ) (d : Row) (is : sl
     | false ↦ k
   ]
 
-  pub secured_laid : IsLaid secured
+  secured_laid : IsLaid secured
   secured_laid = record {
     version = h.version;
     dbs_numbered = numbered_databases (map changed rows) (databases-secured rows (number_of d) (canonical v) (databases_laid trees h));
@@ -121,16 +105,10 @@ module _ (old new : sqlite.Database) (name : List ℕ) (d : Row) (v : json.Value
   abbrev after : Trees
   after = secured old.trees h.laid name d is v secure lawful
 
-  rest : Leaves dbs_tree old.trees new.trees
-  rest = leaves dbs_tree (rows_with_security (number_of d) (canonical v) (old.trees dbs_tree)) old new h.schema_is c
-
-  pub secured_store : IsStore new
-  secured_store = record {
-    schema_is = c.schema ∙ h.schema_is;
-    laid = laid_same after new.trees (rest.meta (omega arith)) c.rows (rest.docs (omega arith)) (rest.revs (omega arith)) (rest.locals (omega arith)) (secured_laid old.trees h.laid name d is v secure lawful);
-  }
-
-  pub another_security : option_map (λ db. finite.insert (contents_in old.trees) name (with_security db v)) (finite.get (contents_in old.trees) name) ≡ Some (contents_in new.trees)
-  another_security =
-      ap (option_map (λ db. finite.insert (contents_in old.trees) name (with_security db v))) (database_there old.trees h.laid name d is)
-      ∙ ap Some (sym (contents_same after new.trees (rest.meta (omega arith)) c.rows (rest.docs (omega arith)) (rest.revs (omega arith)) (rest.locals (omega arith)) ∙ secured_contents old.trees h.laid name d is v secure lawful))
+  pub secured_store : IsStore new × (option_map (λ db. finite.insert (contents_in old.trees) name (with_security db v)) (finite.get (contents_in old.trees) name) ≡ Some (contents_in new.trees))
+  secured_store =
+      let same = after_change old.trees old new dbs_tree _ _ h.schema_is (unchanged old.trees) c refl in (
+        store_of after new (c.schema ∙ h.schema_is) same (secured_laid old.trees h.laid name d is v secure lawful),
+        ap (option_map (λ db. finite.insert (contents_in old.trees) name (with_security db v))) (database_there old.trees h.laid name d is)
+            ∙ ap Some (sym (contents_same after new.trees same ∙ secured_contents old.trees h.laid name d is v secure lawful)),
+      )

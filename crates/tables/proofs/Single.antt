@@ -1,18 +1,7 @@
 -- One row put behind others, and a query that finds one row at most.
-use Rattle.std.proofs.Common.{◌≡◌, ◌⊎◌, inl, inr, List, [], ◌∷◌, ◌++◌, map, filter, Bool, true, false, cond, refl, sym, ap, subst, ◌∙◌, IsPermutation, arith}
-use Rattle.std.proofs.lemmas.List.Sorted.{length_permutation}
-use Rattle.sqlite_value.specs.declared.value.Value.TheVariants.{Null, Int}
-use Rattle.sqlite_value.specs.Order.{Row}
-use Rattle.sqlite_trees.specs.Tree.{Trees, IsAscending, put_row}
-use Rattle.sqlite_schema.specs.declared.schema.Table.{Table}
-use Rattle.sqlite_rules.specs.declared.error.Rowids.TheVariants.{Chosen}
-use Rattle.sqlite_rules.specs.Edit.{edit_of, edited, with_rowid}
-use Rattle.sqlite_rules.specs.Cast.{cast_row}
-use Rattle.sqlite_keyed.proofs.ListLemmas.{all_weaker, filter_none}
-use Rattle.sqlite.proofs.Callers.{one_permutation}
+use Rattle.tables.proofs.Common.{AreNumbered, Bool, Changes, Chosen, Err, Insert, Int, IsAscending, IsPermutation, List, Null, Ok, OnOk, Ran, Result, Row, Schema, State, Table, Term, Trees, Values, [], all_weaker, ap, arith, cast_row, cond, edit_of, edited, false, filter, filter_none, inl, inr, length, length_permutation, map, one_permutation, put_row, refl, subst, sym, true, value_rows, with_cells, with_rowid, ℕ, ◌++◌, ◌/◌, ◌∙◌, ◌∷◌, ◌≡◌, ◌⊎◌}
 use Rattle.tables.proofs.Numbered.{appends, next_is}
-use Rattle.tables.specs.Layout.{AreNumbered}
-use Rattle.tables.specs.Rows.{with_cells}
+use Rattle.tables.proofs.Writes.{IsCommand, IsPlainTable, inserts}
 
 -- one row of values, which is cast to these cells
 pub one_row : (db : Trees) (table : Table) (values cells : Row) → cast_row table values ≡ Null ∷ cells → AreNumbered (db table.tree)
@@ -20,6 +9,15 @@ pub one_row : (db : Trees) (table : Table) (values cells : Row) → cast_row tab
 one_row db table values cells is h =
     ap (λ r. put_row (with_rowid Chosen (db table.tree) r) (db table.tree)) is ∙ appends (db table.tree) cells h
     ∙ ap (λ n. db table.tree ++ (Int n ∷ cells) ∷ []) (next_is (db table.tree))
+
+-- so an INSERT of that row puts these cells in
+pub inserts_row : {X E : Type 0} (schema : Schema) (at : ℕ) (table : Table) → IsPlainTable schema at table → (old new : State) → old.now.schema ≡ schema → (text : List ℕ) (terms : List Term) (width : ℕ)
+    → IsCommand schema text (Insert at (Values terms width)) → (params values cells : Row) → cast_row table values ≡ Null ∷ cells → AreNumbered (old.now.trees table.tree)
+    → value_rows params width (length terms / width) terms ≡ values ∷ [] → (r : Result X E) → OnOk r (Ran text params old new) → OnOk r (Changes table.tree (with_cells (old.now.trees table.tree) cells) old.now new.now)
+inserts_row schema at table it old new has text terms width command params values cells is numbered given (Err e) h = tt
+inserts_row schema at table it old new has text terms width command params values cells is numbered given (Ok x) h =
+    subst (λ l. Changes table.tree l old.now new.now) (ap (λ rows. edited old.now.trees (edit_of old.now.trees table [] Chosen 0 rows)) given ∙ one_row old.now.trees table values cells is numbered)
+    (inserts schema at table it old new has text terms width command params h)
 
 none_permutation : {X : Type 0} (ys : List X) → IsPermutation [] ys → ys ≡ []
 none_permutation [] h = refl

@@ -1,26 +1,7 @@
 -- What a query with an order answers, where no two rows tie.
-use Rattle.std.proofs.Common.{◌≡◌, ℕ, List, [], ◌∷◌, map, filter, flat_map, Bool, true, false, ◌&&◌, cond, Ok, Err, Result, IfOk, refl, ap, ap₂, subst, ◌∙◌, IsPermutation, Ordering, Less, Equal, Greater, is_eq, is_gt, sym}
-use Rattle.std.specs.Cmp.{IsTotalOrder}
-use Rattle.std.specs.Ordering.{ordering_reverse}
-use Rattle.std.specs.List.{AllByRecursion, list_all}
-use Rattle.std.proofs.lemmas.Cmp.{upto}
-use Rattle.sqlite_value.specs.declared.value.Value.TheVariants.{Null}
-use Rattle.sqlite_value.specs.declared.keys.Key.{Key}
-use Rattle.sqlite_value.specs.Order.{Row}
-use Rattle.sqlite_trees.specs.Tree.{IsAscending}
-use Rattle.sqlite_sql.specs.Program.{overlay}
-use Rattle.sqlite_sql.specs.Term.{Term, eval, eval_all, holds}
-use Rattle.sqlite_sql.specs.Query.{Query, Output, output, output_cmp, IsAnswer, as_count, limited}
+use Rattle.tables.proofs.Common.{AllByRecursion, Bool, Equal, Err, Greater, IfOk, IsAnswer, IsAscending, IsPermutation, IsTotalOrder, Key, Less, List, Null, Ok, Ordering, Output, Query, Result, Row, Schema, Select, Shown, State, Term, [], all-filter, all_weaker, ap, ap₂, as_count, ascending-filter, ascending-map, cond, eval, eval_all, false, filter, flat_map, holds, insert_sorted, is_eq, is_gt, limited, list_all, map, map-map, map_same, ordering_reverse, output, output_cmp, overlay, reads_as, refl, sort_by, sort_by-map, sorted_is-sort_by, subst, sym, true, upto, ℕ, ◌&&◌, ◌∙◌, ◌∷◌, ◌≡◌}
 use Rattle.sqlite_sql.proofs.QueryLemmas.{output_cmp_total}
-use Rattle.sqlite_schema.specs.declared.command.Command.TheVariants.{Select}
-use Rattle.sqlite_schema.specs.declared.schema.Schema.{Schema}
-use Rattle.sqlite_keyed.specs.Lists.{insert_sorted, sort_by}
-use Rattle.sqlite_keyed.proofs.ListLemmas.{map-map, map_same, all-filter, all_weaker, ascending-map, ascending-filter}
-use Rattle.sqlite_keyed.proofs.SortLemmas.{sorted_is-sort_by, sort_by-map}
 use Rattle.sqlite.specs.Effect.{Answers}
-use Rattle.sqlite.specs.Listing.{reads_listing}
-use Rattle.sqlite.specs.State.{State, Shown}
-use Rattle.sqlite.proofs.Callers.{reads_as}
 use Rattle.tables.proofs.Queries.{first_program, first_on, passed}
 use Rattle.tables.proofs.Writes.{IsCommand}
 
@@ -54,7 +35,7 @@ both_in P R S weaker (r ∷ rows) all up = (each rows all.1 up.0, both_in P R S 
     each [] own over = tt
     each (x ∷ xs) own over = (weaker r x all.0 own.0 over.0, each xs own.1 over.1)
 
-pub passing : (p : Row → Bool) (rows : List Row) → AllByRecursion (λ r. p r ≡ true) (filter p rows)
+pub passing : {A : Type 0} (p : A → Bool) (rows : List A) → AllByRecursion (λ r. p r ≡ true) (filter p rows)
 passing p [] = tt
 passing p (r ∷ rows) = go (p r) refl (passing p rows)
   where
@@ -132,7 +113,7 @@ if_equal (Err e) items said meant same h = tt
 -- ---- the answer
 
 module _ (schema : Schema) (old new : State) (has : old.now.schema ≡ schema) (text : List ℕ) (tree : ℕ) (tests shown : List Term) (order : List (Term × Key)) (most : Term) (names : List (List ℕ))
-    (command : IsCommand schema text (Select (first_program tree tests shown order most) names)) (unlisted : reads_listing schema text ≡ false) (params : Row) (p : Row → Bool) (show : Row → Row)
+    (command : IsCommand schema text (Select (first_program tree tests shown order most) names)) (params : Row) (p : Row → Bool) (show : Row → Row)
     (P : Row → Type 0) (by : Row → Row → Ordering) (R : Row → Row → Type 0)
     (agree : (a b : Row) → P a → P b → output_cmp (first_on tree tests shown order most) (output (first_on tree tests shown order most) (params ∷ a ∷ [])) (output (first_on tree tests shown order most) (params ∷ b ∷ [])) ≡ by a b)
     (apart : (a b : Row) → P a → P b → p a ≡ true → p b ≡ true → R a b → is_eq (by a b) ≡ false) where
@@ -146,7 +127,7 @@ module _ (schema : Schema) (old new : State) (has : old.now.schema ≡ schema) (
       let rows : List Row = old.now.trees tree in
       let found : List Row = filter p rows in
       let answers : Answers old.now (first_program tree tests shown order most) params (items x) =
-      reads_as text params old new schema has (Select (first_program tree tests shown order most) names) command.is command.plain unlisted (items x) h in
+      reads_as text params old new schema has (Select (first_program tree tests shown order most) names) command.is command.plain command.unlisted (items x) h in
       let a : IsAnswer q (overlay old.now.trees []) params (items x) = answers.answer Null in
       let staged : a.staged ≡ map (λ r. params ∷ r ∷ []) found =
       a.grouped ∙ ap (flat_map (λ r. cond (list_all (holds (params ∷ r ∷ [])) tests) ((params ∷ r ∷ []) ∷ []) [])) bare ∙ passed tests params p rows passes in

@@ -1,15 +1,8 @@
 -- Statements one after the other, and what a query leaves.
-use Rattle.std.proofs.Common.{◌≡◌, ◌⊎◌, inl, inr, ℕ, List, false, Ok, Err, Result, None, Some, IsTrue, OnOk, IfOk, IfErr, refl, subst, arith}
-use Rattle.sqlite_value.specs.Order.{Row}
-use Rattle.sqlite.specs.Listing.{understood}
-use Rattle.sqlite.specs.State.{State, HasCleanDisk, KeepsCommit, Survives, IsUnchanged, IsRolledBack, FailsToQuery, FailsToShow, IsNotRun, Shown, ShowsRows, CommitsShowing}
+use Rattle.tables.proofs.Common.{Asks, CommitsShowing, Err, Error, FailsToQuery, FailsToShow, HasCleanDisk, IfErr, IfOk, IsNotRun, IsRolledBack, IsTrue, IsUnchanged, KeepsCommit, List, None, Ok, OnOk, OnlyLooks, Proceeds, Result, Row, Shown, ShowsRows, Some, State, Survives, arith, false, inl, inr, keeps_then, never_commits, refl, subst, unchanged_keeps, understood, ℕ, ◌≡◌, ◌⊎◌}
 use Rattle.sqlite.specs.Given.{IsPlain}
-use Rattle.sqlite.specs.declared.error.Error.{Error}
 use Rattle.sqlite_resolve.specs.declared.compiled.Compiled.{Compiled}
 use Rattle.sqlite.proofs.StateLemmas.{survives_then, survives_weaker}
-use Rattle.sqlite.proofs.InsideLemmas.{keeps_then, unchanged_keeps}
-use Rattle.sqlite.proofs.Callers.{never_commits}
-use Rattle.tables.specs.Steps.{Proceeds, OnlyLooks, Asks}
 
 pub proceeds_then : (a b c : State) → Proceeds a b → Proceeds b c → Proceeds a c
 proceeds_then a b c p q = record {

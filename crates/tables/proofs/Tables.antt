@@ -1,17 +1,7 @@
 -- The tables are plain ones, and what their layout says of their keys.
-use Rattle.std.proofs.Common.{◌≡◌, ◌≢◌, ℕ, ℤ, ◌<ℤ◌, arith, pos, List, Bool, true, false, ◌&&◌, refl, sym, ap, ◌∙◌}
-use Rattle.std.proofs.lemmas.Int.{ints}
-use Rattle.std.proofs.lemmas.Slice.Eq.{bytes_eq-Decides}
-use Rattle.sqlite_keyed.proofs.KeyedLemmas.{same_int}
+use Rattle.tables.proofs.Common.{AreDatabaseRows, AreKeyed, AreNumbered, Bool, Int, IsAscending, IsDatabaseRow, IsDocumentRow, IsKeyed, IsLaid, IsLocalRow, IsRevisionRow, List, Row, Trees, all_weaker, ap, arith, ascending_weaker, bytes_eq-Decides, column, database_row, db_of, dbs_table, dbs_tree, docs_table, docs_tree, false, has_number, id_of, ints, is_in, is_named, is_of, length_of, locals_table, locals_tree, meta_table, name_of, number_of, pos, refl, revs_table, revs_tree, rowid, same_int, schema, security_text, sym, true, ℕ, ℤ, ◌&&◌, ◌<ℤ◌, ◌∙◌, ◌≡◌, ◌≢◌}
 use Rattle.tables.proofs.Single.{HasOneAtMost}
-use Rattle.tables.specs.Rows.{db_of, id_of, is_in, is_of, is_named, has_number, name_of, number_of, database_row, security_text, length_of}
-use Rattle.sqlite_value.specs.declared.value.Value.TheVariants.{Int}
-use Rattle.sqlite_value.specs.Order.{Row, column}
-use Rattle.sqlite_trees.specs.Tree.{Trees, IsAscending, rowid}
-use Rattle.sqlite_keyed.proofs.ListLemmas.{all_weaker, ascending_weaker}
 use Rattle.tables.proofs.Writes.{IsPlainTable}
-use Rattle.tables.specs.Schema.{schema, meta_table, dbs_table, docs_table, revs_table, locals_table, dbs_tree, docs_tree, revs_tree, locals_tree}
-use Rattle.tables.specs.Layout.{IsLaid, IsKeyed, AreKeyed, AreNumbered, AreDatabaseRows, IsDatabaseRow, IsDocumentRow, IsRevisionRow, IsLocalRow}
 
 both_true : (a b : Bool) → (a && b) ≡ true → (a ≡ true) × (b ≡ true)
 both_true true b h = (refl, h)

@@ -1,35 +1,12 @@
 -- What an UPDATE of one row makes of its table.
-use Rattle.std.proofs.Common.{◌≡◌, inl, inr, ℕ, ◌<ℤ◌, List, [], ◌∷◌, map, filter, fold, drop, Bool, true, false, not, cond, Ok, Err, Result, OnOk, refl, sym, ap, subst, ◌∙◌, arith, int_cmp, Less, Equal, Greater}
-use Rattle.std.specs.List.{AllByRecursion, list_all}
-use Rattle.std.specs.Ordering.{match_ordering}
-use Rattle.std.proofs.lemmas.Int.{ints}
-use Rattle.std.proofs.lemmas.List.Sorted.{IsPermutation-refl}
-use Rattle.sqlite_value.specs.declared.value.Value.TheVariants.{Int}
-use Rattle.sqlite_value.specs.Order.{Row}
-use Rattle.sqlite_trees.specs.Tree.{Trees, rowid, put_row}
-use Rattle.sqlite_sql.specs.Program.{overlay}
-use Rattle.sqlite_sql.specs.Term.{Term, eval_all, holds}
-use Rattle.sqlite_rules.specs.declared.error.Rowids.TheVariants.{Given}
-use Rattle.sqlite_rules.specs.Calls.{ids_of}
-use Rattle.sqlite_rules.specs.Cast.{cast_row}
-use Rattle.sqlite_rules.specs.Edit.{edit_of, edited, without_all}
-use Rattle.sqlite_schema.specs.declared.command.Command.TheVariants.{Update}
-use Rattle.sqlite_schema.specs.declared.schema.Schema.{Schema}
-use Rattle.sqlite_schema.specs.declared.schema.Table.{Table}
+use Rattle.tables.proofs.Common.{AllByRecursion, AreNumbered, Bool, Changes, Equal, Err, Given, Greater, Int, IsPermutation-refl, Less, Less-from_lt, List, Ok, OnOk, Ran, Result, Row, Schema, State, Table, Term, Trees, Update, [], all-filter, ap, arith, cast_row, cond, drop, edit_of, edited, eval_all, false, filter, fold, holds, ids_of, inl, inr, int_cmp, ints, list_all, map, match_ordering, not, number_of, overlay, put_row, refl, rowid, subst, sym, true, update_where, without_all, ℕ, ◌<ℤ◌, ◌∙◌, ◌∷◌, ◌≡◌}
 use Rattle.sqlite_keyed.specs.Keyed.{IsKeyedBy, insert_by}
-use Rattle.sqlite_keyed.specs.Lists.{update_where}
-use Rattle.sqlite_keyed.proofs.KeyedLemmas.{Less-from_lt}
-use Rattle.sqlite_keyed.proofs.ListLemmas.{all-filter}
 use Rattle.sqlite_keyed.proofs.WriteLemmas.{puts_update}
 use Rattle.sqlite.specs.Effect.{Answers}
-use Rattle.sqlite.specs.State.{State}
 use Rattle.tables.proofs.Numbered.{put_same, removes_by}
 use Rattle.tables.proofs.Queries.{program_on, selects}
 use Rattle.tables.proofs.Single.{HasOneAtMost, few, one_order}
 use Rattle.tables.proofs.Writes.{IsPlainTable, IsCommand, updates}
-use Rattle.tables.specs.Layout.{AreNumbered}
-use Rattle.tables.specs.Rows.{number_of}
-use Rattle.tables.specs.Steps.{Ran, Changes}
 
 kept_all : (p : Row → Bool) (xs : List Row) → filter p xs ≡ [] → filter (λ x. not (p x)) xs ≡ xs
 kept_all p [] none = refl

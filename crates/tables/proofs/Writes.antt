@@ -1,27 +1,11 @@
 -- What an INSERT of values, a DELETE and an UPDATE make of their table.
-use Rattle.std.proofs.Common.{◌≡◌, ◌≢◌, ◌⊎◌, inl, inr, ℕ, ◌/◌, List, [], ◌∷◌, ◌++◌, length, drop, ◌-◌, MatchBool, cond, ap₂, ℤ, int_cmp, is_lt, false, None, Some, Option, slice_get, Ok, Err, Result, append-nil, refl, sym, ap, subst, ◌∙◌}
-use Rattle.std.specs.List.{AllByRecursion}
-use Rattle.sqlite_value.specs.Order.{Row}
-use Rattle.sqlite_trees.specs.Tree.{Trees}
-use Rattle.sqlite_sql.specs.Term.{Term, eval_all}
-use Rattle.sqlite_schema.specs.declared.schema.Schema.{Schema}
-use Rattle.sqlite_schema.specs.declared.schema.Table.{Table}
+use Rattle.tables.proofs.Common.{Above, AllByRecursion, Applies, Changes, Chosen, Database, Delete, Edit, Err, Given, Insert, IsPlain, List, MatchBool, None, Ok, Option, Program, Ran, Result, Row, Schema, Some, State, Table, Term, Trees, Update, Values, Writes, [], ap, append-nil, ap₂, command_of, cond, drop, edit_of, edited, eval_all, false, ids_of, inl, inr, int_cmp, is_lt, length, mode_of, one_step, reads_listing, refl, runs_as, slice_get, subst, sym, taken_by, understood, value_rows, without_all, ℕ, ℤ, ◌++◌, ◌-◌, ◌/◌, ◌∙◌, ◌∷◌, ◌≡◌, ◌≢◌, ◌⊎◌}
 use Rattle.sqlite_schema.specs.declared.schema.Keys.TheVariants.{Enforced}
 use Rattle.sqlite_schema.specs.declared.command.Command.{Command}
-use Rattle.sqlite_schema.specs.declared.command.Command.TheVariants.{Insert, Delete, Update}
-use Rattle.sqlite_schema.specs.declared.program.Program.{Program}
-use Rattle.sqlite_schema.specs.declared.command.Source.TheVariants.{Values}
-use Rattle.sqlite_rules.specs.declared.error.Rowids.TheVariants.{Chosen, Above, Given}
-use Rattle.sqlite_rules.specs.Edit.{Edit, edit_of, edited, taken_by, without_all, Applies}
-use Rattle.sqlite_rules.specs.Calls.{ids_of}
 use Rattle.sqlite_rules.specs.Action.{works}
-use Rattle.sqlite.specs.Effect.{Database, Answers, value_rows}
+use Rattle.sqlite.specs.Effect.{Answers}
 use Rattle.sqlite.specs.Does.{Tally, Does, AtPlace, OnRows, Concludes}
-use Rattle.sqlite.specs.Listing.{understood}
 use Rattle.sqlite.specs.Rows.{Part, Written, Task, Edited, stamped, rowids_for, count_of, sequence, Counts, CountsIn, Gives}
-use Rattle.sqlite.specs.State.{State, Writes, mode_of}
-use Rattle.sqlite.proofs.Callers.{IsPlain, command_of, runs_as, one_step}
-use Rattle.tables.specs.Steps.{Ran, Changes}
 
 -- a table whose writes set off nothing
 pub record IsPlainTable (schema : Schema) (at : ℕ) (table : Table) : Type 0 where
@@ -34,6 +18,7 @@ pub record IsPlainTable (schema : Schema) (at : ℕ) (table : Table) : Type 0 wh
 pub record IsCommand (schema : Schema) (text : List ℕ) (command : Command) : Type 0 where
   pub is : command_of (understood schema text) ≡ command
   pub plain : IsPlain (understood schema text)
+  pub unlisted : reads_listing schema text ≡ false
 
 -- a part that gave a value did not stop on the way
 pub went : {B E R : Type 0} {b : B} {Stops : E → Type 0} → ((stop : E) × Stops stop × (Ok b ≡ Err stop)) ⊎ R → R

@@ -10,12 +10,6 @@ use Rattle.sqlite.specs.State.{HasCleanDisk, IsUnchanged}
 use Rattle.tables.specs.Schema.{schema}
 use Rattle.tables.specs.Steps as steps
 
--- one table has its rows changed so, if it was fit for that; the others stay
-abbrev pub Alters : {S X E : Type 0} → Ghosts S → ℕ → (List Row → Type 0) → (List Row → List Row) → Held S → Held S → Result X E → Type 0
-Alters g tree IsFit change old new r =
-    HasCleanDisk (state g new) → old.schema ≡ schema → IsFit ((state g old).now.trees tree)
-    → OnOk r (steps.Changes tree (change ((state g old).now.trees tree)) (state g old).now (state g new).now)
-
 -- the transaction goes on
 abbrev pub Stays : {S X E : Type 0} → Ghosts S → Held S → Held S → Result X E → Type 0
 Stays g old new r = HasCleanDisk (state g new) → OnOk r (steps.StaysInside (state g old) (state g new))
@@ -23,6 +17,12 @@ Stays g old new r = HasCleanDisk (state g new) → OnOk r (steps.StaysInside (st
 -- nothing is committed, however the statement ends
 abbrev pub Proceeds : {S : Type 0} → Ghosts S → Held S → Held S → Type 0
 Proceeds g old new = steps.Proceeds (state g old) (state g new)
+
+-- What a change of one table leaves. If the table was fit for it, its rows are changed so and the others stay; the transaction goes on, and nothing is committed.
+pub record Alters {S X E : Type 0} (g : Ghosts S) (tree : ℕ) (IsFit : List Row → Type 0) (change : List Row → List Row) (old new : Held S) (r : Result X E) : Type 0 where
+  pub ok : HasCleanDisk (state g new) → old.schema ≡ schema → IsFit ((state g old).now.trees tree) → OnOk r (steps.Changes tree (change ((state g old).now.trees tree)) (state g old).now (state g new).now)
+  pub inside : Stays g old new r
+  pub proceeds : Proceeds g old new
 
 -- an answer comes of an open connection alone
 abbrev pub IsServed : {S X E : Type 0} → Ghosts S → Held S → Held S → Result X E → Type 0

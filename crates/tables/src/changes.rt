@@ -30,58 +30,37 @@ pub fn database_found()
 
 /// A row that is put behind the others, of a name that no database has, is a new database.
 pub fn new_database()
-    ensures store { (old new : sqlite.Database) (name : List ℕ) → IsStore old → IsTrue (is_database_name name)
+    ensures { (old new : sqlite.Database) (name : List ℕ) → IsStore old → IsTrue (is_database_name name)
         → finite.get (contents_in old.trees) name ≡ None
         → Changes dbs_tree (with_cells (old.trees dbs_tree) (database_cells name (canonical closed_security) (pos 0))) old new
-        → IsStore new }
-    ensures contents { (old new : sqlite.Database) (name : List ℕ) → IsStore old → IsTrue (is_database_name name)
-        → finite.get (contents_in old.trees) name ≡ None
-        → Changes dbs_tree (with_cells (old.trees dbs_tree) (database_cells name (canonical closed_security) (pos 0))) old new
-        → contents_in new.trees ≡ finite.insert (contents_in old.trees) name store.new_database }
+        → IsStore new × (contents_in new.trees ≡ finite.insert (contents_in old.trees) name store.new_database) }
 {}
 
 /// A database whose row has the text of another security object has that object.
 pub fn another_security()
-    ensures store { (old new : sqlite.Database) (name : List ℕ) (d : Row) (v : Value) → IsStore old
+    ensures { (old new : sqlite.Database) (name : List ℕ) (d : Row) (v : Value) → IsStore old
         → slice_get (filter (is_named name) (old.trees dbs_tree)) 0 ≡ Some d → IsTrue (is_security v) → IsLawful v
         → Changes dbs_tree (rows_with_security (number_of d) (canonical v) (old.trees dbs_tree)) old new
-        → IsStore new }
-    ensures contents { (old new : sqlite.Database) (name : List ℕ) (d : Row) (v : Value) → IsStore old
-        → slice_get (filter (is_named name) (old.trees dbs_tree)) 0 ≡ Some d → IsTrue (is_security v) → IsLawful v
-        → Changes dbs_tree (rows_with_security (number_of d) (canonical v) (old.trees dbs_tree)) old new
-        → option_map (λ db. finite.insert (contents_in old.trees) name (store.with_security db v)) (finite.get (contents_in old.trees) name) ≡ Some (contents_in new.trees) }
+        → IsStore new × (option_map (λ db. finite.insert (contents_in old.trees) name (store.with_security db v)) (finite.get (contents_in old.trees) name) ≡ Some (contents_in new.trees)) }
 {}
 
 /// A row that takes the place of those of its database and id is that local document of the database.
 pub fn another_local()
-    ensures store { (a b c : sqlite.Database) (name : List ℕ) (d : Row) (id : List ℕ) (document : LocalDocument) → IsStore a
+    ensures { (a b c : sqlite.Database) (name : List ℕ) (d : Row) (id : List ℕ) (document : LocalDocument) → IsStore a
         → slice_get (filter (is_named name) (a.trees dbs_tree)) 0 ≡ Some d
         → IsTrue (is_document_id id) → IsBody document.body → IsLawful document.body → document.number < 2 ^ 32
         → Changes locals_tree (filter (λ r. not (is_of (number_of d) id r)) (a.trees locals_tree)) a b
         → Changes locals_tree (with_cells (b.trees locals_tree) (local_cells (number_of d) id document.number (canonical document.body))) b c
-        → IsStore c }
-    ensures contents { (a b c : sqlite.Database) (name : List ℕ) (d : Row) (id : List ℕ) (document : LocalDocument) → IsStore a
-        → slice_get (filter (is_named name) (a.trees dbs_tree)) 0 ≡ Some d
-        → IsTrue (is_document_id id) → IsBody document.body → IsLawful document.body → document.number < 2 ^ 32
-        → Changes locals_tree (filter (λ r. not (is_of (number_of d) id r)) (a.trees locals_tree)) a b
-        → Changes locals_tree (with_cells (b.trees locals_tree) (local_cells (number_of d) id document.number (canonical document.body))) b c
-        → option_map (λ db. finite.insert (contents_in a.trees) name (store.with_local db id document)) (finite.get (contents_in a.trees) name) ≡ Some (contents_in c.trees) }
+        → IsStore c × (option_map (λ db. finite.insert (contents_in a.trees) name (store.with_local db id document)) (finite.get (contents_in a.trees) name) ≡ Some (contents_in c.trees)) }
 {}
 
 /// A database whose rows are all deleted is removed.
 pub fn fewer_databases()
-    ensures store { (a b c d e : sqlite.Database) (name : List ℕ) (w : Row) → IsStore a
+    ensures { (a b c d e : sqlite.Database) (name : List ℕ) (w : Row) → IsStore a
         → slice_get (filter (is_named name) (a.trees dbs_tree)) 0 ≡ Some w
         → Changes docs_tree (filter (λ r. not (is_in (number_of w) r)) (a.trees docs_tree)) a b
         → Changes revs_tree (filter (λ r. not (is_in (number_of w) r)) (b.trees revs_tree)) b c
         → Changes locals_tree (filter (λ r. not (is_in (number_of w) r)) (c.trees locals_tree)) c d
         → Changes dbs_tree (filter (λ r. not (has_number (number_of w) r)) (d.trees dbs_tree)) d e
-        → IsStore e }
-    ensures contents { (a b c d e : sqlite.Database) (name : List ℕ) (w : Row) → IsStore a
-        → slice_get (filter (is_named name) (a.trees dbs_tree)) 0 ≡ Some w
-        → Changes docs_tree (filter (λ r. not (is_in (number_of w) r)) (a.trees docs_tree)) a b
-        → Changes revs_tree (filter (λ r. not (is_in (number_of w) r)) (b.trees revs_tree)) b c
-        → Changes locals_tree (filter (λ r. not (is_in (number_of w) r)) (c.trees locals_tree)) c d
-        → Changes dbs_tree (filter (λ r. not (has_number (number_of w) r)) (d.trees dbs_tree)) d e
-        → contents_in e.trees ≡ finite.remove (contents_in a.trees) name }
+        → IsStore e × (contents_in e.trees ≡ finite.remove (contents_in a.trees) name) }
 {}

@@ -15,9 +15,7 @@ use sqlite::{Alter, Error, Transaction};
 /// Writes the version of the layout.
 fn insert_version<S: Alter>(tx: &mut Transaction<'_, S>) -> Result<(), Error>
     ensures same_reference { tx.new.conn.ghost_name ≡ tx.old.conn.ghost_name }
-    ensures ok { Alters S.Store meta_tree AreNumbered (λ rows. with_cells rows (count 1 ∷ [])) tx.old.conn.now tx.new.conn.now result }
-    ensures inside { Stays S.Store tx.old.conn.now tx.new.conn.now result }
-    ensures proceeds { Proceeds S.Store tx.old.conn.now tx.new.conn.now }
+    ensures alters { Alters S.Store meta_tree AreNumbered (λ rows. with_cells rows (count 1 ∷ [])) tx.old.conn.now tx.new.conn.now result }
 {
     change(tx, "INSERT INTO meta (version) VALUES (1)", &[])
 }

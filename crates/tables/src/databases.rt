@@ -2,7 +2,7 @@
 
 ghost use Rattle.std.specs.Prelude.{◌≡◌, not, pos, filter, map};
 ghost use Rattle.sqlite_keyed.specs.Lists.{sort_by};
-ghost use Rattle.tables.specs.Calls.{Alters, Proceeds, Reads, Stays};
+ghost use Rattle.tables.specs.Calls.{Alters, Reads};
 ghost use Rattle.tables.specs.Layout.{AreDatabaseRows, IsStore};
 ghost use Rattle.tables.specs.Rows.{rows_at_sequence, by_name, database_cells, has_number, is_named, rows_with_security, shown_database, shown_name, with_cells};
 ghost use Rattle.tables.specs.Schema.{dbs_tree};
@@ -29,9 +29,7 @@ pub fn insert_database<S: Alter>(
     security: &str,
 ) -> Result<(), Error>
     ensures same_reference { tx.new.conn.ghost_name ≡ tx.old.conn.ghost_name }
-    ensures ok { Alters S.Store dbs_tree AreDatabaseRows (λ rows. with_cells rows (database_cells name.now security.now (pos 0))) tx.old.conn.now tx.new.conn.now result }
-    ensures inside { Stays S.Store tx.old.conn.now tx.new.conn.now result }
-    ensures proceeds { Proceeds S.Store tx.old.conn.now tx.new.conn.now }
+    ensures alters { Alters S.Store dbs_tree AreDatabaseRows (λ rows. with_cells rows (database_cells name.now security.now (pos 0))) tx.old.conn.now tx.new.conn.now result }
 {
     change(
         tx,
@@ -43,9 +41,7 @@ pub fn insert_database<S: Alter>(
 /// Takes out the row of the database of this number.
 pub fn delete_database<S: Alter>(tx: &mut Transaction<'_, S>, number: &i64) -> Result<(), Error>
     ensures same_reference { tx.new.conn.ghost_name ≡ tx.old.conn.ghost_name }
-    ensures ok { Alters S.Store dbs_tree AreDatabaseRows (λ rows. filter (λ r. not (has_number number.now r)) rows) tx.old.conn.now tx.new.conn.now result }
-    ensures inside { Stays S.Store tx.old.conn.now tx.new.conn.now result }
-    ensures proceeds { Proceeds S.Store tx.old.conn.now tx.new.conn.now }
+    ensures alters { Alters S.Store dbs_tree AreDatabaseRows (λ rows. filter (λ r. not (has_number number.now r)) rows) tx.old.conn.now tx.new.conn.now result }
 {
     change(tx, "DELETE FROM dbs WHERE num = ?1", params![number])
 }
@@ -57,9 +53,7 @@ pub fn secure_database<S: Alter>(
     security: &str,
 ) -> Result<(), Error>
     ensures same_reference { tx.new.conn.ghost_name ≡ tx.old.conn.ghost_name }
-    ensures ok { Alters S.Store dbs_tree AreDatabaseRows (rows_with_security number.now security.now) tx.old.conn.now tx.new.conn.now result }
-    ensures inside { Stays S.Store tx.old.conn.now tx.new.conn.now result }
-    ensures proceeds { Proceeds S.Store tx.old.conn.now tx.new.conn.now }
+    ensures alters { Alters S.Store dbs_tree AreDatabaseRows (rows_with_security number.now security.now) tx.old.conn.now tx.new.conn.now result }
 {
     change(
         tx,
@@ -75,9 +69,7 @@ pub fn advance_database<S: Alter>(
     sequence: &i64,
 ) -> Result<(), Error>
     ensures same_reference { tx.new.conn.ghost_name ≡ tx.old.conn.ghost_name }
-    ensures ok { Alters S.Store dbs_tree AreDatabaseRows (rows_at_sequence number.now sequence.now) tx.old.conn.now tx.new.conn.now result }
-    ensures inside { Stays S.Store tx.old.conn.now tx.new.conn.now result }
-    ensures proceeds { Proceeds S.Store tx.old.conn.now tx.new.conn.now }
+    ensures alters { Alters S.Store dbs_tree AreDatabaseRows (rows_at_sequence number.now sequence.now) tx.old.conn.now tx.new.conn.now result }
 {
     change(
         tx,

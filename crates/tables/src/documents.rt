@@ -2,7 +2,7 @@
 
 ghost use Rattle.std.specs.Prelude.{◌≡◌, not, filter, map};
 ghost use Rattle.sqlite_keyed.specs.Lists.{sort_by};
-ghost use Rattle.tables.specs.Calls.{Alters, Proceeds, Reads, Stays};
+ghost use Rattle.tables.specs.Calls.{Alters, Reads};
 ghost use Rattle.tables.specs.Layout.{AreKeyed, IsStore};
 ghost use Rattle.tables.specs.Listings.{comes_after, first_rows, lies_between, listed_id};
 ghost use Rattle.tables.specs.Rows.{by_id, by_sequence, is_in, is_of, listed_document, document_cells, with_cells};
@@ -21,9 +21,7 @@ pub fn insert_document<S: Alter>(
     deleted: bool,
 ) -> Result<(), Error>
     ensures same_reference { tx.new.conn.ghost_name ≡ tx.old.conn.ghost_name }
-    ensures ok { Alters S.Store docs_tree AreKeyed (λ rows. with_cells rows (document_cells db.now id.now sequence.now winner.now deleted)) tx.old.conn.now tx.new.conn.now result }
-    ensures inside { Stays S.Store tx.old.conn.now tx.new.conn.now result }
-    ensures proceeds { Proceeds S.Store tx.old.conn.now tx.new.conn.now }
+    ensures alters { Alters S.Store docs_tree AreKeyed (λ rows. with_cells rows (document_cells db.now id.now sequence.now winner.now deleted)) tx.old.conn.now tx.new.conn.now result }
 {
     change(
         tx,
@@ -39,9 +37,7 @@ pub fn delete_document<S: Alter>(
     id: &[u8],
 ) -> Result<(), Error>
     ensures same_reference { tx.new.conn.ghost_name ≡ tx.old.conn.ghost_name }
-    ensures ok { Alters S.Store docs_tree AreKeyed (λ rows. filter (λ r. not (is_of db.now id.now r)) rows) tx.old.conn.now tx.new.conn.now result }
-    ensures inside { Stays S.Store tx.old.conn.now tx.new.conn.now result }
-    ensures proceeds { Proceeds S.Store tx.old.conn.now tx.new.conn.now }
+    ensures alters { Alters S.Store docs_tree AreKeyed (λ rows. filter (λ r. not (is_of db.now id.now r)) rows) tx.old.conn.now tx.new.conn.now result }
 {
     change(
         tx,
@@ -53,9 +49,7 @@ pub fn delete_document<S: Alter>(
 /// Takes out the rows of all documents of a database.
 pub fn clear_documents<S: Alter>(tx: &mut Transaction<'_, S>, db: &i64) -> Result<(), Error>
     ensures same_reference { tx.new.conn.ghost_name ≡ tx.old.conn.ghost_name }
-    ensures ok { Alters S.Store docs_tree AreKeyed (λ rows. filter (λ r. not (is_in db.now r)) rows) tx.old.conn.now tx.new.conn.now result }
-    ensures inside { Stays S.Store tx.old.conn.now tx.new.conn.now result }
-    ensures proceeds { Proceeds S.Store tx.old.conn.now tx.new.conn.now }
+    ensures alters { Alters S.Store docs_tree AreKeyed (λ rows. filter (λ r. not (is_in db.now r)) rows) tx.old.conn.now tx.new.conn.now result }
 {
     change(tx, "DELETE FROM docs WHERE db = ?1", params![db])
 }

@@ -1,7 +1,7 @@
 //! The rows of the local documents.
 
 ghost use Rattle.std.specs.Prelude.{◌≡◌, not, filter, map};
-ghost use Rattle.tables.specs.Calls.{Alters, Proceeds, Reads, Stays};
+ghost use Rattle.tables.specs.Calls.{Alters, Reads};
 ghost use Rattle.tables.specs.Layout.{AreKeyed, IsStore};
 ghost use Rattle.tables.specs.Rows.{is_in, is_of, shown_local, local_cells, with_cells};
 ghost use Rattle.tables.specs.Schema.{locals_tree};
@@ -18,9 +18,7 @@ pub fn insert_local<S: Alter>(
     body: &str,
 ) -> Result<(), Error>
     ensures same_reference { tx.new.conn.ghost_name ≡ tx.old.conn.ghost_name }
-    ensures ok { Alters S.Store locals_tree AreKeyed (λ rows. with_cells rows (local_cells db.now id.now number body.now)) tx.old.conn.now tx.new.conn.now result }
-    ensures inside { Stays S.Store tx.old.conn.now tx.new.conn.now result }
-    ensures proceeds { Proceeds S.Store tx.old.conn.now tx.new.conn.now }
+    ensures alters { Alters S.Store locals_tree AreKeyed (λ rows. with_cells rows (local_cells db.now id.now number body.now)) tx.old.conn.now tx.new.conn.now result }
 {
     change(
         tx,
@@ -32,9 +30,7 @@ pub fn insert_local<S: Alter>(
 /// Takes out the row of the local document of this id.
 pub fn delete_local<S: Alter>(tx: &mut Transaction<'_, S>, db: &i64, id: &[u8]) -> Result<(), Error>
     ensures same_reference { tx.new.conn.ghost_name ≡ tx.old.conn.ghost_name }
-    ensures ok { Alters S.Store locals_tree AreKeyed (λ rows. filter (λ r. not (is_of db.now id.now r)) rows) tx.old.conn.now tx.new.conn.now result }
-    ensures inside { Stays S.Store tx.old.conn.now tx.new.conn.now result }
-    ensures proceeds { Proceeds S.Store tx.old.conn.now tx.new.conn.now }
+    ensures alters { Alters S.Store locals_tree AreKeyed (λ rows. filter (λ r. not (is_of db.now id.now r)) rows) tx.old.conn.now tx.new.conn.now result }
 {
     change(
         tx,
@@ -46,9 +42,7 @@ pub fn delete_local<S: Alter>(tx: &mut Transaction<'_, S>, db: &i64, id: &[u8]) 
 /// Takes out the rows of all local documents of a database.
 pub fn clear_locals<S: Alter>(tx: &mut Transaction<'_, S>, db: &i64) -> Result<(), Error>
     ensures same_reference { tx.new.conn.ghost_name ≡ tx.old.conn.ghost_name }
-    ensures ok { Alters S.Store locals_tree AreKeyed (λ rows. filter (λ r. not (is_in db.now r)) rows) tx.old.conn.now tx.new.conn.now result }
-    ensures inside { Stays S.Store tx.old.conn.now tx.new.conn.now result }
-    ensures proceeds { Proceeds S.Store tx.old.conn.now tx.new.conn.now }
+    ensures alters { Alters S.Store locals_tree AreKeyed (λ rows. filter (λ r. not (is_in db.now r)) rows) tx.old.conn.now tx.new.conn.now result }
 {
     change(tx, "DELETE FROM locals WHERE db = ?1", params![db])
 }

@@ -3,7 +3,7 @@
 ghost use Rattle.std.specs.Prelude.{◌≡◌, not, filter, map, IsPermutation};
 ghost use Rattle.sqlite.specs.Values.{or_null};
 ghost use Rattle.sqlite_value.specs.declared.value.Value.TheVariants.{Text};
-ghost use Rattle.tables.specs.Calls.{Alters, Proceeds, Reads, Stays};
+ghost use Rattle.tables.specs.Calls.{Alters, Reads};
 ghost use Rattle.tables.specs.Layout.{AreKeyed, IsStore};
 ghost use Rattle.tables.specs.Rows.{is_in, is_of, shown_revision, given_cells, with_cells};
 ghost use Rattle.tables.specs.Schema.{revs_tree};
@@ -24,9 +24,7 @@ pub fn insert_revision<S: Alter>(
     body: Option<&str>,
 ) -> Result<(), Error>
     ensures same_reference { tx.new.conn.ghost_name ≡ tx.old.conn.ghost_name }
-    ensures ok { Alters S.Store revs_tree AreKeyed (λ rows. with_cells rows (given_cells db.now id.now number hash.now (or_null (λ s. Text s.now) parent.entry) held deleted (or_null (λ s. Text s.now) body.entry))) tx.old.conn.now tx.new.conn.now result }
-    ensures inside { Stays S.Store tx.old.conn.now tx.new.conn.now result }
-    ensures proceeds { Proceeds S.Store tx.old.conn.now tx.new.conn.now }
+    ensures alters { Alters S.Store revs_tree AreKeyed (λ rows. with_cells rows (given_cells db.now id.now number hash.now (or_null (λ s. Text s.now) parent.entry) held deleted (or_null (λ s. Text s.now) body.entry))) tx.old.conn.now tx.new.conn.now result }
 {
     change(
         tx,
@@ -38,9 +36,7 @@ pub fn insert_revision<S: Alter>(
 /// Takes out the rows of all revisions of a database.
 pub fn clear_revisions<S: Alter>(tx: &mut Transaction<'_, S>, db: &i64) -> Result<(), Error>
     ensures same_reference { tx.new.conn.ghost_name ≡ tx.old.conn.ghost_name }
-    ensures ok { Alters S.Store revs_tree AreKeyed (λ rows. filter (λ r. not (is_in db.now r)) rows) tx.old.conn.now tx.new.conn.now result }
-    ensures inside { Stays S.Store tx.old.conn.now tx.new.conn.now result }
-    ensures proceeds { Proceeds S.Store tx.old.conn.now tx.new.conn.now }
+    ensures alters { Alters S.Store revs_tree AreKeyed (λ rows. filter (λ r. not (is_in db.now r)) rows) tx.old.conn.now tx.new.conn.now result }
 {
     change(tx, "DELETE FROM revs WHERE db = ?1", params![db])
 }

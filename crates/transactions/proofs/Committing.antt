@@ -1,43 +1,17 @@
 -- Writes of a database that are done one after another in a transaction.
-use Rattle.std.proofs.Common.{◌≡◌, ◌+◌, ◌<◌, ◌^◌, suc, ℕ, ℤ, pos, List, [], ◌∷◌, ◌++◌, drop, take, filter, get_or, length, length-append, map, Some, Result, Ok, Err, OnErr, IsPermutation, IsTrue, cond, inl, inr, refl, true, sym, ap, subst, ◌∙◌, arith}
+use Rattle.transactions.proofs.Common.{Addition, AreAcceptable, AreDue, AsksInside, CommitFault, Damaged, Database, Err, Error, Exists, Failed, Full, HasBest, HasWritten, HistoryContent, IsAcceptable, IsLaid, IsLawfulAddition, IsPermutation, IsRead, IsRolledBack, IsStorable, IsStore, IsTrue, IsUnwritten, IsWrite, KeepsCommit, List, Memory, NoDatabase, Ok, OnErr, Proceeds, Result, Row, Some, State, StoreFault, Trees, [], addition_of, additions, ap, arith, bytes_eq-Decides, cond, contents_in, database_of, document_after, drop, filter, get_or, has_winner, history_at, history_in, history_shown, history_with, inl, inr, is_of, lawful_by_one, length, length-append, length-map, length-take, length_of, map, map-append, number_of, pos, refl, revs_tree, row_after, shown_revision, subst, suc, sym, take, take-append-drop, take_more, true, with_addition, with_all, with_one, writings_in, writings_in-append, written_at, written_in, ℕ, ℤ, ∥∥₁_elim, ◌++◌, ◌+◌, ◌<◌, ◌^◌, ◌∙◌, ◌∷◌, ◌≡◌}
 use Rattle.std.proofs.Math.Bool.{Bool-set}
-use Rattle.std.proofs.Math.Logic.{∥∥₁_elim}
 use Rattle.std.proofs.Math.Seq.{drop-cons}
-use Rattle.std.proofs.lemmas.List.{length-map, length-take, map-append, take-append-drop, take_more}
-use Rattle.std.proofs.lemmas.Slice.Eq.{bytes_eq-Decides}
 use Rattle.std.specs.FinMap as finite
 use Rattle.std.specs.Prelude.{bytes_eq}
-use Rattle.sqlite_trees.specs.Tree.{Trees}
-use Rattle.sqlite_value.specs.Order.{Row}
-use Rattle.sqlite.specs.Effect.{Database}
-use Rattle.sqlite.specs.State.{State, IsRolledBack, KeepsCommit}
 use Rattle.sqlite.specs.Steps.{FailsToCommit}
-use Rattle.sqlite.specs.declared.error.Error.{Error}
 use Rattle.sqlite.proofs.StateLemmas.{survives_then}
-use Rattle.store.specs.Contents.{AreAcceptable, IsAcceptable}
 use Rattle.store.specs.Lawful.{IsLawful}
-use Rattle.store.specs.Plain.{with_addition}
 use Rattle.store.specs.Database as store
-use Rattle.store.specs.Database.{history_at, with_all, with_one}
-use Rattle.store.specs.Writing.{Addition, addition_of, additions, writings_in, written_at, written_in}
-use Rattle.store.specs.declared.fault.StoreFault.{StoreFault}
-use Rattle.store.specs.declared.fault.StoreFault.TheVariants.{Memory, Failed, NoDatabase, Exists, Damaged, Full}
 use Rattle.store.specs.declared.write.Write.{Write}
-use Rattle.store.proofs.Contents.{document_after, writings_in-append}
-use Rattle.store.proofs.Lawfuls.{has_winner, lawful_by_one}
-use Rattle.tree.specs.History.{HistoryContent}
-use Rattle.tables.specs.Edits.{HasWritten, IsStorable, IsWrite, row_after}
-use Rattle.tables.specs.Layout.{IsLaid, IsStore}
-use Rattle.tables.specs.Rows.{contents_in, database_of, history_in, is_of, length_of, number_of, shown_revision}
-use Rattle.tables.specs.Schema.{revs_tree}
-use Rattle.tables.specs.Steps.{AsksInside, Proceeds}
 use Rattle.tables.proofs.DocumentWriteNews.{storable_addition}
 use Rattle.tables.proofs.DocumentWrites.{acceptable_in_turn, one_more_written}
 use Rattle.tables.proofs.Lookups.{database_there, document_found}
-use Rattle.transactions.specs.Commits.{AreDue, IsUnwritten, history_with}
-use Rattle.transactions.specs.Inserting.{IsLawfulAddition}
-use Rattle.transactions.specs.Reading.{HasBest, IsRead, history_shown}
-use Rattle.transactions.specs.declared.commit_fault.CommitFault.{CommitFault}
 use Rattle.transactions.specs.declared.commit_fault.CommitFault.TheVariants as write
 use Rattle.transactions.proofs.HistoryRows.{history_made}
 

@@ -1,21 +1,9 @@
 -- One write of a document, by the statements that were run for it.
-use Rattle.std.proofs.Common.{◌≡◌, ◌+◌, ℕ, ℤ, pos, Bool, List, Result, Ok, Err, OnOk, sym, subst, ◌∙◌, arith}
-use Rattle.sqlite_value.specs.Order.{Row}
-use Rattle.sqlite.specs.Effect.{Database}
-use Rattle.tree.specs.History.{HistoryContent, with_write}
-use Rattle.tree.specs.Revision.{Revision, text_of}
-use Rattle.tree.specs.declared.entry.Entry.{Entry}
-use Rattle.store.specs.Writing.{Addition, written_in}
-use Rattle.tables.specs.Edits.{AreInserted, IsWrite, new_entries}
-use Rattle.tables.specs.Layout.{AreDatabaseRows, AreKeyed, IsStore}
-use Rattle.tables.specs.Rows.{history_in, length_of, number_of, rows_at_sequence}
-use Rattle.tables.specs.Schema.{dbs_tree, docs_tree, revs_tree, schema}
-use Rattle.tables.specs.Steps.{Changes}
+use Rattle.transactions.proofs.Common.{Addition, AreDatabaseRows, AreInserted, AreKeyed, Bool, Changes, Database, Entry, Err, HistoryContent, IsBest, IsPlaced, IsStore, IsWrite, List, Ok, OnOk, Result, Revision, Row, arith, dbs_tree, docs_tree, entries_of, history_in, length_of, new_entries, number_of, pos, revs_tree, rows_at_sequence, schema, subst, sym, text_of, unknown_in, with_write, written_in, ℕ, ℤ, ◌+◌, ◌∙◌, ◌≡◌}
 use Rattle.tables.proofs.DocumentWriteNews.{news_of_addition}
 use Rattle.tables.proofs.DocumentWriteSteps.{revisions_changed}
 use Rattle.tables.proofs.Rests.{leaves}
 use Rattle.tables.proofs.Tables.{databases_laid, docs_keyed}
-use Rattle.transactions.specs.Inserting.{IsBest, IsPlaced, entries_of, unknown_in}
 
 -- the statements of a write, and the values that they were given
 pub record Ran (h : HistoryContent) (a : Addition) (text : List ℕ) (deleted : Bool) (db sequence : ℤ) (id : List ℕ) (old inserted placed new : Database) : Type 0 where

@@ -1,28 +1,12 @@
 -- Histories that are held by a map while documents are written one after another.
-use Rattle.std.proofs.Common.{◌≡◌, ◌+◌, ◌<◌, ℕ, ℤ, Bool, true, false, cond, List, [], ◌∷◌, ◌++◌, take, get_or, length, Option, Some, None, refl, sym, ap, subst, ◌∙◌}
-use Rattle.std.proofs.lemmas.List.{map-append, take_more}
-use Rattle.std.proofs.lemmas.Map.Text.{is_eq-slice_cmp}
-use Rattle.std.proofs.lemmas.Slice.Eq.{bytes_eq-Decides}
+use Rattle.transactions.proofs.Common.{Addition, AreStored, Bool, Database, HasWritten, HistoryContent, IsHeldOpen, IsWith, List, None, Option, Row, Some, State, [], addition_of, additions, ap, bytes_eq-Decides, cond, database_of, false, get_or, history_at, history_at-with_all, history_in, is_eq-slice_cmp, length, map-append, number_of, refl, revs_tree, row_after, slice_cmp, subst, sym, take, take_more, true, with_addition, with_all, with_all-writings_in, writings_in, ℕ, ℤ, ◌++◌, ◌+◌, ◌<◌, ◌∙◌, ◌∷◌, ◌≡◌}
 use Rattle.std.specs.Prelude.{bytes_eq}
 use Rattle.std.specs.BTreeMap.{BTreeMap, IsEmpty, get, is_at}
 use Rattle.std.specs.Map.{lookup}
 use Rattle.std.specs.Ordering.{is_eq, nat_cmp}
-use Rattle.std.specs.Cmp.Lexicographic.{slice_cmp}
-use Rattle.sqlite_value.specs.Order.{Row}
-use Rattle.sqlite.specs.Effect.{Database}
 use Rattle.store.specs.Database as store
-use Rattle.store.specs.Database.{history_at, with_all}
-use Rattle.store.specs.Plain.{with_addition}
-use Rattle.store.specs.Writing.{Addition, addition_of, additions, writings_in}
 use Rattle.store.specs.declared.write.Write.{Write}
-use Rattle.store.proofs.Contents.{history_at-with_all, with_all-writings_in}
-use Rattle.tree.specs.History.{HistoryContent}
-use Rattle.tables.specs.Edits.{HasWritten, row_after}
-use Rattle.tables.specs.Rows.{database_of, history_in, number_of}
-use Rattle.tables.specs.Schema.{revs_tree}
 use Rattle.tables.proofs.Lookups.{document_found}
-use Rattle.sqlite.specs.State.{State}
-use Rattle.transactions.specs.Histories.{AreStored, IsHeldOpen, IsWith}
 
 -- an empty map holds no history
 pub none_stored : (m : BTreeMap (List ℕ) HistoryContent) (M : List ℕ → HistoryContent) → IsEmpty m → AreStored m M

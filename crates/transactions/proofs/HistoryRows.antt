@@ -1,32 +1,11 @@
 -- The history that the rows of a document's revisions make, in whatever order a query shows them.
-use base.Stored.{Coded-set}
-use Rattle.std.proofs.Common.{◌≡◌, ◌≢◌, ℕ, ℤ, Bool, true, false, cond, List, [], ◌∷◌, map, filter, slice_get, Option, option_map, IsPermutation, refl, sym, ap, subst, ◌∙◌}
-use Rattle.std.specs.Coded.{coded_option}
+use Rattle.transactions.proofs.Common.{AllByRecursion, Bool, Coded-set, Entry, Equal-is, HistoryContent, IsAscending, IsLaid, IsPermutation, IsPermutation-filter, IsShownRevision, List, Option, Revision, Row, Trees, [], all-filter, all_map, ap, coded_option, cond, content_code, db_of, entry_of, entry_shown, eq_by_cmp, false, filter, held_shown, history_in, history_shown, id_of, is_of, map, map-map, option_map, parent_shown, refl, revision_cmp, revision_cmp_exact, revision_cmp_total, revision_of, revision_shown, revs_tree, row_of, rows_make, shown_revision, slice_get, subst, sym, true, ℕ, ℤ, ◌∙◌, ◌∷◌, ◌≡◌, ◌≢◌}
 use Rattle.std.specs.FinMap as finite
-use Rattle.std.specs.List.{AllByRecursion}
-use Rattle.std.specs.Ordering.{eq_by_cmp}
-use Rattle.std.specs.Cmp.{Equal-is}
-use Rattle.tree.specs.History.{HistoryContent, row_of}
-use Rattle.tree.specs.HistoryCode.{content_code}
-use Rattle.tree.specs.Revision.{Revision, revision_cmp}
-use Rattle.tree.specs.declared.entry.Entry.{Entry}
-use Rattle.tree.proofs.Contents.{rows_make}
-use Rattle.tree.proofs.Kept.{revision_cmp_total}
-use Rattle.tree.proofs.Revisions.{revision_cmp_exact}
-use Rattle.sqlite_value.specs.Order.{Row}
-use Rattle.sqlite_trees.specs.Tree.{IsAscending, Trees}
 use Rattle.sqlite_trees.proofs.ListLemmas.{all-permutation}
-use Rattle.sqlite_keyed.proofs.ListLemmas.{IsPermutation-filter, map-map}
-use Rattle.tables.specs.Layout.{IsLaid}
-use Rattle.tables.specs.Rows.{db_of, entry_of, history_in, id_of, is_of, revision_of, shown_revision}
-use Rattle.tables.specs.Schema.{revs_tree}
-use Rattle.tables.specs.Shown.{IsShownRevision, held_shown, parent_shown, revision_shown}
 use Rattle.tables.proofs.Laid.{shown_revisions}
 use Rattle.tables.proofs.Lookups.{of_these}
 use Rattle.tables.proofs.RowMaps.{get_filtered}
 use Rattle.tables.proofs.Single.{HasOneAtMost, one_order}
-use Rattle.transactions.specs.Reading.{entry_shown, history_shown}
-use Rattle.transactions.proofs.Rows.{all_left, all_shown}
 
 -- rows that are apart are so as they are shown, where some are left out
 module _ (R Q : Row → Row → Type 0) (show : Row → Row) (p : Row → Bool) (apart : (a b : Row) → p a ≡ true → p b ≡ true → R a b → Q (show a) (show b)) where
@@ -91,4 +70,4 @@ pub history_set : IsSet (Option HistoryContent)
 history_set = Coded-set (coded_option content_code)
 
 pub history_intact : (trees : Trees) (p : Row → Bool) (rows : List Row) → IsLaid trees → IsPermutation (map shown_revision (filter p (trees revs_tree))) rows → AllByRecursion IsShownRevision rows
-history_intact trees p rows l same = all-permutation IsShownRevision _ rows same (all_shown IsShownRevision shown_revision _ (all_left _ p _ (shown_revisions trees l)))
+history_intact trees p rows l same = all-permutation IsShownRevision _ rows same (all_map IsShownRevision shown_revision _ (all-filter _ p _ (shown_revisions trees l)))

@@ -1,18 +1,8 @@
 -- Revisions that are put in one after another.
-use Rattle.std.proofs.Common.{◌≡◌, ◌+◌, ◌<◌, suc, ℕ, ℤ, Bool, true, false, not, cond, List, [], ◌∷◌, ◌++◌, drop, filter, get_or, length, slice_get, Option, Some, None, Result, Ok, Err, OnOk, refl, sym, ap, subst, ◌∙◌, arith}
+use Rattle.transactions.proofs.Common.{AreInserted, Bool, Changes, Database, Entry, Err, HistoryContent, IsOnTheWay, IsPlaced, List, None, Ok, OnOk, Option, Result, Revision, Some, [], ap, arith, cond, docs_tree, document_cells, drop, entries_before, false, filter, get_or, is_known, is_of, length, next_of, not, refl, revision_cells, revs_tree, slice_get, subst, suc, sym, true, unknown_in, with_cells, ℕ, ℤ, ◌++◌, ◌+◌, ◌<◌, ◌∙◌, ◌∷◌, ◌≡◌}
 use Rattle.std.proofs.Math.Seq.{drop-cons}
-use Rattle.sqlite.specs.Effect.{Database}
-use Rattle.tree.specs.History.{HistoryContent, is_known}
-use Rattle.tree.specs.Nodes.{entries_before, next_of}
-use Rattle.tree.specs.Revision.{Revision}
-use Rattle.tree.specs.declared.entry.Entry.{Entry}
 use Rattle.tree.specs.declared.entry.Held.{Held}
-use Rattle.tables.specs.Edits.{AreInserted}
-use Rattle.tables.specs.Rows.{document_cells, is_of, revision_cells, with_cells}
-use Rattle.tables.specs.Schema.{docs_tree, revs_tree}
-use Rattle.tables.specs.Steps.{Changes}
 use Rattle.tables.proofs.DocumentWriteSteps.{inserted_fit, revisions_changed}
-use Rattle.transactions.specs.Inserting.{IsOnTheWay, IsPlaced, unknown_in}
 
 module _ (db : ℤ) (id : List ℕ) where
   pub one : (e : Revision × Entry) (a b : Database) → Changes revs_tree (with_cells (a.trees revs_tree) (revision_cells db id e.0 e.1)) a b → AreInserted (e ∷ []) db id a b

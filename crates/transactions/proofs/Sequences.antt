@@ -1,16 +1,8 @@
 -- Changes of tables, one after the other, and their commit.
-use Rattle.std.proofs.Common.{◌≡◌, ℕ, ℤ, List, [], Bool, false, filter, not, Result, Ok, Err, IsTrue, OnOk, sym, subst, ◌∙◌, arith}
-use Rattle.sqlite.specs.Effect.{Database}
-use Rattle.sqlite.specs.State.{State, KeepsCounts, Shows}
-use Rattle.sqlite_value.specs.Order.{Row}
-use Rattle.tables.specs.Layout.{AreDatabaseRows, AreKeyed, IsStore}
-use Rattle.tables.specs.Rows.{has_number, is_in, is_of, local_cells, with_cells}
-use Rattle.tables.specs.Schema.{dbs_tree, docs_tree, locals_tree, revs_tree}
-use Rattle.tables.specs.Steps.{Changes}
+use Rattle.transactions.proofs.Common.{AreDatabaseRows, AreKeyed, Bool, Changes, Clears, Database, Err, IsStore, IsTrue, KeepsCounts, List, Ok, OnOk, Replaces, Result, Row, Shows, State, [], arith, dbs_tree, docs_tree, false, filter, has_number, is_in, is_of, local_cells, locals_tree, not, revs_tree, subst, sym, with_cells, ℕ, ℤ, ◌∙◌, ◌≡◌}
 use Rattle.tables.proofs.Kept.{keyed-filter}
 use Rattle.tables.proofs.Rests.{leaves}
 use Rattle.tables.proofs.Tables.{databases_laid, locals_keyed, revs_keyed}
-use Rattle.transactions.specs.Sequences.{Clears, Replaces}
 
 -- what holds of the rows of a transaction holds of what is committed
 pub committed : {X E : Type 0} (r : Result X E) (P : Database → Type 0) (a b : State) → OnOk r (IsTrue a.in_transaction × Shows a b a.now a.now false × KeepsCounts a b × (b.marks ≡ [])) → P a.now → OnOk r (P b.now)

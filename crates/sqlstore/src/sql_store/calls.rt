@@ -47,8 +47,10 @@ impl<S: Alter + Drop> Store for SqlStore<S> {
     }
 
     fn security(&mut self, name: &DbName) -> Result<Security, StoreFault> {
-        let found = self.find(name)?;
-        read_security(self.alloc, &found.security)
+        let known = self.know(name)?;
+        let security = read_security(self.alloc, &known.found.security);
+        self.known = Some(known);
+        security
     }
 
     fn set_security(&mut self, name: &DbName, security: &Security) -> Result<(), StoreFault> {
@@ -118,5 +120,5 @@ impl<S: Alter + Drop> Store for SqlStore<S> {
         self.faults
     }
 
-    ghost lawful = { λ s honest. ∥∥₁_elim (s.held honest.0 honest.1) ∥∥₁_prop (λ h. h.store.laid.lawful) };
+    ghost lawful = { λ s honest. ∥∥₁_elim (s.standing.held honest.0 honest.1) ∥∥₁_prop (λ h. h.store.laid.lawful) };
 }

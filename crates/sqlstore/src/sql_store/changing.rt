@@ -43,6 +43,7 @@ impl<S: Alter> SqlStore<S> {
     {
         let security = Security::closed(self.alloc)?;
         let text = canon(self.alloc, security.value())?;
+        self.known = None;
         match add_database(&mut self.conn, name.as_str().as_bytes(), text.as_str()) {
             Ok(()) => {
                 self.last = Snapshot::of(&self.conn);
@@ -66,6 +67,7 @@ impl<S: Alter> SqlStore<S> {
         ensures moves { Moves S.Store self.old self.new }
     {
         let text = canon(self.alloc, security.value())?;
+        self.known = None;
         match change_security(&mut self.conn, number, text.as_str()) {
             Ok(()) => {
                 self.last = Snapshot::of(&self.conn);
@@ -83,6 +85,7 @@ impl<S: Alter> SqlStore<S> {
         ensures kept { OnErr result (self.new.last.value ≡ self.old.last.value) }
         ensures moves { Moves S.Store self.old self.new }
     {
+        self.known = None;
         match remove_database(&mut self.conn, number) {
             Ok(()) => {
                 self.last = Snapshot::of(&self.conn);
@@ -108,6 +111,7 @@ impl<S: Alter> SqlStore<S> {
         ensures moves { Moves S.Store self.old self.new }
     {
         let text = canon(self.alloc, document.body.json())?;
+        self.known = None;
         match write_local(
             &mut self.conn,
             number,

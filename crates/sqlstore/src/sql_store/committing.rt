@@ -1,8 +1,11 @@
 //! How writes of documents are appended to a database, in one transaction.
 
-ghost use Rattle.std.specs.Prelude.{◌+◌, ◌<◌, ◌^◌, ◌↔◌, IsTrue};
+ghost use Rattle.std.specs.Prelude.{◌≡◌, ◌+◌, ◌<◌, ◌^◌, ◌↔◌, IfSome, IsTrue, Some};
+ghost use Rattle.sqlstore.specs.declared.known_database.KnownDatabase.{KnownDatabase};
+ghost use Rattle.sqlstore.specs.Reading.{at_sequence};
 
 use crate::fault::judge_write;
+use crate::known_database::KnownDatabase;
 use crate::sql_store::SqlStore;
 use sqlite::Alter;
 use std::snapshot::Snapshot;
@@ -16,6 +19,23 @@ pub(crate) fn has_room(sequence: u64, count: usize) -> bool
     match sequence.checked_add(count as u64) {
         Some(last) => last < 1 << 63,
         None => false,
+    }
+}
+
+/// Returns what is known of the database of this name, if it is the known one, after its sequence moved to
+/// this one.
+fn advance(
+    known: Option<KnownDatabase>,
+    name: &DbName,
+    sequence: u64,
+) -> Option<KnownDatabase>
+    ensures { IfSome result (λ now. (was : KnownDatabase) × (known ≡ Some was) × (was.name ≡ name.now) × (now ≡ at_sequence sequence was)) }
+{
+    let known = known?;
+    if known.name == *name {
+        Some(known.at_sequence(sequence))
+    } else {
+        None
     }
 }
 
@@ -47,6 +67,8 @@ impl<S: Alter> SqlStore<S> {
         match commit_writes(self.alloc, &mut self.conn, number, sequence, writes) {
             Ok(()) => {
                 self.last = Snapshot::of(&self.conn);
+                let known = self.known.take();
+                self.known = advance(known, name, sequence + writes.len() as u64);
                 Ok(())
             }
             Err(fault) => Err(judge_write(&mut self.faults, fault)),

@@ -7,17 +7,14 @@ use store::StoreFault;
 use tables::documents;
 
 impl<S: Alter> SqlStore<S> {
-    ghost use Rattle.std.specs.Prelude.{◌≡◌, IfErr, IfOk, filter};
+    ghost use Rattle.std.specs.Prelude.{◌≡◌, filter};
     ghost use Rattle.tables.specs.Listings.{comes_after, first_rows, lies_between, listed_id};
-    ghost use Rattle.sqlstore.specs.Causes.{IsJudged};
     ghost use Rattle.sqlstore.specs.Listing.{listed_by_id, listed_by_sequence};
-    ghost use Rattle.sqlstore.specs.Model.{Stands, is_honest, trees_of};
+    ghost use Rattle.sqlstore.specs.Model.{Finds};
 
     /// Returns the rows of all documents of a database, by the bytes of their ids.
     pub(crate) fn rows_by_id(&mut self, db: &i64) -> Result<Vec<Row>, StoreFault>
-        ensures ok { is_honest S.Store self.new → IfOk result (λ rows. rows.items ≡ listed_by_id (trees_of S.Store self.old) db.now) }
-        ensures judged { IfErr result (IsJudged self.old.faults self.new.faults) }
-        ensures stands { Stands S.Store self.old self.new }
+        ensures { Finds S.Store (λ trees rows. rows.items ≡ listed_by_id trees db.now) self.old self.new result }
     {
         let rows = documents::rows_by_id(&mut self.conn, db);
         judge_answer(&mut self.faults, rows)
@@ -25,9 +22,7 @@ impl<S: Alter> SqlStore<S> {
 
     /// Returns the rows of all documents of a database, by their sequences.
     pub(crate) fn rows_by_sequence(&mut self, db: &i64) -> Result<Vec<Row>, StoreFault>
-        ensures ok { is_honest S.Store self.new → IfOk result (λ rows. rows.items ≡ listed_by_sequence (trees_of S.Store self.old) db.now) }
-        ensures judged { IfErr result (IsJudged self.old.faults self.new.faults) }
-        ensures stands { Stands S.Store self.old self.new }
+        ensures { Finds S.Store (λ trees rows. rows.items ≡ listed_by_sequence trees db.now) self.old self.new result }
     {
         let rows = documents::rows_by_sequence(&mut self.conn, db);
         judge_answer(&mut self.faults, rows)
@@ -40,9 +35,7 @@ impl<S: Alter> SqlStore<S> {
         first: &[u8],
         last: &[u8],
     ) -> Result<Vec<Row>, StoreFault>
-        ensures ok { is_honest S.Store self.new → IfOk result (λ rows. rows.items ≡ filter (λ s. lies_between first.now last.now (listed_id s)) (listed_by_id (trees_of S.Store self.old) db.now)) }
-        ensures judged { IfErr result (IsJudged self.old.faults self.new.faults) }
-        ensures stands { Stands S.Store self.old self.new }
+        ensures { Finds S.Store (λ trees rows. rows.items ≡ filter (λ s. lies_between first.now last.now (listed_id s)) (listed_by_id trees db.now)) self.old self.new result }
     {
         let rows = documents::rows_between(&mut self.conn, db, first, last);
         judge_answer(&mut self.faults, rows)
@@ -56,9 +49,7 @@ impl<S: Alter> SqlStore<S> {
         sequence: &i64,
         limit: &i64,
     ) -> Result<Vec<Row>, StoreFault>
-        ensures ok { is_honest S.Store self.new → IfOk result (λ rows. rows.items ≡ first_rows limit.now (filter (comes_after sequence.now) (listed_by_sequence (trees_of S.Store self.old) db.now))) }
-        ensures judged { IfErr result (IsJudged self.old.faults self.new.faults) }
-        ensures stands { Stands S.Store self.old self.new }
+        ensures { Finds S.Store (λ trees rows. rows.items ≡ first_rows limit.now (filter (comes_after sequence.now) (listed_by_sequence trees db.now))) self.old self.new result }
     {
         let rows = documents::rows_after(&mut self.conn, db, sequence, limit);
         judge_answer(&mut self.faults, rows)

@@ -19,11 +19,10 @@ fn limit_of(limit: Option<u64>) -> i64
 }
 
 impl<S: Alter> SqlStore<S> {
-    ghost use Rattle.std.specs.Prelude.{◌≡◌, IfErr, IfOk, filter};
+    ghost use Rattle.std.specs.Prelude.{◌≡◌, filter};
     ghost use Rattle.tables.specs.Listings.{lies_between, listed_id};
-    ghost use Rattle.sqlstore.specs.Causes.{IsJudged};
     ghost use Rattle.sqlstore.specs.Listing.{AreEnoughById, AreEnoughBySequence, least_of, listed_by_id, listed_by_sequence};
-    ghost use Rattle.sqlstore.specs.Model.{Stands, is_honest, trees_of};
+    ghost use Rattle.sqlstore.specs.Model.{Finds};
 
     /// Returns the rows of the documents whose ids lie between two, of which the first is the greater in
     /// a range that goes down.
@@ -34,10 +33,7 @@ impl<S: Alter> SqlStore<S> {
         start: &[u8],
         end: &[u8],
     ) -> Result<Vec<Row>, StoreFault>
-        ensures ok { is_honest S.Store self.new → IfOk result (λ rows. rows.items ≡
-            filter (λ s. lies_between (least_of descending start.now end.now) (least_of descending end.now start.now) (listed_id s)) (listed_by_id (trees_of S.Store self.old) number.now)) }
-        ensures judged { IfErr result (IsJudged self.old.faults self.new.faults) }
-        ensures stands { Stands S.Store self.old self.new }
+        ensures { Finds S.Store (λ trees rows. rows.items ≡ filter (λ s. lies_between (least_of descending start.now end.now) (least_of descending end.now start.now) (listed_id s)) (listed_by_id trees number.now)) self.old self.new result }
     {
         if descending {
             self.rows_between(number, end, start)
@@ -53,9 +49,7 @@ impl<S: Alter> SqlStore<S> {
         number: &i64,
         range: &IdRange,
     ) -> Result<Vec<Row>, StoreFault>
-        ensures ok { is_honest S.Store self.new → IfOk result (λ rows. AreEnoughById range.now (listed_by_id (trees_of S.Store self.old) number.now) rows.items) }
-        ensures judged { IfErr result (IsJudged self.old.faults self.new.faults) }
-        ensures stands { Stands S.Store self.old self.new }
+        ensures { Finds S.Store (λ trees rows. AreEnoughById range.now (listed_by_id trees number.now) rows.items) self.old self.new result }
     {
         if range.counted {
             return self.rows_by_id(number);
@@ -76,9 +70,7 @@ impl<S: Alter> SqlStore<S> {
         number: &i64,
         range: &SeqRange,
     ) -> Result<Vec<Row>, StoreFault>
-        ensures ok { is_honest S.Store self.new → IfOk result (λ rows. AreEnoughBySequence range.now (listed_by_sequence (trees_of S.Store self.old) number.now) rows.items) }
-        ensures judged { IfErr result (IsJudged self.old.faults self.new.faults) }
-        ensures stands { Stands S.Store self.old self.new }
+        ensures { Finds S.Store (λ trees rows. AreEnoughBySequence range.now (listed_by_sequence trees number.now) rows.items) self.old self.new result }
     {
         if range.counted || range.since >= 1 << 63 {
             return self.rows_by_sequence(number);

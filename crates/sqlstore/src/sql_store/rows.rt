@@ -7,18 +7,15 @@ use store::StoreFault;
 use tables::{databases, locals, revisions};
 
 impl<S: Alter> SqlStore<S> {
-    ghost use Rattle.std.specs.Prelude.{◌≡◌, IfErr, IfOk, IsPermutation, filter, map};
+    ghost use Rattle.std.specs.Prelude.{◌≡◌, IsPermutation, filter, map};
     ghost use Rattle.sqlite_keyed.specs.Lists.{sort_by};
     ghost use Rattle.tables.specs.Rows.{by_name, is_named, is_of, shown_database, shown_local, shown_name, shown_revision};
     ghost use Rattle.tables.specs.Schema.{dbs_tree, locals_tree, revs_tree};
-    ghost use Rattle.sqlstore.specs.Causes.{IsJudged};
-    ghost use Rattle.sqlstore.specs.Model.{Stands, is_honest, trees_of};
+    ghost use Rattle.sqlstore.specs.Model.{Finds};
 
     /// Returns the row of the database of this name, if there is one.
     pub(crate) fn database_rows(&mut self, name: &[u8]) -> Result<Vec<Row>, StoreFault>
-        ensures ok { is_honest S.Store self.new → IfOk result (λ rows. rows.items ≡ map shown_database (filter (is_named name.now) (trees_of S.Store self.old dbs_tree))) }
-        ensures judged { IfErr result (IsJudged self.old.faults self.new.faults) }
-        ensures stands { Stands S.Store self.old self.new }
+        ensures { Finds S.Store (λ trees rows. rows.items ≡ map shown_database (filter (is_named name.now) (trees dbs_tree))) self.old self.new result }
     {
         let rows = databases::database_rows(&mut self.conn, name);
         judge_answer(&mut self.faults, rows)
@@ -26,9 +23,7 @@ impl<S: Alter> SqlStore<S> {
 
     /// Returns the rows of the names of all databases, in the order of their bytes.
     pub(crate) fn name_rows(&mut self) -> Result<Vec<Row>, StoreFault>
-        ensures ok { is_honest S.Store self.new → IfOk result (λ rows. rows.items ≡ map shown_name (sort_by by_name (trees_of S.Store self.old dbs_tree))) }
-        ensures judged { IfErr result (IsJudged self.old.faults self.new.faults) }
-        ensures stands { Stands S.Store self.old self.new }
+        ensures { Finds S.Store (λ trees rows. rows.items ≡ map shown_name (sort_by by_name (trees dbs_tree))) self.old self.new result }
     {
         let rows = databases::name_rows(&mut self.conn);
         judge_answer(&mut self.faults, rows)
@@ -36,9 +31,7 @@ impl<S: Alter> SqlStore<S> {
 
     /// Returns the rows of the known revisions of a document, in some order.
     pub(crate) fn revision_rows(&mut self, db: &i64, id: &[u8]) -> Result<Vec<Row>, StoreFault>
-        ensures ok { is_honest S.Store self.new → IfOk result (λ rows. ∥ IsPermutation (map shown_revision (filter (is_of db.now id.now) (trees_of S.Store self.old revs_tree))) rows.items ∥₁) }
-        ensures judged { IfErr result (IsJudged self.old.faults self.new.faults) }
-        ensures stands { Stands S.Store self.old self.new }
+        ensures { Finds S.Store (λ trees rows. ∥ IsPermutation (map shown_revision (filter (is_of db.now id.now) (trees revs_tree))) rows.items ∥₁) self.old self.new result }
     {
         let rows = revisions::revision_rows(&mut self.conn, db, id);
         judge_answer(&mut self.faults, rows)
@@ -46,9 +39,7 @@ impl<S: Alter> SqlStore<S> {
 
     /// Returns the row of a local document, if there is one.
     pub(crate) fn local_rows(&mut self, db: &i64, id: &[u8]) -> Result<Vec<Row>, StoreFault>
-        ensures ok { is_honest S.Store self.new → IfOk result (λ rows. rows.items ≡ map shown_local (filter (is_of db.now id.now) (trees_of S.Store self.old locals_tree))) }
-        ensures judged { IfErr result (IsJudged self.old.faults self.new.faults) }
-        ensures stands { Stands S.Store self.old self.new }
+        ensures { Finds S.Store (λ trees rows. rows.items ≡ map shown_local (filter (is_of db.now id.now) (trees locals_tree))) self.old self.new result }
     {
         let rows = locals::local_rows(&mut self.conn, db, id);
         judge_answer(&mut self.faults, rows)

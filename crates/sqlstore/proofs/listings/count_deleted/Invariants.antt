@@ -1,5 +1,4 @@
-use Rattle.std.proofs.Common.{◌≡◌, ◌+◌, ◌≤◌, drop}
-use Rattle.std.specs.List.{count_by}
+use Rattle.sqlstore.proofs.Common.{count_by, drop, ◌+◌, ◌≡◌, ◌≤◌}
 use Rattle.sqlstore.proofs.listings.count_deleted.Given as goal
 
 abbrev pub invariant-loop-row : goal.invariant-loop-row

@@ -1,5 +1,4 @@
-use Rattle.std.proofs.Common.{◌≡◌, ◌++◌, drop, map}
-use Rattle.tables.specs.Listings.{listed_id}
+use Rattle.sqlstore.proofs.Common.{drop, listed_id, map, ◌++◌, ◌≡◌}
 use Rattle.sqlstore.proofs.listings.read_ids.Given as goal
 
 abbrev pub invariant-loop-row : goal.invariant-loop-row

@@ -1,10 +1,4 @@
-use Rattle.std.proofs.Common.{rules, ◌≡◌, ◌∷◌, ◌+◌, Err, Global, Some, Vec, drop, sym, subst, ◌∙◌}
-use Rattle.std.proofs.lemmas.List.{drop_more}
-use Rattle.std.specs.List.{AllByRecursion}
-use Rattle.store.specs.declared.page.IdRow.{IdRow}
-use Rattle.tables.specs.Listings.{IsListedDocument, live_rows}
-use Rattle.transactions.specs.Reading.{IsRead}
-use Rattle.sqlstore.proofs.Afterwards.{one_lost}
+use Rattle.sqlstore.proofs.Lemmas.{AllByRecursion, Err, Global, IdRow, IsListedDocument, IsRead, Some, Vec, drop, drop_more, live_rows, one_lost, rules, subst, sym, ◌+◌, ◌∙◌, ◌∷◌, ◌≡◌}
 use Rattle.sqlstore.proofs.listings.read_live_rows.Goals as goal
 
 pub returns-in_err-one : goal.returns-in_err-one

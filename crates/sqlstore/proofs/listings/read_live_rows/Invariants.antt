@@ -1,5 +1,4 @@
-use Rattle.std.proofs.Common.{◌≡◌, ◌++◌, drop}
-use Rattle.tables.specs.Listings.{live_rows}
+use Rattle.sqlstore.proofs.Common.{drop, live_rows, ◌++◌, ◌≡◌}
 use Rattle.sqlstore.proofs.listings.read_live_rows.Given as goal
 
 abbrev pub invariant-loop-row : goal.invariant-loop-row

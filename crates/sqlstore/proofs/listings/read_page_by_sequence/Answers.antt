@@ -1,8 +1,4 @@
-use Rattle.std.proofs.Common.{◌≡◌, Some, map, sym, ap, ◌∙◌}
-use Rattle.store.specs.Pages.{if_counted, sequence_page}
-use Rattle.store.specs.Paging.{sequence_rows}
-use Rattle.tables.specs.Listings.{sequence_row}
-use Rattle.sqlstore.proofs.ListedRows.{counts_read}
+use Rattle.sqlstore.proofs.Lemmas.{Some, ap, counts_read, if_counted, map, sequence_page, sequence_row, sequence_rows, sym, ◌∙◌, ◌≡◌}
 use Rattle.sqlstore.proofs.listings.read_page_by_sequence.Goals as goal
 
 pub returns-clause-page : goal.returns-clause-page

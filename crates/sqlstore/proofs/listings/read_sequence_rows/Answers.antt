@@ -1,8 +1,4 @@
-use Rattle.std.proofs.Common.{rules, ◌∷◌, ◌++◌, ◌+◌, [], drop, sym, ap, ◌∙◌}
-use Rattle.std.proofs.lemmas.List.{drop_more, map-append}
-use Rattle.store.specs.Paging.{sequence_row_of, sequence_rows}
-use Rattle.tables.specs.Listings.{sequence_row}
-use Rattle.sqlstore.proofs.ListedRows.{one_more}
+use Rattle.sqlstore.proofs.Lemmas.{[], ap, drop, drop_more, map-append, one_more, rules, sequence_row, sequence_row_of, sequence_rows, sym, ◌++◌, ◌+◌, ◌∙◌, ◌∷◌}
 use Rattle.sqlstore.proofs.listings.read_sequence_rows.Goals as goal
 
 pub loop-row-preserved : goal.loop-row-preserved

@@ -1,6 +1,5 @@
-use Rattle.std.proofs.Common.{◌≡◌, ◌<◌, ◌^◌, ◌++◌, All, drop, map}
-use Rattle.store.specs.Paging.{sequence_rows}
-use Rattle.tables.specs.Listings.{sequence_row}
+use Rattle.sqlstore.proofs.Common.{drop, map, sequence_row, sequence_rows, ◌++◌, ◌<◌, ◌^◌, ◌≡◌}
+use Rattle.std.proofs.Common.{All}
 use Rattle.sqlstore.proofs.listings.read_sequence_rows.Given as goal
 
 abbrev pub invariant-loop-row : goal.invariant-loop-row

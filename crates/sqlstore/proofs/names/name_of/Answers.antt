@@ -1,4 +1,4 @@
-use Rattle.sqlstore.proofs.NameBytes.{name_is_text}
+use Rattle.sqlstore.proofs.Lemmas.{name_is_text}
 use Rattle.sqlstore.proofs.names.name_of.Goals as goal
 
 pub returns-in_default-clause-err : goal.returns-in_default-clause-err

@@ -1,5 +1,4 @@
-use Rattle.std.proofs.Common.{◌≡◌, ◌++◌, drop, map}
-use Rattle.sqlstore.specs.Reading.{name_shown}
+use Rattle.sqlstore.proofs.Common.{drop, map, name_shown, ◌++◌, ◌≡◌}
 use Rattle.sqlstore.proofs.names.read_names.Given as goal
 
 abbrev pub invariant-loop-row : goal.invariant-loop-row

@@ -1,5 +1,4 @@
-use Rattle.std.proofs.Common.{refl, ◌∙◌}
-use Rattle.sqlite.specs.Held.{state}
+use Rattle.sqlstore.proofs.Common.{refl, state, ◌∙◌}
 use Rattle.sqlstore.proofs.Tables.{never_nothing, never_others, never_part, ours_never_others}
 use Rattle.sqlstore.proofs.opening.find_tables.Goals as goal
 

@@ -1,6 +1,4 @@
-use Rattle.std.proofs.Common.{arith}
-use Rattle.sqlite.specs.Held.{state}
-use Rattle.sqlite.specs.State.{HasCleanDisk}
+use Rattle.tables.proofs.Common.{HasCleanDisk, arith, state}
 use Rattle.tables.proofs.Creations.{makes_if_ran}
 use Rattle.tables.proofs.create.make_tables.Goals as goal
 

@@ -1,6 +1,5 @@
-use Rattle.sqlite.specs.Held.{state}
-use Rattle.tables.proofs.Finds.{reads_of}
-use Rattle.tables.proofs.DatabaseStatements.{find_text, find_is, finds_database}
+use Rattle.tables.proofs.Lemmas.{finds_database, reads_of, state}
+use Rattle.tables.proofs.DatabaseStatements.{find_text, find_is}
 use Rattle.tables.proofs.databases.database_rows.Goals as goal
 
 pub returns : goal.returns

@@ -1,6 +1,4 @@
-use Rattle.sqlite.specs.Held.{state}
-use Rattle.tables.proofs.Finds.{reads_of}
-use Rattle.tables.proofs.DatabaseStatements.{names_text, names_is, lists_names}
+use Rattle.tables.proofs.Lemmas.{lists_names, names_is, names_text, reads_of, state}
 use Rattle.tables.proofs.databases.name_rows.Goals as goal
 
 pub returns : goal.returns

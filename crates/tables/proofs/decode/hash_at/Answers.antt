@@ -1,8 +1,6 @@
-use Rattle.std.proofs.Common.{◌≡◌, List, ℕ, IsUtf8, sym, ap, subst, ◌∙◌}
+use Rattle.tables.proofs.Common.{IsUtf8-revision, List, Text, ap, column, subst, sym, ℕ, ◌∙◌, ◌≡◌}
+use Rattle.std.proofs.Common.{IsUtf8}
 use Rattle.sqlite_value.specs.Value.{owned}
-use Rattle.sqlite_value.specs.declared.value.Value.TheVariants.{Text}
-use Rattle.sqlite_value.specs.Order.{column}
-use Rattle.tree.proofs.RevisionText.{IsUtf8-revision}
 use Rattle.tables.proofs.decode.hash_at.Goals as goal
 
 same_text : (a b : List ℕ) → Text a ≡ Text b → a ≡ b

@@ -1,6 +1,4 @@
-use Rattle.sqlite.specs.Held.{state}
-use Rattle.tables.proofs.Finds.{reads_of}
-use Rattle.tables.proofs.DocumentStatements.{later_text, later_is, lists_later}
+use Rattle.tables.proofs.Lemmas.{later_is, later_text, lists_later, reads_of, state}
 use Rattle.tables.proofs.documents.rows_after.Goals as goal
 
 pub returns : goal.returns

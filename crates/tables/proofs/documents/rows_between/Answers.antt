@@ -1,6 +1,4 @@
-use Rattle.sqlite.specs.Held.{state}
-use Rattle.tables.proofs.Finds.{reads_of}
-use Rattle.tables.proofs.DocumentStatements.{range_text, range_is, lists_range}
+use Rattle.tables.proofs.Lemmas.{lists_range, range_is, range_text, reads_of, state}
 use Rattle.tables.proofs.documents.rows_between.Goals as goal
 
 pub returns : goal.returns

@@ -1,6 +1,4 @@
-use Rattle.sqlite.specs.Held.{state}
-use Rattle.tables.proofs.Finds.{reads_of}
-use Rattle.tables.proofs.DocumentStatements.{ids_text, ids_is, lists_by_id}
+use Rattle.tables.proofs.Lemmas.{ids_is, ids_text, lists_by_id, reads_of, state}
 use Rattle.tables.proofs.documents.rows_by_id.Goals as goal
 
 pub returns : goal.returns

@@ -1,6 +1,4 @@
-use Rattle.sqlite.specs.Held.{state}
-use Rattle.tables.proofs.Finds.{reads_of}
-use Rattle.tables.proofs.DocumentStatements.{sequences_text, sequences_is, lists_by_sequence}
+use Rattle.tables.proofs.Lemmas.{lists_by_sequence, reads_of, sequences_is, sequences_text, state}
 use Rattle.tables.proofs.documents.rows_by_sequence.Goals as goal
 
 pub returns : goal.returns

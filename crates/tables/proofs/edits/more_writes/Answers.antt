@@ -1,4 +1,4 @@
-use Rattle.tables.proofs.DocumentWrites.{none_written, one_more_written, acceptable_in_turn}
+use Rattle.tables.proofs.Lemmas.{acceptable_in_turn, none_written, one_more_written}
 use Rattle.tables.proofs.edits.more_writes.Goals as goal
 
 pub returns-clause-none : goal.returns-clause-none

@@ -1,4 +1,4 @@
-use Rattle.tables.proofs.Laid.{shown_databases, shown_revisions, shown_locals}
+use Rattle.tables.proofs.Lemmas.{shown_databases, shown_locals, shown_revisions}
 use Rattle.tables.proofs.laws.rows_of_a_store.Goals as goal
 
 pub returns-clause-databases : goal.returns-clause-databases

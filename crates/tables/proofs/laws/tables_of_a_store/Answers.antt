@@ -1,6 +1,4 @@
-use Rattle.std.proofs.Common.{ap, ◌∙◌}
-use Rattle.tables.specs.Presence.{has_all}
-use Rattle.tables.proofs.Laid.{ours_has_all}
+use Rattle.tables.proofs.Lemmas.{ap, has_all, ours_has_all, ◌∙◌}
 use Rattle.tables.proofs.laws.tables_of_a_store.Goals as goal
 
 pub returns-clause-tables : goal.returns-clause-tables

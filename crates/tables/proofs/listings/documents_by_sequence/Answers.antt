@@ -1,4 +1,4 @@
-use Rattle.tables.proofs.ListingRows.{leaves_by_sequence, winners_by_sequence}
+use Rattle.tables.proofs.Lemmas.{leaves_by_sequence, winners_by_sequence}
 use Rattle.tables.proofs.listings.documents_by_sequence.Goals as goal
 
 pub returns : goal.returns

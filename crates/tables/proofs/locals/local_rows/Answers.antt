@@ -1,6 +1,5 @@
-use Rattle.sqlite.specs.Held.{state}
-use Rattle.tables.proofs.Finds.{reads_of}
-use Rattle.tables.proofs.LocalStatements.{find_text, find_is, finds_local}
+use Rattle.tables.proofs.Lemmas.{finds_local, reads_of, state}
+use Rattle.tables.proofs.LocalStatements.{find_text, find_is}
 use Rattle.tables.proofs.locals.local_rows.Goals as goal
 
 pub returns : goal.returns

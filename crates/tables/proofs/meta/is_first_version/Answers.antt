@@ -1,7 +1,4 @@
-use Rattle.std.proofs.Common.{rules, ◌≡◌, Err, ap, ◌∙◌}
-use Rattle.tables.specs.Presence.{shows_first}
-use Rattle.tables.proofs.Finds.{reads_nothing, reads_so}
-use Rattle.tables.proofs.MetaStatements.{shows_version}
+use Rattle.tables.proofs.Lemmas.{Err, ap, reads_nothing, reads_so, rules, shows_first, shows_version, ◌∙◌, ◌≡◌}
 use Rattle.tables.proofs.meta.is_first_version.Goals as goal
 
 pub returns-in_err-rows : goal.returns-in_err-rows

@@ -1,6 +1,5 @@
-use Rattle.sqlite.specs.Held.{state}
-use Rattle.tables.proofs.Finds.{reads_of}
-use Rattle.tables.proofs.MetaStatements.{find_text, find_is, finds_version}
+use Rattle.tables.proofs.Lemmas.{finds_version, reads_of, state}
+use Rattle.tables.proofs.MetaStatements.{find_text, find_is}
 use Rattle.tables.proofs.meta.version_rows.Goals as goal
 
 pub returns : goal.returns

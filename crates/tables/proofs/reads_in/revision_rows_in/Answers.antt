@@ -1,6 +1,4 @@
-use Rattle.sqlite.specs.Held.{state}
-use Rattle.tables.proofs.Finds.{reads_inside}
-use Rattle.tables.proofs.RevisionStatements.{find_text, find_is, finds_revisions}
+use Rattle.tables.proofs.Lemmas.{find_is, find_text, finds_revisions, reads_inside, state}
 use Rattle.tables.proofs.reads_in.revision_rows_in.Goals as goal
 
 pub returns-clause-reads : goal.returns-clause-reads

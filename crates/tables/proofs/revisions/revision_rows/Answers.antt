@@ -1,6 +1,4 @@
-use Rattle.sqlite.specs.Held.{state}
-use Rattle.tables.proofs.Finds.{reads_of}
-use Rattle.tables.proofs.RevisionStatements.{find_text, find_is, finds_revisions}
+use Rattle.tables.proofs.Lemmas.{find_is, find_text, finds_revisions, reads_of, state}
 use Rattle.tables.proofs.revisions.revision_rows.Goals as goal
 
 pub returns : goal.returns

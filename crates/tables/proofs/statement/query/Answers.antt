@@ -1,11 +1,5 @@
-use Rattle.std.proofs.Common.{◌⊎◌, inl, ℕ, List, Ok, Err, Result, IfOk, IfErr, OnOk}
-use Rattle.sqlite_value.specs.Order.{Row}
+use Rattle.tables.proofs.Lemmas.{Err, Error, FailsToQuery, IfErr, IfOk, IsRolledBack, IsUnchanged, List, Ok, OnOk, Result, Row, Shown, State, asks, inl, looks, query_fails, query_stands, served, state, understood, ℕ, ◌⊎◌}
 use Rattle.sqlite.specs.Given.{IsPlain}
-use Rattle.sqlite.specs.Held.{state}
-use Rattle.sqlite.specs.Listing.{understood}
-use Rattle.sqlite.specs.State.{State, IsUnchanged, IsRolledBack, Shown, FailsToQuery}
-use Rattle.sqlite.specs.declared.error.Error.{Error}
-use Rattle.tables.proofs.Stays.{query_stands, query_fails, looks, asks, served}
 use Rattle.tables.proofs.statement.query.Goals as goal
 
 stood : {X : Type 0} (old new : State) (sql : List ℕ) (params : Row) (r : Result X Error) (items : X → List Row) → IsPlain (understood old.now.schema sql) → IfOk r (λ x. Shown sql params old new (items x)) → OnOk r (IsUnchanged old new)

@@ -1,6 +1,5 @@
-use Rattle.sqlite.specs.Held.{state}
+use Rattle.tables.proofs.Lemmas.{served, state}
 use Rattle.tables.proofs.QueriesInside.{asks_inside, proceeds, stood}
-use Rattle.tables.proofs.Stays.{served}
 use Rattle.tables.proofs.statement.query_in.Goals as goal
 
 pub returns-clause-stands : goal.returns-clause-stands

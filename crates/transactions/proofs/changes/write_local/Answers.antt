@@ -1,10 +1,4 @@
-use Rattle.std.proofs.Common.{rules, ◌≡◌, OnOk, ap, sym, subst, arith}
-use Rattle.sqlite.specs.Effect.{Database}
-use Rattle.sqlite.specs.Held.{Held, state}
-use Rattle.sqlite.specs.State.{HasCleanDisk}
-use Rattle.tables.specs.Layout.{IsStore}
-use Rattle.transactions.specs.Sequences.{Replaces}
-use Rattle.transactions.proofs.Sequences.{committed}
+use Rattle.transactions.proofs.Lemmas.{Database, HasCleanDisk, Held, IsStore, OnOk, Replaces, ap, arith, committed, rules, state, subst, sym, ◌≡◌}
 use Rattle.transactions.proofs.changes.write_local.Goals as goal
 
 pub returns-clause-ok : goal.returns-clause-ok

@@ -1,14 +1,4 @@
-use Rattle.std.proofs.Common.{rules, ◌≡◌, Err, IfErr, IsTrue, Result, ap, arith, subst, sym}
-use Rattle.sqlite.specs.Effect.{Database}
-use Rattle.sqlite.specs.Held.{Held, state}
-use Rattle.sqlite.specs.State.{HasCleanDisk, KeepsCommit}
-use Rattle.store.specs.Writing.{additions, writings_in}
-use Rattle.tables.specs.Edits.{HasWritten}
-use Rattle.tables.specs.Layout.{IsStore}
-use Rattle.tables.specs.Rows.{database_of}
-use Rattle.transactions.specs.Commits.{AreDue, IsSound, IsUnwritten}
-use Rattle.transactions.specs.declared.commit_fault.CommitFault.{CommitFault}
-use Rattle.transactions.proofs.Committing.{on_err, refused_then, undone_then, unwritten_of}
+use Rattle.transactions.proofs.Lemmas.{AreDue, CommitFault, Database, Err, HasCleanDisk, HasWritten, Held, IfErr, IsSound, IsStore, IsTrue, IsUnwritten, KeepsCommit, Result, additions, ap, arith, database_of, on_err, refused_then, rules, state, subst, sym, undone_then, unwritten_of, writings_in, ◌≡◌}
 use Rattle.transactions.proofs.commits.commit_writes.Goals as goal
 
 pub returns-in_err-write_all-clause-err : goal.returns-in_err-write_all-clause-err

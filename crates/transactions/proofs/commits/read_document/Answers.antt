@@ -1,15 +1,5 @@
-use Rattle.std.proofs.Common.{rules, ◌≡◌, Err, IfErr, IsPermutation, Result, filter, map, subst, sym}
-use Rattle.sqlite.specs.Held.{state}
-use Rattle.std.specs.Prelude.{⊤}
-use Rattle.tables.specs.Rows.{is_of, shown_revision}
-use Rattle.tables.specs.Schema.{revs_tree}
-use Rattle.tree.specs.History.{HistoryContent}
-use Rattle.transactions.specs.Commits.{IsSound, IsUnwritten}
-use Rattle.transactions.specs.Reading.{history_shown}
-use Rattle.transactions.specs.declared.commit_fault.CommitFault.{CommitFault}
+use Rattle.transactions.proofs.Lemmas.{CommitFault, Err, HistoryContent, IfErr, IsPermutation, IsSound, IsUnwritten, Result, filter, history_intact, history_read, history_shown, is_of, lost, map, revs_tree, rules, shown_revision, state, subst, sym, ⊤, ◌≡◌}
 use Rattle.transactions.specs.declared.commit_fault.CommitFault.TheVariants as write
-use Rattle.transactions.proofs.Committing.{history_read, lost}
-use Rattle.transactions.proofs.HistoryRows.{history_intact}
 use Rattle.transactions.proofs.commits.read_document.Goals as goal
 
 pub returns-clause-ok : goal.returns-clause-ok

@@ -1,20 +1,4 @@
-use Rattle.std.proofs.Common.{rules, ◌≡◌, ◌∙◌, Err, IfErr, Result, arith, refl, subst, sym, to_z-of_z, w64}
-use Rattle.std.proofs.lemmas.List.{take_all}
-use Rattle.sqlite.specs.Held.{state}
-use Rattle.sqlite.specs.State.{HasCleanDisk}
-use Rattle.sqlite.proofs.InsideLemmas.{keeps_then}
-use Rattle.store.specs.Writing.{addition_of, additions, writings_in}
-use Rattle.tables.specs.Edits.{HasWritten}
-use Rattle.tables.specs.Rows.{database_of, history_in}
-use Rattle.tables.specs.Schema.{revs_tree}
-use Rattle.tables.proofs.DocumentWrites.{none_written}
-use Rattle.tables.proofs.Stays.{keeps_itself}
-use Rattle.transactions.specs.Commits.{AreDue, IsSound, IsUnwritten, history_with}
-use Rattle.transactions.specs.Histories.{AreStored, IsHeldOpen}
-use Rattle.transactions.specs.Reading.{HasBest}
-use Rattle.transactions.specs.declared.commit_fault.CommitFault.{CommitFault}
-use Rattle.transactions.proofs.Committing.{asks_itself, asks_then, best_in_turn, further, unwritten_of}
-use Rattle.transactions.proofs.HeldHistories.{none_open, none_stored, stored_further}
+use Rattle.transactions.proofs.Lemmas.{AreDue, AreStored, CommitFault, Err, HasBest, HasCleanDisk, HasWritten, IfErr, IsHeldOpen, IsSound, IsUnwritten, Result, addition_of, additions, arith, asks_itself, asks_then, best_in_turn, database_of, further, history_in, history_with, keeps_itself, keeps_then, none_open, none_stored, none_written, refl, revs_tree, rules, state, stored_further, subst, sym, take_all, to_z-of_z, unwritten_of, w64, writings_in, ◌∙◌, ◌≡◌}
 use Rattle.transactions.proofs.commits.write_all.Goals as goal
 
 pub loop-i-init : goal.loop-i-init

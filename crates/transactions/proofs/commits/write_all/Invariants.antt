@@ -1,14 +1,5 @@
-use Rattle.std.proofs.Common.{◌≡◌, List, ℕ, take, true}
-use Rattle.sqlite.specs.Held.{state}
-use Rattle.sqlite.specs.State.{HasCleanDisk, KeepsCommit}
-use Rattle.store.specs.Writing.{additions, writings_in}
+use Rattle.transactions.proofs.Common.{AreDue, AreStored, HasCleanDisk, HasWritten, IsHeldOpen, IsStore, KeepsCommit, List, additions, database_of, history_in, revs_tree, state, take, true, writings_in, ℕ, ◌≡◌}
 use Rattle.tables.specs.Calls.{AsksInside}
-use Rattle.tables.specs.Edits.{HasWritten}
-use Rattle.tables.specs.Layout.{IsStore}
-use Rattle.tables.specs.Rows.{database_of, history_in}
-use Rattle.tables.specs.Schema.{revs_tree}
-use Rattle.transactions.specs.Commits.{AreDue}
-use Rattle.transactions.specs.Histories.{AreStored, IsHeldOpen}
 use Rattle.transactions.proofs.commits.write_all.Given as goal
 
 -- the same transaction, and the writes so far are done, with nothing committed; the histories that were read are those that are stored, and the connection that they were read of is open

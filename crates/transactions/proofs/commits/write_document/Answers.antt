@@ -1,7 +1,4 @@
-use Rattle.std.proofs.Common.{◌∙◌, ap, sym}
-use Rattle.store.specs.Plain.{with_addition}
-use Rattle.store.specs.Writing.{addition_of}
-use Rattle.transactions.proofs.HeldHistories.{put_again}
+use Rattle.transactions.proofs.Lemmas.{addition_of, ap, put_again, sym, with_addition, ◌∙◌}
 use Rattle.transactions.proofs.commits.write_document.Goals as goal
 
 pub returns-in-Some-clause-after : goal.returns-in-Some-clause-after

@@ -1,10 +1,4 @@
-use Rattle.std.proofs.Common.{◌≡◌, ◌∙◌, arith}
-use Rattle.sqlite.specs.Held.{state}
-use Rattle.sqlite.specs.State.{HasCleanDisk}
-use Rattle.store.specs.Writing.{addition_of}
-use Rattle.tables.specs.Rows.{number_of}
-use Rattle.tables.specs.Schema.{revs_tree}
-use Rattle.transactions.proofs.Committing.{document_written, history_of}
+use Rattle.transactions.proofs.Lemmas.{HasCleanDisk, addition_of, arith, document_written, history_of, number_of, revs_tree, state, ◌∙◌, ◌≡◌}
 use Rattle.transactions.proofs.commits.write_unread.Goals as goal
 
 pub returns-clause-ok : goal.returns-clause-ok

@@ -1,11 +1,4 @@
-use Rattle.std.proofs.Common.{Ok, ◌≡◌, ◌∙◌, ◌++◌, arith, ap, refl, subst, sym, string_bytes}
-use Rattle.sqlite.specs.Held.{state}
-use Rattle.sqlite.specs.State.{HasCleanDisk}
-use Rattle.store.specs.Writing.{addition_of, written_in}
-use Rattle.tree.specs.History.{behind, with_write}
-use Rattle.tables.proofs.Tables.{revs_keyed}
-use Rattle.transactions.specs.Inserting.{IsBest, IsPlaced, entries_of, unknown_in}
-use Rattle.transactions.specs.declared.commit_fault.CommitFault.{CommitFault}
+use Rattle.transactions.proofs.Lemmas.{CommitFault, HasCleanDisk, IsBest, IsPlaced, Ok, addition_of, ap, arith, behind, entries_of, refl, revs_keyed, state, string_bytes, subst, sym, unknown_in, with_write, written_in, ◌++◌, ◌∙◌, ◌≡◌}
 use Rattle.transactions.proofs.DocumentWriting.{dbs_fit, docs_fit, schema_after, schema_placed, written}
 use Rattle.transactions.proofs.document_write.add_write.Goals as goal
 
@@ -15,7 +8,7 @@ returns-clause-ok g c r clean store known numbered at =
     let inserted = state g.S.Store c.insert_revisions.new.tx.conn.now in
     let placed = state g.S.Store c.replace_document.new.tx.conn.now in
     let new = state g.S.Store c.advance_database.new.tx.conn.now in
-    let second : HasCleanDisk placed = omega (arith, c.advance_database.ensures.proceeds.survives.clean, clean) in
+    let second : HasCleanDisk placed = omega (arith, c.advance_database.ensures.alters.proceeds.survives.clean, clean) in
     let first : HasCleanDisk inserted = omega (arith, c.replace_document.ensures.proceeds.survives.clean, second) in
     let db = c.args.db.now in
     let text = c.as_str-2.result.now in
@@ -32,5 +25,5 @@ returns-clause-ok g c r clean store known numbered at =
     let document = subst (λ i. IsPlaced db i c.args.sequence.now text deleted inserted.now placed.now) (c.as_bytes-id.ensures.value ∙ c.as_str.ensures.text)
     (c.in_ok-replace_document.ensures.ok second (schema_after es db a.id old.now inserted.now store revisions) (docs_fit es db a.id old.now inserted.now store revisions)) in
     written h a text deleted {X = Unit {0}} {E = CommitFault} (Ok tt) r db c.args.sequence.now a.id old.now inserted.now placed.now new.now known numbered at refl revisions best document
-    (c.in_ok-advance_database.ensures.ok clean (schema_placed es db a.id old.now inserted.now store revisions c.args.sequence.now text deleted placed.now document)
+    (c.in_ok-advance_database.ensures.alters.ok clean (schema_placed es db a.id old.now inserted.now store revisions c.args.sequence.now text deleted placed.now document)
     (dbs_fit es db a.id old.now inserted.now store revisions c.args.sequence.now text deleted placed.now document))

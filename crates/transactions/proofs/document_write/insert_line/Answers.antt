@@ -1,10 +1,4 @@
-use Rattle.std.proofs.Common.{◌∙◌, ◌+◌, arith, ap}
-use Rattle.std.proofs.lemmas.List.{take_rest}
-use Rattle.sqlite.specs.Held.{state}
-use Rattle.sqlite.specs.State.{HasCleanDisk}
-use Rattle.tree.specs.Nodes.{next_of}
-use Rattle.tables.proofs.Stays.{proceeds_then}
-use Rattle.transactions.proofs.Inserting.{path_step}
+use Rattle.transactions.proofs.Lemmas.{HasCleanDisk, ap, arith, next_of, path_step, proceeds_then, state, take_rest, ◌+◌, ◌∙◌}
 use Rattle.transactions.proofs.document_write.insert_line.Goals as goal
 
 pub loop-i-preserved : goal.loop-i-preserved

@@ -1,11 +1,5 @@
-use Rattle.std.proofs.Common.{◌≡◌, drop, None}
-use Rattle.sqlite.specs.Held.{state}
-use Rattle.sqlite.specs.State.{HasCleanDisk}
-use Rattle.tree.specs.Nodes.{entries_before}
+use Rattle.transactions.proofs.Common.{AreKeyed, HasCleanDisk, IsOnTheWay, None, drop, entries_before, revs_tree, schema, state, unknown_in, ◌≡◌}
 use Rattle.tables.specs.Calls.{Proceeds}
-use Rattle.tables.specs.Layout.{AreKeyed}
-use Rattle.tables.specs.Schema.{revs_tree, schema}
-use Rattle.transactions.specs.Inserting.{IsOnTheWay, unknown_in}
 use Rattle.transactions.proofs.document_write.insert_line.Given as goal
 
 -- the same transaction, and what is left of the path makes of the tables what the whole path makes of those at the start

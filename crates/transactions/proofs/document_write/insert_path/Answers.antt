@@ -1,9 +1,5 @@
-use Rattle.std.proofs.Common.{rules, ◌≡◌, ◌∙◌, arith, Some, slice_get}
-use Rattle.std.proofs.lemmas.List.{take_rest}
-use Rattle.sqlite.specs.Held.{state}
-use Rattle.sqlite.specs.State.{HasCleanDisk}
+use Rattle.transactions.proofs.Lemmas.{HasCleanDisk, Some, arith, path_inserted, rules, slice_get, state, take_rest, ◌∙◌, ◌≡◌}
 use Rattle.tables.proofs.DocumentWriteSteps.{inserted_fit, revisions_changed}
-use Rattle.transactions.proofs.Inserting.{path_inserted}
 use Rattle.transactions.proofs.document_write.insert_path.Goals as goal
 
 pub returns-clause-ok : goal.returns-clause-ok

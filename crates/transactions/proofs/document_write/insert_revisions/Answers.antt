@@ -1,12 +1,4 @@
-use Rattle.std.proofs.Common.{◌∙◌, List, ℕ, Option, Some, subst}
-use Rattle.sqlite.specs.Held.{state}
-use Rattle.store.specs.Writing.{addition_of}
-use Rattle.tables.specs.Edits.{AreInserted}
-use Rattle.tree.specs.History.{behind}
-use Rattle.tree.specs.Nodes.{entries_before}
-use Rattle.tree.specs.Revision.{Revision}
-use Rattle.tree.specs.Write.{head}
-use Rattle.transactions.specs.Inserting.{unknown_in}
+use Rattle.transactions.proofs.Common.{AreInserted, List, Option, Revision, Some, addition_of, behind, entries_before, head, state, subst, unknown_in, ℕ, ◌∙◌}
 use Rattle.transactions.proofs.document_write.insert_revisions.Goals as goal
 
 pub returns-clause-ok : goal.returns-clause-ok

@@ -1,6 +1,4 @@
-use Rattle.std.proofs.Common.{drop, IsTrue}
-use Rattle.std.specs.List.{AllByRecursion}
-use Rattle.tree.specs.Revision.{is_revision}
+use Rattle.transactions.proofs.Common.{AllByRecursion, IsTrue, drop, is_revision}
 use Rattle.transactions.proofs.document_write.walk_path.Given as goal
 
 abbrev pub invariant-loop-rev : goal.invariant-loop-rev

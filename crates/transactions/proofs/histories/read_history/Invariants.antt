@@ -1,6 +1,4 @@
-use Rattle.std.proofs.Common.{◌≡◌, drop, map}
-use Rattle.tree.specs.History.{with_entries}
-use Rattle.transactions.specs.Reading.{entry_shown, history_shown}
+use Rattle.transactions.proofs.Common.{drop, entry_shown, history_shown, map, with_entries, ◌≡◌}
 use Rattle.transactions.proofs.histories.read_history.Given as goal
 
 abbrev pub invariant-loop-row : goal.invariant-loop-row

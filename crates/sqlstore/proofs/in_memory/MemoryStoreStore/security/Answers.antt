@@ -1,4 +1,4 @@
-use Rattle.sqlite.proofs.Callers.{memory_is_clean}
+use Rattle.sqlstore.proofs.Common.{memory_is_clean}
 use Rattle.sqlstore.proofs.in_memory.MemoryStoreStore.security.Goals as goal
 
 pub invariant_of-self : goal.invariant_of-self

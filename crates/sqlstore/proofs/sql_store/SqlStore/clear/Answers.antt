@@ -1,10 +1,4 @@
-use Rattle.std.proofs.Common.{◌∙◌, ap}
-use Rattle.sqlite.specs.Held.{state}
-use Rattle.tables.specs.Rows.{contents_in}
-use Rattle.sqlstore.proofs.Changing.{stands, told, undone}
-use Rattle.sqlstore.proofs.ContentsCode.{contents_set}
-use Rattle.sqlstore.proofs.Making.{IsRemoved, clears}
-use Rattle.sqlstore.proofs.Standing.{standing}
+use Rattle.sqlstore.proofs.Lemmas.{IsRemoved, ap, clears, contents_in, contents_set, dropped, stands, state, told, undone, ◌∙◌}
 use Rattle.sqlstore.proofs.sql_store.SqlStore.clear.Goals as goal
 
 pub invariant_of-self : goal.invariant_of-self
@@ -12,21 +6,21 @@ invariant_of-self g c =
     let s = c.args.self.now in
     let e = c.in-Ok.ensures in
     let new = state g.S.Store c.remove_database.new.conn in
-    let x = stands g.S.Store s.conn c.remove_database.new.conn s.origin.value s.last.value e.turns (standing g.S.Store s) e.done (IsRemoved new.now c.args.name.now)
+    let x = stands g.S.Store s.conn c.remove_database.new.conn s.origin.value s.last.value e.turns (dropped g.S.Store s.standing) e.done (IsRemoved new.now c.args.name.now)
     (λ clean was is store same. clears new.now c.args.name.now _ _ store same c.args.number.now (c.requires (was, is)) (e.ok clean store)) c.of.result.value c.of.ensures in
-    record { idle = x.idle; unlimited = x.unlimited; held = x.held }
+    record { standing = x }
 
 pub returns-in-Ok-clause-ok : goal.returns-in-Ok-clause-ok
 returns-in-Ok-clause-ok g c honest =
     let s = c.args.self.now in
     let e = c.in-Ok.ensures in
     let new = state g.S.Store c.remove_database.new.conn in
-    ap (λ h. contents_in (state g.S.Store h).now.trees) c.of.ensures ∙ told g.S.Store s.conn c.remove_database.new.conn s.origin.value s.last.value e.turns (standing g.S.Store s) e.done (IsRemoved new.now c.args.name.now)
+    ap (λ h. contents_in (state g.S.Store h).now.trees) c.of.ensures ∙ told g.S.Store s.conn c.remove_database.new.conn s.origin.value s.last.value e.turns (dropped g.S.Store s.standing) e.done (IsRemoved new.now c.args.name.now)
     (λ clean was is store same. clears new.now c.args.name.now _ _ store same c.args.number.now (c.requires (was, is)) (e.ok clean store)) (contents_set _ _) honest.0 honest.1
 
 pub invariant_of-self-in-Err : goal.invariant_of-self-in-Err
 invariant_of-self-in-Err g c =
     let s = c.args.self.now in
     let e = c.in-Err.ensures in
-    let x = undone g.S.Store s.conn c.remove_database.new.conn s.origin.value s.last.value e.turns (standing g.S.Store s) (λ store same clean is up. e.undone clean up) in
-    record { idle = x.idle; unlimited = x.unlimited; held = x.held }
+    let x = undone g.S.Store s.conn c.remove_database.new.conn s.origin.value s.last.value e.turns (dropped g.S.Store s.standing) (λ store same clean is up. e.undone clean up) in
+    record { standing = x }

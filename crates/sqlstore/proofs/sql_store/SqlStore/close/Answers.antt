@@ -1,16 +1,12 @@
-use Rattle.std.proofs.Common.{ap, subst, sym}
-use Rattle.std.proofs.Math.Logic.{∥∥₁_map}
-use Rattle.tables.specs.Layout.{IsStore}
-use Rattle.tables.specs.Rows.{contents_in}
-use Rattle.sqlstore.proofs.Standing.{same_trees}
+use Rattle.sqlstore.proofs.Lemmas.{IsStore, ap, contents_in, same_trees, subst, sym, ∥∥₁_map}
 use Rattle.sqlstore.proofs.sql_store.SqlStore.close.Goals as goal
 
 pub returns-clause-contents : goal.returns-clause-contents
 returns-clause-contents g c honest up =
     let s = c.args.self in
-    ap contents_in (same_trees g.S.Store s.conn s.conn s.origin.value s.last.value s.held honest.0 honest.1 up)
+    ap contents_in (same_trees g.S.Store s.conn s.conn s.origin.value s.last.value s.standing.held honest.0 honest.1 up)
 
 pub returns-clause-laid : goal.returns-clause-laid
 returns-clause-laid g c honest up =
     let s = c.args.self in
-    ∥∥₁_map (s.held honest.0 honest.1) (λ h. subst IsStore (sym (h.now up)) h.store)
+    ∥∥₁_map (s.standing.held honest.0 honest.1) (λ h. subst IsStore (sym (h.now up)) h.store)

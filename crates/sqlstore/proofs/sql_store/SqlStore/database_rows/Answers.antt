@@ -1,18 +1,12 @@
-use Rattle.std.proofs.Common.{◌≡◌, filter, map}
-use Rattle.sqlite_trees.specs.Props.{rows_set}
-use Rattle.tables.specs.Rows.{is_named, shown_database}
-use Rattle.tables.specs.Schema.{dbs_tree}
-use Rattle.sqlstore.proofs.Standing.{found, standing, still}
+use Rattle.sqlstore.proofs.Lemmas.{dbs_tree, filter, finds, is_named, map, refl, rows_set, shown_database, still, ◌≡◌}
 use Rattle.sqlstore.proofs.sql_store.SqlStore.database_rows.Goals as goal
 
 pub invariant_of-self : goal.invariant_of-self
 invariant_of-self g c =
     let s = c.args.self.now in
-    let x = still g.S.Store s.conn c.database_rows-rows.new.conn s.origin.value s.last.value c.database_rows-rows.ensures (standing g.S.Store s) in
-    record { idle = x.idle; unlimited = x.unlimited; held = x.held }
+    record { standing = still g.S.Store s.conn c.database_rows-rows.new.conn s.origin.value s.last.value c.database_rows-rows.ensures s.standing }
 
-pub returns-clause-ok : goal.returns-clause-ok
-returns-clause-ok g c honest =
-    let s = c.args.self.now in
-    found g.S.Store s.conn c.database_rows-rows.new.conn s.origin.value s.last.value (λ trees rows. rows.items ≡ map shown_database (filter (is_named c.args.name.now) (trees dbs_tree))) (λ _ _. rows_set _ _) (λ _ _ is. is)
-    _ c.judge_answer.result c.judge_answer.ensures.ok c.database_rows-rows.ensures s.held honest.0 honest.1
+pub returns : goal.returns
+returns g c =
+    finds g.S.Store c.args.self.now _ (λ trees rows. rows.items ≡ map shown_database (filter (is_named c.args.name.now) (trees dbs_tree))) (λ _ _. rows_set _ _) (λ _ _ is. is) c.database_rows-rows.result c.judge_answer.result refl refl
+    c.judge_answer.ensures.counted c.judge_answer.ensures.ok c.judge_answer.ensures.judged c.database_rows-rows.ensures

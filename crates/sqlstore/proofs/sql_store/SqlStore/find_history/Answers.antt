@@ -1,10 +1,4 @@
-use Rattle.std.proofs.Common.{◌∙◌, List, ℕ, Some, filter, map, IsPermutation, ap, sym, subst}
-use Rattle.std.proofs.Math.Logic.{∥∥₁_elim, ∥∥₁_map}
-use Rattle.tables.specs.Rows.{is_of, shown_revision}
-use Rattle.tables.specs.Schema.{revs_tree}
-use Rattle.sqlstore.specs.Model.{trees_of}
-use Rattle.sqlstore.proofs.Answering.{answered, laid, was_honest}
-use Rattle.transactions.proofs.HistoryRows.{history_intact, history_made, history_set}
+use Rattle.sqlstore.proofs.Lemmas.{IsPermutation, List, Some, answered, ap, filter, history_intact, history_made, history_set, is_of, laid, map, revs_tree, shown_revision, subst, sym, trees_of, was_honest, ℕ, ∥∥₁_elim, ∥∥₁_map, ◌∙◌}
 use Rattle.sqlstore.proofs.sql_store.SqlStore.find_history.Goals as goal
 
 pub returns-clause-answer : goal.returns-clause-answer
@@ -18,7 +12,7 @@ returns-clause-answer g c =
     answered g.S.Store s end (λ v. v) _ _ _ c.read_history.result c.read_history.ensures
     (λ honest.
     let rows : ∥ IsPermutation (shown id) c.deref.result.now ∥₁ =
-    ∥∥₁_map (c.in_ok-rows.ensures.ok honest)
+    ∥∥₁_map (c.in_ok-rows.ensures.found honest)
     (λ same. subst (IsPermutation (shown id)) (sym c.deref.ensures.value) (subst (λ l. IsPermutation l c.in_ok-rows.rows.items) (ap shown (c.as_bytes.ensures.value ∙ c.as_str.ensures.text)) same)) in
     let lay = laid g.S.Store s (was_honest g.S.Store s end c.revision_rows.ensures.stands honest) in (
       (λ none. ∥∥₁_elim lay (λ p q. absurd p) (λ l. ∥∥₁_elim rows (λ p q. absurd p) (λ same. none (history_intact trees (is_of n id) _ l same)))),

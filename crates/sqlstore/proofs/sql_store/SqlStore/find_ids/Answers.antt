@@ -1,11 +1,4 @@
-use Rattle.std.proofs.Common.{Some, map, ap, sym, subst, ◌∙◌}
-use Rattle.std.proofs.Math.Logic.{∥∥₁_elim}
-use Rattle.std.specs.List.{AllByRecursion}
-use Rattle.tables.specs.Listings.{IsListedDocument, listed_id}
-use Rattle.tables.specs.Rows.{by_id}
-use Rattle.sqlstore.specs.Model.{trees_of}
-use Rattle.sqlstore.proofs.Answering.{answered, laid, was_honest}
-use Rattle.sqlstore.proofs.ListedRows.{listed_intact}
+use Rattle.sqlstore.proofs.Lemmas.{AllByRecursion, IsListedDocument, Some, answered, ap, by_id, laid, listed_id, listed_intact, map, subst, sym, trees_of, was_honest, ∥∥₁_elim, ◌∙◌}
 use Rattle.sqlstore.proofs.sql_store.SqlStore.find_ids.Goals as goal
 
 pub returns-clause-answer : goal.returns-clause-answer
@@ -16,6 +9,6 @@ returns-clause-answer g c =
     let n = c.args.number.now in
     answered g.S.Store s end (λ ids. ids.items) _ _ _ c.read_ids.result c.read_ids.ensures
     (λ honest.
-    let rows = c.deref.ensures.value ∙ c.in_ok-rows.ensures.ok honest in
+    let rows = c.deref.ensures.value ∙ c.in_ok-rows.ensures.found honest in
     let lay = laid g.S.Store s (was_honest g.S.Store s end c.rows_by_id.ensures.stands honest) in
     ((λ none. ∥∥₁_elim lay (λ p q. absurd p) (λ l. none (subst (AllByRecursion IsListedDocument) (sym rows) (listed_intact by_id trees n l)))), ap (λ l. Some (map listed_id l)) (sym rows)))

@@ -1,13 +1,4 @@
-use Rattle.std.proofs.Common.{Some, ap, sym, subst, ◌∙◌}
-use Rattle.std.proofs.Math.Logic.{∥∥₁_elim}
-use Rattle.std.specs.List.{AllByRecursion}
-use Rattle.store.specs.Pages.{id_page}
-use Rattle.store.specs.Paging.{id_page_of}
-use Rattle.tables.specs.Listings.{IsListedDocument, live_rows}
-use Rattle.tables.specs.Rows.{by_id}
-use Rattle.sqlstore.specs.Model.{trees_of}
-use Rattle.sqlstore.proofs.Answering.{answered, laid, was_honest}
-use Rattle.sqlstore.proofs.ListedRows.{listed_intact}
+use Rattle.sqlstore.proofs.Lemmas.{AllByRecursion, IsListedDocument, Some, answered, ap, by_id, id_page, id_page_of, laid, listed_intact, live_rows, subst, sym, trees_of, was_honest, ∥∥₁_elim, ◌∙◌}
 use Rattle.sqlstore.proofs.sql_store.SqlStore.find_page_by_id.Goals as goal
 
 pub returns-clause-answer : goal.returns-clause-answer
@@ -19,6 +10,6 @@ returns-clause-answer g c =
     answered g.S.Store s end id_page_of _ _ _ c.read_page_by_id.result c.read_page_by_id.ensures.page
     (λ honest.
     let rows = c.deref.ensures.value in
-    let enough = c.in_ok-rows.ensures.ok honest in
+    let enough = c.in_ok-rows.ensures.found honest in
     let lay = laid g.S.Store s (was_honest g.S.Store s end c.rows_for_page_by_id.ensures.stands honest) in
     ((λ none. ∥∥₁_elim lay (λ p q. absurd p) (λ l. none (subst (AllByRecursion IsListedDocument) (sym rows) (enough.intact (listed_intact by_id trees n l))))), ap Some (sym enough.page) ∙ ap (λ l. Some (id_page c.args.range.now (live_rows l))) (sym rows)))

@@ -1,14 +1,4 @@
-use Rattle.std.proofs.Common.{Some, sym, ap, ◌∙◌}
-use Rattle.store.specs.KeyPages.{key_page}
-use Rattle.sqlite_trees.specs.Tree.{Trees}
-use Rattle.tables.specs.Rows.{history_in}
-use Rattle.tables.specs.Schema.{revs_tree}
-use Rattle.sqlstore.specs.Listing.{places_of}
-use Rattle.sqlstore.specs.Model.{trees_of}
-use Rattle.sqlstore.proofs.Afterwards.{stands_same}
-use Rattle.sqlstore.proofs.Answering.{was_honest}
-use Rattle.sqlstore.proofs.Indexing.{places_listed}
-use Rattle.sqlstore.proofs.ListedRows.{same_values}
+use Rattle.sqlstore.proofs.Lemmas.{Some, Trees, ap, history_in, key_page, places_listed, places_of, revs_tree, same_values, stands_same, sym, trees_of, was_honest, ◌∙◌}
 use Rattle.sqlstore.proofs.sql_store.SqlStore.find_page_by_key.Goals as goal
 
 pub returns-clause-answer : goal.returns-clause-answer

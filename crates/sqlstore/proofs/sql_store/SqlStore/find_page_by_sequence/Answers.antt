@@ -1,11 +1,4 @@
-use Rattle.std.proofs.Common.{Some, ap, sym, subst, ◌∙◌}
-use Rattle.std.proofs.Math.Logic.{∥∥₁_elim}
-use Rattle.std.specs.List.{AllByRecursion}
-use Rattle.store.specs.Paging.{sequence_page_of}
-use Rattle.sqlstore.specs.Listing.{IsSequenceRow, winners_page}
-use Rattle.sqlstore.specs.Model.{trees_of}
-use Rattle.sqlstore.proofs.Answering.{answered, laid, was_honest}
-use Rattle.sqlstore.proofs.ListedRows.{sequences_intact}
+use Rattle.sqlstore.proofs.Lemmas.{AllByRecursion, IsSequenceRow, Some, answered, ap, laid, sequence_page_of, sequences_intact, subst, sym, trees_of, was_honest, winners_page, ∥∥₁_elim, ◌∙◌}
 use Rattle.sqlstore.proofs.sql_store.SqlStore.find_page_by_sequence.Goals as goal
 
 pub returns-clause-answer : goal.returns-clause-answer
@@ -17,6 +10,6 @@ returns-clause-answer g c =
     answered g.S.Store s end sequence_page_of _ _ _ c.read_page_by_sequence.result c.read_page_by_sequence.ensures.page
     (λ honest.
     let rows = c.deref.ensures.value in
-    let enough = c.in_ok-rows.ensures.ok honest in
+    let enough = c.in_ok-rows.ensures.found honest in
     let lay = laid g.S.Store s (was_honest g.S.Store s end c.rows_for_page_by_sequence.ensures.stands honest) in
     ((λ none. ∥∥₁_elim lay (λ p q. absurd p) (λ l. none (subst (AllByRecursion IsSequenceRow) (sym rows) (enough.intact (sequences_intact trees n l))))), ap Some (sym (enough.page c.args.sequence)) ∙ ap (λ l. Some (winners_page c.args.range.now c.args.sequence l)) (sym rows)))

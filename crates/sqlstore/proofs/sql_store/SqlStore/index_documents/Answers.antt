@@ -1,14 +1,4 @@
-use Rattle.std.proofs.Common.{List, ℕ, sym, ap, ◌∙◌}
-use Rattle.store.specs.Indexes.{put_in_index, queried_document}
-use Rattle.store.specs.Plain.{place_views}
-use Rattle.sqlite_trees.specs.Tree.{Trees}
-use Rattle.tables.specs.Rows.{history_in}
-use Rattle.tables.specs.Schema.{revs_tree}
-use Rattle.sqlstore.specs.Model.{trees_of}
-use Rattle.sqlstore.proofs.Afterwards.{stands_same}
-use Rattle.sqlstore.proofs.Answering.{stands_then, was_honest}
-use Rattle.sqlstore.proofs.Indexing.{one_indexed}
-use Rattle.sqlstore.proofs.ListedRows.{same_values}
+use Rattle.sqlstore.proofs.Lemmas.{List, Trees, ap, history_in, one_indexed, place_views, put_in_index, queried_document, revs_tree, same_values, stands_same, stands_then, sym, trees_of, was_honest, ℕ, ◌∙◌}
 use Rattle.sqlstore.proofs.sql_store.SqlStore.index_documents.Goals as goal
 
 pub loop-id-preserved : goal.loop-id-preserved

@@ -1,9 +1,4 @@
-use Rattle.std.proofs.Common.{◌≡◌, [], length}
-use Rattle.store.specs.Plain.{place_views}
-use Rattle.tables.specs.Rows.{history_in}
-use Rattle.tables.specs.Schema.{revs_tree}
-use Rattle.sqlstore.specs.Listing.{with_documents}
-use Rattle.sqlstore.specs.Model.{Stands, is_honest, trees_of}
+use Rattle.sqlstore.proofs.Common.{Stands, [], history_in, is_honest, length, place_views, revs_tree, trees_of, with_documents, ◌≡◌}
 use Rattle.sqlstore.proofs.sql_store.SqlStore.index_documents.Given as goal
 
 -- the store stands as it was, and what is left makes of the index what all documents make of none

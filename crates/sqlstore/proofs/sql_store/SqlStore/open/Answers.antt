@@ -1,12 +1,5 @@
-use Rattle.std.proofs.Common.{◌≡◌, ◌∙◌, inr, Err, IsTrue, true, not, ap, sym, subst}
-use Rattle.std.proofs.Math.Logic.{∥∥₁_map}
-use Rattle.sqlite.specs.Effect.{Database}
-use Rattle.sqlite.specs.Held.{Held, state}
-use Rattle.tables.specs.Layout.{IsStore}
-use Rattle.tables.specs.Presence.{has_all, has_any, is_first}
-use Rattle.tables.specs.Schema.{meta_tree}
-use Rattle.tables.specs.Rows.{contents_in}
-use Rattle.tables.proofs.Laid.{holds, nothing}
+use Rattle.sqlstore.proofs.Lemmas.{Database, Err, Held, IsStore, IsTrue, ap, contents_in, has_all, has_any, inr, is_first, meta_tree, not, nothing, state, subst, sym, true, ∥∥₁_map, ◌∙◌, ◌≡◌}
+use Rattle.tables.proofs.Laid.{holds}
 use Rattle.sqlstore.proofs.sql_store.SqlStore.open.Goals as goal
 
 pub returns-in-Err-clause-not_ours : goal.returns-in-Err-clause-not_ours
@@ -19,7 +12,7 @@ invariant_of-result g c =
     let turns = c.find_tables.ensures.turns in
     let settled : IsTrue c.is_autocommit-2.result = c.is_autocommit-2.ensures.value ∙ ap not turns.idle in
     let now : Held g.row.S.Denot → Database = λ h. (state g.S.Store h).now in
-    record {
+    record { standing = record {
       idle = turns.idle;
       unlimited = turns.limit ∙ ap (λ (h : Held g.row.S.Denot). h.step_limit) c.set_step_limit.ensures;
       held = λ clean was. ∥∥₁_map was (λ store. record {
@@ -27,7 +20,8 @@ invariant_of-result g c =
         now = λ up. ap now (sym c.of-last.ensures);
         committed = λ up. sym (c.is_autocommit-2.ensures.settled settled up) ∙ ap now (sym c.of-last.ensures);
       });
-    }
+      known_so = λ clean was. ∣ tt ∣₁;
+    } }
 
 pub returns-clause-found : goal.returns-clause-found
 returns-clause-found g c clean store =

@@ -1,12 +1,4 @@
-use Rattle.std.proofs.Common.{rules, ◌<◌, ◌^◌, ◌∙◌, Some, ap, subst, sym}
-use Rattle.couch_json.specs.Canonical.{canonical}
-use Rattle.couch_json.specs.Lawful.{IsLawful}
-use Rattle.sqlite.specs.Held.{Held, state}
-use Rattle.tables.specs.Rows.{contents_in}
-use Rattle.sqlstore.proofs.Changing.{stands, told, undone}
-use Rattle.sqlstore.proofs.ContentsCode.{some_contents_set}
-use Rattle.sqlstore.proofs.Making.{HasLocal, puts}
-use Rattle.sqlstore.proofs.Standing.{standing}
+use Rattle.sqlstore.proofs.Lemmas.{HasLocal, Held, IsLawful, Some, ap, canonical, contents_in, dropped, puts, rules, some_contents_set, stands, state, subst, sym, told, undone, ◌<◌, ◌^◌, ◌∙◌}
 use Rattle.sqlstore.proofs.sql_store.SqlStore.put_local.Goals as goal
 
 pub invariant_of-self : goal.invariant_of-self
@@ -18,9 +10,9 @@ invariant_of-self g c =
     let text = c.as_str-2.ensures.value ∙ c.in_ok-text.ensures.text ∙ ap canonical c.json.ensures in
     let small : c.args.document.now.number < 2 ^ 32 = search rules in
     let lawful = subst IsLawful c.json.ensures c.in_ok-text.ensures.lawful in
-    let x = stands g.S.Store s.conn c.write_local.new.conn s.origin.value s.last.value e.turns (standing g.S.Store s) e.done (HasLocal new.now c.args.name.now c.args.id.now c.args.document.now)
+    let x = stands g.S.Store s.conn c.write_local.new.conn s.origin.value s.last.value e.turns (dropped g.S.Store s.standing) e.done (HasLocal new.now c.args.name.now c.args.id.now c.args.document.now)
     (λ clean was is store same. puts new.now c.args.name.now _ _ store same c.args.number.now (c.requires.there (was, is)) c.args.id.now _ _ c.args.document.now c.as_str.ensures.lawful (c.requires.body (was, is)) lawful small named text (e.ok clean store)) c.of.result.value c.of.ensures in
-    record { idle = x.idle; unlimited = x.unlimited; held = x.held }
+    record { standing = x }
 
 pub returns-in-Ok-clause-ok : goal.returns-in-Ok-clause-ok
 returns-in-Ok-clause-ok g c honest =
@@ -31,7 +23,7 @@ returns-in-Ok-clause-ok g c honest =
     let text = c.as_str-2.ensures.value ∙ c.in_ok-text.ensures.text ∙ ap canonical c.json.ensures in
     let small : c.args.document.now.number < 2 ^ 32 = search rules in
     let lawful = subst IsLawful c.json.ensures c.in_ok-text.ensures.lawful in
-    told g.S.Store s.conn c.write_local.new.conn s.origin.value s.last.value e.turns (standing g.S.Store s) e.done (HasLocal new.now c.args.name.now c.args.id.now c.args.document.now)
+    told g.S.Store s.conn c.write_local.new.conn s.origin.value s.last.value e.turns (dropped g.S.Store s.standing) e.done (HasLocal new.now c.args.name.now c.args.id.now c.args.document.now)
     (λ clean was is store same. puts new.now c.args.name.now _ _ store same c.args.number.now (c.requires.there (was, is)) c.args.id.now _ _ c.args.document.now c.as_str.ensures.lawful (c.requires.body (was, is)) lawful small named text (e.ok clean store)) (some_contents_set _ _) honest.0 honest.1
     ∙ ap (λ (h : Held g.row.S.Denot). Some (contents_in (state g.S.Store h).now.trees)) (sym c.of.ensures)
 
@@ -39,5 +31,5 @@ pub invariant_of-self-in-Err : goal.invariant_of-self-in-Err
 invariant_of-self-in-Err g c =
     let s = c.args.self.now in
     let e = c.in-Err.ensures in
-    let x = undone g.S.Store s.conn c.write_local.new.conn s.origin.value s.last.value e.turns (standing g.S.Store s) (λ store same clean is up. e.undone clean up) in
-    record { idle = x.idle; unlimited = x.unlimited; held = x.held }
+    let x = undone g.S.Store s.conn c.write_local.new.conn s.origin.value s.last.value e.turns (dropped g.S.Store s.standing) (λ store same clean is up. e.undone clean up) in
+    record { standing = x }

@@ -1,5 +1,5 @@
 use Rattle.sqlstore.proofs.OpenedAgain.{never_not_ours, same_opened, same_refused}
-use Rattle.sqlstore.specs.Model.{contents_of}
+use Rattle.sqlstore.proofs.Common.{contents_of}
 use Rattle.sqlstore.proofs.sql_store.SqlStore.reopen.Goals as goal
 
 pub returns-clause-same : goal.returns-clause-same

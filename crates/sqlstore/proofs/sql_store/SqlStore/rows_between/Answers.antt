@@ -1,18 +1,12 @@
-use Rattle.std.proofs.Common.{◌≡◌, filter}
-use Rattle.sqlite_trees.specs.Props.{rows_set}
-use Rattle.tables.specs.Listings.{lies_between, listed_id}
-use Rattle.sqlstore.specs.Listing.{listed_by_id}
-use Rattle.sqlstore.proofs.Standing.{found, standing, still}
+use Rattle.sqlstore.proofs.Lemmas.{filter, finds, lies_between, listed_by_id, listed_id, refl, rows_set, still, ◌≡◌}
 use Rattle.sqlstore.proofs.sql_store.SqlStore.rows_between.Goals as goal
 
 pub invariant_of-self : goal.invariant_of-self
 invariant_of-self g c =
     let s = c.args.self.now in
-    let x = still g.S.Store s.conn c.rows_between-rows.new.conn s.origin.value s.last.value c.rows_between-rows.ensures (standing g.S.Store s) in
-    record { idle = x.idle; unlimited = x.unlimited; held = x.held }
+    record { standing = still g.S.Store s.conn c.rows_between-rows.new.conn s.origin.value s.last.value c.rows_between-rows.ensures s.standing }
 
-pub returns-clause-ok : goal.returns-clause-ok
-returns-clause-ok g c honest =
-    let s = c.args.self.now in
-    found g.S.Store s.conn c.rows_between-rows.new.conn s.origin.value s.last.value (λ trees rows. rows.items ≡ filter (λ s. lies_between c.args.first.now c.args.last.now (listed_id s)) (listed_by_id trees c.args.db.now)) (λ _ _. rows_set _ _) (λ _ _ is. is)
-    _ c.judge_answer.result c.judge_answer.ensures.ok c.rows_between-rows.ensures s.held honest.0 honest.1
+pub returns : goal.returns
+returns g c =
+    finds g.S.Store c.args.self.now _ (λ trees rows. rows.items ≡ filter (λ s. lies_between c.args.first.now c.args.last.now (listed_id s)) (listed_by_id trees c.args.db.now)) (λ _ _. rows_set _ _) (λ _ _ is. is) c.rows_between-rows.result c.judge_answer.result refl refl
+    c.judge_answer.ensures.counted c.judge_answer.ensures.ok c.judge_answer.ensures.judged c.rows_between-rows.ensures

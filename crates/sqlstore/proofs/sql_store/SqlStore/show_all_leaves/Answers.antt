@@ -1,16 +1,4 @@
-use Rattle.std.proofs.Common.{◌≤◌, ◌∷◌, ◌++◌, ◌+◌, [], drop, length, map, Some, arith, sym, ap, ◌∙◌}
-use Rattle.std.proofs.lemmas.List.{drop_more, map-append}
-use Rattle.store.specs.Paging.{sequence_row_of, sequence_rows}
-use Rattle.store.specs.declared.page.SeqRow.{SeqRow}
-use Rattle.sqlite_trees.specs.Tree.{Trees}
-use Rattle.sqlite_keyed.proofs.ListLemmas.{map-map}
-use Rattle.tables.specs.Rows.{history_in}
-use Rattle.tables.specs.Schema.{revs_tree}
-use Rattle.sqlstore.specs.Listing.{with_leaves}
-use Rattle.sqlstore.specs.Model.{trees_of}
-use Rattle.sqlstore.proofs.Afterwards.{stands_same}
-use Rattle.sqlstore.proofs.Answering.{stands_then, was_honest}
-use Rattle.sqlstore.proofs.ListedRows.{all_done, one_more, same_values}
+use Rattle.sqlstore.proofs.Lemmas.{SeqRow, Some, Trees, [], all_done, ap, arith, drop, drop_more, history_in, length, map, map-append, map-map, one_more, revs_tree, same_values, sequence_row_of, sequence_rows, stands_same, stands_then, sym, trees_of, was_honest, with_leaves, ◌++◌, ◌+◌, ◌∙◌, ◌∷◌, ◌≤◌}
 use Rattle.sqlstore.proofs.sql_store.SqlStore.show_all_leaves.Goals as goal
 
 pub loop-row-preserved : goal.loop-row-preserved

@@ -1,9 +1,4 @@
-use Rattle.std.proofs.Common.{◌≡◌, ◌++◌, drop, map}
-use Rattle.store.specs.Paging.{sequence_row_of, sequence_rows}
-use Rattle.tables.specs.Rows.{history_in}
-use Rattle.tables.specs.Schema.{revs_tree}
-use Rattle.sqlstore.specs.Listing.{with_leaves}
-use Rattle.sqlstore.specs.Model.{Stands, is_honest, trees_of}
+use Rattle.sqlstore.proofs.Common.{Stands, drop, history_in, is_honest, map, revs_tree, sequence_row_of, sequence_rows, trees_of, with_leaves, ◌++◌, ◌≡◌}
 use Rattle.sqlstore.proofs.sql_store.SqlStore.show_all_leaves.Given as goal
 
 -- the store stands as it was, and the rows so far are those of the rows that were gone over

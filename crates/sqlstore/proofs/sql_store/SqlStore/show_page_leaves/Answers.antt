@@ -1,6 +1,4 @@
-use Rattle.std.proofs.Common.{◌^◌, map, ap, ◌∙◌}
-use Rattle.store.specs.declared.page.SeqRow.{SeqRow}
-use Rattle.sqlstore.proofs.ListedRows.{below_again}
+use Rattle.sqlstore.proofs.Lemmas.{SeqRow, ap, below_again, map, ◌^◌, ◌∙◌}
 use Rattle.sqlstore.proofs.sql_store.SqlStore.show_page_leaves.Goals as goal
 
 pub returns-clause-bounded : goal.returns-clause-bounded

@@ -1,11 +1,4 @@
-use Rattle.std.proofs.Common.{rules, ◌≡◌, Bool, Err, ap, arith, false, length, true}
-use Rattle.std.proofs.lemmas.List.{length-map}
-use Rattle.sqlite.specs.Held.{Held, state}
-use Rattle.store.specs.Writing.{addition_of, additions}
-use Rattle.store.specs.declared.fault.StoreFault.TheVariants.{Full}
-use Rattle.sqlstore.specs.Model.{trees_of}
-use Rattle.sqlstore.proofs.Answering.{missing, there, was_honest}
-use Rattle.sqlstore.proofs.Changing.{moves_then, same_contents, unchanged, whole}
+use Rattle.sqlstore.proofs.Lemmas.{Bool, Err, Full, Held, addition_of, additions, ap, arith, false, length, length-map, missing, moves_then, numbers_in, rules, same_contents, state, there, trees_of, true, unchanged, was_honest, whole, ◌≡◌}
 use Rattle.sqlstore.proofs.Committed.{due_at, due_there, lacks_there}
 use Rattle.sqlstore.proofs.sql_store.calls.SqlStoreStore.commit.Goals as goal
 
@@ -26,7 +19,7 @@ returns-then-not-has_room-clause-caused g c honest =
     let name = c.args.name.now in
     let all = additions c.args.writes.now in
     let count : length all ≡ length c.args.writes.now = length-map c.args.writes.now addition_of in
-    lacks_there all trees name _ (there trees name _ (c.in_ok-found.ensures.answer honest))
+    lacks_there all trees name _ (there numbers_in trees name _ (c.in_ok-found.ensures.answer honest))
     (λ room.
     let has : c.has_room.result ≡ true = c.has_room.ensures.1 (omega (arith, room, count)) in
     absurd (true_not_false c.has_room.result has (search rules)))
@@ -40,7 +33,7 @@ append-requires-clause-due g c honest =
     let mid = c.find.new.self in
     let name = c.args.name.now in
     let all = additions c.args.writes.now in
-    let found = there (trees_of g.S.Store s) name _ (c.in_ok-found.ensures.answer honest) in
+    let found = there numbers_in (trees_of g.S.Store s) name _ (c.in_ok-found.ensures.answer honest) in
     due_at all name _ _ (trees_of g.S.Store mid) (trees_of g.S.Store s) (ap (λ (h : Held g.row.S.Denot). (state g.S.Store h).now.trees) c.find.ensures.stands.last)
     (due_there all (trees_of g.S.Store s) name _ found (c.requires (was_honest g.S.Store s mid c.find.ensures.stands honest)))
 

@@ -1,4 +1,5 @@
-use Rattle.sqlstore.proofs.Changing.{moves_then, none_if, on_ok, same_contents, unchanged, was_honest, whole}
+use Rattle.sqlstore.proofs.Lemmas.{moves_then, none_if, on_ok, same_contents, unchanged, whole}
+use Rattle.sqlstore.proofs.Changing.{was_honest}
 use Rattle.sqlstore.proofs.sql_store.calls.SqlStoreStore.create.Goals as goal
 
 pub returns-in_err-has-clause-changes : goal.returns-in_err-has-clause-changes

@@ -1,14 +1,6 @@
-use Rattle.std.proofs.Common.{rules, ◌≡◌, ◌∙◌, Option, Some, option_map, Err, ap, sym, subst}
+use Rattle.sqlstore.proofs.Lemmas.{Answers, DatabaseNumbers, Err, HistoryContent, Option, Some, Trees, afterwards, ap, contents_of, history_at, history_in, history_there, laid, not_found, numbers_in, option_map, reads, revs_tree, rules, stands_same, stands_then, subst, sym, there, trees_of, was_honest, ◌∙◌, ◌≡◌}
 use Rattle.std.specs.FinMap as finite
-use Rattle.sqlite_trees.specs.Tree.{Trees}
-use Rattle.store.specs.Database.{Database, history_at}
-use Rattle.tree.specs.History.{HistoryContent}
-use Rattle.tables.specs.Rows.{history_in}
-use Rattle.tables.specs.Schema.{revs_tree}
-use Rattle.sqlstore.specs.Model.{Answers, contents_of, trees_of}
-use Rattle.sqlstore.proofs.Afterwards.{afterwards, stands_same}
-use Rattle.sqlstore.proofs.Answering.{laid, not_found, reads, stands_then, there, was_honest}
-use Rattle.sqlstore.proofs.FoundPages.{history_there}
+use Rattle.store.specs.Database.{Database}
 use Rattle.sqlstore.proofs.sql_store.calls.SqlStoreStore.history.Goals as goal
 
 pub returns-in_err-found-clause-answer : goal.returns-in_err-found-clause-answer
@@ -18,7 +10,7 @@ returns-in_err-found-clause-answer g c =
     let defined : Option HistoryContent = option_map f (finite.get (contents_of g.S.Store s) c.args.name.now) in
     let is : c.from_residual.result ≡ Err c.in_err-found.field-0.0 = search rules in
     subst (Answers g.S.Store {X = HistoryContent} s c.find.new.self (λ v. v) defined) (sym is)
-    (not_found g.S.Store s c.find.new.self c.args.name.now (λ v. v) f c.in_err-found.field-0.0 c.in_err-found.ensures.answer)
+    (not_found {X = DatabaseNumbers} g.S.Store s c.find.new.self c.args.name.now numbers_in (λ d. (d.number, d.sequence)) (λ v. v) f c.in_err-found.field-0.0 c.in_err-found.ensures.answer)
 
 pub returns-in_err-found-clause-reads : goal.returns-in_err-found-clause-reads
 returns-in_err-found-clause-reads g c = reads g.S.Store c.args.self.now c.find.new.self c.find.ensures.stands
@@ -34,7 +26,7 @@ returns-clause-answer g c =
     afterwards g.S.Store s mid end (λ v. v) _ _ c.find_history.result c.find.ensures.stands
     (λ honest.
     let was = was_honest g.S.Store mid end c.find_history.ensures.stands honest in
-    let found = there (trees_of g.S.Store s) c.args.name.now _ (c.in_ok-found.ensures.answer was) in
+    let found = there numbers_in (trees_of g.S.Store s) c.args.name.now _ (c.in_ok-found.ensures.answer was) in
     let lay = laid g.S.Store s (was_honest g.S.Store s mid c.find.ensures.stands was) in
     history_there (trees_of g.S.Store s) c.args.name.now _ lay found id ∙ ap (λ (t : Trees). Some (history_in (t revs_tree) n id)) same)
     c.find_history.ensures.answer

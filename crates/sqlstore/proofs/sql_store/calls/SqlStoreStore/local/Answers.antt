@@ -1,14 +1,6 @@
-use Rattle.std.proofs.Common.{rules, ◌≡◌, ◌∙◌, List, ℕ, Option, filter, map, option_map, Err, ap, sym, subst}
-use Rattle.std.proofs.Math.Logic.{∥∥₁_elim}
+use Rattle.sqlstore.proofs.Lemmas.{Answers, DatabaseNumbers, Err, Held, List, LocalDocument, Option, answered, ap, contents_of, filter, is_of, laid, local_at, local_intact, local_there, locals_tree, map, not_found, numbers_in, option_map, reads, rules, shown_local, stands_then, state, subst, sym, there, trees_of, was_honest, ℕ, ∥∥₁_elim, ◌∙◌, ◌≡◌}
 use Rattle.std.specs.FinMap as finite
-use Rattle.store.specs.Contents.{local_at}
 use Rattle.store.specs.Database.{Database}
-use Rattle.store.specs.declared.local_document.LocalDocument.{LocalDocument}
-use Rattle.sqlite.specs.Held.{Held, state}
-use Rattle.tables.specs.Rows.{is_of, shown_local}
-use Rattle.tables.specs.Schema.{locals_tree}
-use Rattle.sqlstore.specs.Model.{Answers, contents_of, trees_of}
-use Rattle.sqlstore.proofs.Answering.{answered, laid, local_intact, local_there, not_found, reads, stands_then, there, was_honest}
 use Rattle.sqlstore.proofs.sql_store.calls.SqlStoreStore.local.Goals as goal
 
 pub returns-in_err-found-clause-answer : goal.returns-in_err-found-clause-answer
@@ -18,7 +10,7 @@ returns-in_err-found-clause-answer g c =
     let defined : Option (Option LocalDocument) = option_map f (finite.get (contents_of g.S.Store s) c.args.name.now) in
     let is : c.from_residual.result ≡ Err c.in_err-found.field-0.0 = search rules in
     subst (Answers g.S.Store {X = Option LocalDocument} s c.find.new.self (λ v. v) defined) (sym is)
-    (not_found g.S.Store s c.find.new.self c.args.name.now (λ v. v) f c.in_err-found.field-0.0 c.in_err-found.ensures.answer)
+    (not_found {X = DatabaseNumbers} g.S.Store s c.find.new.self c.args.name.now numbers_in (λ d. (d.number, d.sequence)) (λ v. v) f c.in_err-found.field-0.0 c.in_err-found.ensures.answer)
 
 pub returns-in_err-found-clause-reads : goal.returns-in_err-found-clause-reads
 returns-in_err-found-clause-reads g c = reads g.S.Store c.args.self.now c.find.new.self c.find.ensures.stands
@@ -36,10 +28,10 @@ returns-clause-answer g c =
     let whole = stands_then g.S.Store s mid end c.find.ensures.stands c.local_rows.ensures.stands in
     answered g.S.Store s end (λ v. v) _ _ _ c.first_local.result c.first_local.ensures
     (λ honest.
-    let found = there trees c.args.name.now _ (c.in_ok-found.ensures.answer (was_honest g.S.Store mid end c.local_rows.ensures.stands honest)) in
+    let found = there numbers_in trees c.args.name.now _ (c.in_ok-found.ensures.answer (was_honest g.S.Store mid end c.local_rows.ensures.stands honest)) in
     let shown = λ (id : List ℕ) (h : Held g.row.S.Denot). map shown_local (filter (is_of c.in_ok-found.found.number id) ((state g.S.Store h).now.trees locals_tree)) in
     let rows : c.deref.result.now ≡ shown c.args.id.now s.last.value =
-    c.deref.ensures.value ∙ c.in_ok-rows.ensures.ok honest ∙ ap (λ id. shown id mid.last.value) (c.as_bytes.ensures.value ∙ c.as_str.ensures.text) ∙ ap (shown c.args.id.now) c.find.ensures.stands.last in (
+    c.deref.ensures.value ∙ c.in_ok-rows.ensures.found honest ∙ ap (λ id. shown id mid.last.value) (c.as_bytes.ensures.value ∙ c.as_str.ensures.text) ∙ ap (shown c.args.id.now) c.find.ensures.stands.last in (
       (λ none. ∥∥₁_elim (laid g.S.Store s (was_honest g.S.Store s end whole honest)) (λ p q. absurd p) (λ l. none (local_intact trees (is_of c.in_ok-found.found.number c.args.id.now) _ l rows))),
       local_there trees c.args.name.now c.args.id.now _ _ found rows,
     ))

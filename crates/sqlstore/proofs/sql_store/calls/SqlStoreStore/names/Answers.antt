@@ -1,8 +1,4 @@
-use Rattle.std.proofs.Common.{◌∙◌}
-use Rattle.std.proofs.Math.Logic.{∥∥₁_elim}
-use Rattle.sqlstore.specs.Model.{trees_of}
-use Rattle.sqlstore.proofs.Answering.{answered, laid, reads, was_honest}
-use Rattle.sqlstore.proofs.NameBytes.{names_intact, names_set, names_there}
+use Rattle.sqlstore.proofs.Lemmas.{answered, laid, names_intact, names_set, names_there, reads, trees_of, was_honest, ∥∥₁_elim, ◌∙◌}
 use Rattle.sqlstore.proofs.sql_store.calls.SqlStoreStore.names.Goals as goal
 
 pub returns-in_err-rows-clause-reads : goal.returns-in_err-rows-clause-reads
@@ -15,7 +11,7 @@ returns-clause-answer g c =
     let trees = trees_of g.S.Store s in
     answered g.S.Store s end (λ names. names.items) _ _ _ c.read_names.result c.read_names.ensures
     (λ honest.
-    let rows = c.deref.ensures.value ∙ c.in_ok-rows.ensures.ok honest in
+    let rows = c.deref.ensures.value ∙ c.in_ok-rows.ensures.found honest in
     let lay = laid g.S.Store s (was_honest g.S.Store s end c.name_rows.ensures.stands honest) in
     ((λ none. ∥∥₁_elim lay (λ p q. absurd p) (λ l. none (names_intact trees _ l rows))), ∥∥₁_elim lay (names_set _ _) (λ l. names_there trees _ l rows)))
 

@@ -1,16 +1,7 @@
-use Rattle.std.proofs.Common.{rules, ◌≡◌, ◌∙◌, Option, Some, option_map, Err, ap, sym, subst}
+use Rattle.sqlstore.proofs.Lemmas.{Answers, DatabaseNumbers, Err, IdPage, Option, Some, Trees, afterwards, ap, contents_of, id_page, id_page_of, id_page_there, laid, listed_by_id, live_rows, not_found, numbers_in, option_map, page_of_ids, reads, rules, stands_same, stands_then, subst, sym, there, trees_of, was_honest, ◌∙◌, ◌≡◌}
 use Rattle.std.specs.FinMap as finite
-use Rattle.sqlite_trees.specs.Tree.{Trees}
 use Rattle.store.specs.Database.{Database}
-use Rattle.store.specs.Pages.{IdPage, id_page, page_of_ids}
-use Rattle.store.specs.Paging.{id_page_of}
 use Rattle.store.specs.declared.page.PageById.{PageById}
-use Rattle.tables.specs.Listings.{live_rows}
-use Rattle.sqlstore.specs.Listing.{listed_by_id}
-use Rattle.sqlstore.specs.Model.{Answers, contents_of, trees_of}
-use Rattle.sqlstore.proofs.Afterwards.{afterwards, stands_same}
-use Rattle.sqlstore.proofs.Answering.{laid, not_found, reads, stands_then, there, was_honest}
-use Rattle.sqlstore.proofs.FoundPages.{id_page_there}
 use Rattle.sqlstore.proofs.sql_store.calls.SqlStoreStore.page_by_id.Goals as goal
 
 pub returns-in_err-found-clause-answer : goal.returns-in_err-found-clause-answer
@@ -20,7 +11,7 @@ returns-in_err-found-clause-answer g c =
     let defined : Option IdPage = option_map f (finite.get (contents_of g.S.Store s) c.args.name.now) in
     let is : c.from_residual.result ≡ Err c.in_err-found.field-0.0 = search rules in
     subst (Answers g.S.Store {X = PageById} s c.find.new.self id_page_of defined) (sym is)
-    (not_found g.S.Store s c.find.new.self c.args.name.now id_page_of f c.in_err-found.field-0.0 c.in_err-found.ensures.answer)
+    (not_found {X = DatabaseNumbers} g.S.Store s c.find.new.self c.args.name.now numbers_in (λ d. (d.number, d.sequence)) id_page_of f c.in_err-found.field-0.0 c.in_err-found.ensures.answer)
 
 pub returns-in_err-found-clause-reads : goal.returns-in_err-found-clause-reads
 returns-in_err-found-clause-reads g c = reads g.S.Store c.args.self.now c.find.new.self c.find.ensures.stands
@@ -36,7 +27,7 @@ returns-clause-answer g c =
     afterwards g.S.Store s mid end id_page_of _ _ c.find_page_by_id.result c.find.ensures.stands
     (λ honest.
     let was = was_honest g.S.Store mid end c.find_page_by_id.ensures.stands honest in
-    let found = there (trees_of g.S.Store s) c.args.name.now _ (c.in_ok-found.ensures.answer was) in
+    let found = there numbers_in (trees_of g.S.Store s) c.args.name.now _ (c.in_ok-found.ensures.answer was) in
     let lay = laid g.S.Store s (was_honest g.S.Store s mid c.find.ensures.stands was) in
     id_page_there (trees_of g.S.Store s) c.args.name.now _ lay found range ∙ ap (λ (t : Trees). Some (id_page range (live_rows (listed_by_id t n)))) same)
     c.find_page_by_id.ensures.answer

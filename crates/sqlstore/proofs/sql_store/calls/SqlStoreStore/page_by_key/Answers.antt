@@ -1,20 +1,8 @@
-use Rattle.std.proofs.Common.{rules, ◌≡◌, ◌∙◌, Option, Some, None, option_map, Err, ap, sym, subst, map}
+use Rattle.sqlstore.proofs.Lemmas.{Answers, DatabaseNumbers, Err, KeyPage, None, Option, Some, Trees, ap, contents_of, history_in, index_fields_of, key_page, key_page_there, laid, listed_by_id, listed_id, map, no_index_there, not_found, numbers_in, option_map, page_of_keys, places_of, reads, revs_tree, rules, same_values, stands_same, stands_then, subst, sym, there, trees_of, was_honest, ◌∙◌, ◌≡◌}
 use Rattle.std.specs.FinMap as finite
-use Rattle.sqlite_trees.specs.Tree.{Trees}
 use Rattle.store.specs.Database.{Database}
-use Rattle.store.specs.Indexes.{index_fields_of}
-use Rattle.store.specs.KeyPages.{KeyPage, key_page, page_of_keys}
 use Rattle.store.specs.KeyPaging.{key_page_in}
 use Rattle.store.specs.declared.key_page.PageByKey.{PageByKey}
-use Rattle.tables.specs.Listings.{listed_id}
-use Rattle.tables.specs.Rows.{history_in}
-use Rattle.tables.specs.Schema.{revs_tree}
-use Rattle.sqlstore.specs.Listing.{listed_by_id, places_of}
-use Rattle.sqlstore.specs.Model.{Answers, contents_of, trees_of}
-use Rattle.sqlstore.proofs.Afterwards.{stands_same}
-use Rattle.sqlstore.proofs.Answering.{laid, not_found, reads, stands_then, there, was_honest}
-use Rattle.sqlstore.proofs.FoundPages.{key_page_there, no_index_there}
-use Rattle.sqlstore.proofs.ListedRows.{same_values}
 use Rattle.sqlstore.proofs.sql_store.calls.SqlStoreStore.page_by_key.Goals as goal
 
 pub returns-in_err-found-clause-answer : goal.returns-in_err-found-clause-answer
@@ -24,7 +12,7 @@ returns-in_err-found-clause-answer g c =
     let defined : Option (Option KeyPage) = option_map f (finite.get (contents_of g.S.Store s) c.args.name.now) in
     let is : c.from_residual.result ≡ Err c.in_err-found.field-0.0 = search rules in
     subst (Answers g.S.Store {X = Option PageByKey} s c.find.new.self key_page_in defined) (sym is)
-    (not_found g.S.Store s c.find.new.self c.args.name.now key_page_in f c.in_err-found.field-0.0 c.in_err-found.ensures.answer)
+    (not_found {X = DatabaseNumbers} g.S.Store s c.find.new.self c.args.name.now numbers_in (λ d. (d.number, d.sequence)) key_page_in f c.in_err-found.field-0.0 c.in_err-found.ensures.answer)
 
 pub returns-in_err-found-clause-reads : goal.returns-in_err-found-clause-reads
 returns-in_err-found-clause-reads g c = reads g.S.Store c.args.self.now c.find.new.self c.find.ensures.stands
@@ -60,7 +48,7 @@ returns-in-Some-clause-answer g c honest =
     let both = stands_then g.S.Store s first second stood c.find_history.ensures.stands in
     let then = was_honest g.S.Store second end c.find_page_by_key.ensures.stands honest in
     let was = was_honest g.S.Store first second c.find_history.ensures.stands then in
-    let found = there (trees_of g.S.Store s) c.args.name.now _ (c.in_ok-found.ensures.answer was) in
+    let found = there numbers_in (trees_of g.S.Store s) c.args.name.now _ (c.in_ok-found.ensures.answer was) in
     let lay = laid g.S.Store s (was_honest g.S.Store s first stood was) in
     let history = sym (same_values _ _ (c.in_ok-history.ensures.answer then)) ∙ ap (λ (t : Trees). history_in (t revs_tree) n design) (stands_same g.S.Store s first stood) in
     let declared : Some c.in-Some.fields.items ≡ index_fields_of c.args.design.now c.in_ok-history.history c.args.index.now = search rules in
@@ -87,7 +75,7 @@ returns-clause-answer g c honest =
     let n = c.in_ok-found.found.number in
     let stood = c.find.ensures.stands in
     let was = was_honest g.S.Store first second c.find_history.ensures.stands honest in
-    let found = there (trees_of g.S.Store s) c.args.name.now _ (c.in_ok-found.ensures.answer was) in
+    let found = there numbers_in (trees_of g.S.Store s) c.args.name.now _ (c.in_ok-found.ensures.answer was) in
     let lay = laid g.S.Store s (was_honest g.S.Store s first stood was) in
     let history = sym (same_values _ _ (c.in_ok-history.ensures.answer honest)) ∙ ap (λ (t : Trees). history_in (t revs_tree) n design) (stands_same g.S.Store s first stood) in
     let declared : None ≡ index_fields_of c.args.design.now c.in_ok-history.history c.args.index.now = search rules in

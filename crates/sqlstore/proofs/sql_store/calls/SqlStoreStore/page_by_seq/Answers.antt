@@ -1,18 +1,7 @@
-use Rattle.std.proofs.Common.{rules, ◌≡◌, ◌∙◌, Option, Some, option_map, true, false, Err, ap, sym, subst}
+use Rattle.sqlstore.proofs.Lemmas.{Answers, DatabaseNumbers, Err, Option, SequencePage, Some, Trees, afterwards, ap, contents_of, false, history_in, laid, leaves_there, listed_by_sequence, not_found, numbers_in, option_map, page_by_sequence, page_with_leaves, reads, revs_tree, rules, same_values, sequence_page_of, stands_same, stands_then, subst, sym, there, trees_of, true, was_honest, winners_page, winners_there, ◌∙◌, ◌≡◌}
 use Rattle.std.specs.FinMap as finite
-use Rattle.sqlite_trees.specs.Tree.{Trees}
 use Rattle.store.specs.Database.{Database}
-use Rattle.store.specs.Pages.{SequencePage, page_by_sequence}
-use Rattle.store.specs.Paging.{sequence_page_of}
 use Rattle.store.specs.declared.page.PageBySeq.{PageBySeq}
-use Rattle.tables.specs.Rows.{history_in}
-use Rattle.tables.specs.Schema.{revs_tree}
-use Rattle.sqlstore.specs.Listing.{listed_by_sequence, page_with_leaves, winners_page}
-use Rattle.sqlstore.specs.Model.{Answers, contents_of, trees_of}
-use Rattle.sqlstore.proofs.Afterwards.{afterwards, stands_same}
-use Rattle.sqlstore.proofs.Answering.{laid, not_found, reads, stands_then, there, was_honest}
-use Rattle.sqlstore.proofs.FoundPages.{leaves_there, winners_there}
-use Rattle.sqlstore.proofs.ListedRows.{same_values}
 use Rattle.sqlstore.proofs.sql_store.calls.SqlStoreStore.page_by_seq.Goals as goal
 
 pub returns-in_err-found-clause-answer : goal.returns-in_err-found-clause-answer
@@ -22,7 +11,7 @@ returns-in_err-found-clause-answer g c =
     let defined : Option SequencePage = option_map f (finite.get (contents_of g.S.Store s) c.args.name.now) in
     let is : c.from_residual.result ≡ Err c.in_err-found.field-0.0 = search rules in
     subst (Answers g.S.Store {X = PageBySeq} s c.find_bounded.new.self sequence_page_of defined) (sym is)
-    (not_found g.S.Store s c.find_bounded.new.self c.args.name.now sequence_page_of f c.in_err-found.field-0.0 c.in_err-found.ensures.answer)
+    (not_found {X = DatabaseNumbers} g.S.Store s c.find_bounded.new.self c.args.name.now numbers_in (λ d. (d.number, d.sequence)) sequence_page_of f c.in_err-found.field-0.0 c.in_err-found.ensures.answer)
 
 pub returns-in_err-found-clause-reads : goal.returns-in_err-found-clause-reads
 returns-in_err-found-clause-reads g c = reads g.S.Store c.args.self.now c.find_bounded.new.self c.find_bounded.ensures.stands
@@ -41,7 +30,7 @@ returns-then-not-range-clause-answer g c honest =
     let k = c.in_ok-found.found in
     let stood = c.find_bounded.ensures.stands in
     let was = was_honest g.S.Store mid end c.find_page_by_sequence.ensures.stands honest in
-    let found = there (trees_of g.S.Store s) c.args.name.now _ (c.in_ok-found.ensures.answer was) in
+    let found = there numbers_in (trees_of g.S.Store s) c.args.name.now _ (c.in_ok-found.ensures.answer was) in
     let lay = laid g.S.Store s (was_honest g.S.Store s mid stood was) in
     let winners : c.args.range.now.all_leaves ≡ false = search rules in
     winners_there (trees_of g.S.Store s) c.args.name.now _ lay found range winners
@@ -68,7 +57,7 @@ returns-clause-answer g c =
     (λ honest.
     let then = was_honest g.S.Store second end c.show_page_leaves.ensures.stands honest in
     let was = was_honest g.S.Store first second c.find_page_by_sequence.ensures.stands then in
-    let found = there (trees_of g.S.Store s) c.args.name.now _ (c.in_ok-found.ensures.answer was) in
+    let found = there numbers_in (trees_of g.S.Store s) c.args.name.now _ (c.in_ok-found.ensures.answer was) in
     let lay = laid g.S.Store s (was_honest g.S.Store s first stood was) in
     leaves_there (trees_of g.S.Store s) c.args.name.now _ lay found range leaves
     ∙ ap (λ (t : Trees). Some (page_with_leaves (history_in (trees_of g.S.Store s revs_tree) k.number) (winners_page range k.sequence (listed_by_sequence t k.number)))) (sym (stands_same g.S.Store s first stood))

@@ -1,7 +1,5 @@
-use Rattle.std.proofs.Common.{rules, ◌≡◌, Err, is_some, ap}
-use Rattle.sqlstore.specs.Model.{trees_of}
-use Rattle.sqlstore.proofs.Answering.{missing, there}
-use Rattle.sqlstore.proofs.Changing.{moves_then, same_contents, unchanged, whole, on_ok, was_honest}
+use Rattle.sqlstore.proofs.Lemmas.{Err, ap, is_some, missing, moves_then, numbers_in, on_ok, rules, same_contents, there, trees_of, unchanged, whole, ◌≡◌}
+use Rattle.sqlstore.proofs.Changing.{was_honest}
 use Rattle.sqlstore.proofs.sql_store.calls.SqlStoreStore.remove.Goals as goal
 
 pub returns-in_err-found-clause-missing : goal.returns-in_err-found-clause-missing
@@ -14,7 +12,7 @@ returns-in_err-found-clause-changes g c = unchanged g.S.Store c.args.self.now c.
 
 pub returns-clause-there : goal.returns-clause-there
 returns-clause-there g c honest =
-    let found = there (trees_of g.S.Store c.args.self.now) c.args.name.now _ (c.in_ok-found.ensures.answer (was_honest g.S.Store c.find.new.self c.clear.new.self c.clear.ensures.moves honest)) in
+    let found = there numbers_in (trees_of g.S.Store c.args.self.now) c.args.name.now _ (c.in_ok-found.ensures.answer (was_honest g.S.Store c.find.new.self c.clear.new.self c.clear.ensures.moves honest)) in
     on_ok c.clear.result (ap is_some found.database)
 
 pub returns-clause-changes : goal.returns-clause-changes

@@ -1,9 +1,4 @@
-use Rattle.std.proofs.Common.{rules, ◌≡◌, Err, subst}
-use Rattle.store.specs.Contents.{IfThere}
-use Rattle.store.specs.Lawful.{IsBody}
-use Rattle.sqlstore.specs.Model.{trees_of}
-use Rattle.sqlstore.proofs.Answering.{missing, there, was_honest}
-use Rattle.sqlstore.proofs.Changing.{moves_then, same_contents, unchanged, whole}
+use Rattle.sqlstore.proofs.Lemmas.{Err, IfThere, IsBody, missing, moves_then, numbers_in, rules, same_contents, subst, there, trees_of, unchanged, was_honest, whole, ◌≡◌}
 use Rattle.sqlstore.proofs.sql_store.calls.SqlStoreStore.set_local.Goals as goal
 
 pub returns-in_err-found-clause-missing : goal.returns-in_err-found-clause-missing
@@ -16,7 +11,7 @@ returns-in_err-found-clause-changes g c = unchanged g.S.Store c.args.self.now c.
 
 pub put_local-requires-clause-body : goal.put_local-requires-clause-body
 put_local-requires-clause-body g c honest =
-    let found = there (trees_of g.S.Store c.args.self.now) c.args.name.now _ (c.in_ok-found.ensures.answer honest) in
+    let found = there numbers_in (trees_of g.S.Store c.args.self.now) c.args.name.now _ (c.in_ok-found.ensures.answer honest) in
     subst (λ o. IfThere o (λ _. IsBody c.args.document.now.body)) found.database (c.requires (was_honest g.S.Store c.args.self.now c.find.new.self c.find.ensures.stands honest))
 
 pub returns-clause-changes : goal.returns-clause-changes

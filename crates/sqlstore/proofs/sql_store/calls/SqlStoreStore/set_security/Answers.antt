@@ -1,6 +1,4 @@
-use Rattle.std.proofs.Common.{rules, ◌≡◌, Err}
-use Rattle.sqlstore.proofs.Answering.{missing}
-use Rattle.sqlstore.proofs.Changing.{moves_then, same_contents, unchanged, whole}
+use Rattle.sqlstore.proofs.Lemmas.{Err, missing, moves_then, rules, same_contents, unchanged, whole, ◌≡◌}
 use Rattle.sqlstore.proofs.sql_store.calls.SqlStoreStore.set_security.Goals as goal
 
 pub returns-in_err-found-clause-missing : goal.returns-in_err-found-clause-missing
