@@ -28,6 +28,7 @@ pub use Rattle.tables.proofs.Common.{Addition, AllByRecursion, AreAcceptable, As
 pub use Rattle.tables.specs.Listings.{listed_sequence, listed_winner}
 pub use Rattle.tables.specs.Presence.{has_any}
 pub use Rattle.tables.specs.Shown.{local_shown}
-pub use Rattle.transactions.proofs.Common.{AreDue, Clears, Coded-set, CommitFault, Damaged, Exists, Failed, Full, IsRead, IsSound, IsUnwritten, Memory, NoDatabase, OnErr, Replaces, StoreFault, addition_of, additions, coded_option, content_code, get_or, take, to_z-of_z, w64, writings_in, ∥∥₁_elim}
+pub use Rattle.transactions.specs.declared.commit_fault.CommitFault.{CommitFault}
+pub use Rattle.transactions.proofs.Common.{AreDue, Clears, Coded-set, Damaged, Exists, Failed, Full, IsRead, IsSound, IsUnwritten, Memory, NoDatabase, OnErr, Replaces, StoreFault, addition_of, additions, coded_option, content_code, get_or, take, to_z-of_z, w64, writings_in, ∥∥₁_elim}
 pub use Rattle.transactions.specs.Reading.{IsLost}
 pub use Rattle.tree.specs.Revision.{revision_code}
