@@ -1,16 +1,10 @@
 //! The store in a file.
 
 ghost use Rattle.std.specs.Prelude.{◌≡◌, ◌⊎◌, IfErr, IfOk, codes};
-ghost use Rattle.std.specs.FinMap.{empty};
 ghost use Rattle.sqlite.specs.Files.{over_files};
-ghost use Rattle.sqlite.specs.Held.{state};
-ghost use Rattle.sqlite.specs.State.{HasCleanDisk};
 ghost use Rattle.sqlite.specs.WalFiles.{image_at};
-ghost use Rattle.tables.specs.Layout.{IsStore};
-ghost use Rattle.tables.specs.Rows.{contents_in};
-ghost use Rattle.tables.specs.Schema.{no_schema};
-ghost use Rattle.sqlstore.specs.Model.{contents_of, fault_count, is_clean, is_honest};
-ghost use Rattle.server.specs.StoreFile.{IsOpenedFrom};
+ghost use Rattle.sqlstore.specs.Model.{fault_count, is_clean};
+ghost use Rattle.server.specs.StoreFile.{IsOpenedFrom, IsOpenedOver};
 
 use command_line::ProgramFault;
 use sqlite::{Alter, Connection, Error, ErrorCode, FileFrom, FileStore, Start};
@@ -44,9 +38,7 @@ fn open_tables<S: Alter + Drop>(
     alloc: Global,
     conn: Connection<S>,
 ) -> Result<SqlStore<S>, ProgramFault>
-    ensures found { IfOk result (λ s. is_clean S.Store s → IsStore (state S.Store conn).now → is_honest S.Store s × (contents_of S.Store s ≡ contents_in (state S.Store conn).now.trees)) }
-    ensures made { IfOk result (λ s. is_clean S.Store s → conn.schema ≡ no_schema → is_honest S.Store s × (contents_of S.Store s ≡ empty)) }
-    ensures clean { IfOk result (λ s. is_clean S.Store s → HasCleanDisk (state S.Store conn)) }
+    ensures opened { IfOk result (IsOpenedOver S.Store conn) }
     ensures no_faults { IfOk result (λ s. fault_count S.Store s ≡ 0) }
     ensures faults { IfErr result (λ fault. (fault ≡ ProgramFault.File) ⊎ (fault ≡ ProgramFault.Memory)) }
 {
