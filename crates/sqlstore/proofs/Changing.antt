@@ -83,3 +83,7 @@ module _ {S : Type 0} (g : Ghosts S) where
   -- a refusal before anything was changed
   pub unchanged : {X F : Type 0} (a b : SqlStore S g) (r : Result X F) → Stands g a b → ChangesWhole g a b r
   unchanged a b r p = whole a b r (stood a b p) (λ honest. on_err r (ap (λ h. contents_in (state g h).now.trees) p.last))
+
+  -- a change after a reader, which keeps what the last change left where it is refused
+  pub changed_whole : {X F : Type 0} (a b c : SqlStore S g) (r : Result X F) → Stands g a b → Moves g b c → OnErr r (c.last.value ≡ b.last.value) → ChangesWhole g a c r
+  changed_whole a b c r p m kept = whole a c r (moves_then a b c p m) (λ honest. same_contents a b c r p.last kept)

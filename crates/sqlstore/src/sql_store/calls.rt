@@ -29,6 +29,7 @@ impl<S: Alter + Drop> Store for SqlStore<S> {
 
     ghost lacks_number = { model.lacks_number S.Store };
 
+    #[tactic(auto, using(crate::proofs::Changing::changed_whole, crate::proofs::Changing::unchanged))]
     fn create(&mut self, name: &DbName) -> Result<(), StoreFault> {
         if self.has(name)? {
             return Err(StoreFault::Exists);
@@ -36,16 +37,19 @@ impl<S: Alter + Drop> Store for SqlStore<S> {
         self.add(name)
     }
 
+    #[tactic(auto, using(crate::proofs::Changing::changed_whole, crate::proofs::Changing::unchanged))]
     fn remove(&mut self, name: &DbName) -> Result<(), StoreFault> {
         let found = self.find(name)?;
         self.clear(name, &found.number)
     }
 
+    #[tactic(auto, using(crate::proofs::Answering::reads, crate::proofs::Answering::stands_then))]
     fn names(&mut self) -> Result<Vec<DbName>, StoreFault> {
         let rows = self.name_rows()?;
         read_names(self.alloc, &rows)
     }
 
+    #[tactic(auto, using(crate::proofs::Answering::reads, crate::proofs::Answering::stands_then))]
     fn security(&mut self, name: &DbName) -> Result<Security, StoreFault> {
         let known = self.know(name)?;
         let security = read_security(self.alloc, &known.found.security);
@@ -53,21 +57,25 @@ impl<S: Alter + Drop> Store for SqlStore<S> {
         security
     }
 
+    #[tactic(auto, using(crate::proofs::Changing::changed_whole, crate::proofs::Changing::unchanged))]
     fn set_security(&mut self, name: &DbName, security: &Security) -> Result<(), StoreFault> {
         let found = self.find(name)?;
         self.secure(name, &found.number, security)
     }
 
+    #[tactic(auto, using(crate::proofs::Answering::reads, crate::proofs::Answering::stands_then))]
     fn history(&mut self, name: &DbName, id: &DocId) -> Result<History, StoreFault> {
         let found = self.find(name)?;
         self.find_history(&found.number, id)
     }
 
+    #[tactic(auto, using(crate::proofs::Answering::reads, crate::proofs::Answering::stands_then))]
     fn page_by_id(&mut self, name: &DbName, range: &IdRange) -> Result<PageById, StoreFault> {
         let found = self.find(name)?;
         self.find_page_by_id(&found.number, range)
     }
 
+    #[tactic(auto, using(crate::proofs::Answering::reads, crate::proofs::Answering::stands_then))]
     fn page_by_seq(&mut self, name: &DbName, range: &SeqRange) -> Result<PageBySeq, StoreFault> {
         let found = self.find_bounded(name)?;
         let page = self.find_page_by_sequence(&found.number, found.sequence, range)?;
@@ -77,6 +85,7 @@ impl<S: Alter + Drop> Store for SqlStore<S> {
         self.show_page_leaves(&found.number, page, range)
     }
 
+    #[tactic(auto, using(crate::proofs::Answering::reads, crate::proofs::Answering::stands_then))]
     fn page_by_key(
         &mut self,
         name: &DbName,
@@ -92,6 +101,7 @@ impl<S: Alter + Drop> Store for SqlStore<S> {
         }
     }
 
+    #[tactic(auto, using(crate::proofs::Changing::changed_whole, crate::proofs::Changing::unchanged))]
     fn commit(&mut self, name: &DbName, writes: &[Write]) -> Result<(), StoreFault> {
         let found = self.find(name)?;
         if !has_room(found.sequence, writes.len()) {
@@ -100,12 +110,14 @@ impl<S: Alter + Drop> Store for SqlStore<S> {
         self.append(name, &found.number, found.sequence, writes)
     }
 
+    #[tactic(auto, using(crate::proofs::Answering::reads, crate::proofs::Answering::stands_then))]
     fn local(&mut self, name: &DbName, id: &DocId) -> Result<Option<LocalDocument>, StoreFault> {
         let found = self.find(name)?;
         let rows = self.local_rows(&found.number, id.as_str().as_bytes())?;
         first_local(self.alloc, &rows)
     }
 
+    #[tactic(auto, using(crate::proofs::Changing::changed_whole, crate::proofs::Changing::unchanged))]
     fn set_local(
         &mut self,
         name: &DbName,

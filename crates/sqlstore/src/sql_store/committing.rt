@@ -24,11 +24,7 @@ pub(crate) fn has_room(sequence: u64, count: usize) -> bool
 
 /// Returns what is known of the database of this name, if it is the known one, after its sequence moved to
 /// this one.
-fn advance(
-    known: Option<KnownDatabase>,
-    name: &DbName,
-    sequence: u64,
-) -> Option<KnownDatabase>
+fn advance(known: Option<KnownDatabase>, name: &DbName, sequence: u64) -> Option<KnownDatabase>
     ensures { IfSome result (λ now. (was : KnownDatabase) × (known ≡ Some was) × (was.name ≡ name.now) × (now ≡ at_sequence sequence was)) }
 {
     let known = known?;

@@ -11,16 +11,23 @@ invariant_of-self g c =
     let all = additions c.args.writes.now in
     let x = stands g.S.Store s.conn c.commit_writes.new.conn s.origin.value s.last.value e.turns (dropped g.S.Store s.standing) e.done (IsWritten new.now name all)
     (λ clean was is store same. appends new.now name _ _ store same all c.args.number.now c.args.sequence (c.requires.due (was, is)) (e.ok name clean store)) c.of.result.value c.of.ensures in
-    record { standing = record { idle = x.idle; unlimited = x.unlimited; held = x.held; known_so = λ clean is.
-        known_after (state g.S.Store c.of.result.value).now.trees c.take-known.result name (c.args.sequence + length c.args.writes.now) c.advance.result c.advance.ensures (λ was kept named.
-        subst (λ (h : Held g.row.S.Denot). ∥ IsKnown (state g.S.Store h).now.trees (Some (at_sequence (c.args.sequence + length c.args.writes.now) was)) ∥₁) (sym c.of.ensures)
-        (subst (λ n. ∥ IsKnown new.now.trees (Some (at_sequence (c.args.sequence + n) was)) ∥₁) (length-map c.args.writes.now addition_of)
-        (told g.S.Store s.conn c.commit_writes.new.conn s.origin.value s.last.value e.turns (dropped g.S.Store s.standing) e.done (λ _. ∥ IsKnown new.now.trees (Some (at_sequence (c.args.sequence + length all) was)) ∥₁)
-        (λ clean honest is store same. (
-          (appends new.now name _ _ store same all c.args.number.now c.args.sequence (c.requires.due (honest, is)) (e.ok name clean store)).0,
-          ∥∥₁_map (subst (λ k. ∥ IsKnown (state g.S.Store s.last.value).now.trees k ∥₁) (sym c.take-known.ensures.value ∙ kept) (s.standing.known_so honest is))
-              (advances new.now name _ _ store same all c.args.number.now c.args.sequence (c.requires.due (honest, is)) (e.ok name clean store) was named),
-        )) ∥∥₁_prop clean is))) } }
+    record {
+      standing = record {
+        idle = x.idle;
+        unlimited = x.unlimited;
+        held = x.held;
+        known_so = λ clean is.
+            known_after (state g.S.Store c.of.result.value).now.trees c.take-known.result name (c.args.sequence + length c.args.writes.now) c.advance.result c.advance.ensures (λ was kept named.
+            subst (λ (h : Held g.row.S.Denot). ∥ IsKnown (state g.S.Store h).now.trees (Some (at_sequence (c.args.sequence + length c.args.writes.now) was)) ∥₁) (sym c.of.ensures)
+            (subst (λ n. ∥ IsKnown new.now.trees (Some (at_sequence (c.args.sequence + n) was)) ∥₁) (length-map c.args.writes.now addition_of)
+            (told g.S.Store s.conn c.commit_writes.new.conn s.origin.value s.last.value e.turns (dropped g.S.Store s.standing) e.done (λ _. ∥ IsKnown new.now.trees (Some (at_sequence (c.args.sequence + length all) was)) ∥₁)
+            (λ clean honest is store same. (
+              (appends new.now name _ _ store same all c.args.number.now c.args.sequence (c.requires.due (honest, is)) (e.ok name clean store)).0,
+              ∥∥₁_map (subst (λ k. ∥ IsKnown (state g.S.Store s.last.value).now.trees k ∥₁) (sym c.take-known.ensures.value ∙ kept) (s.standing.known_so honest is))
+                  (advances new.now name _ _ store same all c.args.number.now c.args.sequence (c.requires.due (honest, is)) (e.ok name clean store) was named),
+            )) ∥∥₁_prop clean is)));
+      };
+    }
 
 pub returns-in-Ok-clause-ok : goal.returns-in-Ok-clause-ok
 returns-in-Ok-clause-ok g c honest =

@@ -12,16 +12,18 @@ invariant_of-result g c =
     let turns = c.find_tables.ensures.turns in
     let settled : IsTrue c.is_autocommit-2.result = c.is_autocommit-2.ensures.value ∙ ap not turns.idle in
     let now : Held g.row.S.Denot → Database = λ h. (state g.S.Store h).now in
-    record { standing = record {
-      idle = turns.idle;
-      unlimited = turns.limit ∙ ap (λ (h : Held g.row.S.Denot). h.step_limit) c.set_step_limit.ensures;
-      held = λ clean was. ∥∥₁_map was (λ store. record {
-        store = subst (λ h. IsStore (now h)) (c.of-origin.ensures ∙ sym c.of-last.ensures) store;
-        now = λ up. ap now (sym c.of-last.ensures);
-        committed = λ up. sym (c.is_autocommit-2.ensures.settled settled up) ∙ ap now (sym c.of-last.ensures);
-      });
-      known_so = λ clean was. ∣ tt ∣₁;
-    } }
+    record {
+      standing = record {
+        idle = turns.idle;
+        unlimited = turns.limit ∙ ap (λ (h : Held g.row.S.Denot). h.step_limit) c.set_step_limit.ensures;
+        held = λ clean was. ∥∥₁_map was (λ store. record {
+          store = subst (λ h. IsStore (now h)) (c.of-origin.ensures ∙ sym c.of-last.ensures) store;
+          now = λ up. ap now (sym c.of-last.ensures);
+          committed = λ up. sym (c.is_autocommit-2.ensures.settled settled up) ∙ ap now (sym c.of-last.ensures);
+        });
+        known_so = λ clean was. ∣ tt ∣₁;
+      };
+    }
 
 pub returns-clause-found : goal.returns-clause-found
 returns-clause-found g c clean store =

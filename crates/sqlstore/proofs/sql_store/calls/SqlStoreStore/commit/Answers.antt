@@ -10,9 +10,6 @@ returns-in_err-found-clause-missing g c honest told =
     let is : c.from_residual.result ≡ Err c.in_err-found.field-0.0 = search rules in
     missing g.S.Store c.args.self.now c.find.new.self c.args.name.now c.from_residual.result c.in_err-found.field-0.0 is told c.in_err-found.ensures.answer honest
 
-pub returns-in_err-found-clause-changes : goal.returns-in_err-found-clause-changes
-returns-in_err-found-clause-changes g c = unchanged g.S.Store c.args.self.now c.find.new.self _ c.find.ensures.stands
-
 pub returns-then-not-has_room-clause-caused : goal.returns-then-not-has_room-clause-caused
 returns-then-not-has_room-clause-caused g c honest =
     let trees = trees_of g.S.Store c.args.self.now in
@@ -24,9 +21,6 @@ returns-then-not-has_room-clause-caused g c honest =
     let has : c.has_room.result ≡ true = c.has_room.ensures.1 (omega (arith, room, count)) in
     absurd (true_not_false c.has_room.result has (search rules)))
 
-pub returns-then-not-has_room-clause-changes : goal.returns-then-not-has_room-clause-changes
-returns-then-not-has_room-clause-changes g c = unchanged g.S.Store c.args.self.now c.find.new.self (Err Full) c.find.ensures.stands
-
 pub append-requires-clause-due : goal.append-requires-clause-due
 append-requires-clause-due g c honest =
     let s = c.args.self.now in
@@ -36,11 +30,3 @@ append-requires-clause-due g c honest =
     let found = there numbers_in (trees_of g.S.Store s) name _ (c.in_ok-found.ensures.answer honest) in
     due_at all name _ _ (trees_of g.S.Store mid) (trees_of g.S.Store s) (ap (λ (h : Held g.row.S.Denot). (state g.S.Store h).now.trees) c.find.ensures.stands.last)
     (due_there all (trees_of g.S.Store s) name _ found (c.requires (was_honest g.S.Store s mid c.find.ensures.stands honest)))
-
-pub returns-clause-changes : goal.returns-clause-changes
-returns-clause-changes g c =
-    let s = c.args.self.now in
-    let mid = c.find.new.self in
-    let end = c.append.new.self in
-    whole g.S.Store s end c.append.result (moves_then g.S.Store s mid end c.find.ensures.stands c.append.ensures.moves)
-    (λ honest. same_contents g.S.Store s mid end c.append.result c.find.ensures.stands.last c.append.ensures.kept)

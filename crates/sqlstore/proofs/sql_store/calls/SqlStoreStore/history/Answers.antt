@@ -12,9 +12,6 @@ returns-in_err-found-clause-answer g c =
     subst (Answers g.S.Store {X = HistoryContent} s c.find.new.self (λ v. v) defined) (sym is)
     (not_found {X = DatabaseNumbers} g.S.Store s c.find.new.self c.args.name.now numbers_in (λ d. (d.number, d.sequence)) (λ v. v) f c.in_err-found.field-0.0 c.in_err-found.ensures.answer)
 
-pub returns-in_err-found-clause-reads : goal.returns-in_err-found-clause-reads
-returns-in_err-found-clause-reads g c = reads g.S.Store c.args.self.now c.find.new.self c.find.ensures.stands
-
 pub returns-clause-answer : goal.returns-clause-answer
 returns-clause-answer g c =
     let s = c.args.self.now in
@@ -30,7 +27,3 @@ returns-clause-answer g c =
     let lay = laid g.S.Store s (was_honest g.S.Store s mid c.find.ensures.stands was) in
     history_there (trees_of g.S.Store s) c.args.name.now _ lay found id ∙ ap (λ (t : Trees). Some (history_in (t revs_tree) n id)) same)
     c.find_history.ensures.answer
-
-pub returns-clause-reads : goal.returns-clause-reads
-returns-clause-reads g c =
-    reads g.S.Store c.args.self.now c.find_history.new.self (stands_then g.S.Store c.args.self.now c.find.new.self c.find_history.new.self c.find.ensures.stands c.find_history.ensures.stands)

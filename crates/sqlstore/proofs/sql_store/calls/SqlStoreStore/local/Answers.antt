@@ -12,13 +12,6 @@ returns-in_err-found-clause-answer g c =
     subst (Answers g.S.Store {X = Option LocalDocument} s c.find.new.self (λ v. v) defined) (sym is)
     (not_found {X = DatabaseNumbers} g.S.Store s c.find.new.self c.args.name.now numbers_in (λ d. (d.number, d.sequence)) (λ v. v) f c.in_err-found.field-0.0 c.in_err-found.ensures.answer)
 
-pub returns-in_err-found-clause-reads : goal.returns-in_err-found-clause-reads
-returns-in_err-found-clause-reads g c = reads g.S.Store c.args.self.now c.find.new.self c.find.ensures.stands
-
-pub returns-in_err-rows-clause-reads : goal.returns-in_err-rows-clause-reads
-returns-in_err-rows-clause-reads g c =
-    reads g.S.Store c.args.self.now c.local_rows.new.self (stands_then g.S.Store c.args.self.now c.find.new.self c.local_rows.new.self c.find.ensures.stands c.local_rows.ensures.stands)
-
 pub returns-clause-answer : goal.returns-clause-answer
 returns-clause-answer g c =
     let s = c.args.self.now in
@@ -35,7 +28,3 @@ returns-clause-answer g c =
       (λ none. ∥∥₁_elim (laid g.S.Store s (was_honest g.S.Store s end whole honest)) (λ p q. absurd p) (λ l. none (local_intact trees (is_of c.in_ok-found.found.number c.args.id.now) _ l rows))),
       local_there trees c.args.name.now c.args.id.now _ _ found rows,
     ))
-
-pub returns-clause-reads : goal.returns-clause-reads
-returns-clause-reads g c =
-    reads g.S.Store c.args.self.now c.local_rows.new.self (stands_then g.S.Store c.args.self.now c.find.new.self c.local_rows.new.self c.find.ensures.stands c.local_rows.ensures.stands)

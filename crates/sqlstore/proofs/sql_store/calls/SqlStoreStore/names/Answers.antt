@@ -1,9 +1,6 @@
 use Rattle.sqlstore.proofs.Lemmas.{answered, laid, names_intact, names_set, names_there, reads, trees_of, was_honest, ∥∥₁_elim, ◌∙◌}
 use Rattle.sqlstore.proofs.sql_store.calls.SqlStoreStore.names.Goals as goal
 
-pub returns-in_err-rows-clause-reads : goal.returns-in_err-rows-clause-reads
-returns-in_err-rows-clause-reads g c = reads g.S.Store c.args.self.now c.name_rows.new.self c.name_rows.ensures.stands
-
 pub returns-clause-answer : goal.returns-clause-answer
 returns-clause-answer g c =
     let s = c.args.self.now in
@@ -14,6 +11,3 @@ returns-clause-answer g c =
     let rows = c.deref.ensures.value ∙ c.in_ok-rows.ensures.found honest in
     let lay = laid g.S.Store s (was_honest g.S.Store s end c.name_rows.ensures.stands honest) in
     ((λ none. ∥∥₁_elim lay (λ p q. absurd p) (λ l. none (names_intact trees _ l rows))), ∥∥₁_elim lay (names_set _ _) (λ l. names_there trees _ l rows)))
-
-pub returns-clause-reads : goal.returns-clause-reads
-returns-clause-reads g c = reads g.S.Store c.args.self.now c.name_rows.new.self c.name_rows.ensures.stands

@@ -13,9 +13,6 @@ returns-in_err-found-clause-answer g c =
     subst (Answers g.S.Store {X = PageById} s c.find.new.self id_page_of defined) (sym is)
     (not_found {X = DatabaseNumbers} g.S.Store s c.find.new.self c.args.name.now numbers_in (λ d. (d.number, d.sequence)) id_page_of f c.in_err-found.field-0.0 c.in_err-found.ensures.answer)
 
-pub returns-in_err-found-clause-reads : goal.returns-in_err-found-clause-reads
-returns-in_err-found-clause-reads g c = reads g.S.Store c.args.self.now c.find.new.self c.find.ensures.stands
-
 pub returns-clause-answer : goal.returns-clause-answer
 returns-clause-answer g c =
     let s = c.args.self.now in
@@ -31,8 +28,3 @@ returns-clause-answer g c =
     let lay = laid g.S.Store s (was_honest g.S.Store s mid c.find.ensures.stands was) in
     id_page_there (trees_of g.S.Store s) c.args.name.now _ lay found range ∙ ap (λ (t : Trees). Some (id_page range (live_rows (listed_by_id t n)))) same)
     c.find_page_by_id.ensures.answer
-
-pub returns-clause-reads : goal.returns-clause-reads
-returns-clause-reads g c =
-    reads g.S.Store c.args.self.now c.find_page_by_id.new.self
-    (stands_then g.S.Store c.args.self.now c.find.new.self c.find_page_by_id.new.self c.find.ensures.stands c.find_page_by_id.ensures.stands)

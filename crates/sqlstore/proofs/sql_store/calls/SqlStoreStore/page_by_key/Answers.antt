@@ -14,25 +14,6 @@ returns-in_err-found-clause-answer g c =
     subst (Answers g.S.Store {X = Option PageByKey} s c.find.new.self key_page_in defined) (sym is)
     (not_found {X = DatabaseNumbers} g.S.Store s c.find.new.self c.args.name.now numbers_in (λ d. (d.number, d.sequence)) key_page_in f c.in_err-found.field-0.0 c.in_err-found.ensures.answer)
 
-pub returns-in_err-found-clause-reads : goal.returns-in_err-found-clause-reads
-returns-in_err-found-clause-reads g c = reads g.S.Store c.args.self.now c.find.new.self c.find.ensures.stands
-
-pub returns-in_err-history-clause-reads : goal.returns-in_err-history-clause-reads
-returns-in_err-history-clause-reads g c =
-    reads g.S.Store c.args.self.now c.find_history.new.self (stands_then g.S.Store c.args.self.now c.find.new.self c.find_history.new.self c.find.ensures.stands c.find_history.ensures.stands)
-
-pub returns-in_err-fields-clause-reads : goal.returns-in_err-fields-clause-reads
-returns-in_err-fields-clause-reads g c =
-    reads g.S.Store c.args.self.now c.find_history.new.self (stands_then g.S.Store c.args.self.now c.find.new.self c.find_history.new.self c.find.ensures.stands c.find_history.ensures.stands)
-
-pub returns-in_err-find_page_by_key-in-Some-clause-reads : goal.returns-in_err-find_page_by_key-in-Some-clause-reads
-returns-in_err-find_page_by_key-in-Some-clause-reads g c =
-    let s = c.args.self.now in
-    let first = c.find.new.self in
-    let second = c.find_history.new.self in
-    let end = c.find_page_by_key.new.self in
-    reads g.S.Store s end (stands_then g.S.Store s second end (stands_then g.S.Store s first second c.find.ensures.stands c.find_history.ensures.stands) c.find_page_by_key.ensures.stands)
-
 pub returns-in-Some-clause-answer : goal.returns-in-Some-clause-answer
 returns-in-Some-clause-answer g c honest =
     let s = c.args.self.now in
@@ -57,14 +38,6 @@ returns-in-Some-clause-answer g c honest =
     ∙ ap (λ fs. Some (Some (key_page range (places_of fs (history_in (trees_of g.S.Store second revs_tree) n) (map listed_id (listed_by_id (trees_of g.S.Store second) n)))))) (sym c.deref.ensures.value)
     ∙ ap Some (c.in_ok-find_page_by_key-in-Some.ensures.answer honest)
 
-pub returns-in-Some-clause-reads : goal.returns-in-Some-clause-reads
-returns-in-Some-clause-reads g c =
-    let s = c.args.self.now in
-    let first = c.find.new.self in
-    let second = c.find_history.new.self in
-    let end = c.find_page_by_key.new.self in
-    reads g.S.Store s end (stands_then g.S.Store s second end (stands_then g.S.Store s first second c.find.ensures.stands c.find_history.ensures.stands) c.find_page_by_key.ensures.stands)
-
 pub returns-clause-answer : goal.returns-clause-answer
 returns-clause-answer g c honest =
     let s = c.args.self.now in
@@ -80,7 +53,3 @@ returns-clause-answer g c honest =
     let history = sym (same_values _ _ (c.in_ok-history.ensures.answer honest)) ∙ ap (λ (t : Trees). history_in (t revs_tree) n design) (stands_same g.S.Store s first stood) in
     let declared : None ≡ index_fields_of c.args.design.now c.in_ok-history.history c.args.index.now = search rules in
     no_index_there (trees_of g.S.Store s) c.args.name.now _ lay found c.args.range.now design index (declared ∙ ap (λ h. index_fields_of design h index) history)
-
-pub returns-clause-reads : goal.returns-clause-reads
-returns-clause-reads g c =
-    reads g.S.Store c.args.self.now c.find_history.new.self (stands_then g.S.Store c.args.self.now c.find.new.self c.find_history.new.self c.find.ensures.stands c.find_history.ensures.stands)

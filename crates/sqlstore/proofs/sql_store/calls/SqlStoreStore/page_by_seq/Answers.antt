@@ -13,14 +13,6 @@ returns-in_err-found-clause-answer g c =
     subst (Answers g.S.Store {X = PageBySeq} s c.find_bounded.new.self sequence_page_of defined) (sym is)
     (not_found {X = DatabaseNumbers} g.S.Store s c.find_bounded.new.self c.args.name.now numbers_in (λ d. (d.number, d.sequence)) sequence_page_of f c.in_err-found.field-0.0 c.in_err-found.ensures.answer)
 
-pub returns-in_err-found-clause-reads : goal.returns-in_err-found-clause-reads
-returns-in_err-found-clause-reads g c = reads g.S.Store c.args.self.now c.find_bounded.new.self c.find_bounded.ensures.stands
-
-pub returns-in_err-page-clause-reads : goal.returns-in_err-page-clause-reads
-returns-in_err-page-clause-reads g c =
-    reads g.S.Store c.args.self.now c.find_page_by_sequence.new.self
-    (stands_then g.S.Store c.args.self.now c.find_bounded.new.self c.find_page_by_sequence.new.self c.find_bounded.ensures.stands c.find_page_by_sequence.ensures.stands)
-
 pub returns-then-not-range-clause-answer : goal.returns-then-not-range-clause-answer
 returns-then-not-range-clause-answer g c honest =
     let s = c.args.self.now in
@@ -36,11 +28,6 @@ returns-then-not-range-clause-answer g c honest =
     winners_there (trees_of g.S.Store s) c.args.name.now _ lay found range winners
     ∙ ap (λ (t : Trees). Some (winners_page range k.sequence (listed_by_sequence t k.number))) (sym (stands_same g.S.Store s mid stood))
     ∙ c.in_ok-page.ensures.answer honest
-
-pub returns-then-not-range-clause-reads : goal.returns-then-not-range-clause-reads
-returns-then-not-range-clause-reads g c =
-    reads g.S.Store c.args.self.now c.find_page_by_sequence.new.self
-    (stands_then g.S.Store c.args.self.now c.find_bounded.new.self c.find_page_by_sequence.new.self c.find_bounded.ensures.stands c.find_page_by_sequence.ensures.stands)
 
 pub returns-clause-answer : goal.returns-clause-answer
 returns-clause-answer g c =
@@ -64,11 +51,3 @@ returns-clause-answer g c =
     ∙ ap (λ (p : SequencePage). Some (page_with_leaves (history_in (trees_of g.S.Store s revs_tree) k.number) p)) (same_values _ _ (c.in_ok-page.ensures.answer then))
     ∙ ap (λ (t : Trees). Some (page_with_leaves (history_in (t revs_tree) k.number) (sequence_page_of c.in_ok-page.page))) (sym (stands_same g.S.Store s second both)))
     c.show_page_leaves.ensures.answer
-
-pub returns-clause-reads : goal.returns-clause-reads
-returns-clause-reads g c =
-    let s = c.args.self.now in
-    let first = c.find_bounded.new.self in
-    let second = c.find_page_by_sequence.new.self in
-    let end = c.show_page_leaves.new.self in
-    reads g.S.Store s end (stands_then g.S.Store s second end (stands_then g.S.Store s first second c.find_bounded.ensures.stands c.find_page_by_sequence.ensures.stands) c.show_page_leaves.ensures.stands)

@@ -16,9 +16,6 @@ returns-in_err-known-clause-answer g c =
     subst (Answers g.S.Store {X = json.Value} s c.know.new.self (λ v. v) defined) (sym is)
     (not_found {X = KnownDatabase} g.S.Store s c.know.new.self c.args.name.now found_in known_values (λ v. v) f c.in_err-known.field-0.0 c.in_err-known.ensures.answer)
 
-pub returns-in_err-known-clause-reads : goal.returns-in_err-known-clause-reads
-returns-in_err-known-clause-reads g c = reads g.S.Store c.args.self.now c.know.new.self c.know.ensures.stands
-
 pub returns-clause-answer : goal.returns-clause-answer
 returns-clause-answer g c =
     let s = c.args.self.now in
