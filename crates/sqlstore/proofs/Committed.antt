@@ -1,5 +1,5 @@
 -- What a store makes of writes that are committed together.
-use Rattle.sqlstore.proofs.Common.{Addition, AreAcceptable, AreDue, CommitFault, Damaged, Database, Exists, Failed, Full, Ghosts, HasCleanDisk, Held, IfThere, IsHeld, IsSound, IsStore, IsUnwritten, List, Memory, NoDatabase, NumberValues, Some, StoreFault, Trees, WasStore, ap, arith, contents_in, database_of, length, numbers_in, state, subst, sym, with_all, writings_in, ℕ, ℤ, ∥∥₁_elim, ◌+◌, ◌<◌, ◌^◌, ◌≡◌}
+use Rattle.sqlstore.proofs.Common.{Addition, AreAcceptable, AreDue, CommitFault, Damaged, Database, Exists, Failed, Full, Ghosts, HasCleanDisk, Held, IfThere, IsHeld, IsSound, IsStore, IsUnwritten, List, Memory, NoDatabase, NumberValues, Some, StoreFault, Trees, WasStore, ap, arith, contents_in, database_of, length, numbers_in, state, subst, sym, writings_in, ℕ, ℤ, ∥∥₁_elim, ◌+◌, ◌<◌, ◌^◌, ◌≡◌}
 use Rattle.std.specs.FinMap as finite
 use Rattle.store.specs.Database as store
 use Rattle.sqlstore.specs.Causes.{IsJudged}

@@ -1,5 +1,5 @@
 -- Some rows of a list of documents make the page that all of them make.
-use Rattle.sqlstore.proofs.Common.{AllByRecursion, AreEnoughById, AreEnoughBySequence, Bool, Equal, Err, Greater, IdRow, IfOk, IsLimitFor, IsListedDocument, IsSequenceRow, Less, List, None, Ok, Option, Ordering, Result, Revision, Row, SeqRange, SequenceRow, Some, [], all-filter, ap, append-nil, ap₂, arith, comes_after, cond, drop, false, filter, filter-filter, filter-map, filter_all, filter_same, first_rows, id_page, if_counted, in_direction, inl, inr, int_lt, ints, is_after_end_of, is_before_start_of, is_le, is_lt, is_within, last_sequence, later_rows, least_of, lies_between, listed_counts, listed_id, listed_mark, listed_sequence, listed_winner, live_row, live_rows, map, nat_cmp, nat_list_cmp_total, nat_lt, nat_tests, negsuc, not, option_map, ordering_reverse, pos, refl, reverse, row_counts, rows_within, sequence_row, slice_cmp, subst, suc, sym, take, take-map, true, up_to_limit, winners_page, zero, ℕ, ℤ, ◌&&◌, ◌++◌, ◌||◌, ◌∙◌, ◌∷◌, ◌≡◌}
+use Rattle.sqlstore.proofs.Common.{AllByRecursion, AreEnoughById, AreEnoughBySequence, Bool, Equal, Err, Greater, IdRow, IfOk, IsLimitFor, IsListedDocument, IsSequenceRow, Less, List, None, Ok, Option, Ordering, Result, Revision, Row, SeqRange, SequenceRow, Some, [], all-filter, ap, ap₂, arith, comes_after, cond, drop, false, filter, filter-filter, filter-map, filter_all, filter_same, first_rows, id_page, if_counted, in_direction, inl, inr, int_lt, ints, is_after_end_of, is_before_start_of, is_le, is_lt, is_within, last_sequence, later_rows, least_of, lies_between, listed_counts, listed_id, listed_mark, listed_sequence, listed_winner, live_row, live_rows, map, nat_cmp, nat_list_cmp_total, nat_lt, nat_tests, negsuc, not, option_map, ordering_reverse, pos, refl, row_counts, rows_within, sequence_row, slice_cmp, subst, suc, sym, take, take-map, true, up_to_limit, winners_page, zero, ℕ, ℤ, ◌&&◌, ◌++◌, ◌||◌, ◌∙◌, ◌∷◌, ◌≡◌}
 use Rattle.std.specs.Option.{option_to_list}
 use Rattle.store.proofs.Directed.{filter-directed}
 use Rattle.store.specs.declared.page.IdRange.{IdRange}

@@ -1,5 +1,5 @@
 -- The rows of a list of documents: that they are intact, and what pages they make.
-use Rattle.sqlstore.proofs.Common.{All, AllByRecursion, Bool, Coded, Coded-set, HistoryContent, IdRow, IndexPlace, IsDatabaseRow, IsDocumentRow, IsLaid, IsListedDocument, IsSequenceRow, List, None, Option, Ordering, Revision, Row, SeqRange, SeqRow, SequenceRow, Some, Trees, [], all-filter, all_both, all_map, ap, ap₂, arith, by_id, by_sequence, code_by, coded_bool, coded_list, coded_ℕ, coded×, cond, count_by, dbs_tree, docs_tree, drop, drop_all, false, filter, find, get_or, get_or-map, is_in, last_sequence, later_rows, leaves_row, length, length-map, list_any, listed_by_sequence, listed_counts, listed_document, listed_mark, map, map-map, nat_lt, not, page_with_leaves, place_code, refl, revision_code, revs_tree, sequence_of, sequence_page, sequence_row, sequence_row_of, sequence_rows, sort_by, sym, true, up_to_limit, with_leaves, ℕ, ℤ, ◌++◌, ◌+◌, ◌-◌, ◌<◌, ◌^◌, ◌||◌, ◌∙◌, ◌∷◌, ◌≡◌, ◌≤◌}
+use Rattle.sqlstore.proofs.Common.{All, AllByRecursion, Bool, Coded, Coded-set, HistoryContent, IdRow, IndexPlace, IsDatabaseRow, IsDocumentRow, IsLaid, IsListedDocument, IsSequenceRow, List, None, Option, Ordering, Revision, Row, SeqRange, SeqRow, SequenceRow, Some, Trees, [], all-filter, all_both, all_map, ap, ap₂, arith, by_sequence, code_by, coded_bool, coded_list, coded_ℕ, coded×, cond, count_by, dbs_tree, docs_tree, drop, drop_all, false, filter, find, get_or, get_or-map, is_in, last_sequence, later_rows, leaves_row, length, length-map, list_any, listed_by_sequence, listed_counts, listed_document, listed_mark, map, map-map, nat_lt, not, page_with_leaves, place_code, refl, revision_code, revs_tree, sequence_of, sequence_page, sequence_row, sequence_row_of, sequence_rows, sort_by, sym, true, up_to_limit, with_leaves, ℕ, ℤ, ◌++◌, ◌+◌, ◌-◌, ◌<◌, ◌^◌, ◌||◌, ◌∙◌, ◌∷◌, ◌≡◌, ◌≤◌}
 use Rattle.std.proofs.lemmas.List.{append_assoc, append-nil, take-map}
 use Rattle.std.proofs.lemmas.List.Sums.{sum_by-cons}
 use Rattle.store.specs.contracts.page.DocumentCounts as document_counts

@@ -1,5 +1,5 @@
 -- What the statements on databases mean.
-use Rattle.tables.proofs.Common.{AllByRecursion, AreDatabaseRows, AreNumbered, Binary, Blob, Changes, Delete, Equal, Err, IfOk, Insert, Int, IsStore, Key, List, Null, Ok, OnOk, Ran, Result, Row, Select, Shown, State, Term, Text, Update, Values, [], all_of, all_weaker, ap, ap₂, by_name, bytes_eq, bytes_eq-Decides, cast_row, codes, col, column, count, database_cells, database_row, dbs_table, dbs_tree, drop, everything, false, filter, filter_all, has_number, holds, is_eq, is_eq-slice_cmp, is_named, length_of, list_all, lit, map, meta_table, meta_tree, name_of, not, number_of, ordering_then, pos, refl, rowid, rows_at_sequence, rows_with_security, schema, security_text, shown_database, shown_name, sort_by, subst, then-Equal, true, understood, value_cmp, value_cmp-Blob, with_cells, ℕ, ℤ, ◌∙◌, ◌∷◌, ◌≡◌, ◌≢◌}
+use Rattle.tables.proofs.Common.{AllByRecursion, AreDatabaseRows, AreNumbered, Binary, Blob, Changes, Delete, Equal, IfOk, Insert, Int, IsStore, Key, List, Null, OnOk, Ran, Result, Row, Select, Shown, State, Term, Text, Update, Values, [], all_of, all_weaker, ap, ap₂, by_name, bytes_eq, bytes_eq-Decides, cast_row, codes, col, column, count, database_cells, database_row, dbs_table, dbs_tree, drop, everything, false, filter, filter_all, has_number, holds, is_eq, is_eq-slice_cmp, is_named, length_of, list_all, lit, map, meta_table, meta_tree, name_of, not, number_of, ordering_then, pos, refl, rowid, rows_at_sequence, rows_with_security, schema, security_text, shown_database, shown_name, sort_by, subst, then-Equal, true, understood, value_cmp, value_cmp-Blob, with_cells, ℕ, ℤ, ◌∙◌, ◌∷◌, ◌≡◌, ◌≢◌}
 use Rattle.tables.proofs.Sorted.{lists}
 use Rattle.sqlite_typed.proofs.TestLemmas.{last_term}
 use Rattle.tables.proofs.Cells.{is_param, same_int, same_blob, cast_null, cast_int}

@@ -1,5 +1,5 @@
 -- What the statements on documents mean.
-use Rattle.tables.proofs.Common.{AllByRecursion, AreKeyed, Binary, Blob, Bool, Changes, Delete, Equal, Err, IfOk, Insert, Int, IsDocumentRow, IsStore, IsTotalOrder, Key, List, Null, Ok, OnOk, Ordering, Ran, Result, Row, Select, Shown, State, Term, Text, Values, [], all_weaker, ap, ap₂, arith, as_count, bytes_eq, bytes_eq-Decides, cast_row, codes, col, column, comes_after, cond, db_of, docs_table, docs_tree, document_cells, document_row, everything, false, filter, filter-map, first_rows, holds, id_of, int_cmp, ints, is_eq, is_eq-slice_cmp, is_gone, is_in, is_of, lies_between, limited, list_all, listed_document, listed_id, lit, map, nat_cmp, nat_cmp_total, nat_list_cmp_total, nat_tests, negsuc, not, number_of, on_total, ordering_then, pos, refl, same_int, schema, sequence_of, sort_by, subst, sym, then-Equal, true, understood, value_cmp, value_cmp-Blob, value_cmp-Int, winner_text, with_cells, ℕ, ℤ, ◌&&◌, ◌∙◌, ◌∷◌, ◌≡◌, ◌≢◌}
+use Rattle.tables.proofs.Common.{AllByRecursion, AreKeyed, Binary, Blob, Bool, Changes, Delete, Equal, IfOk, Insert, Int, IsDocumentRow, IsStore, IsTotalOrder, Key, List, Null, OnOk, Ordering, Ran, Result, Row, Select, Shown, State, Term, Text, Values, [], all_weaker, ap, ap₂, arith, as_count, bytes_eq, bytes_eq-Decides, cast_row, codes, col, column, comes_after, cond, db_of, docs_table, docs_tree, document_cells, document_row, everything, false, filter, filter-map, first_rows, holds, id_of, int_cmp, ints, is_eq, is_eq-slice_cmp, is_gone, is_in, is_of, lies_between, limited, list_all, listed_document, listed_id, lit, map, nat_cmp, nat_cmp_total, nat_list_cmp_total, nat_tests, negsuc, not, number_of, on_total, ordering_then, pos, refl, same_int, schema, sequence_of, sort_by, sym, then-Equal, true, understood, value_cmp, value_cmp-Blob, value_cmp-Int, winner_text, with_cells, ℕ, ℤ, ◌&&◌, ◌∙◌, ◌∷◌, ◌≡◌, ◌≢◌}
 use Rattle.tables.proofs.Cells.{by_db, by_id, by_later, by_range, cast_null, cast_int, test_later, tests_db, tests_id, tests_range}
 use Rattle.tables.proofs.Deletes.{deletes_where}
 use Rattle.tables.proofs.Sorted.{both_left, if_equal, lists, sorted_left}

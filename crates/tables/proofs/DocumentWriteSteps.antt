@@ -1,5 +1,5 @@
 -- Revisions that are put in one after another are one change, and what the statements of a write make of all tables.
-use Rattle.tables.proofs.Common.{AllByRecursion, AreInserted, AreKeyed, Changes, Database, DocumentWrite, Entry, IsWrite, List, Revision, Row, Schema, Trees, [], all_both, all_of, ap, arith, dbs_tree, docs_tree, document_cells, filter, held_of, history_after, history_before, is_deleted, is_of, length_of, new_entries, not, number_of, pos, refl, revision_cells, revs_tree, rows_at_sequence, schema, subst, sym, text_of, with_cells, with_revisions, ℕ, ℤ, ◌+◌, ◌∙◌, ◌∷◌, ◌≡◌, ◌≢◌}
+use Rattle.tables.proofs.Common.{AllByRecursion, AreInserted, AreKeyed, Changes, Database, DocumentWrite, Entry, IsWrite, List, Revision, Row, Schema, Trees, [], all_both, all_of, ap, dbs_tree, docs_tree, document_cells, filter, held_of, history_after, history_before, is_deleted, is_of, length_of, new_entries, not, number_of, pos, refl, revision_cells, revs_tree, rows_at_sequence, schema, subst, sym, text_of, with_cells, with_revisions, ℕ, ℤ, ◌+◌, ◌∙◌, ◌∷◌, ◌≡◌, ◌≢◌}
 use Rattle.tables.proofs.Kept.{keyed-with_cells}
 use Rattle.tables.proofs.Rests.{AreSame, after_change, unchanged, with_rows}
 

@@ -1,6 +1,7 @@
 -- What a query by tests on one table finds.
-use Rattle.tables.proofs.Common.{AllByRecursion, Asks, AsksInside, Bool, Database, Err, Ghosts, HasCleanDisk, Held, IfOk, IsPermutation, IsPlain, IsTrue, IsUnchanged, List, Ok, OnOk, OnlyLooks, Proceeds, Reads, ReadsInside, Result, Row, Schema, Select, Shown, State, Term, Trees, [], eval_all, false, filter, holds, list_all, map, overlay, reads_as, state, subst, sym, understood, ℕ, ◌∷◌, ◌≡◌}
+use Rattle.tables.proofs.Common.{AllByRecursion, Asks, AsksInside, Bool, Changes, Database, Err, Ghosts, HasCleanDisk, Held, IfOk, IsPermutation, IsPlain, IsTrue, IsUnchanged, List, Ok, OnOk, OnlyLooks, Proceeds, Reads, ReadsInside, Result, Row, Schema, Select, Shown, State, Term, Trees, [], eval_all, filter, holds, list_all, map, overlay, reads_as, state, subst, sym, understood, ℕ, ◌∷◌, ◌≡◌}
 use Rattle.sqlite_schema.specs.declared.command.Command.{Command}
+use Rattle.tables.specs.Calls.{Alters, Stays}
 use Rattle.tables.proofs.Queries.{program_on, selects}
 use Rattle.tables.proofs.Single.{HasOneAtMost, one_order}
 use Rattle.tables.proofs.Writes.{IsCommand}
@@ -30,6 +31,12 @@ module _ {S X E : Type 0} {IsFit : Database → Type 0} {Is : Trees → X → Ty
     looks = λ is. looks (plain_in text command it old.schema is);
     asks = asks;
   }
+
+-- a statement of a transaction alters one table
+pub alters : {S X E : Type 0} {IsFit : List Row → Type 0} {change : List Row → List Row} {r : Result X E} (g : Ghosts S) (old new : Held S) (tree : ℕ)
+    → (HasCleanDisk (state g new) → old.schema ≡ tables.schema → IsFit ((state g old).now.trees tree) → OnOk r (Changes tree (change ((state g old).now.trees tree)) (state g old).now (state g new).now))
+    → Stays g old new r → Proceeds (state g old) (state g new) → Alters g tree IsFit change old new r
+alters g old new tree ok inside proceeds = record { ok = ok; inside = inside; proceeds = proceeds }
 
 -- what is made of an answer is told of it, and an error tells nothing
 module _ {S X Y E : Type 0} {IsFit : Database → Type 0} {Is : Trees → X → Type 0} {IsOther : Trees → Y → Type 0} (g : Ghosts S) (old new : Held S) where

@@ -1,5 +1,5 @@
 -- What the statements on local documents mean.
-use Rattle.tables.proofs.Common.{AreKeyed, Blob, Changes, Delete, Err, IfOk, Insert, Int, IsStore, List, Null, Ok, OnOk, Program, Ran, Result, Row, Select, Shown, State, Term, Text, Values, [], cast_row, codes, col, everything, false, filter, is_in, is_of, lit, local_cells, locals_table, locals_tree, map, not, pos, refl, schema, shown_local, subst, understood, with_cells, ℕ, ℤ, ◌∷◌, ◌≡◌}
+use Rattle.tables.proofs.Common.{AreKeyed, Blob, Changes, Delete, IfOk, Insert, Int, IsStore, List, Null, OnOk, Program, Ran, Result, Row, Select, Shown, State, Term, Text, Values, [], cast_row, codes, col, everything, filter, is_in, is_of, lit, local_cells, locals_table, locals_tree, map, not, pos, refl, schema, shown_local, understood, with_cells, ℕ, ℤ, ◌∷◌, ◌≡◌}
 use Rattle.tables.proofs.Cells.{by_db, by_id, cast_null, cast_int, tests_db, tests_id}
 use Rattle.tables.proofs.Queries.{program_on}
 use Rattle.tables.proofs.Single.{inserts_row}

@@ -1,5 +1,5 @@
 -- What the statement on the version means.
-use Rattle.tables.proofs.Common.{IfOk, IsPermutation, List, Result, Row, Select, Shown, State, [], all_of, ap, arith, codes, col, everything, false, filter_all, is_first, length_permutation, map, meta_tree, one_permutation, refl, schema, shown_version, shows_first, subst, true, understood, ℕ, ◌∷◌, ◌≡◌}
+use Rattle.tables.proofs.Common.{IfOk, IsPermutation, List, Result, Row, Select, Shown, State, [], all_of, ap, arith, codes, col, everything, filter_all, is_first, length_permutation, map, meta_tree, one_permutation, refl, schema, shown_version, shows_first, subst, true, understood, ℕ, ◌∷◌, ◌≡◌}
 use Rattle.tables.proofs.Finds.{finds_where}
 use Rattle.tables.proofs.Queries.{program_on}
 use Rattle.tables.proofs.Writes.{IsCommand}

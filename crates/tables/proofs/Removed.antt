@@ -1,5 +1,5 @@
 -- The databases that the tables hold after one is removed with all its rows.
-use Rattle.tables.proofs.Common.{AllByRecursion, AreLawful, Changes, IsDatabaseRow, IsDocumentRow, IsLaid, IsLocalRow, IsRevisionRow, IsStore, List, Row, Some, Trees, all-filter, all_both, all_weaker, and_parts, ap, ap₂, arith, ascending-filter, bytes_eq, contents_in, database_of, db_of, dbs_tree, docs_tree, document_of, documents_in, entry_of, false, filter, has_number, history_in, id_of, is_in, is_named, is_of, is_some, lawful_remove, length_of, list_any, local_of, locals_tree, map, name_of, nat_list_cmp_total, not, not-true, number_of, option_map, refl, revision_of, revs_tree, same_int, security_of, slice_get, subst, sym, true, ℕ, ℤ, ∥∥₁_map, ◌∙◌, ◌≡◌, ◌≢◌}
+use Rattle.tables.proofs.Common.{AllByRecursion, AreLawful, Changes, IsDatabaseRow, IsDocumentRow, IsLaid, IsLocalRow, IsRevisionRow, IsStore, List, Row, Some, Trees, all-filter, all_both, all_weaker, and_parts, ap, ap₂, ascending-filter, bytes_eq, contents_in, database_of, db_of, dbs_tree, docs_tree, document_of, documents_in, entry_of, false, filter, has_number, history_in, id_of, is_in, is_named, is_of, is_some, lawful_remove, length_of, list_any, local_of, locals_tree, map, name_of, nat_list_cmp_total, not, not-true, number_of, option_map, refl, revision_of, revs_tree, same_int, security_of, slice_get, subst, sym, true, ℕ, ℤ, ∥∥₁_map, ◌∙◌, ◌≡◌, ◌≢◌}
 use Rattle.std.specs.FinMap as finite
 use Rattle.std.specs.Ordering.{int_eq}
 use Rattle.sqlite.specs.Effect as sqlite

@@ -1,5 +1,5 @@
 -- What the statements on revisions mean.
-use Rattle.tables.proofs.Common.{AreKeyed, Blob, Bool, Changes, Delete, Err, IfOk, Insert, Int, IsPermutation, IsStore, List, Null, Ok, OnOk, Ran, Result, Row, Select, Shown, State, Term, Text, Value, Values, [], as_text, cast_row, codes, col, cond, everything, false, filter, given_cells, is_in, is_of, lit, map, not, pos, refl, revs_table, revs_tree, schema, shown_revision, subst, understood, with_cells, ℕ, ℤ, ◌∷◌, ◌≡◌}
+use Rattle.tables.proofs.Common.{AreKeyed, Blob, Bool, Changes, Delete, IfOk, Insert, Int, IsPermutation, IsStore, List, Null, OnOk, Ran, Result, Row, Select, Shown, State, Term, Text, Value, Values, [], as_text, cast_row, codes, col, cond, everything, filter, given_cells, is_in, is_of, lit, map, not, pos, refl, revs_table, revs_tree, schema, shown_revision, understood, with_cells, ℕ, ℤ, ◌∷◌, ◌≡◌}
 use Rattle.tables.proofs.Cells.{by_db, by_id, cast_null, cast_int, tests_db, tests_id}
 use Rattle.tables.proofs.Deletes.{deletes_where}
 use Rattle.tables.proofs.Finds.{finds_where}

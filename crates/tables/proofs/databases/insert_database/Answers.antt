@@ -1,11 +1,9 @@
-use Rattle.tables.proofs.Lemmas.{inserts_database, state}
+use Rattle.tables.proofs.Lemmas.{alters, dbs_tree, inserts_database, state}
 use Rattle.tables.proofs.databases.insert_database.Goals as goal
 
 pub returns-clause-alters : goal.returns-clause-alters
-returns-clause-alters g c = record {
-  ok = λ clean has laid.
-      inserts_database (state g.S.Store c.args.tx.now.conn.now) (state g.S.Store c.change.new.tx.conn.now) has laid c.args.name.now c.args.security.now c.change.result
-      (rw (c.params-to_sql.ensures, c.params-to_sql-2.ensures) at (c.change.ensures.ok clean));
-  inside = c.change.ensures.inside;
-  proceeds = c.change.ensures.proceeds;
-}
+returns-clause-alters g c =
+    alters g.S.Store c.args.tx.now.conn.now c.change.new.tx.conn.now dbs_tree
+    (λ clean has laid. inserts_database (state g.S.Store c.args.tx.now.conn.now) (state g.S.Store c.change.new.tx.conn.now) has laid c.args.name.now c.args.security.now c.change.result
+    (rw (c.params-to_sql.ensures, c.params-to_sql-2.ensures) at (c.change.ensures.ok clean)))
+    c.change.ensures.inside c.change.ensures.proceeds

@@ -1,11 +1,9 @@
-use Rattle.tables.proofs.Lemmas.{inserts_document, state}
+use Rattle.tables.proofs.Lemmas.{alters, docs_tree, inserts_document, state}
 use Rattle.tables.proofs.documents.insert_document.Goals as goal
 
 pub returns-clause-alters : goal.returns-clause-alters
-returns-clause-alters g c = record {
-  ok = λ clean has keyed.
-      inserts_document (state g.S.Store c.args.tx.now.conn.now) (state g.S.Store c.change.new.tx.conn.now) has keyed c.args.db.now c.args.id.now c.args.sequence.now c.args.winner.now c.args.deleted c.change.result
-      (rw (c.params-to_sql.ensures, c.params-to_sql-2.ensures, c.params-to_sql-3.ensures, c.params-to_sql-4.ensures, c.params-to_sql-5.ensures) at (c.change.ensures.ok clean));
-  inside = c.change.ensures.inside;
-  proceeds = c.change.ensures.proceeds;
-}
+returns-clause-alters g c =
+    alters g.S.Store c.args.tx.now.conn.now c.change.new.tx.conn.now docs_tree
+    (λ clean has keyed. inserts_document (state g.S.Store c.args.tx.now.conn.now) (state g.S.Store c.change.new.tx.conn.now) has keyed c.args.db.now c.args.id.now c.args.sequence.now c.args.winner.now c.args.deleted c.change.result
+    (rw (c.params-to_sql.ensures, c.params-to_sql-2.ensures, c.params-to_sql-3.ensures, c.params-to_sql-4.ensures, c.params-to_sql-5.ensures) at (c.change.ensures.ok clean)))
+    c.change.ensures.inside c.change.ensures.proceeds

@@ -1,4 +1,4 @@
-use Rattle.sqlstore.proofs.Lemmas.{AreDue, Held, IsKnown, IsWritten, Some, addition_of, additions, advances, ap, appends, at_sequence, contents_in, dbs_tree, dropped, filter, found_in, is_named, known_after, known_values, length, length-map, option_map, slice_get, some_contents_set, stands, state, subst, sym, told, undone, ∥∥₁_map, ∥∥₁_prop, ◌+◌, ◌∙◌}
+use Rattle.sqlstore.proofs.Lemmas.{AreDue, Held, IsKnown, IsWritten, Some, addition_of, additions, advances, ap, appends, at_sequence, contents_in, dropped, known_after, length, length-map, some_contents_set, stands, state, subst, sym, told, undone, ∥∥₁_map, ∥∥₁_prop, ◌+◌, ◌∙◌}
 use Rattle.sqlstore.proofs.Committed.{due_at, sound, told as told_of}
 use Rattle.sqlstore.proofs.sql_store.SqlStore.append.Goals as goal
 

@@ -1,4 +1,4 @@
-use Rattle.sqlstore.proofs.Lemmas.{Bool, Err, Full, Held, addition_of, additions, ap, arith, false, length, length-map, missing, moves_then, numbers_in, rules, same_contents, state, there, trees_of, true, unchanged, was_honest, whole, ◌≡◌}
+use Rattle.sqlstore.proofs.Lemmas.{Bool, Err, Held, addition_of, additions, ap, arith, false, length, length-map, missing, numbers_in, rules, state, there, trees_of, true, was_honest, ◌≡◌}
 use Rattle.sqlstore.proofs.Committed.{due_at, due_there, lacks_there}
 use Rattle.sqlstore.proofs.sql_store.calls.SqlStoreStore.commit.Goals as goal
 

@@ -1,4 +1,4 @@
-use Rattle.sqlstore.proofs.Lemmas.{moves_then, none_if, on_ok, same_contents, unchanged, whole}
+use Rattle.sqlstore.proofs.Lemmas.{none_if, on_ok}
 use Rattle.sqlstore.proofs.Changing.{was_honest}
 use Rattle.sqlstore.proofs.sql_store.calls.SqlStoreStore.create.Goals as goal
 

@@ -1,4 +1,4 @@
-use Rattle.sqlstore.proofs.Lemmas.{Answers, DatabaseNumbers, Err, HistoryContent, Option, Some, Trees, afterwards, ap, contents_of, history_at, history_in, history_there, laid, not_found, numbers_in, option_map, reads, revs_tree, rules, stands_same, stands_then, subst, sym, there, trees_of, was_honest, ◌∙◌, ◌≡◌}
+use Rattle.sqlstore.proofs.Lemmas.{Answers, DatabaseNumbers, Err, HistoryContent, Option, Some, Trees, afterwards, ap, contents_of, history_at, history_in, history_there, laid, not_found, numbers_in, option_map, revs_tree, rules, stands_same, subst, sym, there, trees_of, was_honest, ◌∙◌, ◌≡◌}
 use Rattle.std.specs.FinMap as finite
 use Rattle.store.specs.Database.{Database}
 use Rattle.sqlstore.proofs.sql_store.calls.SqlStoreStore.history.Goals as goal

@@ -1,4 +1,4 @@
-use Rattle.sqlstore.proofs.Lemmas.{Answers, DatabaseNumbers, Err, Held, List, LocalDocument, Option, answered, ap, contents_of, filter, is_of, laid, local_at, local_intact, local_there, locals_tree, map, not_found, numbers_in, option_map, reads, rules, shown_local, stands_then, state, subst, sym, there, trees_of, was_honest, ℕ, ∥∥₁_elim, ◌∙◌, ◌≡◌}
+use Rattle.sqlstore.proofs.Lemmas.{Answers, DatabaseNumbers, Err, Held, List, LocalDocument, Option, answered, ap, contents_of, filter, is_of, laid, local_at, local_intact, local_there, locals_tree, map, not_found, numbers_in, option_map, rules, shown_local, stands_then, state, subst, sym, there, trees_of, was_honest, ℕ, ∥∥₁_elim, ◌∙◌, ◌≡◌}
 use Rattle.std.specs.FinMap as finite
 use Rattle.store.specs.Database.{Database}
 use Rattle.sqlstore.proofs.sql_store.calls.SqlStoreStore.local.Goals as goal

@@ -1,4 +1,4 @@
-use Rattle.sqlstore.proofs.Lemmas.{answered, laid, names_intact, names_set, names_there, reads, trees_of, was_honest, ∥∥₁_elim, ◌∙◌}
+use Rattle.sqlstore.proofs.Lemmas.{answered, laid, names_intact, names_set, names_there, trees_of, was_honest, ∥∥₁_elim, ◌∙◌}
 use Rattle.sqlstore.proofs.sql_store.calls.SqlStoreStore.names.Goals as goal
 
 pub returns-clause-answer : goal.returns-clause-answer

@@ -1,4 +1,4 @@
-use Rattle.sqlstore.proofs.Lemmas.{Answers, DatabaseNumbers, Err, IdPage, Option, Some, Trees, afterwards, ap, contents_of, id_page, id_page_of, id_page_there, laid, listed_by_id, live_rows, not_found, numbers_in, option_map, page_of_ids, reads, rules, stands_same, stands_then, subst, sym, there, trees_of, was_honest, ◌∙◌, ◌≡◌}
+use Rattle.sqlstore.proofs.Lemmas.{Answers, DatabaseNumbers, Err, IdPage, Option, Some, Trees, afterwards, ap, contents_of, id_page, id_page_of, id_page_there, laid, listed_by_id, live_rows, not_found, numbers_in, option_map, page_of_ids, rules, stands_same, subst, sym, there, trees_of, was_honest, ◌∙◌, ◌≡◌}
 use Rattle.std.specs.FinMap as finite
 use Rattle.store.specs.Database.{Database}
 use Rattle.store.specs.declared.page.PageById.{PageById}

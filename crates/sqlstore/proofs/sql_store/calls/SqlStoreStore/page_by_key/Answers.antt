@@ -1,4 +1,4 @@
-use Rattle.sqlstore.proofs.Lemmas.{Answers, DatabaseNumbers, Err, KeyPage, None, Option, Some, Trees, ap, contents_of, history_in, index_fields_of, key_page, key_page_there, laid, listed_by_id, listed_id, map, no_index_there, not_found, numbers_in, option_map, page_of_keys, places_of, reads, revs_tree, rules, same_values, stands_same, stands_then, subst, sym, there, trees_of, was_honest, ◌∙◌, ◌≡◌}
+use Rattle.sqlstore.proofs.Lemmas.{Answers, DatabaseNumbers, Err, KeyPage, None, Option, Some, Trees, ap, contents_of, history_in, index_fields_of, key_page, key_page_there, laid, listed_by_id, listed_id, map, no_index_there, not_found, numbers_in, option_map, page_of_keys, places_of, revs_tree, rules, same_values, stands_same, stands_then, subst, sym, there, trees_of, was_honest, ◌∙◌, ◌≡◌}
 use Rattle.std.specs.FinMap as finite
 use Rattle.store.specs.Database.{Database}
 use Rattle.store.specs.KeyPaging.{key_page_in}

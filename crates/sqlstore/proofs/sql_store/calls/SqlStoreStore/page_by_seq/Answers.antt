@@ -1,4 +1,4 @@
-use Rattle.sqlstore.proofs.Lemmas.{Answers, DatabaseNumbers, Err, Option, SequencePage, Some, Trees, afterwards, ap, contents_of, false, history_in, laid, leaves_there, listed_by_sequence, not_found, numbers_in, option_map, page_by_sequence, page_with_leaves, reads, revs_tree, rules, same_values, sequence_page_of, stands_same, stands_then, subst, sym, there, trees_of, true, was_honest, winners_page, winners_there, ◌∙◌, ◌≡◌}
+use Rattle.sqlstore.proofs.Lemmas.{Answers, DatabaseNumbers, Err, Option, SequencePage, Some, Trees, afterwards, ap, contents_of, false, history_in, laid, leaves_there, listed_by_sequence, not_found, numbers_in, option_map, page_by_sequence, page_with_leaves, revs_tree, rules, same_values, sequence_page_of, stands_same, stands_then, subst, sym, there, trees_of, true, was_honest, winners_page, winners_there, ◌∙◌, ◌≡◌}
 use Rattle.std.specs.FinMap as finite
 use Rattle.store.specs.Database.{Database}
 use Rattle.store.specs.declared.page.PageBySeq.{PageBySeq}

@@ -1,4 +1,4 @@
-use Rattle.sqlstore.proofs.Lemmas.{Err, ap, is_some, missing, moves_then, numbers_in, on_ok, rules, same_contents, there, trees_of, unchanged, whole, ◌≡◌}
+use Rattle.sqlstore.proofs.Lemmas.{Err, ap, is_some, missing, numbers_in, on_ok, rules, there, trees_of, ◌≡◌}
 use Rattle.sqlstore.proofs.Changing.{was_honest}
 use Rattle.sqlstore.proofs.sql_store.calls.SqlStoreStore.remove.Goals as goal
 

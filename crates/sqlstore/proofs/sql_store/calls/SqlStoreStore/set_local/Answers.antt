@@ -1,4 +1,4 @@
-use Rattle.sqlstore.proofs.Lemmas.{Err, IfThere, IsBody, missing, moves_then, numbers_in, rules, same_contents, subst, there, trees_of, unchanged, was_honest, whole, ◌≡◌}
+use Rattle.sqlstore.proofs.Lemmas.{Err, IfThere, IsBody, missing, numbers_in, rules, subst, there, trees_of, was_honest, ◌≡◌}
 use Rattle.sqlstore.proofs.sql_store.calls.SqlStoreStore.set_local.Goals as goal
 
 pub returns-in_err-found-clause-missing : goal.returns-in_err-found-clause-missing

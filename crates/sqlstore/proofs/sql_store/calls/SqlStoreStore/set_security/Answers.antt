@@ -1,4 +1,4 @@
-use Rattle.sqlstore.proofs.Lemmas.{Err, missing, moves_then, rules, same_contents, unchanged, whole, ◌≡◌}
+use Rattle.sqlstore.proofs.Lemmas.{Err, missing, rules, ◌≡◌}
 use Rattle.sqlstore.proofs.sql_store.calls.SqlStoreStore.set_security.Goals as goal
 
 pub returns-in_err-found-clause-missing : goal.returns-in_err-found-clause-missing
