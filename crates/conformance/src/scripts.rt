@@ -1,4 +1,5 @@
-use lab::{ProgramFault, play_script};
+use command_line::ProgramFault;
+use lab::play_script;
 use std::io;
 use std::io::{BufRead, ErrorKind, Read};
 use std::test::Fail;

@@ -2,7 +2,7 @@
 
 use crate::client::{node, request, store};
 use hub::{Hub, ServiceEnd, serve_connection};
-use lab::{open_hub, serve};
+use server::{open_hub, serve};
 use std::alloc::Global;
 use std::io::{Read, Write};
 use std::net::{Ipv4Addr, Shutdown, SocketAddr, TcpListener, TcpStream};

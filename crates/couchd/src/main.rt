@@ -1,16 +1,11 @@
 //! The program `couchd`: a laboratory that plays a script of nodes and connections, and a server.
 #![tactic(auto)]
 
-mod serve;
-mod store_file;
-
-use crate::serve::serve_file;
-use lab::{Plan, PlanFault, ProgramFault, Refusal, lab, plan};
+use command_line::{Plan, Refusal, plan, words_of};
+use lab::play_input;
+use server::serve_file;
 use sqlite::Unknown;
-use std::env::Env;
-use std::io::{BufReader, BufWriter, Write};
 use std::process::ExitCode;
-use std::{env, io};
 
 /// Reads the command line and does what it says. The status is 0 at the end; 1 for a fault, with
 /// `couchd: ` and `file`, `socket`, `line N` or `memory` on standard error; 2 where the command line
@@ -29,7 +24,7 @@ fn main(rt: HostRuntime) -> ExitCode {
 fn run(rt: &HostRuntime) -> Result<u8, Refusal> {
     let words = words_of(rt)?;
     match plan(rt.alloc(), words.as_slice())? {
-        Plan::Lab { secret, admins } => Ok(play(rt, secret.as_str(), admins.as_slice())?),
+        Plan::Lab { secret, admins } => Ok(play_input(rt, secret.as_str(), admins.as_slice())?),
         Plan::Serve {
             secret,
             file,
@@ -49,27 +44,4 @@ fn run(rt: &HostRuntime) -> Result<u8, Refusal> {
             )?)
         }
     }
-}
-
-/// Returns the words of the command line. One that is no text makes them invalid.
-fn words_of<R: Env + AllocGlobal>(rt: &R) -> Result<Vec<String>, PlanFault> {
-    match env::args(rt) {
-        Ok(words) => Ok(words.collect(rt.alloc())?),
-        Err(error) if error.kind() == io::ErrorKind::OutOfMemory => Err(PlanFault::Memory),
-        Err(_) => Err(PlanFault::Usage),
-    }
-}
-
-/// Plays the script on standard input. What was printed stands, whatever comes after it.
-fn play<R: Input + Print + AllocGlobal>(
-    rt: &R,
-    secret: &str,
-    admins: &[String],
-) -> Result<u8, ProgramFault> {
-    let alloc = rt.alloc();
-    let mut reader = BufReader::new(alloc, rt.reader())?;
-    let mut writer = BufWriter::new(alloc, io::writer(rt))?;
-    let result = lab(alloc, secret, admins, &mut reader, &mut writer);
-    writer.flush()?;
-    result
 }

@@ -1,4 +1,3 @@
-pub mod Asking
 pub mod EscapeLemmas
 pub mod LayoutLemmas
 pub mod Names
@@ -7,4 +6,3 @@ pub mod PlayLemmas
 pub mod ReplyLemmas
 pub mod RunLemmas
 pub mod SceneLemmas
-pub mod ServingLemmas

@@ -8,7 +8,7 @@ use Rattle.lab.specs.Playing.{AreLines, Prints, ReadsLines, after_lines, fault_a
 use Rattle.lab.specs.Script.{line_of}
 use Rattle.lab.specs.declared.fault.LineFault.{LineFault}
 use Rattle.lab.specs.declared.fault.LineFault.TheVariants as line
-use Rattle.lab.specs.declared.fault.ProgramFault.TheVariants as program
+use Rattle.command_line.specs.declared.fault.ProgramFault.TheVariants as program
 use Rattle.lab.proofs.ReplyLemmas.{Appends-then}
 
 pub OnOk-then : {T E P Q : Type 0} (r : Result T E) → OnOk r P → (P → Q) → OnOk r Q

@@ -3,11 +3,9 @@ pub mod Escapes
 pub mod PassLines
 pub mod Script
 pub mod Lines
-pub mod Plan
 pub mod Printed
 pub mod Replies
 pub mod Playing
 pub mod Naming
 pub mod Scene
 pub mod Stages
-pub mod Serving

@@ -3,11 +3,11 @@
 use Rattle.std.specs.Prelude.{◌≡◌, ◌≢◌, ℕ, zero, suc, true, List, [], Option, Some, is_some, IfSome}
 use Rattle.std.specs.Io.BufRead.{drop_through, first_piece}
 use Rattle.std.specs.Io.KnownBytes.{Appends}
+use Rattle.command_line.specs.declared.fault.ProgramFault.{ProgramFault}
+use Rattle.command_line.specs.declared.fault.ProgramFault.TheVariants as program
 use Rattle.lab.specs.Script.{line_of}
 use Rattle.lab.specs.declared.fault.LineFault.{LineFault}
 use Rattle.lab.specs.declared.fault.LineFault.TheVariants as line
-use Rattle.lab.specs.declared.fault.ProgramFault.{ProgramFault}
-use Rattle.lab.specs.declared.fault.ProgramFault.TheVariants as program
 
 -- a script without its first so many lines
 abbrev pub after_lines : ℕ → List ℕ → List ℕ
@@ -31,7 +31,3 @@ abbrev pub fault_at : LineFault → ℕ → ProgramFault
 fault_at line.Line n = program.Line n
 fault_at line.File n = program.File
 fault_at line.Memory n = program.Memory
-
--- the fault is of no line
-abbrev pub IsOfNoLine : ProgramFault → Type 0
-IsOfNoLine fault = (n : ℕ) → fault ≢ program.Line n

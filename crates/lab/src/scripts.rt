@@ -3,18 +3,20 @@
 ghost use Rattle.std.specs.Prelude.{◌≡◌, ℕ, Err, Some, false, [], IfErr, IfOk, IfSome, OnOk, map, string_bytes};
 ghost use Rattle.std.specs.Io.BufRead.{drop_through, strip_last, take_through};
 ghost use Rattle.std.specs.Io.KnownBytes.{IsAtEnd, Keeps};
-ghost use Rattle.lab.specs.Playing.{AreLines, IsOfNoLine, Prints, ReadsLines};
+ghost use Rattle.command_line.specs.Faults.{IsOfNoLine};
+ghost use Rattle.lab.specs.Playing.{AreLines, Prints, ReadsLines};
 ghost use Rattle.lab.specs.Lines.{said_by};
 ghost use Rattle.lab.specs.Scene.{Plays, PlaysBefore, PlaysScript, laying, running};
 ghost use Rattle.lab.specs.Stages.{AreBytesPlayed, IsLinePlayed, configuration_of, nodes_of, names_of, scene_of};
 
-use crate::fault::{LineFault, ProgramFault};
+use crate::fault::LineFault;
 use crate::lab_store::LabStore;
 use crate::layout::Layout;
 use crate::line::{Line, read_line};
 use crate::running::Running;
 use crate::server::Server;
 use crate::stage::Stage;
+use command_line::ProgramFault;
 use sqlstore::MemoryStore;
 use std::alloc::Global;
 use std::io::{BufRead, Write};

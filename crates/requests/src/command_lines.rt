@@ -1,5 +1,5 @@
 use crate::texts::text_of;
-use lab::{Plan, PlanFault, Refusal, plan};
+use command_line::{Plan, PlanFault, Refusal, plan};
 use rows::{Kind, RowsFault, push_all};
 use std::alloc::Global;
 

@@ -1,5 +1,6 @@
 use crate::texts::answer;
-use lab::{LabStore, Refusal, play_script};
+use command_line::Refusal;
+use lab::{LabStore, play_script};
 use rows::{Joint, Kind, RowsFault};
 use std::alloc::Global;
 use std::marker::PhantomData;

@@ -20,11 +20,12 @@ mod kind;
 mod line;
 mod listing;
 mod names;
+mod playing;
 mod report;
 
 pub use escapes::{escape, escape_of, push_all, unescape};
 pub use fault::RowsFault;
 pub use file::{Row, RowFile, Table, read_file};
 pub use kind::{Joint, Kind};
-pub use listing::file_names;
-pub use report::{Report, play};
+pub use playing::{Player, play_files};
+pub use report::{Report, RowText, play};

@@ -6,6 +6,17 @@ use crate::file::{Row, Table, read_file};
 use crate::kind::Kind;
 use std::alloc::Global;
 
+/// A file of rows, as a program plays it.
+#[derive(Clone, Copy)]
+pub struct RowText<'a> {
+    /// The name that a report calls it by.
+    pub name: &'a str,
+    /// What stands behind the last dot of its name.
+    pub ending: &'a str,
+    /// What it says.
+    pub text: &'a str,
+}
+
 /// What came of the rows that were played.
 #[derive(Drop)]
 pub struct Report {
@@ -75,15 +86,16 @@ impl Report {
     }
 }
 
-/// Plays the rows of a file of this name and text, and adds what came of them to the report.
-pub fn play<K: Kind>(
+/// Plays the rows of a file, and adds what came of them to the report.
+pub fn play<K: Kind + Drop>(
     alloc: Global,
-    name: &str,
-    text: &str,
-    kind: &mut K,
+    file: RowText<'_>,
+    kind: K,
     report: &mut Report,
 ) -> Result<(), RowsFault> {
-    let file = match read_file(alloc, text, kind.joint()) {
+    let name = file.name;
+    let mut kind = kind;
+    let file = match read_file(alloc, file.text, kind.joint()) {
         Ok(file) => file,
         Err(RowsFault::Line(line, what)) => return report.object(name, line, what),
         Err(fault) => return Err(fault),
@@ -94,7 +106,7 @@ pub fn play<K: Kind>(
         }
     }
     for table in &file.tables {
-        play_table(name, table, kind, report)?;
+        play_table(name, table, &mut kind, report)?;
     }
     Ok(())
 }

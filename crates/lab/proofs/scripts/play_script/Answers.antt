@@ -6,7 +6,7 @@ use Rattle.lab.proofs.PlayLemmas.{AreLines-end, Keeps-prints, Prints-then, Reads
 use Rattle.lab.proofs.SceneLemmas.{AreBytesPlayed-line, AreBytesPlayed-prints, HasPlayed-more, PlaysBefore-fault, PlaysScript-end}
 use Rattle.lab.specs.Playing.{fault_at}
 use Rattle.lab.specs.Stages.{AreBytesPlayed, scene_of}
-use Rattle.lab.specs.declared.fault.ProgramFault.TheVariants as program
+use Rattle.command_line.specs.declared.fault.ProgramFault.TheVariants as program
 use Rattle.lab.proofs.scripts.play_script.Goals as goal
 
 pub returns-then-not-branch-clause-lines : goal.returns-then-not-branch-clause-lines

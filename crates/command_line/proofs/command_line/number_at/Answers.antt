@@ -1,0 +1,24 @@
+use Rattle.std.proofs.Common.{◌≡◌, ◌∙◌, ℕ, Option, Some, ap, sym, option_and_then}
+use Rattle.clap.specs.Words.{Text, first_of, found_of, rows_of}
+use Rattle.clap.proofs.WalkLemmas.{first_value-rows}
+use Rattle.command_line.specs.Plan.{number_between}
+use Rattle.command_line.proofs.command_line.number_at.Goals as goal
+
+abbrev read : ℕ → ℕ → Option Text → Option ℕ
+read least most text = option_and_then (number_between least most) text
+
+pub returns-in_default-clause-usage : goal.returns-in_default-clause-usage
+returns-in_default-clause-usage c =
+    ap (read c.args.least c.args.most) (sym (c.in_default.ensures ∙ first_value-rows (found_of c.args.matches.now) c.args.name.now))
+
+pub returns-in-Some-read_number-clause-ok : goal.returns-in-Some-read_number-clause-ok
+returns-in-Some-read_number-clause-ok c =
+    let first : first_of c.args.name.now (rows_of (found_of c.args.matches.now)) ≡ Some c.in-Some.text.now =
+    sym (c.in-Some.ensures ∙ first_value-rows (found_of c.args.matches.now) c.args.name.now) in
+    ap (read c.args.least c.args.most) first ∙ sym c.in-Some-read_number.ensures.number
+
+pub returns-in-None-clause-usage : goal.returns-in-None-clause-usage
+returns-in-None-clause-usage c =
+    let first : first_of c.args.name.now (rows_of (found_of c.args.matches.now)) ≡ Some c.in-Some.text.now =
+    sym (c.in-Some.ensures ∙ first_value-rows (found_of c.args.matches.now) c.args.name.now) in
+    ap (read c.args.least c.args.most) first ∙ sym c.in-None.ensures.number

@@ -1,0 +1,114 @@
+-- What the words of a command line ask for.
+-- How words are read is clap's, as the kit's definitions of it say; the commands, their words and the range of their numbers are this project's own.
+use Rattle.std.specs.Prelude.{ℕ, Bool, true, ◌&&◌, nat_le, nat_lt, length, List, [], ◌∷◌, map, codes, Option, Some, None, option_map, option_and_then, unwrap_or, bytes_eq, string_bytes, if◌then◌else◌}
+use Rattle.std.specs.Char.{is_ascii_digit}
+use Rattle.std.specs.List.{list_all}
+use Rattle.std.specs.Str.Parse.{digits_value}
+use Rattle.clap.specs.declared.builder.ArgAction.TheVariants.{Set, Append}
+use Rattle.clap.specs.Words.{App, Kinds, Row, Rule, Shape, Text, all_of, fault_of, first_of, new_app, new_rule, subcommand_of, with_rule, with_subcommand}
+use Rattle.command_line.specs.declared.plans.Plan.{Plan}
+use Rattle.command_line.specs.declared.plans.Plan.TheVariants.{Lab, Serve}
+
+-- ---- the commands
+
+-- `--NAME VALUE`, which has to be given
+abbrev pub required_option : Text → Rule
+required_option name = record (new_rule name) { long = Some name; action = Some Set; required = true }
+
+-- `[ADMIN]...`
+abbrev pub admin_rule : Rule
+admin_rule = record (new_rule (codes "admin")) { action = Some Append }
+
+-- a command of this name without words
+abbrev pub command_named : Text → App
+command_named name = record { top = record ((new_app name).top) { disable_help_flag = true }; subs = [] }
+
+-- `lab --secret S [ADMIN]...`
+abbrev pub lab_command : Shape
+lab_command = (with_rule (with_rule (command_named (codes "lab")) (required_option (codes "secret"))) admin_rule).top
+
+-- `serve --secret S --file F --port P --conns N [ADMIN]...`
+abbrev pub serve_command : Shape
+serve_command = (with_rule (with_rule (with_rule (with_rule (with_rule (command_named (codes "serve"))
+    (required_option (codes "secret"))) (required_option (codes "file"))) (required_option (codes "port"))) (required_option (codes "conns"))) admin_rule).top
+
+-- a command that has to be followed by another
+abbrev pub bare_command : App
+bare_command = record { top = record ((new_app (codes "couchd")).top) { disable_help_flag = true; disable_help_subcommand = true; subcommand_required = true }; subs = [] }
+
+-- the program's commands
+abbrev pub couchd_command : App
+couchd_command = with_subcommand (with_subcommand bare_command lab_command) serve_command
+
+-- ---- numbers
+
+-- decimal digits alone, at least one: no sign and no space
+abbrev pub is_numeral : Text → Bool
+is_numeral text = nat_lt 0 (length text) && list_all is_ascii_digit text
+
+-- the number that they write, where it lies between these two
+abbrev pub number_between : ℕ → ℕ → Text → Option ℕ
+number_between least most text =
+    if is_numeral text && (nat_le least (digits_value 10 text) && nat_le (digits_value 10 text) most) then Some (digits_value 10 text) else None
+
+-- a port; 0 stands for any free one
+abbrev pub port_in : Text → Option ℕ
+port_in = number_between 0 65535
+
+-- how many connections are served
+abbrev pub conns_in : Text → Option ℕ
+conns_in = number_between 1 1000000
+
+-- ---- what is asked
+
+-- what a server is to be: its secret and its admins, the path of its file, its port, and after how many connections it ends
+pub record ServerAsked : Type 0 where
+  pub secret : List ℕ
+  pub file : List ℕ
+  pub port : ℕ
+  pub conns : ℕ
+  pub admins : List (List ℕ)
+
+-- what the program is asked to do
+pub data Asked : Type 0 where
+  -- to play a script, with this secret and these admins
+  lab_asked : List ℕ → List (List ℕ) → Asked
+  -- to serve a file
+  serve_asked : ServerAsked → Asked
+
+-- the names of admins among the words
+abbrev pub admins_in : List Row → List Text
+admins_in rows = unwrap_or (all_of (codes "admin") rows) []
+
+-- what the words after `lab` ask for
+abbrev pub lab_asked_by : List Row → Option Asked
+lab_asked_by rows = option_map (λ secret. lab_asked secret (admins_in rows)) (first_of (codes "secret") rows)
+
+-- what the words after `serve` ask for
+abbrev pub serve_asked_by : List Row → Option Asked
+serve_asked_by rows =
+    option_and_then (λ secret. option_and_then (λ file. option_and_then (λ port. option_map (λ conns.
+    serve_asked (record { secret = secret; file = file; port = port; conns = conns; admins = admins_in rows }))
+    (option_and_then conns_in (first_of (codes "conns") rows))) (option_and_then port_in (first_of (codes "port") rows)))
+    (first_of (codes "file") rows)) (first_of (codes "secret") rows)
+
+-- what the command of this name and what clap made of its words ask for
+abbrev pub asked_at : Text → List Row → Option Asked
+asked_at name rows =
+    if bytes_eq name (codes "lab") then lab_asked_by rows
+    else (if bytes_eq name (codes "serve") then serve_asked_by rows else None)
+
+-- the same, where clap has nothing to refuse
+abbrev pub asked_unless : Kinds → Option (Text × List Row) → Option Asked
+asked_unless [] command = option_and_then (λ c. asked_at c.0 c.1) command
+asked_unless (kind ∷ kinds) command = None
+
+-- what the words of a command line ask for, or none; the first is the program's name
+abbrev pub asked_by : List Text → Option Asked
+asked_by words = asked_unless (fault_of couchd_command words) (subcommand_of couchd_command words)
+
+-- the program's plan as the definition's
+abbrev pub asked_of : Plan → Asked
+asked_of (Lab secret admins) = lab_asked (string_bytes secret) (map string_bytes admins.items)
+asked_of (Serve secret file port conns admins) =
+    serve_asked (record { secret = string_bytes secret; file = string_bytes file; port = port; conns = conns; admins = map string_bytes admins.items })

@@ -1,0 +1,258 @@
+//! The command line.
+
+ghost use Rattle.std.specs.Prelude.{◌≡◌, ◌≢◌, ◌≤◌, None, Some, [], false, IfErr, IfOk, IfSome, codes, map, option_and_then, string_bytes, unwrap_or};
+ghost use Rattle.std.specs.Char.{is_ascii_digit};
+ghost use Rattle.std.specs.List.{list_all};
+ghost use Rattle.clap.specs.declared.builder.command.Command.TheViews.{out-Command as fields_of};
+ghost use Rattle.clap.specs.Words.{all_of, app_of, fault_of, first_of, found_of, kind_of, rows_of, rule_of, shape_of, subcommand_of, subcommand_rows_of};
+ghost use Rattle.command_line.specs.Plan.{admin_rule, asked_at, asked_by, asked_of, couchd_command, is_numeral, lab_asked_by, lab_command, number_between, port_in, required_option, serve_asked_by, serve_command};
+
+use crate::plans::{Plan, PlanFault};
+use clap::error::ErrorKind;
+use clap::{Arg, ArgAction, ArgMatches, Command, Error};
+use std::alloc::{AllocError, Global};
+
+/// The greatest port.
+const GREATEST_PORT: u32 = 65_535;
+
+/// How many connections a server serves at most.
+const GREATEST_CONNS: u32 = 1_000_000;
+
+/// Reads the words of a command line, of which the first is the program's name, as in `env::args`.
+///
+/// `Usage` comes if and only if the words ask for nothing that the program does.
+pub fn plan(alloc: Global, words: &[String]) -> Result<Plan, PlanFault>
+    ensures ok { IfOk result (λ plan. asked_by (map string_bytes words.now) ≡ Some (asked_of plan)) }
+    ensures usage { result ≡ Err PlanFault.Usage → asked_by (map string_bytes words.now) ≡ None }
+{
+    match parse(alloc, words) {
+        Ok(matches) => match matches.subcommand() {
+            Some((name, matches)) => plan_at(alloc, name, matches),
+            None => Err(PlanFault::Usage),
+        },
+        Err(error) => Err(fault_of(&error)),
+    }
+}
+
+/// Tells what clap makes of the words.
+fn parse<'a>(alloc: Global, words: &'a [String]) -> Result<ArgMatches<'a>, Error>
+    ensures ok { IfOk result (λ m. fault_of couchd_command (map string_bytes words.now) ≡ []) }
+    ensures command { IfOk result (λ m. subcommand_rows_of m ≡ subcommand_of couchd_command (map string_bytes words.now)) }
+    ensures err { IfErr result (λ e. kind_of e ≢ ErrorKind.OutOfMemory → fault_of couchd_command (map string_bytes words.now) ≢ []) }
+{
+    let command = couchd_command(alloc)?;
+    command.try_get_matches_from(words)
+}
+
+/// Returns the command `couchd`, with the commands `lab` and `serve`.
+fn couchd_command<'a>(alloc: Global) -> Result<Command<'a>, AllocError>
+    ensures { IfOk result (λ command. app_of command ≡ couchd_command) }
+{
+    let lab = lab_command(alloc)?;
+    let serve = serve_command(alloc)?;
+    let couchd = Command::new(alloc, "couchd")
+        .disable_help_flag(true)
+        .disable_help_subcommand(true)
+        .subcommand_required(true)
+        .subcommand(lab)?
+        .subcommand(serve)?;
+    Ok(couchd)
+}
+
+/// Returns the command `lab --secret S [ADMIN]...`.
+fn lab_command<'a>(alloc: Global) -> Result<Command<'a>, AllocError>
+    ensures shape { IfOk result (λ command. shape_of command ≡ lab_command) }
+    ensures local { IfOk result (λ command. (fields_of command).has_globals ≡ false) }
+{
+    let secret = required_option(alloc, "secret");
+    let admins = admin_words(alloc);
+    let lab = Command::new(alloc, "lab")
+        .disable_help_flag(true)
+        .arg(secret)?
+        .arg(admins)?;
+    Ok(lab)
+}
+
+/// Returns the command `serve --secret S --file F --port P --conns N [ADMIN]...`.
+fn serve_command<'a>(alloc: Global) -> Result<Command<'a>, AllocError>
+    ensures shape { IfOk result (λ command. shape_of command ≡ serve_command) }
+    ensures local { IfOk result (λ command. (fields_of command).has_globals ≡ false) }
+{
+    let secret = required_option(alloc, "secret");
+    let file = required_option(alloc, "file");
+    let port = required_option(alloc, "port");
+    let conns = required_option(alloc, "conns");
+    let admins = admin_words(alloc);
+    let serve = Command::new(alloc, "serve")
+        .disable_help_flag(true)
+        .arg(secret)?
+        .arg(file)?
+        .arg(port)?
+        .arg(conns)?
+        .arg(admins)?;
+    Ok(serve)
+}
+
+/// Returns the argument `--NAME VALUE`, which has to be given.
+fn required_option<'a>(alloc: Global, name: &'a str) -> Arg<'a>
+    ensures rule { rule_of result ≡ required_option name.now }
+    ensures local { result.global ≡ false }
+{
+    Arg::new(alloc, name)
+        .long(name)
+        .required(true)
+        .action(ArgAction::Set)
+}
+
+/// Returns the argument `[ADMIN]...`.
+fn admin_words<'a>(alloc: Global) -> Arg<'a>
+    ensures rule { rule_of result ≡ admin_rule }
+    ensures local { result.global ≡ false }
+{
+    Arg::new(alloc, "admin").action(ArgAction::Append)
+}
+
+/// Returns the plan of the command of this name, with what clap made of its words.
+fn plan_at(alloc: Global, name: &str, matches: &ArgMatches<'_>) -> Result<Plan, PlanFault>
+    ensures ok { IfOk result (λ plan. asked_at name.now (rows_of (found_of matches.now)) ≡ Some (asked_of plan)) }
+    ensures usage { result ≡ Err PlanFault.Usage → asked_at name.now (rows_of (found_of matches.now)) ≡ None }
+{
+    if name == "lab" {
+        lab_plan(alloc, matches)
+    } else if name == "serve" {
+        serve_plan(alloc, matches)
+    } else {
+        Err(PlanFault::Usage)
+    }
+}
+
+/// Returns the plan of the words after `lab`.
+fn lab_plan(alloc: Global, matches: &ArgMatches<'_>) -> Result<Plan, PlanFault>
+    ensures ok { IfOk result (λ plan. lab_asked_by (rows_of (found_of matches.now)) ≡ Some (asked_of plan)) }
+    ensures usage { result ≡ Err PlanFault.Usage → lab_asked_by (rows_of (found_of matches.now)) ≡ None }
+{
+    let secret = text_at(alloc, matches, "secret")?;
+    let admins = admins_of(alloc, matches)?;
+    Ok(Plan::Lab { secret, admins })
+}
+
+/// Returns the plan of the words after `serve`.
+fn serve_plan(alloc: Global, matches: &ArgMatches<'_>) -> Result<Plan, PlanFault>
+    ensures ok { IfOk result (λ plan. serve_asked_by (rows_of (found_of matches.now)) ≡ Some (asked_of plan)) }
+    ensures usage { result ≡ Err PlanFault.Usage → serve_asked_by (rows_of (found_of matches.now)) ≡ None }
+{
+    let secret = text_at(alloc, matches, "secret")?;
+    let file = text_at(alloc, matches, "file")?;
+    let port = port_of(matches)?;
+    let conns = number_at(matches, "conns", 1, GREATEST_CONNS)?;
+    let admins = admins_of(alloc, matches)?;
+    Ok(Plan::Serve {
+        secret,
+        file,
+        port,
+        conns,
+        admins,
+    })
+}
+
+/// Returns the value of an option.
+fn text_at(alloc: Global, matches: &ArgMatches<'_>, name: &str) -> Result<String, PlanFault>
+    ensures ok { IfOk result (λ text. first_of name.now (rows_of (found_of matches.now)) ≡ Some (string_bytes text)) }
+    ensures usage { result ≡ Err PlanFault.Usage → first_of name.now (rows_of (found_of matches.now)) ≡ None }
+{
+    let Some(text) = matches.get_str(name) else {
+        return Err(PlanFault::Usage);
+    };
+    let text = String::from_str(alloc, text)?;
+    Ok(text)
+}
+
+/// Returns the port among the words.
+fn port_of(matches: &ArgMatches<'_>) -> Result<u16, PlanFault>
+    ensures ok { IfOk result (λ port. option_and_then port_in (first_of (codes "port") (rows_of (found_of matches.now))) ≡ Some port) }
+    ensures usage { result ≡ Err PlanFault.Usage → option_and_then port_in (first_of (codes "port") (rows_of (found_of matches.now))) ≡ None }
+{
+    let port = number_at(matches, "port", 0, GREATEST_PORT)?;
+    Ok(port as u16)
+}
+
+/// Returns the number between two others that is the value of an option.
+fn number_at(matches: &ArgMatches<'_>, name: &str, least: u32, most: u32) -> Result<u32, PlanFault>
+    ensures ok { IfOk result (λ number. option_and_then (number_between least most) (first_of name.now (rows_of (found_of matches.now))) ≡ Some number) }
+    ensures usage { IfErr result (λ _. option_and_then (number_between least most) (first_of name.now (rows_of (found_of matches.now))) ≡ None) }
+    ensures most { IfOk result (λ number. number ≤ most) }
+{
+    let Some(text) = matches.get_str(name) else {
+        return Err(PlanFault::Usage);
+    };
+    match read_number(text, least, most) {
+        Some(number) => Ok(number),
+        None => Err(PlanFault::Usage),
+    }
+}
+
+/// Reads a number between two others, in decimal digits alone.
+fn read_number(text: &str, least: u32, most: u32) -> Option<u32>
+    ensures number { result ≡ number_between least most text.now }
+    ensures most { IfSome result (λ number. number ≤ most) }
+{
+    if !is_numeral(text) {
+        return None;
+    }
+    let Ok(number) = text.parse::<u32>() else {
+        return None;
+    };
+    if number < least {
+        return None;
+    }
+    if number > most {
+        return None;
+    }
+    Some(number)
+}
+
+/// Tells whether a text is decimal digits alone, at least one.
+fn is_numeral(text: &str) -> bool
+    ensures { result ≡ is_numeral text.now }
+{
+    !text.is_empty() && are_digits(text.as_bytes())
+}
+
+/// Tells whether all bytes are decimal digits.
+fn are_digits(bytes: &[u8]) -> bool
+    ensures { result ≡ list_all is_ascii_digit bytes.now }
+{
+    bytes.iter().all(|byte| byte.is_ascii_digit())
+}
+
+/// Returns the names of admins among the words.
+fn admins_of(alloc: Global, matches: &ArgMatches<'_>) -> Result<Vec<String>, AllocError>
+    ensures { IfOk result (λ names. map string_bytes names.items ≡ unwrap_or (all_of (codes "admin") (rows_of (found_of matches.now))) []) }
+{
+    match matches.get_strs("admin") {
+        Some(names) => copies(alloc, names),
+        None => Ok(Vec::new(alloc)),
+    }
+}
+
+/// Copies of texts.
+fn copies(alloc: Global, words: &[&str]) -> Result<Vec<String>, AllocError>
+    ensures { IfOk result (λ copies. map string_bytes copies.items ≡ map (λ w. w.now) words.now) }
+{
+    let mut copies = Vec::new(alloc);
+    for word in words {
+        copies.push(String::from_str(alloc, word)?)?;
+    }
+    Ok(copies)
+}
+
+/// Tells why clap refused: lack of memory, or the words.
+fn fault_of(error: &Error) -> PlanFault
+    ensures memory { kind_of error.now ≡ ErrorKind.OutOfMemory → result ≡ PlanFault.Memory }
+    ensures usage { kind_of error.now ≢ ErrorKind.OutOfMemory → result ≡ PlanFault.Usage }
+{
+    match error.kind() {
+        ErrorKind::OutOfMemory => PlanFault::Memory,
+        _ => PlanFault::Usage,
+    }
+}

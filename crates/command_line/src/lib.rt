@@ -1,0 +1,14 @@
+//! The program's command line: what its words ask for, and why the program ends early.
+#![tactic(auto)]
+
+mod command_line;
+mod fault;
+mod plans;
+mod refusal;
+mod words;
+
+pub use command_line::plan;
+pub use fault::ProgramFault;
+pub use plans::{Plan, PlanFault};
+pub use refusal::Refusal;
+pub use words::words_of;

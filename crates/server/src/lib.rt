@@ -1,0 +1,10 @@
+//! The server: a store in a file, behind a port of this machine, for one connection after another.
+#![tactic(auto)]
+
+mod port;
+mod serving;
+mod store_file;
+
+pub use port::{serve_file, serve_store};
+pub use serving::{open_hub, serve};
+pub use store_file::open_store;
