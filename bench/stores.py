@@ -118,27 +118,19 @@ class Tables:
         self.conn.execute("COMMIT")
 
     def put(self, names, body):
-        """Runs all statements of a request that writes new documents: the rights of the caller, the
-        design documents, what the documents were, and the writes."""
-        for _ in range(3):
-            self.find()
+        """Runs all statements of a request that writes new documents into a database that was asked
+        before: the design documents, what the documents were, and the writes."""
         self.conn.execute("SELECT id, seq, winner, del FROM docs WHERE db = 1 AND id >= ? AND id <= ? ORDER BY id", (b"_design/", b"_design0")).fetchall()
         for name in names:
             self.read(name)
-        self.find()
         self.commit(names, body)
 
-    def find(self):
-        self.conn.execute("SELECT num, sec, seq FROM dbs WHERE name = ?", (b"db",)).fetchall()
-
     def read(self, name):
-        """Runs the statements by which a server reads the history of a document."""
-        self.find()
+        """Runs the statement by which a server reads the history of a document."""
         self.conn.execute("SELECT n, hash, parent, held, del, body FROM revs WHERE db = 1 AND id = ?", (name,)).fetchall()
 
     def get(self, name):
-        """Runs all statements of a request that reads a document."""
-        self.find()
+        """Runs all statements of a request that reads a document of a database that was asked before."""
         self.read(name)
 
     def changes(self, since, limit):

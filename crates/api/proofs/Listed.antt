@@ -1,10 +1,10 @@
 -- The revisions of a list that is read one element at a time, and what parameters ask for once each value is known.
-use Rattle.std.proofs.Common.{◌≡◌, ℕ, true, List, [], ◌∷◌, ◌++◌, Option, Some, None, option_map, refl, sym, ap, ◌∙◌, append_assoc, codes}
+use Rattle.std.proofs.Common.{◌≡◌, ℕ, Bool, true, List, [], ◌∷◌, ◌++◌, Option, Some, None, option_map, refl, sym, ap, ◌∙◌, append_assoc, codes}
 use Rattle.tree.specs.Revision.{Revision}
 use Rattle.couch_json.specs.Value.{Value, Members, member}
 use Rattle.read.specs.Differences.{RevisionsOf}
 use Rattle.api.specs.Listings.{revisions_of_members, with_revisions_of}
-use Rattle.api.specs.Queries.{are_named, asked_of_document, query_by, revisions_listed, sole_value}
+use Rattle.api.specs.Queries.{are_named, asked_of_document, flag_in, given_at, query_by, revisions_listed, sole_value}
 
 -- the next revision joins those before it
 pub revisions_go_on : (before : List Revision) (r : Revision) (rest : Option (List Revision))
@@ -28,8 +28,8 @@ list_taken before after left ms name v revs total first listed more so_far =
     ∙ sym (ap (λ (x : Members). option_map (λ rs. before ++ rs) (revisions_of_members x)) first) ∙ so_far
 
 -- the parameters have no other names than the three, and these values
-pub asked_by_values : (parameters : List (List ℕ × List ℕ)) (rev open_revs revs : Option (List ℕ))
+pub asked_by_values : (parameters : List (List ℕ × List ℕ)) (rev open_revs : Option (List ℕ)) (revs : Option Bool)
     → are_named (codes "rev" ∷ codes "revs" ∷ codes "open_revs" ∷ []) parameters ≡ true
     → sole_value (codes "rev") parameters ≡ Some rev → sole_value (codes "open_revs") parameters ≡ Some open_revs
-    → sole_value (codes "revs") parameters ≡ Some revs → asked_of_document parameters ≡ query_by rev open_revs revs
+    → given_at flag_in (codes "revs") parameters ≡ Some revs → asked_of_document parameters ≡ query_by rev open_revs revs
 asked_by_values parameters rev open_revs revs named is_rev is_open is_revs = rw named (rw is_rev (rw is_open (rw is_revs refl)))

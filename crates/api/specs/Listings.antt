@@ -13,7 +13,7 @@ use Rattle.tree.specs.Revision.{Revision}
 use Rattle.store.specs.declared.page.IdRange.{IdRange}
 use Rattle.store.specs.declared.page.SeqRange.{SeqRange}
 use Rattle.read.specs.Differences.{RevisionsOf}
-use Rattle.api.specs.Queries.{are_named, parameters_in, revisions_listed, sole_value}
+use Rattle.api.specs.Queries.{are_named, flag_in, given_at, parameters_in, revisions_listed}
 
 -- ---- values of parameters
 
@@ -25,15 +25,6 @@ is_count_text text = nat_le 1 (length text) && nat_le (length text) 19 && list_a
 abbrev pub count_in : List ℕ → Option ℕ
 count_in text = if is_count_text text && nat_le (digits_value 10 text) greatest_count then Some (digits_value 10 text) else None
 
--- what a value that may be absent says, where each value has to be of this form
-abbrev pub if_given : {A : Type 0} → (List ℕ → Option A) → Option (List ℕ) → Option (Option A)
-if_given read None = Some None
-if_given read (Some value) = option_map (λ a. Some a) (read value)
-
--- the same of the parameter of this name
-abbrev pub given_at : {A : Type 0} → (List ℕ → Option A) → List ℕ → List (List ℕ × List ℕ) → Option (Option A)
-given_at read name parameters = option_and_then (λ value. if_given read value) (sole_value name parameters)
-
 abbrev pub text_read : Result Value JsonFault → Option (List ℕ)
 text_read (Ok v) = text_in v
 text_read (Err fault) = None
@@ -41,10 +32,6 @@ text_read (Err fault) = None
 -- a key is a JSON string
 abbrev pub key_in : List ℕ → Option (List ℕ)
 key_in value = text_read (reading value)
-
--- `true` or `false`
-abbrev pub flag_in : List ℕ → Option Bool
-flag_in value = if bytes_eq value (codes "true") then Some true else (if bytes_eq value (codes "false") then Some false else None)
 
 -- all leaves of a document, or its winner alone
 abbrev pub style_in : List ℕ → Option Bool

@@ -1,6 +1,6 @@
 -- The parameters of a query, and what those of a document's page ask for.
 -- URL Standard, section 5.1 (names and values), by form_urlencoded's own definition; CouchDB manual, api/document/common (`rev`, `revs`, `open_revs`).
-use Rattle.std.specs.Prelude.{ℕ, Bool, true, false, List, [], ◌∷◌, map, Option, Some, None, option_map, option_and_then, Result, Ok, Err, if◌then◌else◌, bytes_eq, codes}
+use Rattle.std.specs.Prelude.{ℕ, Bool, true, false, List, [], ◌∷◌, map, Option, Some, None, option_map, option_and_then, Result, Ok, Err, if◌then◌else◌, bytes_eq, codes, unwrap_or}
 use Rattle.std.specs.List.{list_all, list_any}
 use Rattle.std.specs.Str.Lossy.{utf8_lossy}
 use Rattle.couch_json.specs.Reading.{reading}
@@ -43,11 +43,18 @@ at_most_one (value ∷ other ∷ others) = None
 abbrev pub sole_value : List ℕ → List (List ℕ × List ℕ) → Option (Option (List ℕ))
 sole_value name parameters = at_most_one (values_of name parameters)
 
--- `true` or `false`, which is also what stands where there is no parameter
-abbrev pub flag : Option (List ℕ) → Option Bool
-flag None = Some false
-flag (Some value) =
-    if bytes_eq value (codes "true") then Some true else (if bytes_eq value (codes "false") then Some false else None)
+-- what a value that may be absent says, where each value has to be of this form
+abbrev pub if_given : {A : Type 0} → (List ℕ → Option A) → Option (List ℕ) → Option (Option A)
+if_given read None = Some None
+if_given read (Some value) = option_map (λ a. Some a) (read value)
+
+-- the same of the parameter of this name
+abbrev pub given_at : {A : Type 0} → (List ℕ → Option A) → List ℕ → List (List ℕ × List ℕ) → Option (Option A)
+given_at read name parameters = option_and_then (λ value. if_given read value) (sole_value name parameters)
+
+-- `true` or `false`
+abbrev pub flag_in : List ℕ → Option Bool
+flag_in value = if bytes_eq value (codes "true") then Some true else (if bytes_eq value (codes "false") then Some false else None)
 
 -- ---- revisions
 
@@ -92,9 +99,9 @@ asked_by (Some rev) None = option_map revision (revision_read rev)
 asked_by None (Some open_revs) = open_revisions open_revs
 asked_by (Some rev) (Some open_revs) = None
 
-abbrev pub query_by : Option (List ℕ) → Option (List ℕ) → Option (List ℕ) → Option DocumentQuery
-query_by rev open_revs revs =
-    option_and_then (λ asked. option_map (λ with_revs. record { asked = asked; revs = with_revs }) (flag revs)) (asked_by rev open_revs)
+-- the same with `revs`, which is not set where it isn't there
+abbrev pub query_by : Option (List ℕ) → Option (List ℕ) → Option Bool → Option DocumentQuery
+query_by rev open_revs revs = option_map (λ asked. record { asked = asked; revs = unwrap_or revs false }) (asked_by rev open_revs)
 
 -- the revision that a value spells, where there is one
 abbrev pub revision_by : Option (List ℕ) → Option (Option Revision)
@@ -108,7 +115,7 @@ abbrev pub asked_of_document : List (List ℕ × List ℕ) → Option DocumentQu
 asked_of_document parameters =
     if are_named (codes "rev" ∷ codes "revs" ∷ codes "open_revs" ∷ []) parameters
     then option_and_then (λ rev. option_and_then (λ open_revs. option_and_then (λ revs. query_by rev open_revs revs)
-    (sole_value (codes "revs") parameters)) (sole_value (codes "open_revs") parameters)) (sole_value (codes "rev") parameters)
+    (given_at flag_in (codes "revs") parameters)) (sole_value (codes "open_revs") parameters)) (sole_value (codes "rev") parameters)
     else None
 
 -- what a document's reader asks for, or nothing where the query is a bad one

@@ -9,8 +9,8 @@ use Rattle.store.specs.declared.key_page.CutSide.TheVariants.{Before, After}
 use Rattle.store.specs.declared.key_page.KeyCut.{KeyCut}
 use Rattle.store.specs.declared.key_page.KeyRange.{KeyRange}
 use Rattle.store.specs.declared.page.IdRange.{IdRange}
-use Rattle.api.specs.Listings.{given_at, listing_names, range_from}
-use Rattle.api.specs.Queries.{are_named, parameters_in}
+use Rattle.api.specs.Listings.{listing_names, range_from}
+use Rattle.api.specs.Queries.{are_named, given_at, parameters_in}
 
 abbrev pub value_read : Result Value JsonFault → Option Value
 value_read (Ok v) = Some v

@@ -6,12 +6,12 @@ ghost use Rattle.std.specs.List.{list_all};
 ghost use Rattle.couch_http.specs.Message.{message_of};
 ghost use Rattle.api.specs.Saying.{Says};
 ghost use Rattle.api.specs.Queried.{texts_of};
-ghost use Rattle.api.specs.Listings.{changes_asked, changes_query, count_in, flag_in, given_at, is_count_text, key_in, listing_names, listing_query, range_asked, range_from, style_in};
-ghost use Rattle.api.specs.Queries.{are_named};
+ghost use Rattle.api.specs.Listings.{changes_asked, changes_query, count_in, is_count_text, key_in, listing_names, listing_query, range_asked, range_from, style_in};
+ghost use Rattle.api.specs.Queries.{are_named, flag_in, given_at};
 ghost use Rattle.api.specs.Refusals.{there_or};
 
 use crate::fault::RequestFault;
-use crate::parameters::{are_named, parameters, sole_value};
+use crate::parameters::{are_named, flag_at, parameters, sole_value};
 use crate::refusal::Refusal;
 use couch_http::Request;
 use couch_json::{Got, Json, JsonFault, NoMemory, read};
@@ -150,18 +150,6 @@ fn are_digits(bytes: &[u8]) -> bool
     ensures { result ≡ list_all is_ascii_digit bytes.now }
 {
     bytes.iter().all(|byte| byte.is_ascii_digit())
-}
-
-/// Reads the flag at a name, if there is one; `None` where the parameter is of another form.
-fn flag_at(parameters: &[(String, String)], name: &str) -> Option<Option<bool>>
-    ensures { result ≡ given_at flag_in name.now (texts_of parameters.now) }
-{
-    match sole_value(parameters, name)? {
-        None => Some(None),
-        Some("true") => Some(Some(true)),
-        Some("false") => Some(Some(false)),
-        Some(_) => None,
-    }
 }
 
 /// Reads whether all leaves are asked for, if `style` is there; `None` where it is of another form.

@@ -2,7 +2,7 @@
 
 ghost use Rattle.std.specs.Prelude.{◌≡◌, IfOk, map, option_map, option_copied, string_bytes};
 ghost use Rattle.api.specs.Queried.{texts_of};
-ghost use Rattle.api.specs.Queries.{are_named, flag, parameter_of, parameters_in, sole_value};
+ghost use Rattle.api.specs.Queries.{are_named, flag_in, given_at, parameter_of, parameters_in, sole_value};
 ghost use Rattle.form_urlencoded.specs.Form.{raw_pairs};
 
 use couch_json::is_among;
@@ -64,15 +64,15 @@ pub(crate) fn sole_value<'a>(
     Some(found)
 }
 
-/// Reads whether a flag is set; it is not where there is no parameter. `None` where it is neither
-/// `true` nor `false`.
-pub(crate) fn flag(value: Option<&str>) -> Option<bool>
-    ensures { result ≡ flag (option_copied value.entry) }
+/// Reads the flag at a name, if there is one; `None` where it is neither `true` nor `false`, or stands
+/// twice.
+pub(crate) fn flag_at(parameters: &[(String, String)], name: &str) -> Option<Option<bool>>
+    ensures { result ≡ given_at flag_in name.now (texts_of parameters.now) }
 {
-    match value {
-        None => Some(false),
-        Some("true") => Some(true),
-        Some("false") => Some(false),
+    match sole_value(parameters, name)? {
+        None => Some(None),
+        Some("true") => Some(Some(true)),
+        Some("false") => Some(Some(false)),
         Some(_) => None,
     }
 }

@@ -9,7 +9,7 @@ ghost use Rattle.api.specs.Queries.{asked_by, asked_of_document, document_query,
 ghost use Rattle.api.specs.Refusals.{there_or};
 
 use crate::fault::RequestFault;
-use crate::parameters::{are_named, flag, parameters, sole_value};
+use crate::parameters::{are_named, flag_at, parameters, sole_value};
 use crate::refusal::Refusal;
 use couch_http::Request;
 use couch_json::{Got, Json, JsonFault, NoMemory, read};
@@ -69,7 +69,7 @@ fn asked_of_document(alloc: Global, parameters: &[(String, String)]) -> Got<Opti
     let Some(open_revs) = sole_value(parameters, "open_revs") else {
         return Ok(None);
     };
-    let Some(revs) = sole_value(parameters, "revs") else {
+    let Some(revs) = flag_at(parameters, "revs") else {
         return Ok(None);
     };
     query_by(alloc, rev, open_revs, revs)
@@ -80,17 +80,17 @@ fn query_by(
     alloc: Global,
     rev: Option<&str>,
     open_revs: Option<&str>,
-    revs: Option<&str>,
+    revs: Option<bool>,
 ) -> Got<Option<DocumentQuery>>
-    ensures { IfOk result (λ query. option_map query_of query ≡ query_by (option_copied rev.entry) (option_copied open_revs.entry) (option_copied revs.entry)) }
+    ensures { IfOk result (λ query. option_map query_of query ≡ query_by (option_copied rev.entry) (option_copied open_revs.entry) revs) }
 {
     let Some(asked) = asked_by(alloc, rev, open_revs)? else {
         return Ok(None);
     };
-    match flag(revs) {
-        Some(revs) => Ok(Some(DocumentQuery { asked, revs })),
-        None => Ok(None),
-    }
+    Ok(Some(DocumentQuery {
+        asked,
+        revs: revs.unwrap_or(false),
+    }))
 }
 
 /// Reads which revisions `rev` and `open_revs` ask for.

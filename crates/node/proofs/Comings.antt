@@ -32,15 +32,14 @@ refused_on (Ok a) f refusal go h = absurd cc
 refused_on (Err other) f refusal go h = let same : other ≡ refusal = cc in ap Err same
 
 -- a database that is not entered is not worked in
-pub entry_stops : (databases : Contents) (caller : Identity) (chosen action : Action) (m : Message) (work : List ℕ → Work) (name : List ℕ) (stop : Stop) → chosen ≡ action → database_name_of m ≡ Ok name
-    → Comes (λ (u : Unit {0}). get databases name) (Err stop) (next (entry caller chosen (get databases name)) (λ db. Ok (Some db)))
+pub entry_stops : (databases : Contents) (caller : Identity) (action : Action) (m : Message) (work : List ℕ → Work) (name : List ℕ) (stop : Stop) → database_name_of m ≡ Ok name
+    → Comes (λ (u : Unit {0}). get databases name) (Err stop) (next (entry caller action (get databases name)) (λ db. Ok (Some db)))
     → Comes (outcome_of databases) (Err stop) (next (work_task action m work) (task_outcome caller databases))
-entry_stops databases caller chosen action m work name (Refused refusal) for own h =
+entry_stops databases caller action m work name (Refused refusal) own h =
     ap (λ (r : Result (List ℕ) Refusal). next (next r (λ n. Ok (worked action n (work n)))) (task_outcome caller databases)) own
-    ∙ refused_on (entry caller action (get databases name)) Some refusal (λ db. next (work name db) (λ d. Ok (outcome_in name d)))
-    (ap (λ (x : Action). next (entry caller x (get databases name)) (λ db. Ok (Some db))) (sym for) ∙ h)
-entry_stops databases caller chosen action m work name Failed for own h = tt
-entry_stops databases caller chosen action m work name NoRoom for own h = tt
+    ∙ refused_on (entry caller action (get databases name)) Some refusal (λ db. next (work name db) (λ d. Ok (outcome_in name d))) h
+entry_stops databases caller action m work name Failed own h = tt
+entry_stops databases caller action m work name NoRoom own h = tt
 
 -- a deletion that names a revision is its edit
 pub deletion_comes : (caller : Identity) (m : Message) (name : List ℕ) (db : Database) (asked : List ℕ × Option Revision) (rev : Revision) (document : Value) (result : Result Worked Stop)

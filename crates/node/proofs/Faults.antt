@@ -7,11 +7,10 @@ use Rattle.store.specs.Contents.{Contents}
 use Rattle.store.specs.Contents.{IfThere}
 use Rattle.store.specs.Database.{Database, with_all}
 use Rattle.store.specs.Writing.{additions, writings_in}
-use Rattle.store.specs.declared.fault.StoreFault.{StoreFault}
 use Rattle.store.specs.declared.fault.StoreFault.TheVariants.{Memory, Failed, NoDatabase, Exists, Damaged, Full}
 use Rattle.store.specs.declared.store.Store.{Ghosts}
 use Rattle.write.specs.Planning.{LacksRoomFor, database_after}
-use Rattle.write.specs.Refusing.{Refuses}
+use Rattle.write.specs.Refusing.{IsOfStoreOrMemory, Refuses}
 use Rattle.write.specs.declared.planned.Changes.{Changes}
 use Rattle.write.specs.declared.planned.Changes.TheVariants.{Local, Writes, Security}
 use Rattle.write.specs.declared.fault.WriteFault.{WriteFault}
@@ -41,7 +40,7 @@ room_lacking g s name (Writes ws) (Some db) there h = h
 -- a change that is not made, though there is a database, is not made for want of memory or has a cause
 pub change_ends : {S : Type 0} (g : Ghosts S) (old new : S) (name : List ℕ) (changes : Changes) (fault : WriteFault)
     → (g.is_honest new → is_some (get (g.contents old) name) ≡ true)
-    → (fault ≢ write.Memory → ((cause : StoreFault) → fault ≢ write.Store cause) → ⊥)
+    → IsOfStoreOrMemory fault
     → Refuses g old new (get (g.contents old) name ≡ None) (g.is_honest new → IfThere (get (g.contents old) name) (λ d. LacksRoomFor (g.lacks_room old) name changes d)) fault
     → EndsBefore g old new (change_inside name changes (get (g.contents old) name)) (stop_of_change fault)
 change_ends g old new name changes (write.Store Memory) there only h = absurd h

@@ -1,20 +1,17 @@
 -- What is planned for a database has the effect that the definition says.
-use Rattle.std.proofs.Common.{◌≡◌, ◌≢◌, refl, ℕ, Bool, true, is_some, List, [], ◌∷◌, Option, Some, None, Result, Ok, Err, ap, subst, sym, ◌∙◌, map}
+use Rattle.std.proofs.Common.{◌≡◌, ℕ, Bool, true, is_some, List, [], ◌∷◌, Option, Some, None, Result, Ok, Err, ap, subst, sym, ◌∙◌, map}
 use Rattle.auth.specs.Callers.{Identity}
 use Rattle.couch_json.specs.Value.{Value, null, object}
 use Rattle.store.specs.Contents.{IfThere}
 use Rattle.store.specs.Database.{Database, DocumentWrite, history_at}
 use Rattle.store.specs.Writing.{additions, writings_in}
-use Rattle.store.specs.declared.fault.StoreFault.{StoreFault}
 use Rattle.tree.specs.Revision.{Revision}
 use Rattle.write.specs.Bulk.{DocumentOutcome, Told, all_told, as_outcome, outcome_of_revision, outcome_told, outcomes, put_before, result_told, writes_alone}
 use Rattle.write.specs.BulkResults.{IsUnrefused, OfFirst, told_of}
 use Rattle.write.specs.Planning.{AreWrites, Plans, planned_writes}
-use Rattle.write.specs.Refusing.{IsOwn}
 use Rattle.write.specs.Admission.{new_revision}
 use Rattle.write.specs.Terms.{terms_in}
 use Rattle.write.specs.declared.fault.WriteFault.{WriteFault}
-use Rattle.write.specs.declared.fault.WriteFault.TheVariants as write
 use Rattle.write.specs.declared.planned.Changes.{Changes}
 use Rattle.write.specs.declared.planned.Changes.TheVariants.{Local, Writes, Security}
 use Rattle.write.specs.declared.planned.DocumentResult.{DocumentResult}
@@ -31,16 +28,6 @@ use Rattle.node.specs.Works.{bulk_written, edit_done, index_done, index_reply}
 pub of_there : (o : Option Database) (db : Database) (fact : Database → Type 0) → o ≡ Some db → IfThere o fact → fact db
 of_there None db fact e h = absurd cc
 of_there (Some d) db fact e h = subst (λ (x : Database). fact x) (let same : d ≡ db = cc in same) h
-
--- a fault of another cause than memory and the store is the document's own
-pub own_fault : (fault : WriteFault) → fault ≢ write.Memory → ((cause : StoreFault) → fault ≢ write.Store cause) → IsOwn fault
-own_fault write.BadDocument memory store = tt
-own_fault (write.Denied rule) memory store = tt
-own_fault write.BadHistory memory store = tt
-own_fault write.Conflict memory store = tt
-own_fault write.Generation memory store = tt
-own_fault (write.Store cause) memory store = absurd (store cause refl)
-own_fault write.Memory memory store = absurd (memory refl)
 
 -- ---- an edit
 

@@ -8,8 +8,6 @@ use Rattle.couch_json.specs.View.{view}
 use Rattle.store.specs.Contents.{Contents, IfThere}
 use Rattle.store.specs.Database.{Database}
 use Rattle.store.specs.Writing.{additions, writings_in}
-use Rattle.policy.specs.declared.action.Action.{Action}
-use Rattle.policy.specs.declared.action.Action.TheVariants.{Read as ToRead, WriteSecurity, WriteDocument}
 use Rattle.write.specs.Planning.{MayBeMade}
 use Rattle.write.specs.declared.planned.Changes.{Changes}
 use Rattle.write.specs.declared.planned.Changes.TheVariants.{Local, Writes, Security as SecurityObject}
@@ -56,19 +54,6 @@ writing_of write.LocalDocument caller m name = local_written caller m
 abbrev pub work_of : WorkAsked → Identity → Message → List ℕ → Work
 work_of (asked.Read r) caller m name = read_work (reading_of r m name)
 work_of (asked.Write w) caller m name = writing_of w caller m name
-
-abbrev pub action_of_writing : Writing → Action
-action_of_writing write.Security = WriteSecurity
-action_of_writing write.Documents = WriteDocument
-action_of_writing write.Document = WriteDocument
-action_of_writing write.Deletion = WriteDocument
-action_of_writing write.Index = WriteDocument
-action_of_writing write.LocalDocument = ToRead
-
--- the action that the policy of the database is asked for
-abbrev pub action_of : WorkAsked → Action
-action_of (asked.Read r) = ToRead
-action_of (asked.Write w) = action_of_writing w
 
 -- ---- what it comes to
 

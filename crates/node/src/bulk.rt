@@ -1,13 +1,8 @@
 //! The page on which several documents are written together (CouchDB manual, api/database/bulk-api).
 
-ghost use Rattle.std.specs.Prelude.{◌≡◌, IfOk, IfErr};
 ghost use Rattle.couch_http.specs.Message.{message_of};
-ghost use Rattle.store.specs.Calls.{OnlyReads};
-ghost use Rattle.write.specs.Planning.{MayBeMade};
-ghost use Rattle.node.specs.Answered.{done_of};
 ghost use Rattle.api.specs.BulkAsked.{bulk_asked};
-ghost use Rattle.node.specs.Causes.{Ends};
-ghost use Rattle.node.specs.Coming.{Comes, OfThere};
+ghost use Rattle.node.specs.Coming.{WorksIn};
 ghost use Rattle.node.specs.Works.{bulk_written, documents_written};
 
 use crate::answered::Worked;
@@ -28,12 +23,7 @@ pub(crate) fn write_documents<S: Store>(
     name: &DbName,
     request: &Request,
 ) -> Result<Worked, Stop>
-    ensures comes { S.is_honest store.new → OfThere (S.contents store.old) name.now (λ db. Comes (done_of db) result
-        (documents_written caller.now (message_of request.now) name.now db)) }
-    ensures may { S.is_honest store.new → OfThere (S.contents store.old) name.now (λ db. IfOk result (λ worked. MayBeMade worked.planned.changes db)) }
-    ensures own { IfOk result (λ worked. worked.planned.database ≡ name.now) }
-    ensures ends { IfErr result (Ends S.Store store.old store.new) }
-    ensures reads { OnlyReads S.Store store.old store.new }
+    ensures works { WorksIn S.Store store.old store.new name.now (documents_written caller.now (message_of request.now) name.now) result }
 {
     without_parameters(request)?;
     let value = body(alloc, request)?;
@@ -51,12 +41,7 @@ fn write_bulk<S: Store>(
     name: &DbName,
     asked: BulkAsked,
 ) -> Result<Worked, Stop>
-    ensures comes { S.is_honest store.new → OfThere (S.contents store.old) name.now (λ db. Comes (done_of db) result
-        (bulk_written caller.now (bulk_asked asked) name.now db)) }
-    ensures may { S.is_honest store.new → OfThere (S.contents store.old) name.now (λ db. IfOk result (λ worked. MayBeMade worked.planned.changes db)) }
-    ensures own { IfOk result (λ worked. worked.planned.database ≡ name.now) }
-    ensures ends { IfErr result (Ends S.Store store.old store.new) }
-    ensures reads { OnlyReads S.Store store.old store.new }
+    ensures works { WorksIn S.Store store.old store.new name.now (bulk_written caller.now (bulk_asked asked) name.now) result }
 {
     let planned = match bulk(alloc, store, name, caller, asked.documents, asked.new_edits) {
         Ok(planned) => planned,

@@ -6,14 +6,12 @@ ghost use Rattle.couch_http.specs.Message.{message_of};
 ghost use Rattle.couch_json.specs.Value.{array, text};
 ghost use Rattle.couch_json.specs.View.{items_of, view};
 ghost use Rattle.store.specs.Calls.{OnlyReads};
-ghost use Rattle.node.specs.Answer.{administration, database_name_of, page_outcome};
-ghost use Rattle.node.specs.Answered.{MayChange, outcome_of};
+ghost use Rattle.node.specs.Answer.{administration, database_name_of};
 ghost use Rattle.node.specs.Causes.{Ends};
-ghost use Rattle.node.specs.Coming.{Comes, OfThere};
+ghost use Rattle.node.specs.Coming.{Reads, Serves};
 ghost use Rattle.api.specs.Saying.{Says};
 ghost use Rattle.api.specs.Refusals.{next};
 ghost use Rattle.node.specs.Works.{database_read, done};
-ghost use Rattle.api.specs.Asking.{plain};
 
 use crate::answered::{Answered, Change};
 use crate::stop::Stop;
@@ -34,10 +32,7 @@ pub(crate) fn read_database<S: Store>(
     name: &DbName,
     request: &Request,
 ) -> Result<Json, Stop>
-    ensures comes { S.is_honest store.new → OfThere (S.contents store.old) name.now (λ db. Comes view result
-        (database_read (message_of request.now) name.now db)) }
-    ensures ends { IfErr result (Ends S.Store store.old store.new) }
-    ensures reads { OnlyReads S.Store store.old store.new }
+    ensures reads { Reads S.Store store.old store.new name.now (database_read (message_of request.now) name.now) result }
 {
     without_parameters(request)?;
     Ok(info(alloc, store, name)?)
@@ -50,11 +45,7 @@ pub(crate) fn list_databases<S: Store>(
     caller: &Caller,
     request: &Request,
 ) -> Result<Answered, Stop>
-    ensures comes { S.is_honest store.new → Comes (outcome_of (S.contents store.old)) result
-        (page_outcome Page.AllDatabases (Some RequestMethod.Get) caller.now (S.contents store.old) (message_of request.now)) }
-    ensures may { S.is_honest store.new → IfOk result (λ answered. MayChange (S.contents store.old) answered.change) }
-    ensures ends { IfErr result (Ends S.Store store.old store.new) }
-    ensures reads { OnlyReads S.Store store.old store.new }
+    ensures serves { Serves S.Store store.old store.new Page.AllDatabases (Some RequestMethod.Get) caller.now (message_of request.now) result }
 {
     require_server_admin(alloc, caller)?;
     without_parameters(request)?;
@@ -74,11 +65,7 @@ pub(crate) fn create_database<S: Store>(
     caller: &Caller,
     request: &Request,
 ) -> Result<Answered, Stop>
-    ensures comes { S.is_honest store.new → Comes (outcome_of (S.contents store.old)) result
-        (page_outcome Page.Database (Some RequestMethod.Put) caller.now (S.contents store.old) (message_of request.now)) }
-    ensures may { S.is_honest store.new → IfOk result (λ answered. MayChange (S.contents store.old) answered.change) }
-    ensures ends { IfErr result (Ends S.Store store.old store.new) }
-    ensures reads { OnlyReads S.Store store.old store.new }
+    ensures serves { Serves S.Store store.old store.new Page.Database (Some RequestMethod.Put) caller.now (message_of request.now) result }
 {
     let name = name_to_govern(alloc, caller, request)?;
     if is_there(store, &name)? {
@@ -100,11 +87,7 @@ pub(crate) fn remove_database<S: Store>(
     caller: &Caller,
     request: &Request,
 ) -> Result<Answered, Stop>
-    ensures comes { S.is_honest store.new → Comes (outcome_of (S.contents store.old)) result
-        (page_outcome Page.Database (Some RequestMethod.Delete) caller.now (S.contents store.old) (message_of request.now)) }
-    ensures may { S.is_honest store.new → IfOk result (λ answered. MayChange (S.contents store.old) answered.change) }
-    ensures ends { IfErr result (Ends S.Store store.old store.new) }
-    ensures reads { OnlyReads S.Store store.old store.new }
+    ensures serves { Serves S.Store store.old store.new Page.Database (Some RequestMethod.Delete) caller.now (message_of request.now) result }
 {
     let name = name_to_govern(alloc, caller, request)?;
     if !is_there(store, &name)? {

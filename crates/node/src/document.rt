@@ -9,13 +9,12 @@ ghost use Rattle.store.specs.Calls.{OnlyReads};
 ghost use Rattle.tree.specs.DocumentId.{is_local_id};
 ghost use Rattle.write.specs.Admission.{unnamed_deletion};
 ghost use Rattle.write.specs.BulkResults.{IsMadeOutcome, OfFirst};
-ghost use Rattle.write.specs.Planning.{MayBeMade};
 ghost use Rattle.write.specs.Terms.{terms_in};
 ghost use Rattle.node.specs.Bulk.{made_members};
 ghost use Rattle.couch_json.specs.Value.{object};
 ghost use Rattle.node.specs.Answered.{done_of};
 ghost use Rattle.node.specs.Causes.{Ends};
-ghost use Rattle.node.specs.Coming.{Comes, OfThere};
+ghost use Rattle.node.specs.Coming.{Comes, OfThere, Reads, WorksIn};
 ghost use Rattle.api.specs.Saying.{Says};
 ghost use Rattle.api.specs.Queried.{asked_of, query_of};
 ghost use Rattle.node.specs.Works.{deletion, document_deleted, document_read, document_written, edit_asked, edit_done, edit_in, found, read_by};
@@ -43,10 +42,7 @@ pub(crate) fn read_document<S: Store>(
     name: &DbName,
     request: &Request,
 ) -> Result<Json, Stop>
-    ensures comes { S.is_honest store.new → OfThere (S.contents store.old) name.now (λ db. Comes view result
-        (document_read (message_of request.now) db)) }
-    ensures ends { IfErr result (Ends S.Store store.old store.new) }
-    ensures reads { OnlyReads S.Store store.old store.new }
+    ensures reads { Reads S.Store store.old store.new name.now (document_read (message_of request.now)) result }
 {
     let id = document_id(alloc, &request.path)?;
     let query = document_query(alloc, request)?;
@@ -61,10 +57,7 @@ fn find<S: Store>(
     id: &DocId,
     query: &DocumentQuery,
 ) -> Result<Json, Stop>
-    ensures comes { S.is_honest store.new → OfThere (S.contents store.old) name.now (λ db. Comes view result
-        (found (read_by id.now (query_of query.now).revs (query_of query.now).asked db))) }
-    ensures ends { IfErr result (Ends S.Store store.old store.new) }
-    ensures reads { OnlyReads S.Store store.old store.new }
+    ensures reads { Reads S.Store store.old store.new name.now (λ db. found (read_by id.now (query_of query.now).revs (query_of query.now).asked db)) result }
 {
     Ok(read_by(alloc, store, name, id, query)?)
 }
@@ -104,12 +97,7 @@ pub(crate) fn write_document<S: Store>(
     name: &DbName,
     request: &Request,
 ) -> Result<Worked, Stop>
-    ensures comes { S.is_honest store.new → OfThere (S.contents store.old) name.now (λ db. Comes (done_of db) result
-        (document_written caller.now (message_of request.now) name.now db)) }
-    ensures may { S.is_honest store.new → OfThere (S.contents store.old) name.now (λ db. IfOk result (λ worked. MayBeMade worked.planned.changes db)) }
-    ensures own { IfOk result (λ worked. worked.planned.database ≡ name.now) }
-    ensures ends { IfErr result (Ends S.Store store.old store.new) }
-    ensures reads { OnlyReads S.Store store.old store.new }
+    ensures works { WorksIn S.Store store.old store.new name.now (document_written caller.now (message_of request.now) name.now) result }
 {
     let (id, rev) = edit_asked(alloc, request)?;
     let document = body(alloc, request)?;
@@ -125,12 +113,7 @@ pub(crate) fn delete_document<S: Store>(
     name: &DbName,
     request: &Request,
 ) -> Result<Worked, Stop>
-    ensures comes { S.is_honest store.new → OfThere (S.contents store.old) name.now (λ db. Comes (done_of db) result
-        (document_deleted caller.now (message_of request.now) name.now db)) }
-    ensures may { S.is_honest store.new → OfThere (S.contents store.old) name.now (λ db. IfOk result (λ worked. MayBeMade worked.planned.changes db)) }
-    ensures own { IfOk result (λ worked. worked.planned.database ≡ name.now) }
-    ensures ends { IfErr result (Ends S.Store store.old store.new) }
-    ensures reads { OnlyReads S.Store store.old store.new }
+    ensures works { WorksIn S.Store store.old store.new name.now (document_deleted caller.now (message_of request.now) name.now) result }
 {
     let (id, rev) = edit_asked(alloc, request)?;
     let Some(rev) = rev else {
@@ -185,12 +168,7 @@ fn edit_document<S: Store>(
     status: u16,
 ) -> Result<Worked, Stop>
     requires local { is_local_id id.now ≡ false }
-    ensures comes { S.is_honest store.new → OfThere (S.contents store.old) name.now (λ db. Comes (done_of db) result
-        (edit_in caller.now status name.now db id.now rev (view document))) }
-    ensures may { S.is_honest store.new → OfThere (S.contents store.old) name.now (λ db. IfOk result (λ worked. MayBeMade worked.planned.changes db)) }
-    ensures own { IfOk result (λ worked. worked.planned.database ≡ name.now) }
-    ensures ends { IfErr result (Ends S.Store store.old store.new) }
-    ensures reads { OnlyReads S.Store store.old store.new }
+    ensures works { WorksIn S.Store store.old store.new name.now (λ db. edit_in caller.now status name.now db id.now rev (view document)) result }
 {
     let planned = match edit(alloc, store, name, caller, id, rev, document) {
         Ok(planned) => planned,

@@ -4,10 +4,8 @@ ghost use Rattle.std.specs.Prelude.{◌≡◌, ◌≢◌, IfErr, IfOk, map as ea
 ghost use Rattle.couch_http.specs.Message.{message_of};
 ghost use Rattle.couch_json.specs.View.{view};
 ghost use Rattle.find.specs.Queries.{query_in};
-ghost use Rattle.store.specs.Calls.{OnlyReads};
 ghost use Rattle.api.specs.Refusals.{there_or};
-ghost use Rattle.node.specs.Causes.{Ends};
-ghost use Rattle.node.specs.Coming.{Comes, OfThere};
+ghost use Rattle.node.specs.Coming.{Comes, Reads};
 ghost use Rattle.node.specs.Works.{document_finds, documents_reply, view_read};
 
 use crate::stop::Stop;
@@ -26,10 +24,7 @@ pub(crate) fn find_documents<S: Store>(
     name: &DbName,
     request: &Request,
 ) -> Result<Json, Stop>
-    ensures comes { S.is_honest store.new → OfThere (S.contents store.old) name.now (λ db. Comes view result
-        (document_finds (message_of request.now) db)) }
-    ensures ends { IfErr result (Ends S.Store store.old store.new) }
-    ensures reads { OnlyReads S.Store store.old store.new }
+    ensures reads { Reads S.Store store.old store.new name.now (document_finds (message_of request.now)) result }
 {
     without_parameters(request)?;
     let value = body(alloc, request)?;
@@ -68,10 +63,7 @@ pub(crate) fn list_view<S: Store>(
     name: &DbName,
     request: &Request,
 ) -> Result<Json, Stop>
-    ensures comes { S.is_honest store.new → OfThere (S.contents store.old) name.now (λ db. Comes view result
-        (view_read (message_of request.now) db)) }
-    ensures ends { IfErr result (Ends S.Store store.old store.new) }
-    ensures reads { OnlyReads S.Store store.old store.new }
+    ensures reads { Reads S.Store store.old store.new name.now (view_read (message_of request.now)) result }
 {
     let design = document_id(alloc, &request.path)?;
     let index = index_name(alloc, &request.path)?;

@@ -7,13 +7,13 @@ ghost use Rattle.couch_http.specs.declared.fixed.Fixed.TheVariants.{NoRoom};
 ghost use Rattle.couch_json.specs.Canonical.{canonical};
 ghost use Rattle.couch_json.specs.Lawful.{IsLawful};
 ghost use Rattle.couch_json.specs.View.{view};
-ghost use Rattle.store.specs.Calls.{ChangesWhole, GoesOn, OnlyReads};
-ghost use Rattle.node.specs.Answer.{answer, judgement, page_outcome, with_change};
+ghost use Rattle.store.specs.Calls.{ChangesWhole, GoesOn};
+ghost use Rattle.node.specs.Answer.{answer, judgement, with_change};
 ghost use Rattle.api.specs.Asking.{method_of};
 ghost use Rattle.node.specs.Answered.{MayChange, MayChangeBy, change_by, change_of, outcome_of};
 ghost use Rattle.api.specs.Refusals.{refusal_value, status_of};
-ghost use Rattle.node.specs.Causes.{Ends, EndsBefore, HasCause, stop_of_change};
-ghost use Rattle.node.specs.Coming.{Comes};
+ghost use Rattle.node.specs.Causes.{EndsBefore, HasCause, stop_of_change};
+ghost use Rattle.node.specs.Coming.{Judges, Serves};
 ghost use Rattle.node.specs.Step.{IsDone, IsStep};
 
 use crate::answered::{Answered, Change};
@@ -26,6 +26,7 @@ use api::{Page, Refusal, RequestMethod, Routes, caller, method_of};
 use auth::{Auth, Caller};
 use couch_http::{Fixed, HttpFault, Request, Response};
 use couch_json::{Got, Json, NoMemory};
+use policy::Action;
 use std::alloc::Global;
 use store::{DbName, Store, StoreFault};
 use write::{Planned, WriteFault, apply};
@@ -38,11 +39,7 @@ fn judge<S: Store>(
     routes: &Routes,
     request: &Request,
 ) -> Result<Answered, Stop>
-    ensures comes { S.is_honest store.new → Comes (outcome_of (S.contents store.old)) result
-        (judgement auth.now (S.contents store.old) (message_of request.now)) }
-    ensures may { S.is_honest store.new → IfOk result (λ answered. MayChange (S.contents store.old) answered.change) }
-    ensures ends { IfErr result (Ends S.Store store.old store.new) }
-    ensures reads { OnlyReads S.Store store.old store.new }
+    ensures judges { Judges S.Store store.old store.new (judgement auth.now (S.contents store.old) (message_of request.now)) result }
 {
     let caller = caller(alloc, auth, request)?;
     let Some(page) = routes.page(&request.path) else {
@@ -59,11 +56,7 @@ fn serve<S: Store>(
     caller: &Caller,
     request: &Request,
 ) -> Result<Answered, Stop>
-    ensures comes { S.is_honest store.new → Comes (outcome_of (S.contents store.old)) result
-        (page_outcome page (method_of request.now.method) caller.now (S.contents store.old) (message_of request.now)) }
-    ensures may { S.is_honest store.new → IfOk result (λ answered. MayChange (S.contents store.old) answered.change) }
-    ensures ends { IfErr result (Ends S.Store store.old store.new) }
-    ensures reads { OnlyReads S.Store store.old store.new }
+    ensures serves { Serves S.Store store.old store.new page (method_of request.now.method) caller.now (message_of request.now) result }
 {
     match (page, method_of(request.method.as_str())) {
         (Page::Welcome, Some(RequestMethod::Get)) => {
@@ -84,49 +77,154 @@ fn serve<S: Store>(
             remove_database(alloc, store, caller, request)
         }
         (Page::Database, Some(RequestMethod::Get)) => {
-            do_work(alloc, store, caller, Read(Reading::Database), request)
+            do_work(
+                alloc,
+                store,
+                caller,
+                Action::Read,
+                Read(Reading::Database),
+                request,
+            )
         }
         (Page::Security, Some(RequestMethod::Get)) => {
-            do_work(alloc, store, caller, Read(Reading::Security), request)
+            do_work(
+                alloc,
+                store,
+                caller,
+                Action::Read,
+                Read(Reading::Security),
+                request,
+            )
         }
         (Page::Security, Some(RequestMethod::Put)) => {
-            do_work(alloc, store, caller, Write(Writing::Security), request)
+            do_work(
+                alloc,
+                store,
+                caller,
+                Action::WriteSecurity,
+                Write(Writing::Security),
+                request,
+            )
         }
         (Page::BulkDocuments, Some(RequestMethod::Post)) => {
-            do_work(alloc, store, caller, Write(Writing::Documents), request)
+            do_work(
+                alloc,
+                store,
+                caller,
+                Action::WriteDocument,
+                Write(Writing::Documents),
+                request,
+            )
         }
         (Page::AllDocuments, Some(RequestMethod::Get)) => {
-            do_work(alloc, store, caller, Read(Reading::Documents), request)
+            do_work(
+                alloc,
+                store,
+                caller,
+                Action::Read,
+                Read(Reading::Documents),
+                request,
+            )
         }
         (Page::Changes, Some(RequestMethod::Get)) => {
-            do_work(alloc, store, caller, Read(Reading::Changes), request)
+            do_work(
+                alloc,
+                store,
+                caller,
+                Action::Read,
+                Read(Reading::Changes),
+                request,
+            )
         }
         (Page::Differences, Some(RequestMethod::Post)) => {
-            do_work(alloc, store, caller, Read(Reading::Differences), request)
+            do_work(
+                alloc,
+                store,
+                caller,
+                Action::Read,
+                Read(Reading::Differences),
+                request,
+            )
         }
         (Page::Document, Some(RequestMethod::Get)) => {
-            do_work(alloc, store, caller, Read(Reading::Document), request)
+            do_work(
+                alloc,
+                store,
+                caller,
+                Action::Read,
+                Read(Reading::Document),
+                request,
+            )
         }
         (Page::Document, Some(RequestMethod::Put)) => {
-            do_work(alloc, store, caller, Write(Writing::Document), request)
+            do_work(
+                alloc,
+                store,
+                caller,
+                Action::WriteDocument,
+                Write(Writing::Document),
+                request,
+            )
         }
         (Page::Document, Some(RequestMethod::Delete)) => {
-            do_work(alloc, store, caller, Write(Writing::Deletion), request)
+            do_work(
+                alloc,
+                store,
+                caller,
+                Action::WriteDocument,
+                Write(Writing::Deletion),
+                request,
+            )
         }
         (Page::Find, Some(RequestMethod::Post)) => {
-            do_work(alloc, store, caller, Read(Reading::Finds), request)
+            do_work(
+                alloc,
+                store,
+                caller,
+                Action::Read,
+                Read(Reading::Finds),
+                request,
+            )
         }
         (Page::Index, Some(RequestMethod::Post)) => {
-            do_work(alloc, store, caller, Write(Writing::Index), request)
+            do_work(
+                alloc,
+                store,
+                caller,
+                Action::WriteDocument,
+                Write(Writing::Index),
+                request,
+            )
         }
         (Page::View, Some(RequestMethod::Get)) => {
-            do_work(alloc, store, caller, Read(Reading::View), request)
+            do_work(
+                alloc,
+                store,
+                caller,
+                Action::Read,
+                Read(Reading::View),
+                request,
+            )
         }
         (Page::LocalDocument, Some(RequestMethod::Get)) => {
-            do_work(alloc, store, caller, Read(Reading::LocalDocument), request)
+            do_work(
+                alloc,
+                store,
+                caller,
+                Action::Read,
+                Read(Reading::LocalDocument),
+                request,
+            )
         }
         (Page::LocalDocument, Some(RequestMethod::Put)) => {
-            do_work(alloc, store, caller, Write(Writing::LocalDocument), request)
+            do_work(
+                alloc,
+                store,
+                caller,
+                Action::Read,
+                Write(Writing::LocalDocument),
+                request,
+            )
         }
         _ => Err(Stop::Refused(Refusal::Method)),
     }

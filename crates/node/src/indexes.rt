@@ -5,14 +5,11 @@ ghost use Rattle.couch_http.specs.Message.{message_of};
 ghost use Rattle.couch_json.specs.View.{view};
 ghost use Rattle.find.specs.IndexRead.{index_asked};
 ghost use Rattle.find.specs.Indexes.{index_in};
-ghost use Rattle.store.specs.Calls.{OnlyReads};
 ghost use Rattle.tree.specs.DocumentId.{is_design_id};
 ghost use Rattle.write.specs.BulkResults.{IsUnrefused, OfFirst};
-ghost use Rattle.write.specs.Planning.{MayBeMade};
 ghost use Rattle.api.specs.Refusals.{there_or};
-ghost use Rattle.node.specs.Answered.{done_of, says_made};
-ghost use Rattle.node.specs.Causes.{Ends};
-ghost use Rattle.node.specs.Coming.{Comes, OfThere};
+ghost use Rattle.node.specs.Answered.{says_made};
+ghost use Rattle.node.specs.Coming.{Comes, WorksIn};
 ghost use Rattle.node.specs.Works.{index_asked_in, index_reply, index_written};
 
 use crate::answered::Worked;
@@ -36,12 +33,7 @@ pub(crate) fn write_index<S: Store>(
     name: &DbName,
     request: &Request,
 ) -> Result<Worked, Stop>
-    ensures comes { S.is_honest store.new → OfThere (S.contents store.old) name.now (λ db. Comes (done_of db) result
-        (index_written caller.now (message_of request.now) name.now db)) }
-    ensures may { S.is_honest store.new → OfThere (S.contents store.old) name.now (λ db. IfOk result (λ worked. MayBeMade worked.planned.changes db)) }
-    ensures own { IfOk result (λ worked. worked.planned.database ≡ name.now) }
-    ensures ends { IfErr result (Ends S.Store store.old store.new) }
-    ensures reads { OnlyReads S.Store store.old store.new }
+    ensures works { WorksIn S.Store store.old store.new name.now (index_written caller.now (message_of request.now) name.now) result }
 {
     without_parameters(request)?;
     let value = body(alloc, request)?;
@@ -71,12 +63,7 @@ fn declare_index<S: Store>(
     index: &Index,
 ) -> Result<Worked, Stop>
     requires { is_design_id index.now.design ≡ true }
-    ensures comes { S.is_honest store.new → OfThere (S.contents store.old) name.now (λ db. Comes (done_of db) result
-        (index_asked_in caller.now name.now db (index_asked index.now))) }
-    ensures may { S.is_honest store.new → OfThere (S.contents store.old) name.now (λ db. IfOk result (λ worked. MayBeMade worked.planned.changes db)) }
-    ensures own { IfOk result (λ worked. worked.planned.database ≡ name.now) }
-    ensures ends { IfErr result (Ends S.Store store.old store.new) }
-    ensures reads { OnlyReads S.Store store.old store.new }
+    ensures works { WorksIn S.Store store.old store.new name.now (λ db. index_asked_in caller.now name.now db (index_asked index.now)) result }
 {
     let planned = match put_index(
         alloc,

@@ -1,11 +1,7 @@
 //! The pages that list a database's documents, and tell which revisions it doesn't know (CouchDB manual, api/database/bulk-api, api/database/changes and api/database/misc).
 
-ghost use Rattle.std.specs.Prelude.{◌≡◌, IfErr};
 ghost use Rattle.couch_http.specs.Message.{message_of};
-ghost use Rattle.couch_json.specs.View.{view};
-ghost use Rattle.store.specs.Calls.{OnlyReads};
-ghost use Rattle.node.specs.Causes.{Ends};
-ghost use Rattle.node.specs.Coming.{Comes, OfThere};
+ghost use Rattle.node.specs.Coming.{Reads};
 ghost use Rattle.node.specs.Works.{change_list, difference_list, document_list};
 
 use crate::stop::Stop;
@@ -23,10 +19,7 @@ pub(crate) fn list_documents<S: Store>(
     name: &DbName,
     request: &Request,
 ) -> Result<Json, Stop>
-    ensures comes { S.is_honest store.new → OfThere (S.contents store.old) name.now (λ db. Comes view result
-        (document_list (message_of request.now) db)) }
-    ensures ends { IfErr result (Ends S.Store store.old store.new) }
-    ensures reads { OnlyReads S.Store store.old store.new }
+    ensures reads { Reads S.Store store.old store.new name.now (document_list (message_of request.now)) result }
 {
     let range = listing_query(alloc, request)?;
     Ok(all_docs(alloc, store, name, range)?)
@@ -39,10 +32,7 @@ pub(crate) fn list_changes<S: Store>(
     name: &DbName,
     request: &Request,
 ) -> Result<Json, Stop>
-    ensures comes { S.is_honest store.new → OfThere (S.contents store.old) name.now (λ db. Comes view result
-        (change_list (message_of request.now) db)) }
-    ensures ends { IfErr result (Ends S.Store store.old store.new) }
-    ensures reads { OnlyReads S.Store store.old store.new }
+    ensures reads { Reads S.Store store.old store.new name.now (change_list (message_of request.now)) result }
 {
     let range = changes_query(alloc, request)?;
     Ok(changes(alloc, store, name, &range)?)
@@ -55,10 +45,7 @@ pub(crate) fn tell_differences<S: Store>(
     name: &DbName,
     request: &Request,
 ) -> Result<Json, Stop>
-    ensures comes { S.is_honest store.new → OfThere (S.contents store.old) name.now (λ db. Comes view result
-        (difference_list (message_of request.now) db)) }
-    ensures ends { IfErr result (Ends S.Store store.old store.new) }
-    ensures reads { OnlyReads S.Store store.old store.new }
+    ensures reads { Reads S.Store store.old store.new name.now (difference_list (message_of request.now)) result }
 {
     without_parameters(request)?;
     let value = body(alloc, request)?;

@@ -1,16 +1,14 @@
 //! A local document's page: `GET` and `PUT /{db}/_local/{id}` (CouchDB manual, api/local).
 
-ghost use Rattle.std.specs.Prelude.{◌≡◌, IfOk, IfErr};
+ghost use Rattle.std.specs.Prelude.{◌≡◌, IfOk};
 ghost use Rattle.couch_http.specs.Message.{message_of};
 ghost use Rattle.couch_json.specs.Value.{object};
 ghost use Rattle.couch_json.specs.View.{view};
-ghost use Rattle.store.specs.Calls.{OnlyReads};
 ghost use Rattle.store.specs.Contents.{local_at};
 ghost use Rattle.write.specs.LocalWrites.{local_outcome};
-ghost use Rattle.write.specs.Planning.{IsLocal, MayBeMade};
-ghost use Rattle.node.specs.Answered.{IsLocalReply, done_of};
-ghost use Rattle.node.specs.Causes.{Ends};
-ghost use Rattle.node.specs.Coming.{Comes, OfThere};
+ghost use Rattle.write.specs.Planning.{IsLocal};
+ghost use Rattle.node.specs.Answered.{IsLocalReply};
+ghost use Rattle.node.specs.Coming.{Reads, WorksIn};
 ghost use Rattle.node.specs.Works.{local_members, local_read, local_set, local_written};
 
 use crate::answered::Worked;
@@ -33,10 +31,7 @@ pub(crate) fn read_local<S: Store>(
     name: &DbName,
     request: &Request,
 ) -> Result<Json, Stop>
-    ensures comes { S.is_honest store.new → OfThere (S.contents store.old) name.now (λ db. Comes view result
-        (local_read (message_of request.now) db)) }
-    ensures ends { IfErr result (Ends S.Store store.old store.new) }
-    ensures reads { OnlyReads S.Store store.old store.new }
+    ensures reads { Reads S.Store store.old store.new name.now (local_read (message_of request.now)) result }
 {
     let id = local_id(alloc, &request.path)?;
     without_parameters(request)?;
@@ -51,12 +46,7 @@ pub(crate) fn write_local<S: Store>(
     name: &DbName,
     request: &Request,
 ) -> Result<Worked, Stop>
-    ensures comes { S.is_honest store.new → OfThere (S.contents store.old) name.now (λ db. Comes (done_of db) result
-        (local_written caller.now (message_of request.now) db)) }
-    ensures may { S.is_honest store.new → OfThere (S.contents store.old) name.now (λ db. IfOk result (λ worked. MayBeMade worked.planned.changes db)) }
-    ensures own { IfOk result (λ worked. worked.planned.database ≡ name.now) }
-    ensures ends { IfErr result (Ends S.Store store.old store.new) }
-    ensures reads { OnlyReads S.Store store.old store.new }
+    ensures works { WorksIn S.Store store.old store.new name.now (local_written caller.now (message_of request.now)) result }
 {
     let id = local_id(alloc, &request.path)?;
     without_parameters(request)?;
@@ -73,12 +63,7 @@ fn set_local<S: Store>(
     id: &DocId,
     document: Json,
 ) -> Result<Worked, Stop>
-    ensures comes { S.is_honest store.new → OfThere (S.contents store.old) name.now (λ db. Comes (done_of db) result
-        (local_set caller.now id.now (local_outcome (local_at db id.now) id.now (view document)))) }
-    ensures may { S.is_honest store.new → OfThere (S.contents store.old) name.now (λ db. IfOk result (λ worked. MayBeMade worked.planned.changes db)) }
-    ensures own { IfOk result (λ worked. worked.planned.database ≡ name.now) }
-    ensures ends { IfErr result (Ends S.Store store.old store.new) }
-    ensures reads { OnlyReads S.Store store.old store.new }
+    ensures works { WorksIn S.Store store.old store.new name.now (λ db. local_set caller.now id.now (local_outcome (local_at db id.now) id.now (view document))) result }
 {
     let planned = match put_local(alloc, store, name, id, document) {
         Ok(planned) => planned,

@@ -1,13 +1,9 @@
 //! The page of a database's security object (CouchDB manual, api/database/security).
 
-ghost use Rattle.std.specs.Prelude.{◌≡◌, IfOk, IfErr};
 ghost use Rattle.couch_http.specs.Message.{message_of};
 ghost use Rattle.couch_json.specs.View.{view};
-ghost use Rattle.store.specs.Calls.{OnlyReads};
-ghost use Rattle.write.specs.Planning.{MayBeMade, security_outcome};
-ghost use Rattle.node.specs.Answered.{done_of};
-ghost use Rattle.node.specs.Causes.{Ends};
-ghost use Rattle.node.specs.Coming.{Comes, OfThere};
+ghost use Rattle.write.specs.Planning.{security_outcome};
+ghost use Rattle.node.specs.Coming.{Reads, WorksIn};
 ghost use Rattle.node.specs.Works.{security_read, security_set, security_written};
 
 use crate::answered::Worked;
@@ -27,10 +23,7 @@ pub(crate) fn read_security<S: Store>(
     name: &DbName,
     request: &Request,
 ) -> Result<Json, Stop>
-    ensures comes { S.is_honest store.new → OfThere (S.contents store.old) name.now (λ db. Comes view result
-        (security_read (message_of request.now) db)) }
-    ensures ends { IfErr result (Ends S.Store store.old store.new) }
-    ensures reads { OnlyReads S.Store store.old store.new }
+    ensures reads { Reads S.Store store.old store.new name.now (security_read (message_of request.now)) result }
 {
     without_parameters(request)?;
     let security = store.security(name)?;
@@ -44,12 +37,7 @@ pub(crate) fn write_security<S: Store>(
     name: &DbName,
     request: &Request,
 ) -> Result<Worked, Stop>
-    ensures comes { S.is_honest store.new → OfThere (S.contents store.old) name.now (λ db. Comes (done_of db) result
-        (security_written (message_of request.now) db)) }
-    ensures may { S.is_honest store.new → OfThere (S.contents store.old) name.now (λ db. IfOk result (λ worked. MayBeMade worked.planned.changes db)) }
-    ensures own { IfOk result (λ worked. worked.planned.database ≡ name.now) }
-    ensures ends { IfErr result (Ends S.Store store.old store.new) }
-    ensures reads { OnlyReads S.Store store.old store.new }
+    ensures works { WorksIn S.Store store.old store.new name.now (security_written (message_of request.now)) result }
 {
     without_parameters(request)?;
     let value = body(alloc, request)?;
@@ -63,12 +51,7 @@ fn set_security<S: Store>(
     name: &DbName,
     value: &Json,
 ) -> Result<Worked, Stop>
-    ensures comes { S.is_honest store.new → OfThere (S.contents store.old) name.now (λ db. Comes (done_of db) result
-        (security_set (security_outcome (view value.now)))) }
-    ensures may { S.is_honest store.new → OfThere (S.contents store.old) name.now (λ db. IfOk result (λ worked. MayBeMade worked.planned.changes db)) }
-    ensures own { IfOk result (λ worked. worked.planned.database ≡ name.now) }
-    ensures ends { IfErr result (Ends S.Store store.old store.new) }
-    ensures reads { OnlyReads S.Store store.old store.new }
+    ensures works { WorksIn S.Store store.old store.new name.now (λ db. security_set (security_outcome (view value.now))) result }
 {
     let planned = match put_security(alloc, store, name, value) {
         Ok(planned) => planned,

@@ -3,13 +3,11 @@
 ghost use Rattle.std.specs.Prelude.{◌≡◌, IfOk, IfErr, Ok, Some};
 ghost use Rattle.std.specs.FinMap as map;
 ghost use Rattle.couch_http.specs.Message.{message_of};
-ghost use Rattle.couch_json.specs.View.{view};
 ghost use Rattle.store.specs.Calls.{OnlyReads};
-ghost use Rattle.write.specs.Planning.{MayBeMade};
 ghost use Rattle.node.specs.Answer.{entry, outcome_in, task_outcome, work_task};
-ghost use Rattle.node.specs.Answered.{MayChange, action_of, done_of, outcome_of, reading_of, work_of, writing_of};
+ghost use Rattle.node.specs.Answered.{MayChange, outcome_of, reading_of, work_of, writing_of};
 ghost use Rattle.node.specs.Causes.{Ends};
-ghost use Rattle.node.specs.Coming.{Comes, OfThere};
+ghost use Rattle.node.specs.Coming.{Comes, Judges, OfThere, Reads, WorksIn};
 ghost use Rattle.api.specs.Refusals.{next};
 
 use crate::answered::{Answered, Change, Worked};
@@ -79,35 +77,20 @@ pub(crate) enum Writing {
     LocalDocument,
 }
 
-/// Returns the action that the policy of the database is asked for.
-fn action_of(work: Work) -> Action
-    ensures { result ≡ action_of work }
-{
-    match work {
-        Work::Read(_) | Work::Write(Writing::LocalDocument) => Action::Read,
-        Work::Write(Writing::Security) => Action::WriteSecurity,
-        Work::Write(Writing::Documents | Writing::Document | Writing::Deletion | Writing::Index) =>
-            Action::WriteDocument,
-    }
-}
-
 /// Does work in the database that the path leads into, where there is one and its policy lets the
-/// caller do this; but for the change of the store itself.
+/// caller do this action; but for the change of the store itself.
 pub(crate) fn do_work<S: Store>(
     alloc: Global,
     store: &mut S,
     caller: &Caller,
+    action: Action,
     work: Work,
     request: &Request,
 ) -> Result<Answered, Stop>
-    ensures comes { S.is_honest store.new → Comes (outcome_of (S.contents store.old)) result
-        (next (work_task (action_of work) (message_of request.now) (work_of work caller.now (message_of request.now))) (task_outcome caller.now (S.contents store.old))) }
-    ensures may { S.is_honest store.new → IfOk result (λ answered. MayChange (S.contents store.old) answered.change) }
-    ensures ends { IfErr result (Ends S.Store store.old store.new) }
-    ensures reads { OnlyReads S.Store store.old store.new }
+    ensures judges { Judges S.Store store.old store.new (next (work_task action (message_of request.now) (work_of work caller.now (message_of request.now))) (task_outcome caller.now (S.contents store.old))) result }
 {
     let name = database_name(alloc, &request.path)?;
-    match enter(store, action_of(work), caller, &name) {
+    match enter(store, action, caller, &name) {
         Ok(()) => perform(alloc, store, caller, &name, work, request),
         Err(stop) => Err(stop),
     }
@@ -175,10 +158,7 @@ fn read<S: Store>(
     reading: Reading,
     request: &Request,
 ) -> Result<Json, Stop>
-    ensures comes { S.is_honest store.new → OfThere (S.contents store.old) name.now (λ db. Comes view result
-        (reading_of reading (message_of request.now) name.now db)) }
-    ensures ends { IfErr result (Ends S.Store store.old store.new) }
-    ensures reads { OnlyReads S.Store store.old store.new }
+    ensures reads { Reads S.Store store.old store.new name.now (reading_of reading (message_of request.now) name.now) result }
 {
     match reading {
         Reading::Database => read_database(alloc, store, name, request),
@@ -202,12 +182,7 @@ fn write<S: Store>(
     writing: Writing,
     request: &Request,
 ) -> Result<Worked, Stop>
-    ensures comes { S.is_honest store.new → OfThere (S.contents store.old) name.now (λ db. Comes (done_of db) result
-        (writing_of writing caller.now (message_of request.now) name.now db)) }
-    ensures may { S.is_honest store.new → OfThere (S.contents store.old) name.now (λ db. IfOk result (λ worked. MayBeMade worked.planned.changes db)) }
-    ensures own { IfOk result (λ worked. worked.planned.database ≡ name.now) }
-    ensures ends { IfErr result (Ends S.Store store.old store.new) }
-    ensures reads { OnlyReads S.Store store.old store.new }
+    ensures works { WorksIn S.Store store.old store.new name.now (writing_of writing caller.now (message_of request.now) name.now) result }
 {
     match writing {
         Writing::Security => write_security(alloc, store, name, request),

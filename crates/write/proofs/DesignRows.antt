@@ -1,7 +1,7 @@
 -- The rows of the range of design documents give the design documents of the database, and rules are taken in row by row.
 use Rattle.std.proofs.Common.{◌≡◌, ℕ, suc, ◌+◌, ◌<◌, arith, get_or, length, Bool, true, false, not, ◌||◌, cond, drop, nat_eq, List, [], ◌∷◌, ◌++◌, Option, Some, None, option_map, Result, Ok, Err, eqb-true, refl, sym, ap, subst, ◌∙◌, inl, inr}
 use Rattle.std.proofs.Math.Seq.{drop-cons}
-use Rattle.std.specs.Prelude.{IfOk, codes, filter, flat_map, option_and_then}
+use Rattle.std.specs.Prelude.{IfOk, codes, filter, flat_map}
 use Rattle.std.specs.List.{starts_with}
 use Rattle.std.specs.Cmp.{first_so, second_so}
 use Rattle.std.specs.FinMap as finite
@@ -10,7 +10,6 @@ use Rattle.auth.specs.Callers.{Identity}
 use Rattle.couch_json.specs.Value.{Value}
 use Rattle.policy.specs.UpdateRules.{Rules, rules_of, with_rule, with_rules}
 use Rattle.tree.specs.DocumentId.{is_design_id}
-use Rattle.tree.specs.History.{held_of}
 use Rattle.tree.specs.Revision.{Revision}
 use Rattle.tree.specs.declared.entry.Held.{Held}
 use Rattle.tree.proofs.Kept.{true_from_T}
@@ -21,7 +20,7 @@ use Rattle.store.specs.declared.page.IdRange.{IdRange}
 use Rattle.store.specs.declared.page.IdRow.{IdRow}
 use Rattle.store.proofs.Listings.{Entry, In, in_found}
 use Rattle.write.specs.Terms.{Terms, as_design_document, design_document_of, design_documents_in, rules_in, terms_in}
-use Rattle.store.specs.Indexes.{winning_body}
+use Rattle.store.specs.Indexes.{held_by, winning_body}
 use Rattle.write.specs.declared.fault.WriteFault.{WriteFault}
 use Rattle.write.specs.TermsRead.{IsDesignRange, document_at}
 
@@ -78,7 +77,7 @@ rows_give range d (e ∷ es) is found = by (rows_give range d es is (λ x i. fou
     within rest r false k = rest ∙ ap (λ ds. ds ++ flat_map design_document_of es) (sym (no_design range e.0 _ is k))
 
     by : Gives range d es → (o : Option Revision) → live_rev e.1.history ≡ o → flat_map (λ r. document_at d r.id) (filter (λ r. is_within range r.id) (with_row e.0 o (live_rows es))) ≡ design_document_of e ++ flat_map design_document_of es
-    by rest None k = rest ∙ ap (λ ds. ds ++ flat_map design_document_of es) (sym (no_document e.0 _ (ap (option_and_then (λ r. option_map (λ (h : Held). h.body) (held_of e.1.history r))) k)))
+    by rest None k = rest ∙ ap (λ ds. ds ++ flat_map design_document_of es) (sym (no_document e.0 _ (ap (λ (o : Option Revision). option_map (λ (h : Held). h.body) (held_by e.1.history o)) k)))
     by rest (Some r) k = within rest r (is_within range e.0) refl
 
 cut : (range : IdRange) (rs : List IdRow) → IsDesignRange range → up_to_limit range.limit (drop range.skip (rows_within range rs)) ≡ filter (λ r. is_within range r.id) rs

@@ -4,7 +4,7 @@ use Rattle.store.specs.Causes.{HasFailed}
 use Rattle.store.specs.declared.fault.StoreFault.{StoreFault}
 use Rattle.store.specs.declared.fault.StoreFault.TheVariants as store
 use Rattle.store.specs.declared.store.Store.{Ghosts}
-use Rattle.std.specs.Prelude.{Result, Ok, Err, ⊤}
+use Rattle.std.specs.Prelude.{◌≢◌, Result, Ok, Err, ⊤}
 use Rattle.write.specs.declared.fault.WriteFault.{WriteFault}
 use Rattle.write.specs.declared.fault.WriteFault.TheVariants.{BadDocument, Denied, BadHistory, Conflict, Generation, Store, Memory}
 
@@ -33,6 +33,10 @@ Refuses g old new absent full BadHistory = ⊤
 Refuses g old new absent full Conflict = ⊤
 Refuses g old new absent full Generation = ⊤
 Refuses g old new absent full Memory = ⊤
+
+-- the fault is the store's or want of memory, and no other
+abbrev pub IsOfStoreOrMemory : WriteFault → Type 0
+IsOfStoreOrMemory fault = fault ≢ Memory → ((cause : StoreFault) → fault ≢ Store cause) → ⊥
 
 -- the fault is one of the document, and not of the store or of memory
 abbrev pub IsOwn : WriteFault → Type 0

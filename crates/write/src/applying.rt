@@ -1,9 +1,9 @@
-ghost use Rattle.std.specs.Prelude.{◌≡◌, ◌≢◌, IfErr, OnOk, Some, None, option_map};
+ghost use Rattle.std.specs.Prelude.{◌≡◌, IfErr, OnOk, Some, None, option_map};
 ghost use Rattle.std.specs.FinMap as map;
 ghost use Rattle.store.specs.Calls.{ChangesWhole};
 ghost use Rattle.store.specs.Contents.{IfThere};
 ghost use Rattle.write.specs.Planning.{LacksRoomFor, MayBeMade, database_after};
-ghost use Rattle.write.specs.Refusing.{Refuses};
+ghost use Rattle.write.specs.Refusing.{IsOfStoreOrMemory, Refuses};
 
 use crate::fault::WriteFault;
 use crate::planned::{Changes, Planned};
@@ -19,7 +19,7 @@ pub fn apply<S: Store>(store: &mut S, planned: Planned) -> Result<(), WriteFault
     requires { S.is_honest store.old → IfThere (map.get (S.contents store.old) planned.database) (λ d. MayBeMade planned.changes d) }
     ensures ok { S.is_honest store.new → OnOk result (option_map (λ d. map.insert (S.contents store.old) planned.database (database_after planned.changes d))
         (map.get (S.contents store.old) planned.database) ≡ Some (S.contents store.new)) }
-    ensures only { IfErr result (λ fault. fault ≢ WriteFault.Memory → ((cause : _) → fault ≢ WriteFault.Store cause) → ⊥) }
+    ensures only { IfErr result IsOfStoreOrMemory }
     ensures passed { IfErr result (Refuses S.Store store.old store.new (map.get (S.contents store.old) planned.database ≡ None)
         (S.is_honest store.new → IfThere (map.get (S.contents store.old) planned.database) (λ d. LacksRoomFor (S.lacks_room store.old) planned.database planned.changes d))) }
     ensures changes { ChangesWhole S.Store store.old store.new result }

@@ -13,7 +13,7 @@ ghost use Rattle.write.specs.Bulk.{Histories, after, all_told, document_outcome,
 ghost use Rattle.write.specs.BulkResults.{IsHeld, IsOwnOutcome, brought, seen_in, told_of};
 ghost use Rattle.write.specs.Document.{id_in};
 ghost use Rattle.write.specs.Planning.{AreWrites, Plans};
-ghost use Rattle.write.specs.Refusing.{IsDecided, Refuses};
+ghost use Rattle.write.specs.Refusing.{IsDecided, IsOfStoreOrMemory, Refuses};
 ghost use Rattle.write.specs.Terms.{terms_in};
 ghost use Rattle.write.specs.TermsRead.{terms_of};
 
@@ -55,7 +55,7 @@ pub fn bulk<S: Store>(
     ensures appends { IfOk result (λ planned. AreWrites planned.changes) }
     ensures own { IfOk result (λ planned. All (λ r. IsOwnOutcome r.outcome) planned.results.items) }
     ensures database { IfOk result (λ planned. planned.database ≡ db.now) }
-    ensures only { IfErr result (λ fault. fault ≢ WriteFault.Memory → ((cause : _) → fault ≢ WriteFault.Store cause) → ⊥) }
+    ensures only { IfErr result IsOfStoreOrMemory }
     ensures passed { IfErr result (Refuses S.Store store.old store.new (map.get (S.contents store.old) db.now ≡ None) ⊥) }
     ensures reads { OnlyReads S.Store store.old store.new }
 {
@@ -82,7 +82,7 @@ fn judge_all<S: Store>(
     ensures results { S.is_honest store.new → IfOk result (λ all. (d : Database) → map.get (S.contents store.old) db.now ≡ Some d
         → list_map told_of all.1.items ≡ all_told (list_map view documents.items) (outcomes (terms_of terms.now) new_edits (history_at d) (list_map view documents.items))) }
     ensures own { IfOk result (λ all. All (λ r. IsOwnOutcome r.outcome) all.1.items) }
-    ensures only { IfErr result (λ fault. fault ≢ WriteFault.Memory → ((cause : _) → fault ≢ WriteFault.Store cause) → ⊥) }
+    ensures only { IfErr result IsOfStoreOrMemory }
     ensures passed { IfErr result (Refuses S.Store store.old store.new (map.get (S.contents store.old) db.now ≡ None) ⊥) }
     ensures reads { OnlyReads S.Store store.old store.new }
 {

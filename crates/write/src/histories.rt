@@ -1,6 +1,6 @@
 //! The histories of the documents that are written together, by id.
 
-ghost use Rattle.std.specs.Prelude.{◌≡◌, ◌≢◌, IfErr, OnOk, OnErr, Some, None};
+ghost use Rattle.std.specs.Prelude.{◌≡◌, IfErr, OnOk, OnErr, Some, None};
 ghost use Rattle.std.specs.FinMap as map;
 ghost use Rattle.couch_json.specs.View.{view};
 ghost use Rattle.tree.specs.History.{with_write};
@@ -10,7 +10,7 @@ ghost use Rattle.store.specs.Writing.{addition_of, written_in};
 ghost use Rattle.write.specs.Bulk.{Histories};
 ghost use Rattle.write.specs.BulkResults.{IsHeld, seen_in, with_history};
 ghost use Rattle.write.specs.Document.{id_in};
-ghost use Rattle.write.specs.Refusing.{Refuses};
+ghost use Rattle.write.specs.Refusing.{IsOfStoreOrMemory, Refuses};
 
 use crate::document::read_id;
 use crate::fault::WriteFault;
@@ -31,7 +31,7 @@ pub(crate) fn load<S: Store>(
     ensures ok { S.is_honest store.new → OnOk result ((d : Database) → map.get (S.contents store.old) db.now ≡ Some d
         → seen_in (history_at d) histories.new ≡ seen_in (history_at d) histories.old) }
     ensures held { OnOk result (IsHeld histories.new (id_in (view document.now))) }
-    ensures only { IfErr result (λ fault. fault ≢ WriteFault.Memory → ((cause : _) → fault ≢ WriteFault.Store cause) → ⊥) }
+    ensures only { IfErr result IsOfStoreOrMemory }
     ensures passed { IfErr result (Refuses S.Store store.old store.new (map.get (S.contents store.old) db.now ≡ None) ⊥) }
     ensures reads { OnlyReads S.Store store.old store.new }
 {

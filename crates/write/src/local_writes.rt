@@ -8,7 +8,7 @@ ghost use Rattle.store.specs.Contents.{IfThere, local_at};
 ghost use Rattle.store.specs.Database.{Database};
 ghost use Rattle.write.specs.LocalWrites.{are_local_allowed, is_local_allowed, is_local_member, local_body, local_outcome, local_rev, local_rev_in, names_stored, next_number};
 ghost use Rattle.write.specs.Planning.{IsLocal, IsLocalOf, MayBeMade};
-ghost use Rattle.write.specs.Refusing.{IsDecided, IsOwn, Refuses};
+ghost use Rattle.write.specs.Refusing.{IsDecided, IsOfStoreOrMemory, IsOwn, Refuses};
 
 use crate::document::{MAX_BODY_DEPTH, fits_id, is_special, without_special};
 use crate::fault::WriteFault;
@@ -50,7 +50,7 @@ pub fn put_local<S: Store>(
     ensures refused { S.is_honest store.new → IfErr result (λ fault. IsOwn fault
         → IfThere (map.get (S.contents store.old) db.now) (λ d. local_outcome (local_at d id.now) id.now (view document) ≡ Err fault)) }
     ensures only { IfErr result (λ fault. fault ≢ WriteFault.BadDocument → fault ≢ WriteFault.Conflict → fault ≢ WriteFault.Generation
-        → fault ≢ WriteFault.Memory → ((cause : _) → fault ≢ WriteFault.Store cause) → ⊥) }
+        → IsOfStoreOrMemory fault) }
     ensures passed { IfErr result (Refuses S.Store store.old store.new (map.get (S.contents store.old) db.now ≡ None) ⊥) }
     ensures reads { OnlyReads S.Store store.old store.new }
 {

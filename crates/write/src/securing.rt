@@ -2,7 +2,7 @@ ghost use Rattle.std.specs.Prelude.{◌≡◌, ◌≢◌, [], true, IfOk, IfErr,
 ghost use Rattle.std.specs.FinMap as map;
 ghost use Rattle.couch_json.specs.View.{view};
 ghost use Rattle.store.specs.Calls.{OnlyReads};
-ghost use Rattle.write.specs.Refusing.{IsDecided, IsOwn, Refuses};
+ghost use Rattle.write.specs.Refusing.{IsDecided, IsOfStoreOrMemory, IsOwn, Refuses};
 ghost use Rattle.write.specs.Planning.{security_outcome};
 
 use crate::fault::WriteFault;
@@ -29,7 +29,7 @@ pub fn put_security<S: Store>(
     ensures results { IfOk result (λ planned. planned.results.items ≡ []) }
     ensures database { IfOk result (λ planned. planned.database ≡ db.now) }
     ensures refused { IfErr result (λ fault. IsOwn fault → security_outcome (view value.now) ≡ Err fault) }
-    ensures only { IfErr result (λ fault. fault ≢ WriteFault.BadDocument → fault ≢ WriteFault.Memory → ((cause : _) → fault ≢ WriteFault.Store cause) → ⊥) }
+    ensures only { IfErr result (λ fault. fault ≢ WriteFault.BadDocument → IsOfStoreOrMemory fault) }
     ensures passed { IfErr result (Refuses S.Store store.old store.new (map.get (S.contents store.old) db.now ≡ None) ⊥) }
     ensures reads { OnlyReads S.Store store.old store.new }
 {

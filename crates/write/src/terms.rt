@@ -1,13 +1,13 @@
 //! The terms on which a caller writes.
 
-ghost use Rattle.std.specs.Prelude.{◌≡◌, ◌≢◌, true, IfOk, IfErr, None, OnOk, Some, flat_map, is_some};
+ghost use Rattle.std.specs.Prelude.{◌≡◌, true, IfOk, IfErr, None, OnOk, Some, flat_map, is_some};
 ghost use Rattle.std.specs.FinMap as map;
 ghost use Rattle.store.specs.Calls.{OnlyReads};
 ghost use Rattle.store.specs.Contents.{IfThere};
 ghost use Rattle.store.specs.Database.{Database};
 ghost use Rattle.tree.specs.DocumentId.{is_design_id};
 ghost use Rattle.policy.specs.UpdateRules.{rules_of, with_rules};
-ghost use Rattle.write.specs.Refusing.{IsDecided, Refuses};
+ghost use Rattle.write.specs.Refusing.{IsDecided, IsOfStoreOrMemory, Refuses};
 ghost use Rattle.store.specs.Indexes.{winning_body};
 ghost use Rattle.write.specs.Terms.{as_design_document, rules_in, terms_in};
 ghost use Rattle.write.specs.TermsRead.{IsDesignRange, document_at, terms_of};
@@ -56,7 +56,7 @@ pub fn read_terms<'a, S: Store>(
 ) -> Result<Terms<'a>, WriteFault>
     ensures there { S.is_honest store.new → IsDecided result → is_some (map.get (S.contents store.old) db.now) ≡ true }
     ensures terms { S.is_honest store.new → IfOk result (λ t. IfThere (map.get (S.contents store.old) db.now) (λ d. terms_of t ≡ terms_in caller.now db.now d)) }
-    ensures only { IfErr result (λ fault. fault ≢ WriteFault.Memory → ((cause : _) → fault ≢ WriteFault.Store cause) → ⊥) }
+    ensures only { IfErr result IsOfStoreOrMemory }
     ensures passed { IfErr result (Refuses S.Store store.old store.new (map.get (S.contents store.old) db.now ≡ None) ⊥) }
     ensures reads { OnlyReads S.Store store.old store.new }
 {
@@ -73,7 +73,7 @@ pub fn read_terms<'a, S: Store>(
 /// Reads the update rules of a database.
 fn read_rules<S: Store>(alloc: Global, store: &mut S, db: &DbName) -> Result<RuleSet, WriteFault>
     ensures rules { S.is_honest store.new → IfOk result (λ rules. IfThere (map.get (S.contents store.old) db.now) (λ d. rules ≡ rules_in d)) }
-    ensures only { IfErr result (λ fault. fault ≢ WriteFault.Memory → ((cause : _) → fault ≢ WriteFault.Store cause) → ⊥) }
+    ensures only { IfErr result IsOfStoreOrMemory }
     ensures passed { IfErr result (Refuses S.Store store.old store.new (map.get (S.contents store.old) db.now ≡ None) ⊥) }
     ensures reads { OnlyReads S.Store store.old store.new }
 {
@@ -108,7 +108,7 @@ fn take_rules<S: Store>(
 ) -> Result<RuleSet, WriteFault>
     ensures rules { S.is_honest store.new → IfOk result (λ rules. (d : Database) → map.get (S.contents store.old) db.now ≡ Some d
         → rules ≡ rules_of (flat_map (λ r. document_at d r.id) rows.now)) }
-    ensures only { IfErr result (λ fault. fault ≢ WriteFault.Memory → ((cause : _) → fault ≢ WriteFault.Store cause) → ⊥) }
+    ensures only { IfErr result IsOfStoreOrMemory }
     ensures passed { IfErr result (Refuses S.Store store.old store.new (map.get (S.contents store.old) db.now ≡ None) ⊥) }
     ensures reads { OnlyReads S.Store store.old store.new }
 {
@@ -128,7 +128,7 @@ fn take_rule<S: Store>(
 ) -> Result<(), WriteFault>
     ensures rules { S.is_honest store.new → OnOk result ((d : Database) → map.get (S.contents store.old) db.now ≡ Some d
         → rules.new ≡ with_rules rules.old (document_at d id.now)) }
-    ensures only { IfErr result (λ fault. fault ≢ WriteFault.Memory → ((cause : _) → fault ≢ WriteFault.Store cause) → ⊥) }
+    ensures only { IfErr result IsOfStoreOrMemory }
     ensures passed { IfErr result (Refuses S.Store store.old store.new (map.get (S.contents store.old) db.now ≡ None) ⊥) }
     ensures reads { OnlyReads S.Store store.old store.new }
 {

@@ -15,4 +15,4 @@ returns-in-Err-clause-comes g c = λ honest db there.
     let m = message_of c.args.request.now in
     let name = c.args.name.now in
     subst (λ (w : Work). Comes (outcome_of databases) (Err c.in-Err.stop) (next (work_of w caller m name db) (λ d. Ok (outcome_in name d)))) (sym c.in-Write.is)
-    (work_stops databases name db c.in-Err.stop (writing_of c.in-Write.writing caller m name db) (c.in-Err.ensures.comes honest db there))
+    (work_stops databases name db c.in-Err.stop (writing_of c.in-Write.writing caller m name db) (c.in-Err.ensures.works.comes honest db there))
