@@ -20,16 +20,16 @@ use std::process::ExitCode;
 use store::PlainStore;
 
 /// The kinds of rows that this program plays.
-struct Requests;
+struct NodeRows;
 
 /// Plays the files that the command line names or, where it names none, all files of the folder.
 /// The status is 0 where each row is as its answer says, else 1, with what differs on standard error.
 fn main(rt: HostRuntime) -> ExitCode {
-    play_files::<Requests, _>(&rt, "requests")
+    play_files::<NodeRows, _>(&rt, "requests")
 }
 
 /// Rows about nodes are played twice: over plain stores, and over tables.
-impl Player for Requests {
+impl Player for NodeRows {
     fn play_file(alloc: Global, file: RowText<'_>, report: &mut Report) -> Result<(), RowsFault> {
         match file.ending {
             "commands" => play(alloc, file, command_lines::CommandLines { alloc }, report),
