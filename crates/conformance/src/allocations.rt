@@ -1,4 +1,4 @@
-use crate::client::{node, reply, request, store};
+use crate::local_client::{node, reply, request, store};
 use std::test::Fail;
 
 const THREE: &str =

@@ -6,7 +6,11 @@
 #[cfg(test)]
 mod allocations;
 #[cfg(test)]
-mod client;
+mod broken_streams;
+#[cfg(test)]
+mod exchanges;
+#[cfg(test)]
+mod local_client;
 #[cfg(test)]
 mod scripts;
 #[cfg(test)]

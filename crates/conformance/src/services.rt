@@ -1,10 +1,9 @@
 //! Connections that are served from a reader that fails, and to a writer that fails.
 
-use crate::client::{node, store};
+use crate::broken_streams::{Broken, Slow};
+use crate::local_client::{node, store};
 use hub::{Hub, ServiceEnd, serve_connection};
 use std::alloc::Global;
-use std::io;
-use std::io::{ErrorKind, Read, Write};
 use std::test::Fail;
 
 /// What a client sends.
@@ -13,41 +12,6 @@ const SENT: &str = "PUT /db/a HTTP/1.1\r\nContent-Length: 8\r\n\r\n{\"by\":2}";
 /// The reply to it. The digits are python's hashlib: MD5 of `[false,0,"",{"by":2}]`.
 const REPLY: &str =
     "HTTP/1.1 201 Created\r\nContent-Type: application/json\r\nContent-Length: 63\r\n\r\n{\"id\":\"a\",\"ok\":true,\"rev\":\"1-2d7a80213a8d8f3c3b9505fc74d6ba3f\"}";
-
-/// A reader that fails at once.
-#[derive(Drop)]
-struct Broken;
-
-impl Read for Broken {
-    fn read(&mut self, _buf: &mut [u8]) -> io::Result<usize> {
-        Err(io::Error::from(ErrorKind::BrokenPipe))
-    }
-}
-
-/// A writer that takes a byte each time, and fails once it has taken so many.
-#[derive(Drop)]
-struct Slow {
-    bytes: Vec<u8>,
-    left: usize,
-}
-
-impl Write for Slow {
-    fn write(&mut self, buf: &[u8]) -> io::Result<usize> {
-        let Some(byte) = buf.first() else {
-            return Ok(0);
-        };
-        if self.left == 0 {
-            return Err(io::Error::from(ErrorKind::BrokenPipe));
-        }
-        self.left -= 1;
-        self.bytes.push(*byte)?;
-        Ok(1)
-    }
-
-    fn flush(&mut self) -> io::Result<()> {
-        Ok(())
-    }
-}
 
 /// Where the first read fails, nothing goes out.
 #[test]
@@ -65,10 +29,7 @@ fn a_read_that_fails_ends_a_connection(rt: HostRuntime) -> Result<(), Fail> {
 /// Serves a connection whose writer takes so many bytes. Returns these, and why the service ended.
 fn serve_slow(alloc: Global, taken: usize) -> Result<(Vec<u8>, ServiceEnd), Fail> {
     let mut hub = Hub::new(alloc, node(alloc, store(alloc)?)?);
-    let mut writer = Slow {
-        bytes: Vec::new(alloc),
-        left: taken,
-    };
+    let mut writer = Slow::new(alloc, taken);
     let end = serve_connection(&mut hub, &mut SENT.as_bytes(), &mut writer);
     Ok((writer.bytes, end))
 }

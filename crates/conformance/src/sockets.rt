@@ -1,6 +1,6 @@
 //! A server over a socket of this machine.
 
-use crate::client::{node, request, store};
+use crate::local_client::{node, request, store};
 use hub::{Hub, ServiceEnd, serve_connection};
 use server::{open_hub, serve};
 use std::alloc::Global;

@@ -1,4 +1,4 @@
-use crate::client::{node, reply, store};
+use crate::local_client::{node, reply, store};
 use std::test::Fail;
 use store::{DbName, FailingStore};
 

@@ -1,0 +1,50 @@
+//! A reader and a writer that fail.
+
+use std::alloc::Global;
+use std::io;
+use std::io::{ErrorKind, Read, Write};
+
+/// A reader that fails at once.
+#[derive(Drop)]
+pub struct Broken;
+
+impl Read for Broken {
+    fn read(&mut self, _buf: &mut [u8]) -> io::Result<usize> {
+        Err(io::Error::from(ErrorKind::BrokenPipe))
+    }
+}
+
+/// A writer that takes a byte each time, and fails once it has taken so many.
+#[derive(Drop)]
+pub struct Slow {
+    pub bytes: Vec<u8>,
+    left: usize,
+}
+
+impl Slow {
+    /// Makes a writer that takes so many bytes.
+    pub fn new(alloc: Global, left: usize) -> Slow {
+        Slow {
+            bytes: Vec::new(alloc),
+            left,
+        }
+    }
+}
+
+impl Write for Slow {
+    fn write(&mut self, buf: &[u8]) -> io::Result<usize> {
+        let Some(byte) = buf.first() else {
+            return Ok(0);
+        };
+        if self.left == 0 {
+            return Err(io::Error::from(ErrorKind::BrokenPipe));
+        }
+        self.left -= 1;
+        self.bytes.push(*byte)?;
+        Ok(1)
+    }
+
+    fn flush(&mut self) -> io::Result<()> {
+        Ok(())
+    }
+}
