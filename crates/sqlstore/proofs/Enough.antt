@@ -3,7 +3,7 @@ use Rattle.sqlstore.proofs.Common.{AllByRecursion, AreEnoughById, AreEnoughBySeq
 use Rattle.std.specs.Option.{option_to_list}
 use Rattle.store.proofs.Directed.{filter-directed}
 use Rattle.store.specs.declared.page.IdRange.{IdRange}
-use Rattle.tables.proofs.Sorted.{passing}
+use Rattle.tables.proofs.RowMaps.{passing}
 
 -- ---- an id within a range lies between its ends
 

@@ -6,7 +6,8 @@ use Rattle.store.specs.declared.key_page.KeyRange.{KeyRange}
 use Rattle.store.specs.declared.page.IdRange.{IdRange}
 use Rattle.tables.proofs.ListingRows.{counts_by_sequence, documents_by_id, leaves_by_sequence, live_by_id, winners_by_sequence}
 use Rattle.tables.proofs.Lookups.{document_found}
-use Rattle.tables.proofs.Sorted.{all_sorted, passing}
+use Rattle.tables.proofs.RowMaps.{passing}
+use Rattle.tables.proofs.Sorted.{all_sorted}
 use Rattle.sqlstore.proofs.Answering.{IsThere, at_first}
 use Rattle.sqlstore.proofs.ListedRows.{counts_set, id_rows_set, leaves_rows, page_kept, places_set, sequence_rows_set}
 

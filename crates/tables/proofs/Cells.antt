@@ -1,5 +1,5 @@
 -- What the tests of a statement say of the cells of a row.
-use Rattle.tables.proofs.Common.{AllByRecursion, AreKeyed, Binary, Blob, Bool, Int, IsKeyed, List, Null, Row, Term, Value, [], all_weaker, ap, bytes_eq, cast, col, column, cond, db_of, false, holds, id_of, int_eq, int_lt, is_eq-slice_cmp, is_in, is_of, lies_between, list_all, op2, pos, refl, true, ℕ, ℤ, ◌&&◌, ◌∙◌, ◌∷◌, ◌≡◌}
+use Rattle.tables.proofs.Common.{AllByRecursion, AreKeyed, Binary, Blob, Bool, Equal, Int, IsKeyed, List, Null, Row, Term, Value, [], all_weaker, ap, ap₂, bytes_eq, cast, col, column, comes_after, cond, db_of, false, holds, id_of, is_eq-slice_cmp, is_in, is_of, lies_between, list_all, listed_document, nat_cmp, op2, ordering_then, pos, refl, sequence_of, slice_cmp, then-Equal, true, value_cmp, value_cmp-Blob, ℕ, ℤ, ◌&&◌, ◌∙◌, ◌∷◌, ◌≡◌}
 use Rattle.sqlite_sql.specs.declared.ops.BinaryOp.TheVariants.{Compare}
 use Rattle.sqlite_sql.specs.declared.ops.CompareOp.{CompareOp}
 use Rattle.sqlite_sql.specs.declared.ops.CompareOp.TheVariants.{Eq, Ge, Gt, Le}
@@ -9,24 +9,21 @@ use Rattle.sqlite_typed.proofs.TestLemmas.{at_ints, at_blobs, by_order, int_test
 use Rattle.sqlite_typed.specs.Tests.{bytes_cmp}
 
 -- a cell of the row against a parameter
-abbrev pub is_param : ℕ → ℕ → Term
-is_param at k = op2 (Compare Eq Binary) (col 1 at) (col 0 k)
-
-pub same_int : (v : Value) (m n : ℤ) → v ≡ Int m → is_true (binary (Compare Eq Binary) v (Int n)) ≡ int_eq m n
-same_int v m n is = ap (λ x. is_true (binary (Compare Eq Binary) x (Int n))) is ∙ at_ints false Eq m n
-
-pub same_blob : (v : Value) (a b : List ℕ) → v ≡ Blob a → is_true (binary (Compare Eq Binary) v (Blob b)) ≡ bytes_eq a b
-same_blob v a b is = ap (λ x. is_true (binary (Compare Eq Binary) x (Blob b))) is ∙ at_blobs false Eq a b ∙ is_eq-slice_cmp a b
-
--- the same by an order
 abbrev pub compares : CompareOp → ℕ → ℕ → Term
 compares op at k = op2 (Compare op Binary) (col 1 at) (col 0 k)
 
-int_by : (op : CompareOp) (v : Value) (m n : ℤ) → v ≡ Int m → is_true (binary (Compare op Binary) v (Int n)) ≡ int_test op m n
+pub int_by : (op : CompareOp) (v : Value) (m n : ℤ) → v ≡ Int m → is_true (binary (Compare op Binary) v (Int n)) ≡ int_test op m n
 int_by op v m n is = ap (λ x. is_true (binary (Compare op Binary) x (Int n))) is ∙ at_ints false op m n
 
 blob_by : (op : CompareOp) (v : Value) (a b : List ℕ) → v ≡ Blob a → is_true (binary (Compare op Binary) v (Blob b)) ≡ by_order bytes_cmp op a b
 blob_by op v a b is = ap (λ x. is_true (binary (Compare op Binary) x (Blob b))) is ∙ at_blobs false op a b
+
+pub same_blob : (v : Value) (a b : List ℕ) → v ≡ Blob a → is_true (binary (Compare Eq Binary) v (Blob b)) ≡ bytes_eq a b
+same_blob v a b is = blob_by Eq v a b is ∙ is_eq-slice_cmp a b
+
+-- cells of bytes are in the order of the bytes
+pub blobs_agree : (x y : Value) (a b : List ℕ) → x ≡ Blob a → y ≡ Blob b → ordering_then (value_cmp x y) Equal ≡ slice_cmp nat_cmp a b
+blobs_agree x y a b p q = then-Equal (value_cmp x y) ∙ ap₂ value_cmp p q ∙ value_cmp-Blob a b
 
 either : (b : Bool) (x : Value) → cond b x x ≡ x
 either true x = refl
@@ -43,33 +40,35 @@ cast_int n = either _ (Int n)
 -- ---- the tests by database and id, of rows that name them
 
 abbrev pub by_db : List Term
-by_db = is_param 1 0 ∷ []
+by_db = compares Eq 1 0 ∷ []
 
 abbrev pub by_id : List Term
-by_id = is_param 1 0 ∷ is_param 2 1 ∷ []
+by_id = compares Eq 1 0 ∷ compares Eq 2 1 ∷ []
 
 pub tests_db : (db : ℤ) (rows : List Row) → AreKeyed rows → AllByRecursion (λ r. list_all (holds ((Int db ∷ []) ∷ r ∷ [])) by_db ≡ is_in db r) rows
-tests_db db rows h = all_weaker IsKeyed (λ r. list_all (holds ((Int db ∷ []) ∷ r ∷ [])) by_db ≡ is_in db r) (λ r k. last_term (same_int (column r 1) (db_of r) db k.db)) rows h.keyed
+tests_db db rows h = all_weaker IsKeyed (λ r. list_all (holds ((Int db ∷ []) ∷ r ∷ [])) by_db ≡ is_in db r) (λ r k. last_term (int_by Eq (column r 1) (db_of r) db k.db)) rows h.keyed
 
 pub tests_id : (db : ℤ) (id : List ℕ) (rows : List Row) → AreKeyed rows → AllByRecursion (λ r. list_all (holds ((Int db ∷ Blob id ∷ []) ∷ r ∷ [])) by_id ≡ is_of db id r) rows
 tests_id db id rows h =
     all_weaker IsKeyed (λ r. list_all (holds ((Int db ∷ Blob id ∷ []) ∷ r ∷ [])) by_id ≡ is_of db id r)
-    (λ r k. then_term (same_int (column r 1) (db_of r) db k.db) (last_term (same_blob (column r 2) (id_of r) id k.id))) rows h.keyed
+    (λ r k. then_term (int_by Eq (column r 1) (db_of r) db k.db) (last_term (same_blob (column r 2) (id_of r) id k.id))) rows h.keyed
 
 -- ---- the tests by a range of ids, and by a sequence
 
 abbrev pub by_range : List Term
-by_range = is_param 1 0 ∷ compares Ge 2 1 ∷ compares Le 2 2 ∷ []
+by_range = compares Eq 1 0 ∷ compares Ge 2 1 ∷ compares Le 2 2 ∷ []
 
 abbrev pub by_later : List Term
-by_later = is_param 1 0 ∷ compares Gt 3 1 ∷ []
+by_later = compares Eq 1 0 ∷ compares Gt 3 1 ∷ []
 
 pub tests_range : (db : ℤ) (first last : List ℕ) (rows : List Row) → AreKeyed rows
     → AllByRecursion (λ r. list_all (holds ((Int db ∷ Blob first ∷ Blob last ∷ []) ∷ r ∷ [])) by_range ≡ (is_in db r && lies_between first last (id_of r))) rows
 tests_range db first last rows h =
     all_weaker IsKeyed (λ r. list_all (holds ((Int db ∷ Blob first ∷ Blob last ∷ []) ∷ r ∷ [])) by_range ≡ (is_in db r && lies_between first last (id_of r)))
-    (λ r k. then_term (same_int (column r 1) (db_of r) db k.db) (then_term (blob_by Ge (column r 2) (id_of r) first k.id) (last_term (blob_by Le (column r 2) (id_of r) last k.id)))) rows h.keyed
+    (λ r k. then_term (int_by Eq (column r 1) (db_of r) db k.db) (then_term (blob_by Ge (column r 2) (id_of r) first k.id) (last_term (blob_by Le (column r 2) (id_of r) last k.id)))) rows h.keyed
 
-pub test_later : (db since limit : ℤ) (r : Row) (sequence : ℕ) → column r 1 ≡ Int (db_of r) → column r 3 ≡ Int (pos sequence)
-    → list_all (holds ((Int db ∷ Int since ∷ Int limit ∷ []) ∷ r ∷ [])) by_later ≡ (is_in db r && int_lt since (pos sequence))
-test_later db since limit r sequence k l = then_term (same_int (column r 1) (db_of r) db k) (last_term (int_by Gt (column r 3) (pos sequence) since l))
+pub tests_later : (db since limit : ℤ) (rows : List Row) → AllByRecursion (λ r. (column r 1 ≡ Int (db_of r)) × (column r 3 ≡ Int (pos (sequence_of r)))) rows
+    → AllByRecursion (λ r. list_all (holds ((Int db ∷ Int since ∷ Int limit ∷ []) ∷ r ∷ [])) by_later ≡ (is_in db r && comes_after since (listed_document r))) rows
+tests_later db since limit rows all =
+    all_weaker (λ r. (column r 1 ≡ Int (db_of r)) × (column r 3 ≡ Int (pos (sequence_of r)))) (λ r. list_all (holds ((Int db ∷ Int since ∷ Int limit ∷ []) ∷ r ∷ [])) by_later ≡ (is_in db r && comes_after since (listed_document r)))
+    (λ r k. then_term (int_by Eq (column r 1) (db_of r) db k.0) (last_term (int_by Gt (column r 3) (pos (sequence_of r)) since k.1))) rows all

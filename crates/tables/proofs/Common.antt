@@ -13,6 +13,7 @@ unfoldable pub use Rattle.sqlite.specs.State.{FailsToQuery, IsNotRun, Shown}
 pub use Rattle.sqlite.specs.declared.error.Error.{Error}
 pub use Rattle.sqlite_keyed.proofs.KeyedLemmas.{Less-from_lt, above_all, same_int}
 pub use Rattle.sqlite_keyed.proofs.ListLemmas.{all-append, all-filter, all-slice_get, all_both, all_kept, all_map, all_of, all_unmap, all_weaker, ascending-append, ascending-filter, ascending-map, ascending_weaker, filter-filter, filter-map, filter_all, filter_none, filter_same, map-map, map_same, none_from_any, slice_get-filter}
+pub use Rattle.sqlite_keyed.proofs.SliceLemmas.{any_is_found}
 pub use Rattle.sqlite_keyed.proofs.SortLemmas.{IsPermutation-sort_by, sort_by-map, sorted_is-sort_by}
 pub use Rattle.sqlite_keyed.specs.Lists.{insert_sorted, sort_by, update_where, without_key}
 pub use Rattle.sqlite_rules.specs.Calls.{ids_of}
@@ -38,7 +39,7 @@ pub use Rattle.sqlite_value.specs.declared.value.Value.{Value}
 pub use Rattle.sqlite_value.specs.declared.value.Value.TheVariants.{Blob, Int, Null, Real, Text}
 pub use Rattle.std.proofs.Common.{Bool, Equal, Err, Greater, IfErr, IfOk, IsPermutation, IsSome, IsTrue, Less, List, MatchBool, MatchOption, None, Ok, OnOk, Option, Ordering, Result, Some, [], ap, append-nil, append_assoc, ap₂, arith, bytes_eq, codes, cond, drop, eqb, eqb-true, false, filter, find, flat_map, fold, if◌then◌else◌, inl, inr, int_cmp, int_eq, int_lt, is_eq, is_gt, is_lt, is_some, length, length-append, map, nat_cmp, nat_le, negsuc, not, option_map, option_to_list, pos, refl, rules, slice_get, subst, subst₂, suc, sym, true, ℕ, ℤ, ◌&&◌, ◌++◌, ◌+ℤ◌, ◌+◌, ◌-◌, ◌/◌, ◌<ℤ◌, ◌<◌, ◌^◌, ◌||◌, ◌∙◌, ◌∷◌, ◌≡◌, ◌≢◌, ◌≤◌, ◌⊎◌}
 pub use Rattle.std.proofs.Math.Logic.{∥∥₁_map}
-pub use Rattle.std.proofs.lemmas.Bool.{and_from, and_left, and_parts, both_ways, false_from_ne_true, not-true, not_from_false}
+pub use Rattle.std.proofs.lemmas.Bool.{and_from, and_left, and_parts, both_ways, cases_Bool, cond_both, false_from_ne_true, not-true, not_from_false}
 pub use Rattle.std.proofs.lemmas.Bool.Decides.{Decides-int_eq, eqb_tells, nat_tests}
 pub use Rattle.std.proofs.lemmas.Cmp.{nat_cmp_total, nat_list_cmp_total, on_total, upto}
 pub use Rattle.std.proofs.lemmas.Int.{ints}

@@ -1,30 +1,40 @@
 -- One write of a document: the tables are laid out after it, and hold the database with the write.
-use Rattle.tables.proofs.Common.{AllByRecursion, AreLawful, AreNumbered, Bool, Decides-int_eq, DocumentWrite, Entry, HistoryContent, IsAscending, IsDatabaseNumber, IsDatabaseRow, IsDocumentRow, IsLaid, IsLocalRow, IsRevisionRow, IsStore, IsWritable, IsWrite, List, None, Revision, Row, Some, StandsIn, Trees, [], all-append, all-filter, all_of, all_weaker, ap, ap₂, arith, ascending-filter, both_ways, contents_in, counts_down, database_at, database_of, db_of, dbs_tree, docs_tree, document_row, documents_in, entry_kept, entry_of, false, filter, has_number, held_by, held_of, history_after, history_at, history_before, history_in, id_of, inside, int_eq, is_deleted, is_known, is_named, is_of, is_some, lawful_by_one, lawful_insert, length_of, list_any, locals_in, locals_tree, map, map-map, map_same, name_of, new_entries, not, number_of, option_map, placement, pos, refl, revision_row, revs_tree, right_some, row_at_sequence, security_of, sequence_of, slice_get, stands_found, subst, sym, text_of, true, whole_counts, winner, with_one, with_write, write_entries, write_shows, ℕ, ℤ, ∥∥₁_map, ◌+◌, ◌<◌, ◌↔◌, ◌∙◌, ◌∷◌, ◌≡◌, ◌≢◌}
+use Rattle.tables.proofs.Common.{AllByRecursion, AreLawful, Bool, DocumentWrite, Entry, HistoryContent, IsAscending, IsDatabaseNumber, IsDatabaseRow, IsDocumentRow, IsLaid, IsLocalRow, IsRevisionRow, IsStore, IsWritable, IsWrite, List, None, Revision, Row, Some, StandsIn, Trees, [], all-append, all-filter, all_of, all_weaker, and_left, ap, ap₂, arith, ascending-filter, bytes_eq, cases_Bool, contents_in, counts_down, database_at, database_of, database_row, db_of, dbs_tree, docs_tree, document_of, document_row, documents_in, entry_kept, entry_of, false, filter, has_number, held_by, held_of, history_after, history_before, history_in, id_of, inl, inr, inside, int_eq, is_deleted, is_in, is_known, is_named, is_of, is_some, lawful_by_one, lawful_insert, length_of, locals_in, locals_tree, name_of, nat_list_cmp_total, new_entries, next_number, not, number_of, option_map, placement, pos, refl, revision_row, revs_tree, right_some, row_at_sequence, same_int, security_of, security_text, sequence_of, slice_get, stands_found, subst, sym, text_of, true, whole_counts, winner, with_one, with_write, write_entries, write_shows, ℕ, ℤ, ∥∥₁_map, ◌+◌, ◌<◌, ◌↔◌, ◌∙◌, ◌∷◌, ◌≡◌, ◌≢◌}
 use Rattle.std.specs.FinMap as finite
 use Rattle.tree.proofs.Continued.{added_is}
-use Rattle.store.specs.Database.{Database}
 use Rattle.sqlite.specs.Effect as sqlite
-use Rattle.tables.proofs.DocumentWriteDatabases as dbs
-use Rattle.tables.proofs.DocumentWriteDocuments as docs
+use Rattle.tables.proofs.Changed.{all_changed, contents_changed, longer, named_changed, names_changed, number_stays, numbered_changed, own_changed}
+use Rattle.tables.proofs.DocumentWriteDocuments.{apart_of, own_row, row_stays, sequences_stay_apart}
 use Rattle.tables.proofs.DocumentWriteEntries.{IsKept, IsPathEntry, path_entries_are, entries_apart, entry_again, flag_again}
 use Rattle.tables.proofs.DocumentWriteHistories.{IsOther, AreApart, all-with_revisions, history_own, history_others, with_new_entries, unknown_apart, revisions_stay_apart}
 use Rattle.tables.proofs.DocumentWriteSteps.{after_write, written, revisions_changed, keyed-with_revisions}
-use Rattle.tables.proofs.Rests.{AreSame}
-use Rattle.tables.proofs.Lookups.{database_there, document_found, number_there, of_these, one_changed}
-use Rattle.tables.proofs.Single.{fails}
-use Rattle.tables.proofs.Tables.{databases_laid, docs_keyed, numbered_databases, revs_keyed}
+use Rattle.tables.proofs.Kept.{numbered-filter, numbered-with_cells}
+use Rattle.tables.proofs.Rests.{AreSame, contents_same, store_of}
+use Rattle.tables.proofs.ReplacedRows.{ids_stay_apart, other_values, own_values}
+use Rattle.tables.proofs.RowMaps.{all_left, all_passing, rows_alike, text_exact, text_tests}
+use Rattle.tables.proofs.Lookups.{at_number, database_there, document_found, number_there}
+use Rattle.tables.proofs.Tables.{of_these, revs_keyed}
 use Rattle.tables.proofs.Numbered.{numbered_from_keyed}
-use Rattle.tables.proofs.Kept.{databases-advanced}
 
-module _ (t u : Trees) (laid : IsLaid t) (name : List ℕ) (r : Row) (w : DocumentWrite) (best : Revision) (ok : IsWritable t name r w) (best_is : winner (history_after t r w) ≡ Some best) (after : AreSame (after_write t r w best) u) where
+module _ (a e : sqlite.Database) (name : List ℕ) (r : Row) (w : DocumentWrite) (is : IsStore a) (ok : IsWritable a.trees name r w) (h : IsWrite r w a e) where
+  abbrev t : Trees
+  t = a.trees
+
+  -- the tables after the write
+  abbrev u : Trees
+  u = after_write a.trees r w h.best
+
   abbrev db : ℤ
   db = number_of r
 
   abbrev sequence : ℕ
   sequence = length_of r + 1
 
+  abbrev advanced : Row → Row
+  advanced = row_at_sequence (pos sequence)
+
   abbrev gone : Bool
-  gone = is_deleted (held_of (history_after t r w) best)
+  gone = is_deleted (held_of (history_after t r w) h.best)
 
   abbrev before : HistoryContent
   before = history_before t r w
@@ -35,129 +45,120 @@ module _ (t u : Trees) (laid : IsLaid t) (name : List ℕ) (r : Row) (w : Docume
   -- ---- the histories
 
   counts : counts_down w.write.path ≡ true
-  counts = whole_counts w.write.path (added_is before w.write.path (ap (λ (h : HistoryContent). placement h w.write.path) (sym (document_found t r w.id laid)) ∙ ok.acceptable.placed)).whole
+  counts = whole_counts w.write.path (added_is before w.write.path (ap (λ (k : HistoryContent). placement k w.write.path) (sym (document_found t r w.id is.laid)) ∙ ok.acceptable.placed)).whole
 
   kept : IsKept (held_by w.write)
   kept = record { body = record { object = ok.acceptable.body; shallow = ok.acceptable.shallow }; lawful = ok.storable.body }
 
   entries_are : AllByRecursion (IsPathEntry w.write.path) entries
   entries_are =
-      all-filter (IsPathEntry w.write.path) (λ e. not (is_known before e.0)) (write_entries w.write)
-      (path_entries_are w.write.path w.write.path (Some (held_by w.write)) (λ p stands. stands) counts ok.storable.revisions (λ held is. subst IsKept (inside (held_by w.write) held is) kept))
+      all-filter (IsPathEntry w.write.path) (λ x. not (is_known before x.0)) (write_entries w.write)
+      (path_entries_are w.write.path w.write.path (Some (held_by w.write)) (λ p stands. stands) counts ok.storable.revisions (λ held up. subst IsKept (inside (held_by w.write) held up) kept))
 
   own_history : history_in (u revs_tree) db w.id ≡ history_after t r w
   own_history =
-      ap (λ rows. history_in rows db w.id) after.revs
-      ∙ history_own entries (t revs_tree) db w.id (all_weaker (IsPathEntry w.write.path) (λ e. (k : ℤ) → entry_of (revision_row k db w.id e.0 e.1) ≡ e.1) (λ e is k. entry_again w.write.path e k db w.id is) entries entries_are)
+      history_own entries (t revs_tree) db w.id (all_weaker (IsPathEntry w.write.path) (λ x. (k : ℤ) → entry_of (revision_row k db w.id x.0 x.1) ≡ x.1) (λ x own k. entry_again w.write.path x k db w.id own) entries entries_are)
       ∙ with_new_entries before (write_entries w.write)
 
   other_history : (x : Row) → is_of db w.id x ≡ false → history_in (u revs_tree) (db_of x) (id_of x) ≡ history_in (t revs_tree) (db_of x) (id_of x)
-  other_history x out = ap (λ rows. history_in rows (db_of x) (id_of x)) after.revs ∙ history_others entries (t revs_tree) db w.id (db_of x) (id_of x) (docs.apart_of db w.id x out)
+  other_history x out = history_others entries (t revs_tree) db w.id (db_of x) (id_of x) (apart_of db w.id x out)
 
   -- what is known of a row's document stays known
   known_still : (x : Row) (p : Revision) → is_known (history_in (t revs_tree) (db_of x) (id_of x)) p ≡ true → is_known (history_in (u revs_tree) (db_of x) (id_of x)) p ≡ true
-  known_still x p known = go (is_of db w.id x) refl
-    where
-      go : (b : Bool) → is_of db w.id x ≡ b → is_known (history_in (u revs_tree) (db_of x) (id_of x)) p ≡ true
-      go true here =
-          let own = of_these db w.id x here in
-          let was : is_known before p ≡ true = sym (ap₂ (λ (m : ℤ) (k : List ℕ). is_known (history_in (t revs_tree) m k) p) own.0 own.1) ∙ known in
-          ap₂ (λ (m : ℤ) (k : List ℕ). is_known (history_in (u revs_tree) m k) p) own.0 own.1
-          ∙ ap (λ (h : HistoryContent). is_known h p) own_history ∙ ap is_some (entry_kept before w.write p was) ∙ was
-      go false out = ap (λ (h : HistoryContent). is_known h p) (other_history x out) ∙ known
+  known_still x p known = elim (cases_Bool (is_of db w.id x)) [
+    | inl here ↦
+        let own = of_these db w.id x here in
+        let was : is_known before p ≡ true = sym (ap₂ (λ (m : ℤ) (k : List ℕ). is_known (history_in (t revs_tree) m k) p) own.0 own.1) ∙ known in
+        ap₂ (λ (m : ℤ) (k : List ℕ). is_known (history_in (u revs_tree) m k) p) own.0 own.1
+        ∙ ap (λ (k : HistoryContent). is_known k p) own_history ∙ ap is_some (entry_kept before w.write p was) ∙ was
+    | inr out ↦ ap (λ (k : HistoryContent). is_known k p) (other_history x out) ∙ known
+  ]
 
   path_known : (p : Revision) → StandsIn w.write.path p → is_known (history_in (u revs_tree) db w.id) p ≡ true
   path_known p stands =
-      ap (λ (h : HistoryContent). is_known h p) own_history ∙ ap is_some (write_shows before w.write p)
+      ap (λ (k : HistoryContent). is_known k p) own_history ∙ ap is_some (write_shows before w.write p)
       ∙ right_some (finite.get before p) _ (stands_found w.write.path (Some (held_by w.write)) p stands)
-
-  -- ---- the rows of databases
-
-  number_still : (m : ℤ) → IsDatabaseNumber t m → IsDatabaseNumber u m
-  number_still m h = ap (list_any (λ x. int_eq (number_of x) m)) after.dbs ∙ dbs.number_stays db sequence (t dbs_tree) m ∙ h
-
-  at_number : database_at (t dbs_tree) db ≡ Some r
-  at_number = dbs.at_number t laid name r ok.found
 
   -- ---- the rows of documents
 
-  old_document : (x : Row) → is_of db w.id x ≡ false → IsDocumentRow t x → IsDocumentRow u x
-  old_document x out k = record {
+  number_still : (m : ℤ) → IsDatabaseNumber t m → IsDatabaseNumber u m
+  number_still m there = number_stays db advanced (λ x. refl) (λ x. refl) (t dbs_tree) m ∙ there
+
+  old_document : (x : Row) → IsDocumentRow t x → is_of db w.id x ≡ false → IsDocumentRow u x
+  old_document x k out = record {
     is = k.is;
     there = number_still (db_of x) k.there;
     named = k.named;
     text = k.text;
     positive = k.positive;
-    within = λ d is.
-        let was = dbs.later t laid name r ok.found sequence (db_of x) d (omega arith) (ap (λ rows. database_at rows (db_of x)) (sym after.dbs) ∙ is) in
+    within = λ d now.
+        let was = longer t is.laid name r ok.found advanced (λ x. refl) (λ x. refl) (omega arith) (db_of x) d now in
         let low = k.within was.0 was.1 in
         omega (arith, low, was.2);
-    won = ap (λ (h : HistoryContent). option_map text_of (winner h)) (other_history x out) ∙ k.won;
-    gone = λ v is. k.gone v (sym (ap winner (other_history x out)) ∙ is) ∙ ap (λ (h : HistoryContent). is_deleted (held_of h v)) (sym (other_history x out));
+    won = ap (λ (k : HistoryContent). option_map text_of (winner k)) (other_history x out) ∙ k.won;
+    gone = λ v up. k.gone v (sym (ap winner (other_history x out)) ∙ up) ∙ ap (λ (k : HistoryContent). is_deleted (held_of k v)) (sym (other_history x out));
   }
 
   abbrev row : Row
-  row = docs.new_row (t docs_tree) db w.id sequence (text_of best) gone
+  row = document_row (next_number (filter (λ x. not (is_of db w.id x)) (t docs_tree))) db w.id (pos sequence) (text_of h.best) gone
 
   new_document : IsDocumentRow u row
   new_document = record {
-    is = ap (λ b. document_row (number_of row) db w.id (pos sequence) (text_of best) b) (sym (flag_again gone));
-    there = number_still db (number_there t laid name r ok.found);
+    is = ap (λ b. document_row (number_of row) db w.id (pos sequence) (text_of h.best) b) (sym (flag_again gone));
+    there = number_still db (number_there t is.laid name r ok.found);
     named = ok.storable.named;
     text = ok.storable.text;
     positive = omega arith;
-    within = λ d is. let now = dbs.now_at t laid name r ok.found sequence d (ap (λ rows. database_at rows db) (sym after.dbs) ∙ is) in omega (arith, now);
-    won = ap (λ (h : HistoryContent). option_map text_of (winner h)) own_history ∙ ap (option_map text_of) best_is;
-    gone = λ v is.
-        flag_again gone ∙ ap (λ (x : Revision). is_deleted (held_of (history_after t r w) x)) (inside best v (sym best_is ∙ sym (ap winner own_history) ∙ is))
-        ∙ ap (λ (h : HistoryContent). is_deleted (held_of h v)) (sym own_history);
+    within = λ d now. let same = ap length_of (own_changed t is.laid name r ok.found advanced (λ x. refl) (λ x. refl) d now) in omega (arith, same);
+    won = ap (λ (k : HistoryContent). option_map text_of (winner k)) own_history ∙ ap (option_map text_of) h.best_is;
+    gone = λ v up.
+        flag_again gone ∙ ap (λ (x : Revision). is_deleted (held_of (history_after t r w) x)) (inside h.best v (sym h.best_is ∙ sym (ap winner own_history) ∙ up))
+        ∙ ap (λ (k : HistoryContent). is_deleted (held_of k v)) (sym own_history);
   }
 
   documents : AllByRecursion (IsDocumentRow u) (u docs_tree)
   documents =
-      subst (AllByRecursion (IsDocumentRow u)) (sym after.docs)
-      (all-append (IsDocumentRow u) _ (row ∷ []) (docs.all_left (IsDocumentRow u) (is_of db w.id) (t docs_tree) (all_weaker (IsDocumentRow t) (λ x. is_of db w.id x ≡ false → IsDocumentRow u x) (λ x k out. old_document x out k) (t docs_tree) laid.docs)) (new_document, tt))
+      all-append (IsDocumentRow u) _ (row ∷ [])
+      (all_left (IsDocumentRow u) (is_of db w.id) (t docs_tree) (all_weaker (IsDocumentRow t) (λ x. is_of db w.id x ≡ false → IsDocumentRow u x) old_document (t docs_tree) is.laid.docs)) (new_document, tt)
 
   below : AllByRecursion (λ x. db_of x ≡ db → sequence_of x < sequence) (t docs_tree)
-  below = all_weaker (IsDocumentRow t) (λ x. db_of x ≡ db → sequence_of x < sequence) (λ x k here. let low = k.within r (ap (database_at (t dbs_tree)) here ∙ at_number) in omega (arith, low)) (t docs_tree) laid.docs
+  below = all_weaker (IsDocumentRow t) (λ x. db_of x ≡ db → sequence_of x < sequence) (λ x k here. let low = k.within r (ap (database_at (t dbs_tree)) here ∙ at_number t is.laid name r ok.found) in omega (arith, low)) (t docs_tree) is.laid.docs
 
   -- ---- the rows of revisions
 
   old_revision : (x : Row) → IsRevisionRow t x → IsRevisionRow u x
   old_revision x k = record {
     is = k.is;
-    there = ap (list_any (is_of (db_of x) (id_of x))) after.docs ∙ docs.row_stays (t docs_tree) db w.id sequence (text_of best) gone (db_of x) (id_of x) k.there;
+    there = row_stays (t docs_tree) db w.id sequence (text_of h.best) gone (db_of x) (id_of x) k.there;
     lawful = k.lawful;
     first = k.first;
     follows = λ p up. known_still x p (k.follows p up);
     body = k.body;
   }
 
-  new_revision : (k : ℤ) (e : Revision × Entry) → IsPathEntry w.write.path e → IsRevisionRow u (revision_row k db w.id e.0 e.1)
-  new_revision k e is =
-      let again = entry_again w.write.path e k db w.id is in
+  new_revision : (x : Revision × Entry) → IsPathEntry w.write.path x → (k : ℤ) → IsRevisionRow u (revision_row k db w.id x.0 x.1)
+  new_revision x own k =
+      let again = entry_again w.write.path x k db w.id own in
       record {
-        is = ap (revision_row k db w.id e.0) (sym again);
-        there = ap (list_any (is_of db w.id)) after.docs ∙ docs.own_row (t docs_tree) db w.id sequence (text_of best) gone;
-        lawful = is.lawful;
-        first = subst (λ (x : Entry). (x.parent ≡ None) ↔ (e.0.number ≡ 1)) (sym again) is.first;
-        follows = λ p up. path_known p (is.follows p (sym (ap (λ (x : Entry). x.parent) again) ∙ up));
-        body = λ held up. (is.kept held (sym (ap (λ (x : Entry). x.held) again) ∙ up)).body;
+        is = ap (revision_row k db w.id x.0) (sym again);
+        there = own_row (t docs_tree) db w.id sequence (text_of h.best) gone;
+        lawful = own.lawful;
+        first = subst (λ (y : Entry). (y.parent ≡ None) ↔ (x.0.number ≡ 1)) (sym again) own.first;
+        follows = λ p up. path_known p (own.follows p (sym (ap (λ (y : Entry). y.parent) again) ∙ up));
+        body = λ held up. (own.kept held (sym (ap (λ (y : Entry). y.held) again) ∙ up)).body;
       }
 
   revisions : AllByRecursion (IsRevisionRow u) (u revs_tree)
   revisions =
-      subst (AllByRecursion (IsRevisionRow u)) (sym after.revs)
-      (all-with_revisions (IsRevisionRow u) entries (t revs_tree) db w.id (all_weaker (IsPathEntry w.write.path) (λ e. (k : ℤ) → IsRevisionRow u (revision_row k db w.id e.0 e.1)) (λ e is k. new_revision k e is) entries entries_are)
-      (all_weaker (IsRevisionRow t) (IsRevisionRow u) old_revision (t revs_tree) laid.revs))
+      all-with_revisions (IsRevisionRow u) entries (t revs_tree) db w.id (all_weaker (IsPathEntry w.write.path) (λ x. (k : ℤ) → IsRevisionRow u (revision_row k db w.id x.0 x.1)) new_revision entries entries_are)
+      (all_weaker (IsRevisionRow t) (IsRevisionRow u) old_revision (t revs_tree) is.laid.revs)
 
   revisions_apart : IsAscending AreApart (u revs_tree)
   revisions_apart =
-      subst (IsAscending AreApart) (sym after.revs)
-      (revisions_stay_apart entries (t revs_tree) db w.id laid.revisions_apart
-      (docs.all_left (λ (e : Revision × Entry). AllByRecursion (IsOther db w.id e.0) (t revs_tree)) (λ e. is_known before e.0) (write_entries w.write)
-      (all_of (λ (e : Revision × Entry). is_known before e.0 ≡ false → AllByRecursion (IsOther db w.id e.0) (t revs_tree)) (λ e out. unknown_apart (t revs_tree) db w.id e.0 out) (write_entries w.write)))
-      (ascending-filter (λ (a b : Revision × Entry). a.0 ≢ b.0) (λ e. not (is_known before e.0)) (write_entries w.write) (entries_apart w.write.path (Some (held_by w.write)) counts)))
+      revisions_stay_apart entries (t revs_tree) db w.id is.laid.revisions_apart
+      (all_left (λ (x : Revision × Entry). AllByRecursion (IsOther db w.id x.0) (t revs_tree)) (λ x. is_known before x.0) (write_entries w.write)
+      (all_of (λ (x : Revision × Entry). is_known before x.0 ≡ false → AllByRecursion (IsOther db w.id x.0) (t revs_tree)) (λ x out. unknown_apart (t revs_tree) db w.id x.0 out) (write_entries w.write)))
+      (ascending-filter (λ (x y : Revision × Entry). x.0 ≢ y.0) (λ x. not (is_known before x.0)) (write_entries w.write) (entries_apart w.write.path (Some (held_by w.write)) counts))
 
   -- ---- local documents
 
@@ -166,77 +167,69 @@ module _ (t u : Trees) (laid : IsLaid t) (name : List ℕ) (r : Row) (w : Docume
 
   -- ---- the databases
 
-  pub own_database : database_of u (row_at_sequence (pos sequence) r) ≡ with_one (database_of t r) w
+  same_document : (x : Row) → is_of db w.id x ≡ false → document_of (u revs_tree) x ≡ document_of (t revs_tree) x
+  same_document x out = ap (λ k. record { sequence = sequence_of x; history = k }) (other_history x out)
+
+  own_database : database_of u (advanced r) ≡ with_one (database_of t r) w
   own_database =
-      let made : documents_in (u docs_tree) (u revs_tree) db ≡ finite.insert (documents_in (t docs_tree) (t revs_tree) db) w.id (record { sequence = sequence; history = with_write (history_at (database_of t r) w.id) w.write }) =
-      ap (λ rows. documents_in rows (u revs_tree) db) after.docs
-      ∙ docs.own_documents (t docs_tree) db w.id sequence (text_of best) gone (t revs_tree) (u revs_tree) other_history
-      ∙ ap (λ (h : HistoryContent). finite.insert (documents_in (t docs_tree) (t revs_tree) db) w.id (record { sequence = sequence; history = h }))
-      (own_history ∙ ap (λ (h : HistoryContent). with_write h w.write) (sym (document_found t r w.id laid))) in
-      ap₂ (λ l d. record { length = sequence; security = security_of r; locals = l; documents = d }) (ap (λ rows. locals_in rows db) after.locals) made
+      ap (λ d. record (database_of u (advanced r)) { documents = d })
+      (own_values (t docs_tree) db w.id row refl refl (document_of (u revs_tree)) (document_of (t revs_tree)) same_document
+      ∙ ap (λ (k : HistoryContent). finite.insert (documents_in (t docs_tree) (t revs_tree) db) w.id (record { sequence = sequence; history = k }))
+      (own_history ∙ ap (λ (k : HistoryContent). with_write k w.write) (sym (document_found t r w.id is.laid))))
 
   other_database : (x : Row) → has_number db x ≡ false → database_of u x ≡ database_of t x
-  other_database x out =
-      let apart : int_eq db (number_of x) ≡ false = fails (int_eq db (number_of x)) (λ same. both_ways (int_eq (number_of x) db) out ((Decides-int_eq (number_of x) db).1 (sym ((Decides-int_eq db (number_of x)).0 same)))) in
-      ap₂ (λ l d. record { length = length_of x; security = security_of x; locals = l; documents = d }) (ap (λ rows. locals_in rows (number_of x)) after.locals)
-      (ap (λ rows. documents_in rows (u revs_tree) (number_of x)) after.docs ∙ docs.other_documents (t docs_tree) db w.id sequence (text_of best) gone (t revs_tree) (u revs_tree) other_history (number_of x) apart)
+  other_database x apart =
+      let mine : List Row = filter (is_in (number_of x)) (t docs_tree) in
+      ap (λ d. record (database_of t x) { documents = d })
+      (ap finite.from_entries (other_values (t docs_tree) db w.id row refl refl (document_of (u revs_tree)) (number_of x) apart)
+      ∙ rows_alike nat_list_cmp_total text_exact id_of (λ q y. bytes_eq (id_of y) q) (text_tests id_of) (document_of (u revs_tree)) (document_of (t revs_tree)) mine
+      (all_passing (λ y. document_of (u revs_tree) y ≡ document_of (t revs_tree) y) (is_in (number_of x)) (t docs_tree)
+      (all_of (λ y. is_in (number_of x) y ≡ true → document_of (u revs_tree) y ≡ document_of (t revs_tree) y)
+      (λ y there. same_document y (and_left (is_in db y) (bytes_eq (id_of y) w.id) (ap (λ n. int_eq n db) (same_int (db_of y) (number_of x) there) ∙ apart))) (t docs_tree))))
 
-  abbrev now : Row → Database
-  now x = database_of u (dbs.advanced db sequence x)
+  contents : contents_in u ≡ finite.insert (contents_in t) name (with_one (database_of t r) w)
+  contents = contents_changed t is.laid name r ok.found advanced (λ x. refl) (λ x. refl) u (with_one (database_of t r) w) refl own_database other_database
 
-  pub contents : contents_in u ≡ finite.insert (contents_in t) name (with_one (database_of t r) w)
-  contents =
-      ap (λ rows. finite.from_entries (map (λ x. (name_of x, database_of u x)) rows)) after.dbs
-      ∙ ap finite.from_entries (map-map (λ x. (name_of x, database_of u x)) (dbs.advanced db sequence) (t dbs_tree) ∙ map_same _ (λ x. (name_of x, now x)) (λ x. ap (λ n. (n, now x)) (dbs.name_kept db sequence x)) (t dbs_tree))
-      ∙ one_changed t laid name r ok.found now (with_one (database_of t r) w) (ap (database_of u) (dbs.advanced_own db sequence r (dbs.own_number r)) ∙ own_database)
-      (λ x out. ap (database_of u) (dbs.advanced_other db sequence x out) ∙ other_database x out)
+  laid_out : IsLaid u
+  laid_out =
+      let l = is.laid in
+      record {
+        version = l.version;
+        dbs_numbered = numbered_changed db advanced (λ x. refl) (λ x. refl) (λ x. refl) (t dbs_tree) l.dbs_numbered;
+        docs_numbered = numbered-with_cells _ _ (numbered-filter (λ x. not (is_of db w.id x)) (t docs_tree) l.docs_numbered);
+        revs_numbered = numbered_from_keyed _ (keyed-with_revisions entries (t revs_tree) db w.id (revs_keyed t l));
+        locals_numbered = l.locals_numbered;
+        dbs = all_changed db advanced (λ x. refl) (λ x. refl) IsDatabaseRow
+            (λ x k. record { is = ap (λ text. database_row (number_of x) (name_of x) text (pos sequence)) (ap security_text k.is); named = k.named; security = k.security; bounded = ok.room }) (t dbs_tree) l.dbs;
+        names_apart = names_changed db advanced (λ x. refl) (λ x. refl) (t dbs_tree) l.names_apart;
+        docs = documents;
+        ids_apart = ids_stay_apart (t docs_tree) db w.id row refl refl l.ids_apart;
+        sequences_apart = sequences_stay_apart (t docs_tree) db w.id sequence (text_of h.best) gone below l.sequences_apart;
+        revs = revisions;
+        revisions_apart = revisions_apart;
+        locals = all_weaker (IsLocalRow t) (IsLocalRow u) local_still (t locals_tree) l.locals;
+        local_ids_apart = l.local_ids_apart;
+        lawful = ∥∥₁_map l.lawful (λ was.
+            subst AreLawful (sym contents)
+            (lawful_insert (contents_in t) name (with_one (database_of t r) w) was
+            (lawful_by_one (database_of t r) w (was name (database_of t r) (database_there t l name r ok.found)) ok.acceptable)));
+      }
 
-  lawful : ∥ AreLawful (contents_in u) ∥₁
-  lawful =
-      ∥∥₁_map laid.lawful (λ was.
-      subst AreLawful (sym contents)
-      (lawful_insert (contents_in t) name (with_one (database_of t r) w) was
-      (lawful_by_one (database_of t r) w (was name (database_of t r) (database_there t laid name r ok.found)) ok.acceptable)))
+  -- ---- the statements
 
-  pub named_row : slice_get (filter (is_named name) (u dbs_tree)) 0 ≡ Some (row_at_sequence (pos sequence) r)
-  named_row = ap (λ rows. slice_get (filter (is_named name) rows) 0) after.dbs ∙ dbs.named_now db sequence (t dbs_tree) name r ok.found ∙ ap Some (dbs.advanced_own db sequence r (dbs.own_number r))
-
-  pub laid_out : IsLaid u
-  laid_out = record {
-    version = after.meta ∙ laid.version;
-    dbs_numbered = subst AreNumbered (sym after.dbs) (numbered_databases _ (databases-advanced (t dbs_tree) db sequence (databases_laid t laid)));
-    docs_numbered = subst AreNumbered (sym after.docs) (docs.docs_stay_numbered (t docs_tree) db w.id sequence (text_of best) gone (docs_keyed t laid));
-    revs_numbered = subst AreNumbered (sym after.revs) (numbered_from_keyed _ (keyed-with_revisions entries (t revs_tree) db w.id (revs_keyed t laid)));
-    locals_numbered = subst AreNumbered (sym after.locals) laid.locals_numbered;
-    dbs = subst (AllByRecursion IsDatabaseRow) (sym after.dbs) (dbs.rows_stay db sequence (t dbs_tree) ok.room laid.dbs);
-    names_apart = subst (IsAscending _) (sym after.dbs) (dbs.names_stay_apart db sequence (t dbs_tree) laid.names_apart);
-    docs = documents;
-    ids_apart = subst (IsAscending _) (sym after.docs) (docs.ids_stay_apart (t docs_tree) db w.id sequence (text_of best) gone laid.ids_apart);
-    sequences_apart = subst (IsAscending _) (sym after.docs) (docs.sequences_stay_apart (t docs_tree) db w.id sequence (text_of best) gone below laid.sequences_apart);
-    revs = revisions;
-    revisions_apart = revisions_apart;
-    locals = subst (AllByRecursion (IsLocalRow u)) (sym after.locals) (all_weaker (IsLocalRow t) (IsLocalRow u) local_still (t locals_tree) laid.locals);
-    local_ids_apart = subst (IsAscending _) (sym after.locals) laid.local_ids_apart;
-    lawful = lawful;
-  }
-
--- ---- the statements
-
-module _ (a e : sqlite.Database) (name : List ℕ) (r : Row) (w : DocumentWrite) (is : IsStore a) (ok : IsWritable a.trees name r w) (h : IsWrite r w a e) where
-  abbrev after : AreSame (after_write a.trees r w h.best) e.trees
+  abbrev after : AreSame u e.trees
   after = written r w a e is.schema_is h
 
   pub one_write-store : IsStore e
-  one_write-store = record {
-    schema_is = h.advances.schema ∙ h.places.schema ∙ h.removes.schema ∙ (revisions_changed (new_entries (history_before a.trees r w) w.write) (number_of r) w.id a h.inserted h.revisions).schema ∙ is.schema_is;
-    laid = laid_out a.trees e.trees is.laid name r w h.best ok h.best_is after;
-  }
+  one_write-store =
+      store_of u e (h.advances.schema ∙ h.places.schema ∙ h.removes.schema ∙ (revisions_changed entries db w.id a h.inserted h.revisions).schema ∙ is.schema_is) after laid_out
 
-  pub one_write-contents : contents_in e.trees ≡ finite.insert (contents_in a.trees) name (with_one (database_of a.trees r) w)
-  one_write-contents = contents a.trees e.trees is.laid name r w h.best ok h.best_is after
+  pub one_write-contents : contents_in e.trees ≡ finite.insert (contents_in t) name (with_one (database_of t r) w)
+  one_write-contents = contents_same u e.trees after ∙ contents
 
-  pub one_write-row : slice_get (filter (is_named name) (e.trees dbs_tree)) 0 ≡ Some (row_at_sequence (pos (length_of r + 1)) r)
-  one_write-row = named_row a.trees e.trees is.laid name r w h.best ok h.best_is after
+  pub one_write-row : slice_get (filter (is_named name) (e.trees dbs_tree)) 0 ≡ Some (advanced r)
+  one_write-row = ap (λ rows. slice_get (filter (is_named name) rows) 0) after.dbs ∙ named_changed t is.laid name r ok.found advanced (λ x. refl) (λ x. refl)
 
-  pub one_write-database : database_of e.trees (row_at_sequence (pos (length_of r + 1)) r) ≡ with_one (database_of a.trees r) w
-  one_write-database = own_database a.trees e.trees is.laid name r w h.best ok h.best_is after
+  pub one_write-database : database_of e.trees (advanced r) ≡ with_one (database_of t r) w
+  one_write-database =
+      (λ i. record { length = sequence; security = security_of r; locals = locals_in (after.locals i) db; documents = documents_in (after.docs i) (after.revs i) db }) ∙ own_database

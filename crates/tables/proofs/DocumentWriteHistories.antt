@@ -1,8 +1,9 @@
 -- The histories that the rows hold once the new revisions of a write are put in.
-use Rattle.tables.proofs.Common.{AllByRecursion, Bool, Decides-int_eq, Entry, HistoryContent, IsAscending, List, Node, None, Option, Revision, Row, Some, [], all-append, all_both, all_kept, all_unmap, all_weaker, ap, append-nil, append_assoc, ap₂, ascending-append, both_ways, bytes_eq, bytes_eq-Decides, cond, db_of, entry_of, eq_by_cmp, false, filter, find-append, from_entries, get, get-from_entries, get-with_entries, history_in, id_of, int_eq, is_known, is_of, is_some, map, map-append, next_number, none_from_any, not, or, refl, revision_cells, revision_cmp, revision_cmp_exact, revision_cmp_total, revision_of, revision_row, same, same_map, sym, tied, true, with_cells, with_entries, with_revisions, ℕ, ℤ, ◌&&◌, ◌++◌, ◌∙◌, ◌∷◌, ◌≡◌, ◌≢◌}
+use Rattle.tables.proofs.Common.{AllByRecursion, Bool, Entry, HistoryContent, IsAscending, List, Node, None, Option, Revision, Row, Some, [], all-append, all_both, all_kept, all_unmap, all_weaker, ap, append-nil, append_assoc, ascending-append, both_ways, bytes_eq, cond, db_of, entry_of, eq_by_cmp, false, filter, find-append, from_entries, get, get-from_entries, get-with_entries, history_in, id_of, int_eq, is_known, is_of, is_some, map, next_number, none_from_any, not, or, refl, revision_cells, revision_cmp, revision_cmp_exact, revision_cmp_total, revision_of, revision_row, same_map, sym, tied, true, with_cells, with_entries, with_revisions, ℕ, ℤ, ◌&&◌, ◌++◌, ◌∙◌, ◌∷◌, ◌≡◌, ◌≢◌}
 use Rattle.std.specs.FinMap.{find}
-use Rattle.std.specs.FinMap.Entries.{is_some-find}
-use Rattle.tables.proofs.RowMaps.{filter_push}
+use Rattle.std.specs.FinMap.Entries.{find-where_key, is_some-find}
+use Rattle.sqlite_keyed.proofs.SliceLemmas.{slice-push_mine, slice-push_other}
+use Rattle.tables.proofs.ReplacedRows.{is_own}
 
 abbrev node : Row → Node
 node r = (revision_of r, entry_of r)
@@ -19,28 +20,16 @@ module _ (h : HistoryContent) where
   abbrev is_new : Node → Bool
   is_new e = not (is_known h e.0)
 
-  found_new : (q : Revision) → is_known h q ≡ false → (es : List Node) → find revision_cmp q (filter is_new es) ≡ find revision_cmp q es
-  found_new q unknown [] = refl
-  found_new q unknown (e ∷ es) = go (is_known h e.0) refl (eq_by_cmp revision_cmp q e.0) refl (found_new q unknown es)
-    where
-      go : (b : Bool) → is_known h e.0 ≡ b → (c : Bool) → eq_by_cmp revision_cmp q e.0 ≡ c → find revision_cmp q (filter is_new es) ≡ find revision_cmp q es
-          → find revision_cmp q (cond (not b) (e ∷ filter is_new es) (filter is_new es)) ≡ cond c (Some e.1) (find revision_cmp q es)
-      go true known true ties more = absurd (both_ways (is_known h q) unknown (ap (is_known h) (same q e.0 ties) ∙ known))
-      go true known false ties more = more
-      go false new c ties more = ap (λ b. cond b (Some e.1) (find revision_cmp q (filter is_new es))) ties ∙ ap (cond c (Some e.1)) more
-
   pub with_new_entries : (es : List Node) → with_entries h (filter is_new es) ≡ with_entries h es
-  with_new_entries es =
-      same_map revision_cmp_total revision_cmp_exact _ _ (λ q. get-with_entries h (filter is_new es) q ∙ by q (get h q) refl ∙ sym (get-with_entries h es q))
+  with_new_entries es = same_map revision_cmp_total revision_cmp_exact _ _ (λ q.
+      get-with_entries h (filter is_new es) q
+      ∙ ap (or (get h q)) (find-where_key revision_cmp (λ k. not (is_known h k)) q (λ k tie. ap (λ p. not (is_known h p)) (sym (revision_cmp_exact q k tie))) es) ∙ by (get h q) (find revision_cmp q es) ∙ sym (get-with_entries h es q))
     where
-      by : (q : Revision) (o : Option Entry) → get h q ≡ o → or (get h q) (find revision_cmp q (filter is_new es)) ≡ or (get h q) (find revision_cmp q es)
-      by q None is = ap (or (get h q)) (found_new q (ap is_some is) es)
-      by q (Some e) is = ap (λ o. or o (find revision_cmp q (filter is_new es))) is ∙ ap (λ o. or o (find revision_cmp q es)) (sym is)
+      by : (o x : Option Entry) → or o (cond (not (is_some o)) x None) ≡ or o x
+      by None x = refl
+      by (Some e) x = refl
 
 -- ---- the rows that are put in
-
-pub own_test : (db : ℤ) (id : List ℕ) → (int_eq db db && bytes_eq id id) ≡ true
-own_test db id = ap₂ ◌&&◌ ((Decides-int_eq db db).1 refl) ((bytes_eq-Decides id id).1 refl)
 
 pub all-with_revisions : (P : Row → Type 0) (es : List Node) (rows : List Row) (db : ℤ) (id : List ℕ) → AllByRecursion (λ e. (k : ℤ) → P (revision_row k db id e.0 e.1)) es → AllByRecursion P rows
     → AllByRecursion P (with_revisions rows db id es)
@@ -53,18 +42,14 @@ rows_own : (es : List Node) (rows : List Row) (db : ℤ) (id : List ℕ) → All
 rows_own [] rows db id again = sym (append-nil (map node (filter (is_of db id) rows)))
 rows_own (e ∷ es) rows db id again =
     let new : Row = revision_row (next_number rows) db id e.0 e.1 in
-    let old : List Row = filter (is_of db id) rows in
-    let pushed : filter (is_of db id) (rows ++ new ∷ []) ≡ old ++ new ∷ [] = filter_push (is_of db id) rows new ∙ ap (λ b. old ++ cond b (new ∷ []) []) (own_test db id) in
-    let one : map node (filter (is_of db id) (rows ++ new ∷ [])) ≡ map node old ++ e ∷ [] =
-    ap (map node) pushed ∙ map-append node old (new ∷ []) ∙ ap (λ (x : Entry). map node old ++ (e.0, x) ∷ []) (again.0 (next_number rows)) in
-    rows_own es (with_cells rows (revision_cells db id e.0 e.1)) db id again.1 ∙ ap (λ l. l ++ es) one ∙ append_assoc (map node old) (e ∷ []) es
+    let old : List Node = map node (filter (is_of db id) rows) in
+    let one : map node (filter (is_of db id) (rows ++ new ∷ [])) ≡ old ++ e ∷ [] = slice-push_mine (is_of db id) node rows new (is_own db id new refl refl) ∙ ap (λ (x : Entry). old ++ (e.0, x) ∷ []) (again.0 (next_number rows)) in
+    rows_own es (with_cells rows (revision_cells db id e.0 e.1)) db id again.1 ∙ ap (λ l. l ++ es) one ∙ append_assoc old (e ∷ []) es
 
-rows_others : (q : Row → Bool) (es : List Node) (rows : List Row) (db : ℤ) (id : List ℕ) → ((k : ℤ) (e : Node) → q (revision_row k db id e.0 e.1) ≡ false) → filter q (with_revisions rows db id es) ≡ filter q rows
+rows_others : (q : Row → Bool) (es : List Node) (rows : List Row) (db : ℤ) (id : List ℕ) → ((k : ℤ) (e : Node) → q (revision_row k db id e.0 e.1) ≡ false) → map node (filter q (with_revisions rows db id es)) ≡ map node (filter q rows)
 rows_others q [] rows db id out = refl
 rows_others q (e ∷ es) rows db id out =
-    let new : Row = revision_row (next_number rows) db id e.0 e.1 in
-    rows_others q es (with_cells rows (revision_cells db id e.0 e.1)) db id out
-    ∙ filter_push q rows new ∙ ap (λ b. filter q rows ++ cond b (new ∷ []) []) (out (next_number rows) e) ∙ append-nil (filter q rows)
+    rows_others q es (with_cells rows (revision_cells db id e.0 e.1)) db id out ∙ slice-push_other q node rows (revision_row (next_number rows) db id e.0 e.1) (out (next_number rows) e)
 
 -- the document's history has the entries, and that of each other document is as it was
 pub history_own : (es : List Node) (rows : List Row) (db : ℤ) (id : List ℕ) → AllByRecursion (λ e. (k : ℤ) → entry_of (revision_row k db id e.0 e.1) ≡ e.1) es
@@ -73,7 +58,7 @@ history_own es rows db id again = ap from_entries (rows_own es rows db id again)
 
 pub history_others : (es : List Node) (rows : List Row) (db : ℤ) (id : List ℕ) (other : ℤ) (name : List ℕ) → (int_eq db other && bytes_eq id name) ≡ false
     → history_in (with_revisions rows db id es) other name ≡ history_in rows other name
-history_others es rows db id other name apart = ap (λ l. from_entries (map node l)) (rows_others (is_of other name) es rows db id (λ k e. apart))
+history_others es rows db id other name apart = ap from_entries (rows_others (is_of other name) es rows db id (λ k e. apart))
 
 -- ---- no revision has two rows
 
@@ -90,7 +75,7 @@ unknown_apart rows db id q unknown =
     let keys = none_from_any (eq_by_cmp revision_cmp q) (map (λ (e : Node). e.0) (map node mine)) none in
     let each = all_unmap (λ (e : Node). eq_by_cmp revision_cmp q e.0 ≡ false) node mine (all_unmap (λ (k : Revision). eq_by_cmp revision_cmp q k ≡ false) (λ (e : Node). e.0) (map node mine) keys) in
     all_weaker (λ x. is_of db id x ≡ true → eq_by_cmp revision_cmp q (revision_of x) ≡ false) (IsOther db id q)
-    (λ x out here there is. both_ways (eq_by_cmp revision_cmp q (revision_of x)) (out (ap₂ ◌&&◌ ((Decides-int_eq (db_of x) db).1 here) ((bytes_eq-Decides (id_of x) id).1 there))) (tied q (revision_of x) (sym is)))
+    (λ x out here there is. both_ways (eq_by_cmp revision_cmp q (revision_of x)) (out (is_own db id x here there)) (tied q (revision_of x) (sym is)))
     rows (all_kept (λ x. eq_by_cmp revision_cmp q (revision_of x) ≡ false) (is_of db id) rows each)
 
 pub revisions_stay_apart : (es : List Node) (rows : List Row) (db : ℤ) (id : List ℕ) → IsAscending AreApart rows → AllByRecursion (λ e. AllByRecursion (IsOther db id e.0) rows) es → IsAscending (λ a b. a.0 ≢ b.0) es

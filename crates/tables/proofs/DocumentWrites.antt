@@ -1,25 +1,24 @@
 -- Writes of documents, one after another, are all of them in the database.
-use Rattle.tables.proofs.Common.{AreAcceptable, Bool, Contents, DocumentWrite, Equal-is, HasWritten, IsAcceptable, IsStorable, IsStore, IsWritable, IsWrite, List, Row, Some, [], all-filter, all-slice_get, ap, ap₂, arith, cond, contents_in, database_of, database_row, dbs_tree, eq_by_cmp, false, filter, is_named, length, length-append, length_of, name_of, nat_cmp, nat_list_cmp_total, number_of, pos, refl, row_after, row_at_sequence, security_text, slice_cmp, slice_get, subst, sym, true, with_all, with_all-append, with_one, ℕ, ◌++◌, ◌+◌, ◌<◌, ◌^◌, ◌∙◌, ◌∷◌, ◌≡◌}
+use Rattle.tables.proofs.Common.{AreAcceptable, Contents, DocumentWrite, Equal-is, HasWritten, IsAcceptable, IsStorable, IsStore, IsWritable, IsWrite, List, Row, Some, [], all-filter, all-slice_get, ap, ap₂, arith, cases_Bool, cond, contents_in, database_of, database_row, dbs_tree, eq_by_cmp, filter, inl, inr, is_named, length, length-append, length_of, name_of, nat_cmp, nat_list_cmp_total, number_of, pos, row_after, row_at_sequence, security_text, slice_cmp, slice_get, subst, sym, with_all, with_all-append, with_one, ℕ, ◌++◌, ◌+◌, ◌<◌, ◌^◌, ◌∙◌, ◌∷◌, ◌≡◌}
 use Rattle.std.specs.FinMap as finite
 use Rattle.store.specs.Database.{Database}
 use Rattle.sqlite.specs.Effect as sqlite
 use Rattle.tables.proofs.DocumentWrite.{one_write-store, one_write-contents, one_write-row, one_write-database}
-use Rattle.tables.proofs.DocumentWriteDocuments.{insert_over}
 use Rattle.tables.proofs.Lookups.{database_there}
-use Rattle.tables.proofs.RowMaps.{text_exact}
+use Rattle.tables.proofs.RowMaps.{insert_over, text_exact}
 use Rattle.tables.proofs.Tables.{databases_laid}
 
 -- ---- contents
 
 insert_same : (m : Contents) (k : List ℕ) (x : Database) → finite.get m k ≡ Some x → finite.insert m k x ≡ m
-insert_same m k x is = finite.same_map nat_list_cmp_total text_exact _ _ (λ q. finite.get-insert nat_list_cmp_total m k x q ∙ go q (eq_by_cmp (slice_cmp nat_cmp) q k) refl)
-  where
-    go : (q : List ℕ) (b : Bool) → eq_by_cmp (slice_cmp nat_cmp) q k ≡ b → cond (eq_by_cmp (slice_cmp nat_cmp) q k) (Some x) (finite.get m q) ≡ finite.get m q
-    go q true ties = ap (λ b. cond b (Some x) (finite.get m q)) ties ∙ sym is ∙ ap (finite.get m) (sym (text_exact q k ((Equal-is (slice_cmp nat_cmp q k)).0 ties)))
-    go q false apart = ap (λ b. cond b (Some x) (finite.get m q)) apart
+insert_same m k x is = finite.same_map nat_list_cmp_total text_exact _ _ (λ q.
+    finite.get-insert nat_list_cmp_total m k x q ∙ elim (cases_Bool (eq_by_cmp (slice_cmp nat_cmp) q k)) as (λ _. cond (eq_by_cmp (slice_cmp nat_cmp) q k) (Some x) (finite.get m q) ≡ finite.get m q) [
+      | inl ties ↦ rw ties (sym is ∙ ap (finite.get m) (sym (text_exact q k ((Equal-is (slice_cmp nat_cmp q k)).0 ties))))
+      | inr apart ↦ rw apart
+    ])
 
 insert_again : (m : Contents) (k : List ℕ) (x y : Database) → finite.insert (finite.insert m k x) k y ≡ finite.insert m k y
-insert_again m k x y = insert_over (finite.insert m k x) m k y (λ q apart. finite.get-insert nat_list_cmp_total m k x q ∙ ap (λ b. cond b (Some x) (finite.get m q)) apart)
+insert_again m k x y = insert_over nat_list_cmp_total text_exact (finite.insert m k x) m k y (λ q apart. finite.get-insert nat_list_cmp_total m k x q ∙ rw apart)
 
 pub acceptable_in_turn : (ws : List DocumentWrite) (db : Database) (w : DocumentWrite) (vs : List DocumentWrite) → AreAcceptable db (ws ++ w ∷ vs) → IsAcceptable (with_all db ws) w
 acceptable_in_turn [] db w vs h = h.0

@@ -1,5 +1,5 @@
 -- What the layout says of new tables and of the rows that are shown.
-use Rattle.tables.proofs.Common.{AllByRecursion, AreLawful, AreNumbered, Bool, Err, HistoryContent, Int, IsAscending, IsBetter, IsCount, IsDatabaseRow, IsDocumentRow, IsLaid, IsLocalRow, IsNew, IsRevisionRow, IsShownDatabase, IsShownDocument, IsShownLocal, IsShownRevision, IsStore, IsTrue, List, MatchOption, None, Ok, Option, Result, Revision, Row, Some, SpellsJson, SpellsParentOf, SpellsRevision, Text, Trees, Value, [], all-filter, all_weaker, ap, arith, body_cell, bytes, canonical, column, cond, contents_in, count_in, database_of, db_of, dbs_tree, docs_tree, entry_of, eq_by_cmp, false, filter, greatest_number, has_all, history_in, id_of, if◌then◌else◌, inl, inr, is_gone, is_held, is_known, is_leaf, is_marked, is_of, is_revision, is_set, is_some, json_in, length_of, local_of, locals_tree, map, name_of, nat_le, nat_tests, number_of, option_map, parent_cell, parent_in, pos, refl, revision_cmp, revision_cmp_total, revision_of, revs_tree, rowid, same, schema, sequence_of, shown_database, shown_document, shown_local, shown_revision, slice_cmp, subst, sym, text_of, true, value_or_null, winner, winner_text, ℕ, ℤ, ◌&&◌, ◌-◌, ◌<◌, ◌^◌, ◌∙◌, ◌∷◌, ◌≡◌, ◌⊎◌}
+use Rattle.tables.proofs.Common.{AllByRecursion, AreLawful, AreNumbered, Bool, Err, HistoryContent, Int, IsAscending, IsBetter, IsCount, IsDatabaseRow, IsDocumentRow, IsLaid, IsLocalRow, IsNew, IsRevisionRow, IsShownDatabase, IsShownDocument, IsShownLocal, IsShownRevision, IsStore, IsTrue, List, MatchOption, None, Ok, Option, Result, Revision, Row, Some, SpellsJson, SpellsParentOf, Text, Trees, Value, [], all-filter, all_weaker, and_parts, ap, arith, body_cell, bytes, canonical, column, cond, contents_in, count_in, database_of, db_of, dbs_tree, docs_tree, entry_of, eq_by_cmp, false, filter, greatest_number, has_all, history_in, id_of, if◌then◌else◌, inl, inr, inside, is_gone, is_held, is_known, is_leaf, is_marked, is_of, is_revision, is_set, is_some, json_in, length_of, local_of, locals_tree, map, name_of, nat_le, nat_tests, number_of, option_map, parent_cell, parent_in, pos, refl, revision_cmp, revision_cmp_total, revision_of, revs_tree, rowid, same, schema, sequence_of, shown_database, shown_document, shown_local, shown_revision, slice_cmp, subst, sym, text_of, tied, true, value_or_null, winner, winner_text, ℕ, ℤ, ◌<◌, ◌^◌, ◌∙◌, ◌∷◌, ◌≡◌, ◌⊎◌}
 use Rattle.std.specs.FinMap as map
 use Rattle.std.specs.Ordering.{nat_cmp}
 use Rattle.couch_json.specs.Reading.{reading}
@@ -8,6 +8,7 @@ use Rattle.couch_json.specs.declared.fault.JsonFault.{JsonFault}
 use Rattle.couch_json.proofs.ReadingBack.{reading-canonical}
 use Rattle.tree.proofs.Leaves.{winner_is_best}
 use Rattle.store.specs.Database.{Database}
+use Rattle.tables.proofs.RowMaps.{mapped_some}
 use Rattle.sqlite.specs.Effect as sqlite
 use Rattle.sqlite_schema.specs.Names.{same_name}
 use Rattle.sqlite_trees.specs.Sound.{same_name as same_text}
@@ -99,16 +100,8 @@ known_lawful trees rows db id q all known =
     found_lawful (filter (is_of db id) rows) q (all-filter IsLawfulRow (is_of db id) rows (all_weaker (IsRevisionRow trees) IsLawfulRow (λ r k. k.lawful) rows all))
     (ap is_some (sym (map.get-from_entries revision_cmp_total (map (λ r. (revision_of r, entry_of r)) (filter (is_of db id) rows)) q)) ∙ known)
 
-second : (a b c : Bool) → ((a && b) && c) ≡ true → b ≡ true
-second true true c h = refl
-second true false c h = cc
-second false b c h = cc
-
 small : (n : ℕ) → nat_le n greatest_number ≡ true → n < 2 ^ 32
 small n h = grind (arith, nat_tests)
-
-same_parent : (n : ℕ) (p : Revision) → ◌≡◌ {A = Option Revision} (Some (record { number = n; hash = p.hash })) (Some p) → p.number ≡ n
-same_parent n p e = cc
 
 counted : (v : Value) (b : Bool) → v ≡ Int (if b then pos 1 else pos 0) → IsCount v
 counted v true is = (1, is)
@@ -119,7 +112,7 @@ module _ (trees : Trees) (laid : AllByRecursion (IsRevisionRow trees) (trees rev
   shown_parent None is = inl (ap (λ x. column x 5) k.is ∙ ap parent_cell is)
   shown_parent (Some p) is =
       let cell : column r 5 ≡ Text p.hash = ap (λ x. column x 5) k.is ∙ ap parent_cell is in
-      let number = same_parent (count_in (column r 3) - 1) p (sym (ap (parent_in (count_in (column r 3))) cell) ∙ is) in
+      let number = ap (λ (q : Revision). q.number) (sym (inside _ p (sym (ap (parent_in (count_in (column r 3))) cell) ∙ is))) in
       inr (p, known_lawful trees (trees revs_tree) (db_of r) (id_of r) p laid (k.follows p is), number, cell)
 
   shown_body : is_set (column r 6) ≡ true → SpellsJson (column r 8)
@@ -130,7 +123,7 @@ module _ (trees : Trees) (laid : AllByRecursion (IsRevisionRow trees) (trees rev
   shown_revision_is : IsShownRevision (shown_revision r)
   shown_revision_is = record {
     width = refl;
-    number = ((revision_of r).number, ap (λ x. column x 3) k.is, small (revision_of r).number (second _ _ _ k.lawful));
+    number = ((revision_of r).number, ap (λ x. column x 3) k.is, small (revision_of r).number (and_parts _ _ (and_parts _ _ k.lawful).0).1);
     hash = (revision_of r, k.lawful, refl, ap (λ x. column x 4) k.is);
     parent = shown_parent (entry_of r).parent refl;
     held = record { held = counted (column r 6) (is_held (entry_of r).held) (ap (λ x. column x 6) k.is); mark = λ set. counted (column r 7) (is_marked (entry_of r).held) (ap (λ x. column x 7) k.is); body = shown_body };
@@ -141,31 +134,25 @@ shown_revisions trees h = all_weaker (IsRevisionRow trees) (λ r. IsShownRevisio
 
 -- ---- the winner of a document
 
-pub same_texts : (a b : List ℕ) → ◌≡◌ {A = Option (List ℕ)} (Some a) (Some b) → a ≡ b
-same_texts a b e = cc
-
-first : (a b : Bool) → (a && b) ≡ true → a ≡ true
-first true b h = refl
-first false b h = cc
-
 pub winner_known : (h : HistoryContent) (w : Revision) → winner h ≡ Some w → is_known h w ≡ true
-winner_known h w is = first _ _ (subst (λ o. MatchOption o ((r : Revision) → IsTrue (is_leaf h r) → ⊥) (λ r. IsTrue (is_leaf h r) × ((s : Revision) → IsTrue (is_leaf h s) → (s ≡ r) ⊎ IsBetter h r s))) is (winner_is_best h)).0
+winner_known h w is = (and_parts _ _ (subst (λ o. MatchOption o ((r : Revision) → IsTrue (is_leaf h r) → ⊥) (λ r. IsTrue (is_leaf h r) × ((s : Revision) → IsTrue (is_leaf h s) → (s ≡ r) ⊎ IsBetter h r s))) is (winner_is_best h)).0).0
 
 module _ (trees : Trees) (laid : AllByRecursion (IsRevisionRow trees) (trees revs_tree)) (r : Row) (k : IsDocumentRow trees r) where
-  abbrev history : HistoryContent
+  abbrev pub history : HistoryContent
   history = history_in (trees revs_tree) (db_of r) (id_of r)
 
-  shown_winner : (won : Option Revision) → winner history ≡ won → SpellsRevision (column r 4)
-  shown_winner None is = absurd (let text = sym (ap (option_map text_of) is) ∙ k.won in cc)
-  shown_winner (Some w) is =
-      let text : text_of w ≡ winner_text r = same_texts _ _ (sym (ap (option_map text_of) is) ∙ k.won) in
-      (w, known_lawful trees (trees revs_tree) (db_of r) (id_of r) w laid (winner_known history w is), ap (λ x. column x 4) k.is ∙ ap Text (sym text))
+  -- the stored text is that of the winner
+  pub stored_winner : (w : Revision) × (winner history ≡ Some w) × (text_of w ≡ winner_text r)
+  stored_winner = mapped_some text_of (winner history) (winner_text r) k.won
+
+  pub is_lawful_winner : is_revision stored_winner.0 ≡ true
+  is_lawful_winner = known_lawful trees (trees revs_tree) (db_of r) (id_of r) stored_winner.0 laid (winner_known history stored_winner.0 stored_winner.1)
 
   shown_document_is : IsShownDocument (shown_document r)
   shown_document_is = record {
     width = refl;
     sequence = (sequence_of r, ap (λ x. column x 3) k.is);
-    winner = shown_winner (winner history) refl;
+    winner = (stored_winner.0, is_lawful_winner, ap (λ x. column x 4) k.is ∙ ap Text (sym stored_winner.2));
     mark = counted (column r 5) (is_gone r) (ap (λ x. column x 5) k.is);
   }
 

@@ -20,7 +20,6 @@ pub mod Kept
 pub mod DocumentWriteSteps
 pub mod DocumentWriteEntries
 pub mod DocumentWriteHistories
-pub mod DocumentWriteDatabases
 pub mod DocumentWriteDocuments
 pub mod DocumentWrite
 pub mod DocumentWrites
@@ -31,9 +30,11 @@ pub mod ListingOrders
 pub mod ListingRows
 pub mod RowMaps
 pub mod Lookups
+pub mod Changed
 pub mod Rests
 pub mod NewDatabases
 pub mod Secured
+pub mod ReplacedRows
 pub mod LocalChanges
 pub mod Removed
 pub mod Lemmas

@@ -1,10 +1,11 @@
 -- The entries of a map that is made of rows, in the order of their keys.
-use Rattle.tables.proofs.Common.{AllByRecursion, Bool, Equal-is, FinMap, IsAntisymmetric, IsAscending, IsTotalOrder, List, Option, Ordering, Row, Some, [], all-filter, all_both, all_weaker, ap, ap₂, both_ways, cond, eq_by_cmp, false, filter, insert_sorted, is_eq, is_gt, map, refl, sort_by, sym, true, ◌∙◌, ◌∷◌, ◌≡◌}
+use Rattle.tables.proofs.Common.{AllByRecursion, Bool, Equal-is, FinMap, IsAntisymmetric, IsAscending, IsTotalOrder, List, Option, Ordering, Row, Some, [], all_weaker, ap, ap₂, both_ways, cond, cond_both, eq_by_cmp, false, filter, insert_sorted, is_eq, is_gt, map, refl, sort_by, sym, true, ◌∙◌, ◌∷◌, ◌≡◌}
 use Rattle.std.specs.declared.cmp.Ordering.TheVariants.{Less, Equal, Greater}
 use Rattle.std.specs.FinMap as finite
 use Rattle.std.specs.FinMap.Entries.{by_order}
 use Rattle.store.proofs.Pagings.{no_length}
-use Rattle.tables.proofs.Sorted.{all_sorted, passing}
+use Rattle.tables.proofs.RowMaps.{all_passing}
+use Rattle.tables.proofs.Sorted.{all_sorted}
 
 -- ---- rows by a key
 
@@ -69,12 +70,7 @@ module _ {K X : Type 0} {R : K → K → Ordering} (total : IsTotalOrder R) (exa
 -- what holds of any two rows that pass
 pub ascending_within : (p : Row → Bool) (S : Row → Row → Type 0) (rows : List Row) → IsAscending (λ a b. p a ≡ true → p b ≡ true → S a b) rows → IsAscending S (filter p rows)
 ascending_within p S [] up = tt
-ascending_within p S (r ∷ rows) up = go (p r) refl (ascending_within p S rows up.1)
-  where
-    go : (b : Bool) → p r ≡ b → IsAscending S (filter p rows) → IsAscending S (cond b (r ∷ filter p rows) (filter p rows))
-    go true is more = (
-      all_both (λ s. p s ≡ true) (λ s. p s ≡ true → S r s) (S r) (λ s passes k. k passes) (filter p rows) (passing p rows)
-          (all-filter (λ s. p s ≡ true → S r s) p rows (all_weaker (λ s. p r ≡ true → p s ≡ true → S r s) (λ s. p s ≡ true → S r s) (λ s k. k is) rows up.0)),
-      more,
-    )
-    go false is more = more
+ascending_within p S (r ∷ rows) up =
+    cond_both (p r) _ _ (IsAscending S)
+    (λ is. (all_passing (S r) p rows (all_weaker (λ s. p r ≡ true → p s ≡ true → S r s) (λ s. p s ≡ true → S r s) (λ s k. k is) rows up.0), ascending_within p S rows up.1))
+    (λ is. ascending_within p S rows up.1)

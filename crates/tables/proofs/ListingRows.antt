@@ -1,15 +1,14 @@
 -- The rows of the documents of a database, and what they say in a listing.
-use Rattle.tables.proofs.Common.{AllByRecursion, Bool, Document, Equal-is, HistoryContent, IdRow, IsAscending, IsDocumentRow, IsLaid, IsListedDocument, IsPermutation-sort_by, IsRevisionRow, IsShownDocument, IsTotalOrder, List, None, Option, Ordering, Revision, Row, SequenceRow, Some, Trees, [], all-filter, all_both, all_of, all_weaker, ap, ap₂, arith, ascending_weaker, by_id, by_sequence, bytes_eq, bytes_eq-Decides, column, cond, database_of, db_of, docs_tree, document_counts, document_of, false, filter, gone_count, history_in, id_of, in_sequence, is_eq, is_eq-slice_cmp, is_gone, is_gone_by, is_in, leaves, leaves_row, length, length-map, length_permutation, listed_counts, listed_document, listed_mark, live_count, live_rev, live_rev_by, live_row, live_rows, map, map-map, nat_cmp, nat_cmp-IsAntisymmetric, nat_cmp_total, nat_list_cmp_total, not, number_of, on_total, option_map, option_to_list, put_in_sequence, read_of_text, refl, revision_read, revs_tree, rows_of, same_int, sequence_of, sequence_row, shown_document, sort_by, sum_by-IsPermutation, sym, text_of, true, winner, winner_text, with_row, ℕ, ℤ, ◌++◌, ◌+◌, ◌-◌, ◌∙◌, ◌∷◌, ◌≡◌, ◌≢◌}
+use Rattle.tables.proofs.Common.{AllByRecursion, Bool, Document, HistoryContent, IdRow, IsAscending, IsDocumentRow, IsLaid, IsListedDocument, IsPermutation-sort_by, IsRevisionRow, IsShownDocument, IsTotalOrder, List, None, Option, Ordering, Revision, Row, SequenceRow, Some, Trees, [], all-filter, all_both, all_of, all_weaker, ap, ap₂, arith, ascending_weaker, by_id, by_sequence, column, cond, database_of, db_of, docs_tree, document_counts, document_of, false, filter, gone_count, history_in, id_of, in_sequence, is_eq, is_gone, is_gone_by, is_in, leaves, leaves_row, length, length-map, length_permutation, listed_counts, listed_document, listed_mark, live_count, live_rev, live_rev_by, live_row, live_rows, map, map-map, nat_cmp, nat_cmp-IsAntisymmetric, nat_cmp_total, nat_list_cmp_total, nat_tests, not, number_of, on_total, option_map, option_to_list, put_in_sequence, read_of_text, refl, revision_read, revs_tree, rows_of, same, same_int, sequence_of, sequence_row, shown_document, sort_by, subst, sum_by-IsPermutation, sym, true, winner, winner_text, with_row, ℕ, ℤ, ◌++◌, ◌+◌, ◌-◌, ◌∙◌, ◌∷◌, ◌≡◌, ◌≢◌}
 use Rattle.std.proofs.Common.{count_by}
 use Rattle.std.proofs.lemmas.List.Sums.{sum_by-cons}
 use Rattle.std.specs.FinMap as finite
 use Rattle.store.specs.Pages as pages
 use Rattle.store.proofs.Pagings.{no_length}
-use Rattle.tables.proofs.Laid.{known_lawful, same_texts, shown_documents, winner_known}
+use Rattle.tables.proofs.Laid.{history, is_lawful_winner, shown_documents, stored_winner}
 use Rattle.tables.proofs.ListingOrders.{ascending_within, entries_by_key, map_sorted}
-use Rattle.tables.proofs.RowMaps.{text_exact}
-use Rattle.tables.proofs.Single.{fails}
-use Rattle.tables.proofs.Sorted.{all_sorted, passing}
+use Rattle.tables.proofs.RowMaps.{passing, text_exact, untied}
+use Rattle.tables.proofs.Sorted.{all_sorted}
 
 module _ (trees : Trees) (db : ℤ) where
   abbrev pub documents_of : List Row
@@ -23,7 +22,7 @@ module _ (trees : Trees) (db : ℤ) where
   ids_apart h =
       ascending_within (is_in db) (λ a b. is_eq (by_id a b) ≡ false) (trees docs_tree)
       (ascending_weaker (λ a b. db_of a ≡ db_of b → id_of a ≢ id_of b) (λ a b. is_in db a ≡ true → is_in db b ≡ true → is_eq (by_id a b) ≡ false)
-      (λ a b apart x y. is_eq-slice_cmp (id_of a) (id_of b) ∙ fails (bytes_eq (id_of a) (id_of b)) (λ same. apart (together a b x y) ((bytes_eq-Decides (id_of a) (id_of b)).0 same))) (trees docs_tree) h.ids_apart)
+      (λ a b apart x y. untied nat_list_cmp_total text_exact (id_of a) (id_of b) (apart (together a b x y))) (trees docs_tree) h.ids_apart)
 
 pub documents_by_id : (trees : Trees) (d : Row) → IsLaid trees
     → finite.entries (database_of trees d).documents ≡ map (λ r. (id_of r, document_of (trees revs_tree) r)) (sort_by by_id (filter (is_in (number_of d)) (trees docs_tree)))
@@ -31,26 +30,17 @@ documents_by_id trees d h = entries_by_key nat_list_cmp_total text_exact id_of (
 
 -- ---- what a row says of its winner
 
-module _ (trees : Trees) (r : Row) (k : IsDocumentRow trees r) where
-  abbrev pub history : HistoryContent
-  history = history_in (trees revs_tree) (db_of r) (id_of r)
-
-  pub marked : pages.is_gone history ≡ is_gone r
-  marked = go (winner history) refl
-    where
-      go : (o : Option Revision) → winner history ≡ o → pages.is_gone history ≡ is_gone r
-      go None is = absurd (let text = sym (ap (option_map text_of) is) ∙ k.won in cc)
-      go (Some w) is = ap (is_gone_by history) is ∙ sym (k.gone w is)
+module _ (trees : Trees) (laid : AllByRecursion (IsRevisionRow trees) (trees revs_tree)) (r : Row) (k : IsDocumentRow trees r) where
+  marked : pages.is_gone (history trees laid r k) ≡ is_gone r
+  marked =
+      let w = stored_winner trees laid r k in
+      ap (is_gone_by (history trees laid r k)) w.1 ∙ sym (k.gone w.0 w.1)
 
   -- the stored text spells the winner
-  pub won : AllByRecursion (IsRevisionRow trees) (trees revs_tree) → winner history ≡ revision_read (winner_text r)
-  won laid = go (winner history) refl
-    where
-      go : (o : Option Revision) → winner history ≡ o → winner history ≡ revision_read (winner_text r)
-      go None is = absurd (let text = sym (ap (option_map text_of) is) ∙ k.won in cc)
-      go (Some w) is =
-          let text : text_of w ≡ winner_text r = same_texts _ _ (sym (ap (option_map text_of) is) ∙ k.won) in
-          is ∙ sym (sym (ap revision_read text) ∙ read_of_text w (known_lawful trees (trees revs_tree) (db_of r) (id_of r) w laid (winner_known history w is)))
+  won : winner (history trees laid r k) ≡ revision_read (winner_text r)
+  won =
+      let w = stored_winner trees laid r k in
+      w.1 ∙ sym (sym (ap revision_read w.2) ∙ read_of_text w.0 (is_lawful_winner trees laid r k))
 
 -- ---- counts
 
@@ -64,11 +54,7 @@ both_counted p [] = omega arith
 both_counted p (x ∷ xs) =
     let a = sum_by-cons (λ y. cond (p y) 1 0) x xs in
     let b = sum_by-cons (λ y. cond (not (p y)) 1 0) x xs in
-    go (p x) (count_by p (x ∷ xs)) (count_by (λ y. not (p y)) (x ∷ xs)) a b (both_counted p xs)
-  where
-    go : (c : Bool) (m n : ℕ) → m ≡ cond c 1 0 + count_by p xs → n ≡ cond (not c) 1 0 + count_by (λ y. not (p y)) xs → count_by p xs + count_by (λ y. not (p y)) xs ≡ length xs → m + n ≡ length (x ∷ xs)
-    go true m n a b more = omega (arith, a, b, more)
-    go false m n a b more = omega (arith, a, b, more)
+    grind (arith, nat_tests, a, b, both_counted p xs)
 
 module _ (trees : Trees) (d : Row) (h : IsLaid trees) where
   abbrev rows : List Row
@@ -87,7 +73,7 @@ module _ (trees : Trees) (d : Row) (h : IsLaid trees) where
   gone_documents =
       ap gone_count (documents_by_id trees d h)
       ∙ counted (λ (e : List ℕ × Document). pages.is_gone e.1.history) is_gone (λ r. (id_of r, document_of (trees revs_tree) r)) (sort_by by_id rows)
-      (all_weaker (IsDocumentRow trees) (λ r. pages.is_gone (history_in (trees revs_tree) (db_of r) (id_of r)) ≡ is_gone r) (marked trees) (sort_by by_id rows) sorted_are)
+      (all_weaker (IsDocumentRow trees) (λ r. pages.is_gone (history_in (trees revs_tree) (db_of r) (id_of r)) ≡ is_gone r) (marked trees h.revs) (sort_by by_id rows) sorted_are)
       ∙ sym (sum_by-IsPermutation (λ r. cond (is_gone r) 1 0) (sort_by by_id rows) rows (IsPermutation-sort_by by_id (on_total id_of nat_list_cmp_total) rows))
 
   pub live_documents : live_count entries ≡ count_by (λ r. not (is_gone r)) rows
@@ -118,33 +104,21 @@ counts_by_sequence trees d h = listed_documents trees d h by_sequence (on_total 
 -- a row of a page, where the winner is not deleted
 live_one : (h : HistoryContent) (r : Row) (rest : List IdRow) → winner h ≡ revision_read (winner_text r) → pages.is_gone h ≡ is_gone r
     → with_row (id_of r) (live_rev h) rest ≡ option_to_list (live_row (listed_document r)) ++ rest
-live_one h r rest spells mark = go (winner h) refl (sym spells)
+live_one h r rest spells mark =
+    subst (λ o. with_row (id_of r) (live_rev h) rest ≡ option_to_list (cond (is_gone r) None (option_map {U = IdRow} (λ w. record { id = id_of r; rev = w }) o)) ++ rest) spells (by (winner h) (is_gone r) mark)
   where
-    turned : (w : Revision) (b : Bool) → with_row (id_of r) (cond b None (Some w)) rest ≡ option_to_list (cond b None (Some (record { id = id_of r; rev = w }))) ++ rest
-    turned w true = refl
-    turned w false = refl
-
-    spelled : Option Revision → Bool → List IdRow
-    spelled o b = option_to_list (cond b None (option_map (λ w. record { id = id_of r; rev = w }) o)) ++ rest
-
-    go : (o : Option Revision) → winner h ≡ o → revision_read (winner_text r) ≡ winner h → with_row (id_of r) (live_rev h) rest ≡ option_to_list (live_row (listed_document r)) ++ rest
-    go None is read =
-        ap (λ o. with_row (id_of r) (live_rev_by h o) rest) is ∙ none (is_gone r) ∙ sym (ap (λ o. spelled o (is_gone r)) (read ∙ is))
-      where
-        none : (b : Bool) → rest ≡ spelled None b
-        none true = refl
-        none false = refl
-    go (Some w) is read =
-        ap (λ o. with_row (id_of r) (live_rev_by h o) rest) is
-        ∙ ap (λ b. with_row (id_of r) (cond b None (Some w)) rest) (sym (ap (is_gone_by h) is) ∙ mark)
-        ∙ turned w (is_gone r) ∙ sym (ap (λ o. spelled o (is_gone r)) (read ∙ is))
+    by : (o : Option Revision) (b : Bool) → is_gone_by h o ≡ b → with_row (id_of r) (live_rev_by h o) rest ≡ option_to_list (cond b None (option_map {U = IdRow} (λ w. record { id = id_of r; rev = w }) o)) ++ rest
+    by None true mark = refl
+    by None false mark = refl
+    by (Some w) true mark = rw mark
+    by (Some w) false mark = rw mark
 
 live_all : (trees : Trees) (rows : List Row) → AllByRecursion (IsRevisionRow trees) (trees revs_tree) → AllByRecursion (IsDocumentRow trees) rows
     → pages.live_rows (map (λ r. (id_of r, document_of (trees revs_tree) r)) rows) ≡ live_rows (map listed_document rows)
 live_all trees [] laid all = refl
 live_all trees (r ∷ rows) laid all =
     let rest = live_all trees rows laid all.1 in
-    live_one (history trees r all.0) r (pages.live_rows (map (λ r. (id_of r, document_of (trees revs_tree) r)) rows)) (won trees r all.0 laid) (marked trees r all.0)
+    live_one (history trees laid r all.0) r (pages.live_rows (map (λ r. (id_of r, document_of (trees revs_tree) r)) rows)) (won trees laid r all.0) (marked trees laid r all.0)
     ∙ ap (λ l. option_to_list (live_row (listed_document r)) ++ l) rest
 
 pub live_by_id : (trees : Trees) (d : Row) → IsLaid trees
@@ -192,7 +166,7 @@ module _ (trees : Trees) (d : Row) (h : IsLaid trees) where
   sequences_apart =
       ascending_within (is_in (number_of d)) (λ a b. is_eq (by_sequence a b) ≡ false) (trees docs_tree)
       (ascending_weaker (λ a b. db_of a ≡ db_of b → sequence_of a ≢ sequence_of b) (λ a b. is_in (number_of d) a ≡ true → is_in (number_of d) b ≡ true → is_eq (by_sequence a b) ≡ false)
-      (λ a b apart x y. fails (is_eq (by_sequence a b)) (λ tied. apart (together trees (number_of d) a b x y) (nat_cmp-IsAntisymmetric (sequence_of a) (sequence_of b) ((Equal-is (by_sequence a b)).0 tied)))) (trees docs_tree) h.sequences_apart)
+      (λ a b apart x y. untied nat_cmp_total nat_cmp-IsAntisymmetric (sequence_of a) (sequence_of b) (apart (together trees (number_of d) a b x y))) (trees docs_tree) h.sequences_apart)
 
   in_order : (all : Bool) → in_sequence (rows_of all (entries trees d h)) ≡ map (λ r. pages.row_of all (id_of r, document_of (trees revs_tree) r)) (sort_by by_sequence mine)
   in_order all = ap (λ es. in_sequence (rows_of all es)) (documents_by_id trees d h) ∙ put_sorted all (document_of (trees revs_tree)) (λ r. refl) by_id mine sequences_apart
@@ -202,21 +176,20 @@ module _ (trees : Trees) (d : Row) (h : IsLaid trees) where
       all_sorted (λ r. IsDocumentRow trees r × (is_in (number_of d) r ≡ true)) by_sequence mine
       (all_both (IsDocumentRow trees) (λ r. is_in (number_of d) r ≡ true) (λ r. IsDocumentRow trees r × (is_in (number_of d) r ≡ true)) (λ r k is. (k, is)) mine (rows_are trees d h) (passing (is_in (number_of d)) (trees docs_tree)))
 
+  -- a listing shows the rows in their order, each as what it says
+  shown_by : (all : Bool) (f : Row → SequenceRow) → ((r : Row) → IsDocumentRow trees r × (is_in (number_of d) r ≡ true) → pages.row_of all (id_of r, document_of (trees revs_tree) r) ≡ f (listed_document r))
+      → in_sequence (rows_of all (entries trees d h)) ≡ map f (map listed_document (sort_by by_sequence mine))
+  shown_by all f says =
+      in_order all
+      ∙ map_on _ (λ r. f (listed_document r)) (sort_by by_sequence mine)
+      (all_weaker (λ r. IsDocumentRow trees r × (is_in (number_of d) r ≡ true)) (λ r. pages.row_of all (id_of r, document_of (trees revs_tree) r) ≡ f (listed_document r)) says (sort_by by_sequence mine) ordered_are)
+      ∙ sym (map-map f listed_document (sort_by by_sequence mine))
+
   pub winners_by_sequence : in_sequence (rows_of false (entries trees d h)) ≡ map sequence_row (map listed_document (sort_by by_sequence (filter (is_in (number_of d)) (trees docs_tree))))
-  winners_by_sequence =
-      in_order false
-      ∙ map_on _ (λ r. sequence_row (listed_document r)) (sort_by by_sequence mine)
-      (all_weaker (λ r. IsDocumentRow trees r × (is_in (number_of d) r ≡ true)) (λ r. pages.row_of false (id_of r, document_of (trees revs_tree) r) ≡ sequence_row (listed_document r))
-      (λ r k. sequence_one (history trees r k.0) r (won trees r k.0 h.revs) (marked trees r k.0)) (sort_by by_sequence mine) ordered_are)
-      ∙ sym (map-map sequence_row listed_document (sort_by by_sequence mine))
+  winners_by_sequence = shown_by false sequence_row (λ r k. sequence_one (history trees h.revs r k.0) r (won trees h.revs r k.0) (marked trees h.revs r k.0))
 
   pub leaves_by_sequence : in_sequence (rows_of true (entries trees d h)) ≡ map (leaves_row (trees revs_tree) (number_of d)) (map listed_document (sort_by by_sequence (filter (is_in (number_of d)) (trees docs_tree))))
-  leaves_by_sequence =
-      in_order true
-      ∙ map_on _ (λ r. leaves_row (trees revs_tree) (number_of d) (listed_document r)) (sort_by by_sequence mine)
-      (all_weaker (λ r. IsDocumentRow trees r × (is_in (number_of d) r ≡ true)) (λ r. pages.row_of true (id_of r, document_of (trees revs_tree) r) ≡ leaves_row (trees revs_tree) (number_of d) (listed_document r))
-      (λ r k. leaves_one (trees revs_tree) (number_of d) r (same_int (db_of r) (number_of d) k.1) (marked trees r k.0)) (sort_by by_sequence mine) ordered_are)
-      ∙ sym (map-map (leaves_row (trees revs_tree) (number_of d)) listed_document (sort_by by_sequence mine))
+  leaves_by_sequence = shown_by true (leaves_row (trees revs_tree) (number_of d)) (λ r k. leaves_one (trees revs_tree) (number_of d) r (same_int (db_of r) (number_of d) k.1) (marked trees h.revs r k.0))
 
 -- ---- rows are laid out as a list shows them
 

@@ -1,12 +1,13 @@
 -- What the tables answer by name and by id is what the databases that they hold have there.
-use Rattle.tables.proofs.Common.{AllByRecursion, Bool, Decides-int_eq, IsDatabaseNumber, IsLaid, IsRevisionRow, List, None, Option, Row, Some, Trees, [], all_both, all_weaker, and_parts, ap, ap₂, ascending_weaker, both_ways, by_name, bytes_eq, bytes_eq-Decides, contents_in, database_of, db_of, dbs_tree, docs_tree, document_of, entry_of, false, filter, filter_none, find, has_number, history_in, id_of, is_eq, is_eq-slice_cmp, is_in, is_named, is_of, is_some, list_any, local_of, locals_tree, map, map-map, name_of, nat_cmp, nat_list_cmp_total, number_of, option_map, refl, revision_of, revs_tree, same_int, slice_cmp, slice_get, slice_get-filter, sort_by, subst, sym, true, ℕ, ℤ, ◌||◌, ◌∙◌, ◌∷◌, ◌≡◌, ◌⊎◌}
+use Rattle.tables.proofs.Common.{AllByRecursion, Decides-int_eq, IsDatabaseNumber, IsLaid, IsRevisionRow, List, None, Option, Row, Some, Trees, [], all_both, all_weaker, any_is_found, ap, ap₂, ascending_weaker, both_ways, by_name, bytes_eq, contents_in, database_at, database_of, dbs_tree, docs_tree, document_of, entry_of, false, false_from_ne_true, filter, filter_none, find, has_number, history_in, id_of, is_eq, is_in, is_named, is_of, is_some, list_any, local_of, locals_tree, map, map-map, name_of, nat_cmp, nat_list_cmp_total, number_of, option_map, refl, revision_of, revs_tree, slice_cmp, slice_get, slice_get-filter, sort_by, subst₂, sym, true, ℕ, ℤ, ◌∙◌, ◌∷◌, ◌≡◌, ◌⊎◌}
 use Rattle.std.specs.FinMap as finite
 use Rattle.store.specs.Database as store
 use Rattle.store.specs.Database.{Database}
 use Rattle.tables.proofs.ListingOrders.{entries_by_key}
-use Rattle.tables.proofs.RowMaps.{any_found, filter_both, find_passes, get_filtered, one_test, only_found, rows_changed, text_exact, text_tests}
-use Rattle.tables.proofs.Single.{few, fails}
-use Rattle.tables.proofs.Tables.{one_named, one_numbered}
+use Rattle.sqlite_trees.proofs.ListLemmas.{filter_same as filter_on}
+use Rattle.tables.proofs.RowMaps.{filter_both, find_passes, get_filtered, one_test, only_found, rows_changed, text_exact, text_tests, untied}
+use Rattle.tables.proofs.Single.{few}
+use Rattle.tables.proofs.Tables.{of_these, one_named, one_numbered}
 
 -- ---- databases by name
 
@@ -18,17 +19,12 @@ one_database trees name h = few (is_named name) (trees dbs_tree) (one_named (tre
 
 -- ---- documents and local documents by id
 
-module _ (db : ℤ) (id : List ℕ) where
-  -- a row of a database's id is of these
-  pub of_these : (r : Row) → is_of db id r ≡ true → (db_of r ≡ db) × (id_of r ≡ id)
-  of_these r is = let parts = and_parts (is_in db r) _ is in (same_int (db_of r) db parts.0, (bytes_eq-Decides (id_of r) id).0 parts.1)
-
-  -- the value at an id among the rows of a database
-  pub get_id : {X : Type 0} (value : Row → X) (rows : List Row)
-      → finite.get {R = slice_cmp nat_cmp} (finite.from_entries (map (λ r. (id_of r, value r)) (filter (is_in db) rows))) id ≡ option_map value (slice_get (filter (is_of db id) rows) 0)
-  get_id value rows =
-      get_filtered nat_list_cmp_total text_exact id_of (λ q r. bytes_eq (id_of r) q) (text_tests id_of) value (filter (is_in db) rows) id
-      ∙ ap (λ l. option_map value (slice_get l 0)) (filter_both (λ r. bytes_eq (id_of r) id) (is_in db) rows)
+-- the value at an id among the rows of a database
+pub get_id : (db : ℤ) (id : List ℕ) {X : Type 0} (value : Row → X) (rows : List Row)
+    → finite.get {R = slice_cmp nat_cmp} (finite.from_entries (map (λ r. (id_of r, value r)) (filter (is_in db) rows))) id ≡ option_map value (slice_get (filter (is_of db id) rows) 0)
+get_id db id value rows =
+    get_filtered nat_list_cmp_total text_exact id_of (λ q r. bytes_eq (id_of r) q) (text_tests id_of) value (filter (is_in db) rows) id
+    ∙ ap (λ l. option_map value (slice_get l 0)) (filter_both (λ r. bytes_eq (id_of r) id) (is_in db) rows)
 
 pub local_found : (trees : Trees) (d : Row) (id : List ℕ) → finite.get (database_of trees d).locals id ≡ option_map local_of (slice_get (filter (is_of (number_of d) id) (trees locals_tree)) 0)
 local_found trees d id = get_id (number_of d) id local_of (trees locals_tree)
@@ -38,15 +34,10 @@ module _ (trees : Trees) (db : ℤ) (id : List ℕ) where
   unwritten : IsLaid trees → find (is_of db id) (trees docs_tree) ≡ None → history_in (trees revs_tree) db id ≡ finite.empty
   unwritten h none =
       ap (λ l. finite.from_entries (map (λ r. (revision_of r, entry_of r)) l))
-      (filter_none (is_of db id) (trees revs_tree) (all_weaker (IsRevisionRow trees) (λ r. is_of db id r ≡ false) (λ r k. fails (is_of db id r) (apart r k)) (trees revs_tree) h.revs))
-    where
-      absent : list_any (is_of db id) (trees docs_tree) ≡ false
-      absent = any_found (is_of db id) (trees docs_tree) ∙ ap is_some none
-
-      apart : (r : Row) → IsRevisionRow trees r → is_of db id r ≡ true → ⊥
-      apart r k is =
-          let own = of_these db id r is in
-          both_ways (list_any (is_of db id) (trees docs_tree)) absent (subst (λ (n : ℤ). list_any (is_of n id) (trees docs_tree) ≡ true) own.0 (subst (λ (k : List ℕ). list_any (is_of (db_of r) k) (trees docs_tree) ≡ true) own.1 k.there))
+      (filter_none (is_of db id) (trees revs_tree) (all_weaker (IsRevisionRow trees) (λ r. is_of db id r ≡ false) (λ r k. false_from_ne_true (is_of db id r) (λ is.
+      let own = of_these db id r is in
+      both_ways (list_any (is_of db id) (trees docs_tree)) (any_is_found (is_of db id) (trees docs_tree) ∙ ap is_some none) (subst₂ (λ (n : ℤ) (i : List ℕ). list_any (is_of n i) (trees docs_tree) ≡ true) own.0 own.1 k.there)))
+      (trees revs_tree) h.revs))
 
   history_by : IsLaid trees → (o : Option Row) → find (is_of db id) (trees docs_tree) ≡ o → store.history_in (option_map (document_of (trees revs_tree)) o) ≡ history_in (trees revs_tree) db id
   history_by h None is = sym (unwritten h is)
@@ -65,34 +56,37 @@ pub names_found : (trees : Trees) → IsLaid trees → finite.keys (contents_in 
 names_found trees h =
     ap (map (λ e. e.0))
     (entries_by_key nat_list_cmp_total text_exact name_of (database_of trees) (trees dbs_tree)
-    (ascending_weaker _ (λ a b. is_eq (by_name a b) ≡ false) (λ a b apart. is_eq-slice_cmp (name_of a) (name_of b) ∙ fails (bytes_eq (name_of a) (name_of b)) (λ same. apart ((bytes_eq-Decides (name_of a) (name_of b)).0 same))) (trees dbs_tree) h.names_apart))
+    (ascending_weaker _ (λ a b. is_eq (by_name a b) ≡ false) (λ a b. untied nat_list_cmp_total text_exact (name_of a) (name_of b)) (trees dbs_tree) h.names_apart))
     ∙ map-map (λ (e : List ℕ × _). e.0) (λ s. (name_of s, database_of trees s)) (sort_by by_name (trees dbs_tree))
 
 -- ---- the row of a name
 
-any_on : {A : Type 0} (p q : A → Bool) (rows : List A) → AllByRecursion (λ r. p r ≡ q r) rows → list_any p rows ≡ list_any q rows
-any_on p q [] all = refl
-any_on p q (r ∷ rows) all = ap₂ (λ a b. a || b) all.0 (any_on p q rows all.1)
+pub own_number : (r : Row) → has_number (number_of r) r ≡ true
+own_number r = (Decides-int_eq (number_of r) (number_of r)).1 refl
 
 module _ (trees : Trees) (h : IsLaid trees) (name : List ℕ) (d : Row) (is : slice_get (filter (is_named name) (trees dbs_tree)) 0 ≡ Some d) where
   named_row : find (is_named name) (trees dbs_tree) ≡ Some d
   named_row = sym (slice_get-filter (is_named name) (trees dbs_tree)) ∙ is
 
   -- no other row has its name
-  pub only_named : AllByRecursion (λ r. is_named name r ≡ true → r ≡ d) (trees dbs_tree)
+  only_named : AllByRecursion (λ r. is_named name r ≡ true → r ≡ d) (trees dbs_tree)
   only_named = only_found (is_named name) d (trees dbs_tree) (one_named (trees dbs_tree) h.names_apart name) named_row
 
   -- the rows of its name are those of its number
   pub by_number : AllByRecursion (λ r. is_named name r ≡ has_number (number_of d) r) (trees dbs_tree)
   by_number =
       one_test (is_named name) (has_number (number_of d)) d (trees dbs_tree) (one_named (trees dbs_tree) h.names_apart name)
-      (one_numbered (trees dbs_tree) h.dbs_numbered.rising (number_of d)) named_row ((Decides-int_eq (number_of d) (number_of d)).1 refl)
+      (one_numbered (trees dbs_tree) h.dbs_numbered.rising (number_of d)) named_row (own_number d)
 
-  pub name_there : list_any (is_named name) (trees dbs_tree) ≡ true
-  name_there = any_found (is_named name) (trees dbs_tree) ∙ ap is_some named_row
+  name_there : list_any (is_named name) (trees dbs_tree) ≡ true
+  name_there = any_is_found (is_named name) (trees dbs_tree) ∙ ap is_some named_row
+
+  pub at_number : database_at (trees dbs_tree) (number_of d) ≡ Some d
+  at_number =
+      sym (slice_get-filter (has_number (number_of d)) (trees dbs_tree)) ∙ ap (λ l. slice_get l 0) (sym (filter_on (is_named name) (has_number (number_of d)) (trees dbs_tree) by_number)) ∙ is
 
   pub number_there : IsDatabaseNumber trees (number_of d)
-  number_there = sym (any_on (is_named name) (has_number (number_of d)) (trees dbs_tree) by_number) ∙ name_there
+  number_there = any_is_found (has_number (number_of d)) (trees dbs_tree) ∙ ap is_some at_number
 
   pub database_there : finite.get (contents_in trees) name ≡ Some (database_of trees d)
   database_there = database_found trees name ∙ ap (option_map (database_of trees)) is

@@ -1,22 +1,29 @@
 -- What the statement on the version means.
-use Rattle.tables.proofs.Common.{IfOk, IsPermutation, List, Result, Row, Select, Shown, State, [], all_of, ap, arith, codes, col, everything, filter_all, is_first, length_permutation, map, meta_tree, one_permutation, refl, schema, shown_version, shows_first, subst, true, understood, ℕ, ◌∷◌, ◌≡◌}
+use Rattle.tables.proofs.Common.{IfOk, Insert, Int, IsPermutation, List, Null, Result, Row, Select, Shown, State, Values, [], all_of, ap, arith, cast_row, codes, col, count, everything, filter_all, is_first, length_permutation, lit, map, meta_table, meta_tree, one_permutation, pos, refl, same, schema, shown_version, shows_first, subst, true, understood, ℕ, ◌∷◌, ◌≡◌}
+use Rattle.tables.proofs.Cells.{cast_null, cast_int}
 use Rattle.tables.proofs.Finds.{finds_where}
 use Rattle.tables.proofs.Queries.{program_on}
 use Rattle.tables.proofs.Writes.{IsCommand}
 
-abbrev pub find_text : List ℕ
-find_text = codes "SELECT version FROM meta"
-
-pub find_is : IsCommand schema find_text (Select (program_on meta_tree [] (col 1 1 ∷ []) []) (codes "version" ∷ []))
+pub inserts_version : IsCommand schema (codes "INSERT INTO meta (version) VALUES (1)") (Insert 0 (Values (lit Null ∷ lit (Int (pos 1)) ∷ []) 2))
 unfolding understood everything
-find_is = record { is = refl; plain = (refl, refl); unlisted = refl }
+inserts_version = record { is = refl; plain = (refl, refl); unlisted = refl }
 
-pub finds_version : {X E : Type 0} (old new : State) → old.now.schema ≡ schema → (r : Result X E) (items : X → List Row) → IfOk r (λ x. Shown find_text [] old new (items x))
+pub cast_version : cast_row meta_table (Null ∷ count 1 ∷ []) ≡ Null ∷ count 1 ∷ []
+cast_version = λ i. cast_null i ∷ cast_int (pos 1) i ∷ []
+
+abbrev pub version_text : List ℕ
+version_text = codes "SELECT version FROM meta"
+
+pub version_is : IsCommand schema version_text (Select (program_on meta_tree [] (col 1 1 ∷ []) []) (codes "version" ∷ []))
+unfolding understood everything
+version_is = record { is = refl; plain = (refl, refl); unlisted = refl }
+
+pub finds_version : {X E : Type 0} (old new : State) → old.now.schema ≡ schema → (r : Result X E) (items : X → List Row) → IfOk r (λ x. Shown version_text [] old new (items x))
     → IfOk r (λ x. IsPermutation (map shown_version (old.now.trees meta_tree)) (items x))
 finds_version old new has r items h =
-    subst (λ l. IfOk r (λ x. IsPermutation (map shown_version l) (items x))) (filter_all (λ x. true) (old.now.trees meta_tree) (all_of (λ x. true ≡ true) (λ x. refl) (old.now.trees meta_tree)))
-    (finds_where schema old new has find_text meta_tree [] (col 1 1 ∷ []) (codes "version" ∷ []) find_is [] (λ x. true) shown_version refl (λ x. refl)
-    (all_of (λ x. true ≡ true) (λ x. refl) (old.now.trees meta_tree)) r items h)
+    let all = all_of (λ x. true ≡ true) (λ x. refl) (old.now.trees meta_tree) in
+    subst (λ l. IfOk r (λ x. IsPermutation (map shown_version l) (items x))) (filter_all (λ x. true) (old.now.trees meta_tree) all) (finds_where old new has version_is [] (λ x. true) shown_version refl (λ x. refl) all r items h)
 
 -- what is shown tells the version
 pub shows_version : (rows shown : List Row) → IsPermutation (map shown_version rows) shown → shows_first shown ≡ is_first rows

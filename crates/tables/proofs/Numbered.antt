@@ -1,16 +1,14 @@
 -- Rows whose numbers rise, and what puts one in or takes some out.
-use Rattle.tables.proofs.Common.{AllByRecursion, AreKeyed, AreNumbered, Blob, Bool, Int, IsPermutation, IsPermutation-map, List, Null, Real, Row, Text, Value, [], all-filter, all_of, all_weaker, ap, ap₂, cond, false, filter, filter_all, filter_same, fold, has_rowid, id_in, ids_of, int_cmp, int_eq, is_eq, list_any, list_any-IsPermutation, map, map-map, map_same, match_ordering, next_rowid, not, number_of, pos, put_row, refl, rowid, sym, true, value_cmp, value_cmp-Int, whole_in, without_all, without_key, without_rowid, ℤ, ◌&&◌, ◌++◌, ◌+ℤ◌, ◌||◌, ◌∙◌, ◌∷◌, ◌≡◌}
+use Rattle.tables.proofs.Common.{AllByRecursion, AreKeyed, AreNumbered, Bool, Int, IsPermutation, IsPermutation-map, List, Row, Value, [], all-filter, all_of, all_weaker, ap, ap₂, arith, filter, filter_all, filter_same, fold, has_rowid, id_in, ids_of, int_cmp, int_eq, is_eq, list_any, list_any-IsPermutation, map, map-map, map_same, match_ordering, nat_tests, next_rowid, not, number_of, pos, put_row, refl, rowid, same, sym, true, value_cmp, value_cmp-Int, whole_in, without_all, without_key, without_rowid, ℤ, ◌&&◌, ◌++◌, ◌+ℤ◌, ◌||◌, ◌∙◌, ◌∷◌, ◌≡◌}
 use Rattle.sqlite_keyed.specs.Keyed.{insert_by, next_key}
 use Rattle.sqlite_keyed.proofs.SliceLemmas.{insert_next}
 use Rattle.sqlite_keyed.proofs.WriteLemmas.{removes_delete}
+use Rattle.sqlite_trees.proofs.ListLemmas.{filter_same as filter_on}
 use Rattle.tables.proofs.RowMaps.{filter_both}
 
 pub same_whole : (v : Value) → id_in v ≡ whole_in v
-same_whole Null = refl
 same_whole (Int n) = refl
-same_whole (Real x) = refl
-same_whole (Text t) = refl
-same_whole (Blob b) = refl
+same_whole v = refl
 
 next_same : (start : ℤ) (rows : List Row) → fold (λ _ r. id_in (rowid r) +ℤ pos 1) start rows ≡ fold (λ _ r. number_of r +ℤ pos 1) start rows
 next_same start [] = refl
@@ -36,20 +34,12 @@ numbered_from_keyed rows h = record { numbers = all_weaker _ (λ r. rowid r ≡ 
 
 -- ---- rows that are taken out
 
-pub filter_on : (p q : Row → Bool) (rows : List Row) → AllByRecursion (λ r. p r ≡ q r) rows → filter p rows ≡ filter q rows
-filter_on p q [] all = refl
-filter_on p q (r ∷ rows) all = ap₂ (λ b l. cond b (r ∷ l) l) all.0 (filter_on p q rows all.1)
-
-neither : (a b : Bool) → (not a && not b) ≡ not (a || b)
-neither true b = refl
-neither false b = refl
-
 -- the rows whose number is not among these
 without_filter : (rows : List Row) (ids : List ℤ) → without_all rows ids ≡ filter (λ r. not (list_any (λ id. has_rowid id r) ids)) rows
 without_filter rows [] = sym (filter_all (λ r. true) rows (all_of (λ r. true ≡ true) (λ r. refl) rows))
 without_filter rows (id ∷ ids) =
     without_filter (without_rowid id rows) ids ∙ filter_both (λ r. not (list_any (λ i. has_rowid i r) ids)) (λ r. not (has_rowid id r)) rows
-    ∙ filter_same _ _ (λ r. neither (has_rowid id r) (list_any (λ i. has_rowid i r) ids)) rows
+    ∙ filter_same (λ r. not (has_rowid id r) && not (list_any (λ i. has_rowid i r) ids)) (λ r. not (has_rowid id r || list_any (λ i. has_rowid i r) ids)) (λ r. grind (arith, nat_tests)) rows
 
 in_any_order : (rows : List Row) (ids others : List ℤ) → IsPermutation ids others → without_all rows ids ≡ without_all rows others
 in_any_order rows ids others same =
@@ -61,7 +51,7 @@ has_same id r own = ap (λ v. not (is_eq (value_cmp v (Int id)))) own ∙ ap (λ
 without_same : (rows : List Row) (ids : List ℤ) → AllByRecursion (λ r. rowid r ≡ Int (number_of r)) rows → without_all rows ids ≡ fold (without_key number_of) rows ids
 without_same rows [] all = refl
 without_same rows (id ∷ ids) all =
-    ap (λ l. without_all l ids) (filter_on _ _ rows (all_weaker _ (λ r. not (has_rowid id r) ≡ not (int_eq (number_of r) id)) (λ r own. has_same id r own) rows all))
+    ap (λ l. without_all l ids) (filter_on (λ r. not (has_rowid id r)) (λ r. not (int_eq (number_of r) id)) rows (all_weaker _ (λ r. not (has_rowid id r) ≡ not (int_eq (number_of r) id)) (λ r own. has_same id r own) rows all))
     ∙ without_same (without_key number_of rows id) ids (all-filter _ _ rows all)
 
 -- to take out the rows that a query found is to keep the others

@@ -1,15 +1,14 @@
 -- The databases that the tables hold after one is removed with all its rows.
-use Rattle.tables.proofs.Common.{AllByRecursion, AreLawful, Changes, IsDatabaseRow, IsDocumentRow, IsLaid, IsLocalRow, IsRevisionRow, IsStore, List, Row, Some, Trees, all-filter, all_both, all_weaker, and_parts, ap, ap₂, ascending-filter, bytes_eq, contents_in, database_of, db_of, dbs_tree, docs_tree, document_of, documents_in, entry_of, false, filter, has_number, history_in, id_of, is_in, is_named, is_of, is_some, lawful_remove, length_of, list_any, local_of, locals_tree, map, name_of, nat_list_cmp_total, not, not-true, number_of, option_map, refl, revision_of, revs_tree, same_int, security_of, slice_get, subst, sym, true, ℕ, ℤ, ∥∥₁_map, ◌∙◌, ◌≡◌, ◌≢◌}
+use Rattle.tables.proofs.Common.{AllByRecursion, AreLawful, Changes, IsDatabaseRow, IsDocumentRow, IsLaid, IsLocalRow, IsRevisionRow, IsStore, List, Row, Some, Trees, all-filter, all_of, all_weaker, and_parts, ap, ap₂, ascending-filter, bytes_eq, contents_in, database_of, db_of, dbs_tree, docs_tree, document_of, documents_in, entry_of, false, filter, has_number, history_in, id_of, is_in, is_named, is_of, lawful_remove, length_of, list_any, local_of, locals_tree, map, name_of, nat_list_cmp_total, not, not_from_false, number_of, option_map, refl, revision_of, revs_tree, same_int, security_of, slice_get, subst, sym, true, ℕ, ℤ, ∥∥₁_map, ◌∙◌, ◌≡◌, ◌≢◌}
 use Rattle.std.specs.FinMap as finite
 use Rattle.std.specs.Ordering.{int_eq}
 use Rattle.sqlite.specs.Effect as sqlite
-use Rattle.tables.proofs.Kept.{databases-filter, keyed-filter}
+use Rattle.tables.proofs.Kept.{numbered-filter}
 use Rattle.tables.proofs.Lookups.{by_number}
-use Rattle.tables.proofs.Numbered.{filter_on, numbered_from_keyed}
-use Rattle.tables.proofs.RowMaps.{any_found, filter_apart, find_apart, rows_alike, rows_removed, text_exact, text_tests}
+use Rattle.std.proofs.lemmas.Map.Views.{any-filter_same}
+use Rattle.sqlite_trees.proofs.ListLemmas.{filter_same as filter_on}
+use Rattle.tables.proofs.RowMaps.{all_left, filter_apart, find_apart, passing, rows_alike, rows_removed, text_exact, text_tests}
 use Rattle.tables.proofs.Rests.{contents_same, document_kept, length_at, local_kept, after_change, revision_kept, store_of, unchanged, with_rows}
-use Rattle.tables.proofs.Sorted.{passing}
-use Rattle.tables.proofs.Tables.{databases_laid, docs_keyed, locals_keyed, numbered_databases, revs_keyed}
 
 module _ (n : ℤ) where
   -- the rows that aren't the database's
@@ -31,7 +30,7 @@ module _ (n : ℤ) where
     others_of id = filter_apart (is_of m id) (is_in n) (of_other id)
 
     any_other : (id : List ℕ) (rows : List Row) → list_any (is_of m id) (outside rows) ≡ list_any (is_of m id) rows
-    any_other id rows = any_found (is_of m id) (outside rows) ∙ ap is_some (find_apart (is_of m id) (is_in n) (of_other id) rows) ∙ sym (any_found (is_of m id) rows)
+    any_other id rows = any-filter_same (is_of m id) (λ r. not (is_in n r)) true (λ r here. not_from_false (is_in n r) (of_other id r here)) rows
 
     other_length : (rows : List Row) → length_at (filter (λ r. not (has_number n r)) rows) m ≡ length_at rows m
     other_length rows = ap (option_map length_of) (find_apart (λ r. int_eq (number_of r) m) (has_number n) (λ r here. ap (λ k. int_eq k n) (same_int (number_of r) m here) ∙ apart) rows)
@@ -50,70 +49,64 @@ module _ (n : ℤ) where
         ∙ rows_alike nat_list_cmp_total text_exact id_of (λ q r. bytes_eq (id_of r) q) (text_tests id_of) (document_of (outside revs)) (document_of revs) (filter (is_in m) docs)
         (all_weaker (λ r. is_in m r ≡ true) (λ r. document_of (outside revs) r ≡ document_of revs r) (other_document revs) (filter (is_in m) docs) (passing (is_in m) docs))
 
-module _ (trees : Trees) (h : IsLaid trees) (name : List ℕ) (d : Row) (is : slice_get (filter (is_named name) (trees dbs_tree)) 0 ≡ Some d) where
+module _ (a b c d e : sqlite.Database) (name : List ℕ) (w : Row) (h : IsStore a) (is : slice_get (filter (is_named name) (a.trees dbs_tree)) 0 ≡ Some w)
+    (docs : Changes docs_tree (filter (λ r. not (is_in (number_of w) r)) (a.trees docs_tree)) a b) (revs : Changes revs_tree (filter (λ r. not (is_in (number_of w) r)) (b.trees revs_tree)) b c)
+    (locals : Changes locals_tree (filter (λ r. not (is_in (number_of w) r)) (c.trees locals_tree)) c d) (dbs : Changes dbs_tree (filter (λ r. not (has_number (number_of w) r)) (d.trees dbs_tree)) d e) where
   abbrev n : ℤ
-  n = number_of d
+  n = number_of w
 
   abbrev rows : List Row
-  rows = filter (λ r. not (has_number (number_of d) r)) (trees dbs_tree)
+  rows = filter (λ r. not (has_number (number_of w) r)) (a.trees dbs_tree)
 
   abbrev removed : Trees
-  removed = with_rows (with_rows (with_rows (with_rows trees docs_tree (outside n (trees docs_tree))) revs_tree (outside n (trees revs_tree))) locals_tree (outside n (trees locals_tree))) dbs_tree rows
+  removed = with_rows (with_rows (with_rows (with_rows a.trees docs_tree (outside n (a.trees docs_tree))) revs_tree (outside n (a.trees revs_tree))) locals_tree (outside n (a.trees locals_tree))) dbs_tree rows
 
   -- ---- contents
 
-  same_database : (r : Row) → not (has_number n r) ≡ true → database_of removed r ≡ database_of trees r
-  same_database r out =
-      let apart = not-true (has_number n r) out in
+  same_database : (r : Row) → has_number n r ≡ false → database_of removed r ≡ database_of a.trees r
+  same_database r apart =
       ap₂ (λ locals documents. record { length = length_of r; security = security_of r; locals = locals; documents = documents })
-      (ap (λ l. finite.from_entries (map (λ s. (id_of s, local_of s)) l)) (others_in n (number_of r) apart (trees locals_tree)))
-      (other_documents n (number_of r) apart (trees docs_tree) (trees revs_tree))
+      (ap (λ l. finite.from_entries (map (λ s. (id_of s, local_of s)) l)) (others_in n (number_of r) apart (a.trees locals_tree)))
+      (other_documents n (number_of r) apart (a.trees docs_tree) (a.trees revs_tree))
 
-  removed_contents : contents_in removed ≡ finite.remove (contents_in trees) name
+  removed_contents : contents_in removed ≡ finite.remove (contents_in a.trees) name
   removed_contents =
-      rows_alike nat_list_cmp_total text_exact name_of (λ q r. bytes_eq (name_of r) q) (text_tests name_of) (database_of removed) (database_of trees) rows
-      (all_weaker (λ r. not (has_number n r) ≡ true) (λ r. database_of removed r ≡ database_of trees r) same_database rows (passing (λ r. not (has_number n r)) (trees dbs_tree)))
-      ∙ ap (λ l. finite.from_entries (map (λ r. (name_of r, database_of trees r)) l))
-      (filter_on (λ r. not (has_number n r)) (λ r. not (is_named name r)) (trees dbs_tree)
-      (all_weaker (λ r. is_named name r ≡ has_number n r) (λ r. not (has_number n r) ≡ not (is_named name r)) (λ r same. ap not (sym same)) (trees dbs_tree) (by_number trees h name d is)))
-      ∙ rows_removed nat_list_cmp_total text_exact name_of (λ q r. bytes_eq (name_of r) q) (text_tests name_of) (database_of trees) name (trees dbs_tree)
+      rows_alike nat_list_cmp_total text_exact name_of (λ q r. bytes_eq (name_of r) q) (text_tests name_of) (database_of removed) (database_of a.trees) rows
+      (all_left (λ r. database_of removed r ≡ database_of a.trees r) (has_number n) (a.trees dbs_tree) (all_of (λ r. has_number n r ≡ false → database_of removed r ≡ database_of a.trees r) same_database (a.trees dbs_tree)))
+      ∙ ap (λ l. finite.from_entries (map (λ r. (name_of r, database_of a.trees r)) l))
+      (filter_on (λ r. not (has_number n r)) (λ r. not (is_named name r)) (a.trees dbs_tree)
+      (all_weaker (λ r. is_named name r ≡ has_number n r) (λ r. not (has_number n r) ≡ not (is_named name r)) (λ r same. ap not (sym same)) (a.trees dbs_tree) (by_number a.trees h.laid name w is)))
+      ∙ rows_removed nat_list_cmp_total text_exact name_of (λ q r. bytes_eq (name_of r) q) (text_tests name_of) (database_of a.trees) name (a.trees dbs_tree)
 
   -- ---- layout
 
   outside_all : (P Q : Row → Type 0) (all : List Row) → ((r : Row) → P r → int_eq (db_of r) n ≡ false → Q r) → AllByRecursion P all → AllByRecursion Q (outside n all)
   outside_all P Q all keeps each =
-      all_both P (λ r. not (is_in n r) ≡ true) Q (λ r k out. keeps r k (not-true (is_in n r) out)) (outside n all) (all-filter P (λ r. not (is_in n r)) all each) (passing (λ r. not (is_in n r)) all)
+      all_left Q (is_in n) all (all_weaker P (λ r. is_in n r ≡ false → Q r) keeps all each)
 
   removed_laid : IsLaid removed
   removed_laid = record {
-    version = h.version;
-    dbs_numbered = numbered_databases rows (databases-filter (λ r. not (has_number n r)) (trees dbs_tree) (databases_laid trees h));
-    docs_numbered = numbered_from_keyed (outside n (trees docs_tree)) (keyed-filter (λ r. not (is_in n r)) (trees docs_tree) (docs_keyed trees h));
-    revs_numbered = numbered_from_keyed (outside n (trees revs_tree)) (keyed-filter (λ r. not (is_in n r)) (trees revs_tree) (revs_keyed trees h));
-    locals_numbered = numbered_from_keyed (outside n (trees locals_tree)) (keyed-filter (λ r. not (is_in n r)) (trees locals_tree) (locals_keyed trees h));
-    dbs = all-filter IsDatabaseRow (λ r. not (has_number n r)) (trees dbs_tree) h.dbs;
-    names_apart = ascending-filter (λ a b. name_of a ≢ name_of b) (λ r. not (has_number n r)) (trees dbs_tree) h.names_apart;
-    docs = outside_all (IsDocumentRow trees) (IsDocumentRow removed) (trees docs_tree)
-        (λ r k out. document_kept trees removed r (other_length n (db_of r) out (trees dbs_tree)) (other_history n (db_of r) out (id_of r) (trees revs_tree)) k) h.docs;
-    ids_apart = ascending-filter _ (λ r. not (is_in n r)) (trees docs_tree) h.ids_apart;
-    sequences_apart = ascending-filter _ (λ r. not (is_in n r)) (trees docs_tree) h.sequences_apart;
-    revs = outside_all (IsRevisionRow trees) (IsRevisionRow removed) (trees revs_tree)
-        (λ r k out. revision_kept trees removed r (any_other n (db_of r) out (id_of r) (trees docs_tree)) (other_history n (db_of r) out (id_of r) (trees revs_tree)) k) h.revs;
-    revisions_apart = ascending-filter _ (λ r. not (is_in n r)) (trees revs_tree) h.revisions_apart;
-    locals = outside_all (IsLocalRow trees) (IsLocalRow removed) (trees locals_tree) (λ r k out. local_kept trees removed r (other_length n (db_of r) out (trees dbs_tree)) k) h.locals;
-    local_ids_apart = ascending-filter _ (λ r. not (is_in n r)) (trees locals_tree) h.local_ids_apart;
-    lawful = ∥∥₁_map h.lawful (λ l. subst AreLawful (sym removed_contents) (lawful_remove (contents_in trees) name l));
+    version = h.laid.version;
+    dbs_numbered = numbered-filter (λ r. not (has_number n r)) (a.trees dbs_tree) h.laid.dbs_numbered;
+    docs_numbered = numbered-filter (λ r. not (is_in n r)) (a.trees docs_tree) h.laid.docs_numbered;
+    revs_numbered = numbered-filter (λ r. not (is_in n r)) (a.trees revs_tree) h.laid.revs_numbered;
+    locals_numbered = numbered-filter (λ r. not (is_in n r)) (a.trees locals_tree) h.laid.locals_numbered;
+    dbs = all-filter IsDatabaseRow (λ r. not (has_number n r)) (a.trees dbs_tree) h.laid.dbs;
+    names_apart = ascending-filter (λ a b. name_of a ≢ name_of b) (λ r. not (has_number n r)) (a.trees dbs_tree) h.laid.names_apart;
+    docs = outside_all (IsDocumentRow a.trees) (IsDocumentRow removed) (a.trees docs_tree)
+        (λ r k out. document_kept a.trees removed r (other_length n (db_of r) out (a.trees dbs_tree)) (other_history n (db_of r) out (id_of r) (a.trees revs_tree)) k) h.laid.docs;
+    ids_apart = ascending-filter _ (λ r. not (is_in n r)) (a.trees docs_tree) h.laid.ids_apart;
+    sequences_apart = ascending-filter _ (λ r. not (is_in n r)) (a.trees docs_tree) h.laid.sequences_apart;
+    revs = outside_all (IsRevisionRow a.trees) (IsRevisionRow removed) (a.trees revs_tree)
+        (λ r k out. revision_kept a.trees removed r (any_other n (db_of r) out (id_of r) (a.trees docs_tree)) (other_history n (db_of r) out (id_of r) (a.trees revs_tree)) k) h.laid.revs;
+    revisions_apart = ascending-filter _ (λ r. not (is_in n r)) (a.trees revs_tree) h.laid.revisions_apart;
+    locals = outside_all (IsLocalRow a.trees) (IsLocalRow removed) (a.trees locals_tree) (λ r k out. local_kept a.trees removed r (other_length n (db_of r) out (a.trees dbs_tree)) k) h.laid.locals;
+    local_ids_apart = ascending-filter _ (λ r. not (is_in n r)) (a.trees locals_tree) h.laid.local_ids_apart;
+    lawful = ∥∥₁_map h.laid.lawful (λ l. subst AreLawful (sym removed_contents) (lawful_remove (contents_in a.trees) name l));
   }
-
-module _ (a b c d e : sqlite.Database) (name : List ℕ) (w : Row) (h : IsStore a) (is : slice_get (filter (is_named name) (a.trees dbs_tree)) 0 ≡ Some w)
-    (docs : Changes docs_tree (filter (λ r. not (is_in (number_of w) r)) (a.trees docs_tree)) a b) (revs : Changes revs_tree (filter (λ r. not (is_in (number_of w) r)) (b.trees revs_tree)) b c)
-    (locals : Changes locals_tree (filter (λ r. not (is_in (number_of w) r)) (c.trees locals_tree)) c d) (dbs : Changes dbs_tree (filter (λ r. not (has_number (number_of w) r)) (d.trees dbs_tree)) d e) where
-  abbrev after : Trees
-  after = removed a.trees h.laid name w is
 
   pub removed_store : IsStore e × (contents_in e.trees ≡ finite.remove (contents_in a.trees) name)
   removed_store =
-      let n = number_of w in
       let has_b = docs.schema ∙ h.schema_is in
       let has_c = revs.schema ∙ has_b in
       let has_d = locals.schema ∙ has_c in
@@ -121,4 +114,4 @@ module _ (a b c d e : sqlite.Database) (name : List ℕ) (w : Row) (h : IsStore 
       let two = after_change _ b c revs_tree _ _ has_b one revs (ap (outside n) one.revs) in
       let three = after_change _ c d locals_tree _ _ has_c two locals (ap (outside n) two.locals) in
       let same = after_change _ d e dbs_tree _ _ has_d three dbs (ap (filter (λ r. not (has_number n r))) three.dbs) in
-      (store_of after e (dbs.schema ∙ has_d) same (removed_laid a.trees h.laid name w is), contents_same after e.trees same ∙ removed_contents a.trees h.laid name w is)
+      (store_of removed e (dbs.schema ∙ has_d) same removed_laid, contents_same removed e.trees same ∙ removed_contents)

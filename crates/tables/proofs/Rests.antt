@@ -1,11 +1,11 @@
 -- What a change leaves of other tables and of rows that it doesn't touch, and tables that say the same.
-use Rattle.tables.proofs.Common.{AllByRecursion, AreLawful, AreNumbered, Changes, Contents, HistoryContent, IsAscending, IsDatabaseRow, IsDocumentRow, IsLaid, IsLawful, IsLocalRow, IsRevisionRow, IsStore, List, None, Option, Revision, Row, Schema, Some, Trees, all_weaker, ap, arith, cond, contents_in, database_at, db_of, dbs_tree, docs_tree, documents_in, eqb, eqb_tells, from_entries, held_of, history_in, id_of, inl, inr, is_deleted, is_gone, is_known, is_of, is_some, json_in, length_of, list_any, locals_in, locals_tree, map, meta_tree, name_of, number_of, option_map, refl, revs_tree, schema, security_of, sequence_of, subst, sym, text_cell, text_of, true, value_or_null, winner, winner_text, ℕ, ℤ, ◌∙◌, ◌≡◌, ◌≢◌, ◌≤◌}
+use Rattle.tables.proofs.Common.{AllByRecursion, AreLawful, AreNumbered, Changes, Contents, HistoryContent, IsAscending, IsDatabaseNumber, IsDatabaseRow, IsDocumentRow, IsLaid, IsLawful, IsLocalRow, IsRevisionRow, IsStore, List, None, Option, Revision, Row, Schema, Some, Trees, all_weaker, any_is_found, ap, arith, cond, contents_in, database_at, db_of, dbs_tree, docs_tree, documents_in, eqb, eqb_tells, from_entries, held_of, history_in, id_of, inl, inr, is_deleted, is_gone, is_known, is_of, is_some, json_in, length_of, list_any, locals_in, locals_tree, map, meta_tree, name_of, number_of, option_map, refl, revs_tree, same, schema, security_of, sequence_of, subst, sym, text_cell, text_of, true, value_or_null, winner, winner_text, ℕ, ℤ, ◌∙◌, ◌≡◌, ◌≢◌, ◌≤◌}
 use Rattle.std.specs.Ordering.{int_eq}
 use Rattle.couch_json.specs.Nesting.{max_open}
 use Rattle.couch_json.specs.Value as json
 use Rattle.couch_json.proofs.ReadingBack.{reading-canonical}
 use Rattle.sqlite.specs.Effect as sqlite
-use Rattle.tables.proofs.RowMaps.{any_found}
+use Rattle.sqlite_keyed.proofs.SliceLemmas.{is_some-map}
 
 -- ---- the other tables
 
@@ -23,10 +23,6 @@ leaves tree rows old new is c =
 
 -- ---- rows that stay
 
-is_some-map : {A B : Type 0} (f : A → B) (o : Option A) → is_some (option_map f o) ≡ is_some o
-is_some-map f None = refl
-is_some-map f (Some x) = refl
-
 -- the length of the database of a number
 abbrev pub length_at : List Row → ℤ → Option ℕ
 length_at rows n = option_map length_of (database_at rows n)
@@ -34,7 +30,7 @@ length_at rows n = option_map length_of (database_at rows n)
 number_kept : (rows now : List Row) (n : ℤ) → length_at now n ≡ length_at rows n → list_any (λ r. int_eq (number_of r) n) rows ≡ true
     → list_any (λ r. int_eq (number_of r) n) now ≡ true
 number_kept rows now n same there =
-    any_found _ now ∙ sym (is_some-map length_of (database_at now n)) ∙ ap is_some same ∙ is_some-map length_of (database_at rows n) ∙ sym (any_found _ rows) ∙ there
+    any_is_found _ now ∙ sym (is_some-map length_of (database_at now n)) ∙ ap is_some same ∙ is_some-map length_of (database_at rows n) ∙ sym (any_is_found _ rows) ∙ there
 
 within_kept : (o p : Option Row) (d : Row) (n : ℕ) → option_map length_of p ≡ option_map length_of o → ((e : Row) → o ≡ Some e → n ≤ length_of e) → p ≡ Some d → n ≤ length_of d
 within_kept None p d n same within is = absurd (let none = sym same ∙ ap (option_map length_of) is in cc)
@@ -142,6 +138,29 @@ module _ (a b : Trees) (same : AreSame a b) where
 -- so they are those of a store
 pub store_of : (a : Trees) (new : sqlite.Database) → new.schema ≡ schema → AreSame a new.trees → IsLaid a → IsStore new
 store_of a new is same h = record { schema_is = is; laid = laid_same a new.trees same h }
+
+-- where the rows of databases alone are others, the tables are laid out if these rows are
+pub dbs_laid : (trees : Trees) (rows : List Row) → IsLaid trees → AreNumbered rows → AllByRecursion IsDatabaseRow rows → IsAscending (λ a b. name_of a ≢ name_of b) rows
+    → ((n : ℤ) → IsDatabaseNumber trees n → length_at rows n ≡ length_at (trees dbs_tree) n) → ∥ AreLawful (contents_in (with_rows trees dbs_tree rows)) ∥₁ → IsLaid (with_rows trees dbs_tree rows)
+dbs_laid trees rows h numbered each apart lengths lawful =
+    let new = with_rows trees dbs_tree rows in
+    record {
+      version = h.version;
+      dbs_numbered = numbered;
+      docs_numbered = h.docs_numbered;
+      revs_numbered = h.revs_numbered;
+      locals_numbered = h.locals_numbered;
+      dbs = each;
+      names_apart = apart;
+      docs = all_weaker (IsDocumentRow trees) (IsDocumentRow new) (λ r k. document_kept trees new r (lengths (db_of r) k.there) refl k) (trees docs_tree) h.docs;
+      ids_apart = h.ids_apart;
+      sequences_apart = h.sequences_apart;
+      revs = all_weaker (IsRevisionRow trees) (IsRevisionRow new) (λ r. revision_kept trees new r refl refl) (trees revs_tree) h.revs;
+      revisions_apart = h.revisions_apart;
+      locals = all_weaker (IsLocalRow trees) (IsLocalRow new) (λ r k. local_kept trees new r (lengths (db_of r) k.there) k) (trees locals_tree) h.locals;
+      local_ids_apart = h.local_ids_apart;
+      lawful = lawful;
+    }
 
 -- ---- texts
 

@@ -1,9 +1,11 @@
 -- What a query with an order answers, where no two rows tie.
-use Rattle.tables.proofs.Common.{AllByRecursion, Bool, Equal, Err, Greater, IfOk, IsAnswer, IsAscending, IsPermutation, IsTotalOrder, Key, Less, List, Null, Ok, Ordering, Output, Query, Result, Row, Schema, Select, Shown, State, Term, [], all-filter, all_weaker, ap, ap₂, as_count, ascending-filter, ascending-map, cond, eval, eval_all, false, filter, flat_map, holds, insert_sorted, is_eq, is_gt, limited, list_all, map, map-map, map_same, ordering_reverse, output, output_cmp, overlay, reads_as, refl, sort_by, sort_by-map, sorted_is-sort_by, subst, sym, true, upto, ℕ, ◌&&◌, ◌∙◌, ◌∷◌, ◌≡◌}
+use Rattle.tables.proofs.Common.{AllByRecursion, Bool, Equal, Err, Greater, IfOk, IsAnswer, IsAscending, IsPermutation, IsTotalOrder, Key, Less, List, Null, Ok, Ordering, Output, Query, Result, Row, Select, Shown, State, Term, [], all-filter, all_both, all_weaker, ap, ap₂, as_count, ascending-filter, ascending-map, cond, eval, eval_all, false, filter, flat_map, holds, insert_sorted, is_eq, is_gt, limited, list_all, map, map-map, map_same, ordering_reverse, output, output_cmp, overlay, reads_as, refl, sort_by, sort_by-map, sorted_is-sort_by, subst, sym, true, upto, ℕ, ◌∙◌, ◌∷◌, ◌≡◌}
 use Rattle.sqlite_sql.proofs.QueryLemmas.{output_cmp_total}
 use Rattle.sqlite.specs.Effect.{Answers}
 use Rattle.tables.proofs.Queries.{first_program, first_on, passed}
+use Rattle.tables.proofs.RowMaps.{passing}
 use Rattle.tables.proofs.Writes.{IsCommand}
+use Rattle.tables.specs.Schema as tables
 
 -- ---- two orders that agree on the rows sort them alike
 
@@ -29,23 +31,7 @@ module _ (P : Row → Type 0) (c d : Row → Row → Ordering) (agree : (a b : R
 
 both_in : (P : Row → Type 0) (R S : Row → Row → Type 0) → ((a b : Row) → P a → P b → R a b → S a b) → (rows : List Row) → AllByRecursion P rows → IsAscending R rows → IsAscending S rows
 both_in P R S weaker [] all up = tt
-both_in P R S weaker (r ∷ rows) all up = (each rows all.1 up.0, both_in P R S weaker rows all.1 up.1)
-  where
-    each : (xs : List Row) → AllByRecursion P xs → AllByRecursion (R r) xs → AllByRecursion (S r) xs
-    each [] own over = tt
-    each (x ∷ xs) own over = (weaker r x all.0 own.0 over.0, each xs own.1 over.1)
-
-pub passing : {A : Type 0} (p : A → Bool) (rows : List A) → AllByRecursion (λ r. p r ≡ true) (filter p rows)
-passing p [] = tt
-passing p (r ∷ rows) = go (p r) refl (passing p rows)
-  where
-    go : (b : Bool) → p r ≡ b → AllByRecursion (λ x. p x ≡ true) (filter p rows) → AllByRecursion (λ x. p x ≡ true) (cond b (r ∷ filter p rows) (filter p rows))
-    go true is more = (is, more)
-    go false is more = more
-
-both : (P : Row → Type 0) (p : Row → Bool) (rows : List Row) → AllByRecursion P rows → AllByRecursion (λ r. p r ≡ true) rows → AllByRecursion (λ r. P r × (p r ≡ true)) rows
-both P p [] one two = tt
-both P p (r ∷ rows) one two = ((one.0, two.0), both P p rows one.1 two.1)
+both_in P R S weaker (r ∷ rows) all up = (all_both P (R r) (S r) (λ x own over. weaker r x all.0 own over) rows all.1 up.0, both_in P R S weaker rows all.1 up.1)
 
 -- ---- the rows of a kind, of sorted rows, are those of a kind, sorted
 
@@ -96,24 +82,10 @@ module _ (cmp : Row → Row → Ordering) (total : IsTotalOrder cmp) where
         put_left r (sort_by cmp rows) (rises rows) ∙ ap (λ l. cond (p r) (insert_sorted cmp r l) l) (sorted_left rows)
         ∙ elim (p r) as (λ b. cond b (insert_sorted cmp r (sort_by cmp (filter p rows))) (sort_by cmp (filter p rows)) ≡ sort_by cmp (cond b (r ∷ filter p rows) (filter p rows))) [ true ↦ refl | false ↦ refl ]
 
-pub both_left : (p q : Row → Bool) (rows : List Row) → filter (λ r. p r && q r) rows ≡ filter q (filter p rows)
-both_left p q [] = refl
-both_left p q (r ∷ rows) = go (p r) (q r) refl (both_left p q rows)
-  where
-    go : (a b : Bool) → q r ≡ b → filter (λ x. p x && q x) rows ≡ filter q (filter p rows) → cond (a && b) (r ∷ filter (λ x. p x && q x) rows) (filter (λ x. p x && q x) rows) ≡ filter q (cond a (r ∷ filter p rows) (filter p rows))
-    go true true is more = ap (λ l. r ∷ l) more ∙ sym (ap (λ c. cond c (r ∷ filter q (filter p rows)) (filter q (filter p rows))) is)
-    go true false is more = more ∙ sym (ap (λ c. cond c (r ∷ filter q (filter p rows)) (filter q (filter p rows))) is)
-    go false b is more = more
-
--- the same list, in other words
-pub if_equal : {X E : Type 0} (r : Result X E) (items : X → List Row) (said meant : List Row) → said ≡ meant → IfOk r (λ x. items x ≡ said) → IfOk r (λ x. items x ≡ meant)
-if_equal (Ok x) items said meant same h = h ∙ same
-if_equal (Err e) items said meant same h = tt
-
 -- ---- the answer
 
-module _ (schema : Schema) (old new : State) (has : old.now.schema ≡ schema) (text : List ℕ) (tree : ℕ) (tests shown : List Term) (order : List (Term × Key)) (most : Term) (names : List (List ℕ))
-    (command : IsCommand schema text (Select (first_program tree tests shown order most) names)) (params : Row) (p : Row → Bool) (show : Row → Row)
+module _ (old new : State) (has : old.now.schema ≡ tables.schema) {text : List ℕ} {tree : ℕ} {tests shown : List Term} {order : List (Term × Key)} {most : Term} {names : List (List ℕ)}
+    (command : IsCommand tables.schema text (Select (first_program tree tests shown order most) names)) (params : Row) (p : Row → Bool) (show : Row → Row)
     (P : Row → Type 0) (by : Row → Row → Ordering) (R : Row → Row → Type 0)
     (agree : (a b : Row) → P a → P b → output_cmp (first_on tree tests shown order most) (output (first_on tree tests shown order most) (params ∷ a ∷ [])) (output (first_on tree tests shown order most) (params ∷ b ∷ [])) ≡ by a b)
     (apart : (a b : Row) → P a → P b → p a ≡ true → p b ≡ true → R a b → is_eq (by a b) ≡ false) where
@@ -127,12 +99,12 @@ module _ (schema : Schema) (old new : State) (has : old.now.schema ≡ schema) (
       let rows : List Row = old.now.trees tree in
       let found : List Row = filter p rows in
       let answers : Answers old.now (first_program tree tests shown order most) params (items x) =
-      reads_as text params old new schema has (Select (first_program tree tests shown order most) names) command.is command.plain command.unlisted (items x) h in
+      reads_as text params old new tables.schema has (Select (first_program tree tests shown order most) names) command.is command.plain command.unlisted (items x) h in
       let a : IsAnswer q (overlay old.now.trees []) params (items x) = answers.answer Null in
       let staged : a.staged ≡ map (λ r. params ∷ r ∷ []) found =
       a.grouped ∙ ap (flat_map (λ r. cond (list_all (holds (params ∷ r ∷ [])) tests) ((params ∷ r ∷ []) ∷ []) [])) bare ∙ passed tests params p rows passes in
       let kept : a.kept ≡ map out found = a.distinct ∙ ap (map (output q)) staged ∙ map-map (output q) (λ r. params ∷ r ∷ []) found in
-      let own : AllByRecursion (λ r. P r × (p r ≡ true)) found = both P p found (all-filter P p rows all) (passing p rows) in
+      let own : AllByRecursion (λ r. P r × (p r ≡ true)) found = all_both P (λ r. p r ≡ true) (λ r. P r × (p r ≡ true)) (λ r k passes. (k, passes)) found (all-filter P p rows all) (passing p rows) in
       let untied : IsAscending (λ a b. is_eq (output_cmp q (out a) (out b)) ≡ false) found =
       both_in (λ r. P r × (p r ≡ true)) R (λ a b. is_eq (output_cmp q (out a) (out b)) ≡ false)
       (λ a b k l r. ap is_eq (agree a b k.0 l.0) ∙ apart a b k.0 l.0 k.1 l.1 r) found own (ascending-filter R p rows up) in

@@ -1,11 +1,7 @@
 -- The tables are plain ones, and what their layout says of their keys.
-use Rattle.tables.proofs.Common.{AreDatabaseRows, AreKeyed, AreNumbered, Bool, Int, IsAscending, IsDatabaseRow, IsDocumentRow, IsKeyed, IsLaid, IsLocalRow, IsRevisionRow, List, Row, Trees, all_weaker, ap, arith, ascending_weaker, bytes_eq-Decides, column, database_row, db_of, dbs_table, dbs_tree, docs_table, docs_tree, false, has_number, id_of, ints, is_in, is_named, is_of, length_of, locals_table, locals_tree, meta_table, name_of, number_of, pos, refl, revs_table, revs_tree, rowid, same_int, schema, security_text, sym, true, ℕ, ℤ, ◌&&◌, ◌<ℤ◌, ◌∙◌, ◌≡◌, ◌≢◌}
+use Rattle.tables.proofs.Common.{AreDatabaseRows, AreKeyed, AreNumbered, Int, IsAscending, IsDatabaseRow, IsDocumentRow, IsKeyed, IsLaid, IsLocalRow, IsRevisionRow, List, Row, Trees, all_weaker, and_parts, ap, arith, ascending_weaker, bytes_eq-Decides, column, database_row, db_of, dbs_table, dbs_tree, docs_table, docs_tree, has_number, id_of, ints, is_in, is_named, is_of, length_of, locals_table, locals_tree, meta_table, name_of, number_of, pos, refl, revs_table, revs_tree, rowid, same_int, schema, security_text, sym, true, ℕ, ℤ, ◌<ℤ◌, ◌∙◌, ◌≡◌, ◌≢◌}
 use Rattle.tables.proofs.Single.{HasOneAtMost}
 use Rattle.tables.proofs.Writes.{IsPlainTable}
-
-both_true : (a b : Bool) → (a && b) ≡ true → (a ≡ true) × (b ≡ true)
-both_true true b h = (refl, h)
-both_true false b h = absurd (cc)
 
 pub meta_plain : IsPlainTable schema 0 meta_table
 meta_plain = record { there = refl; uncounted = refl; unstamped = refl; alone = λ olds news. refl }
@@ -40,17 +36,15 @@ locals_keyed trees h = record {
   rising = h.locals_numbered.rising;
 }
 
-both_named : (a b : Row) (db : ℤ) (id : List ℕ) → is_of db id a ≡ true → is_of db id b ≡ true → (db_of a ≡ db_of b) × (id_of a ≡ id_of b)
-both_named a b db id p q =
-    let x = both_true (is_in db a) _ p in
-    let y = both_true (is_in db b) _ q in
-    (same_int (db_of a) db x.0 ∙ sym (same_int (db_of b) db y.0), (bytes_eq-Decides (id_of a) id).0 x.1 ∙ sym ((bytes_eq-Decides (id_of b) id).0 y.1))
+-- a row of a database's id is of these
+pub of_these : (db : ℤ) (id : List ℕ) (r : Row) → is_of db id r ≡ true → (db_of r ≡ db) × (id_of r ≡ id)
+of_these db id r is = let parts = and_parts (is_in db r) _ is in (same_int (db_of r) db parts.0, (bytes_eq-Decides (id_of r) id).0 parts.1)
 
 -- at most one row has this database and this id
 pub one_of : (rows : List Row) → IsAscending (λ a b. db_of a ≡ db_of b → id_of a ≢ id_of b) rows → (db : ℤ) (id : List ℕ) → HasOneAtMost (is_of db id) rows
 one_of rows apart db id =
     ascending_weaker (λ a b. db_of a ≡ db_of b → id_of a ≢ id_of b) (λ a b. is_of db id a ≡ true → is_of db id b ≡ true → ⊥)
-    (λ a b h p q. let both = both_named a b db id p q in h both.0 both.1) rows apart
+    (λ a b h p q. let x = of_these db id a p in let y = of_these db id b q in h (x.0 ∙ sym y.0) (x.1 ∙ sym y.1)) rows apart
 
 -- at most one row has this name
 pub one_named : (rows : List Row) → IsAscending (λ a b. name_of a ≢ name_of b) rows → (name : List ℕ) → HasOneAtMost (is_named name) rows

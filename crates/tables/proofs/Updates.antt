@@ -1,5 +1,5 @@
 -- What an UPDATE of one row makes of its table.
-use Rattle.tables.proofs.Common.{AllByRecursion, AreNumbered, Bool, Changes, Equal, Err, Given, Greater, Int, IsPermutation-refl, Less, Less-from_lt, List, Ok, OnOk, Ran, Result, Row, Schema, State, Table, Term, Trees, Update, [], all-filter, ap, arith, cast_row, cond, drop, edit_of, edited, eval_all, false, filter, fold, holds, ids_of, inl, inr, int_cmp, ints, list_all, map, match_ordering, not, number_of, overlay, put_row, refl, rowid, subst, sym, true, update_where, without_all, ℕ, ◌<ℤ◌, ◌∙◌, ◌∷◌, ◌≡◌}
+use Rattle.tables.proofs.Common.{AllByRecursion, AreNumbered, Bool, Changes, Equal, Err, Given, Greater, Int, IsPermutation-refl, Less, Less-from_lt, List, Ok, OnOk, Ran, Result, Row, Schema, State, Table, Term, Trees, Update, [], all-filter, all_kept, all_weaker, ap, arith, cast_row, cond, drop, edit_of, edited, eval_all, false, false_from_ne_true, filter, filter_all, fold, holds, ids_of, inl, inr, int_cmp, ints, list_all, map, match_ordering, not, not_from_false, number_of, overlay, put_row, refl, rowid, same, subst, sym, true, update_where, without_all, ℕ, ◌<ℤ◌, ◌∙◌, ◌∷◌, ◌≡◌}
 use Rattle.sqlite_keyed.specs.Keyed.{IsKeyedBy, insert_by}
 use Rattle.sqlite_keyed.proofs.WriteLemmas.{puts_update}
 use Rattle.sqlite.specs.Effect.{Answers}
@@ -9,13 +9,8 @@ use Rattle.tables.proofs.Single.{HasOneAtMost, few, one_order}
 use Rattle.tables.proofs.Writes.{IsPlainTable, IsCommand, updates}
 
 kept_all : (p : Row → Bool) (xs : List Row) → filter p xs ≡ [] → filter (λ x. not (p x)) xs ≡ xs
-kept_all p [] none = refl
-kept_all p (x ∷ xs) none = go (p x) none (kept_all p xs)
-  where
-    go : (b : Bool) → cond b (x ∷ filter p xs) (filter p xs) ≡ [] → (filter p xs ≡ [] → filter (λ y. not (p y)) xs ≡ xs)
-        → cond (not b) (x ∷ filter (λ y. not (p y)) xs) (filter (λ y. not (p y)) xs) ≡ x ∷ xs
-    go true none more = absurd (cc)
-    go false none more = ap (λ l. x ∷ l) (more none)
+kept_all p xs none =
+    filter_all (λ x. not (p x)) xs (all_weaker (λ x. p x ≡ true → ⊥) (λ x. not (p x) ≡ true) (λ x out. not_from_false (p x) (false_from_ne_true (p x) out)) xs (all_kept (λ x. ⊥) p xs (subst (AllByRecursion (λ x. ⊥)) (sym none) tt)))
 
 first_of_all : (xs : List Row) (new : Row) → AllByRecursion (λ y. number_of new <ℤ number_of y) xs → insert_by number_of xs new ≡ new ∷ xs
 first_of_all [] new above = refl

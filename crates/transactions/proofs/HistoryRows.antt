@@ -3,7 +3,7 @@ use Rattle.transactions.proofs.Common.{AllByRecursion, Bool, Coded-set, Entry, E
 use Rattle.std.specs.FinMap as finite
 use Rattle.sqlite_trees.proofs.ListLemmas.{all-permutation}
 use Rattle.tables.proofs.Laid.{shown_revisions}
-use Rattle.tables.proofs.Lookups.{of_these}
+use Rattle.tables.proofs.Tables.{of_these}
 use Rattle.tables.proofs.RowMaps.{get_filtered}
 use Rattle.tables.proofs.Single.{HasOneAtMost, one_order}
 

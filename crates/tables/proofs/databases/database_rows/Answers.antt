@@ -1,10 +1,7 @@
-use Rattle.tables.proofs.Lemmas.{finds_database, reads_of, state}
-use Rattle.tables.proofs.DatabaseStatements.{find_text, find_is}
+use Rattle.tables.proofs.Lemmas.{database_is, finds_database, reads_of, rules}
 use Rattle.tables.proofs.databases.database_rows.Goals as goal
 
 pub returns : goal.returns
 returns g c =
-    let e = c.query.ensures in
-    reads_of g.S.Store c.args.conn.now c.query.new.conn find_text _ find_is c.query.result
-    (λ clean is. finds_database (state g.S.Store c.args.conn.now) (state g.S.Store c.query.new.conn) is c.args.name.now c.query.result (λ rows. rows.items) (rw c.params-to_sql.ensures at (e.ok clean)))
-    e.served e.stands e.looks e.asks
+    reads_of g.S.Store _ _ database_is _ (λ is. finds_database _ _ is c.args.name.now c.query.result (λ rows. rows.items))
+    c.query.ensures.ok (search rules) c.query.ensures.served c.query.ensures.stands c.query.ensures.looks c.query.ensures.asks

@@ -1,9 +1,8 @@
-use Rattle.tables.proofs.Lemmas.{alters, dbs_tree, deletes_database, state}
+use Rattle.tables.proofs.Lemmas.{Int, [], ◌∷◌, alters, dbs_plain, dbs_table, deletes_database, deletes_where, has_number, numbered_databases, refl, rules, tests_number}
 use Rattle.tables.proofs.databases.delete_database.Goals as goal
 
 pub returns-clause-alters : goal.returns-clause-alters
 returns-clause-alters g c =
-    alters g.S.Store c.args.tx.now.conn.now c.change.new.tx.conn.now dbs_tree
-    (λ clean has laid. deletes_database (state g.S.Store c.args.tx.now.conn.now) (state g.S.Store c.change.new.tx.conn.now) has laid c.args.number.now c.change.result
-    (rw c.params-to_sql.ensures at (c.change.ensures.ok clean)))
-    c.change.ensures.inside c.change.ensures.proceeds
+    alters g.S.Store _ _ _ _
+    (λ has fit. deletes_where 1 dbs_table dbs_plain _ _ has deletes_database (Int c.args.number.now ∷ []) (has_number c.args.number.now) refl (numbered_databases _ fit) (tests_number _ [] _ (numbered_databases _ fit)) c.change.result)
+    c.change.ensures.ok (search rules) c.change.ensures.inside c.change.ensures.proceeds

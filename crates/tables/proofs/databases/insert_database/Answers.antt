@@ -1,9 +1,7 @@
-use Rattle.tables.proofs.Lemmas.{alters, dbs_tree, inserts_database, state}
+use Rattle.tables.proofs.Lemmas.{Blob, Text, [], ◌∷◌, alters, cast_database, dbs_plain, dbs_table, inserts_database, inserts_row, numbered_databases, refl, rules}
 use Rattle.tables.proofs.databases.insert_database.Goals as goal
 
 pub returns-clause-alters : goal.returns-clause-alters
 returns-clause-alters g c =
-    alters g.S.Store c.args.tx.now.conn.now c.change.new.tx.conn.now dbs_tree
-    (λ clean has laid. inserts_database (state g.S.Store c.args.tx.now.conn.now) (state g.S.Store c.change.new.tx.conn.now) has laid c.args.name.now c.args.security.now c.change.result
-    (rw (c.params-to_sql.ensures, c.params-to_sql-2.ensures) at (c.change.ensures.ok clean)))
-    c.change.ensures.inside c.change.ensures.proceeds
+    alters g.S.Store _ _ _ _ (λ has fit. inserts_row 1 dbs_table dbs_plain _ _ has inserts_database (Blob c.args.name.now ∷ Text c.args.security.now ∷ []) _ (cast_database _ _) (numbered_databases _ fit) refl c.change.result)
+    c.change.ensures.ok (search rules) c.change.ensures.inside c.change.ensures.proceeds

@@ -1,9 +1,7 @@
-use Rattle.tables.proofs.Lemmas.{alters, dbs_tree, secures_database, state}
+use Rattle.tables.proofs.Lemmas.{alters, rules, secures_database}
 use Rattle.tables.proofs.databases.secure_database.Goals as goal
 
 pub returns-clause-alters : goal.returns-clause-alters
 returns-clause-alters g c =
-    alters g.S.Store c.args.tx.now.conn.now c.change.new.tx.conn.now dbs_tree
-    (λ clean has laid. secures_database (state g.S.Store c.args.tx.now.conn.now) (state g.S.Store c.change.new.tx.conn.now) has laid c.args.number.now c.args.security.now c.change.result
-    (rw (c.params-to_sql.ensures, c.params-to_sql-2.ensures) at (c.change.ensures.ok clean)))
-    c.change.ensures.inside c.change.ensures.proceeds
+    alters g.S.Store _ _ _ _ (λ has fit. secures_database _ _ has fit c.args.number.now c.args.security.now c.change.result)
+    c.change.ensures.ok (search rules) c.change.ensures.inside c.change.ensures.proceeds

@@ -1,9 +1,7 @@
-use Rattle.tables.proofs.Lemmas.{alters, clears_documents, docs_tree, state}
+use Rattle.tables.proofs.Lemmas.{alters, clears, clears_documents, docs_plain, docs_table, refl, rules}
 use Rattle.tables.proofs.documents.clear_documents.Goals as goal
 
 pub returns-clause-alters : goal.returns-clause-alters
 returns-clause-alters g c =
-    alters g.S.Store c.args.tx.now.conn.now c.change.new.tx.conn.now docs_tree
-    (λ clean has keyed. clears_documents (state g.S.Store c.args.tx.now.conn.now) (state g.S.Store c.change.new.tx.conn.now) has keyed c.args.db.now c.change.result
-    (rw c.params-to_sql.ensures at (c.change.ensures.ok clean)))
-    c.change.ensures.inside c.change.ensures.proceeds
+    alters g.S.Store _ _ _ _ (λ has fit. clears 2 docs_table docs_plain _ _ has refl fit clears_documents c.args.db.now c.change.result)
+    c.change.ensures.ok (search rules) c.change.ensures.inside c.change.ensures.proceeds

@@ -1,9 +1,7 @@
-use Rattle.tables.proofs.Lemmas.{alters, deletes_document, docs_tree, state}
+use Rattle.tables.proofs.Lemmas.{alters, deletes_document, deletes_id, docs_plain, docs_table, refl, rules}
 use Rattle.tables.proofs.documents.delete_document.Goals as goal
 
 pub returns-clause-alters : goal.returns-clause-alters
 returns-clause-alters g c =
-    alters g.S.Store c.args.tx.now.conn.now c.change.new.tx.conn.now docs_tree
-    (λ clean has keyed. deletes_document (state g.S.Store c.args.tx.now.conn.now) (state g.S.Store c.change.new.tx.conn.now) has keyed c.args.db.now c.args.id.now c.change.result
-    (rw (c.params-to_sql.ensures, c.params-to_sql-2.ensures) at (c.change.ensures.ok clean)))
-    c.change.ensures.inside c.change.ensures.proceeds
+    alters g.S.Store _ _ _ _ (λ has fit. deletes_id 2 docs_table docs_plain _ _ has refl fit deletes_document c.args.db.now c.args.id.now c.change.result)
+    c.change.ensures.ok (search rules) c.change.ensures.inside c.change.ensures.proceeds

@@ -1,9 +1,8 @@
-use Rattle.tables.proofs.Lemmas.{alters, docs_tree, inserts_document, state}
+use Rattle.tables.proofs.Lemmas.{document_cells, alters, cast_document, docs_plain, docs_table, inserts_document, inserts_row, numbered_from_keyed, refl, rules}
 use Rattle.tables.proofs.documents.insert_document.Goals as goal
 
 pub returns-clause-alters : goal.returns-clause-alters
 returns-clause-alters g c =
-    alters g.S.Store c.args.tx.now.conn.now c.change.new.tx.conn.now docs_tree
-    (λ clean has keyed. inserts_document (state g.S.Store c.args.tx.now.conn.now) (state g.S.Store c.change.new.tx.conn.now) has keyed c.args.db.now c.args.id.now c.args.sequence.now c.args.winner.now c.args.deleted c.change.result
-    (rw (c.params-to_sql.ensures, c.params-to_sql-2.ensures, c.params-to_sql-3.ensures, c.params-to_sql-4.ensures, c.params-to_sql-5.ensures) at (c.change.ensures.ok clean)))
-    c.change.ensures.inside c.change.ensures.proceeds
+    let given = document_cells c.args.db.now c.args.id.now c.args.sequence.now c.args.winner.now c.args.deleted in
+    alters g.S.Store _ _ _ _ (λ has fit. inserts_row 2 docs_table docs_plain _ _ has inserts_document given _ (cast_document _ _ _ _ _) (numbered_from_keyed _ fit) refl c.change.result)
+    c.change.ensures.ok (search rules) c.change.ensures.inside c.change.ensures.proceeds

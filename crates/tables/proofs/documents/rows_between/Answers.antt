@@ -1,9 +1,7 @@
-use Rattle.tables.proofs.Lemmas.{lists_range, range_is, range_text, reads_of, state}
+use Rattle.tables.proofs.Lemmas.{lists_range, range_are, reads_of, rules}
 use Rattle.tables.proofs.documents.rows_between.Goals as goal
 
 pub returns : goal.returns
 returns g c =
-    let e = c.query.ensures in
-    reads_of g.S.Store c.args.conn.now c.query.new.conn range_text _ range_is c.query.result
-    (λ clean is. lists_range (state g.S.Store c.args.conn.now) (state g.S.Store c.query.new.conn) is c.args.db.now c.query.result (λ rows. rows.items) c.args.first.now c.args.last.now (rw (c.params-to_sql.ensures, c.params-to_sql-2.ensures, c.params-to_sql-3.ensures) at (e.ok clean)))
-    e.served e.stands e.looks e.asks
+    reads_of g.S.Store _ _ range_are _ (λ is. lists_range _ _ is c.args.db.now c.query.result (λ rows. rows.items) c.args.first.now c.args.last.now)
+    c.query.ensures.ok (search rules) c.query.ensures.served c.query.ensures.stands c.query.ensures.looks c.query.ensures.asks

@@ -1,9 +1,7 @@
-use Rattle.tables.proofs.Lemmas.{lists_by_sequence, reads_of, sequences_is, sequences_text, state}
+use Rattle.tables.proofs.Lemmas.{lists_by_sequence, reads_of, rules, sequences_are}
 use Rattle.tables.proofs.documents.rows_by_sequence.Goals as goal
 
 pub returns : goal.returns
 returns g c =
-    let e = c.query.ensures in
-    reads_of g.S.Store c.args.conn.now c.query.new.conn sequences_text _ sequences_is c.query.result
-    (λ clean is. lists_by_sequence (state g.S.Store c.args.conn.now) (state g.S.Store c.query.new.conn) is c.args.db.now c.query.result (λ rows. rows.items) (rw c.params-to_sql.ensures at (e.ok clean)))
-    e.served e.stands e.looks e.asks
+    reads_of g.S.Store _ _ sequences_are _ (λ is. lists_by_sequence _ _ is c.args.db.now c.query.result (λ rows. rows.items))
+    c.query.ensures.ok (search rules) c.query.ensures.served c.query.ensures.stands c.query.ensures.looks c.query.ensures.asks

@@ -1,9 +1,7 @@
-use Rattle.tables.proofs.Lemmas.{alters, clears_locals, locals_tree, state}
+use Rattle.tables.proofs.Lemmas.{alters, clears, clears_locals, locals_plain, locals_table, refl, rules}
 use Rattle.tables.proofs.locals.clear_locals.Goals as goal
 
 pub returns-clause-alters : goal.returns-clause-alters
 returns-clause-alters g c =
-    alters g.S.Store c.args.tx.now.conn.now c.change.new.tx.conn.now locals_tree
-    (λ clean has keyed. clears_locals (state g.S.Store c.args.tx.now.conn.now) (state g.S.Store c.change.new.tx.conn.now) has keyed c.args.db.now c.change.result
-    (rw c.params-to_sql.ensures at (c.change.ensures.ok clean)))
-    c.change.ensures.inside c.change.ensures.proceeds
+    alters g.S.Store _ _ _ _ (λ has fit. clears 4 locals_table locals_plain _ _ has refl fit clears_locals c.args.db.now c.change.result)
+    c.change.ensures.ok (search rules) c.change.ensures.inside c.change.ensures.proceeds

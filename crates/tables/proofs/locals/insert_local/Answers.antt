@@ -1,9 +1,8 @@
-use Rattle.tables.proofs.Lemmas.{alters, inserts_local, locals_tree, state}
+use Rattle.tables.proofs.Lemmas.{local_cells, alters, cast_local, inserts_local, inserts_row, locals_plain, locals_table, numbered_from_keyed, refl, rules}
 use Rattle.tables.proofs.locals.insert_local.Goals as goal
 
 pub returns-clause-alters : goal.returns-clause-alters
 returns-clause-alters g c =
-    alters g.S.Store c.args.tx.now.conn.now c.change.new.tx.conn.now locals_tree
-    (λ clean has keyed. inserts_local (state g.S.Store c.args.tx.now.conn.now) (state g.S.Store c.change.new.tx.conn.now) has keyed c.args.db.now c.args.id.now c.args.number c.args.body.now c.change.result
-    (rw (c.params-to_sql.ensures, c.params-to_sql-2.ensures, c.params-to_sql-3.ensures, c.params-to_sql-4.ensures) at (c.change.ensures.ok clean)))
-    c.change.ensures.inside c.change.ensures.proceeds
+    let given = local_cells c.args.db.now c.args.id.now c.args.number c.args.body.now in
+    alters g.S.Store _ _ _ _ (λ has fit. inserts_row 4 locals_table locals_plain _ _ has inserts_local given _ (cast_local _ _ _ _) (numbered_from_keyed _ fit) refl c.change.result)
+    c.change.ensures.ok (search rules) c.change.ensures.inside c.change.ensures.proceeds

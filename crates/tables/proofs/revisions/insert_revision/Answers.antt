@@ -1,4 +1,4 @@
-use Rattle.tables.proofs.Lemmas.{None, Option, Some, Text, as_text, inserts_revision, refl, state, ◌≡◌}
+use Rattle.tables.proofs.Lemmas.{None, Option, Some, Text, alters, as_text, cast_revision, given_cells, inserts_revision, inserts_row, numbered_from_keyed, refl, revs_plain, revs_table, rules, ◌≡◌}
 use Rattle.sqlite.specs.Values.{bound_value, or_null}
 use Rattle.tables.proofs.revisions.insert_revision.Goals as goal
 
@@ -11,12 +11,8 @@ text_bound f None = refl
 text_bound f (Some x) = refl
 
 pub returns-clause-alters : goal.returns-clause-alters
-returns-clause-alters g c = record {
-  ok = λ clean has keyed.
-      inserts_revision (state g.S.Store c.args.tx.now.conn.now) (state g.S.Store c.change.new.tx.conn.now) has keyed c.args.db.now c.args.id.now c.args.number c.args.hash.now
-      (or_null (λ s. Text s.now) c.args.parent) c.args.held c.args.deleted (or_null (λ s. Text s.now) c.args.body)
-      (text_kept (λ s. s.now) c.args.parent) (text_kept (λ s. s.now) c.args.body) c.change.result
-      (rw (c.params-to_sql.ensures, c.params-to_sql-2.ensures, c.params-to_sql-3.ensures, c.params-to_sql-4.ensures, c.params-to_sql-5.ensures, c.params-to_sql-6.ensures, c.params-to_sql-7.ensures, c.params-to_sql-8.ensures, text_bound (λ s. s.now) c.args.parent, text_bound (λ s. s.now) c.args.body) at (c.change.ensures.ok clean));
-  inside = c.change.ensures.inside;
-  proceeds = c.change.ensures.proceeds;
-}
+returns-clause-alters g c =
+    let given = given_cells c.args.db.now c.args.id.now c.args.number c.args.hash.now (or_null (λ s. Text s.now) c.args.parent) c.args.held c.args.deleted (or_null (λ s. Text s.now) c.args.body) in
+    alters g.S.Store _ _ _ _
+    (λ has fit. inserts_row 3 revs_table revs_plain _ _ has inserts_revision given _ (cast_revision _ _ _ _ _ _ _ _ (text_kept (λ s. s.now) c.args.parent) (text_kept (λ s. s.now) c.args.body)) (numbered_from_keyed _ fit) refl c.change.result)
+    c.change.ensures.ok (search (rules, text_bound)) c.change.ensures.inside c.change.ensures.proceeds

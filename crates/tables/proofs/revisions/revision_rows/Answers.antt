@@ -1,9 +1,7 @@
-use Rattle.tables.proofs.Lemmas.{find_is, find_text, finds_revisions, reads_of, state}
+use Rattle.tables.proofs.Lemmas.{finds_revisions, reads_of, revisions_are, rules}
 use Rattle.tables.proofs.revisions.revision_rows.Goals as goal
 
 pub returns : goal.returns
 returns g c =
-    let e = c.query.ensures in
-    reads_of g.S.Store c.args.conn.now c.query.new.conn find_text _ find_is c.query.result
-    (λ clean is. finds_revisions (state g.S.Store c.args.conn.now) (state g.S.Store c.query.new.conn) is c.args.db.now c.args.id.now c.query.result (λ rows. rows.items) (rw (c.params-to_sql.ensures, c.params-to_sql-2.ensures) at (e.ok clean)))
-    e.served e.stands e.looks e.asks
+    reads_of g.S.Store _ _ revisions_are _ (λ is. finds_revisions _ _ is c.args.db.now c.args.id.now c.query.result (λ rows. rows.items))
+    c.query.ensures.ok (search rules) c.query.ensures.served c.query.ensures.stands c.query.ensures.looks c.query.ensures.asks
