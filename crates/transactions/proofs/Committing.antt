@@ -1,5 +1,5 @@
 -- Writes of a database that are done one after another in a transaction.
-use Rattle.transactions.proofs.Common.{Addition, AreAcceptable, AreDue, AsksInside, CommitFault, Damaged, Database, Err, Error, Exists, Failed, Full, HasBest, HasWritten, HistoryContent, IsAcceptable, IsLaid, IsLawfulAddition, IsPermutation, IsRead, IsRolledBack, IsStorable, IsStore, IsTrue, IsUnwritten, IsWrite, KeepsCommit, List, Memory, NoDatabase, Ok, OnErr, Proceeds, Result, Row, Some, State, StoreFault, Trees, [], addition_of, additions, ap, arith, bytes_eq-Decides, cond, contents_in, database_of, document_after, drop, filter, get_or, has_winner, history_at, history_in, history_shown, history_with, inl, inr, is_of, lawful_by_one, length, length-append, length-map, length-take, length_of, map, map-append, number_of, pos, refl, revs_tree, row_after, shown_revision, subst, suc, sym, take, take-append-drop, take_more, true, with_addition, with_all, with_one, writings_in, writings_in-append, written_at, written_in, ℕ, ℤ, ∥∥₁_elim, ◌++◌, ◌+◌, ◌<◌, ◌^◌, ◌∙◌, ◌∷◌, ◌≡◌}
+use Rattle.transactions.proofs.Common.{Addition, AreAcceptable, AreDue, AsksInside, CommitFault, Damaged, Database, Err, Error, HasBest, HasWritten, HistoryContent, IsAcceptable, IsLaid, IsLawfulAddition, IsPermutation, IsRead, IsRolledBack, IsStorable, IsStore, IsTrue, IsUnwritten, IsWrite, KeepsCommit, List, Memory, NoDatabase, Ok, OnErr, Proceeds, Result, Row, Some, State, StoreFault, Trees, [], addition_of, additions, ap, arith, bytes_eq-Decides, cond, contents_in, database_of, document_after, drop, filter, get_or, has_winner, history_at, history_in, history_shown, history_with, inl, inr, is_of, lawful_by_one, length, length-append, length-map, length-take, length_of, map, map-append, number_of, pos, refl, revs_tree, row_after, shown_revision, subst, suc, sym, take, take-append-drop, take_more, true, with_addition, with_all, with_one, writings_in, writings_in-append, written_at, written_in, ℕ, ℤ, ∥∥₁_elim, ◌++◌, ◌+◌, ◌<◌, ◌^◌, ◌∙◌, ◌∷◌, ◌≡◌}
 use Rattle.std.proofs.Math.Bool.{Bool-set}
 use Rattle.std.proofs.Math.Seq.{drop-cons}
 use Rattle.std.specs.FinMap as finite
@@ -11,16 +11,16 @@ use Rattle.store.specs.Database as store
 use Rattle.store.specs.declared.write.Write.{Write}
 use Rattle.tables.proofs.DocumentWriteNews.{storable_addition}
 use Rattle.tables.proofs.DocumentWrites.{acceptable_in_turn, one_more_written}
-use Rattle.tables.proofs.Lookups.{database_there, document_found}
+use Rattle.tables.proofs.Lookups.{database_there}
 use Rattle.transactions.specs.declared.commit_fault.CommitFault.TheVariants as write
+use Rattle.transactions.proofs.HeldHistories.{known}
 use Rattle.transactions.proofs.HistoryRows.{history_made}
+use Rattle.tree.proofs.Shown.{inside}
 
 -- ---- the history that is read
 
 pub history_read : (trees : Trees) (db : ℤ) (id : List ℕ) (rows : List Row) (h : HistoryContent) → IsLaid trees → IsPermutation (map shown_revision (filter (is_of db id) (trees revs_tree))) rows → Some (history_shown rows) ≡ Some h → h ≡ history_in (trees revs_tree) db id
-history_read trees db id rows h l same is =
-    let shown : history_shown rows ≡ h = cc in
-    sym shown ∙ history_made trees db id rows l same
+history_read trees db id rows h l same is = sym (inside (history_shown rows) h is) ∙ history_made trees db id rows l same
 
 -- the history of the same rows, by the same number and the same id
 pub history_of : (revs : List Row) (n m : ℤ) (i j : List ℕ) (h : HistoryContent) → n ≡ m → i ≡ j → h ≡ history_in revs n i → h ≡ history_in revs m j
@@ -31,19 +31,14 @@ pub lost : {A : Type 0} (said : A) (intact sound : Type 0) (fault : StoreFault) 
 lost said intact sound Memory h k = tt
 lost said intact sound Damaged h k = λ s. h (k s)
 lost said intact sound NoDatabase h k = absurd (cc)
-lost said intact sound Failed h k = absurd h
-lost said intact sound Exists h k = absurd h
-lost said intact sound Full h k = absurd h
+lost said intact sound fault h k = absurd h
 
 -- a refusal tells the same of what another fact follows from
 pub unwritten_of : (sound other : Type 0) (fault : CommitFault) → (other → sound) → IsUnwritten sound fault → IsUnwritten other fault
 unwritten_of sound other (write.Sqlite e) f h = tt
 unwritten_of sound other (write.Store Memory) f h = tt
 unwritten_of sound other (write.Store Damaged) f h = λ o. h (f o)
-unwritten_of sound other (write.Store NoDatabase) f h = absurd h
-unwritten_of sound other (write.Store Failed) f h = absurd h
-unwritten_of sound other (write.Store Exists) f h = absurd h
-unwritten_of sound other (write.Store Full) f h = absurd h
+unwritten_of sound other (write.Store fault) f h = absurd h
 
 -- ---- a transaction
 
@@ -97,14 +92,13 @@ one_more all before more a name r old mid new cut acceptable room h lawful write
     let db = database_of old.trees r in
     let ws = writings_in db before in
     let count : length ws ≡ length before = length-writings_in db before in
-    let known : history_in (mid.trees revs_tree) (number_of r) a.id ≡ history_at (with_all db ws) a.id =
-    sym (document_found mid.trees (row_after r (length ws)) a.id h.store.laid) ∙ ap (λ (d : store.Database). history_at d a.id) h.database in
+    let same = known ws name r old mid a.id h in
     let w = written_at (with_all db ws) a in
-    let storable : IsStorable w = subst (λ (k : HistoryContent). IsStorable (written_in k a)) known (storable_addition mid.trees (number_of r) a h.store.laid lawful.named lawful.text lawful.path lawful.body) in
+    let storable : IsStorable w = subst (λ (k : HistoryContent). IsStorable (written_in k a)) same (storable_addition mid.trees (number_of r) a h.store.laid lawful.named lawful.text lawful.path lawful.body) in
     let turn = acceptable_in_turn ws db w (writings_in (with_one (with_all db ws) w) more) (subst (AreAcceptable db) (ap (writings_in db) cut ∙ writings_in-append db before (a ∷ more)) acceptable) in
     let size : length all ≡ length (before ++ a ∷ more) = ap length cut in
     let done : IsWrite (row_after r (length ws)) w mid new =
-    subst (λ (n : ℕ). IsWrite (row_after r n) w mid new) (sym count) (subst (λ (k : HistoryContent). IsWrite (row_after r (length before)) (written_in k a) mid new) known write) in
+    subst (λ (n : ℕ). IsWrite (row_after r n) w mid new) (sym count) (subst (λ (k : HistoryContent). IsWrite (row_after r (length before)) (written_in k a) mid new) same write) in
     subst (λ vs. HasWritten vs name r old new) (sym (writings_in-append db before (a ∷ [])))
     (one_more_written ws w name r old mid new h turn storable (omega (arith, count, size, length-append before (a ∷ more), room)) done)
 
@@ -143,12 +137,11 @@ has_best all before more a name r old mid cut acceptable h =
     let db = database_of old.trees r in
     let ws = writings_in db before in
     let then = with_all db ws in
-    let known : history_in (mid.trees revs_tree) (number_of r) a.id ≡ history_at then a.id =
-    sym (document_found mid.trees (row_after r (length ws)) a.id h.store.laid) ∙ ap (λ (d : store.Database). history_at d a.id) h.database in
+    let same = known ws name r old mid a.id h in
     let w = written_at then a in
     let turn = acceptable_in_turn ws db w (writings_in (with_one then w) more) (subst (AreAcceptable db) (ap (writings_in db) cut ∙ writings_in-append db before (a ∷ more)) acceptable) in
     let there : finite.get (contents_in mid.trees) name ≡ Some then = database_there mid.trees h.store.laid name (row_after r (length ws)) h.row ∙ ap Some h.database in
-    subst (λ (k : HistoryContent). HasBest (with_addition k a)) (sym known)
+    subst (λ (k : HistoryContent). HasBest (with_addition k a)) (sym same)
     (∥∥₁_elim h.store.laid.lawful (Bool-set _ _) (λ lawful. best_after then a (lawful name then there) turn))
 
 pub best_in_turn : (ws : List Write) (i : ℕ) (w : Write) (name : List ℕ) (db : ℤ) (sequence : ℕ) (old mid : Database) → i < length ws → w ≡ get_or ws i w

@@ -1,5 +1,5 @@
 -- Histories that are held by a map while documents are written one after another.
-use Rattle.transactions.proofs.Common.{Addition, AreStored, Bool, Database, HasWritten, HistoryContent, IsHeldOpen, IsWith, List, None, Option, Row, Some, State, [], addition_of, additions, ap, bytes_eq-Decides, cond, database_of, false, get_or, history_at, history_at-with_all, history_in, is_eq-slice_cmp, length, map-append, number_of, refl, revs_tree, row_after, slice_cmp, subst, sym, take, take_more, true, with_addition, with_all, with_all-writings_in, writings_in, ℕ, ℤ, ◌++◌, ◌+◌, ◌<◌, ◌∙◌, ◌∷◌, ◌≡◌}
+use Rattle.transactions.proofs.Common.{Addition, AreStored, Bool, Database, HasWritten, HistoryContent, IsWith, List, None, Option, Row, Some, [], addition_of, additions, ap, bytes_eq-Decides, cond, database_of, false, get_or, history_at, history_at-with_all, history_in, is_eq-slice_cmp, length, map-append, number_of, refl, revs_tree, row_after, slice_cmp, subst, sym, take, take_more, true, with_addition, with_all, with_all-writings_in, writings_in, ℕ, ℤ, ◌++◌, ◌+◌, ◌<◌, ◌∙◌, ◌∷◌, ◌≡◌}
 use Rattle.std.specs.Prelude.{bytes_eq}
 use Rattle.std.specs.BTreeMap.{BTreeMap, IsEmpty, get, is_at}
 use Rattle.std.specs.Map.{lookup}
@@ -8,15 +8,9 @@ use Rattle.store.specs.Database as store
 use Rattle.store.specs.declared.write.Write.{Write}
 use Rattle.tables.proofs.Lookups.{document_found}
 
--- an empty map holds no history
-pub none_stored : (m : BTreeMap (List ℕ) HistoryContent) (M : List ℕ → HistoryContent) → IsEmpty m → AreStored m M
-none_stored m M empty id h is =
-    let gone : get (slice_cmp nat_cmp) m id ≡ None = ap (lookup (is_at (slice_cmp nat_cmp id))) empty in
-    let apart : ◌≡◌ {A = Option HistoryContent} None (Some h) = sym gone ∙ is in
-    absurd (cc)
-
-pub none_open : (m : BTreeMap (List ℕ) HistoryContent) (s : State) → IsEmpty m → IsHeldOpen m s
-none_open m s empty id h is =
+-- an empty map holds no history, so what one asks of each holds
+pub none_held : (P : List ℕ → HistoryContent → Type 0) (m : BTreeMap (List ℕ) HistoryContent) → IsEmpty m → (id : List ℕ) (h : HistoryContent) → get (slice_cmp nat_cmp) m id ≡ Some h → P id h
+none_held P m empty id h is =
     let gone : get (slice_cmp nat_cmp) m id ≡ None = ap (lookup (is_at (slice_cmp nat_cmp id))) empty in
     let apart : ◌≡◌ {A = Option HistoryContent} None (Some h) = sym gone ∙ is in
     absurd (cc)
@@ -45,7 +39,7 @@ stored_on m n M N a grown stored put id h is =
     go false other there = stored id h there
 
 -- the history that a document has when some of the writes were done
-known : (ws : List store.DocumentWrite) (name : List ℕ) (r : Row) (old now : Database) (id : List ℕ) → HasWritten ws name r old now
+pub known : (ws : List store.DocumentWrite) (name : List ℕ) (r : Row) (old now : Database) (id : List ℕ) → HasWritten ws name r old now
     → history_in (now.trees revs_tree) (number_of r) id ≡ history_at (with_all (database_of old.trees r) ws) id
 known ws name r old now id h = sym (document_found now.trees (row_after r (length ws)) id h.store.laid) ∙ ap (λ (d : store.Database). history_at d id) h.database
 

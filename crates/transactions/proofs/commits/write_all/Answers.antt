@@ -1,4 +1,4 @@
-use Rattle.transactions.proofs.Lemmas.{AreDue, AreStored, CommitFault, Err, HasBest, HasCleanDisk, HasWritten, IfErr, IsHeldOpen, IsSound, IsUnwritten, Result, addition_of, additions, arith, asks_itself, asks_then, best_in_turn, database_of, further, history_in, history_with, keeps_itself, keeps_then, none_open, none_stored, none_written, refl, revs_tree, rules, state, stored_further, subst, sym, take_all, to_z-of_z, unwritten_of, w64, writings_in, ◌∙◌, ◌≡◌}
+use Rattle.transactions.proofs.Lemmas.{AreDue, AreStored, CommitFault, Err, HasBest, HasCleanDisk, HasWritten, IfErr, IsHeldOpen, IsSound, IsUnwritten, Result, addition_of, additions, arith, asks_itself, asks_then, best_in_turn, database_of, further, history_in, history_with, keeps_itself, keeps_then, none_held, none_written, refl, revs_tree, rules, state, stored_further, subst, sym, take_all, to_z-of_z, unwritten_of, w64, writings_in, ◌∙◌, ◌≡◌}
 use Rattle.transactions.proofs.commits.write_all.Goals as goal
 
 pub loop-i-init : goal.loop-i-init
@@ -8,8 +8,8 @@ loop-i-init g c =
       same = refl;
       asks = asks_itself old;
       inside = λ clean within. within;
-      served = λ clean. none_open c.new-histories.result old c.new-histories.ensures.empty;
-      so_far = λ name clean store due. (none_written old.now name due.row store due.first, keeps_itself old, none_stored c.new-histories.result _ c.new-histories.ensures.empty);
+      served = λ clean. none_held _ c.new-histories.result c.new-histories.ensures.empty;
+      so_far = λ name clean store due. (none_written old.now name due.row store due.first, keeps_itself old, none_held _ c.new-histories.result c.new-histories.ensures.empty);
     }
 
 pub loop-i-preserved : goal.loop-i-preserved
