@@ -1,11 +1,12 @@
 -- What a reader of a store answers, from what it read, and what it leaves.
-use Rattle.sqlstore.proofs.Common.{AllByRecursion, Answers, Bool, Damaged, DatabaseNumbers, Err, Exists, Failed, FoundValues, Full, Ghosts, IsDatabaseRow, IsLaid, IsRead, IsShownDatabase, IsShownLocal, IsStanding, IsTrue, KnownDatabase, List, Memory, NoDatabase, None, NumberValues, Ok, OnlyReads, Option, Result, Row, Some, SqlStore, Stands, StoreFault, Trees, WasStore, [], all-filter, all_map, ap, arith, contents_in, contents_of, database_of, dbs_tree, false, filter, found_in, found_shown, get, inl, inr, is_honest, is_named, is_of, is_security, known_values, length, local_at, local_of, local_shown, locals_tree, map, next_number, numbers_in, option_map, refl, shown_database, shown_local, slice_get, state, subst, sym, trees_of, ℕ, ∥∥₁_elim, ∥∥₁_map, ◌+◌, ◌<◌, ◌^◌, ◌∙◌, ◌∷◌, ◌≡◌, ◌≤◌}
+use Rattle.sqlstore.proofs.Common.{AllByRecursion, Answers, Bool, Damaged, DatabaseNumbers, Err, FoundValues, Ghosts, IsDatabaseRow, IsLaid, IsRead, IsShownDatabase, IsShownLocal, IsStanding, IsTrue, KnownDatabase, List, Memory, NoDatabase, None, NumberValues, Ok, OnlyReads, Option, Result, Row, Some, SqlStore, Stands, StoreFault, Trees, WasStore, [], all-filter, all-slice_get, all_map, ap, arith, contents_in, contents_of, database_of, dbs_tree, false, filter, found_in, found_shown, get, inl, inr, is_honest, is_named, is_of, is_security, known_values, length, local_at, local_of, local_shown, locals_tree, map, next_number, numbers_in, option_map, refl, shown_database, shown_local, slice_get, state, subst, sym, trees_of, ℕ, ∥∥₁_elim, ∥∥₁_map, ◌+◌, ◌<◌, ◌^◌, ◌∙◌, ◌∷◌, ◌≡◌, ◌≤◌}
 use Rattle.store.specs.Causes.{HasFailed}
 use Rattle.store.specs.Database.{Database}
 use Rattle.sqlite_sql.specs.Ops.{fits_i64}
 use Rattle.couch_json.specs.View.{view}
 use Rattle.tables.proofs.Laid.{shown_databases, shown_locals}
 use Rattle.tables.proofs.Lookups.{database_found, local_found}
+use Rattle.tables.proofs.RowMaps.{mapped_some}
 
 -- what is said of the first of the shown rows is what is said of the first row
 pub first_shown : {A : Type 0} (show : Row → Row) (read : Row → A) (said : Row → A) → ((r : Row) → read (show r) ≡ said r) → (rows : List Row) → option_map said (slice_get rows 0) ≡ option_map read (slice_get (map show rows) 0)
@@ -16,21 +17,15 @@ module _ {S : Type 0} (g : Ghosts S) (old new : SqlStore S g) where
   pub answered : {X A : Type 0} (view : X → A) (defined said : Option A) (intact : Type 0) (r : Result X StoreFault) → IsRead view said intact r → (is_honest g new → (¬ ¬ intact) × (defined ≡ said)) → Answers g old new view defined r
   answered view defined said intact (Ok x) h is = λ honest. (is honest).1 ∙ h
   answered view defined said intact (Err Memory) h is = tt
-  answered view defined said intact (Err Failed) h is = absurd h
   answered view defined said intact (Err NoDatabase) h is = λ honest. (is honest).1 ∙ h
-  answered view defined said intact (Err Exists) h is = absurd h
   answered view defined said intact (Err Damaged) h is = λ honest. (is honest).0 h
-  answered view defined said intact (Err Full) h is = absurd h
+  answered view defined said intact (Err fault) h is = absurd h
 
   -- a fault of one answer is one of another that is defined where the first is
   pub refused : {X Y A B : Type 0} (view : X → A) (other : Y → B) (defined : Option A) (further : Option B) (fault : StoreFault) → (defined ≡ None → further ≡ None)
       → Answers g {X = X} old new view defined (Err fault) → Answers g {X = Y} old new other further (Err fault)
-  refused view other defined further Memory none h = tt
-  refused view other defined further Failed none h = h
   refused view other defined further NoDatabase none h = λ honest. none (h honest)
-  refused view other defined further Exists none h = absurd h
-  refused view other defined further Damaged none h = h
-  refused view other defined further Full none h = absurd h
+  refused view other defined further fault none h = h
 
   pub told_none : {X A : Type 0} (view : X → A) (defined : Option A) (fault : StoreFault) → fault ≡ NoDatabase → Answers g {X = X} old new view defined (Err fault) → is_honest g new → defined ≡ None
   told_none {X} view defined fault is h = subst (λ f. Answers g {X = X} old new view defined (Err f)) is h
@@ -75,13 +70,6 @@ database_read g s name rows honest is = (
   first_shown shown_database found_shown found_in (λ r. refl) _ ∙ ap (λ l. option_map found_shown (slice_get l 0)) (sym is),
 )
 
-pub at_first : (P : Row → Type 0) (rows : List Row) (r : Row) → AllByRecursion P rows → slice_get rows 0 ≡ Some r → P r
-at_first P [] r all is = absurd (cc)
-at_first P (s ∷ rows) r all is = subst P (some_same s r is) all.0
-  where
-    some_same : (a b : Row) → Some a ≡ Some b → a ≡ b
-    some_same a b h = cc
-
 -- the row of a database that is found, what is read of it, and the database
 pub record IsThere {A : Type 0} (read : Row → A) (trees : Trees) (name : List ℕ) (k : A) : Type 0 where
   pub row : Row
@@ -94,14 +82,9 @@ module _ {A : Type 0} (read : Row → A) (trees : Trees) (name : List ℕ) where
   first = slice_get (filter (is_named name) (trees dbs_tree)) 0
 
   pub there : (k : A) → option_map read first ≡ Some k → IsThere read trees name k
-  there k h = go first refl h
-    where
-      same : (a b : A) → Some a ≡ Some b → a ≡ b
-      same a b e = cc
-
-      go : (o : Option Row) → first ≡ o → option_map read o ≡ Some k → IsThere read trees name k
-      go None is h = absurd (cc)
-      go (Some r) is h = record { row = r; first = is; values = same (read r) k h; database = database_found trees name ∙ ap (option_map (database_of trees)) is }
+  there k h =
+      let r = mapped_some read first k h in
+      record { row = r.0; first = r.1; values = r.2; database = database_found trees name ∙ ap (option_map (database_of trees)) r.1 }
 
   -- where no row is found there is no database
   pub absent : option_map read first ≡ None → get (contents_in trees) name ≡ None
@@ -113,18 +96,16 @@ module _ {A : Type 0} (read : Row → A) (trees : Trees) (name : List ℕ) where
 
   -- what is read of the row of a name is read of the one that is found
   pub also : {B : Type 0} (f : A → B) (k : A) → option_map read first ≡ Some k → option_map (λ r. f (read r)) first ≡ Some (f k)
-  also f k h = go first h
-    where
-      go : (o : Option Row) → option_map read o ≡ Some k → option_map (λ r. f (read r)) o ≡ Some (f k)
-      go None h = absurd (cc)
-      go (Some r) h = cc
+  also f k h =
+      let r = mapped_some read first k h in
+      ap (option_map (λ x. f (read x))) r.1 ∙ ap (λ v. Some (f v)) r.2
 
 -- the security object of a database that is found
 pub security_there : (trees : Trees) (name : List ℕ) (k : FoundValues) → IsThere found_in trees name k → option_map (λ (db : Database). db.security) (get (contents_in trees) name) ≡ Some k.1
 security_there trees name k t = ap (option_map (λ (db : Database). db.security)) t.database ∙ ap (λ (v : FoundValues). Some v.1) t.values
 
 pub security_intact : (trees : Trees) (name : List ℕ) (k : FoundValues) → IsLaid trees → IsThere found_in trees name k → IsTrue (is_security k.1)
-security_intact trees name k l t = subst (λ (v : FoundValues). IsTrue (is_security v.1)) t.values (at_first IsDatabaseRow _ t.row (all-filter IsDatabaseRow (is_named name) _ l.dbs) t.first).security
+security_intact trees name k l t = subst (λ (v : FoundValues). IsTrue (is_security v.1)) t.values (all-slice_get IsDatabaseRow _ 0 t.row t.first (all-filter IsDatabaseRow (is_named name) _ l.dbs)).security
 
 -- a local document of a database that is found
 pub local_there : (trees : Trees) (name id : List ℕ) (k : NumberValues) (rows : List Row) → IsThere numbers_in trees name k → rows ≡ map shown_local (filter (is_of k.0 id) (trees locals_tree))
@@ -138,21 +119,17 @@ pub local_intact : (trees : Trees) (p : Row → Bool) (rows : List Row) → IsLa
 local_intact trees p rows l is = subst (AllByRecursion IsShownLocal) (sym is) (all_map IsShownLocal shown_local _ (all-filter _ p _ (shown_locals trees l)))
 
 -- what a reader of a database answers where none was found
-pub not_found : {S X Y A B : Type 0} (g : Ghosts S) (old new : SqlStore S g) (name : List ℕ) (read : Row → A) (shown : X → A) (other : Y → B) (f : Database → B) (fault : StoreFault)
-    → Answers g {X = X} old new shown (option_map read (slice_get (filter (is_named name) (trees_of g old dbs_tree)) 0)) (Err fault)
-    → Answers g {X = Y} old new other (option_map f (get (contents_of g old) name)) (Err fault)
-not_found {X = X} g old new name read shown other f fault h =
-    refused g old new {X = X} shown other _ _ fault (λ none. ap (option_map f) (absent read (trees_of g old) name none)) h
+pub not_found : {S X Y A B : Type 0} (g : Ghosts S) (old new : SqlStore S g) (name : List ℕ) (read : Row → A) (shown : X → A) (other : Y → B) (f : Database → B) (fault : StoreFault) (r : Result Y StoreFault)
+    → Answers g {X = X} old new shown (option_map read (slice_get (filter (is_named name) (trees_of g old dbs_tree)) 0)) (Err fault) → r ≡ Err fault → Answers g old new other (option_map f (get (contents_of g old) name)) r
+not_found {X = X} g old new name read shown other f fault r h is =
+    subst (Answers g old new other (option_map f (get (contents_of g old) name))) (sym is) (refused g old new {X = X} shown other _ _ fault (λ none. ap (option_map f) (absent read (trees_of g old) name none)) h)
 
 -- a change of a database says that there is none only where there is none
-pub missing : {S X : Type 0} (g : Ghosts S) (old new : SqlStore S g) (name : List ℕ) (r : Result X StoreFault) (fault : StoreFault) → r ≡ Err fault → r ≡ Err NoDatabase
+pub missing : {S X : Type 0} (g : Ghosts S) (old new : SqlStore S g) (name : List ℕ) (r : Result X StoreFault) (fault : StoreFault)
     → Answers g {X = DatabaseNumbers} old new (λ d. (d.number, d.sequence)) (option_map numbers_in (slice_get (filter (is_named name) (trees_of g old dbs_tree)) 0)) (Err fault)
-    → is_honest g new → get (contents_of g old) name ≡ None
-missing g old new name r fault is told h honest =
-    absent numbers_in (trees_of g old) name (told_none g old new {X = DatabaseNumbers} (λ d. (d.number, d.sequence)) _ fault (same_fault (sym is ∙ told)) h honest)
-  where
-    same_fault : {Y : Type 0} {a b : StoreFault} → ◌≡◌ {A = Result Y StoreFault} (Err a) (Err b) → a ≡ b
-    same_fault e = cc
+    → r ≡ Err fault → r ≡ Err NoDatabase → is_honest g new → get (contents_of g old) name ≡ None
+missing g old new name r fault h is told honest =
+    absent numbers_in (trees_of g old) name (told_none g old new {X = DatabaseNumbers} (λ d. (d.number, d.sequence)) _ fault (cc) h honest)
 
 -- what was found of a database may be known of it
 pub known_so : {S : Type 0} (g : Ghosts S) (old new : SqlStore S g) (name : List ℕ) (known : KnownDatabase) → Stands g old new → known.name ≡ name

@@ -1,5 +1,5 @@
 -- What a store makes of writes that are committed together.
-use Rattle.sqlstore.proofs.Common.{Addition, AreAcceptable, AreDue, CommitFault, Damaged, Database, Exists, Failed, Full, Ghosts, HasCleanDisk, Held, IfThere, IsHeld, IsSound, IsStore, IsUnwritten, List, Memory, NoDatabase, NumberValues, Some, StoreFault, Trees, WasStore, ap, arith, contents_in, database_of, length, numbers_in, state, subst, sym, writings_in, ℕ, ℤ, ∥∥₁_elim, ◌+◌, ◌<◌, ◌^◌, ◌≡◌}
+use Rattle.sqlstore.proofs.Common.{Addition, AreAcceptable, AreDue, CommitFault, Damaged, Database, Failed, Ghosts, HasCleanDisk, Held, IfThere, IsHeld, IsSound, IsStore, IsUnwritten, List, Memory, NumberValues, Some, StoreFault, Trees, WasStore, ap, arith, contents_in, database_of, length, numbers_in, state, subst, sym, writings_in, ℕ, ℤ, ∥∥₁_elim, ◌+◌, ◌<◌, ◌^◌, ◌≡◌}
 use Rattle.std.specs.FinMap as finite
 use Rattle.store.specs.Database as store
 use Rattle.sqlstore.specs.Causes.{IsJudged}
@@ -38,19 +38,13 @@ told old new sound honest (write.Sqlite e) said h judged is = judged_as said jud
     judged_as : (f : StoreFault) → IsJudged old new f → IsUncommitted old new honest f
     judged_as Memory j = tt
     judged_as Failed j = j
-    judged_as NoDatabase j = absurd j
-    judged_as Exists j = absurd j
-    judged_as Damaged j = absurd j
-    judged_as Full j = absurd j
+    judged_as f j = absurd j
 told old new sound honest (write.Store fault) said h same is = subst (IsUncommitted old new honest) (sym same) (read_as fault h)
   where
     read_as : (f : StoreFault) → IsUnwritten sound (write.Store f) → IsUncommitted old new honest f
     read_as Memory j = tt
-    read_as Failed j = absurd j
-    read_as NoDatabase j = absurd j
-    read_as Exists j = absurd j
     read_as Damaged j = λ now. is now j
-    read_as Full j = absurd j
+    read_as f j = absurd j
 
 module _ {S : Type 0} (g : Ghosts S) (Fits : Trees → Type 0) (old new origin last : Held S) where
   -- a connection that is honest is sound, where the rows that the last change left are fit

@@ -1,5 +1,7 @@
 -- Some rows of a list of documents make the page that all of them make.
-use Rattle.sqlstore.proofs.Common.{AllByRecursion, AreEnoughById, AreEnoughBySequence, Bool, Equal, Err, Greater, IdRow, IfOk, IsLimitFor, IsListedDocument, IsSequenceRow, Less, List, None, Ok, Option, Ordering, Result, Revision, Row, SeqRange, SequenceRow, Some, [], all-filter, ap, ap₂, arith, comes_after, cond, drop, false, filter, filter-filter, filter-map, filter_all, filter_same, first_rows, id_page, if_counted, in_direction, inl, inr, int_lt, ints, is_after_end_of, is_before_start_of, is_le, is_lt, is_within, last_sequence, later_rows, least_of, lies_between, listed_counts, listed_id, listed_mark, listed_sequence, listed_winner, live_row, live_rows, map, nat_cmp, nat_list_cmp_total, nat_lt, nat_tests, negsuc, not, option_map, ordering_reverse, pos, refl, row_counts, rows_within, sequence_row, slice_cmp, subst, suc, sym, take, take-map, true, up_to_limit, winners_page, zero, ℕ, ℤ, ◌&&◌, ◌++◌, ◌||◌, ◌∙◌, ◌∷◌, ◌≡◌}
+use Rattle.sqlstore.proofs.Common.{AllByRecursion, AreEnoughById, AreEnoughBySequence, Bool, Err, IdRow, IfOk, IsLimitFor, IsListedDocument, IsSequenceRow, Less, List, None, Ok, Option, Ordering, Result, Revision, Row, SeqRange, SequenceRow, Some, [], all-filter, ap, ap₂, arith, comes_after, cond, drop, false, filter, filter-filter, filter-map, filter_all, filter_same, first_rows, id_page, if_counted, in_direction, inl, inr, int_lt, ints, is_after_end_of, is_before_start_of, is_le, is_lt, is_within, last_sequence, later_rows, least_of, lies_between, listed_counts, listed_id, listed_mark, listed_sequence, listed_winner, live_row, live_rows, map, nat_cmp, nat_list_cmp_total, nat_lt, nat_tests, negsuc, not, option_map, ordering_reverse, pos, refl, row_counts, rows_within, sequence_row, slice_cmp, subst, suc, sym, take, take-map, true, up_to_limit, winners_page, zero, ℕ, ℤ, ◌&&◌, ◌++◌, ◌||◌, ◌∙◌, ◌∷◌, ◌≡◌}
+use Rattle.std.proofs.lemmas.Bool.{not-false, not-true, or_parts}
+use Rattle.std.proofs.lemmas.List.{take-take}
 use Rattle.std.specs.Option.{option_to_list}
 use Rattle.store.proofs.Directed.{filter-directed}
 use Rattle.store.specs.declared.page.IdRange.{IdRange}
@@ -9,37 +11,26 @@ use Rattle.tables.proofs.RowMaps.{passing}
 
 below : (o : Ordering) → is_lt o ≡ true → is_le o ≡ true
 below Less h = refl
-below Equal h = absurd (cc)
-below Greater h = absurd (cc)
+below o h = absurd (cc)
 
 turned : (o : Ordering) → is_lt o ≡ false → is_le (ordering_reverse o) ≡ true
 turned Less h = absurd (cc)
-turned Equal h = refl
-turned Greater h = refl
+turned o h = refl
 
 at_most : (a b : List ℕ) → is_lt (slice_cmp nat_cmp b a) ≡ false → is_le (slice_cmp nat_cmp a b) ≡ true
 at_most a b h = ap is_le (nat_list_cmp_total.antisymm a b) ∙ turned (slice_cmp nat_cmp b a) h
 
-neither : (x y : Bool) → not (x || y) ≡ true → (x ≡ false) × (y ≡ false)
-neither true y h = absurd (cc)
-neither false true h = absurd (cc)
-neither false false h = (refl, refl)
-
-set : (b : Bool) → not b ≡ false → b ≡ true
-set true h = refl
-set false h = absurd (cc)
-
 end_kept : (inclusive : Bool) (a b : List ℕ) → cond inclusive (is_lt (slice_cmp nat_cmp b a)) (not (is_lt (slice_cmp nat_cmp a b))) ≡ false → is_le (slice_cmp nat_cmp a b) ≡ true
 end_kept true a b h = at_most a b h
-end_kept false a b h = below (slice_cmp nat_cmp a b) (set (is_lt (slice_cmp nat_cmp a b)) h)
+end_kept false a b h = below (slice_cmp nat_cmp a b) (not-false (is_lt (slice_cmp nat_cmp a b)) h)
 
 within_ends : (descending inclusive : Bool) (start end id : List ℕ) → not (is_before_start_of descending (Some start) id || is_after_end_of descending inclusive (Some end) id) ≡ true
     → lies_between (least_of descending start end) (least_of descending end start) id ≡ true
 within_ends false inclusive start end id h =
-    let parts = neither (is_lt (slice_cmp nat_cmp id start)) (is_after_end_of false inclusive (Some end) id) h in
+    let parts = or_parts (is_lt (slice_cmp nat_cmp id start)) (is_after_end_of false inclusive (Some end) id) (not-true _ h) in
     ap₂ ◌&&◌ (at_most start id parts.0) (end_kept inclusive id end parts.1)
 within_ends true inclusive start end id h =
-    let parts = neither (is_lt (slice_cmp nat_cmp start id)) (is_after_end_of true inclusive (Some end) id) h in
+    let parts = or_parts (is_lt (slice_cmp nat_cmp start id)) (is_after_end_of true inclusive (Some end) id) (not-true _ h) in
     ap₂ ◌&&◌ (end_kept inclusive end id parts.1) (at_most id start parts.0)
 
 within_range : (range : IdRange) (start end : List ℕ) → range.start ≡ Some start → range.end ≡ Some end → (id : List ℕ) → is_within range id ≡ true
@@ -60,10 +51,8 @@ one_left p id true won true is rest = refl
 one_left p id true won false is rest = refl
 one_left p id false None true is rest = refl
 one_left p id false None false is rest = refl
-one_left p id false (Some w) true is rest =
-    sym (ap (λ c. cond c (record { id = id; rev = w } ∷ filter (λ (r : IdRow). p r.id) rest) (filter (λ (r : IdRow). p r.id) rest)) is)
-one_left p id false (Some w) false is rest =
-    sym (ap (λ c. cond c (record { id = id; rev = w } ∷ filter (λ (r : IdRow). p r.id) rest) (filter (λ (r : IdRow). p r.id) rest)) is)
+one_left p id false (Some w) true is rest = rw is
+one_left p id false (Some w) false is rest = rw is
 
 live_left : (p : List ℕ → Bool) (rows : List Row) → live_rows (filter (λ s. p (listed_id s)) rows) ≡ filter (λ (r : IdRow). p r.id) (live_rows rows)
 live_left p [] = refl
@@ -108,18 +97,13 @@ all_taken : (P : Row → Type 0) (n : ℤ) (rows : List Row) → AllByRecursion 
 all_taken P (negsuc n) rows all = all
 all_taken P (pos n) rows all = all_first P n rows all
 
-taken_twice : {X : Type 0} (n : ℕ) (xs : List X) → take n (take n xs) ≡ take n xs
-taken_twice zero xs = refl
-taken_twice (suc n) [] = refl
-taken_twice (suc n) (x ∷ xs) = ap (λ l. x ∷ l) (taken_twice n xs)
-
 -- rows that pass, once and again, with a limit or none
 module _ {X : Type 0} (q : X → Bool) (xs : List X) where
   again : (limit : Option ℕ) → up_to_limit limit (filter q (filter q xs)) ≡ up_to_limit limit (filter q xs)
   again limit = ap (up_to_limit limit) (filter_all q (filter q xs) (passing q xs))
 
   limited_again : (n : ℕ) → take n (filter q (take n (filter q xs))) ≡ take n (filter q xs)
-  limited_again n = ap (take n) (filter_all q (take n (filter q xs)) (all_first (λ x. q x ≡ true) n (filter q xs) (passing q xs))) ∙ taken_twice n (filter q xs)
+  limited_again n = ap (take n) (filter_all q (take n (filter q xs)) (all_first (λ x. q x ≡ true) n (filter q xs) (passing q xs))) ∙ take-take n n (filter q xs) (omega arith)
 
 later_same : (n m : ℕ) → int_lt (pos n) (pos m) ≡ nat_lt n m
 later_same n m = grind (arith, ints, nat_tests)

@@ -1,5 +1,5 @@
 -- The pages of a database that is found by its name are those of the rows of its number.
-use Rattle.sqlstore.proofs.Common.{AllByRecursion, Coded-set, Document, IsDatabaseRow, IsLaid, List, None, NumberValues, Row, SeqRange, Some, Trees, [], all-filter, ap, ap₂, by_id, content_code, contents_in, database_of, db_of, docs_tree, document_counts, document_of, false, filter, history_at, history_in, id_of, id_page, if_counted, in_sequence, index_fields_of, index_over, index_rows, is_in, is_named, key_page, leaves_row, length_of, listed_by_id, listed_by_sequence, listed_counts, listed_document, listed_id, live_rows, map, number_of, numbers_in, option_map, page_by_sequence, page_of_ids, page_of_keys, page_with_leaves, places_of, put_in_index, queried_document, refl, revs_tree, rows_of, same_int, sequence_page, sequence_row, sort_by, subst, sym, true, winners_page, with_documents, ℕ, ℤ, ∥∥₁_elim, ◌<◌, ◌^◌, ◌∙◌, ◌∷◌, ◌≡◌}
+use Rattle.sqlstore.proofs.Common.{AllByRecursion, Coded-set, Document, Ghosts, IsDatabaseRow, IsLaid, List, None, NumberValues, Row, SeqRange, Some, SqlStore, Stands, Trees, [], all-filter, all-slice_get, ap, ap₂, by_id, content_code, contents_in, database_of, db_of, dbs_tree, docs_tree, document_counts, document_of, false, filter, history_at, history_in, id_of, id_page, if_counted, in_sequence, index_fields_of, index_over, index_rows, is_honest, is_in, is_named, key_page, leaves_row, length_of, listed_by_id, listed_by_sequence, listed_counts, listed_document, listed_id, live_rows, map, number_of, numbers_in, option_map, page_by_sequence, page_of_ids, page_of_keys, page_with_leaves, places_of, put_in_index, queried_document, refl, revs_tree, rows_of, same_int, sequence_page, sequence_row, slice_get, sort_by, subst, sym, trees_of, true, winners_page, with_documents, ℕ, ℤ, ∥∥₁_elim, ◌<◌, ◌^◌, ◌∙◌, ◌∷◌, ◌≡◌}
 use Rattle.std.specs.FinMap as finite
 use Rattle.store.specs.Database.{Database}
 use Rattle.store.specs.declared.key_page.KeyRange.{KeyRange}
@@ -8,13 +8,20 @@ use Rattle.tables.proofs.ListingRows.{counts_by_sequence, documents_by_id, leave
 use Rattle.tables.proofs.Lookups.{document_found}
 use Rattle.tables.proofs.RowMaps.{passing}
 use Rattle.tables.proofs.Sorted.{all_sorted}
-use Rattle.sqlstore.proofs.Answering.{IsThere, at_first}
+use Rattle.sqlstore.proofs.Afterwards.{stands_same}
+use Rattle.sqlstore.proofs.Answering.{IsThere, laid, there, was_honest}
 use Rattle.sqlstore.proofs.ListedRows.{counts_set, id_rows_set, leaves_rows, page_kept, places_set, sequence_rows_set}
 
 -- the database's own sequence is one that a page may hold
 pub bounded_there : (trees : Trees) (name : List ℕ) (k : NumberValues) → IsLaid trees → IsThere numbers_in trees name k → k.1 < 2 ^ 63
 bounded_there trees name k l t =
-    subst (λ (v : NumberValues). v.1 < 2 ^ 63) t.values (at_first IsDatabaseRow _ t.row (all-filter IsDatabaseRow (is_named name) _ l.dbs) t.first).bounded
+    subst (λ (v : NumberValues). v.1 < 2 ^ 63) t.values (all-slice_get IsDatabaseRow _ 0 t.row t.first (all-filter IsDatabaseRow (is_named name) _ l.dbs)).bounded
+
+-- what is said of a database that was found is said of the rows that the next reader finds
+pub found_at : {S A : Type 0} (g : Ghosts S) (old mid : SqlStore S g) (name : List ℕ) (k : NumberValues) → Stands g old mid → is_honest g mid → option_map numbers_in (slice_get (filter (is_named name) (trees_of g old dbs_tree)) 0) ≡ Some k
+    → {defined : A} (said : Trees → A) → (∥ IsLaid (trees_of g old) ∥₁ → IsThere numbers_in (trees_of g old) name k → defined ≡ said (trees_of g old)) → defined ≡ said (trees_of g mid)
+found_at g old mid name k stood honest found said is =
+    is (laid g old (was_honest g old mid stood honest)) (there numbers_in (trees_of g old) name k found) ∙ ap said (sym (stands_same g old mid stood))
 
 module _ (trees : Trees) (name : List ℕ) (k : NumberValues) (lay : ∥ IsLaid trees ∥₁) (t : IsThere numbers_in trees name k) where
   -- ---- histories

@@ -3,7 +3,6 @@ pub mod Standing
 pub mod ContentsCode
 pub mod Changing
 pub mod NameBytes
-pub mod Tables
 pub mod Answering
 pub mod Committed
 pub mod ListedRows

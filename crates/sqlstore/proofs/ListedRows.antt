@@ -1,12 +1,14 @@
 -- The rows of a list of documents: that they are intact, and what pages they make.
-use Rattle.sqlstore.proofs.Common.{All, AllByRecursion, Bool, Coded, Coded-set, HistoryContent, IdRow, IndexPlace, IsDatabaseRow, IsDocumentRow, IsLaid, IsListedDocument, IsSequenceRow, List, None, Option, Ordering, Revision, Row, SeqRange, SeqRow, SequenceRow, Some, Trees, [], all-filter, all_both, all_map, ap, ap₂, arith, by_sequence, code_by, coded_bool, coded_list, coded_ℕ, coded×, cond, count_by, dbs_tree, docs_tree, drop, drop_all, false, filter, find, get_or, get_or-map, is_in, last_sequence, later_rows, leaves_row, length, length-map, list_any, listed_by_sequence, listed_counts, listed_document, listed_mark, map, map-map, nat_lt, not, page_with_leaves, place_code, refl, revision_code, revs_tree, sequence_of, sequence_page, sequence_row, sequence_row_of, sequence_rows, sort_by, sym, true, up_to_limit, with_leaves, ℕ, ℤ, ◌++◌, ◌+◌, ◌-◌, ◌<◌, ◌^◌, ◌||◌, ◌∙◌, ◌∷◌, ◌≡◌, ◌≤◌}
+use Rattle.sqlstore.proofs.Common.{All, AllByRecursion, Bool, Coded, Coded-set, HistoryContent, IdRow, IndexPlace, IsDatabaseRow, IsDocumentRow, IsLaid, IsListedDocument, IsSequenceRow, List, None, Option, Ordering, Revision, Row, SeqRange, SeqRow, SequenceRow, Some, Trees, [], all-filter, all_both, all_map, any_is_found, ap, ap₂, arith, by_sequence, code_by, coded_bool, coded_list, coded_ℕ, coded×, cond, count_by, db_of, dbs_tree, docs_tree, drop, drop_all, false, filter, get_or, get_or-map, has_number, is_in, is_some, last_sequence, later_rows, leaves_row, length, length-map, listed_by_sequence, listed_counts, listed_document, listed_mark, map, map-map, nat_lt, not, page_with_leaves, place_code, refl, revision_code, revs_tree, sequence_of, sequence_page, sequence_row, sequence_row_of, sequence_rows, sort_by, sym, true, up_to_limit, with_leaves, ℕ, ℤ, ◌++◌, ◌+◌, ◌-◌, ◌<◌, ◌^◌, ◌∙◌, ◌∷◌, ◌≡◌, ◌≤◌}
 use Rattle.std.proofs.lemmas.List.{append_assoc, append-nil, take-map}
 use Rattle.std.proofs.lemmas.List.Sums.{sum_by-cons}
 use Rattle.store.specs.contracts.page.DocumentCounts as document_counts
 use Rattle.store.specs.contracts.page.IdRow as id_row
 use Rattle.store.specs.declared.page.DocumentCounts.{DocumentCounts}
 use Rattle.tables.proofs.ListingRows.{both_counted, rows_of_a_listing}
+use Rattle.tables.proofs.RowMaps.{find_found}
 use Rattle.tables.proofs.Sorted.{all_sorted}
+use Rattle.tables.specs.Layout.{database_at}
 use Rattle.sqlstore.specs.Listing.{row_counts}
 
 -- ---- rows are told apart by numbers
@@ -34,19 +36,14 @@ pub listed_intact : (by : Row → Row → Ordering) (trees : Trees) (db : ℤ) �
 listed_intact by trees db l =
     all_map IsListedDocument listed_document _ (all_sorted (λ r. IsListedDocument (listed_document r)) by _ (all-filter (λ r. IsListedDocument (listed_document r)) (is_in db) _ (rows_of_a_listing trees l)))
 
--- the row that is found is that of a database
-database_at : (p : Row → Bool) (rows : List Row) → AllByRecursion IsDatabaseRow rows → list_any p rows ≡ true → (d : Row) × (find p rows ≡ Some d) × IsDatabaseRow d
-database_at p [] all any = absurd (cc)
-database_at p (r ∷ rows) all any = go (p r) (database_at p rows all.1) any
-  where
-    go : (b : Bool) → (list_any p rows ≡ true → (d : Row) × (find p rows ≡ Some d) × IsDatabaseRow d) → (b || list_any p rows) ≡ true → (d : Row) × (cond b (Some r) (find p rows) ≡ Some d) × IsDatabaseRow d
-    go true more any = (r, refl, all.0)
-    go false more any = more any
+some_there : {A : Type 0} (o : Option A) → is_some o ≡ true → (x : A) × (o ≡ Some x)
+some_there None h = absurd (cc)
+some_there (Some x) h = (x, refl)
 
 small_sequence : (trees : Trees) → IsLaid trees → (r : Row) → IsDocumentRow trees r → sequence_of r < 2 ^ 63
 small_sequence trees l r k =
-    let d = database_at _ (trees dbs_tree) l.dbs k.there in
-    let bounded = d.2.bounded in
+    let d = some_there (database_at (trees dbs_tree) (db_of r)) (sym (any_is_found (has_number (db_of r)) (trees dbs_tree)) ∙ k.there) in
+    let bounded = (find_found IsDatabaseRow (has_number (db_of r)) (trees dbs_tree) d.0 l.dbs d.1).0.bounded in
     omega (arith, k.within d.0 d.1, bounded)
 
 pub sequences_intact : (trees : Trees) (db : ℤ) → IsLaid trees → AllByRecursion IsSequenceRow (listed_by_sequence trees db)
@@ -117,9 +114,6 @@ one_more f all i a done new next pushed h =
 
 pub all_done : {A B : Type 0} (f : A → B) (all : List A) (i : ℕ) (done : List B) → length all ≤ i → done ++ map f (drop i all) ≡ map f all → done ≡ map f all
 all_done f all i done le h = sym (append-nil done) ∙ sym (ap (λ l. done ++ map f l) (drop_all i all le)) ∙ h
-
-pub same_values : {A : Type 0} (x y : A) → Some x ≡ Some y → x ≡ y
-same_values x y h = cc
 
 -- rows of the same sequences are below the same bound
 pub below_again : (n : ℕ) (rows again : List SeqRow) → map (λ (r : SeqRow). r.sequence) again ≡ map (λ (r : SeqRow). r.sequence) rows → All (λ r. r.sequence < n) rows → All (λ r. r.sequence < n) again

@@ -1,12 +1,11 @@
 -- What each change makes of the tables, whose rows are those that the last change left.
-use Rattle.sqlstore.proofs.Common.{Addition, AreDue, Changes, Clears, Database, HasNumber, HasWritten, IfSome, IsBody, IsKnown, IsLawful, IsStore, IsTrue, KnownDatabase, List, LocalDocument, None, Option, Replaces, Some, Trees, ap, ap₂, at_sequence, canonical, closed_security, contents_in, database_cells, database_of, dbs_tree, filter, found_in, get, insert, is_database_name, is_document_id, is_named, is_security, known_values, length, length_of, new_database, option_map, pos, remove, rows_with_security, slice_get, subst, sym, with_all, with_cells, with_local, with_security, writings_in, ℕ, ℤ, ◌+◌, ◌<◌, ◌^◌, ◌∙◌, ◌≡◌}
+use Rattle.sqlstore.proofs.Common.{Addition, AreDue, Changes, Clears, Database, HasNumber, HasWritten, IfSome, IsBody, IsKnown, IsLawful, IsStore, IsTrue, KnownDatabase, List, LocalDocument, None, Option, Replaces, Some, Trees, ap, ap₂, at_sequence, canonical, closed_security, contents_in, database_cells, database_of, dbs_tree, filter, found_in, get, insert, inside, is_database_name, is_document_id, is_named, is_security, known_values, length, length_of, new_database, option_map, pos, remove, rows_with_security, slice_get, subst, sym, with_all, with_cells, with_local, with_security, writings_in, ℕ, ℤ, ◌+◌, ◌<◌, ◌^◌, ◌∙◌, ◌≡◌}
 use Rattle.couch_json.specs.Value.{Value}
 use Rattle.tables.proofs.Lookups.{database_there}
 use Rattle.tables.proofs.LocalChanges.{written_store}
 use Rattle.tables.proofs.NewDatabases.{new_store}
 use Rattle.tables.proofs.Removed.{removed_store}
 use Rattle.tables.proofs.Secured.{secured_store}
-use Rattle.sqlstore.proofs.ListedRows.{same_values}
 use Rattle.transactions.proofs.Committing.{length-writings_in}
 
 module _ (new : Database) (name : List ℕ) where
@@ -78,7 +77,7 @@ module _ (new : Database) (name : List ℕ) where
         let w = writes here in
         let was : Some (found_in here.row) ≡ Some (known_values k) =
         ap (option_map found_in) (sym here.first) ∙ ap₂ (λ (t : Trees) n. option_map found_in (slice_get (filter (is_named n) (t dbs_tree)) 0)) same (sym named) ∙ known in
-        let values : found_in here.row ≡ known_values k = same_values _ _ was in
+        let values : found_in here.row ≡ known_values k = inside _ _ was in
         let count : length_of here.row + length (writings_in (database_of old.trees here.row) all) ≡ sequence + length all = ap₂ ◌+◌ here.counted (length-writings_in (database_of old.trees here.row) all) in
         ap (λ n. option_map found_in (slice_get (filter (is_named n) (new.trees dbs_tree)) 0)) named ∙ ap (option_map found_in) w.row
         ∙ (λ i. Some ((values i).0, (values i).1, count i))

@@ -1,5 +1,5 @@
 -- What calls of a store leave, one after the other.
-use Rattle.sqlstore.proofs.Common.{Asks, Database, Err, Error, Finds, Ghosts, HasCleanDisk, Held, Holds, IfErr, IfOk, IsHeld, IsStanding, IsStore, IsTrue, KnownDatabase, None, Ok, OnlyLooks, Option, Reads, Result, SqlStore, StoreFault, Trees, Trees-set, WasStore, ap, inl, inr, schema, state, subst, sym, ∥∥₁_elim, ∥∥₁_map, ◌∙◌, ◌≡◌, ◌≤◌, ◌⊎◌}
+use Rattle.sqlstore.proofs.Common.{Asks, Database, Err, Error, Finds, Ghosts, HasCleanDisk, Held, Holds, IfErr, IfOk, IsHeld, IsStanding, IsStore, IsTrue, KnownDatabase, List, None, Ok, OnlyLooks, Option, Reads, Result, Row, SqlStore, StoreFault, Trees, Trees-set, WasStore, ap, inl, inr, rows_set, schema, state, subst, sym, ∥∥₁_elim, ∥∥₁_map, ◌∙◌, ◌≡◌, ◌≤◌, ◌⊎◌}
 use Rattle.sqlstore.specs.Causes.{IsJudged}
 
 module _ {S : Type 0} (g : Ghosts S) (old new origin last : Held S) where
@@ -48,12 +48,17 @@ pub dropped : {S : Type 0} (g : Ghosts S) {conn origin last : Held S} {known : O
 dropped g s = record { idle = s.idle; unlimited = s.unlimited; held = s.held; known_so = λ clean is. ∣ tt ∣₁ }
 
 -- what a statement reads and its answer told are what a store finds
-module _ {S : Type 0} (g : Ghosts S) (old new : SqlStore S g) {X : Type 0} (P : Trees → X → Type 0) (prop : (trees : Trees) (x : X) → IsProp (P trees x)) where
-  pub finds : {Is : Trees → X → Type 0} → ((trees : Trees) (x : X) → Is trees x → P trees x) → (answer : Result X Error) (r : Result X StoreFault)
+module _ {S : Type 0} (g : Ghosts S) (old new : SqlStore S g) {X : Type 0} where
+  pub finds : {Is : Trees → X → Type 0} (P : Trees → X → Type 0) → ((trees : Trees) (x : X) → IsProp (P trees x)) → ((trees : Trees) (x : X) → Is trees x → P trees x) → (answer : Result X Error) (r : Result X StoreFault)
       → new.origin.value ≡ old.origin.value → new.last.value ≡ old.last.value → old.faults ≤ new.faults → IfOk r (λ x. answer ≡ Ok x) → IfErr r (IsJudged old.faults new.faults)
       → Reads g IsStore old.conn new.conn Is answer → Finds g P old new r
-  finds so answer r origin last counted told judged reads = record {
+  finds P prop so answer r origin last counted told judged reads = record {
     found = λ honest. found g old.conn new.conn old.origin.value old.last.value P prop so answer r told reads old.standing.held honest.0 (subst (WasStore g) origin honest.1);
     judged = judged;
     stands = record { origin = origin; last = last; counted = counted; clean = reads.asks.clean };
   }
+
+  -- the same of rows that are those that the tables say
+  pub finds_rows : {items : X → List Row} {said : Trees → List Row} → (answer : Result X Error) (r : Result X StoreFault) → new.origin.value ≡ old.origin.value → new.last.value ≡ old.last.value → old.faults ≤ new.faults
+      → IfOk r (λ x. answer ≡ Ok x) → IfErr r (IsJudged old.faults new.faults) → Reads g IsStore old.conn new.conn (λ trees x. items x ≡ said trees) answer → Finds g (λ trees x. items x ≡ said trees) old new r
+  finds_rows {items} {said} = finds (λ trees x. items x ≡ said trees) (λ _ _. rows_set _ _) (λ _ _ is. is)

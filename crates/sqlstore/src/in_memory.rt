@@ -55,6 +55,7 @@ impl MemoryStore {
     }
 }
 
+#[tactic(auto, using(sqlite::proofs::Callers::memory_is_clean))]
 impl Store for MemoryStore {
     ghost contents = { λ s. model.contents_of over_memory s.store };
 

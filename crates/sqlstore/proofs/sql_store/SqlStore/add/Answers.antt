@@ -8,9 +8,10 @@ invariant_of-self g c =
     let new = state g.S.Store c.add_database.new.conn in
     let name = c.as_bytes.ensures.value ∙ c.as_str.ensures.text in
     let text = c.as_str-2.ensures.value ∙ c.in_ok-text.ensures.text ∙ ap canonical (c.value.ensures.value ∙ c.in_ok-security.ensures) in
-    let x = stands g.S.Store s.conn c.add_database.new.conn s.origin.value s.last.value e.turns (dropped g.S.Store s.standing) e.done (IsAdded new.now c.args.name.now)
-    (λ clean was is store same. adds new.now c.args.name.now _ _ store same _ _ c.as_str.ensures.lawful (c.requires (was, is)) name text (e.ok clean store)) c.of.result.value c.of.ensures in
-    record { standing = x }
+    record {
+      standing = stands g.S.Store s.conn c.add_database.new.conn s.origin.value s.last.value e.turns (dropped g.S.Store s.standing) e.done (IsAdded new.now c.args.name.now)
+          (λ clean was is store same. adds new.now c.args.name.now _ _ store same _ _ c.as_str.ensures.lawful (c.requires (was, is)) name text (e.ok clean store)) c.of.result.value c.of.ensures;
+    }
 
 pub returns-in-Ok-clause-ok : goal.returns-in-Ok-clause-ok
 returns-in-Ok-clause-ok g c honest =
@@ -23,8 +24,4 @@ returns-in-Ok-clause-ok g c honest =
     (λ clean was is store same. adds new.now c.args.name.now _ _ store same _ _ c.as_str.ensures.lawful (c.requires (was, is)) name text (e.ok clean store)) (contents_set _ _) honest.0 honest.1
 
 pub invariant_of-self-in-Err : goal.invariant_of-self-in-Err
-invariant_of-self-in-Err g c =
-    let s = c.args.self.now in
-    let e = c.in-Err.ensures in
-    let x = undone g.S.Store s.conn c.add_database.new.conn s.origin.value s.last.value e.turns (dropped g.S.Store s.standing) (λ store same clean is up. e.undone clean up) in
-    record { standing = x }
+invariant_of-self-in-Err g c = record { standing = undone g.S.Store _ _ _ _ c.in-Err.ensures.turns (dropped g.S.Store c.args.self.now.standing) (λ store same clean is up. c.in-Err.ensures.undone clean up) }

@@ -1,4 +1,4 @@
-use Rattle.sqlstore.proofs.Lemmas.{List, Trees, ap, history_in, one_indexed, place_views, put_in_index, queried_document, revs_tree, same_values, stands_same, stands_then, sym, trees_of, was_honest, ℕ, ◌∙◌}
+use Rattle.sqlstore.proofs.Lemmas.{List, Trees, ap, history_in, inside, one_indexed, place_views, put_in_index, queried_document, revs_tree, stands_same, stands_then, sym, trees_of, was_honest, ℕ, ◌∙◌}
 use Rattle.sqlstore.proofs.sql_store.SqlStore.index_documents.Goals as goal
 
 pub loop-id-preserved : goal.loop-id-preserved
@@ -18,6 +18,6 @@ loop-id-preserved g c =
       stands = stands_then g.S.Store s mid end inv.stands e.stands;
       indexed = λ honest.
           let before = ap (λ (t : Trees). put_in_index fields id (queried_document id (history_in (t revs_tree) n id)) among) (stands_same g.S.Store s mid inv.stands) in
-          one_indexed fields history c.loop-id.ids.items c.pop.new.self.items id among after c.in-Some.ensures.items (sym before ∙ same_values _ _ (e.answer honest))
+          one_indexed fields history c.loop-id.ids.items c.pop.new.self.items id among after c.in-Some.ensures.items (sym before ∙ inside _ _ (e.answer honest))
           ∙ inv.indexed (was_honest g.S.Store mid end e.stands honest);
     }

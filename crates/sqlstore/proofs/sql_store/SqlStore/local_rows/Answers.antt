@@ -1,12 +1,8 @@
-use Rattle.sqlstore.proofs.Lemmas.{filter, finds, is_of, locals_tree, map, refl, rows_set, shown_local, still, ◌≡◌}
+use Rattle.sqlstore.proofs.Lemmas.{finds_rows, refl, still}
 use Rattle.sqlstore.proofs.sql_store.SqlStore.local_rows.Goals as goal
 
 pub invariant_of-self : goal.invariant_of-self
-invariant_of-self g c =
-    let s = c.args.self.now in
-    record { standing = still g.S.Store s.conn c.local_rows-rows.new.conn s.origin.value s.last.value c.local_rows-rows.ensures s.standing }
+invariant_of-self g c = record { standing = still g.S.Store _ _ _ _ c.local_rows-rows.ensures c.args.self.now.standing }
 
 pub returns : goal.returns
-returns g c =
-    finds g.S.Store c.args.self.now _ (λ trees rows. rows.items ≡ map shown_local (filter (is_of c.args.db.now c.args.id.now) (trees locals_tree))) (λ _ _. rows_set _ _) (λ _ _ is. is) c.local_rows-rows.result c.judge_answer.result refl refl
-    c.judge_answer.ensures.counted c.judge_answer.ensures.ok c.judge_answer.ensures.judged c.local_rows-rows.ensures
+returns g c = finds_rows g.S.Store _ _ _ c.judge_answer.result refl refl c.judge_answer.ensures.counted c.judge_answer.ensures.ok c.judge_answer.ensures.judged c.local_rows-rows.ensures

@@ -1,12 +1,8 @@
-use Rattle.sqlstore.proofs.Lemmas.{filter, finds, lies_between, listed_by_id, listed_id, refl, rows_set, still, ◌≡◌}
+use Rattle.sqlstore.proofs.Lemmas.{finds_rows, refl, still}
 use Rattle.sqlstore.proofs.sql_store.SqlStore.rows_between.Goals as goal
 
 pub invariant_of-self : goal.invariant_of-self
-invariant_of-self g c =
-    let s = c.args.self.now in
-    record { standing = still g.S.Store s.conn c.rows_between-rows.new.conn s.origin.value s.last.value c.rows_between-rows.ensures s.standing }
+invariant_of-self g c = record { standing = still g.S.Store _ _ _ _ c.rows_between-rows.ensures c.args.self.now.standing }
 
 pub returns : goal.returns
-returns g c =
-    finds g.S.Store c.args.self.now _ (λ trees rows. rows.items ≡ filter (λ s. lies_between c.args.first.now c.args.last.now (listed_id s)) (listed_by_id trees c.args.db.now)) (λ _ _. rows_set _ _) (λ _ _ is. is) c.rows_between-rows.result c.judge_answer.result refl refl
-    c.judge_answer.ensures.counted c.judge_answer.ensures.ok c.judge_answer.ensures.judged c.rows_between-rows.ensures
+returns g c = finds_rows g.S.Store _ _ _ c.judge_answer.result refl refl c.judge_answer.ensures.counted c.judge_answer.ensures.ok c.judge_answer.ensures.judged c.rows_between-rows.ensures

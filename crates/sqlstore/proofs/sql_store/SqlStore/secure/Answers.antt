@@ -8,9 +8,10 @@ invariant_of-self g c =
     let new = state g.S.Store c.change_security.new.conn in
     let text = c.as_str.ensures.value ∙ c.in_ok-text.ensures.text ∙ ap canonical c.value.ensures.value in
     let lawful = subst IsLawful c.value.ensures.value c.in_ok-text.ensures.lawful in
-    let x = stands g.S.Store s.conn c.change_security.new.conn s.origin.value s.last.value e.turns (dropped g.S.Store s.standing) e.done (IsSecured new.now c.args.name.now c.args.security.now)
-    (λ clean was is store same. secures new.now c.args.name.now _ _ store same c.args.number.now (c.requires (was, is)) c.args.security.now _ c.value.ensures.lawful lawful text (e.ok clean store)) c.of.result.value c.of.ensures in
-    record { standing = x }
+    record {
+      standing = stands g.S.Store s.conn c.change_security.new.conn s.origin.value s.last.value e.turns (dropped g.S.Store s.standing) e.done (IsSecured new.now c.args.name.now c.args.security.now)
+          (λ clean was is store same. secures new.now c.args.name.now _ _ store same c.args.number.now (c.requires (was, is)) c.args.security.now _ c.value.ensures.lawful lawful text (e.ok clean store)) c.of.result.value c.of.ensures;
+    }
 
 pub returns-in-Ok-clause-ok : goal.returns-in-Ok-clause-ok
 returns-in-Ok-clause-ok g c honest =
@@ -24,8 +25,4 @@ returns-in-Ok-clause-ok g c honest =
     ∙ ap (λ (h : Held g.row.S.Denot). Some (contents_in (state g.S.Store h).now.trees)) (sym c.of.ensures)
 
 pub invariant_of-self-in-Err : goal.invariant_of-self-in-Err
-invariant_of-self-in-Err g c =
-    let s = c.args.self.now in
-    let e = c.in-Err.ensures in
-    let x = undone g.S.Store s.conn c.change_security.new.conn s.origin.value s.last.value e.turns (dropped g.S.Store s.standing) (λ store same clean is up. e.undone clean up) in
-    record { standing = x }
+invariant_of-self-in-Err g c = record { standing = undone g.S.Store _ _ _ _ c.in-Err.ensures.turns (dropped g.S.Store c.args.self.now.standing) (λ store same clean is up. c.in-Err.ensures.undone clean up) }

@@ -1,4 +1,4 @@
-use Rattle.sqlstore.proofs.Lemmas.{SeqRow, Some, Trees, [], all_done, ap, arith, drop, drop_more, history_in, length, map, map-append, map-map, one_more, revs_tree, same_values, sequence_row_of, sequence_rows, stands_same, stands_then, sym, trees_of, was_honest, with_leaves, ◌++◌, ◌+◌, ◌∙◌, ◌∷◌, ◌≤◌}
+use Rattle.sqlstore.proofs.Lemmas.{SeqRow, Some, Trees, [], all_done, ap, arith, drop, drop_more, history_in, inside, length, map, map-append, map-map, one_more, revs_tree, sequence_row_of, sequence_rows, stands_same, stands_then, sym, trees_of, was_honest, with_leaves, ◌++◌, ◌+◌, ◌∙◌, ◌∷◌, ◌≤◌}
 use Rattle.sqlstore.proofs.sql_store.SqlStore.show_all_leaves.Goals as goal
 
 pub loop-row-preserved : goal.loop-row-preserved
@@ -22,7 +22,7 @@ loop-row-preserved g c =
       sequences = one_more number rows i row (map number shown) (map number c.push.new.self.items) next
           (ap (map number) c.in_ok-push.ensures.items ∙ map-append number shown (made ∷ []) ∙ ap (λ k. map number shown ++ k ∷ []) e.sequence) inv.sequences;
       shown = λ honest.
-          let told = sym (same_values _ _ (e.answer honest)) ∙ ap (λ (t : Trees). with_leaves (history_in (t revs_tree) n) (sequence_row_of row)) (stands_same g.S.Store s mid inv.stands) in
+          let told = sym (inside _ _ (e.answer honest)) ∙ ap (λ (t : Trees). with_leaves (history_in (t revs_tree) n) (sequence_row_of row)) (stands_same g.S.Store s mid inv.stands) in
           one_more leaves rows i row (sequence_rows shown) (sequence_rows c.push.new.self.items) next
           (ap sequence_rows c.in_ok-push.ensures.items ∙ map-append sequence_row_of shown (made ∷ []) ∙ ap (λ r. sequence_rows shown ++ r ∷ []) told) (inv.shown (was_honest g.S.Store mid end e.stands honest));
     }

@@ -1,4 +1,4 @@
-use Rattle.sqlstore.proofs.Lemmas.{Bool, Err, Held, addition_of, additions, ap, arith, false, length, length-map, missing, numbers_in, rules, state, there, trees_of, true, was_honest, ◌≡◌}
+use Rattle.sqlstore.proofs.Lemmas.{Bool, Held, addition_of, additions, ap, arith, false, length, length-map, missing, numbers_in, rules, state, there, told, trees_of, true, was_honest, ◌≡◌}
 use Rattle.sqlstore.proofs.Committed.{due_at, due_there, lacks_there}
 use Rattle.sqlstore.proofs.sql_store.calls.SqlStoreStore.commit.Goals as goal
 
@@ -6,9 +6,7 @@ true_not_false : (b : Bool) → b ≡ true → b ≡ false → ⊥
 true_not_false b has lacks = cc
 
 pub returns-in_err-found-clause-missing : goal.returns-in_err-found-clause-missing
-returns-in_err-found-clause-missing g c honest told =
-    let is : c.from_residual.result ≡ Err c.in_err-found.field-0.0 = search rules in
-    missing g.S.Store c.args.self.now c.find.new.self c.args.name.now c.from_residual.result c.in_err-found.field-0.0 is told c.in_err-found.ensures.answer honest
+returns-in_err-found-clause-missing g c honest told = missing g.S.Store c.args.self.now c.find.new.self c.args.name.now _ _ c.in_err-found.ensures.answer (search rules) told honest
 
 pub returns-then-not-has_room-clause-caused : goal.returns-then-not-has_room-clause-caused
 returns-then-not-has_room-clause-caused g c honest =

@@ -1,16 +1,8 @@
-use Rattle.sqlstore.proofs.Lemmas.{Answers, DatabaseNumbers, Err, Held, List, LocalDocument, Option, answered, ap, contents_of, filter, is_of, laid, local_at, local_intact, local_there, locals_tree, map, not_found, numbers_in, option_map, rules, shown_local, stands_then, state, subst, sym, there, trees_of, was_honest, ℕ, ∥∥₁_elim, ◌∙◌, ◌≡◌}
-use Rattle.std.specs.FinMap as finite
-use Rattle.store.specs.Database.{Database}
+use Rattle.sqlstore.proofs.Lemmas.{DatabaseNumbers, Held, List, answered, ap, filter, is_of, laid, local_intact, local_there, locals_tree, map, not_found, numbers_in, rules, shown_local, stands_then, state, there, trees_of, was_honest, ℕ, ∥∥₁_elim, ◌∙◌, ◌≡◌}
 use Rattle.sqlstore.proofs.sql_store.calls.SqlStoreStore.local.Goals as goal
 
 pub returns-in_err-found-clause-answer : goal.returns-in_err-found-clause-answer
-returns-in_err-found-clause-answer g c =
-    let s = c.args.self.now in
-    let f : Database → Option LocalDocument = λ db. local_at db c.args.id.now in
-    let defined : Option (Option LocalDocument) = option_map f (finite.get (contents_of g.S.Store s) c.args.name.now) in
-    let is : c.from_residual.result ≡ Err c.in_err-found.field-0.0 = search rules in
-    subst (Answers g.S.Store {X = Option LocalDocument} s c.find.new.self (λ v. v) defined) (sym is)
-    (not_found {X = DatabaseNumbers} g.S.Store s c.find.new.self c.args.name.now numbers_in (λ d. (d.number, d.sequence)) (λ v. v) f c.in_err-found.field-0.0 c.in_err-found.ensures.answer)
+returns-in_err-found-clause-answer g c = not_found {X = DatabaseNumbers} g.S.Store c.args.self.now c.find.new.self c.args.name.now numbers_in (λ d. (d.number, d.sequence)) _ _ _ _ c.in_err-found.ensures.answer (search rules)
 
 pub returns-clause-answer : goal.returns-clause-answer
 returns-clause-answer g c =

@@ -1,11 +1,9 @@
-use Rattle.sqlstore.proofs.Lemmas.{Err, ap, is_some, missing, numbers_in, on_ok, rules, there, trees_of, ◌≡◌}
+use Rattle.sqlstore.proofs.Lemmas.{ap, is_some, missing, numbers_in, on_ok, rules, there, told, trees_of}
 use Rattle.sqlstore.proofs.Changing.{was_honest}
 use Rattle.sqlstore.proofs.sql_store.calls.SqlStoreStore.remove.Goals as goal
 
 pub returns-in_err-found-clause-missing : goal.returns-in_err-found-clause-missing
-returns-in_err-found-clause-missing g c honest told =
-    let is : c.from_residual.result ≡ Err c.in_err-found.field-0.0 = search rules in
-    missing g.S.Store c.args.self.now c.find.new.self c.args.name.now c.from_residual.result c.in_err-found.field-0.0 is told c.in_err-found.ensures.answer honest
+returns-in_err-found-clause-missing g c honest told = missing g.S.Store c.args.self.now c.find.new.self c.args.name.now _ _ c.in_err-found.ensures.answer (search rules) told honest
 
 pub returns-clause-there : goal.returns-clause-there
 returns-clause-there g c honest =

@@ -1,20 +1,11 @@
-use Rattle.sqlstore.proofs.Lemmas.{Answers, Err, KnownDatabase, Option, answered, contents_of, found_in, known_so, known_values, laid, not_found, option_map, reads, rules, security_intact, security_there, subst, sym, there, trees_of, was_honest, ∥∥₁_elim, ◌≡◌}
-use Rattle.std.specs.FinMap as map
-use Rattle.couch_json.specs.Value as json
-use Rattle.store.specs.Database.{Database}
+use Rattle.sqlstore.proofs.Lemmas.{KnownDatabase, answered, found_in, known_so, known_values, laid, not_found, reads, rules, security_intact, security_there, there, trees_of, was_honest, ∥∥₁_elim}
 use Rattle.sqlstore.proofs.sql_store.calls.SqlStoreStore.security.Goals as goal
 
 pub invariant_of-self : goal.invariant_of-self
 invariant_of-self g c = record { standing = known_so g.S.Store c.args.self.now c.know.new.self c.args.name.now c.in_ok-known.known c.know.ensures.stands c.in_ok-known.ensures.named c.in_ok-known.ensures.answer }
 
 pub returns-in_err-known-clause-answer : goal.returns-in_err-known-clause-answer
-returns-in_err-known-clause-answer g c =
-    let s = c.args.self.now in
-    let f : Database → json.Value = λ db. db.security in
-    let defined : Option json.Value = option_map f (map.get (contents_of g.S.Store s) c.args.name.now) in
-    let is : c.from_residual.result ≡ Err c.in_err-known.field-0.0 = search rules in
-    subst (Answers g.S.Store {X = json.Value} s c.know.new.self (λ v. v) defined) (sym is)
-    (not_found {X = KnownDatabase} g.S.Store s c.know.new.self c.args.name.now found_in known_values (λ v. v) f c.in_err-known.field-0.0 c.in_err-known.ensures.answer)
+returns-in_err-known-clause-answer g c = not_found {X = KnownDatabase} g.S.Store c.args.self.now c.know.new.self c.args.name.now found_in known_values _ _ _ _ c.in_err-known.ensures.answer (search rules)
 
 pub returns-clause-answer : goal.returns-clause-answer
 returns-clause-answer g c =

@@ -1,10 +1,8 @@
-use Rattle.sqlstore.proofs.Lemmas.{Err, IfThere, IsBody, missing, numbers_in, rules, subst, there, trees_of, was_honest, ◌≡◌}
+use Rattle.sqlstore.proofs.Lemmas.{IfThere, IsBody, missing, numbers_in, rules, subst, there, told, trees_of, was_honest}
 use Rattle.sqlstore.proofs.sql_store.calls.SqlStoreStore.set_local.Goals as goal
 
 pub returns-in_err-found-clause-missing : goal.returns-in_err-found-clause-missing
-returns-in_err-found-clause-missing g c honest told =
-    let is : c.from_residual.result ≡ Err c.in_err-found.field-0.0 = search rules in
-    missing g.S.Store c.args.self.now c.find.new.self c.args.name.now c.from_residual.result c.in_err-found.field-0.0 is told c.in_err-found.ensures.answer honest
+returns-in_err-found-clause-missing g c honest told = missing g.S.Store c.args.self.now c.find.new.self c.args.name.now _ _ c.in_err-found.ensures.answer (search rules) told honest
 
 pub put_local-requires-clause-body : goal.put_local-requires-clause-body
 put_local-requires-clause-body g c honest =

@@ -1,5 +1,0 @@
-use Rattle.sqlstore.proofs.Common.{memory_is_clean}
-use Rattle.sqlstore.proofs.in_memory.MemoryStoreStore.commit.Goals as goal
-
-pub invariant_of-self : goal.invariant_of-self
-invariant_of-self c = record { honest = c.commit.ensures.changes.goes_on.steady c.args.self.now.honest (memory_is_clean c.commit.new.self.conn) }
