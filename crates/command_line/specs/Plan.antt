@@ -1,19 +1,26 @@
 -- What the words of a command line ask for.
 -- How words are read is clap's, as the kit's definitions of it say; the commands, their words and the range of their numbers are this project's own.
-use Rattle.std.specs.Prelude.{ℕ, Bool, true, ◌&&◌, nat_le, nat_lt, length, List, [], ◌∷◌, map, codes, Option, Some, None, option_map, option_and_then, unwrap_or, bytes_eq, string_bytes, if◌then◌else◌}
+use Rattle.std.specs.Prelude.{ℕ, ◌==◌, Bool, true, not, ◌&&◌, ◌||◌, nat_le, nat_lt, length, List, [], ◌∷◌, map, codes, Option, Some, None, option_map, option_and_then, unwrap_or, bytes_eq, string_bytes, if◌then◌else◌}
 use Rattle.std.specs.Char.{is_ascii_digit}
 use Rattle.std.specs.List.{list_all}
 use Rattle.std.specs.Str.Parse.{digits_value}
 use Rattle.clap.specs.declared.builder.ArgAction.TheVariants.{Set, Append}
 use Rattle.clap.specs.Words.{App, Kinds, Row, Rule, Shape, Text, all_of, fault_of, first_of, new_app, new_rule, subcommand_of, with_rule, with_subcommand}
 use Rattle.command_line.specs.declared.plans.Plan.{Plan}
-use Rattle.command_line.specs.declared.plans.Plan.TheVariants.{Lab, Serve}
+use Rattle.command_line.specs.declared.plans.Plan.TheVariants.{Lab, Serve, Sync}
+use Rattle.command_line.specs.declared.plans.SyncPlan.{SyncPlan}
+use Rattle.command_line.specs.declared.plans.SyncTarget.{SyncTarget}
+use Rattle.command_line.specs.declared.plans.SyncTarget.TheVariants.{File, Address}
 
 -- ---- the commands
 
 -- `--NAME VALUE`, which has to be given
 abbrev pub required_option : Text → Rule
 required_option name = record (new_rule name) { long = Some name; action = Some Set; required = true }
+
+-- `--NAME VALUE`, which may be given
+abbrev pub optional_option : Text → Rule
+optional_option name = record (new_rule name) { long = Some name; action = Some Set }
 
 -- `[ADMIN]...`
 abbrev pub admin_rule : Rule
@@ -32,13 +39,23 @@ abbrev pub serve_command : Shape
 serve_command = (with_rule (with_rule (with_rule (with_rule (with_rule (command_named (codes "serve"))
     (required_option (codes "secret"))) (required_option (codes "file"))) (required_option (codes "port"))) (required_option (codes "conns"))) admin_rule).top
 
+-- the words of `sync` that have to be given
+abbrev pub sync_options : App
+sync_options = with_rule (with_rule (with_rule (with_rule (with_rule (command_named (codes "sync"))
+    (required_option (codes "secret"))) (required_option (codes "session"))) (required_option (codes "from"))) (required_option (codes "db"))) (required_option (codes "target-db"))
+
+-- `sync --secret S --session T --from F --db D [--to G | --address A] --target-db E [--user U] [ADMIN]...`, where the order plays no part
+abbrev pub sync_command : Shape
+sync_command = (with_rule (with_rule (with_rule (with_rule sync_options
+    (optional_option (codes "to"))) (optional_option (codes "address"))) (optional_option (codes "user"))) admin_rule).top
+
 -- a command that has to be followed by another
 abbrev pub bare_command : App
 bare_command = record { top = record ((new_app (codes "couchd")).top) { disable_help_flag = true; disable_help_subcommand = true; subcommand_required = true }; subs = [] }
 
 -- the program's commands
 abbrev pub couchd_command : App
-couchd_command = with_subcommand (with_subcommand bare_command lab_command) serve_command
+couchd_command = with_subcommand (with_subcommand (with_subcommand bare_command lab_command) serve_command) sync_command
 
 -- ---- numbers
 
@@ -69,12 +86,30 @@ pub record ServerAsked : Type 0 where
   pub conns : ℕ
   pub admins : List (List ℕ)
 
+-- what a pass copies to: the store in a file, or a server
+pub data TargetAsked : Type 0 where
+  file_asked : Text → TargetAsked
+  address_asked : Text → TargetAsked
+
+-- what is to be copied: the secret and the admins of the nodes, the session, the paths and the names of both sides, and the user in whose name
+pub record SyncAsked : Type 0 where
+  pub secret : Text
+  pub session : Text
+  pub from : Text
+  pub database : Text
+  pub target : TargetAsked
+  pub target_database : Text
+  pub user : Option Text
+  pub admins : List Text
+
 -- what the program is asked to do
 pub data Asked : Type 0 where
   -- to play a script, with this secret and these admins
   lab_asked : List ℕ → List (List ℕ) → Asked
   -- to serve a file
   serve_asked : ServerAsked → Asked
+  -- to copy a database
+  sync_asked : SyncAsked → Asked
 
 -- the names of admins among the words
 abbrev pub admins_in : List Row → List Text
@@ -92,11 +127,49 @@ serve_asked_by rows =
     (option_and_then conns_in (first_of (codes "conns") rows))) (option_and_then port_in (first_of (codes "port") rows)))
     (first_of (codes "file") rows)) (first_of (codes "secret") rows)
 
+-- a file that isn't the source's own
+abbrev pub file_beside : Text → Text → Option TargetAsked
+file_beside from to = if bytes_eq from to then None else Some (file_asked to)
+
+-- just one of a file and an address, beside the source's file
+abbrev pub target_in : Text → Option Text → Option Text → Option TargetAsked
+target_in from (Some to) None = file_beside from to
+target_in from None (Some address) = Some (address_asked address)
+target_in from to address = None
+
+-- a byte may stand in a header: it is no NUL and ends no line
+abbrev pub is_header_byte : ℕ → Bool
+is_header_byte b = not (b == 0 || (b == 10 || b == 13))
+
+-- the name of a user, who goes into a header; none where none is given
+abbrev pub user_in : Option Text → Option (Option Text)
+user_in None = Some None
+user_in (Some name) = if list_all is_header_byte name then Some (Some name) else None
+
+-- what the words after `sync` ask for
+abbrev pub sync_asked_by : List Row → Option Asked
+sync_asked_by rows =
+    option_and_then (λ secret. option_and_then (λ session. option_and_then (λ from. option_and_then (λ database. option_and_then (λ target.
+    option_and_then (λ target_database. option_map (λ user.
+    sync_asked (record {
+      secret = secret;
+      session = session;
+      from = from;
+      database = database;
+      target = target;
+      target_database = target_database;
+      user = user;
+      admins = admins_in rows;
+    }))
+    (user_in (first_of (codes "user") rows))) (first_of (codes "target-db") rows))
+    (target_in from (first_of (codes "to") rows) (first_of (codes "address") rows))) (first_of (codes "db") rows)) (first_of (codes "from") rows))
+    (first_of (codes "session") rows)) (first_of (codes "secret") rows)
+
 -- what the command of this name and what clap made of its words ask for
 abbrev pub asked_at : Text → List Row → Option Asked
 asked_at name rows =
     if bytes_eq name (codes "lab") then lab_asked_by rows
-    else (if bytes_eq name (codes "serve") then serve_asked_by rows else None)
+    else (if bytes_eq name (codes "serve") then serve_asked_by rows else (if bytes_eq name (codes "sync") then sync_asked_by rows else None))
 
 -- the same, where clap has nothing to refuse
 abbrev pub asked_unless : Kinds → Option (Text × List Row) → Option Asked
@@ -107,8 +180,27 @@ asked_unless (kind ∷ kinds) command = None
 abbrev pub asked_by : List Text → Option Asked
 asked_by words = asked_unless (fault_of couchd_command words) (subcommand_of couchd_command words)
 
+-- the program's target as the definition's
+abbrev pub target_of : SyncTarget → TargetAsked
+target_of (File path) = file_asked (string_bytes path)
+target_of (Address address) = address_asked (string_bytes address)
+
+-- the program's plan of a pass as the definition's
+abbrev pub sync_of : SyncPlan → SyncAsked
+sync_of p = record {
+  secret = string_bytes p.secret;
+  session = string_bytes p.session;
+  from = string_bytes p.from;
+  database = string_bytes p.database;
+  target = target_of p.target;
+  target_database = string_bytes p.target_database;
+  user = option_map string_bytes p.user;
+  admins = map string_bytes p.admins.items;
+}
+
 -- the program's plan as the definition's
 abbrev pub asked_of : Plan → Asked
 asked_of (Lab secret admins) = lab_asked (string_bytes secret) (map string_bytes admins.items)
 asked_of (Serve secret file port conns admins) =
     serve_asked (record { secret = string_bytes secret; file = string_bytes file; port = port; conns = conns; admins = map string_bytes admins.items })
+asked_of (Sync plan) = sync_asked (sync_of plan)

@@ -1,13 +1,13 @@
 //! The command line.
 
-ghost use Rattle.std.specs.Prelude.{◌≡◌, ◌≢◌, ◌≤◌, None, Some, [], false, IfErr, IfOk, IfSome, codes, map, option_and_then, string_bytes, unwrap_or};
+ghost use Rattle.std.specs.Prelude.{◌≡◌, ◌≢◌, ◌≤◌, None, Some, [], false, IfErr, IfOk, IfSome, codes, map, option_and_then, option_map, string_bytes, unwrap_or};
 ghost use Rattle.std.specs.Char.{is_ascii_digit};
 ghost use Rattle.std.specs.List.{list_all};
 ghost use Rattle.clap.specs.declared.builder.command.Command.TheViews.{out-Command as fields_of};
 ghost use Rattle.clap.specs.Words.{all_of, app_of, fault_of, first_of, found_of, kind_of, rows_of, rule_of, shape_of, subcommand_of, subcommand_rows_of};
-ghost use Rattle.command_line.specs.Plan.{admin_rule, asked_at, asked_by, asked_of, couchd_command, is_numeral, lab_asked_by, lab_command, number_between, port_in, required_option, serve_asked_by, serve_command};
+ghost use Rattle.command_line.specs.Plan.{admin_rule, asked_at, asked_by, asked_of, couchd_command, file_beside, is_header_byte, is_numeral, lab_asked_by, lab_command, number_between, optional_option, port_in, required_option, serve_asked_by, serve_command, sync_asked_by, sync_command, sync_options, target_in, target_of, user_in};
 
-use crate::plans::{Plan, PlanFault};
+use crate::plans::{Plan, PlanFault, SyncPlan, SyncTarget};
 use clap::error::ErrorKind;
 use clap::{Arg, ArgAction, ArgMatches, Command, Error};
 use std::alloc::{AllocError, Global};
@@ -44,18 +44,20 @@ fn parse<'a>(alloc: Global, words: &'a [String]) -> Result<ArgMatches<'a>, Error
     command.try_get_matches_from(words)
 }
 
-/// Returns the command `couchd`, with the commands `lab` and `serve`.
+/// Returns the command `couchd`, with the commands `lab`, `serve` and `sync`.
 fn couchd_command<'a>(alloc: Global) -> Result<Command<'a>, AllocError>
     ensures { IfOk result (λ command. app_of command ≡ couchd_command) }
 {
     let lab = lab_command(alloc)?;
     let serve = serve_command(alloc)?;
+    let sync = sync_command(alloc)?;
     let couchd = Command::new(alloc, "couchd")
         .disable_help_flag(true)
         .disable_help_subcommand(true)
         .subcommand_required(true)
         .subcommand(lab)?
-        .subcommand(serve)?;
+        .subcommand(serve)?
+        .subcommand(sync)?;
     Ok(couchd)
 }
 
@@ -93,6 +95,52 @@ fn serve_command<'a>(alloc: Global) -> Result<Command<'a>, AllocError>
     Ok(serve)
 }
 
+/// Returns the command `sync --secret S --session T --from F --db D [--to G | --address A]
+/// --target-db E [--user U] [ADMIN]...`. It takes both of `--to` and `--address`, and neither.
+fn sync_command<'a>(alloc: Global) -> Result<Command<'a>, AllocError>
+    ensures shape { IfOk result (λ command. shape_of command ≡ sync_command) }
+    ensures local { IfOk result (λ command. (fields_of command).has_globals ≡ false) }
+{
+    let to = optional_option(alloc, "to");
+    let address = optional_option(alloc, "address");
+    let user = optional_option(alloc, "user");
+    let admins = admin_words(alloc);
+    let sync = sync_options(alloc)?
+        .arg(to)?
+        .arg(address)?
+        .arg(user)?
+        .arg(admins)?;
+    Ok(sync)
+}
+
+/// Returns the command `sync` with the options that have to be given.
+fn sync_options<'a>(alloc: Global) -> Result<Command<'a>, AllocError>
+    ensures app { IfOk result (λ command. app_of command ≡ sync_options) }
+    ensures local { IfOk result (λ command. (fields_of command).has_globals ≡ false) }
+{
+    let secret = required_option(alloc, "secret");
+    let session = required_option(alloc, "session");
+    let from = required_option(alloc, "from");
+    let database = required_option(alloc, "db");
+    let target_database = required_option(alloc, "target-db");
+    let sync = Command::new(alloc, "sync")
+        .disable_help_flag(true)
+        .arg(secret)?
+        .arg(session)?
+        .arg(from)?
+        .arg(database)?
+        .arg(target_database)?;
+    Ok(sync)
+}
+
+/// Returns the argument `--NAME VALUE`, which may be given.
+fn optional_option<'a>(alloc: Global, name: &'a str) -> Arg<'a>
+    ensures rule { rule_of result ≡ optional_option name.now }
+    ensures local { result.global ≡ false }
+{
+    Arg::new(alloc, name).long(name).action(ArgAction::Set)
+}
+
 /// Returns the argument `--NAME VALUE`, which has to be given.
 fn required_option<'a>(alloc: Global, name: &'a str) -> Arg<'a>
     ensures rule { rule_of result ≡ required_option name.now }
@@ -121,6 +169,8 @@ fn plan_at(alloc: Global, name: &str, matches: &ArgMatches<'_>) -> Result<Plan, 
         lab_plan(alloc, matches)
     } else if name == "serve" {
         serve_plan(alloc, matches)
+    } else if name == "sync" {
+        sync_plan(alloc, matches)
     } else {
         Err(PlanFault::Usage)
     }
@@ -153,6 +203,92 @@ fn serve_plan(alloc: Global, matches: &ArgMatches<'_>) -> Result<Plan, PlanFault
         conns,
         admins,
     })
+}
+
+/// Returns the plan of the words after `sync`.
+fn sync_plan(alloc: Global, matches: &ArgMatches<'_>) -> Result<Plan, PlanFault>
+    ensures ok { IfOk result (λ plan. sync_asked_by (rows_of (found_of matches.now)) ≡ Some (asked_of plan)) }
+    ensures usage { result ≡ Err PlanFault.Usage → sync_asked_by (rows_of (found_of matches.now)) ≡ None }
+{
+    let secret = text_at(alloc, matches, "secret")?;
+    let session = text_at(alloc, matches, "session")?;
+    let from = text_at(alloc, matches, "from")?;
+    let database = text_at(alloc, matches, "db")?;
+    let to = option_at(alloc, matches, "to")?;
+    let address = option_at(alloc, matches, "address")?;
+    let target = choose_target(&from, to, address)?;
+    let target_database = text_at(alloc, matches, "target-db")?;
+    let user = check_user(option_at(alloc, matches, "user")?)?;
+    let admins = admins_of(alloc, matches)?;
+    Ok(Plan::Sync(SyncPlan {
+        secret,
+        session,
+        from,
+        database,
+        target,
+        target_database,
+        user,
+        admins,
+    }))
+}
+
+/// Returns the value of an option that may be given, if it is.
+fn option_at(
+    alloc: Global,
+    matches: &ArgMatches<'_>,
+    name: &str,
+) -> Result<Option<String>, AllocError>
+    ensures { IfOk result (λ text. first_of name.now (rows_of (found_of matches.now)) ≡ option_map string_bytes text) }
+{
+    match matches.get_str(name) {
+        Some(text) => Ok(Some(String::from_str(alloc, text)?)),
+        None => Ok(None),
+    }
+}
+
+/// Returns the target of a pass from this file: just one of a file, which is another, and an address.
+fn choose_target(
+    from: &str,
+    to: Option<String>,
+    address: Option<String>,
+) -> Result<SyncTarget, PlanFault>
+    ensures ok { IfOk result (λ target. target_in from.now (option_map string_bytes to) (option_map string_bytes address) ≡ Some (target_of target)) }
+    ensures usage { IfErr result (λ _. target_in from.now (option_map string_bytes to) (option_map string_bytes address) ≡ None) }
+{
+    match (to, address) {
+        (Some(to), None) => file_beside(from, to),
+        (None, Some(address)) => Ok(SyncTarget::Address(address)),
+        (Some(_), Some(_)) | (None, None) => Err(PlanFault::Usage),
+    }
+}
+
+/// Returns a file as a target, where it isn't the source's own.
+fn file_beside(from: &str, to: String) -> Result<SyncTarget, PlanFault>
+    ensures ok { IfOk result (λ target. file_beside from.now (string_bytes to) ≡ Some (target_of target)) }
+    ensures usage { IfErr result (λ _. file_beside from.now (string_bytes to) ≡ None) }
+{
+    if from == to.as_str() {
+        return Err(PlanFault::Usage);
+    }
+    Ok(SyncTarget::File(to))
+}
+
+/// Returns a user, if one is named, whose name can stand in a header.
+fn check_user(user: Option<String>) -> Result<Option<String>, PlanFault>
+    ensures ok { IfOk result (λ kept. user_in (option_map string_bytes user) ≡ Some (option_map string_bytes kept)) }
+    ensures usage { IfErr result (λ _. user_in (option_map string_bytes user) ≡ None) }
+{
+    match user {
+        Some(name) if !are_header_bytes(name.as_bytes()) => Err(PlanFault::Usage),
+        _ => Ok(user),
+    }
+}
+
+/// Tells whether all bytes may stand in a header (RFC 9110, section 5.5).
+fn are_header_bytes(bytes: &[u8]) -> bool
+    ensures { result ≡ list_all is_header_byte bytes.now }
+{
+    bytes.iter().all(|byte| !matches!(byte, 0 | b'\n' | b'\r'))
 }
 
 /// Returns the value of an option.
@@ -192,7 +328,7 @@ fn number_at(matches: &ArgMatches<'_>, name: &str, least: u32, most: u32) -> Res
 }
 
 /// Reads a number between two others, in decimal digits alone.
-fn read_number(text: &str, least: u32, most: u32) -> Option<u32>
+pub fn read_number(text: &str, least: u32, most: u32) -> Option<u32>
     ensures number { result ≡ number_between least most text.now }
     ensures most { IfSome result (λ number. number ≤ most) }
 {

@@ -7,8 +7,8 @@ mod plans;
 mod refusal;
 mod words;
 
-pub use command_line::plan;
+pub use command_line::{plan, read_number};
 pub use fault::ProgramFault;
-pub use plans::{Plan, PlanFault};
+pub use plans::{Plan, PlanFault, SyncPlan, SyncTarget};
 pub use refusal::Refusal;
 pub use words::words_of;

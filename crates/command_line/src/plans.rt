@@ -24,6 +24,55 @@ pub enum Plan {
         /// The names of the server's admins.
         admins: Vec<String>,
     },
+    /// `sync --secret S --session T --from F --db D [--to G | --address A] --target-db E [--user U]
+    /// [ADMIN]...`: copy what a database in a file has and another lacks.
+    Sync(SyncPlan),
+}
+
+/// What is to be copied, from where and to where, and in whose name.
+#[derive(Debug)]
+pub struct SyncPlan {
+    /// The secret of the proxy's tokens.
+    pub secret: String,
+    /// The name of the session, which the checkpoints keep.
+    pub session: String,
+    /// The path of the source's file.
+    pub from: String,
+    /// The name of the source database.
+    pub database: String,
+    /// Where the target database is.
+    pub target: SyncTarget,
+    /// The name of the target database.
+    pub target_database: String,
+    /// The user of each request, if there is one.
+    pub user: Option<String>,
+    /// The names of the admins of the stores in files.
+    pub admins: Vec<String>,
+}
+
+// Written out, so that callers do not prove again how each part is dropped.
+impl Drop for SyncPlan {
+    fn drop(self) {
+        let SyncPlan {
+            secret: _,
+            session: _,
+            from: _,
+            database: _,
+            target: _,
+            target_database: _,
+            user: _,
+            admins: _,
+        } = self;
+    }
+}
+
+/// Where the target of a pass is.
+#[derive(Debug, Drop)]
+pub enum SyncTarget {
+    /// In the store in the file of this path, which isn't the source's.
+    File(String),
+    /// At the server of this address, as `127.0.0.1:5984`.
+    Address(String),
 }
 
 /// Why words are no plan.

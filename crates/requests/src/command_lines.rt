@@ -1,5 +1,5 @@
 use crate::texts::text_of;
-use command_line::{Plan, PlanFault, Refusal, plan};
+use command_line::{Plan, PlanFault, Refusal, SyncPlan, SyncTarget, plan};
 use rows::{Kind, RowsFault, push_all};
 use std::alloc::Global;
 
@@ -30,6 +30,7 @@ impl Kind for CommandLines {
                 let front = format!(in self.alloc; "serve {file} at {port}, {conns} connections")?;
                 show_asked(front, secret.as_str(), &admins)
             }
+            Ok(Plan::Sync(plan)) => show_sync(self.alloc, &plan),
             Err(PlanFault::Memory) => Err(RowsFault::Memory),
             Err(fault) => show_refusal(self.alloc, Refusal::from(fault)),
         }
@@ -53,6 +54,36 @@ fn show_asked(front: String, secret: &str, admins: &[String]) -> Result<Vec<u8>,
         push_all(&mut text, &[", admin ", admin.as_str()])?;
     }
     Ok(text.into_bytes())
+}
+
+/// Answers with what is to be copied.
+fn show_sync(alloc: Global, plan: &SyncPlan) -> Result<Vec<u8>, RowsFault> {
+    let (kind, place) = match &plan.target {
+        SyncTarget::File(path) => ("file", path),
+        SyncTarget::Address(address) => ("server", address),
+    };
+    let mut front = String::from_str(alloc, "sync ")?;
+    push_all(
+        &mut front,
+        &[
+            &plan.from,
+            " ",
+            &plan.database,
+            " to ",
+            kind,
+            " ",
+            place,
+            " ",
+        ],
+    )?;
+    push_all(
+        &mut front,
+        &[&plan.target_database, ", session ", &plan.session],
+    )?;
+    if let Some(user) = &plan.user {
+        push_all(&mut front, &[", user ", user])?;
+    }
+    show_asked(front, &plan.secret, &plan.admins)
 }
 
 /// Answers with the status and the words of a refusal.

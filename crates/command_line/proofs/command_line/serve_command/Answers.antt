@@ -1,11 +1,9 @@
-use Rattle.std.proofs.Common.{◌≡◌, ◌∙◌, ap, ap₂, codes, true}
+use Rattle.std.proofs.Common.{◌≡◌, ◌∙◌, ap, ap₂, codes}
 use Rattle.clap.specs.Words.{App, app_of, with_rule}
 use Rattle.clap.specs.Simple.{app_of_fields}
 use Rattle.command_line.specs.Plan.{command_named}
+use Rattle.command_line.proofs.Asking.{without_help}
 use Rattle.command_line.proofs.command_line.serve_command.Goals as goal
-
-abbrev without_help : App → App
-without_help a = record a { top = record a.top { disable_help_flag = true } }
 
 pub returns-clause-shape : goal.returns-clause-shape
 returns-clause-shape c =
