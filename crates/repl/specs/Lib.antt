@@ -10,3 +10,4 @@ pub mod Replies
 pub mod Taken
 pub mod Passes
 pub mod Asks
+pub mod Ending

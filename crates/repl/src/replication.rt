@@ -7,6 +7,7 @@ ghost use Rattle.repl.specs.Asks.{ask_of, pass_of, report_of};
 ghost use Rattle.repl.specs.Calls.{read_checkpoint, request_of, write_checkpoint, open_revisions};
 ghost use Rattle.repl.specs.Checkpoints.{checkpoint_id, history_of};
 ghost use Rattle.repl.specs.Configuration.{batch_size, configuration_of};
+ghost use Rattle.repl.specs.Ending.{progress_of};
 ghost use Rattle.repl.specs.Kept.{checkpoint_of, session_of};
 ghost use Rattle.repl.specs.Listed.{revisions_of};
 ghost use Rattle.repl.specs.Passes.{answered_in, answered_of, asked_of, checkpoint_after, fills, first_of_pending, first_pass, has_ended, is_written, lost_of, phase_after_list, phase_after_round, with_failures, with_opened, phase_after_loss, phase_with, sent_to, summary_of, with_loss};
@@ -24,6 +25,7 @@ use crate::count::Count;
 use crate::opened::{OpenedRevision, differences_read, revisions_opened};
 use crate::opened_parts::{append_both, documents_of, missing_reports};
 use crate::phase::Phase;
+use crate::progress::Progress;
 use crate::pushed::documents_pushed;
 use crate::replies::{changes_listed, checkpoint_read, checkpoint_written};
 use crate::report::Report;
@@ -151,6 +153,16 @@ impl Replication {
         ensures { result ≡ has_ended (pass_of self.now) }
     {
         matches!(self.phase, Phase::Done | Phase::Stopped(_))
+    }
+
+    /// Tells how far the pass is. Takes no memory.
+    pub fn progress(&self) -> Progress
+        ensures { result ≡ progress_of (pass_of self.now) }
+    {
+        Progress {
+            sent: self.sent.value(),
+            last_seq: self.last_seq.value(),
+        }
     }
 
     /// Asks a side for its checkpoint.

@@ -1,9 +1,9 @@
-ghost use Rattle.std.specs.Prelude.{◌≡◌, ◌<◌, ◌^◌, pos, IfOk, map};
+ghost use Rattle.std.specs.Prelude.{◌≡◌, ◌<◌, ◌^◌, pos, IfOk, map, string_bytes};
 ghost use Rattle.couch_json.specs.Value.{whole as whole_value};
 ghost use Rattle.couch_json.specs.View.{view};
 
 use crate::count::Count;
-use couch_json::{Got, Json, Number, put_member};
+use couch_json::{Got, Json, Number, canon, put_member};
 use std::alloc::Global;
 use std::collections::BTreeMap;
 
@@ -37,6 +37,7 @@ impl Drop for Report {
 
 impl Report {
     ghost use Rattle.repl.specs.Asks.{report_of};
+    ghost use Rattle.repl.specs.Ending.{summary_text};
     ghost use Rattle.repl.specs.Passes.{summary_value};
 
     /// Makes the report of these numbers, with a copy of what was refused.
@@ -74,6 +75,15 @@ impl Report {
         put_member(alloc, &mut members, "sent", whole(self.sent))?;
         put_member(alloc, &mut members, "start_seq", whole(self.start_seq))?;
         Ok(Json::Object(members))
+    }
+
+    /// Returns the canonical JSON text of the report.
+    #[tactic(auto, unfolding(crate::specs::Ending::summary_text))]
+    pub fn text(&self, alloc: Global) -> Got<String>
+        ensures { IfOk result (λ text. string_bytes text ≡ summary_text (report_of self.now)) }
+    {
+        let value = self.to_json(alloc)?;
+        canon(alloc, &value)
     }
 }
 
