@@ -1,6 +1,7 @@
 -- The program's lines as the definition's.
 -- This project's own.
 use Rattle.std.specs.Prelude.{option_map}
+use Rattle.repl.specs.Configuration.{batch_size}
 use Rattle.lab.specs.declared.line.Line.{Line}
 use Rattle.lab.specs.declared.line.Line.TheVariants.{Node, Public, Conn, Send, Close, Repl, Turn}
 use Rattle.lab.specs.declared.repl_line.PassSession.{PassSession as ReadSession}
@@ -26,6 +27,7 @@ pass_said w = record {
   target = side_said w.target;
   session = w.session.now;
   user = option_map (λ user. user.now) w.user;
+  batch = option_map batch_size w.batch;
 }
 
 abbrev pub said_by : Line → ScriptLine

@@ -1,13 +1,11 @@
 -- What a script prints.
 -- This project's own.
 use Rattle.std.specs.Prelude.{ℕ, Bool, ◌==◌, List, [], ◌∷◌, ◌++◌, codes, decimal, if◌then◌else◌}
-use Rattle.couch_json.specs.Canonical.{canonical}
 use Rattle.couch_http.specs.Message.{Message}
 use Rattle.couch_http.specs.Reply.{Reply}
 use Rattle.couch_http.specs.RequestText.{query_text}
-use Rattle.repl.specs.Passes.{Asked, Summary, to_source, to_target, done, stopped_by, summary_value}
-use Rattle.repl.specs.declared.why.Why.{Why}
-use Rattle.repl.specs.declared.why.Why.TheVariants.{Status, Reply as BadReply, Lost}
+use Rattle.repl.specs.Ending.{summary_text, why_text}
+use Rattle.repl.specs.Passes.{Asked, to_source, to_target, done, stopped_by}
 
 -- a reply on the connection of this name: `c STATUS BODY` and a line feed
 abbrev pub reply_line : List ℕ → Reply → List ℕ
@@ -47,16 +45,6 @@ outcome_end status = codes " " ++ (outcome_text status ++ 10 ∷ [])
 -- an exchange of the pass of this name: `r source METHOD TARGET STATUS`, or `r target ..`, and a line feed
 abbrev pub step_line_of : List ℕ → Bool → Message → ℕ → List ℕ
 step_line_of name at_target m status = side_words name at_target ++ (request_words m ++ outcome_end status)
-
--- why a pass stopped
-abbrev pub why_text : Why → List ℕ
-why_text (Status status) = codes "status " ++ decimal status
-why_text BadReply = codes "reply"
-why_text Lost = codes "lost"
-
--- the canonical JSON text of a report
-unfoldable pub summary_text : Summary → List ℕ
-summary_text s = canonical (summary_value s)
 
 -- the end of the pass of this name: `r done REPORT` or `r stopped WHY REPORT`, and a line feed; nothing while it has a request
 abbrev pub end_line_of : List ℕ → Asked → List ℕ

@@ -78,7 +78,7 @@ Opens before node name after =
 abbrev pub account_named : Configuration → List ℕ → Account
 account_named c name = record { name = name; roles = []; token = token_of c.secret name }
 
--- what a pass of these words is told: it has no batch
+-- what a pass of these words is told
 abbrev pub pass_configuration : Configuration → PassWords → PassConfiguration
 pass_configuration c words = record {
   source = words.source.text;
@@ -87,7 +87,7 @@ pass_configuration c words = record {
   target_db = words.target.database;
   user = option_map (account_named c) words.user;
   session = words.session;
-  batch = None;
+  batch = words.batch;
 }
 
 -- the network with one more pass between the nodes of these numbers

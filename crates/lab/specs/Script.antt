@@ -4,7 +4,7 @@ use Rattle.std.specs.Prelude.{ℕ, ◌&&◌, List, codes, Option, Some, None, op
 use Rattle.store.specs.DatabaseName.{is_database_name}
 use Rattle.lab.specs.Words.{parts_at_space, is_word, is_node_name}
 use Rattle.lab.specs.Escapes.{unescaped_text}
-use Rattle.lab.specs.PassLines.{PassWords, pass_words_of}
+use Rattle.lab.specs.PassLines.{PassWords, batch_pass_of, pass_words_of}
 use Rattle.lab.specs.declared.turn.Turn.{Turn}
 use Rattle.lab.specs.declared.turn.Turn.TheVariants.{Step, Lose, Unsent, Run}
 
@@ -47,7 +47,11 @@ close_of name = if is_word name then Some (close_line name) else None
 
 -- `repl r A/db B/db SESSION [NAME]`, where this is all but the first word
 abbrev pub repl_of : List ℕ → Option ScriptLine
-repl_of words = option_map (λ pass. repl_line pass) (pass_words_of words)
+repl_of words = option_map (λ pass. repl_line pass) (pass_words_of None words)
+
+-- `batch N r A/db B/db SESSION [NAME]`, where this is all but the first word
+abbrev pub batch_of : List ℕ → Option ScriptLine
+batch_of words = option_map (λ pass. repl_line pass) (batch_pass_of words)
 
 -- what the first word of a line has a pass do
 abbrev pub turn_named : List ℕ → Option Turn
@@ -66,6 +70,7 @@ turn_of turn name = if is_word name then Some (turn_line turn name) else None
 abbrev pub pass_line_with : List ℕ → List ℕ → Option ScriptLine
 pass_line_with word rest =
     if bytes_eq word (codes "repl") then repl_of rest
+    else if bytes_eq word (codes "batch") then batch_of rest
     else option_and_then (λ turn. turn_of turn rest) (turn_named word)
 
 -- the line whose first word this is, with what stands behind it

@@ -2,11 +2,11 @@
 
 ghost use Rattle.std.specs.Prelude.{◌≡◌, IfOk, option_map, option_and_then};
 ghost use Rattle.lab.specs.Words.{parts_at_space};
-ghost use Rattle.lab.specs.Script.{line_of, line_with, node_of, pass_line_with, public_of, conn_of, send_of, close_of, repl_of, turn_named, turn_of};
+ghost use Rattle.lab.specs.Script.{batch_of, line_of, line_with, node_of, pass_line_with, public_of, conn_of, send_of, close_of, repl_of, turn_named, turn_of};
 ghost use Rattle.lab.specs.Lines.{said_by};
 
 use crate::escapes::unescape;
-use crate::repl_line::{PassWords, read_pass};
+use crate::repl_line::{PassWords, read_batch_pass, read_pass};
 use crate::turn::Turn;
 use crate::words::{is_node_name, is_word, read_name, split_at_space};
 use couch_json::Got;
@@ -26,7 +26,8 @@ pub enum Line<'a> {
     Send(&'a [u8], Vec<u8>),
     /// `close c`: connection c is closed.
     Close(&'a [u8]),
-    /// `repl r A/db B/db SESSION [NAME]`: r is a replication pass.
+    /// `repl r A/db B/db SESSION [NAME]`: r is a replication pass; `batch N r A/db B/db SESSION [NAME]`: it
+    /// lists N changes at a time.
     Repl(PassWords<'a>),
     /// `step r`, `lose r`, `unsent r` or `run r`: pass r makes exchanges.
     Turn(Turn, &'a [u8]),
@@ -74,6 +75,9 @@ fn read_pass_line<'a>(alloc: Global, word: &[u8], rest: &'a [u8]) -> Got<Option<
 {
     if word == b"repl".as_slice() {
         return read_repl(alloc, rest);
+    }
+    if word == b"batch".as_slice() {
+        return read_batch(alloc, rest);
     }
     match turn_of(word) {
         Some(turn) => Ok(read_turn(turn, rest)),
@@ -172,7 +176,16 @@ fn read_close<'a>(name: &'a [u8]) -> Option<Line<'a>>
 fn read_repl<'a>(alloc: Global, words: &'a [u8]) -> Got<Option<Line<'a>>>
     ensures { IfOk result (λ line. option_map said_by line ≡ repl_of words.now) }
 {
-    match read_pass(alloc, words)? {
+    match read_pass(alloc, None, words)? {
+        Some(pass) => Ok(Some(Line::Repl(pass))),
+        None => Ok(None),
+    }
+}
+
+fn read_batch<'a>(alloc: Global, words: &'a [u8]) -> Got<Option<Line<'a>>>
+    ensures { IfOk result (λ line. option_map said_by line ≡ batch_of words.now) }
+{
+    match read_batch_pass(alloc, words)? {
         Some(pass) => Ok(Some(Line::Repl(pass))),
         None => Ok(None),
     }

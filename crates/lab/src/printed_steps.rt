@@ -1,16 +1,15 @@
 //! What a script prints of replication passes.
 
-ghost use Rattle.std.specs.Prelude.{◌≡◌, ◌≢◌, Err, IfOk, OnOk, string_bytes};
+ghost use Rattle.std.specs.Prelude.{◌≡◌, ◌≢◌, Err, OnOk, string_bytes};
 ghost use Rattle.std.specs.Io.KnownBytes.{Appends};
 ghost use Rattle.couch_http.specs.Message.{message_of};
 ghost use Rattle.repl.specs.Asks.{ask_of, report_of};
 ghost use Rattle.repl.specs.Passes.{done, stopped_by};
-ghost use Rattle.lab.specs.Printed.{end_line_of, outcome_end, request_words, side_words, step_line_of, summary_text, target_of, why_text};
+ghost use Rattle.lab.specs.Printed.{end_line_of, outcome_end, request_words, side_words, step_line_of, target_of};
 
 use crate::fault::LineFault;
 use couch_http::Request;
-use couch_json::{Got, canon};
-use repl::{Ask, Report, Why};
+use repl::{Ask, Report, Why, print_why};
 use std::alloc::Global;
 use std::io::Write;
 
@@ -109,7 +108,7 @@ fn print_done<W: Write>(
     ensures printed { OnOk result (Appends (W.contents out.old) (W.contents out.new) (end_line_of name.now (done (report_of report.now)))) }
     ensures faults { result ≢ Err LineFault.Line }
 {
-    let text = report_text(alloc, report)?;
+    let text = report.text(alloc)?;
     out.write_all(name)?;
     out.write_all(b" done ")?;
     out.write_all(text.as_bytes())?;
@@ -127,7 +126,7 @@ fn print_stopped<W: Write>(
     ensures printed { OnOk result (Appends (W.contents out.old) (W.contents out.new) (end_line_of name.now (stopped_by why (report_of report.now)))) }
     ensures faults { result ≢ Err LineFault.Line }
 {
-    let text = report_text(alloc, report)?;
+    let text = report.text(alloc)?;
     out.write_all(name)?;
     out.write_all(b" stopped ")?;
     print_why(out, why)?;
@@ -135,26 +134,4 @@ fn print_stopped<W: Write>(
     out.write_all(text.as_bytes())?;
     out.write_all(b"\n")?;
     Ok(())
-}
-
-/// Prints why a pass stopped: `status NNN`, `reply` or `lost`.
-fn print_why<W: Write>(out: &mut W, why: Why) -> Result<(), LineFault>
-    ensures printed { OnOk result (Appends (W.contents out.old) (W.contents out.new) (why_text why)) }
-    ensures faults { result ≢ Err LineFault.Line }
-{
-    match why {
-        Why::Status(status) => write!(out, "status {status}")?,
-        Why::Reply => out.write_all(b"reply")?,
-        Why::Lost => out.write_all(b"lost")?,
-    }
-    Ok(())
-}
-
-/// Returns the canonical JSON text of a report.
-#[tactic(auto, unfolding(crate::specs::Printed::summary_text))]
-fn report_text(alloc: Global, report: &Report) -> Got<String>
-    ensures { IfOk result (λ text. string_bytes text ≡ summary_text (report_of report.now)) }
-{
-    let value = report.to_json(alloc)?;
-    canon(alloc, &value)
 }

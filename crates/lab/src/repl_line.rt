@@ -1,11 +1,14 @@
 //! The line that names a replication pass.
 
 ghost use Rattle.std.specs.Prelude.{◌≡◌, IfOk, option_map};
+ghost use Rattle.repl.specs.Configuration.{batch_size};
 ghost use Rattle.lab.specs.Lines.{pass_said, session_said, side_said, side_then_said};
-ghost use Rattle.lab.specs.PassLines.{pass_from, pass_named, pass_words_of, session_alone, session_and_user, session_of, side_of, side_then_of};
+ghost use Rattle.lab.specs.PassLines.{batch_in, batch_pass_of, pass_from, pass_named, pass_words_of, session_alone, session_and_user, session_of, side_of, side_then_of};
 
 use crate::words::{is_node_name, is_word, read_name, read_text, split_at_slash, split_at_space};
+use command_line::read_number;
 use couch_json::Got;
+use repl::Batch;
 use std::alloc::Global;
 use std::str;
 use store::DbName;
@@ -28,6 +31,8 @@ pub struct PassWords<'a> {
     pub session: &'a str,
     /// The user in whose name the pass asks.
     pub user: Option<&'a str>,
+    /// How many changes it lists at a time; without one, all at once.
+    pub batch: Option<Batch>,
 }
 
 /// A side, and what stands behind its space.
@@ -44,25 +49,57 @@ pub struct PassSession<'a> {
     pub user: Option<&'a str>,
 }
 
-/// Reads `r A/db B/db SESSION [NAME]`; `None` where the bytes are no such words.
-pub fn read_pass<'a>(alloc: Global, words: &'a [u8]) -> Got<Option<PassWords<'a>>>
-    ensures { IfOk result (λ pass. option_map pass_said pass ≡ pass_words_of words.now) }
+/// Reads `N r A/db B/db SESSION [NAME]`, a pass with a batch; `None` where the bytes are no such words.
+pub fn read_batch_pass<'a>(alloc: Global, words: &'a [u8]) -> Got<Option<PassWords<'a>>>
+    ensures { IfOk result (λ pass. option_map pass_said pass ≡ batch_pass_of words.now) }
+{
+    let Some((size, rest)) = split_at_space(words) else {
+        return Ok(None);
+    };
+    match read_batch(size) {
+        Some(batch) => read_pass(alloc, Some(batch), rest),
+        None => Ok(None),
+    }
+}
+
+/// Reads how many changes a pass lists at a time.
+fn read_batch(bytes: &[u8]) -> Option<Batch>
+    ensures { option_map batch_size result ≡ batch_in bytes.now }
+{
+    let text = read_text(bytes)?;
+    let size = read_number(text, 1, 1_000)?;
+    Batch::new(u64::from(size))
+}
+
+/// Reads `r A/db B/db SESSION [NAME]`, for a pass with this batch, if any; `None` where the bytes are no
+/// such words.
+pub fn read_pass<'a>(
+    alloc: Global,
+    batch: Option<Batch>,
+    words: &'a [u8],
+) -> Got<Option<PassWords<'a>>>
+    ensures { IfOk result (λ pass. option_map pass_said pass ≡ pass_words_of (option_map batch_size batch) words.now) }
 {
     match split_at_space(words) {
-        Some((name, rest)) => read_named(alloc, name, rest),
+        Some((name, rest)) => read_named(alloc, batch, name, rest),
         None => Ok(None),
     }
 }
 
 /// Reads `A/db B/db SESSION [NAME]` behind the name of the pass.
-fn read_named<'a>(alloc: Global, name: &'a [u8], words: &'a [u8]) -> Got<Option<PassWords<'a>>>
-    ensures { IfOk result (λ pass. option_map pass_said pass ≡ pass_named name.now words.now) }
+fn read_named<'a>(
+    alloc: Global,
+    batch: Option<Batch>,
+    name: &'a [u8],
+    words: &'a [u8],
+) -> Got<Option<PassWords<'a>>>
+    ensures { IfOk result (λ pass. option_map pass_said pass ≡ pass_named (option_map batch_size batch) name.now words.now) }
 {
     if !is_word(name) {
         return Ok(None);
     }
     match read_side_then(alloc, words)? {
-        Some(first) => read_from(alloc, name, first.side, first.rest),
+        Some(first) => read_from(alloc, batch, name, first.side, first.rest),
         None => Ok(None),
     }
 }
@@ -70,11 +107,12 @@ fn read_named<'a>(alloc: Global, name: &'a [u8], words: &'a [u8]) -> Got<Option<
 /// Reads `B/db SESSION [NAME]` behind the source of the pass.
 fn read_from<'a>(
     alloc: Global,
+    batch: Option<Batch>,
     name: &'a [u8],
     source: PassSide<'a>,
     words: &'a [u8],
 ) -> Got<Option<PassWords<'a>>>
-    ensures { IfOk result (λ pass. option_map pass_said pass ≡ pass_from name.now (side_said source.entry) words.now) }
+    ensures { IfOk result (λ pass. option_map pass_said pass ≡ pass_from (option_map batch_size batch) name.now (side_said source.entry) words.now) }
 {
     let Some(second) = read_side_then(alloc, words)? else {
         return Ok(None);
@@ -88,6 +126,7 @@ fn read_from<'a>(
         target: second.side,
         session: last.session,
         user: last.user,
+        batch,
     }))
 }
 

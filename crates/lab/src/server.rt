@@ -44,7 +44,7 @@ impl Server<'_> {
             target_db: String::from_str(self.alloc, words.target.database.as_str())?,
             user: self.user(words.user)?,
             session: String::from_str(self.alloc, words.session)?,
-            batch: None,
+            batch: words.batch,
         })
     }
 
