@@ -1,4 +1,5 @@
-//! The program `couchd`: a laboratory that plays a script of nodes and connections, and a server.
+//! The program `couchd`: a laboratory that plays a script of nodes and connections, a server, and what copies
+//! a database by a replication pass.
 #![tactic(auto)]
 
 use command_line::{Plan, Refusal, plan, words_of};
@@ -6,10 +7,12 @@ use lab::play_input;
 use server::serve_file;
 use sqlite::Unknown;
 use std::process::ExitCode;
+use sync::sync;
 
 /// Reads the command line and does what it says. The status is 0 at the end; 1 for a fault, with
 /// `couchd: ` and `file`, `socket`, `line N` or `memory` on standard error; 2 where the command line
-/// is invalid, with `couchd: usage` there.
+/// is invalid, with `couchd: usage` there; 3 for a pass that is done and had documents refused; 4 for one
+/// that stopped.
 fn main(rt: HostRuntime) -> ExitCode {
     match run(&rt) {
         Ok(status) => ExitCode::from(status),
@@ -43,5 +46,6 @@ fn run(rt: &HostRuntime) -> Result<u8, Refusal> {
                 conns,
             )?)
         }
+        Plan::Sync(plan) => Ok(sync(rt, &plan, Unknown, Unknown)?),
     }
 }

@@ -15,9 +15,10 @@ use Rattle.store.specs.declared.store.Store.{Ghosts}
 use Rattle.hub.specs.Connections.{ConnectionTable, is_open, next_connection, rest_on, was_opened, with_connection, with_rest, without}
 use Rattle.hub.specs.Endings.{is_last, rest_of}
 use Rattle.hub.specs.Feeding.{HubState, IsFed}
-use Rattle.hub.specs.Service.{AreFed, IsPrefix, IsServed, Serves, Takes, bytes_of, end_after_farewell, end_after_replies, farewell, greatest_piece}
+use Rattle.streams.specs.Writing.{Takes}
+use Rattle.hub.specs.Service.{AreFed, IsServed, Serves, bytes_of, end_after_farewell, end_after_replies, farewell, greatest_piece}
 use Rattle.hub.specs.declared.service_end.ServiceEnd.{ServiceEnd}
-use Rattle.hub.specs.declared.service_end.ServiceEnd.TheVariants.{LastReply, EndOfInput, ReadFailed, WriteFailed, TooManyReads, Memory, Full}
+use Rattle.hub.specs.declared.service_end.ServiceEnd.TheVariants.{LastReply, EndOfInput, WriteFailed, Memory}
 
 -- ---- open and ended connections
 

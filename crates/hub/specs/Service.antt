@@ -3,6 +3,7 @@
 use Rattle.std.specs.Prelude.{◌≡◌, ◌≢◌, ◌⊎◌, ◌≤◌, ℕ, Bool, true, false, List, [], ◌∷◌, ◌++◌, length, Option, Some, None, if◌then◌else◌}
 use Rattle.std.specs.Io.KnownBytes.{Appends, Consumes, IsAtEnd}
 use Rattle.std.specs.List.{AllByRecursion, flat_map}
+use Rattle.streams.specs.Writing.{IsPrefix, Takes}
 use Rattle.couch_http.specs.Reply.{Reply, fixed_reply}
 use Rattle.couch_http.specs.declared.fixed.Fixed.TheVariants.{NoRoom}
 use Rattle.store.specs.declared.store.Store.{Ghosts}
@@ -13,10 +14,6 @@ use Rattle.hub.specs.declared.service_end.ServiceEnd.TheVariants.{LastReply, End
 
 -- ---- bytes
 
--- the first list begins the second
-abbrev pub IsPrefix : List ℕ → List ℕ → Type 0
-IsPrefix xs ys = (rest : List ℕ) × (xs ++ rest ≡ ys)
-
 -- the bytes of replies, one after another
 abbrev pub bytes_of : List Reply → List ℕ
 bytes_of replies = flat_map (λ r. r.bytes) replies
@@ -24,10 +21,6 @@ bytes_of replies = flat_map (λ r. r.bytes) replies
 -- the bytes of the reply where memory ran out
 abbrev pub farewell : List ℕ
 farewell = (fixed_reply (NoRoom true)).bytes
-
--- a writer took these bytes or a first part of them; all of them, where that is told
-abbrev pub Takes : Option (List ℕ) → Option (List ℕ) → List ℕ → Bool → Type 0
-Takes old new bytes whole = (written : List ℕ) × Appends old new written × IsPrefix written bytes × (whole ≡ true → written ≡ bytes)
 
 -- ---- pieces
 

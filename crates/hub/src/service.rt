@@ -1,10 +1,11 @@
 //! One connection, served from the bytes of a reader to those of a writer.
 
-ghost use Rattle.std.specs.Prelude.{◌≡◌, ◌≢◌, ◌<◌, ◌≤◌, ℕ, Bool, List, drop, length, true, false, None, Some};
+ghost use Rattle.std.specs.Prelude.{◌≡◌, ◌≢◌, ◌≤◌, ℕ, Bool, List, length, true, false, None, Some};
 ghost use Rattle.store.specs.Calls.{GoesOn};
 ghost use Rattle.hub.specs.Connections.{is_open, next_connection};
-ghost use Rattle.hub.specs.Service.{IsServed, Serves, ServesOrTurnsAway, Takes, bytes_of, end_after_farewell, end_after_replies, farewell, greatest_piece, greatest_reads};
+ghost use Rattle.hub.specs.Service.{IsServed, Serves, ServesOrTurnsAway, bytes_of, end_after_farewell, end_after_replies, farewell, greatest_piece, greatest_reads};
 ghost use Rattle.std.specs.Io.KnownBytes.{Appends};
+ghost use Rattle.streams.specs.Writing.{Takes};
 
 use crate::fault::HubFault;
 use crate::hub::Hub;
@@ -13,6 +14,7 @@ use crate::service_end::ServiceEnd;
 use couch_http::{Fixed, Response};
 use std::io::{Read, Write};
 use store::Store;
+use streams::write_bytes;
 
 /// How many bytes a piece has at most.
 const PIECE: usize = 8_192;
@@ -153,27 +155,4 @@ fn write_all<W: Write>(writer: &mut W, replies: &[Response]) -> bool
         }
     }
     true
-}
-
-/// Writes bytes, up to a write that fails or takes none. Returns whether all were written.
-fn write_bytes<W: Write>(writer: &mut W, bytes: &[u8]) -> bool
-    ensures { Takes (W.contents writer.old) (W.contents writer.new) bytes.now result }
-{
-    let mut rest = bytes;
-    while !rest.is_empty() {
-        match writer.write(rest) {
-            Ok(0) => return false,
-            Ok(count) => rest = skip(rest, count),
-            Err(_) => return false,
-        }
-    }
-    true
-}
-
-/// Returns the bytes behind the first ones.
-fn skip(bytes: &[u8], count: usize) -> &[u8]
-    requires { count ≤ length bytes.now }
-    ensures { result.now ≡ drop count bytes.now }
-{
-    &bytes[count..]
 }

@@ -6,5 +6,5 @@ mod serving;
 mod store_file;
 
 pub use port::{serve_file, serve_store};
-pub use serving::{open_hub, serve};
+pub use serving::{open_hub, open_node, serve};
 pub use store_file::open_store;

@@ -26,6 +26,23 @@ const PIECE: usize = 8_192;
 /// How many times it is read at most.
 const LAST_READS: u64 = 1_024;
 
+/// Makes a node over a store, with this secret and these admins.
+///
+/// The only refusal is `Memory`.
+pub fn open_node<S: Store + Drop>(
+    alloc: Global,
+    secret: &str,
+    admins: &[String],
+    store: S,
+) -> Result<Node<S>, ProgramFault>
+    ensures node { IfOk result (λ node. node ≡ record { store = store; configuration = record { secret = secret.now; admins = map string_bytes admins.now } }) }
+    ensures memory { IfErr result (λ fault. fault ≡ ProgramFault.Memory) }
+{
+    let auth = Auth::new(alloc, secret.as_bytes(), admins)?;
+    let routes = Routes::new(alloc)?;
+    Ok(Node::new(alloc, store, auth, routes))
+}
+
 /// Makes the hub of a server over a store, with this secret and these admins, and without connections.
 ///
 /// The only refusal is `Memory`.
@@ -40,9 +57,8 @@ pub fn open_hub<S: Store + Drop>(
     ensures connections { IfOk result (λ hub. hub.connections ≡ no_connections) }
     ensures memory { IfErr result (λ fault. fault ≡ ProgramFault.Memory) }
 {
-    let auth = Auth::new(alloc, secret.as_bytes(), admins)?;
-    let routes = Routes::new(alloc)?;
-    Ok(Hub::new(alloc, Node::new(alloc, store, auth, routes)))
+    let node = open_node(alloc, secret, admins, store)?;
+    Ok(Hub::new(alloc, node))
 }
 
 /// Serves so many connections of a hub, one after another. The answer is the program's status, 0.

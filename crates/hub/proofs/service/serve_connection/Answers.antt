@@ -1,8 +1,8 @@
-use Rattle.std.proofs.Common.{◌≡◌, ◌∙◌, inl, ℕ, Bool, true, List, Option, Some, refl, sym, ap, ap₂, subst}
+use Rattle.std.proofs.Common.{◌∙◌, inl, ℕ, Some, sym, ap, subst}
 use Rattle.hub.proofs.ServiceLemmas.{ended_here, new_is_open}
-use Rattle.hub.specs.Connections.{ConnectionTable, is_open, next_connection, without}
+use Rattle.hub.specs.Connections.{is_open, next_connection}
 use Rattle.hub.specs.Feeding.{HubState}
-use Rattle.hub.specs.Service.{Serves, hub_with_connection, hub_without}
+use Rattle.hub.specs.Service.{Serves, hub_without}
 use Rattle.hub.proofs.service.serve_connection.Goals as goal
 
 pub serve_pieces-end-requires : goal.serve_pieces-end-requires

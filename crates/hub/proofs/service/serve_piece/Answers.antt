@@ -1,8 +1,6 @@
-use Rattle.std.proofs.Common.{◌≡◌, ℕ, List, Option, Some, None, refl, sym, ap, subst}
-use Rattle.std.specs.Io.KnownBytes.{Appends}
+use Rattle.std.proofs.Common.{Option, Some, refl, sym, subst}
 use Rattle.hub.proofs.ServiceLemmas.{piece_refused, piece_served}
-use Rattle.hub.specs.Feeding.{HubState}
-use Rattle.hub.specs.Service.{IsServed, end_after_farewell, end_after_replies}
+use Rattle.hub.specs.Service.{IsServed}
 use Rattle.hub.specs.declared.service_end.ServiceEnd.{ServiceEnd}
 use Rattle.hub.proofs.service.serve_piece.Goals as goal
 

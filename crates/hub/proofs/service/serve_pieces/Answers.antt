@@ -1,7 +1,7 @@
-use Rattle.std.proofs.Common.{◌≡◌, ◌≢◌, ◌∙◌, ◌+◌, ℕ, Option, None, Some, refl, sym, ap, subst}
+use Rattle.std.proofs.Common.{◌≡◌, ◌∙◌, ◌+◌, ℕ, Option, None, Some, refl, ap, subst}
 use Rattle.std.proofs.KnownBytes.{Consumes-nil}
 use Rattle.store.proofs.Calls.{goes_on_itself, goes_on_then}
-use Rattle.hub.proofs.ServiceLemmas.{serves_more, serves_none, serves_up}
+use Rattle.hub.proofs.ServiceLemmas.{serves_more, serves_none}
 use Rattle.hub.specs.Service.{Serves}
 use Rattle.hub.specs.declared.service_end.ServiceEnd.{ServiceEnd}
 use Rattle.hub.proofs.service.serve_pieces.Goals as goal

@@ -1,6 +1,5 @@
-use Rattle.std.proofs.Common.{◌≡◌, None, length, true}
+use Rattle.std.proofs.Common.{◌≡◌, None, length}
 use Rattle.store.specs.Calls.{GoesOn}
-use Rattle.hub.specs.Connections.{is_open}
 use Rattle.hub.specs.Service.{Serves, greatest_piece}
 use Rattle.hub.proofs.service.serve_pieces.Given as goal
 

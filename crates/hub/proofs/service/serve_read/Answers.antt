@@ -1,4 +1,4 @@
-use Rattle.std.proofs.Common.{◌≡◌, ◌<◌, Some, arith}
+use Rattle.std.proofs.Common.{Some, arith}
 use Rattle.hub.proofs.ServiceLemmas.{nothing_read, serves_none, unread}
 use Rattle.hub.specs.declared.service_end.ServiceEnd.TheVariants.{EndOfInput, ReadFailed}
 use Rattle.hub.proofs.service.serve_read.Goals as goal

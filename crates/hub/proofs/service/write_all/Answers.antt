@@ -1,6 +1,8 @@
-use Rattle.std.proofs.Common.{◌≡◌, [], ℕ, List, Bool, true, false, subst, drop, arith}
-use Rattle.hub.proofs.ServiceBytes.{HasTaken, taken_none, taken_all, reply_short, reply_whole, replies_over}
-use Rattle.hub.specs.Service.{Takes, bytes_of}
+use Rattle.std.proofs.Common.{ℕ, List, true, false, subst, arith}
+use Rattle.streams.proofs.Taken.{HasTaken, taken_none, taken_all}
+use Rattle.streams.specs.Writing.{Takes}
+use Rattle.hub.proofs.ServiceBytes.{reply_short, reply_whole, replies_over}
+use Rattle.hub.specs.Service.{bytes_of}
 use Rattle.hub.proofs.service.write_all.Goals as goal
 
 pub loop-reply-init : goal.loop-reply-init

@@ -1,0 +1,53 @@
+//! What a pass is told by the words of the command line.
+
+ghost use Rattle.std.specs.Prelude.{◌≡◌, ◌++◌, IfOk, OnOk, codes, string_bytes};
+
+use auth::Auth;
+use command_line::SyncPlan;
+use couch_json::Got;
+use repl::{Batch, Config, User};
+use std::alloc::Global;
+
+/// How many changes are listed at a time.
+const BATCH: u64 = 500;
+
+/// Returns what a pass is told: each side is named by its file or address, a slash, and its database.
+pub fn configure(alloc: Global, plan: &SyncPlan, target: &str) -> Got<Config> {
+    Ok(Config {
+        source: side_name(alloc, &plan.from, &plan.database)?,
+        source_db: String::from_str(alloc, &plan.database)?,
+        target: side_name(alloc, target, &plan.target_database)?,
+        target_db: String::from_str(alloc, &plan.target_database)?,
+        user: user_of(alloc, plan)?,
+        session: String::from_str(alloc, &plan.session)?,
+        batch: Batch::new(BATCH),
+    })
+}
+
+/// Returns the name of a side: the place, a slash, and the database.
+fn side_name(alloc: Global, place: &str, database: &str) -> Got<String>
+    ensures { IfOk result (λ name. string_bytes name ≡ place.now ++ (codes "/" ++ database.now)) }
+{
+    let mut name = String::from_str(alloc, place)?;
+    name.push('/')?;
+    name.push_str(database)?;
+    Ok(name)
+}
+
+/// Returns the user of the requests, without roles, and with the token that vouches for the name.
+fn user_of(alloc: Global, plan: &SyncPlan) -> Got<Option<User>> {
+    match &plan.user {
+        Some(name) => Ok(Some(User {
+            name: String::from_str(alloc, name)?,
+            roles: Vec::new(alloc),
+            token: token_of(alloc, plan, name)?,
+        })),
+        None => Ok(None),
+    }
+}
+
+/// Returns the token that vouches for a name.
+fn token_of(alloc: Global, plan: &SyncPlan, name: &str) -> Got<String> {
+    let auth = Auth::new(alloc, plan.secret.as_bytes(), &plan.admins)?;
+    auth.token(name)
+}
