@@ -12,6 +12,8 @@ mod exchanges;
 #[cfg(test)]
 mod local_client;
 #[cfg(test)]
+mod passes;
+#[cfg(test)]
 mod scripts;
 #[cfg(test)]
 mod services;
