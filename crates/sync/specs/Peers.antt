@@ -1,6 +1,6 @@
 -- How a pass from a node to a server comes to its end.
 -- CouchDB manual, replication/protocol; what the server replies is not known, and that a reply may be lost is this project's own.
-use Rattle.std.specs.Prelude.{◌≡◌, ◌<◌, ℕ, zero, suc, List, Option, Some, None}
+use Rattle.std.specs.Prelude.{◌≡◌, ◌<◌, ℕ, zero, suc, Option, Some, None}
 use Rattle.couch_http.specs.Reply.{Reply}
 use Rattle.store.specs.declared.store.Store.{Ghosts}
 use Rattle.hub.specs.Answering.{StoreSteps}

@@ -43,7 +43,9 @@ pub fn sync_to_peer<S: Store + Drop, P: Peer, W: Write, T: Watch>(
         × ComesToEnd S.Store node.old (pass_of pass.old) asked node.new
         × (status ≡ status_of asked) × Appends (W.contents writer.old) (W.contents writer.new) (end_text asked)) }
 {
-    let end = play_to_end(alloc, node, peer, pass, watch)?;
+    let end = play_to_end(alloc, node, peer, pass, watch);
+    watch.end();
+    let end = end?;
     print_end(alloc, writer, &end)?;
     Ok(status_of(&end))
 }

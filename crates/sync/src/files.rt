@@ -78,10 +78,13 @@ fn sync_stores<R: Print + Eprint + AllocGlobal, S: Store + Drop>(
     let Ok(repl) = world.start(config, 0, 1) else {
         return Err(ProgramFault::Memory);
     };
-    let mut watch = ProgressLine { rt, is_terminal };
+    let mut watch = ProgressLine {
+        rt,
+        is_terminal,
+        is_begun: false,
+    };
     let mut out = io::writer(rt);
     let status = watch_pass(alloc, &mut world, repl, &mut out, &mut watch)?;
-    watch.end();
     out.flush()?;
     Ok(status)
 }
@@ -131,10 +134,13 @@ fn sync_to_address<R: Net<Stream = TcpStream> + Print + Eprint + AllocGlobal, S:
     let config = configure(alloc, plan, address)?;
     let mut pass = Replication::new(alloc, config)?;
     let mut peer = Address { rt, address };
-    let mut watch = ProgressLine { rt, is_terminal };
+    let mut watch = ProgressLine {
+        rt,
+        is_terminal,
+        is_begun: false,
+    };
     let mut out = io::writer(rt);
     let status = sync_to_peer(alloc, &mut node, &mut peer, &mut pass, &mut out, &mut watch)?;
-    watch.end();
     out.flush()?;
     Ok(status)
 }

@@ -52,7 +52,9 @@ pub fn watch_pass<S: Store + Drop, W: Write, T: Watch>(
         × (status ≡ status_of asked) × Appends (W.contents writer.old) (W.contents writer.new) (end_text asked)) }
     ensures known { OnOk result (was_started world.old.transfers repl ≡ true) }
 {
-    let end = play_to_end(world, repl, watch)?;
+    let end = play_to_end(world, repl, watch);
+    watch.end();
+    let end = end?;
     print_end(alloc, writer, &end)?;
     Ok(status_of(&end))
 }

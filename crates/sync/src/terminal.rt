@@ -9,21 +9,21 @@ use std::io::Eprint;
 pub struct ProgressLine<'a, R: Eprint> {
     pub rt: &'a R,
     pub is_terminal: bool,
+    /// Something stands on the line.
+    pub is_begun: bool,
 }
 
 impl<R: Eprint> Watch for ProgressLine<'_, R> {
     fn tell(&mut self, progress: Progress) {
         if self.is_terminal {
             let Progress { sent, last_seq } = progress;
+            self.is_begun = true;
             let _ = eprint!(self.rt; "\r{sent} documents sent, up to sequence {last_seq}");
         }
     }
-}
 
-impl<R: Eprint> ProgressLine<'_, R> {
-    /// Ends the line.
-    pub fn end(&self) {
-        if self.is_terminal {
+    fn end(&mut self) {
+        if self.is_begun {
             let _ = eprintln!(self.rt);
         }
     }
