@@ -1,5 +1,6 @@
 """Starts the server, and makes and takes its bytes, for the checks and the measurements of this repository."""
 import argparse
+import contextlib
 import hashlib
 import hmac
 import json
@@ -7,6 +8,7 @@ import os
 import queue
 import resource
 import shlex
+import shutil
 import signal
 import socket
 import struct
@@ -193,3 +195,34 @@ class Server:
         compare(f"{what}: nothing more", "", self.lines.get(timeout=60))
         said = [line for line in self.process.stderr.read().decode().splitlines() if not line.startswith("couchd: unproved")]
         compare(f"{what}: how it ended", (0, []), (status, said))
+
+
+# ---- nginx
+
+
+def find_nginx():
+    """Returns nginx's program, or None where it isn't installed."""
+    return shutil.which("nginx") or shutil.which("/usr/sbin/nginx")
+
+
+def free_port():
+    """Returns a port that nobody listens at."""
+    with socket.create_server(("127.0.0.1", 0)) as listener:
+        return listener.getsockname()[1]
+
+
+def start_nginx(room, port, servers):
+    """Starts nginx in a folder of this user's, with the text of its servers, and returns its process once it listens at the port."""
+    conf = f"{room}/nginx.conf"
+    paths = "".join(f"{kind}_temp_path {room}/{kind}; " for kind in ["client_body", "proxy", "fastcgi", "uwsgi", "scgi"])
+    with open(conf, "w", encoding="utf-8") as file:
+        # The folder is this user's alone, and nginx's workers would be another's where that is root.
+        file.write("user root;\n" if os.geteuid() == 0 else "")
+        file.write(f"daemon off; pid {room}/nginx.pid; error_log {room}/nginx.err;\nevents {{}}\nhttp {{ access_log off; {paths}\n{servers}}}\n")
+    process = subprocess.Popen([find_nginx(), "-c", conf, "-p", room], stderr=subprocess.DEVNULL)
+    for _ in range(100):
+        with contextlib.suppress(OSError):
+            socket.create_connection(("127.0.0.1", port)).close()
+            break
+        time.sleep(0.1)
+    return process
