@@ -1,2 +1,2 @@
 pub mod Turns
-pub mod PeerTurns
+pub mod Refusals

@@ -1,31 +1,53 @@
--- Turns of a pass of a world, one after another.
-use Rattle.std.proofs.Common.{◌≡◌, ◌<◌, ◌+◌, ◌&&◌, ℕ, suc, true, List, length, nat_le, Option, Some, None, subst, arith}
-use Rattle.store.specs.declared.store.Store.{Ghosts}
+-- Turns of a pass, one after another.
+use Rattle.std.proofs.Common.{◌≡◌, ◌<◌, ◌≤◌, ◌+◌, ℕ, suc, Option, Some, None, subst, refl, arith}
+use Rattle.std.specs.Prelude.{OnErr, Result, Ok, Err, option_map}
 use Rattle.repl.specs.Asks.{ask_of}
+use Rattle.repl.specs.Passes.{Asked}
 use Rattle.repl.specs.declared.ask.Ask.{Ask}
-use Rattle.std.specs.Prelude.{option_map}
-use Rattle.world.specs.Network.{Network, Transfer}
-use Rattle.world.specs.Turning.{was_started}
-use Rattle.sync.specs.Passing.{ComesToEnd, GoesThrough, HasTurn, most_turns}
+use Rattle.sync.specs.Turns.{ComesToEnd, GoesThrough, IsLeft, TurnOf, most_turns}
 
-module _ {S : Type 0} (g : Ghosts S) (turn number : ℕ) (start now after : Network S) (said : Option Ask) where
+module _ {A : Type 0} (turn : TurnOf A) (count : ℕ) (start now after : A) (said : Option Ask) where
   -- the last turn
-  pub comes_to_end : (ask : Ask) → turn < most_turns → GoesThrough g turn start number now → HasTurn g now number (option_map ask_of said) after → said ≡ Some ask
-      → ComesToEnd g start number (ask_of ask) after
+  pub comes_to_end : (ask : Ask) → count < most_turns → GoesThrough turn count start now → turn now (option_map ask_of said) after → said ≡ Some ask → ComesToEnd turn start (ask_of ask) after
   comes_to_end ask in_time gone has is = record {
-    count = turn;
+    count = count;
     in_time = in_time;
     between = now;
     goes = gone;
-    ends = subst (λ (s : Option Ask). HasTurn g now number (option_map ask_of s) after) is has;
+    ends = subst (λ (s : Option Ask). turn now (option_map ask_of s) after) is has;
   }
 
   -- one that isn't
-  pub goes_further : GoesThrough g turn start number now → HasTurn g now number (option_map ask_of said) after → said ≡ None → GoesThrough g (turn + 1) start number after
+  pub goes_further : GoesThrough turn count start now → turn now (option_map ask_of said) after → said ≡ None → GoesThrough turn (count + 1) start after
   goes_further gone has is =
-      let next : turn + 1 ≡ suc turn = omega arith in
-      rw next ((now, gone, subst (λ (s : Option Ask). HasTurn g now number (option_map ask_of s) after) is has))
+      let more : count + 1 ≡ suc count = omega arith in
+      rw more ((now, gone, subst (λ (s : Option Ask). turn now (option_map ask_of s) after) is has))
 
--- passes that are as many were started alike
-pub was_started_alike : (before now : List Transfer) (number : ℕ) → length now ≡ length before → was_started now number ≡ true → was_started before number ≡ true
-was_started_alike before now number many is = subst (λ (n : ℕ). (nat_le 1 number && nat_le number n) ≡ true) many is
+-- what holds at a refusal, where it holds
+pub on_err : {A E X : Type 0} (r : Result A E) → X → OnErr r X
+on_err (Ok a) x = tt
+on_err (Err e) x = x
+
+before_most : (count most : ℕ) → count < most → count ≤ most
+before_most count most before = omega (arith, before)
+
+module _ {A : Type 0} (turn : TurnOf A) (leaves : A → A → Type 0) where
+  -- a turn that wasn't told
+  pub turn_is_left : (count : ℕ) (start now after : A) → count < most_turns → GoesThrough turn count start now → leaves now after → IsLeft turn leaves start after
+  turn_is_left count start now after in_time gone left =
+      record { count = count; in_time = before_most count most_turns in_time; between = now; goes = gone; last = left }
+
+  -- too many turns
+  pub all_is_left : (count : ℕ) (start now : A) → count ≤ most_turns → GoesThrough turn count start now → leaves now now → IsLeft turn leaves start now
+  all_is_left count start now in_time gone left = record { count = count; in_time = in_time; between = now; goes = gone; last = left }
+
+  -- a pass that came to its end, which wasn't told
+  pub end_is_left : ((before after : A) (asked : Asked) → turn before (Some asked) after → leaves before after)
+      → (start after : A) (asked : Asked) → ComesToEnd turn start asked after → IsLeft turn leaves start after
+  end_is_left may start after asked end = record {
+    count = end.count;
+    in_time = before_most end.count most_turns end.in_time;
+    between = end.between;
+    goes = end.goes;
+    last = may end.between after asked end.ends;
+  }

@@ -1,3 +1,5 @@
-pub mod Ending
+pub mod Turns
 pub mod Passing
 pub mod Peers
+pub mod Ending
+pub mod Configuring

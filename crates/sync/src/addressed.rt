@@ -1,6 +1,6 @@
 //! A pass from a node to a server, from its start to its end.
 
-ghost use Rattle.std.specs.Prelude.{◌≡◌, IfOk, OnOk, Option, option_map};
+ghost use Rattle.std.specs.Prelude.{◌≡◌, IfOk, OnErr, OnOk, Option, option_map};
 ghost use Rattle.std.specs.Io.KnownBytes.{Appends};
 ghost use Rattle.couch_http.specs.Message.{message_of};
 ghost use Rattle.couch_http.specs.Reply.{Reply};
@@ -8,9 +8,11 @@ ghost use Rattle.store.specs.Calls.{GoesOn};
 ghost use Rattle.repl.specs.Asks.{ask_of, pass_of};
 ghost use Rattle.repl.specs.Passes.{Asked, to_source};
 ghost use Rattle.sync.specs.Ending.{end_text, status_of};
-ghost use Rattle.sync.specs.Peers.{ComesToEnd, HasTurn, IsAnswered, pass_with_reply};
+ghost use Rattle.sync.specs.Peers.{HasTurn, IsAnswered, IsServed, LeavesTurn, pass_with_reply};
+ghost use Rattle.sync.specs.Turns.{ComesToEnd, IsLeft};
 
 use crate::ending::{print_end, status_of};
+use crate::limits::MOST_TURNS;
 use crate::peer::Peer;
 use crate::watch::Watch;
 use command_line::ProgramFault;
@@ -22,15 +24,12 @@ use std::alloc::Global;
 use std::io::Write;
 use store::Store;
 
-/// How many turns a pass may have.
-const MOST_TURNS: u64 = 4_294_967_296;
-
 /// Plays a pass from a node to a peer to its end, and prints its report as one line, behind
 /// `stopped WHY ` where it stopped. Returns the program's status: 0 where the pass is done and nothing was
 /// refused, 3 where something was, 4 where it stopped.
 ///
 /// `File`: the pass hasn't ended after 2^32 exchanges, or the line can't be written. `Memory`: memory ran
-/// out. The exchanges so far stand.
+/// out. The exchanges so far stand, and one more may, whose reply the pass didn't take in.
 pub fn sync_to_peer<S: Store + Drop, P: Peer, W: Write, T: Watch>(
     alloc: Global,
     node: &mut Node<S>,
@@ -40,8 +39,12 @@ pub fn sync_to_peer<S: Store + Drop, P: Peer, W: Write, T: Watch>(
     watch: &mut T,
 ) -> Result<u8, ProgramFault>
     ensures ended { S.is_honest node.new.store → IfOk result (λ status. (asked : Asked)
-        × ComesToEnd S.Store node.old (pass_of pass.old) asked node.new
+        × ComesToEnd (HasTurn S.Store) (record { node = node.old; pass = pass_of pass.old }) asked (record { node = node.new; pass = pass_of pass.new })
         × (status ≡ status_of asked) × Appends (W.contents writer.old) (W.contents writer.new) (end_text asked)) }
+
+    // At a refusal the exchanges so far stand, and the node may have made one more step, of which the pass doesn't know.
+    ensures left { S.is_honest node.new.store → OnErr result (IsLeft (HasTurn S.Store) (LeavesTurn S.Store)
+        (record { node = node.old; pass = pass_of pass.old }) (record { node = node.new; pass = pass_of pass.new })) }
 {
     let end = play_to_end(alloc, node, peer, pass, watch);
     watch.end();
@@ -58,7 +61,10 @@ fn play_to_end<S: Store + Drop, P: Peer, T: Watch>(
     pass: &mut Replication,
     watch: &mut T,
 ) -> Result<Ask, ProgramFault>
-    ensures ended { S.is_honest node.new.store → IfOk result (λ end. ComesToEnd S.Store node.old (pass_of pass.old) (ask_of end) node.new) }
+    ensures ended { S.is_honest node.new.store → IfOk result (λ end. ComesToEnd (HasTurn S.Store)
+        (record { node = node.old; pass = pass_of pass.old }) (ask_of end) (record { node = node.new; pass = pass_of pass.new })) }
+    ensures left { S.is_honest node.new.store → OnErr result (IsLeft (HasTurn S.Store) (LeavesTurn S.Store)
+        (record { node = node.old; pass = pass_of pass.old }) (record { node = node.new; pass = pass_of pass.new })) }
 {
     for _turn in 0..MOST_TURNS {
         if let Some(end) = take_turn(alloc, node, peer, pass, watch)? {
@@ -76,7 +82,10 @@ fn take_turn<S: Store + Drop, P: Peer, T: Watch>(
     pass: &mut Replication,
     watch: &mut T,
 ) -> Result<Option<Ask>, ProgramFault>
-    ensures turn { S.is_honest node.new.store → IfOk result (λ end. HasTurn S.Store node.old (pass_of pass.old) (option_map ask_of end) node.new (pass_of pass.new)) }
+    ensures turn { S.is_honest node.new.store → IfOk result (λ end. HasTurn S.Store
+        (record { node = node.old; pass = pass_of pass.old }) (option_map ask_of end) (record { node = node.new; pass = pass_of pass.new })) }
+    ensures left { S.is_honest node.new.store → OnErr result (LeavesTurn S.Store
+        (record { node = node.old; pass = pass_of pass.old }) (record { node = node.new; pass = pass_of pass.new })) }
     ensures onward { GoesOn S.Store node.old.store node.new.store }
 {
     let ask = pass.ask()?;
@@ -107,7 +116,10 @@ fn ask_source<S: Store + Drop>(
     pass: &mut Replication,
     request: &Request,
 ) -> Got<()>
-    ensures asked { S.is_honest node.new.store → OnOk result (IsAnswered S.Store node.old (pass_of pass.old) (to_source (message_of request.now)) node.new (pass_of pass.new)) }
+    ensures asked { S.is_honest node.new.store → OnOk result (IsAnswered S.Store
+        (record { node = node.old; pass = pass_of pass.old }) (to_source (message_of request.now)) (record { node = node.new; pass = pass_of pass.new })) }
+    ensures served { S.is_honest node.new.store → (reply : Reply) × IsServed S.Store node.old (message_of request.now) reply node.new }
+    ensures err { OnErr result (pass_of pass.new ≡ pass_of pass.old) }
     ensures onward { GoesOn S.Store node.old.store node.new.store }
 {
     let reply = node.handle(request);
@@ -121,7 +133,8 @@ fn ask_target<P: Peer>(
     pass: &mut Replication,
     request: &Request,
 ) -> Got<()>
-    ensures { OnOk result ((reply : Option Reply) × (pass_of pass.new ≡ pass_with_reply (pass_of pass.old) reply)) }
+    ensures ok { OnOk result ((reply : Option Reply) × (pass_of pass.new ≡ pass_with_reply (pass_of pass.old) reply)) }
+    ensures err { OnErr result (pass_of pass.new ≡ pass_of pass.old) }
 {
     match peer.answer(alloc, request)? {
         Some(reply) => pass.answered(&reply),

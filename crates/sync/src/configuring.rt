@@ -1,6 +1,10 @@
 //! What a pass is told by the words of the command line.
 
-ghost use Rattle.std.specs.Prelude.{◌≡◌, ◌++◌, IfOk, OnOk, codes, string_bytes};
+ghost use Rattle.std.specs.Prelude.{◌≡◌, IfOk, option_map, string_bytes};
+ghost use Rattle.auth.specs.Hmac.{token_of};
+ghost use Rattle.command_line.specs.Plan.{sync_of};
+ghost use Rattle.repl.specs.Configuration.{account_of, configuration_of};
+ghost use Rattle.sync.specs.Configuring.{account_named, pass_configuration, side_name};
 
 use auth::Auth;
 use command_line::SyncPlan;
@@ -12,7 +16,9 @@ use std::alloc::Global;
 const BATCH: u64 = 500;
 
 /// Returns what a pass is told: each side is named by its file or address, a slash, and its database.
-pub fn configure(alloc: Global, plan: &SyncPlan, target: &str) -> Got<Config> {
+pub fn configure(alloc: Global, plan: &SyncPlan, target: &str) -> Got<Config>
+    ensures { IfOk result (λ config. configuration_of config ≡ pass_configuration (sync_of plan.now) target.now) }
+{
     Ok(Config {
         source: side_name(alloc, &plan.from, &plan.database)?,
         source_db: String::from_str(alloc, &plan.database)?,
@@ -26,7 +32,7 @@ pub fn configure(alloc: Global, plan: &SyncPlan, target: &str) -> Got<Config> {
 
 /// Returns the name of a side: the place, a slash, and the database.
 fn side_name(alloc: Global, place: &str, database: &str) -> Got<String>
-    ensures { IfOk result (λ name. string_bytes name ≡ place.now ++ (codes "/" ++ database.now)) }
+    ensures { IfOk result (λ name. string_bytes name ≡ side_name place.now database.now) }
 {
     let mut name = String::from_str(alloc, place)?;
     name.push('/')?;
@@ -35,7 +41,9 @@ fn side_name(alloc: Global, place: &str, database: &str) -> Got<String>
 }
 
 /// Returns the user of the requests, without roles, and with the token that vouches for the name.
-fn user_of(alloc: Global, plan: &SyncPlan) -> Got<Option<User>> {
+fn user_of(alloc: Global, plan: &SyncPlan) -> Got<Option<User>>
+    ensures { IfOk result (λ user. option_map account_of user ≡ option_map (account_named (sync_of plan.now).secret) (sync_of plan.now).user) }
+{
     match &plan.user {
         Some(name) => Ok(Some(User {
             name: String::from_str(alloc, name)?,
@@ -47,7 +55,9 @@ fn user_of(alloc: Global, plan: &SyncPlan) -> Got<Option<User>> {
 }
 
 /// Returns the token that vouches for a name.
-fn token_of(alloc: Global, plan: &SyncPlan, name: &str) -> Got<String> {
+fn token_of(alloc: Global, plan: &SyncPlan, name: &str) -> Got<String>
+    ensures { IfOk result (λ token. string_bytes token ≡ token_of (sync_of plan.now).secret name.now) }
+{
     let auth = Auth::new(alloc, plan.secret.as_bytes(), &plan.admins)?;
     auth.token(name)
 }

@@ -5,6 +5,7 @@ mod addressed;
 mod configuring;
 mod ending;
 mod files;
+mod limits;
 mod passing;
 mod peer;
 mod terminal;

@@ -1,15 +1,17 @@
 //! A pass between nodes of one world, from its start to its end.
 
-ghost use Rattle.std.specs.Prelude.{◌≡◌, ℕ, IfOk, OnOk, length, map, option_map, true};
+ghost use Rattle.std.specs.Prelude.{◌≡◌, ◌⊎◌, ℕ, Err, IfOk, OnErr, OnOk, false, length, map, option_map, true};
 ghost use Rattle.std.specs.Io.KnownBytes.{Appends};
 ghost use Rattle.repl.specs.Asks.{ask_of};
 ghost use Rattle.repl.specs.Passes.{Asked};
 ghost use Rattle.world.specs.Network.{AreHonest};
 ghost use Rattle.world.specs.Turning.{sight_of, was_started};
 ghost use Rattle.sync.specs.Ending.{end_text, status_of};
-ghost use Rattle.sync.specs.Passing.{ComesToEnd, HasTurn, end_in};
+ghost use Rattle.sync.specs.Passing.{HasTurn, LeavesTurn, end_in};
+ghost use Rattle.sync.specs.Turns.{ComesToEnd, IsLeft};
 
 use crate::ending::{print_end, status_of};
+use crate::limits::MOST_TURNS;
 use crate::watch::{Unwatched, Watch};
 use command_line::ProgramFault;
 use repl::Ask;
@@ -18,24 +20,25 @@ use std::io::Write;
 use store::Store;
 use world::{Event, Seen, World, WorldFault, WorldFaultKind};
 
-/// How many turns a pass may have.
-const MOST_TURNS: u64 = 4_294_967_296;
-
 /// Plays a pass of a world to its end, and prints its report as one line, behind `stopped WHY ` where it
 /// stopped. Returns the program's status: 0 where the pass is done and nothing was refused, 3 where
 /// something was, 4 where it stopped.
 ///
 /// `File`: there is no such pass, it hasn't ended after 2^32 exchanges, or the line can't be written.
-/// `Memory`: memory ran out. The exchanges so far stand.
+/// `Memory`: memory ran out. The exchanges so far stand, and one more may, whose reply may be lost.
 pub fn sync_pass<S: Store + Drop, W: Write>(
     alloc: Global,
     world: &mut World<S>,
     repl: u64,
     writer: &mut W,
 ) -> Result<u8, ProgramFault>
-    ensures ended { AreHonest S.Store world.new.nodes → IfOk result (λ status. (asked : Asked) × ComesToEnd S.Store world.old repl asked world.new
+    ensures ended { AreHonest S.Store world.new.nodes → IfOk result (λ status. (asked : Asked) × ComesToEnd (HasTurn S.Store repl) world.old asked world.new
         × (status ≡ status_of asked) × Appends (W.contents writer.old) (W.contents writer.new) (end_text asked)) }
     ensures known { OnOk result (was_started world.old.transfers repl ≡ true) }
+
+    // At a refusal the exchanges so far stand, and one more may.
+    ensures left { AreHonest S.Store world.new.nodes → OnErr result (IsLeft (HasTurn S.Store repl) (LeavesTurn S.Store repl) world.old world.new) }
+    ensures unknown { was_started world.old.transfers repl ≡ false → (result ≡ Err ProgramFault.File) ⊎ (result ≡ Err ProgramFault.Memory) }
 {
     watch_pass(alloc, world, repl, writer, &mut Unwatched)
 }
@@ -48,9 +51,13 @@ pub fn watch_pass<S: Store + Drop, W: Write, T: Watch>(
     writer: &mut W,
     watch: &mut T,
 ) -> Result<u8, ProgramFault>
-    ensures ended { AreHonest S.Store world.new.nodes → IfOk result (λ status. (asked : Asked) × ComesToEnd S.Store world.old repl asked world.new
+    ensures ended { AreHonest S.Store world.new.nodes → IfOk result (λ status. (asked : Asked) × ComesToEnd (HasTurn S.Store repl) world.old asked world.new
         × (status ≡ status_of asked) × Appends (W.contents writer.old) (W.contents writer.new) (end_text asked)) }
     ensures known { OnOk result (was_started world.old.transfers repl ≡ true) }
+
+    // At a refusal the exchanges so far stand, and one more may.
+    ensures left { AreHonest S.Store world.new.nodes → OnErr result (IsLeft (HasTurn S.Store repl) (LeavesTurn S.Store repl) world.old world.new) }
+    ensures unknown { was_started world.old.transfers repl ≡ false → (result ≡ Err ProgramFault.File) ⊎ (result ≡ Err ProgramFault.Memory) }
 {
     let end = play_to_end(world, repl, watch);
     watch.end();
@@ -65,8 +72,10 @@ fn play_to_end<S: Store + Drop, T: Watch>(
     repl: u64,
     watch: &mut T,
 ) -> Result<Ask, ProgramFault>
-    ensures ended { AreHonest S.Store world.new.nodes → IfOk result (λ end. ComesToEnd S.Store world.old repl (ask_of end) world.new) }
+    ensures ended { AreHonest S.Store world.new.nodes → IfOk result (λ end. ComesToEnd (HasTurn S.Store repl) world.old (ask_of end) world.new) }
     ensures known { OnOk result (was_started world.old.transfers repl ≡ true) }
+    ensures left { AreHonest S.Store world.new.nodes → OnErr result (IsLeft (HasTurn S.Store repl) (LeavesTurn S.Store repl) world.old world.new) }
+    ensures unknown { was_started world.old.transfers repl ≡ false → (result ≡ Err ProgramFault.File) ⊎ (result ≡ Err ProgramFault.Memory) }
 {
     for _turn in 0..MOST_TURNS {
         if let Some(end) = take_turn(world, repl, watch)? {
@@ -82,10 +91,12 @@ fn take_turn<S: Store + Drop, T: Watch>(
     repl: u64,
     watch: &mut T,
 ) -> Result<Option<Ask>, ProgramFault>
-    ensures turn { AreHonest S.Store world.new.nodes → IfOk result (λ end. HasTurn S.Store world.old repl (option_map ask_of end) world.new) }
+    ensures turn { AreHonest S.Store world.new.nodes → IfOk result (λ end. HasTurn S.Store repl world.old (option_map ask_of end) world.new) }
     ensures honest { AreHonest S.Store world.new.nodes → AreHonest S.Store world.old.nodes }
     ensures many { length world.new.transfers ≡ length world.old.transfers }
     ensures known { OnOk result (was_started world.old.transfers repl ≡ true) }
+    ensures left { AreHonest S.Store world.new.nodes → OnErr result (LeavesTurn S.Store repl world.old world.new) }
+    ensures unknown { was_started world.old.transfers repl ≡ false → (result ≡ Err ProgramFault.File) ⊎ (result ≡ Err ProgramFault.Memory) }
 {
     let seen = match world.play(&[Event::Exchange { repl }]) {
         Ok(seen) => seen,
@@ -100,7 +111,9 @@ fn take_turn<S: Store + Drop, T: Watch>(
 }
 
 /// Tells what fault of the program a fault of the world is.
-fn program_fault(fault: &WorldFault) -> ProgramFault {
+fn program_fault(fault: &WorldFault) -> ProgramFault
+    ensures { (result ≡ ProgramFault.File) ⊎ (result ≡ ProgramFault.Memory) }
+{
     match fault.kind {
         WorldFaultKind::Unknown => ProgramFault::File,
         WorldFaultKind::Memory => ProgramFault::Memory,
