@@ -1,6 +1,6 @@
 -- What a request came to, in the words of `Answer`: for private clauses.
 -- This crate's own: it ties structs of the code to the definition.
-use Rattle.std.specs.Prelude.{◌≡◌, ℕ, Bool, List, false, true, Option, Some, None, Result, ⊤, is_some}
+use Rattle.std.specs.Prelude.{◌≡◌, ℕ, Bool, List, false, true, Option, Some, None, Result, Err, ⊤, is_some}
 use Rattle.std.specs.FinMap.{get}
 use Rattle.auth.specs.Callers.{Identity}
 use Rattle.couch_http.specs.Message.{Message}
@@ -17,11 +17,16 @@ use Rattle.couch_json.specs.Value.{Value, object}
 use Rattle.node.specs.Answer as answer
 use Rattle.node.specs.Work.{Done, Effect, Work, appended, local_put, read_work, secured}
 use Rattle.node.specs.Works.{change_list, database_read, difference_list, document_deleted, document_finds, document_list, document_read, document_written, documents_written, index_written, local_members, local_read, local_written, security_read, security_written, view_read}
+use Rattle.api.specs.declared.method.RequestMethod.TheVariants.{Get, Put, Delete}
+use Rattle.api.specs.declared.page.Page.TheVariants as page
 use Rattle.api.specs.declared.refusal.Refusal.{Refusal}
+use Rattle.api.specs.declared.refusal.Refusal.TheVariants.{Method}
 use Rattle.node.specs.declared.answered.Answered.{Answered}
 use Rattle.node.specs.declared.answered.Change.{Change}
 use Rattle.node.specs.declared.answered.Change.TheVariants.{Create, Remove, Write}
 use Rattle.node.specs.declared.answered.Worked.{Worked}
+use Rattle.node.specs.declared.task.Task.{Task}
+use Rattle.node.specs.declared.task.Task.TheVariants as task
 use Rattle.node.specs.declared.working.Work.{Work as WorkAsked}
 use Rattle.node.specs.declared.working.Work.TheVariants as asked
 use Rattle.node.specs.declared.working.Reading.{Reading}
@@ -54,6 +59,19 @@ writing_of write.LocalDocument caller m name = local_written caller m
 abbrev pub work_of : WorkAsked → Identity → Message → List ℕ → Work
 work_of (asked.Read r) caller m name = read_work (reading_of r m name)
 work_of (asked.Write w) caller m name = writing_of w caller m name
+
+-- what a task asks
+abbrev pub task_asked : Task → Identity → Message → Result answer.Task Refusal
+task_asked task.Welcome caller m = answer.task_of page.Welcome (Some Get) caller m
+task_asked task.ListDatabases caller m = answer.task_of page.AllDatabases (Some Get) caller m
+task_asked task.CreateDatabase caller m = answer.task_of page.Database (Some Put) caller m
+task_asked task.RemoveDatabase caller m = answer.task_of page.Database (Some Delete) caller m
+task_asked (task.Work action work) caller m = answer.work_task action m (work_of work caller m)
+
+-- the same, or the refusal where a page has nothing for the method
+abbrev pub task_asked_if_any : Option Task → Identity → Message → Result answer.Task Refusal
+task_asked_if_any None caller m = Err Method
+task_asked_if_any (Some t) caller m = task_asked t caller m
 
 -- ---- what it comes to
 

@@ -8,10 +8,10 @@ ghost use Rattle.couch_json.specs.Canonical.{canonical};
 ghost use Rattle.couch_json.specs.Lawful.{IsLawful};
 ghost use Rattle.couch_json.specs.View.{view};
 ghost use Rattle.store.specs.Calls.{ChangesWhole, GoesOn};
-ghost use Rattle.node.specs.Answer.{answer, judgement, with_change};
+ghost use Rattle.node.specs.Answer.{answer, judgement, task_outcome, with_change};
 ghost use Rattle.api.specs.Asking.{method_of};
-ghost use Rattle.node.specs.Answered.{MayChange, MayChangeBy, change_by, change_of, outcome_of};
-ghost use Rattle.api.specs.Refusals.{refusal_value, status_of};
+ghost use Rattle.node.specs.Answered.{MayChange, MayChangeBy, change_by, change_of, outcome_of, task_asked};
+ghost use Rattle.api.specs.Refusals.{next, refusal_value, status_of};
 ghost use Rattle.node.specs.Causes.{EndsBefore, HasCause, stop_of_change};
 ghost use Rattle.node.specs.Coming.{Judges, Serves};
 ghost use Rattle.node.specs.Step.{IsDone, IsStep};
@@ -19,14 +19,13 @@ ghost use Rattle.node.specs.Step.{IsDone, IsStep};
 use crate::answered::{Answered, Change};
 use crate::databases::{create_database, list_databases, remove_database};
 use crate::stop::Stop;
+use crate::task::{Task, task_of};
 use crate::welcome::tell_welcome;
-use crate::working::Work::{Read, Write};
-use crate::working::{Reading, Writing, do_work};
-use api::{Page, Refusal, RequestMethod, Routes, caller, method_of};
+use crate::working::do_work;
+use api::{Page, Refusal, Routes, caller, method_of};
 use auth::{Auth, Caller};
 use couch_http::{Fixed, HttpFault, Request, Response};
 use couch_json::{Got, Json, NoMemory};
-use policy::Action;
 use std::alloc::Global;
 use store::{DbName, Store, StoreFault};
 use write::{Planned, WriteFault, apply};
@@ -58,8 +57,24 @@ fn serve<S: Store>(
 ) -> Result<Answered, Stop>
     ensures serves { Serves S.Store store.old store.new page (method_of request.now.method) caller.now (message_of request.now) result }
 {
-    match (page, method_of(request.method.as_str())) {
-        (Page::Welcome, Some(RequestMethod::Get)) => {
+    match task_of(page, method_of(request.method.as_str())) {
+        Some(task) => do_task(alloc, store, task, caller, request),
+        None => Err(Stop::Refused(Refusal::Method)),
+    }
+}
+
+/// Does a task, but for the change of the store itself.
+fn do_task<S: Store>(
+    alloc: Global,
+    store: &mut S,
+    task: Task,
+    caller: &Caller,
+    request: &Request,
+) -> Result<Answered, Stop>
+    ensures judges { Judges S.Store store.old store.new (next (task_asked task caller.now (message_of request.now)) (task_outcome caller.now (S.contents store.old))) result }
+{
+    match task {
+        Task::Welcome => {
             let value = tell_welcome(alloc, request)?;
             Ok(Answered {
                 status: 200,
@@ -67,166 +82,10 @@ fn serve<S: Store>(
                 change: None,
             })
         }
-        (Page::AllDatabases, Some(RequestMethod::Get)) => {
-            list_databases(alloc, store, caller, request)
-        }
-        (Page::Database, Some(RequestMethod::Put)) => {
-            create_database(alloc, store, caller, request)
-        }
-        (Page::Database, Some(RequestMethod::Delete)) => {
-            remove_database(alloc, store, caller, request)
-        }
-        (Page::Database, Some(RequestMethod::Get)) => {
-            do_work(
-                alloc,
-                store,
-                caller,
-                Action::Read,
-                Read(Reading::Database),
-                request,
-            )
-        }
-        (Page::Security, Some(RequestMethod::Get)) => {
-            do_work(
-                alloc,
-                store,
-                caller,
-                Action::Read,
-                Read(Reading::Security),
-                request,
-            )
-        }
-        (Page::Security, Some(RequestMethod::Put)) => {
-            do_work(
-                alloc,
-                store,
-                caller,
-                Action::WriteSecurity,
-                Write(Writing::Security),
-                request,
-            )
-        }
-        (Page::BulkDocuments, Some(RequestMethod::Post)) => {
-            do_work(
-                alloc,
-                store,
-                caller,
-                Action::WriteDocument,
-                Write(Writing::Documents),
-                request,
-            )
-        }
-        (Page::AllDocuments, Some(RequestMethod::Get)) => {
-            do_work(
-                alloc,
-                store,
-                caller,
-                Action::Read,
-                Read(Reading::Documents),
-                request,
-            )
-        }
-        (Page::Changes, Some(RequestMethod::Get)) => {
-            do_work(
-                alloc,
-                store,
-                caller,
-                Action::Read,
-                Read(Reading::Changes),
-                request,
-            )
-        }
-        (Page::Differences, Some(RequestMethod::Post)) => {
-            do_work(
-                alloc,
-                store,
-                caller,
-                Action::Read,
-                Read(Reading::Differences),
-                request,
-            )
-        }
-        (Page::Document, Some(RequestMethod::Get)) => {
-            do_work(
-                alloc,
-                store,
-                caller,
-                Action::Read,
-                Read(Reading::Document),
-                request,
-            )
-        }
-        (Page::Document, Some(RequestMethod::Put)) => {
-            do_work(
-                alloc,
-                store,
-                caller,
-                Action::WriteDocument,
-                Write(Writing::Document),
-                request,
-            )
-        }
-        (Page::Document, Some(RequestMethod::Delete)) => {
-            do_work(
-                alloc,
-                store,
-                caller,
-                Action::WriteDocument,
-                Write(Writing::Deletion),
-                request,
-            )
-        }
-        (Page::Find, Some(RequestMethod::Post)) => {
-            do_work(
-                alloc,
-                store,
-                caller,
-                Action::Read,
-                Read(Reading::Finds),
-                request,
-            )
-        }
-        (Page::Index, Some(RequestMethod::Post)) => {
-            do_work(
-                alloc,
-                store,
-                caller,
-                Action::WriteDocument,
-                Write(Writing::Index),
-                request,
-            )
-        }
-        (Page::View, Some(RequestMethod::Get)) => {
-            do_work(
-                alloc,
-                store,
-                caller,
-                Action::Read,
-                Read(Reading::View),
-                request,
-            )
-        }
-        (Page::LocalDocument, Some(RequestMethod::Get)) => {
-            do_work(
-                alloc,
-                store,
-                caller,
-                Action::Read,
-                Read(Reading::LocalDocument),
-                request,
-            )
-        }
-        (Page::LocalDocument, Some(RequestMethod::Put)) => {
-            do_work(
-                alloc,
-                store,
-                caller,
-                Action::Read,
-                Write(Writing::LocalDocument),
-                request,
-            )
-        }
-        _ => Err(Stop::Refused(Refusal::Method)),
+        Task::ListDatabases => list_databases(alloc, store, caller, request),
+        Task::CreateDatabase => create_database(alloc, store, caller, request),
+        Task::RemoveDatabase => remove_database(alloc, store, caller, request),
+        Task::Work(action, work) => do_work(alloc, store, caller, action, work, request),
     }
 }
 

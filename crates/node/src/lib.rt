@@ -23,6 +23,7 @@ mod memory;
 mod node;
 mod security;
 mod stop;
+mod task;
 mod welcome;
 mod working;
 
