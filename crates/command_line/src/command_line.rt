@@ -96,7 +96,8 @@ fn serve_command<'a>(alloc: Global) -> Result<Command<'a>, AllocError>
 }
 
 /// Returns the command `sync --secret S --session T --from F --db D [--to G | --address A]
-/// --target-db E [--user U] [ADMIN]...`. It takes both of `--to` and `--address`, and neither.
+/// --target-db E [--user U] [ADMIN]...`. It also takes words with both of `--to` and `--address`, or with
+/// neither, which `choose_target` refuses.
 fn sync_command<'a>(alloc: Global) -> Result<Command<'a>, AllocError>
     ensures shape { IfOk result (λ command. shape_of command ≡ sync_command) }
     ensures local { IfOk result (λ command. (fields_of command).has_globals ≡ false) }
