@@ -50,8 +50,8 @@ abbrev pub repl_of : List ℕ → Option ScriptLine
 repl_of words = option_map (λ pass. repl_line pass) (pass_words_of None words)
 
 -- `batch N r A/db B/db SESSION [NAME]`, where this is all but the first word
-abbrev pub batch_of : List ℕ → Option ScriptLine
-batch_of words = option_map (λ pass. repl_line pass) (batch_pass_of words)
+abbrev pub batch_repl_of : List ℕ → Option ScriptLine
+batch_repl_of words = option_map (λ pass. repl_line pass) (batch_pass_of words)
 
 -- what the first word of a line has a pass do
 abbrev pub turn_named : List ℕ → Option Turn
@@ -70,7 +70,7 @@ turn_of turn name = if is_word name then Some (turn_line turn name) else None
 abbrev pub pass_line_with : List ℕ → List ℕ → Option ScriptLine
 pass_line_with word rest =
     if bytes_eq word (codes "repl") then repl_of rest
-    else if bytes_eq word (codes "batch") then batch_of rest
+    else if bytes_eq word (codes "batch") then batch_repl_of rest
     else option_and_then (λ turn. turn_of turn rest) (turn_named word)
 
 -- the line whose first word this is, with what stands behind it

@@ -2,7 +2,7 @@
 
 ghost use Rattle.std.specs.Prelude.{◌≡◌, IfOk, option_map, option_and_then};
 ghost use Rattle.lab.specs.Words.{parts_at_space};
-ghost use Rattle.lab.specs.Script.{batch_of, line_of, line_with, node_of, pass_line_with, public_of, conn_of, send_of, close_of, repl_of, turn_named, turn_of};
+ghost use Rattle.lab.specs.Script.{batch_repl_of, line_of, line_with, node_of, pass_line_with, public_of, conn_of, send_of, close_of, repl_of, turn_named, turn_of};
 ghost use Rattle.lab.specs.Lines.{said_by};
 
 use crate::escapes::unescape;
@@ -77,7 +77,7 @@ fn read_pass_line<'a>(alloc: Global, word: &[u8], rest: &'a [u8]) -> Got<Option<
         return read_repl(alloc, rest);
     }
     if word == b"batch".as_slice() {
-        return read_batch(alloc, rest);
+        return read_batch_repl(alloc, rest);
     }
     match turn_of(word) {
         Some(turn) => Ok(read_turn(turn, rest)),
@@ -182,8 +182,8 @@ fn read_repl<'a>(alloc: Global, words: &'a [u8]) -> Got<Option<Line<'a>>>
     }
 }
 
-fn read_batch<'a>(alloc: Global, words: &'a [u8]) -> Got<Option<Line<'a>>>
-    ensures { IfOk result (λ line. option_map said_by line ≡ batch_of words.now) }
+fn read_batch_repl<'a>(alloc: Global, words: &'a [u8]) -> Got<Option<Line<'a>>>
+    ensures { IfOk result (λ line. option_map said_by line ≡ batch_repl_of words.now) }
 {
     match read_batch_pass(alloc, words)? {
         Some(pass) => Ok(Some(Line::Repl(pass))),
