@@ -1,10 +1,10 @@
 -- Turns of a pass, one after another.
-use Rattle.std.proofs.Common.{◌≡◌, ◌<◌, ◌≤◌, ◌+◌, ℕ, suc, Option, Some, None, subst, refl, arith}
+use Rattle.std.proofs.Common.{◌≡◌, ◌<◌, ◌≤◌, ◌+◌, ℕ, suc, Option, Some, None, subst, arith}
 use Rattle.std.specs.Prelude.{OnErr, Result, Ok, Err, option_map}
 use Rattle.repl.specs.Asks.{ask_of}
 use Rattle.repl.specs.Passes.{Asked}
 use Rattle.repl.specs.declared.ask.Ask.{Ask}
-use Rattle.sync.specs.Turns.{ComesToEnd, GoesThrough, IsLeft, TurnOf, most_turns}
+use Rattle.sync.specs.Turns.{ComesToEnd, GoesThrough, EndsEarly, TurnOf, most_turns}
 
 module _ {A : Type 0} (turn : TurnOf A) (count : ℕ) (start now after : A) (said : Option Ask) where
   -- the last turn
@@ -31,20 +31,20 @@ on_err (Err e) x = x
 before_most : (count most : ℕ) → count < most → count ≤ most
 before_most count most before = omega (arith, before)
 
-module _ {A : Type 0} (turn : TurnOf A) (leaves : A → A → Type 0) where
-  -- a turn that wasn't told
-  pub turn_is_left : (count : ℕ) (start now after : A) → count < most_turns → GoesThrough turn count start now → leaves now after → IsLeft turn leaves start after
-  turn_is_left count start now after in_time gone left =
+module _ {A : Type 0} (turn : TurnOf A) (breaks : A → A → Type 0) where
+  -- a turn that broke off
+  pub early_at_turn : (count : ℕ) (start now after : A) → count < most_turns → GoesThrough turn count start now → breaks now after → EndsEarly turn breaks start after
+  early_at_turn count start now after in_time gone left =
       record { count = count; in_time = before_most count most_turns in_time; between = now; goes = gone; last = left }
 
   -- too many turns
-  pub all_is_left : (count : ℕ) (start now : A) → count ≤ most_turns → GoesThrough turn count start now → leaves now now → IsLeft turn leaves start now
-  all_is_left count start now in_time gone left = record { count = count; in_time = in_time; between = now; goes = gone; last = left }
+  pub early_at_most : (count : ℕ) (start now : A) → count ≤ most_turns → GoesThrough turn count start now → breaks now now → EndsEarly turn breaks start now
+  early_at_most count start now in_time gone left = record { count = count; in_time = in_time; between = now; goes = gone; last = left }
 
-  -- a pass that came to its end, which wasn't told
-  pub end_is_left : ((before after : A) (asked : Asked) → turn before (Some asked) after → leaves before after)
-      → (start after : A) (asked : Asked) → ComesToEnd turn start asked after → IsLeft turn leaves start after
-  end_is_left may start after asked end = record {
+  -- a pass that came to its end, which nobody was told
+  pub early_at_end : ((before after : A) (asked : Asked) → turn before (Some asked) after → breaks before after)
+      → (start after : A) (asked : Asked) → ComesToEnd turn start asked after → EndsEarly turn breaks start after
+  early_at_end may start after asked end = record {
     count = end.count;
     in_time = before_most end.count most_turns end.in_time;
     between = end.between;

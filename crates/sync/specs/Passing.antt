@@ -21,8 +21,8 @@ end_in (ended number asked ∷ seen) = Some asked
 abbrev pub HasTurn : {S : Type 0} → Ghosts S → ℕ → Network S → Option Asked → Network S → Type 0
 HasTurn g number before end after = (seen : List Sight) × Plays (StoreSteps g) before (exchanges number Answered ∷ []) seen after × (end_in seen ≡ end)
 
--- a turn of the pass of this number that wasn't told: nothing happened, or an exchange of which the reply may be lost
-abbrev pub LeavesTurn : {S : Type 0} → Ghosts S → ℕ → Network S → Network S → Type 0
-LeavesTurn g number before after =
+-- the turn of the pass of this number broke off: nothing happened, or an exchange of which the reply may be lost
+abbrev pub BreaksOff : {S : Type 0} → Ghosts S → ℕ → Network S → Network S → Type 0
+BreaksOff g number before after =
     (after ≡ before)
     ⊎ ((fate : Fate) × (fate ≢ RequestLost) × ((seen : List Sight) × Plays (StoreSteps g) before (exchanges number fate ∷ []) seen after))

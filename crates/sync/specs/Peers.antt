@@ -36,9 +36,9 @@ abbrev pub HasTurn : {S : Type 0} → Ghosts S → Source S → Option Asked →
 HasTurn g before None after = IsAnswered g before (asked_of before.pass) after
 HasTurn g before (Some asked) after = (asked ≡ asked_of before.pass) × (after ≡ before)
 
--- a turn that wasn't told: the pass stands where it stood, and the node made no step, or the one that the pass asked for
-abbrev pub LeavesTurn : {S : Type 0} → Ghosts S → Source S → Source S → Type 0
-LeavesTurn g before after =
+-- the turn broke off: the pass stands where it stood, and the node made no step, or the one that the pass asked for
+abbrev pub BreaksOff : {S : Type 0} → Ghosts S → Source S → Source S → Type 0
+BreaksOff g before after =
     (after.pass ≡ before.pass)
     × ((after.node ≡ before.node)
     ⊎ ((m : Message) × (asked_of before.pass ≡ to_source m) × ((reply : Reply) × IsServed g before.node m reply after.node)))

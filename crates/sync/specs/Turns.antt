@@ -24,10 +24,10 @@ pub record ComesToEnd {A : Type 0} (turn : TurnOf A) (before : A) (asked : Asked
   pub goes : GoesThrough turn count before between
   pub ends : turn between (Some asked) after
 
--- the pass was left before its end was told: its turns so far stand, and a last one as it may be left
-pub record IsLeft {A : Type 0} (turn : TurnOf A) (leaves : A → A → Type 0) (before after : A) : Type 0 where
+-- the pass ended early, before its end was told: its turns so far stand, and so does what a turn leaves that broke off
+pub record EndsEarly {A : Type 0} (turn : TurnOf A) (breaks_off : A → A → Type 0) (before after : A) : Type 0 where
   pub count : ℕ
   pub in_time : count ≤ most_turns
   pub between : A
   pub goes : GoesThrough turn count before between
-  pub last : leaves between after
+  pub last : breaks_off between after

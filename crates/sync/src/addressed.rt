@@ -8,8 +8,8 @@ ghost use Rattle.store.specs.Calls.{GoesOn};
 ghost use Rattle.repl.specs.Asks.{ask_of, pass_of};
 ghost use Rattle.repl.specs.Passes.{Asked, to_source};
 ghost use Rattle.sync.specs.Ending.{end_text, status_of};
-ghost use Rattle.sync.specs.Peers.{HasTurn, IsAnswered, IsServed, LeavesTurn, pass_with_reply};
-ghost use Rattle.sync.specs.Turns.{ComesToEnd, IsLeft};
+ghost use Rattle.sync.specs.Peers.{HasTurn, IsAnswered, IsServed, BreaksOff, pass_with_reply};
+ghost use Rattle.sync.specs.Turns.{ComesToEnd, EndsEarly};
 
 use crate::ending::{print_end, status_of};
 use crate::limits::MOST_TURNS;
@@ -43,7 +43,7 @@ pub fn sync_to_peer<S: Store + Drop, P: Peer, W: Write, T: Watch>(
         × (status ≡ status_of asked) × Appends (W.contents writer.old) (W.contents writer.new) (end_text asked)) }
 
     // At a refusal the exchanges so far stand, and the node may have made one more step, of which the pass doesn't know.
-    ensures left { S.is_honest node.new.store → OnErr result (IsLeft (HasTurn S.Store) (LeavesTurn S.Store)
+    ensures early { S.is_honest node.new.store → OnErr result (EndsEarly (HasTurn S.Store) (BreaksOff S.Store)
         (record { node = node.old; pass = pass_of pass.old }) (record { node = node.new; pass = pass_of pass.new })) }
 {
     let end = play_to_end(alloc, node, peer, pass, watch);
@@ -63,7 +63,7 @@ fn play_to_end<S: Store + Drop, P: Peer, T: Watch>(
 ) -> Result<Ask, ProgramFault>
     ensures ended { S.is_honest node.new.store → IfOk result (λ end. ComesToEnd (HasTurn S.Store)
         (record { node = node.old; pass = pass_of pass.old }) (ask_of end) (record { node = node.new; pass = pass_of pass.new })) }
-    ensures left { S.is_honest node.new.store → OnErr result (IsLeft (HasTurn S.Store) (LeavesTurn S.Store)
+    ensures early { S.is_honest node.new.store → OnErr result (EndsEarly (HasTurn S.Store) (BreaksOff S.Store)
         (record { node = node.old; pass = pass_of pass.old }) (record { node = node.new; pass = pass_of pass.new })) }
 {
     for _turn in 0..MOST_TURNS {
@@ -84,7 +84,7 @@ fn take_turn<S: Store + Drop, P: Peer, T: Watch>(
 ) -> Result<Option<Ask>, ProgramFault>
     ensures turn { S.is_honest node.new.store → IfOk result (λ end. HasTurn S.Store
         (record { node = node.old; pass = pass_of pass.old }) (option_map ask_of end) (record { node = node.new; pass = pass_of pass.new })) }
-    ensures left { S.is_honest node.new.store → OnErr result (LeavesTurn S.Store
+    ensures early { S.is_honest node.new.store → OnErr result (BreaksOff S.Store
         (record { node = node.old; pass = pass_of pass.old }) (record { node = node.new; pass = pass_of pass.new })) }
     ensures onward { GoesOn S.Store node.old.store node.new.store }
 {

@@ -7,8 +7,8 @@ ghost use Rattle.repl.specs.Passes.{Asked};
 ghost use Rattle.world.specs.Network.{AreHonest};
 ghost use Rattle.world.specs.Turning.{sight_of, was_started};
 ghost use Rattle.sync.specs.Ending.{end_text, status_of};
-ghost use Rattle.sync.specs.Passing.{HasTurn, LeavesTurn, end_in};
-ghost use Rattle.sync.specs.Turns.{ComesToEnd, IsLeft};
+ghost use Rattle.sync.specs.Passing.{HasTurn, BreaksOff, end_in};
+ghost use Rattle.sync.specs.Turns.{ComesToEnd, EndsEarly};
 
 use crate::ending::{print_end, status_of};
 use crate::limits::MOST_TURNS;
@@ -37,7 +37,7 @@ pub fn sync_pass<S: Store + Drop, W: Write>(
     ensures known { OnOk result (was_started world.old.transfers repl ≡ true) }
 
     // At a refusal the exchanges so far stand, and one more may.
-    ensures left { AreHonest S.Store world.new.nodes → OnErr result (IsLeft (HasTurn S.Store repl) (LeavesTurn S.Store repl) world.old world.new) }
+    ensures early { AreHonest S.Store world.new.nodes → OnErr result (EndsEarly (HasTurn S.Store repl) (BreaksOff S.Store repl) world.old world.new) }
     ensures unknown { was_started world.old.transfers repl ≡ false → (result ≡ Err ProgramFault.File) ⊎ (result ≡ Err ProgramFault.Memory) }
 {
     watch_pass(alloc, world, repl, writer, &mut Unwatched)
@@ -56,7 +56,7 @@ pub fn watch_pass<S: Store + Drop, W: Write, T: Watch>(
     ensures known { OnOk result (was_started world.old.transfers repl ≡ true) }
 
     // At a refusal the exchanges so far stand, and one more may.
-    ensures left { AreHonest S.Store world.new.nodes → OnErr result (IsLeft (HasTurn S.Store repl) (LeavesTurn S.Store repl) world.old world.new) }
+    ensures early { AreHonest S.Store world.new.nodes → OnErr result (EndsEarly (HasTurn S.Store repl) (BreaksOff S.Store repl) world.old world.new) }
     ensures unknown { was_started world.old.transfers repl ≡ false → (result ≡ Err ProgramFault.File) ⊎ (result ≡ Err ProgramFault.Memory) }
 {
     let end = play_to_end(world, repl, watch);
@@ -74,7 +74,7 @@ fn play_to_end<S: Store + Drop, T: Watch>(
 ) -> Result<Ask, ProgramFault>
     ensures ended { AreHonest S.Store world.new.nodes → IfOk result (λ end. ComesToEnd (HasTurn S.Store repl) world.old (ask_of end) world.new) }
     ensures known { OnOk result (was_started world.old.transfers repl ≡ true) }
-    ensures left { AreHonest S.Store world.new.nodes → OnErr result (IsLeft (HasTurn S.Store repl) (LeavesTurn S.Store repl) world.old world.new) }
+    ensures early { AreHonest S.Store world.new.nodes → OnErr result (EndsEarly (HasTurn S.Store repl) (BreaksOff S.Store repl) world.old world.new) }
     ensures unknown { was_started world.old.transfers repl ≡ false → (result ≡ Err ProgramFault.File) ⊎ (result ≡ Err ProgramFault.Memory) }
 {
     for _turn in 0..MOST_TURNS {
@@ -95,7 +95,7 @@ fn take_turn<S: Store + Drop, T: Watch>(
     ensures honest { AreHonest S.Store world.new.nodes → AreHonest S.Store world.old.nodes }
     ensures many { length world.new.transfers ≡ length world.old.transfers }
     ensures known { OnOk result (was_started world.old.transfers repl ≡ true) }
-    ensures left { AreHonest S.Store world.new.nodes → OnErr result (LeavesTurn S.Store repl world.old world.new) }
+    ensures early { AreHonest S.Store world.new.nodes → OnErr result (BreaksOff S.Store repl world.old world.new) }
     ensures unknown { was_started world.old.transfers repl ≡ false → (result ≡ Err ProgramFault.File) ⊎ (result ≡ Err ProgramFault.Memory) }
 {
     let seen = match world.play(&[Event::Exchange { repl }]) {

@@ -1,13 +1,13 @@
 use Rattle.std.proofs.Common.{◌∙◌, refl, inl}
-use Rattle.sync.proofs.Turns.{all_is_left, comes_to_end, goes_further, on_err, turn_is_left}
-use Rattle.sync.specs.Passing.{HasTurn, LeavesTurn}
+use Rattle.sync.proofs.Turns.{early_at_most, comes_to_end, goes_further, on_err, early_at_turn}
+use Rattle.sync.specs.Passing.{HasTurn, BreaksOff}
 use Rattle.sync.proofs.passing.play_to_end.Goals as goal
 
-pub returns-in_err-end-clause-left : goal.returns-in_err-end-clause-left
-returns-in_err-end-clause-left g c = λ honest.
+pub returns-in_err-end-clause-early : goal.returns-in_err-end-clause-early
+returns-in_err-end-clause-early g c = λ honest.
     on_err c.from_residual.result
-    (turn_is_left (HasTurn g.S.Store c.args.repl) (LeavesTurn g.S.Store c.args.repl) c.loop-turn._turn c.args.world.now c.loop-turn.world c.take_turn.new.world c.loop-turn-test.true
-    (c.loop-turn.invariant.goes (c.in_err-end.ensures.honest honest)) (c.in_err-end.ensures.left honest))
+    (early_at_turn (HasTurn g.S.Store c.args.repl) (BreaksOff g.S.Store c.args.repl) c.loop-turn._turn c.args.world.now c.loop-turn.world c.take_turn.new.world c.loop-turn-test.true
+    (c.loop-turn.invariant.goes (c.in_err-end.ensures.honest honest)) (c.in_err-end.ensures.early honest))
 
 pub returns-in-Some-clause-ended : goal.returns-in-Some-clause-ended
 returns-in-Some-clause-ended g c = λ honest.
@@ -22,7 +22,7 @@ loop-turn-preserved g c = record {
   many = c.in_ok-end.ensures.many ∙ c.loop-turn.invariant.many;
 }
 
-pub returns-clause-left : goal.returns-clause-left
-returns-clause-left g c = λ honest.
-    all_is_left (HasTurn g.S.Store c.args.repl) (LeavesTurn g.S.Store c.args.repl) c.loop-turn._turn c.args.world.now c.loop-turn.world c.loop-turn.auto._turn-end
+pub returns-clause-early : goal.returns-clause-early
+returns-clause-early g c = λ honest.
+    early_at_most (HasTurn g.S.Store c.args.repl) (BreaksOff g.S.Store c.args.repl) c.loop-turn._turn c.args.world.now c.loop-turn.world c.loop-turn.auto._turn-end
     (c.loop-turn.invariant.goes honest) (inl refl)
