@@ -5,3 +5,7 @@ pub mod MadeLemmas
 pub mod PendingLemmas
 pub mod Segments
 pub mod IndexLemmas
+pub mod LossLemmas
+pub mod ReportLemmas
+pub mod StartLemmas
+pub mod StopLemmas

@@ -9,5 +9,7 @@ pub mod Kept
 pub mod Replies
 pub mod Taken
 pub mod Passes
+pub mod Turns
+pub mod Causes
 pub mod Asks
 pub mod Ending

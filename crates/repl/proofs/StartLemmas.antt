@@ -1,0 +1,236 @@
+-- Where a pass starts after several turns.
+use Rattle.std.proofs.Common.{◌≡◌, ◌∙◌, ℕ, ◌+◌, ◌||◌, Bool, true, false, cond, List, [], ◌∷◌, ◌++◌, Option, Result, Ok, Err, append_assoc, append-nil, refl, sym, ap, subst}
+use Rattle.std.specs.Prelude.{⊤, is_ok}
+use Rattle.couch_json.specs.Value.{Value}
+use Rattle.repl.specs.Calls.{Revisions}
+use Rattle.repl.specs.Checkpoints.{Checkpoint, start_of}
+use Rattle.repl.specs.Configuration.{Configuration}
+use Rattle.repl.specs.Passes.{Pass, answered_in, first_pass, is_written, lost_of, pass_after, phase_after_list, phase_after_loss, phase_after_round, phase_with, with_changes, with_differences, with_failures, with_opened, with_source, with_source_reread, with_source_written, with_target, with_target_reread, with_target_written}
+use Rattle.repl.specs.Replies.{Changes, Opened, Stored, changes_listed, checkpoint_read, checkpoint_written, differences_read, documents_of, documents_pushed, revisions_opened}
+use Rattle.repl.specs.Turns.{Turn, after_turn, after_turns, answered, checkpoint_said, has_listed, lists_at, lists_in, lost, replies_in, start_by, stored_said}
+use Rattle.repl.specs.declared.phase.Phase.{Phase}
+use Rattle.repl.specs.declared.phase.Phase.TheVariants.{ReadSource, ReadTarget, ListChanges, Compare, Open, Push, WriteSource, WriteTarget, RereadSource, RereadTarget, Done, Stopped}
+use Rattle.repl.specs.declared.why.Why.{Why}
+use Rattle.repl.proofs.LossLemmas.{lost_by}
+
+abbrev Taken : Type 0
+Taken = List (ℕ × List ℕ)
+
+-- the first two of these replies give this start
+record IsStart (rs : Taken) (n : ℕ) : Type 0 where
+  source : ℕ × List ℕ
+  target : ℕ × List ℕ
+  rest : Taken
+  are : rs ≡ source ∷ target ∷ rest
+  is : n ≡ start_of (checkpoint_said source) (checkpoint_said target)
+
+-- the only reply so far gives this checkpoint
+record IsRead (rs : Taken) (older : Option Checkpoint) : Type 0 where
+  source : ℕ × List ℕ
+  are : rs ≡ source ∷ []
+  is : older ≡ checkpoint_said source
+
+start_more : (rs more : Taken) (n : ℕ) → IsStart rs n → IsStart (rs ++ more) n
+start_more rs more n h = record { source = h.source; target = h.target; rest = h.rest ++ more; are = ap (λ (xs : Taken). xs ++ more) h.are; is = h.is }
+
+-- ---- the start that the checkpoints gave
+
+-- what is known of a pass that asks in a phase, after these replies
+abbrev Standing : Phase → Pass → Taken → Type 0
+Standing ReadSource p rs = rs ≡ []
+Standing ReadTarget p rs = IsRead rs p.older
+Standing ListChanges p rs = IsStart rs p.start
+Standing Compare p rs = IsStart rs p.start
+Standing Open p rs = IsStart rs p.start
+Standing Push p rs = IsStart rs p.start
+Standing WriteSource p rs = IsStart rs p.start
+Standing WriteTarget p rs = IsStart rs p.start
+Standing RereadSource p rs = IsStart rs p.start
+Standing RereadTarget p rs = IsStart rs p.start
+Standing Done p rs = IsStart rs p.start
+Standing (Stopped why) p rs = ⊤
+
+from_source : (p : Pass) (rs : Taken) (status : ℕ) (body : List ℕ) (r : Result Stored Why) → checkpoint_read status body ≡ r → rs ≡ []
+    → Standing (pass_after with_source p r).phase (pass_after with_source p r) (rs ++ (status, body) ∷ [])
+from_source p rs status body (Ok s) e h = record { source = (status, body); are = ap (λ (xs : Taken). xs ++ (status, body) ∷ []) h; is = ap stored_said (sym e) }
+from_source p rs status body (Err why) e h = tt
+
+from_target : (p : Pass) (rs : Taken) (status : ℕ) (body : List ℕ) (r : Result Stored Why) → checkpoint_read status body ≡ r → IsRead rs p.older
+    → Standing (pass_after with_target p r).phase (pass_after with_target p r) (rs ++ (status, body) ∷ [])
+from_target p rs status body (Ok s) e h = record {
+  source = h.source;
+  target = (status, body);
+  rest = [];
+  are = ap (λ (xs : Taken). xs ++ (status, body) ∷ []) h.are;
+  is = ap (λ (o : Option Checkpoint). start_of o s.checkpoint) h.is ∙ ap (λ (r : Result Stored Why). start_of (checkpoint_said h.source) (stored_said r)) (sym e);
+}
+from_target p rs status body (Err why) e h = tt
+
+listed : (ls : List Revisions) (p : Pass) (rs : Taken) → IsStart rs p.start → Standing (phase_after_list ls) p rs
+listed [] p rs h = h
+listed (l ∷ ls) p rs h = h
+
+pending : (missing : List Revisions) (documents : List Value) (p : Pass) (rs : Taken) → IsStart rs p.start → Standing (phase_with missing documents) p rs
+pending [] [] p rs h = h
+pending [] (v ∷ vs) p rs h = h
+pending (m ∷ ms) documents p rs h = h
+
+rounded : (b : Bool) (p : Pass) (rs : Taken) → IsStart rs p.start → Standing (phase_after_round b) p rs
+rounded true p rs h = h
+rounded false p rs h = h
+
+either : (b : Bool) (f g : Phase) (p : Pass) (rs : Taken) → Standing f p rs → Standing g p rs → Standing (cond b f g) p rs
+either true f g p rs a b = a
+either false f g p rs a b = b
+
+-- where the start is known, it stays known
+after_reply : {A : Type 0} (take : Pass → A → Pass) (p : Pass) (rs : Taken) (r : Result A Why) → ((a : A) → Standing (take p a).phase (take p a) rs)
+    → Standing (pass_after take p r).phase (pass_after take p r) rs
+after_reply take p rs (Ok a) taken = taken a
+after_reply take p rs (Err why) taken = tt
+
+answer_stands : (f : Phase) (p : Pass) (rs : Taken) (status : ℕ) (body : List ℕ) → p.phase ≡ f → Standing f p rs
+    → Standing (answered_in f p status body).phase (answered_in f p status body) (rs ++ (status, body) ∷ [])
+answer_stands ReadSource p rs status body e h = from_source p rs status body (checkpoint_read status body) refl h
+answer_stands ReadTarget p rs status body e h = from_target p rs status body (checkpoint_read status body) refl h
+answer_stands ListChanges p rs status body e h =
+    let more = start_more rs ((status, body) ∷ []) p.start h in
+    after_reply with_changes p (rs ++ (status, body) ∷ []) (changes_listed status body) (λ (c : Changes). listed c.leaves (with_changes p c) (rs ++ (status, body) ∷ []) more)
+answer_stands Compare p rs status body e h =
+    let more = start_more rs ((status, body) ∷ []) p.start h in
+    after_reply with_differences p (rs ++ (status, body) ∷ []) (differences_read p.leaves status body)
+    (λ (missing : List Revisions). pending missing p.documents (with_differences p missing) (rs ++ (status, body) ∷ []) more)
+answer_stands Open p rs status body e h =
+    let more = start_more rs ((status, body) ∷ []) p.start h in
+    after_reply with_opened p (rs ++ (status, body) ∷ []) (revisions_opened status body)
+    (λ (opened : List Opened). pending _ (p.documents ++ documents_of opened) (with_opened p opened) (rs ++ (status, body) ∷ []) more)
+answer_stands Push p rs status body e h =
+    let more = start_more rs ((status, body) ∷ []) p.start h in
+    after_reply with_failures p (rs ++ (status, body) ∷ []) (documents_pushed status body) (λ (failures : List Value). more)
+answer_stands WriteSource p rs status body e h =
+    let more = start_more rs ((status, body) ∷ []) p.start h in
+    after_reply with_source_written p (rs ++ (status, body) ∷ []) (checkpoint_written status body) (λ (revision : List ℕ). more)
+answer_stands WriteTarget p rs status body e h =
+    let more = start_more rs ((status, body) ∷ []) p.start h in
+    after_reply with_target_written p (rs ++ (status, body) ∷ []) (checkpoint_written status body)
+    (λ (revision : List ℕ). rounded p.is_full (with_target_written p revision) (rs ++ (status, body) ∷ []) more)
+answer_stands RereadSource p rs status body e h =
+    let more = start_more rs ((status, body) ∷ []) p.start h in
+    after_reply with_source_reread p (rs ++ (status, body) ∷ []) (checkpoint_read status body)
+    (λ (s : Stored). either (is_written p s.checkpoint) WriteTarget WriteSource (with_source_reread p s) (rs ++ (status, body) ∷ []) more more)
+answer_stands RereadTarget p rs status body e h =
+    let more = start_more rs ((status, body) ∷ []) p.start h in
+    after_reply with_target_reread p (rs ++ (status, body) ∷ []) (checkpoint_read status body)
+    (λ (s : Stored). either (is_written p s.checkpoint) (phase_after_round p.is_full) WriteTarget (with_target_reread p s) (rs ++ (status, body) ∷ [])
+    (rounded p.is_full (with_target_reread p s) (rs ++ (status, body) ∷ []) more) more)
+answer_stands Done p rs status body e h =
+    subst (λ (g : Phase). Standing g p (rs ++ (status, body) ∷ [])) (sym e) (start_more rs ((status, body) ∷ []) p.start h)
+answer_stands (Stopped why) p rs status body e h = subst (λ (g : Phase). Standing g p (rs ++ (status, body) ∷ [])) (sym e) tt
+
+-- the same pass but for what the standing does not look at
+loss_stands : (f : Phase) (p : Pass) (g : Phase) (n : ℕ) (rs : Taken) → Standing f p rs → Standing (phase_after_loss f) (record p { phase = g; losses = n }) rs
+loss_stands ReadSource p g n rs h = h
+loss_stands ReadTarget p g n rs h = h
+loss_stands ListChanges p g n rs h = h
+loss_stands Compare p g n rs h = h
+loss_stands Open p g n rs h = h
+loss_stands Push p g n rs h = h
+loss_stands WriteSource p g n rs h = h
+loss_stands WriteTarget p g n rs h = h
+loss_stands RereadSource p g n rs h = h
+loss_stands RereadTarget p g n rs h = h
+loss_stands Done p g n rs h = h
+loss_stands (Stopped why) p g n rs h = h
+
+lost_stands : (p : Pass) (rs : Taken) → Standing p.phase p rs → Standing (lost_of p).phase (lost_of p) rs
+lost_stands p rs h =
+    lost_by (λ (q : Pass). Standing q.phase q rs) p.phase p h tt (loss_stands p.phase p (phase_after_loss p.phase) (p.losses + 1) rs h)
+
+-- ---- the start that is reported
+
+-- once changes are listed, the start by the replies; before, 0
+abbrev Reported : Bool → Taken → ℕ → Type 0
+Reported false rs n = n ≡ 0
+Reported true rs n = IsStart rs n
+
+reported_more : (b : Bool) (rs more : Taken) (n m : ℕ) → m ≡ n → Reported b rs n → Reported (b || false) (rs ++ more) m
+reported_more false rs more n m e h = e ∙ h
+reported_more true rs more n m e h = subst (λ (k : ℕ). IsStart (rs ++ more) k) (sym e) (start_more rs more n h)
+
+-- a reply that keeps the reported start
+same_start : {A : Type 0} (take : Pass → A → Pass) (p : Pass) (r : Result A Why) → ((a : A) → (take p a).start_seq ≡ p.start_seq) → (pass_after take p r).start_seq ≡ p.start_seq
+same_start take p (Ok a) same = same a
+same_start take p (Err why) same = refl
+
+by_listing : (b : Bool) (p : Pass) (rs more : Taken) (r : Result Changes Why) → IsStart rs p.start → Reported b rs p.start_seq
+    → Reported (b || is_ok r) (rs ++ more) (pass_after with_changes p r).start_seq
+by_listing true p rs more (Ok c) h k = start_more rs more p.start h
+by_listing false p rs more (Ok c) h k = start_more rs more p.start h
+by_listing b p rs more (Err why) h k = reported_more b rs more p.start_seq p.start_seq refl k
+
+answer_reports : (f : Phase) (p : Pass) (b : Bool) (rs : Taken) (status : ℕ) (body : List ℕ) → Standing f p rs → Reported b rs p.start_seq
+    → Reported (b || lists_in f status body) (rs ++ (status, body) ∷ []) (answered_in f p status body).start_seq
+answer_reports f p b rs status body h k = by f h
+  where
+    kept : (n : ℕ) → n ≡ p.start_seq → Reported (b || false) (rs ++ (status, body) ∷ []) n
+    kept n e = reported_more b rs ((status, body) ∷ []) p.start_seq n e k
+
+    by : (f : Phase) → Standing f p rs → Reported (b || lists_in f status body) (rs ++ (status, body) ∷ []) (answered_in f p status body).start_seq
+    by ReadSource h = kept _ (same_start with_source p (checkpoint_read status body) (λ a. refl))
+    by ReadTarget h = kept _ (same_start with_target p (checkpoint_read status body) (λ a. refl))
+    by ListChanges h = by_listing b p rs ((status, body) ∷ []) (changes_listed status body) h k
+    by Compare h = kept _ (same_start with_differences p (differences_read p.leaves status body) (λ a. refl))
+    by Open h = kept _ (same_start with_opened p (revisions_opened status body) (λ a. refl))
+    by Push h = kept _ (same_start with_failures p (documents_pushed status body) (λ a. refl))
+    by WriteSource h = kept _ (same_start with_source_written p (checkpoint_written status body) (λ a. refl))
+    by WriteTarget h = kept _ (same_start with_target_written p (checkpoint_written status body) (λ a. refl))
+    by RereadSource h = kept _ (same_start with_source_reread p (checkpoint_read status body) (λ a. refl))
+    by RereadTarget h = kept _ (same_start with_target_reread p (checkpoint_read status body) (λ a. refl))
+    by Done h = kept p.start_seq refl
+    by (Stopped why) h = kept p.start_seq refl
+
+lost_reports : (p : Pass) (b : Bool) (rs : Taken) → Reported b rs p.start_seq → Reported (b || false) rs (lost_of p).start_seq
+lost_reports p b rs k = lost_by (λ (q : Pass). Reported (b || false) rs q.start_seq) p.phase p same same same
+  where
+    by : (b : Bool) → Reported b rs p.start_seq → Reported (b || false) rs p.start_seq
+    by true k = k
+    by false k = k
+
+    same : Reported (b || false) rs p.start_seq
+    same = by b k
+
+-- ---- turn by turn
+
+or_assoc : (a b c : Bool) → ((a || b) || c) ≡ (a || (b || c))
+or_assoc true b c = refl
+or_assoc false b c = refl
+
+or_none : (b : Bool) → (b || false) ≡ b
+or_none true = refl
+or_none false = refl
+
+turns_report : (p : Pass) (b : Bool) (rs : Taken) (ts : List Turn) → Standing p.phase p rs → Reported b rs p.start_seq
+    → Reported (b || has_listed p ts) (rs ++ replies_in ts) (after_turns p ts).start_seq
+turns_report p b rs [] h k =
+    let none : Reported (b || false) rs p.start_seq = subst (λ (a : Bool). Reported a rs p.start_seq) (sym (or_none b)) k in
+    subst (λ (xs : Taken). Reported (b || false) xs p.start_seq) (sym (append-nil rs)) none
+turns_report p b rs (answered status body ∷ ts) h k =
+    let q = after_turn p (answered status body) in
+    let one = lists_at p (answered status body) in
+    let more = rs ++ (status, body) ∷ [] in
+    let on : Reported ((b || one) || has_listed q ts) (more ++ replies_in ts) (after_turns q ts).start_seq =
+    turns_report q (b || one) more ts (answer_stands p.phase p rs status body refl h) (answer_reports p.phase p b rs status body h k) in
+    subst (λ (xs : Taken). Reported (b || (one || has_listed q ts)) xs (after_turns q ts).start_seq) (append_assoc rs ((status, body) ∷ []) (replies_in ts))
+    (subst (λ (a : Bool). Reported a (more ++ replies_in ts) (after_turns q ts).start_seq) (or_assoc b one (has_listed q ts)) on)
+turns_report p b rs (lost ∷ ts) h k =
+    let q = lost_of p in
+    subst (λ (a : Bool). Reported a (rs ++ replies_in ts) (after_turns q ts).start_seq) (or_assoc b false (has_listed q ts))
+    (turns_report q (b || false) rs ts (lost_stands p rs h) (lost_reports p b rs k))
+
+reported : (b : Bool) (rs : Taken) (n : ℕ) → Reported b rs n → n ≡ cond b (start_by rs) 0
+reported false rs n h = h
+reported true rs n h = h.is ∙ sym (ap start_by h.are)
+
+pub start_is : (c : Configuration) (ts : List Turn) → (after_turns (first_pass c) ts).start_seq ≡ cond (has_listed (first_pass c) ts) (start_by (replies_in ts)) 0
+start_is c ts =
+    reported (has_listed (first_pass c) ts) (replies_in ts) (after_turns (first_pass c) ts).start_seq (turns_report (first_pass c) false [] ts refl refl)
