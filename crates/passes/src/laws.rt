@@ -1,6 +1,31 @@
 //! What follows from the definitions alone. Each function has an empty body: its contract is the law.
 
 ghost use Rattle.passes.specs.Owed.{DoneOwesNothing, RoundsCover};
+ghost use Rattle.passes.specs.Spelled.{ChangesAreListed, DocumentsArePushed, RevisionsAreCompared, RevisionsAreOpened};
+
+/// Where a pass's call for changes is answered with 200, the answer is the changes after that sequence,
+/// with all leaves, and at most so many, of the database that the pass names.
+pub fn changes_are_listed()
+    ensures { ChangesAreListed }
+{}
+
+/// Where a pass's call to compare revisions is answered with 200, the answer says which of them the
+/// database that the pass names doesn't know.
+pub fn revisions_are_compared()
+    ensures { RevisionsAreCompared }
+{}
+
+/// Where a pass's call to open revisions of a document is answered with 200, the answer is those
+/// revisions of that document in the database that the pass names.
+pub fn revisions_are_opened()
+    ensures { RevisionsAreOpened }
+{}
+
+/// Where a pass's push is answered with 201, each document was judged in the database that the pass
+/// names, as one that brings its revision along.
+pub fn documents_are_pushed()
+    ensures { DocumentsArePushed }
+{}
 
 /// A pass that writes its checkpoints, or is done, has settled each leaf that its source had when it was
 /// listed, of the documents whose sequence is above the start and not above the end of the list.

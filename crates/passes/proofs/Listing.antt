@@ -1,0 +1,137 @@
+-- A call for the changes that is answered with 200 lists them.
+use Rattle.std.proofs.Common.{◌≡◌, ◌≤◌, ◌<◌, ◌^◌, ℕ, true, false, Option, Some, None, option_map, option_and_then, Ok, codes, sym, ap, ◌∙◌, arith}
+use Rattle.std.specs.Prelude.{IfSome}
+use Rattle.couch_json.specs.Range.{greatest_count}
+use Rattle.std.specs.FinMap.{get}
+use Rattle.auth.specs.Callers as auth
+use Rattle.couch_http.specs.Message.{Message}
+use Rattle.couch_json.specs.Value.{Value}
+use Rattle.store.specs.Contents.{Contents}
+use Rattle.store.specs.Database.{Database}
+use Rattle.store.specs.declared.page.SeqRange.{SeqRange}
+use Rattle.read.specs.Changes.{changes_in}
+use Rattle.api.specs.Asking.{is_nothing, lacks_parameters, plain}
+use Rattle.api.specs.Listings as api
+use Rattle.api.specs.Listings.{changes_asked, changes_by, listing_query, range_asked}
+use Rattle.api.specs.Paths.{document_id_in, index_name_in}
+use Rattle.api.specs.Queries.{asked_of_document, document_query}
+use Rattle.api.specs.Refusals.{next, there_or}
+use Rattle.api.specs.Views.{keys_asked, view_query}
+use Rattle.api.specs.declared.method.RequestMethod.TheVariants.{Get}
+use Rattle.api.specs.declared.page.Page.{Page}
+use Rattle.api.specs.declared.page.Page.TheVariants.{Welcome, AllDatabases, Database as DatabasePage, Security, BulkDocuments, AllDocuments, Changes, Differences, Find, Index, View, Document, LocalDocument}
+use Rattle.api.specs.declared.refusal.Refusal.TheVariants.{Id, Method, Query}
+use Rattle.node.specs.Answer.{Outcome, Task, administration, listed, reply, task_of, task_outcome, told, welcome}
+use Rattle.node.specs.Works.{change_list, database_read, document_list, document_read, found, local_read, read_by, security_read, view_read}
+use Rattle.node.proofs.Tasks.{named as was_named, same, went}
+use Rattle.read.specs.Information.{information}
+use Rattle.read.specs.Listing.{document_listing}
+use Rattle.read.specs.Local.{local_document}
+use Rattle.read.specs.Views.{view_listing}
+use Rattle.api.specs.Paths.{local_id_in}
+use Rattle.repl.specs.Calls.{changes_query, list_changes, request_of}
+use Rattle.repl.specs.Configuration.{Configuration, database_of}
+use Rattle.repl.specs.declared.side.Side.{Side}
+use Rattle.passes.proofs.Judged.{WasRead, judged, never, next_never, plain_never, read_never, read_out, there_never}
+use Rattle.passes.proofs.Spellings.{changes-pairs, changes-parameters, count-decimal, leads_into}
+use Rattle.passes.specs.Spelled.{ChangesAreListed, changes_after}
+
+-- what is asked for is a list of changes on one page alone
+record AsksChanges (m : Message) (range : SeqRange) : Type 0 where
+  some : lacks_parameters m.query ≡ false
+  listing : listing_query m.query ≡ None
+  view : view_query m.query ≡ None
+  document : document_query m.query ≡ None
+  changes : api.changes_query m.query ≡ Some range
+
+no_document : (m : Message) (range : SeqRange) → AsksChanges m range → (db : Database) (v : Value) → document_read m db ≡ Ok v → ⊥
+no_document m range asks db v e =
+    next_never (there_or Id (document_id_in m.path)) (λ id. next (there_or Query (document_query m.query)) (λ query. found (read_by id query.revs query.asked db))) v
+    (λ id k. there_never Query (document_query m.query) (λ query. found (read_by id query.revs query.asked db)) v asks.document k) e
+
+no_view : (m : Message) (range : SeqRange) → AsksChanges m range → (db : Database) (v : Value) → view_read m db ≡ Ok v → ⊥
+no_view m range asks db v e =
+    next_never (there_or Id (document_id_in m.path))
+    (λ design. next (there_or Id (index_name_in m.path)) (λ index. next (there_or Query (view_query m.query)) (λ keys. found (view_listing keys design index db)))) v
+    (λ design k. next_never (there_or Id (index_name_in m.path)) (λ index. next (there_or Query (view_query m.query)) (λ keys. found (view_listing keys design index db))) v
+    (λ index l. there_never Query (view_query m.query) (λ keys. found (view_listing keys design index db)) v asks.view l) k) e
+
+no_local : (m : Message) (range : SeqRange) → AsksChanges m range → (db : Database) (v : Value) → local_read m db ≡ Ok v → ⊥
+no_local m range asks db v e =
+    next_never (there_or Id (local_id_in m.path)) (λ id. next (plain m) (λ _. found (local_document id db))) v
+    (λ id k. plain_never m (λ _. found (local_document id db)) v asks.some k) e
+
+abbrev Listed : Contents → Message → Outcome → Type 0
+Listed a m o = WasRead a m (λ name. change_list m) o
+
+at_page : (page : Page) (caller : auth.Identity) (a : Contents) (m : Message) (range : SeqRange) (task : Task) (o : Outcome) → AsksChanges m range
+    → task_of page (Some Get) caller m ≡ Ok task → task_outcome caller a task ≡ Ok o → Listed a m o
+at_page Welcome caller a m range task o asks e f = absurd (plain_never m (λ _. Ok (told welcome)) task asks.some e)
+at_page AllDatabases caller a m range task o asks e f =
+    absurd (next_never (administration caller) (λ _. next (plain m) (λ _. Ok listed)) task (λ u k. plain_never m (λ _. Ok listed) task asks.some k) e)
+at_page DatabasePage caller a m range task o asks e f =
+    absurd (read_never caller a m (λ name. database_read m name) task o (λ name db v k. plain_never m (λ _. Ok (information name db)) v asks.some k) e f)
+at_page Security caller a m range task o asks e f =
+    absurd (read_never caller a m (λ name. security_read m) task o (λ name db v k. plain_never m (λ _. Ok db.security) v asks.some k) e f)
+at_page BulkDocuments caller a m range task o asks e f = absurd (never Method task e)
+at_page AllDocuments caller a m range task o asks e f =
+    absurd (read_never caller a m (λ name. document_list m) task o
+    (λ name db v k. there_never Query (listing_query m.query) (λ r. Ok (document_listing r db)) v asks.listing k) e f)
+at_page Changes caller a m range task o asks e f = read_out caller a m (λ name. change_list m) task o e f
+at_page Differences caller a m range task o asks e f = absurd (never Method task e)
+at_page Find caller a m range task o asks e f = absurd (never Method task e)
+at_page Index caller a m range task o asks e f = absurd (never Method task e)
+at_page View caller a m range task o asks e f =
+    absurd (read_never caller a m (λ name. view_read m) task o (λ name db v k. no_view m range asks db v k) e f)
+at_page Document caller a m range task o asks e f =
+    absurd (read_never caller a m (λ name. document_read m) task o (λ name db v k. no_document m range asks db v k) e f)
+at_page LocalDocument caller a m range task o asks e f =
+    absurd (read_never caller a m (λ name. local_read m) task o (λ name db v k. no_local m range asks db v k) e f)
+
+abbrev given : ℕ → Option ℕ
+given n = Some n
+
+abbrev are_asked : Option (Option ℕ) → Option (Option ℕ) → Option SeqRange
+are_asked limit since = option_and_then (λ n. option_and_then (λ l. option_map (λ style. changes_by n l style) (Some (Some true))) limit) since
+
+-- what the query says
+query_says : (since : ℕ) (most : Option ℕ) → since ≤ greatest_count → IfSome most (λ n. n ≤ greatest_count) → api.changes_query (Some (changes_query since most)) ≡ Some (changes_after since most)
+query_says since None few bound =
+    ap changes_asked (changes-parameters since None (omega arith) tt)
+    ∙ ap (λ (o : Option ℕ). are_asked (Some None) (option_map (λ a. given a) o)) (count-decimal since few)
+query_says since (Some n) few bound =
+    ap changes_asked (changes-parameters since (Some n) (omega arith) (omega (arith, bound)))
+    ∙ (λ i. are_asked (option_map (λ a. given a) (count-decimal n bound i)) (option_map (λ a. given a) (count-decimal since few i)))
+
+below : (most : Option ℕ) → IfSome most (λ n. n ≤ greatest_count) → IfSome most (λ n. n < 2 ^ 64)
+below None bound = tt
+below (Some n) bound = omega (arith, bound)
+
+asks : (k : Configuration) (side : Side) (since : ℕ) (most : Option ℕ) → since ≤ greatest_count → IfSome most (λ n. n ≤ greatest_count)
+    → AsksChanges (request_of k side (list_changes since most)) (changes_after since most)
+asks k side since most few bound =
+    let parameters = changes-parameters since most (omega arith) (below most bound) in
+    record {
+      some = ap is_nothing (changes-pairs since most (omega arith) (below most bound));
+      listing = ap range_asked parameters;
+      view = ap keys_asked parameters;
+      document = ap asked_of_document parameters;
+      changes = query_says since most few bound;
+    }
+
+pub changes_listed_by : ChangesAreListed
+changes_listed_by c a k side since most small few bound ok =
+    let m = request_of k side (list_changes since most) in
+    let range = changes_after since most in
+    let j = judged c a m (omega (arith, ok)) in
+    let says = asks k side since most few bound in
+    let w = at_page j.page j.caller a m range j.task j.outcome says j.asked j.came in
+    let named : database_of k side ≡ w.name = leads_into (database_of k side) (codes "_changes") w.name small w.own in
+    let l = went (there_or Query (api.changes_query m.query)) (λ r. Ok (changes_in r w.db)) w.value w.was in
+    let same_range : range ≡ l.first = (let e : Some range ≡ Some l.first = sym says.changes ∙ was_named Query (api.changes_query m.query) l.first l.was in cc) in
+    let value : changes_in range w.db ≡ w.value = ap (λ (r : SeqRange). changes_in r w.db) same_range ∙ same {A = Value} _ w.value l.then in
+    record {
+      db = w.db;
+      there = ap (get a) named ∙ w.there;
+      is = j.told ∙ w.is ∙ ap reply (sym value);
+    }
