@@ -1,3 +1,4 @@
 pub mod Spelled
 pub mod Settled
 pub mod Owed
+pub mod Told

@@ -1,6 +1,7 @@
 -- What a pass owes its target, and what becomes of that from event to event.
 -- CouchDB manual, replication/protocol.
-use Rattle.std.specs.Prelude.{◌≡◌, ◌<◌, ◌≤◌, ◌||◌, ⊤, ℕ, Bool, true, false, List, [], ◌∷◌, Option, IfSome, Ok, IsTrue}
+use Rattle.std.specs.Prelude.{◌≡◌, ◌<◌, ◌≤◌, ◌||◌, ⊤, ℕ, Bool, true, false, List, [], ◌∷◌, Option, IfSome, Ok, IsTrue, bytes_eq}
+use Rattle.std.specs.List.{list_any}
 use Rattle.couch_json.specs.Value.{Value}
 use Rattle.tree.specs.History.{is_known, is_leaf}
 use Rattle.tree.specs.Revision.{Revision, is_revision}
@@ -16,10 +17,16 @@ use Rattle.passes.specs.Settled.{is_among, is_reported, is_sent, is_settled}
 
 -- ---- what true replies say
 
+-- no document stands twice among these
+abbrev pub AreDistinct : List Revisions → Type 0
+AreDistinct [] = ⊤
+AreDistinct (l ∷ ls) = (list_any (λ k. bytes_eq k.id l.id) ls ≡ false) × AreDistinct ls
+
 -- A list of changes after a sequence, of at most so many documents: it names each leaf of each document whose sequence is above that one
--- and not above the end of the list. Where it has fewer documents than that, no sequence is above its end.
+-- and not above the end of the list, and no document twice. Where it has fewer documents than that, no sequence is above its end.
 pub record Names (db : Database) (since : ℕ) (most : Option ℕ) (c : Changes) : Type 0 where
   pub leaf : (id : List ℕ) (r : Revision) → IsTrue (is_leaf (history_at db id) r) → since < sequence_at db id → sequence_at db id ≤ c.sequence → is_among id r c.leaves ≡ true
+  pub distinct : AreDistinct c.leaves
   pub whole : fills most c.leaves ≡ false → (id : List ℕ) → since < sequence_at db id → sequence_at db id ≤ c.sequence
   pub onward : since ≤ db.length → since ≤ c.sequence
   pub bound : c.sequence ≤ db.length

@@ -2,6 +2,7 @@
 
 ghost use Rattle.passes.specs.Owed.{DoneOwesNothing, RoundsCover};
 ghost use Rattle.passes.specs.Spelled.{ChangesAreListed, DocumentsArePushed, RevisionsAreCompared, RevisionsAreOpened};
+ghost use Rattle.passes.specs.Told.{ComparisonsAreTrue, ListingsAreTrue, OpeningsAreTrue};
 
 /// Where a pass's call for changes is answered with 200, the answer is the changes after that sequence,
 /// with all leaves, and at most so many, of the database that the pass names.
@@ -25,6 +26,23 @@ pub fn revisions_are_opened()
 /// names, as one that brings its revision along.
 pub fn documents_are_pushed()
     ensures { DocumentsArePushed }
+{}
+
+/// A reply to a pass's call for changes that the pass takes in names the leaves of the source as it is.
+pub fn listings_are_true()
+    ensures { ListingsAreTrue }
+{}
+
+/// A reply to a pass's call to compare revisions that the pass takes in tells of all that the target
+/// doesn't know.
+pub fn comparisons_are_true()
+    ensures { ComparisonsAreTrue }
+{}
+
+/// Of the revisions in a reply to a pass's call to open them that the pass takes in, each came as a
+/// document or is reported.
+pub fn openings_are_true()
+    ensures { OpeningsAreTrue }
 {}
 
 /// A pass that writes its checkpoints, or is done, has settled each leaf that its source had when it was
