@@ -1,6 +1,9 @@
 -- A reply of a node that a pass takes in says the truth.
 use Rattle.std.proofs.Common.{◌≡◌, ◌≤◌, ◌==◌, ◌⊎◌, inl, inr, ℕ, List, [], ◌∷◌, Bool, true, false, cond, Option, Some, None, option_and_then, Result, Ok, Err, eqb-true, refl, sym, ap, ◌∙◌, subst, arith}
-use Rattle.std.specs.FinMap.{get}
+use Rattle.std.specs.FinMap.{get, get-insert, insert}
+use Rattle.std.proofs.lemmas.Cmp.{nat_list_cmp_total}
+use Rattle.std.proofs.lemmas.Map.Text.{is_eq-slice_cmp}
+use Rattle.std.proofs.lemmas.Slice.Eq.{bytes_eq-Decides}
 use Rattle.auth.specs.Callers as auth
 use Rattle.couch_http.specs.Message.{Message}
 use Rattle.couch_http.specs.Reply.{Reply, fixed_reply}
@@ -13,11 +16,18 @@ use Rattle.couch_json.proofs.ReadingBack.{what_was_read}
 use Rattle.store.specs.Contents.{Contents}
 use Rattle.store.specs.Database.{Database, HasSequences}
 use Rattle.read.specs.Changes.{changes_in}
-use Rattle.node.specs.Answer.{Outcome, answer, with_change}
+use Rattle.node.specs.Answer.{Outcome, answer, with_change, with_effect_at}
+use Rattle.node.specs.Bulk.{bulk_reply}
+use Rattle.node.specs.Work.{appended}
+use Rattle.write.specs.Bulk.{all_told, outcomes, writes_in}
+use Rattle.write.specs.Terms.{terms_in}
+use Rattle.write.proofs.Settlings.{all_settled_in}
+use Rattle.passes.proofs.Pushes.{all_fit, all_pushed}
+use Rattle.passes.proofs.Pushing.{pushed_by}
 use Rattle.read.specs.Differences.{revision_differences}
 use Rattle.read.specs.OpenRevisions.{open_revisions}
-use Rattle.store.specs.Database.{history_at}
-use Rattle.repl.specs.Calls.{Revisions, compare_revisions}
+use Rattle.store.specs.Database.{history_at, with_all}
+use Rattle.repl.specs.Calls.{Revisions, compare_revisions, push_documents}
 use Rattle.repl.specs.Calls as call
 use Rattle.repl.specs.Shapes.{list_in}
 use Rattle.repl.specs.declared.side.Side.TheVariants.{Target}
@@ -25,7 +35,7 @@ use Rattle.passes.proofs.Comparing.{compared_by}
 use Rattle.passes.proofs.Opening.{opened_by}
 use Rattle.passes.proofs.Missing.{whole_comparison}
 use Rattle.passes.proofs.Elements.{whole_opening}
-use Rattle.passes.specs.Told.{ComparisonsAreTrue, ListingsAreTrue, OpeningsAreTrue}
+use Rattle.passes.specs.Told.{ComparisonsAreTrue, ListingsAreTrue, OpeningsAreTrue, PushesAreTrue}
 use Rattle.node.specs.Runs.{Steps}
 use Rattle.node.specs.Step.{reply_to}
 use Rattle.repl.specs.Calls.{list_changes, request_of}
@@ -121,4 +131,28 @@ true_opening c a k row opened r after small id_small list_small lawful step e =
       there = h.there;
       same = told.left ∙ ap (λ (o : Outcome). with_change o.change a) h.is;
       says = whole_opening h.db row h.asked opened h.says (ap (λ (v : Value). list_in replies.opened_in v) (sym value ∙ read) ∙ s.shaped);
+    }
+
+got_back : (a : Contents) (name : List ℕ) (db : Database) → get (insert a name db) name ≡ Some db
+got_back a name db =
+    get-insert nat_list_cmp_total a name db name ∙ ap (λ (b : Bool). cond b (Some db) (get a name)) (is_eq-slice_cmp name name ∙ (bytes_eq-Decides name name).1 refl)
+
+pub true_push : PushesAreTrue
+true_push c a k documents failures r after small lawful step e =
+    let m = request_of k Target (push_documents documents) in
+    let s = said 201 (λ v. list_in replies.failure_in v) r.status r.body failures e in
+    let told = was_answered c a m r after (omega (arith, s.right)) step in
+    let ok : (answer c a m).status ≡ 201 = sym (ap (λ (x : Reply). x.status) told.reply) ∙ s.right in
+    let h = pushed_by c a k Target documents small lawful ok in
+    let os = outcomes (terms_in h.caller k.target_db h.db) false (history_at h.db) documents in
+    let left = with_all h.db (writes_in os) in
+    let value : (answer c a m).value ≡ bulk_reply h.caller false (all_told documents os) = ap (λ (o : Outcome). o.value) h.is in
+    let read : (answer c a m).value ≡ s.value = what_was_read (answer c a m).value s.value told.lawful (ap (λ (x : Reply). reading x.body) (sym told.reply) ∙ s.was) in
+    let becomes : after ≡ with_effect_at a k.target_db (appended (writes_in os)) (get a k.target_db) = told.left ∙ ap (λ (o : Outcome). with_change o.change a) h.is in
+    let now : after ≡ insert a k.target_db left = becomes ∙ ap (λ (o : Option Database). with_effect_at a k.target_db (appended (writes_in os)) o) h.there in
+    record {
+      db = left;
+      there = ap (λ (x : Contents). get x k.target_db) now ∙ got_back a k.target_db left;
+      says = all_pushed h.caller (history_at left) documents os failures (all_settled_in (terms_in h.caller k.target_db h.db) h.db documents)
+          (all_fit (terms_in h.caller k.target_db h.db) documents (history_at h.db)) (ap (λ (v : Value). list_in replies.failure_in v) (sym value ∙ read) ∙ s.shaped);
     }

@@ -6,15 +6,16 @@ use Rattle.auth.specs.Callers as auth
 use Rattle.couch_http.specs.Reply.{Reply}
 use Rattle.couch_json.specs.Canonical.{canonical}
 use Rattle.couch_json.specs.Lawful.{IsLawful}
+use Rattle.couch_json.specs.Value.{Value}
 use Rattle.couch_json.specs.Range.{greatest_count}
 use Rattle.store.specs.Contents.{Contents}
 use Rattle.store.specs.Database.{Database, HasSequences}
 use Rattle.node.specs.Runs.{Steps}
-use Rattle.repl.specs.Calls.{Revisions, compare_revisions, list_changes, open_revisions, request_of, revisions_value, texts_value}
+use Rattle.repl.specs.Calls.{Revisions, compare_revisions, documents_value, list_changes, open_revisions, push_documents, request_of, revisions_value, texts_value}
 use Rattle.repl.specs.Configuration.{Configuration}
-use Rattle.repl.specs.Replies.{Changes, Opened, changes_listed, differences_read, revisions_opened}
+use Rattle.repl.specs.Replies.{Changes, Opened, changes_listed, differences_read, documents_pushed, revisions_opened}
 use Rattle.repl.specs.declared.side.Side.TheVariants.{Source, Target}
-use Rattle.passes.specs.Owed.{AreDistinct, Compares, Names, Opens}
+use Rattle.passes.specs.Owed.{AreDistinct, Compares, Names, Opens, Pushes}
 use Rattle.passes.specs.Spelled.{AreBytes}
 
 -- the database of this name is there, and a step reads it and changes nothing
@@ -22,6 +23,12 @@ pub record Reads (before : Contents) (name : List ℕ) (after : Contents) (told 
   pub db : Database
   pub there : get before name ≡ Some db
   pub same : after ≡ before
+  pub says : told db
+
+-- the database of this name is there afterwards
+pub record Leaves (after : Contents) (name : List ℕ) (told : Database → Type 0) : Type 0 where
+  pub db : Database
+  pub there : get after name ≡ Some db
   pub says : told db
 
 -- a list of changes that is taken in names the leaves of the source
@@ -44,3 +51,10 @@ OpeningsAreTrue =
     (c : auth.Configuration) (before : Contents) (k : Configuration) (row : Revisions) (opened : List Opened) (r : Reply) (after : Contents) → AreBytes k.source_db → AreBytes row.id
     → AreBytes (canonical (texts_value row.revisions)) → IsLawful (texts_value row.revisions) → Steps c before (request_of k Source (open_revisions row)) r after
     → revisions_opened r.status r.body ≡ Ok opened → Reads before k.source_db after (λ db. Opens row opened)
+
+-- of pushed documents whose reply is taken in each is known afterwards, or reported
+abbrev pub PushesAreTrue : Type 0
+PushesAreTrue =
+    (c : auth.Configuration) (before : Contents) (k : Configuration) (documents failures : List Value) (r : Reply) (after : Contents) → AreBytes k.target_db
+    → IsLawful (documents_value documents) → Steps c before (request_of k Target (push_documents documents)) r after → documents_pushed r.status r.body ≡ Ok failures
+    → Leaves after k.target_db (λ db. Pushes db documents failures)

@@ -2,7 +2,7 @@
 
 ghost use Rattle.passes.specs.Owed.{DoneOwesNothing, RoundsCover};
 ghost use Rattle.passes.specs.Spelled.{ChangesAreListed, DocumentsArePushed, RevisionsAreCompared, RevisionsAreOpened};
-ghost use Rattle.passes.specs.Told.{ComparisonsAreTrue, ListingsAreTrue, OpeningsAreTrue};
+ghost use Rattle.passes.specs.Told.{ComparisonsAreTrue, ListingsAreTrue, OpeningsAreTrue, PushesAreTrue};
 
 /// Where a pass's call for changes is answered with 200, the answer is the changes after that sequence,
 /// with all leaves, and at most so many, of the database that the pass names.
@@ -43,6 +43,12 @@ pub fn comparisons_are_true()
 /// document or is reported.
 pub fn openings_are_true()
     ensures { OpeningsAreTrue }
+{}
+
+/// Of the documents of a pass's push whose reply the pass takes in, each is known at the target
+/// afterwards or is reported as a failure.
+pub fn pushes_are_true()
+    ensures { PushesAreTrue }
 {}
 
 /// A pass that writes its checkpoints, or is done, has settled each leaf that its source had when it was
