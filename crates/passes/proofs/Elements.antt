@@ -1,23 +1,21 @@
 -- Opened revisions, as a pass reads them back: each came, or is reported.
-use Rattle.std.proofs.Common.{◌≡◌, ◌⊎◌, inl, inr, ⊎_elim, ◌&&◌, ◌||◌, ℕ, List, [], ◌∷◌, map, Bool, true, false, Option, Some, None, option_map, option_and_then, codes, bytes_eq, refl, sym, ap, ◌∙◌, subst}
-use Rattle.std.specs.Prelude.{IsTrue}
+use Rattle.std.proofs.Common.{◌≡◌, inl, inr, ⊎_elim, ◌||◌, ℕ, List, [], ◌∷◌, map, Bool, true, false, Option, Some, None, option_map, option_and_then, codes, bytes_eq, refl, sym, ap, ◌∙◌, subst}
 use Rattle.std.specs.List.{list_any}
 use Rattle.couch_json.specs.Value.{Value, Members, object, text, member_at, put}
 use Rattle.couch_json.specs.View.{items_of}
 use Rattle.couch_json.specs.Parts.{text_in}
 use Rattle.tree.specs.History.{HistoryContent, chain, held_of}
-use Rattle.tree.specs.Revision.{Revision, is_revision, text_of}
+use Rattle.tree.specs.Revision.{Revision, text_of}
 use Rattle.tree.specs.ShownDocument.{members_in, shown_members, with_mark}
 use Rattle.tree.specs.Write.{StandsIn}
 use Rattle.tree.specs.declared.entry.Held.{Held}
 use Rattle.store.specs.Database.{Database, history_at}
 use Rattle.read.specs.OpenRevisions.{element, open_revision, open_revisions}
-use Rattle.read.specs.Path.{revisions_of, with_path, with_revisions}
-use Rattle.read.specs.Shown.{shown_document}
+use Rattle.read.specs.Path.{with_path, with_revisions}
 use Rattle.api.specs.Queries.{revisions_listed}
 use Rattle.repl.specs.Calls.{Revisions, texts_value}
 use Rattle.repl.specs.Replies.{Opened, document, documents_of, missing, missing_report, missing_reports, opened_in}
-use Rattle.repl.specs.Shapes.{before, each_in, list_in, text_at}
+use Rattle.repl.specs.Shapes.{before, each_in, list_in}
 use Rattle.passes.proofs.MemberLemmas.{put_at_other, put_at_same}
 use Rattle.passes.proofs.Missing.{and_both, and_so, equal_bytes, or_left, or_parts, or_right, same_bytes, stands}
 use Rattle.passes.specs.Owed.{Opens}

@@ -13,7 +13,7 @@ use Rattle.read.specs.Changes.{changes_in}
 use Rattle.api.specs.Asking.{is_nothing, lacks_parameters, plain}
 use Rattle.api.specs.Listings as api
 use Rattle.api.specs.Listings.{changes_asked, changes_by, listing_query, range_asked}
-use Rattle.api.specs.Paths.{document_id_in, index_name_in}
+use Rattle.api.specs.Paths.{document_id_in, index_name_in, local_id_in}
 use Rattle.api.specs.Queries.{asked_of_document, document_query}
 use Rattle.api.specs.Refusals.{next, there_or}
 use Rattle.api.specs.Views.{keys_asked, view_query}
@@ -28,7 +28,6 @@ use Rattle.read.specs.Information.{information}
 use Rattle.read.specs.Listing.{document_listing}
 use Rattle.read.specs.Local.{local_document}
 use Rattle.read.specs.Views.{view_listing}
-use Rattle.api.specs.Paths.{local_id_in}
 use Rattle.repl.specs.Calls.{changes_query, list_changes, request_of}
 use Rattle.repl.specs.Configuration.{Configuration, database_of}
 use Rattle.repl.specs.declared.side.Side.{Side}

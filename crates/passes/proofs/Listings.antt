@@ -1,17 +1,17 @@
 -- A list of changes, as a pass reads it back, names all leaves above its start.
-use Rattle.std.proofs.Common.{◌≡◌, ◌≤◌, ◌<◌, ◌⊎◌, inl, inr, ◌&&◌, ◌||◌, ℕ, zero, suc, List, [], ◌∷◌, map, take, ◌==◌, ◌≢◌, eq-eqb, min, Bool, true, false, cond, Option, Some, None, option_map, option_and_then, codes, pos, bytes_eq, nat_le, length, All, AllPairs, refl, sym, ap, ◌∙◌, subst, arith}
+use Rattle.std.proofs.Common.{◌≡◌, ◌≤◌, ◌<◌, inl, inr, ◌&&◌, ◌||◌, ℕ, zero, suc, List, [], ◌∷◌, map, take, ◌≢◌, eq-eqb, min, Bool, true, false, cond, Option, Some, None, option_map, bytes_eq, nat_le, length, AllPairs, refl, sym, ap, ◌∙◌, subst, arith}
 use Rattle.std.specs.Prelude.{IsTrue}
 use Rattle.std.specs.FinMap.{get}
 use Rattle.std.specs.List.{list_any}
 use Rattle.std.proofs.lemmas.List.{length-map}
 use Rattle.std.proofs.lemmas.Slice.Eq.{bytes_eq-Decides}
-use Rattle.couch_json.specs.Value.{Value, array, object, whole, Members}
+use Rattle.couch_json.specs.Value.{object}
 use Rattle.couch_json.specs.View.{items_of}
 use Rattle.tree.specs.Revision.{Revision, text_of}
-use Rattle.tree.specs.History.{HistoryContent, is_leaf, leaves}
+use Rattle.tree.specs.History.{is_leaf, leaves}
 use Rattle.tree.specs.Write.{StandsIn}
 use Rattle.tree.proofs.Leaves.{leaves_are}
-use Rattle.store.specs.Database.{Database, Document, HasSequences, history_at, history_in, sequence_at, sequence_in}
+use Rattle.store.specs.Database.{Database, Document, HasSequences, history_in, sequence_at, sequence_in}
 use Rattle.store.specs.Pages.{IsRowOf, SequencePage, SequenceRow, last_sequence, page_by_sequence, row_of, up_to_limit}
 use Rattle.store.specs.declared.page.SeqRange.{SeqRange}
 use Rattle.store.proofs.Listings.{In}
@@ -24,7 +24,7 @@ use Rattle.repl.specs.Calls.{Revisions}
 use Rattle.repl.specs.Replies.{Changes, change_in, changes_by, changes_in, revision_in}
 use Rattle.couch_json.specs.Range.{greatest_count}
 use Rattle.repl.specs.Passes.{fills}
-use Rattle.repl.specs.Shapes.{before, each_in, list_at}
+use Rattle.repl.specs.Shapes.{before, each_in}
 use Rattle.passes.specs.Owed.{AreDistinct, Names}
 use Rattle.passes.specs.Settled.{is_among}
 use Rattle.passes.specs.Spelled.{changes_after}

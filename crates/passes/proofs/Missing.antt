@@ -1,6 +1,6 @@
 -- A comparison of revisions, as a pass reads it back, tells of all that the database doesn't know.
 use Rattle.std.proofs.Common.{◌≡◌, ◌⊎◌, inl, inr, ⊎_elim, ◌&&◌, ◌||◌, not, ℕ, List, [], ◌∷◌, map, filter, Bool, true, false, cond, Option, Some, None, option_map, option_and_then, is_some, unwrap_or, Ordering, Less, Equal, Greater, nat_cmp, is_eq, codes, bytes_eq, refl, sym, ap, ◌∙◌, subst}
-use Rattle.std.specs.Prelude.{⊤, IsTrue}
+use Rattle.std.specs.Prelude.{IsTrue}
 use Rattle.std.specs.FinMap.{empty, get-empty}
 use Rattle.std.specs.List.{list_any}
 use Rattle.std.specs.Cmp.Lexicographic.{slice_cmp}
@@ -8,7 +8,7 @@ use Rattle.std.specs.Ordering.{match_ordering}
 use Rattle.std.proofs.lemmas.Map.Text.{is_eq-slice_cmp}
 use Rattle.std.proofs.lemmas.Slice.Eq.{bytes_eq-Decides}
 use Rattle.couch_json.specs.Lawful.{HasAscendingNames, IsBefore, IsLawful}
-use Rattle.couch_json.specs.Value.{Value, array, object, text, Items, Members, no_members, member, member_at, put}
+use Rattle.couch_json.specs.Value.{Value, array, object, text, Members, no_members, member, member_at, put}
 use Rattle.couch_json.specs.View.{items_of}
 use Rattle.couch_json.specs.Parts.{text_in}
 use Rattle.tree.specs.DocumentId.{is_document_id}
@@ -20,7 +20,7 @@ use Rattle.tree.proofs.RevisionText.{read_of_text}
 use Rattle.store.specs.Database.{Database, history_at}
 use Rattle.read.specs.Differences.{RevisionsOf, history_by, missing_texts, revision_differences, with_difference, with_differences, with_missing}
 use Rattle.api.specs.Listings.{differences_in, revisions_of_members, with_revisions_of}
-use Rattle.api.specs.Queries.{revision_in, revisions_in, revisions_listed}
+use Rattle.api.specs.Queries.{revisions_in, revisions_listed}
 use Rattle.repl.specs.Calls.{Revisions, revisions_put, revisions_value, texts_value}
 use Rattle.repl.specs.Replies as replies
 use Rattle.repl.specs.Replies.{has_missing_lists, missing_in, missing_of, missing_of_each, unless_empty}

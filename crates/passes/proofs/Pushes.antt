@@ -1,10 +1,9 @@
 -- Documents that were pushed, as a pass reads the reply back: each is known afterwards, or reported.
-use Rattle.std.proofs.Common.{◌≡◌, ◌==◌, ◌&&◌, ◌||◌, ◌⊎◌, inl, inr, ⊎_elim, ℕ, suc, List, [], ◌∷◌, length, Bool, true, false, cond, Option, Some, None, option_map, option_and_then, Result, Ok, Err, codes, bytes_eq, eqb-true, refl, sym, ap, ◌∙◌, subst, arith}
+use Rattle.std.proofs.Common.{◌≡◌, ◌==◌, ◌||◌, ⊎_elim, ℕ, suc, List, [], ◌∷◌, length, Bool, true, false, cond, Option, Some, None, option_map, option_and_then, Result, Ok, Err, codes, bytes_eq, eqb-true, refl, sym, ap, ◌∙◌, subst, arith}
 use Rattle.std.specs.Prelude.{⊤, IsTrue}
-use Rattle.std.proofs.lemmas.Slice.Eq.{bytes_eq-Decides}
 use Rattle.auth.specs.Callers.{Identity}
 use Rattle.couch_json.specs.Parts.{items_in, text_in}
-use Rattle.couch_json.specs.Value.{Value, Items, Members, no_items, item, no_members, member_of, object, put, text}
+use Rattle.couch_json.specs.Value.{Value, Items, no_items, item, no_members, member_of, object, put, text}
 use Rattle.couch_json.specs.View.{items_of}
 use Rattle.tree.specs.History.{HistoryContent, is_known, placement}
 use Rattle.tree.specs.Revision.{Revision, is_revision, revision_of, revision_read, text_of}
@@ -17,7 +16,7 @@ use Rattle.tree.proofs.RevisionText.{read_of_text}
 use Rattle.store.specs.Database.{DocumentWrite}
 use Rattle.write.specs.Admission.{replicated_outcome}
 use Rattle.write.specs.Bulk.{DocumentOutcome, Histories, Told, after, all_told, outcome_by_id, outcome_in, outcome_told, outcomes, result_told}
-use Rattle.write.specs.Document.{Ancestry, ancestry_alone, ancestry_by, ancestry_if_newest, ancestry_in, body_for, count, fits_id, given_revisions, id_if, id_in, ids_in, is_bulk_id, is_newest, mark_in, member_text, onto, path_of, revision_in, revisions_if, revisions_in, sent_in, sent_with, start_in, words_in, words_said}
+use Rattle.write.specs.Document.{Ancestry, ancestry_alone, ancestry_by, ancestry_in, body_for, count, fits_id, given_revisions, id_if, id_in, ids_in, is_bulk_id, is_newest, mark_in, member_text, onto, path_of, revision_in, revisions_if, revisions_in, sent_with, start_in, words_in, words_said}
 use Rattle.write.specs.Settling.{AreKnownOrRefused, IsKnownIn, IsKnownOrRefused, revision_brought}
 use Rattle.write.specs.Terms.{Terms}
 use Rattle.write.specs.declared.planned.Outcome.{Outcome}

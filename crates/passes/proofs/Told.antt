@@ -1,20 +1,19 @@
 -- A reply of a node that a pass takes in says the truth.
-use Rattle.std.proofs.Common.{◌≡◌, ◌≤◌, ◌==◌, ◌⊎◌, inl, inr, ℕ, List, [], ◌∷◌, Bool, true, false, cond, Option, Some, None, option_and_then, Result, Ok, Err, eqb-true, refl, sym, ap, ◌∙◌, subst, arith}
+use Rattle.std.proofs.Common.{◌≡◌, ◌≤◌, ◌==◌, inl, inr, ℕ, List, Bool, true, false, cond, Option, Some, None, option_and_then, Result, Ok, Err, eqb-true, refl, sym, ap, ◌∙◌, arith}
 use Rattle.std.specs.FinMap.{get, get-insert, insert}
 use Rattle.std.proofs.lemmas.Cmp.{nat_list_cmp_total}
 use Rattle.std.proofs.lemmas.Map.Text.{is_eq-slice_cmp}
 use Rattle.std.proofs.lemmas.Slice.Eq.{bytes_eq-Decides}
 use Rattle.auth.specs.Callers as auth
 use Rattle.couch_http.specs.Message.{Message}
-use Rattle.couch_http.specs.Reply.{Reply, fixed_reply}
-use Rattle.couch_json.specs.Canonical.{canonical}
+use Rattle.couch_http.specs.Reply.{Reply}
 use Rattle.couch_json.specs.Lawful.{IsLawful}
 use Rattle.couch_json.specs.Reading.{reading}
 use Rattle.couch_json.specs.Value.{Value}
 use Rattle.couch_json.specs.declared.fault.JsonFault.{JsonFault}
 use Rattle.couch_json.proofs.ReadingBack.{what_was_read}
 use Rattle.store.specs.Contents.{Contents}
-use Rattle.store.specs.Database.{Database, HasSequences}
+use Rattle.store.specs.Database.{Database, history_at, with_all}
 use Rattle.read.specs.Changes.{changes_in}
 use Rattle.node.specs.Answer.{Outcome, answer, with_change, with_effect_at}
 use Rattle.node.specs.Bulk.{bulk_reply}
@@ -26,11 +25,10 @@ use Rattle.passes.proofs.Pushes.{all_fit, all_pushed}
 use Rattle.passes.proofs.Pushing.{pushed_by}
 use Rattle.read.specs.Differences.{revision_differences}
 use Rattle.read.specs.OpenRevisions.{open_revisions}
-use Rattle.store.specs.Database.{history_at, with_all}
-use Rattle.repl.specs.Calls.{Revisions, compare_revisions, push_documents}
+use Rattle.repl.specs.Calls.{Revisions, compare_revisions, push_documents, list_changes, request_of}
 use Rattle.repl.specs.Calls as call
 use Rattle.repl.specs.Shapes.{list_in}
-use Rattle.repl.specs.declared.side.Side.TheVariants.{Target}
+use Rattle.repl.specs.declared.side.Side.TheVariants.{Target, Source}
 use Rattle.passes.proofs.Comparing.{compared_by}
 use Rattle.passes.proofs.Opening.{opened_by}
 use Rattle.passes.proofs.Missing.{whole_comparison}
@@ -38,11 +36,8 @@ use Rattle.passes.proofs.Elements.{whole_opening}
 use Rattle.passes.specs.Told.{ComparisonsAreTrue, ListingsAreTrue, OpeningsAreTrue, PushesAreTrue}
 use Rattle.node.specs.Runs.{Steps}
 use Rattle.node.specs.Step.{reply_to}
-use Rattle.repl.specs.Calls.{list_changes, request_of}
-use Rattle.repl.specs.Configuration.{Configuration}
 use Rattle.repl.specs.Replies as replies
 use Rattle.repl.specs.Replies.{said_at, said_or_reply, value_in, value_read}
-use Rattle.repl.specs.declared.side.Side.TheVariants.{Source}
 use Rattle.repl.specs.declared.why.Why.{Why}
 use Rattle.repl.specs.declared.why.Why.TheVariants.{Status}
 use Rattle.passes.proofs.Listing.{changes_listed_by}
