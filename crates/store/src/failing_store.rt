@@ -8,7 +8,7 @@ use crate::page::{IdRange, PageById, PageBySeq, SeqRange};
 use crate::store::Store;
 use crate::write::Write;
 use policy::Security;
-use tree::{DocId, History};
+use tree::{DocId, Entry, History, MarkedRev, Outline, Rev};
 
 /// A store that fails from some call on, and in which one database is full: it tries what the
 /// contract of a store says of faults.
@@ -116,6 +116,26 @@ impl<S: Store + Drop> Store for FailingStore<S> {
     fn history(&mut self, name: &DbName, id: &DocId) -> Result<History, StoreFault> {
         count_call(&mut self.calls_left, &mut self.failures)?;
         self.store.history(name, id)
+    }
+
+    fn outline(&mut self, name: &DbName, id: &DocId) -> Result<Outline, StoreFault> {
+        count_call(&mut self.calls_left, &mut self.failures)?;
+        self.store.outline(name, id)
+    }
+
+    fn winner(&mut self, name: &DbName, id: &DocId) -> Result<Option<MarkedRev>, StoreFault> {
+        count_call(&mut self.calls_left, &mut self.failures)?;
+        self.store.winner(name, id)
+    }
+
+    fn revision(
+        &mut self,
+        name: &DbName,
+        id: &DocId,
+        rev: &Rev,
+    ) -> Result<Option<Entry>, StoreFault> {
+        count_call(&mut self.calls_left, &mut self.failures)?;
+        self.store.revision(name, id, rev)
     }
 
     fn page_by_id(&mut self, name: &DbName, range: &IdRange) -> Result<PageById, StoreFault> {

@@ -14,12 +14,12 @@ use crate::locals::local_of;
 use crate::page::{IdRange, PageById, PageBySeq, SeqRange};
 use crate::pages::page_by_seq;
 use crate::plain::Databases;
-use crate::replay::history_of;
+use crate::replay::{history_of, replay_outline, replay_revision, replay_winner};
 use crate::store::Store;
 use crate::write::Write;
 use policy::Security;
 use std::alloc::Global;
-use tree::{DocId, History};
+use tree::{DocId, Entry, History, MarkedRev, Outline, Rev};
 
 /// A store in memory that keeps the list of writes itself.
 ///
@@ -104,6 +104,35 @@ impl Store for PlainStore {
         let alloc = *self.databases.allocator();
         match database_of(&self.databases, name) {
             Some(database) => Ok(history_of(alloc, &database.writes, id)?),
+            None => Err(StoreFault::NoDatabase),
+        }
+    }
+
+    fn outline(&mut self, name: &DbName, id: &DocId) -> Result<Outline, StoreFault> {
+        let alloc = *self.databases.allocator();
+        match database_of(&self.databases, name) {
+            Some(database) => Ok(replay_outline(alloc, &database.writes, id)?),
+            None => Err(StoreFault::NoDatabase),
+        }
+    }
+
+    fn winner(&mut self, name: &DbName, id: &DocId) -> Result<Option<MarkedRev>, StoreFault> {
+        let alloc = *self.databases.allocator();
+        match database_of(&self.databases, name) {
+            Some(database) => Ok(replay_winner(alloc, &database.writes, id)?),
+            None => Err(StoreFault::NoDatabase),
+        }
+    }
+
+    fn revision(
+        &mut self,
+        name: &DbName,
+        id: &DocId,
+        rev: &Rev,
+    ) -> Result<Option<Entry>, StoreFault> {
+        let alloc = *self.databases.allocator();
+        match database_of(&self.databases, name) {
+            Some(database) => Ok(replay_revision(alloc, &database.writes, id, rev)?),
             None => Err(StoreFault::NoDatabase),
         }
     }

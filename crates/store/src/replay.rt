@@ -2,11 +2,12 @@ ghost use Rattle.std.specs.Prelude.{◌≡◌, IfOk, OnOk, bytes_eq, if◌then�
 ghost use Rattle.store.specs.Plain.{history_after, with_addition};
 ghost use Rattle.store.specs.Writing.{addition_of, additions};
 ghost use Rattle.std.specs.FinMap as map;
+ghost use Rattle.tree.specs.Outline.{marked_winner, outline_of};
 
 use crate::write::Write;
 use couch_json::Got;
 use std::alloc::Global;
-use tree::{DocId, History};
+use tree::{DocId, Entry, History, MarkedRev, Outline, Rev};
 
 /// Returns the history that the writes made of a document.
 pub(crate) fn history_of(alloc: Global, writes: &Vec<Write>, id: &DocId) -> Got<History>
@@ -17,6 +18,33 @@ pub(crate) fn history_of(alloc: Global, writes: &Vec<Write>, id: &DocId) -> Got<
         take_in(&mut history, write, id)?;
     }
     Ok(history)
+}
+
+/// Returns the outline of the history that the writes made of a document.
+pub(crate) fn replay_outline(alloc: Global, writes: &Vec<Write>, id: &DocId) -> Got<Outline>
+    ensures { IfOk result (λ outline. outline ≡ outline_of (history_after map.empty id.now (additions writes.now.items))) }
+{
+    Outline::of(&history_of(alloc, writes, id)?)
+}
+
+/// Returns the winner that the writes made of a document, with its mark.
+pub(crate) fn replay_winner(alloc: Global, writes: &Vec<Write>, id: &DocId) -> Got<Option<MarkedRev>>
+    ensures { IfOk result (λ found. found ≡ marked_winner (history_after map.empty id.now (additions writes.now.items))) }
+{
+    let history = history_of(alloc, writes, id)?;
+    Ok(history.marked_winner())
+}
+
+/// Returns what the writes made known of a revision of a document.
+pub(crate) fn replay_revision(
+    alloc: Global,
+    writes: &Vec<Write>,
+    id: &DocId,
+    rev: &Rev,
+) -> Got<Option<Entry>>
+    ensures { IfOk result (λ found. found ≡ map.get (history_after map.empty id.now (additions writes.now.items)) rev.now) }
+{
+    history_of(alloc, writes, id)?.revision(rev)
 }
 
 /// Takes the write into the history, where it is one of the document.

@@ -10,6 +10,7 @@ ghost use Rattle.store.specs.Leaving.{Answers, ChangesWhole, OnlyReads};
 ghost use Rattle.store.specs.Pages.{page_of_ids, page_by_sequence};
 ghost use Rattle.store.specs.Paging.{IsBounded, IsCounted, id_page_of, sequence_page_of};
 ghost use Rattle.store.specs.Writing.{additions, writings_in};
+ghost use Rattle.tree.specs.Outline.{marked_winner, outline_of};
 
 use crate::database_name::DbName;
 use crate::fault::StoreFault;
@@ -18,7 +19,7 @@ use crate::local_document::LocalDocument;
 use crate::page::{IdRange, PageById, PageBySeq, SeqRange};
 use crate::write::Write;
 use policy::Security;
-use tree::{DocId, History};
+use tree::{DocId, Entry, History, MarkedRev, Outline, Rev};
 
 /// A store of databases.
 ///
@@ -91,6 +92,32 @@ pub trait Store {
     fn history(&mut self, name: &DbName, id: &DocId) -> Result<History, StoreFault>
         ensures answer { Answers is_honest fault_count self.old self.new (λ history. history)
             (option_map (λ db. history_at db id.now) (map.get (contents self.old) name.now)) result }
+        ensures reads { OnlyReads contents is_honest is_clean fault_count lacks_room lacks_number self.old self.new };
+
+    /// Returns the same history without its bodies: revisions, parents and marks.
+    fn outline(&mut self, name: &DbName, id: &DocId) -> Result<Outline, StoreFault>
+        ensures answer { Answers is_honest fault_count self.old self.new (λ outline. outline)
+            (option_map (λ db. outline_of (history_at db id.now)) (map.get (contents self.old) name.now)) result }
+        ensures reads { OnlyReads contents is_honest is_clean fault_count lacks_room lacks_number self.old self.new };
+
+    /// Returns the winner of a document with its mark, or `None` where it was never written. `NoDatabase`
+    /// comes if and only if there is no database of this name.
+    fn winner(&mut self, name: &DbName, id: &DocId) -> Result<Option<MarkedRev>, StoreFault>
+        ensures answer { Answers is_honest fault_count self.old self.new (λ found. found)
+            (option_map (λ db. marked_winner (history_at db id.now)) (map.get (contents self.old) name.now)) result }
+        ensures reads { OnlyReads contents is_honest is_clean fault_count lacks_room lacks_number self.old self.new };
+
+    /// Returns what is known of one revision of a document, its parent, and the mark and the body that are
+    /// held, or `None` where it is not known. `NoDatabase` comes if and only if there is no database of
+    /// this name.
+    fn revision(
+        &mut self,
+        name: &DbName,
+        id: &DocId,
+        rev: &Rev,
+    ) -> Result<Option<Entry>, StoreFault>
+        ensures answer { Answers is_honest fault_count self.old self.new (λ found. found)
+            (option_map (λ db. map.get (history_at db id.now) rev.now) (map.get (contents self.old) name.now)) result }
         ensures reads { OnlyReads contents is_honest is_clean fault_count lacks_room lacks_number self.old self.new };
 
     /// Returns the documents of a database whose winner is not deleted, by id and cut by a range, with their

@@ -13,3 +13,4 @@ pub mod RevisionText
 pub mod Revisions
 pub mod Shown
 pub mod SortedEntries
+pub mod Outlines

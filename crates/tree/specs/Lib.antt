@@ -5,6 +5,7 @@ pub mod HistoryCode
 pub mod KeptRevision
 pub mod NextRevision
 pub mod Nodes
+pub mod Outline
 pub mod Revision
 pub mod ShownDocument
 pub mod Write

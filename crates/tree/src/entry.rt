@@ -1,9 +1,10 @@
 ghost use Rattle.std.specs.Prelude.{◌≡◌, IfOk};
 ghost use Rattle.tree.specs.History.{is_marked, same_parent};
+ghost use Rattle.tree.specs.Outline.{bare, held_bare};
 
 use crate::body::Body;
 use crate::revision::Rev;
-use couch_json::Got;
+use couch_json::{Got, Json};
 use std::alloc::Global;
 
 /// What a write brought for the revision that it made.
@@ -34,6 +35,16 @@ impl Held {
             body: self.body.copy(alloc)?,
         })
     }
+
+    /// Makes one with the same mark, and null for its body.
+    pub(crate) fn without_body(&self) -> Held
+        ensures { result ≡ held_bare self.now }
+    {
+        Held {
+            deleted: self.deleted,
+            body: Body::new(Json::Null),
+        }
+    }
 }
 
 impl Entry {
@@ -49,6 +60,20 @@ impl Entry {
             parent: self.parent,
             held,
         })
+    }
+
+    /// Makes one with the same parent and the same mark, and null for the body.
+    pub(crate) fn without_body(&self) -> Entry
+        ensures { result ≡ bare self.now }
+    {
+        let held = match &self.held {
+            Some(held) => Some(held.without_body()),
+            None => None,
+        };
+        Entry {
+            parent: self.parent,
+            held,
+        }
     }
 
     /// Tells whether it is deleted, or not, as the mark says.

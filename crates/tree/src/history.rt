@@ -3,9 +3,11 @@ ghost use Rattle.std.specs.FinMap as map;
 ghost use Rattle.couch_json.specs.View.{view};
 ghost use Rattle.tree.specs.Write.{counts_down, head, is_whole};
 ghost use Rattle.tree.specs.History.{GoesOn, agrees, behind, chain, has_child, held_of, is_deleted, is_head_known, is_known, is_leaf, is_leaf_in, is_live, keeps_parents, leaves, leaves_marked, line, placement, row_of, winner, with_new, with_write};
+ghost use Rattle.tree.specs.Outline.{marked_winner, outline_of};
 
 use crate::body::Body;
 use crate::entry::{Entry, Held};
+use crate::marked_rev::MarkedRev;
 use crate::nodes;
 use crate::placement::{Placed, TreeFault};
 use crate::revision::Rev;
@@ -76,6 +78,17 @@ impl History {
         let mut copy = History::new(self.alloc);
         for (rev, entry) in self.nodes().iter() {
             copy.put_entry(*rev, entry.copy(self.alloc)?)?;
+        }
+        Ok(copy)
+    }
+
+    /// Makes the same history without its bodies: null stands for each.
+    pub(crate) fn copy_bare(&self) -> Got<History>
+        ensures { IfOk result (λ h. h ≡ outline_of self.now) }
+    {
+        let mut copy = History::new(self.alloc);
+        for (rev, entry) in self.nodes().iter() {
+            copy.put_entry(*rev, entry.without_body())?;
         }
         Ok(copy)
     }
@@ -205,6 +218,27 @@ impl History {
     {
         let held = self.entry(rev)?.held.as_ref()?;
         Some((held.deleted, held.body.json()))
+    }
+
+    /// Returns what is known of a revision, as the caller's own, or `None` where it is not known.
+    pub fn revision(&self, rev: &Rev) -> Got<Option<Entry>>
+        ensures { IfOk result (λ found. found ≡ map.get self.now rev.now) }
+    {
+        match self.entry(rev) {
+            Some(entry) => Ok(Some(entry.copy(self.alloc)?)),
+            None => Ok(None),
+        }
+    }
+
+    /// Returns the winning leaf with its mark, if anything was written.
+    pub fn marked_winner(&self) -> Option<MarkedRev>
+        ensures { result ≡ marked_winner self.now }
+    {
+        let rev = self.winner()?;
+        Some(MarkedRev {
+            rev: *rev,
+            deleted: self.is_deleted(rev),
+        })
     }
 
     /// Tells whether a revision deleted the document, as far as the history knows: one that is not known, or

@@ -1,11 +1,12 @@
 //! What follows from the definitions alone. Each function has an empty body: its contract is the law.
 
-ghost use Rattle.std.specs.Prelude.{◌≡◌, ◌≢◌, ◌⊎◌, ◌↔◌, ℕ, false, not, List, [], ◌∷◌, ◌++◌, Option, Some, Ok, Err, IsTrue, MatchOption, is_some};
+ghost use Rattle.std.specs.Prelude.{◌≡◌, ◌≢◌, ◌⊎◌, ◌↔◌, ℕ, false, not, List, [], ◌∷◌, ◌++◌, Option, Some, Ok, Err, IsTrue, MatchOption, is_some, option_map};
 ghost use Rattle.std.specs.FinMap.{find, get};
 ghost use Rattle.std.specs.FinMap as map;
 ghost use Rattle.tree.specs.Revision.{Revision, is_revision, revision_cmp, revision_read, text_of};
 ghost use Rattle.tree.specs.Write.{Write, IsKnown, IsLawful, IsParent, IsPathEnd, StandsIn};
 ghost use Rattle.tree.specs.History.{HistoryContent, AreBestFirst, IsBetter, IsRooted, LooksAlike, Shows, behind, chain, content_of, entry_after, held_of, content_after, is_deleted, is_known, is_leaf, is_live, leaves, parent_of, placement, winner, with_entries, with_write};
+ghost use Rattle.tree.specs.Outline.{all_bare, bare, outline_of};
 ghost use Rattle.tree.specs.Convergence.{AreConsistent, BringOne, HaveSame, replica_of};
 ghost use Rattle.tree.specs.declared.entry.Entry.{Entry};
 ghost use Rattle.tree.specs.declared.placement.Placed.{Placed};
@@ -118,6 +119,17 @@ pub fn live_winner()
 pub fn leaves_same()
     ensures leaves { (h k : HistoryContent) → LooksAlike h k → leaves h ≡ leaves k }
     ensures winner { (h k : HistoryContent) → LooksAlike h k → winner h ≡ winner k }
+{}
+
+/// An outline agrees with its history in all but the bodies; and the rows of a history without their bodies
+/// make its outline.
+pub fn outline_agrees()
+    ensures revisions { (h : HistoryContent) (r : Revision) → get (outline_of h) r ≡ option_map bare (get h r) }
+    ensures leaves { (h : HistoryContent) → leaves (outline_of h) ≡ leaves h }
+    ensures winner { (h : HistoryContent) → winner (outline_of h) ≡ winner h }
+    ensures chain { (h : HistoryContent) (r : Revision) → chain (outline_of h) r ≡ chain h r }
+    ensures placement { (h : HistoryContent) (path : List Revision) → placement (outline_of h) path ≡ placement h path }
+    ensures rows { (rows : List (Revision × Entry)) → with_entries map.empty (all_bare rows) ≡ outline_of (with_entries map.empty rows) }
 {}
 
 /// Replicas that were offered the same writes have the same leaves and the same winner, in whatever

@@ -1,7 +1,6 @@
 -- The count tells whether a leaf of the content is not deleted.
 use Rattle.std.proofs.Common.{false, ap, ◌∙◌}
 use Rattle.tree.specs.History.{is_leaf_in, is_live}
-use Rattle.tree.proofs.Kept.{nodes_of}
 use Rattle.tree.proofs.Live.{is_counted, node_live}
 use Rattle.tree.proofs.history.History.is_live.Goals as goal
 
