@@ -13,10 +13,11 @@ use couch_json::{Got, Json};
 use read::ReadFault;
 use selector::Selector;
 use std::alloc::Global;
-use store::{DbName, Store, show_queried};
+use store::{DbName, Store, read_winning, show_queried};
 use tree::{DocId, History};
 
 /// Reads a document as queries see it, if it matches. A design document is not read.
+#[tactic(auto, using(store::proofs::Winnings::queried_alone))]
 pub(crate) fn read_match<S: Store>(
     alloc: Global,
     store: &mut S,
@@ -32,7 +33,7 @@ pub(crate) fn read_match<S: Store>(
     if id.is_design() {
         return Ok(None);
     }
-    let history = store.history(db, id)?;
+    let history = read_winning(alloc, store, db, id)?;
     Ok(show_match(alloc, id, &history, selector)?)
 }
 

@@ -20,3 +20,8 @@ with_path r (Some path) ms = put (codes "_revisions") (revisions_of r path) ms
 abbrev pub with_revisions : Bool → HistoryContent → Revision → Members → Members
 with_revisions true h r ms = with_path r (chain h r) ms
 with_revisions false h r ms = ms
+
+-- the same by the outline of a history, where it is there
+abbrev pub with_paths : Option HistoryContent → Revision → Members → Members
+with_paths None r ms = ms
+with_paths (Some outline) r ms = with_path r (chain outline r) ms

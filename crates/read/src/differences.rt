@@ -6,6 +6,7 @@ ghost use Rattle.couch_json.specs.Value.{array, member, no_members, object};
 ghost use Rattle.couch_json.specs.View.{items_view, members_view, view};
 ghost use Rattle.store.specs.Calls.{OnlyReads};
 ghost use Rattle.store.specs.Database.{Database};
+ghost use Rattle.tree.specs.Outline.{outline_of};
 ghost use Rattle.read.specs.Answers.{Answers, Stops};
 ghost use Rattle.read.specs.Differences.{history_by, missing_texts, revision_differences, with_difference, with_differences, with_missing};
 ghost use Rattle.read.specs.DifferencesAsked.{all_asked, asked_of};
@@ -15,7 +16,7 @@ use couch_json::{Got, Json, put_member};
 use std::alloc::Global;
 use std::collections::BTreeMap;
 use store::{DbName, Store};
-use tree::{DocId, History, IdFault, Rev};
+use tree::{DocId, IdFault, Outline, Rev};
 
 /// Revisions of one document that a client asks about.
 pub struct AskedRevisions {
@@ -84,37 +85,37 @@ fn put_difference<S: Store>(
     ensures stops { IfErr result (Stops S.Store store.old store.new (map.get (S.contents store.old) db.now ≡ None)) }
     ensures reads { OnlyReads S.Store store.old store.new }
 {
-    let history = history_by(alloc, store, db, asked.id.as_str())?;
-    let missing = find_missing(alloc, &history, &asked.revs)?;
+    let outline = read_outline_by(alloc, store, db, asked.id.as_str())?;
+    let missing = find_missing(alloc, &outline, &asked.revs)?;
     Ok(put_missing(alloc, members, asked.id.as_str(), missing)?)
 }
 
-/// Reads the history of the document that a text stands for, empty where it is no id of a document.
-fn history_by<S: Store>(
+/// Reads the outline of the document that a text stands for, empty where it is no id of a document.
+fn read_outline_by<S: Store>(
     alloc: Global,
     store: &mut S,
     db: &DbName,
     id: &str,
-) -> Result<History, ReadFault>
-    ensures ok { S.is_honest store.new → IfOk result (λ history. (d : Database) → map.get (S.contents store.old) db.now ≡ Some d
-        → history ≡ history_by d id.now) }
+) -> Result<Outline, ReadFault>
+    ensures ok { S.is_honest store.new → IfOk result (λ outline. (d : Database) → map.get (S.contents store.old) db.now ≡ Some d
+        → outline ≡ outline_of (history_by d id.now)) }
     ensures stops { IfErr result (Stops S.Store store.old store.new (map.get (S.contents store.old) db.now ≡ None)) }
     ensures reads { OnlyReads S.Store store.old store.new }
 {
     match DocId::new(alloc, id) {
-        Ok(id) => Ok(store.history(db, &id)?),
-        Err(IdFault::Shape) => Ok(History::new(alloc)),
+        Ok(id) => Ok(store.outline(db, &id)?),
+        Err(IdFault::Shape) => Ok(Outline::new(alloc)),
         Err(IdFault::Memory) => Err(ReadFault::Memory),
     }
 }
 
-/// Finds the revisions that a history doesn't know, as texts in the order asked.
-fn find_missing(alloc: Global, history: &History, revs: &[Rev]) -> Got<Vec<Json>>
-    ensures { IfOk result (λ texts. each view texts.items ≡ missing_texts history.now revs.now) }
+/// Finds the revisions that an outline doesn't know, as texts in the order asked.
+fn find_missing(alloc: Global, outline: &Outline, revs: &[Rev]) -> Got<Vec<Json>>
+    ensures { IfOk result (λ texts. each view texts.items ≡ missing_texts outline.now revs.now) }
 {
     let mut texts = Vec::new(alloc);
     for rev in revs {
-        if !history.knows(rev) {
+        if !outline.knows(rev) {
             texts.push(Json::Text(rev.text(alloc)?))?;
         }
     }

@@ -1,14 +1,16 @@
-ghost use Rattle.std.specs.Prelude.{◌≡◌, None, option_copied};
+ghost use Rattle.std.specs.Prelude.{◌≡◌, None, option_copied, option_map};
+ghost use Rattle.std.specs.FinMap as map;
 ghost use Rattle.store.specs.Calls.{OnlyReads};
-ghost use Rattle.read.specs.Answers.{Answers, Shows};
+ghost use Rattle.store.specs.Database.{history_at};
+ghost use Rattle.read.specs.Answers.{Answers};
 ghost use Rattle.read.specs.Shown.{document_by, document_in, found, shown_document};
 
 use crate::fault::ReadFault;
-use crate::shown::show;
+use crate::shown::{read_paths, read_shown};
 use couch_json::Json;
 use std::alloc::Global;
 use store::{DbName, Store};
-use tree::{DocId, History, Rev};
+use tree::{DocId, Rev};
 
 /// Returns a document as a revision of it shows it: the body with `_id` and `_rev`, and with `_revisions`
 /// where `revs` asks for it.
@@ -29,42 +31,46 @@ pub fn get<S: Store>(
     ensures answer { Answers S.Store store.old store.new (document_in (S.contents store.old) db.now id.now (option_copied rev.entry) revs) result }
     ensures reads { OnlyReads S.Store store.old store.new }
 {
-    let history = store.history(db, id)?;
     match rev {
-        Some(rev) => document(alloc, &history, id, rev, revs),
-        None => winning_document(alloc, &history, id, revs),
+        Some(rev) => read_revision(alloc, store, db, id, rev, revs),
+        None => read_winner(alloc, store, db, id, revs),
     }
 }
 
-/// Returns the winner of a history, as it is shown.
-pub(crate) fn winning_document(
+/// Returns the winner of a document, as it is shown.
+fn read_winner<S: Store>(
     alloc: Global,
-    history: &History,
+    store: &mut S,
+    db: &DbName,
     id: &DocId,
     revs: bool,
 ) -> Result<Json, ReadFault>
-    ensures { Shows (document_by id.now history.now None revs) result }
+    ensures answer { Answers S.Store store.old store.new (option_map (λ d. document_by id.now (history_at d id.now) None revs) (map.get (S.contents store.old) db.now)) result }
+    ensures reads { OnlyReads S.Store store.old store.new }
 {
-    let Some(winner) = history.winner() else {
+    let Some(winner) = store.winner(db, id)? else {
         return Err(ReadFault::Missing);
     };
-    if history.is_deleted(winner) {
+    if winner.deleted {
         return Err(ReadFault::Deleted);
     }
-    document(alloc, history, id, winner, revs)
+    read_revision(alloc, store, db, id, &winner.rev, revs)
 }
 
-/// Returns a revision of a history, deleted or not, as it is shown.
-pub(crate) fn document(
+/// Returns a revision of a document, deleted or not, as it is shown.
+fn read_revision<S: Store>(
     alloc: Global,
-    history: &History,
+    store: &mut S,
+    db: &DbName,
     id: &DocId,
     rev: &Rev,
     revs: bool,
 ) -> Result<Json, ReadFault>
-    ensures { Shows (found (shown_document id.now history.now rev.now revs)) result }
+    ensures answer { Answers S.Store store.old store.new (option_map (λ d. found (shown_document id.now (history_at d id.now) rev.now revs)) (map.get (S.contents store.old) db.now)) result }
+    ensures reads { OnlyReads S.Store store.old store.new }
 {
-    match show(alloc, history, id, rev, revs)? {
+    let paths = read_paths(store, db, id, revs)?;
+    match read_shown(alloc, store, db, id, rev, &paths)? {
         Some(document) => Ok(document),
         None => Err(ReadFault::Missing),
     }

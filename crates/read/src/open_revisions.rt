@@ -1,17 +1,20 @@
-ghost use Rattle.std.specs.Prelude.{◌≡◌, ◌≢◌, map as each, IfOk, Ok, Err, option_copied, option_map};
+ghost use Rattle.std.specs.Prelude.{◌≡◌, ◌≢◌, map as each, IfErr, IfOk, IfSome, None, Some, Ok, Err, is_some, option_copied, option_map};
+ghost use Rattle.std.specs.FinMap as map;
 ghost use Rattle.couch_json.specs.Value.{member, no_members, object};
 ghost use Rattle.couch_json.specs.View.{view};
 ghost use Rattle.store.specs.Calls.{OnlyReads};
-ghost use Rattle.read.specs.Answers.{Answers};
-ghost use Rattle.read.specs.OpenRevisions.{element, open_revision, open_revisions, open_revisions_in};
+ghost use Rattle.store.specs.Database.{Database, history_at};
+ghost use Rattle.tree.specs.Outline.{outline_of};
+ghost use Rattle.read.specs.Answers.{Answers, Stops};
+ghost use Rattle.read.specs.OpenRevisions.{element, open_revision, open_revisions_in};
 
 use crate::fault::ReadFault;
-use crate::shown::show;
+use crate::shown::{read_paths, read_shown};
 use couch_json::{Got, Json, put_member};
 use std::alloc::Global;
 use std::collections::BTreeMap;
 use store::{DbName, Store};
-use tree::{DocId, History, Rev};
+use tree::{DocId, Outline, Rev};
 
 /// Tells what a document shows of each revision that is asked for, in the order asked: a list of objects,
 /// `{"ok":document}` with the document as [`get`](crate::get) shows that revision, or
@@ -34,55 +37,38 @@ pub fn open_revs<S: Store>(
     ensures plain { (result ≢ Err ReadFault.Missing) × (result ≢ Err ReadFault.Deleted) }
     ensures reads { OnlyReads S.Store store.old store.new }
 {
-    let history = store.history(db, id)?;
-    Ok(build_open_revisions(alloc, &history, id, asked, revs)?)
-}
-
-/// Tells what a history shows of the revisions that are asked for, or of its leaves.
-pub(crate) fn build_open_revisions(
-    alloc: Global,
-    history: &History,
-    id: &DocId,
-    asked: Option<&[Rev]>,
-    revs: bool,
-) -> Got<Json>
-    ensures { IfOk result (λ value. view value
-        ≡ open_revisions id.now history.now (option_copied asked.entry) revs) }
-{
+    let paths = read_paths(store, db, id, revs)?;
     let elements = match asked {
-        Some(asked) => elements(alloc, history, id, asked, revs)?,
-        None => elements(alloc, history, id, &history.leaves()?, revs)?,
+        Some(asked) => read_elements(alloc, store, db, id, asked, &paths)?,
+        None => {
+            let leaves = store.outline(db, id)?.leaves()?;
+            read_elements(alloc, store, db, id, &leaves, &paths)?
+        }
     };
     Ok(Json::Array(elements))
 }
 
-fn elements(
+/// Tells what is said of these revisions, in order.
+fn read_elements<S: Store>(
     alloc: Global,
-    history: &History,
+    store: &mut S,
+    db: &DbName,
     id: &DocId,
     asked: &[Rev],
-    revs: bool,
-) -> Got<Vec<Json>>
-    ensures { IfOk result (λ elements. each view elements.items ≡ each (open_revision id.now history.now revs) asked.now) }
+    paths: &Option<Outline>,
+) -> Result<Vec<Json>, ReadFault>
+    ensures ok { S.is_honest store.new → IfOk result (λ elements. (d : Database) → map.get (S.contents store.old) db.now ≡ Some d
+        → IfSome paths.now (λ outline. outline ≡ outline_of (history_at d id.now))
+        → each view elements.items ≡ each (open_revision id.now (history_at d id.now) (is_some paths.now)) asked.now) }
+    ensures stops { IfErr result (Stops S.Store store.old store.new (map.get (S.contents store.old) db.now ≡ None)) }
+    ensures reads { OnlyReads S.Store store.old store.new }
 {
     let mut elements = Vec::with_capacity(alloc, asked.len())?;
     for rev in asked {
-        elements.push(build_open_revision(alloc, history, id, rev, revs)?)?;
+        let shown = read_shown(alloc, store, db, id, rev, paths)?;
+        elements.push(build_element(alloc, rev, shown)?)?;
     }
     Ok(elements)
-}
-
-/// Tells what is said of one revision.
-fn build_open_revision(
-    alloc: Global,
-    history: &History,
-    id: &DocId,
-    rev: &Rev,
-    revs: bool,
-) -> Got<Json>
-    ensures { IfOk result (λ value. view value ≡ open_revision id.now history.now revs rev.now) }
-{
-    build_element(alloc, rev, show(alloc, history, id, rev, revs)?)
 }
 
 fn build_element(alloc: Global, rev: &Rev, document: Option<Json>) -> Got<Json>

@@ -1,28 +1,26 @@
 ghost use Rattle.std.specs.Prelude.{◌≡◌, map, IfOk, OnOk};
 ghost use Rattle.couch_json.specs.Value.{text};
 ghost use Rattle.couch_json.specs.View.{view, members_view};
-ghost use Rattle.read.specs.Path.{revisions_of, with_revisions};
+ghost use Rattle.read.specs.Path.{revisions_of, with_paths};
 
 use couch_json::{Got, Json, Number, put_member};
 use std::alloc::Global;
 use std::collections::BTreeMap;
-use tree::{History, Rev};
+use tree::{Outline, Rev};
 
-/// Puts the path of a known revision into the members of its document, where `revs` asks for it.
+/// Puts the path of a known revision into the members of its document, where the paths are given.
 pub(crate) fn put_revisions(
     alloc: Global,
     members: &mut BTreeMap<String, Json>,
-    history: &History,
+    paths: &Option<Outline>,
     rev: &Rev,
-    revs: bool,
 ) -> Got<()>
-    ensures { OnOk result (members_view members.new.entries
-        ≡ with_revisions revs history.now rev.now (members_view members.old.entries)) }
+    ensures { OnOk result (members_view members.new.entries ≡ with_paths paths.now rev.now (members_view members.old.entries)) }
 {
-    if !revs {
+    let Some(outline) = paths else {
         return Ok(());
-    }
-    let Some(path) = history.chain(rev)? else {
+    };
+    let Some(path) = outline.chain(rev)? else {
         return Ok(());
     };
     put_member(alloc, members, "_revisions", revisions(alloc, rev, &path)?)

@@ -1,27 +1,61 @@
-ghost use Rattle.std.specs.Prelude.{◌≡◌, IfOk, option_map};
+ghost use Rattle.std.specs.Prelude.{◌≡◌, IfErr, IfOk, IfSome, None, Some, is_some, option_map};
+ghost use Rattle.std.specs.FinMap as map;
 ghost use Rattle.couch_json.specs.View.{view};
+ghost use Rattle.store.specs.Calls.{OnlyReads};
+ghost use Rattle.store.specs.Database.{Database, history_at};
+ghost use Rattle.tree.specs.Outline.{outline_of};
+ghost use Rattle.read.specs.Answers.{Stops};
 ghost use Rattle.read.specs.Shown.{shown_document};
 
+use crate::fault::ReadFault;
 use crate::path::put_revisions;
-use couch_json::{Got, Json};
+use couch_json::Json;
 use std::alloc::Global;
-use tree::{DocId, History, Rev, show_members};
+use store::{DbName, Store};
+use tree::{DocId, Outline, Rev, show_members};
 
-/// Returns the document that a revision is shown as: its body with `_id`, `_rev`, `_deleted` where it is
-/// deleted, and `_revisions` where that is asked for. `None` where no body is held of it.
-pub(crate) fn show(
+/// Reads the outline of a document, which has the paths of its revisions, where `revs` asks for it.
+pub(crate) fn read_paths<S: Store>(
+    store: &mut S,
+    db: &DbName,
+    id: &DocId,
+    revs: bool,
+) -> Result<Option<Outline>, ReadFault>
+    ensures asked { IfOk result (λ paths. is_some paths ≡ revs) }
+    ensures ok { S.is_honest store.new → IfOk result (λ paths. (d : Database) → map.get (S.contents store.old) db.now ≡ Some d
+        → IfSome paths (λ outline. outline ≡ outline_of (history_at d id.now))) }
+    ensures stops { IfErr result (Stops S.Store store.old store.new (map.get (S.contents store.old) db.now ≡ None)) }
+    ensures reads { OnlyReads S.Store store.old store.new }
+{
+    if !revs {
+        return Ok(None);
+    }
+    Ok(Some(store.outline(db, id)?))
+}
+
+/// Reads the document that a revision is shown as: its body with `_id`, `_rev`, `_deleted` where it is
+/// deleted, and `_revisions` where the paths are given. `None` where no body is held of it.
+pub(crate) fn read_shown<S: Store>(
     alloc: Global,
-    history: &History,
+    store: &mut S,
+    db: &DbName,
     id: &DocId,
     rev: &Rev,
-    revs: bool,
-) -> Got<Option<Json>>
-    ensures { IfOk result (λ document. option_map view document ≡ shown_document id.now history.now rev.now revs) }
+    paths: &Option<Outline>,
+) -> Result<Option<Json>, ReadFault>
+    ensures ok { S.is_honest store.new → IfOk result (λ document. (d : Database) → map.get (S.contents store.old) db.now ≡ Some d
+        → IfSome paths.now (λ outline. outline ≡ outline_of (history_at d id.now))
+        → option_map view document ≡ shown_document id.now (history_at d id.now) rev.now (is_some paths.now)) }
+    ensures stops { IfErr result (Stops S.Store store.old store.new (map.get (S.contents store.old) db.now ≡ None)) }
+    ensures reads { OnlyReads S.Store store.old store.new }
 {
-    let Some((deleted, body)) = history.body(rev) else {
+    let Some(known) = store.revision(db, id, rev)? else {
         return Ok(None);
     };
-    let mut members = show_members(alloc, id, rev, deleted, body)?;
-    put_revisions(alloc, &mut members, history, rev, revs)?;
+    let Some(held) = known.held else {
+        return Ok(None);
+    };
+    let mut members = show_members(alloc, id, rev, held.deleted, held.body.json())?;
+    put_revisions(alloc, &mut members, paths, rev)?;
     Ok(Some(Json::Object(members)))
 }

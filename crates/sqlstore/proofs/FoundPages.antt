@@ -8,6 +8,8 @@ use Rattle.tables.proofs.ListingRows.{counts_by_sequence, documents_by_id, leave
 use Rattle.tables.proofs.Lookups.{document_found}
 use Rattle.tables.proofs.RowMaps.{passing}
 use Rattle.tables.proofs.Sorted.{all_sorted}
+use Rattle.tree.specs.Outline.{marked_winner, outline_of}
+use Rattle.tree.specs.Revision.{Revision}
 use Rattle.sqlstore.proofs.Afterwards.{stands_same}
 use Rattle.sqlstore.proofs.Answering.{IsThere, laid, there, was_honest}
 use Rattle.sqlstore.proofs.ListedRows.{counts_set, id_rows_set, leaves_rows, page_kept, places_set, sequence_rows_set}
@@ -31,6 +33,15 @@ module _ (trees : Trees) (name : List ℕ) (k : NumberValues) (lay : ∥ IsLaid 
 
   pub history_there : (id : List ℕ) → option_map (λ (db : Database). history_at db id) (finite.get (contents_in trees) name) ≡ Some (history_in (trees revs_tree) k.0 id)
   history_there id = ap (option_map (λ (db : Database). history_at db id)) t.database ∙ ap Some (history_of id)
+
+  pub outline_there : (id : List ℕ) → option_map (λ (db : Database). outline_of (history_at db id)) (finite.get (contents_in trees) name) ≡ Some (outline_of (history_in (trees revs_tree) k.0 id))
+  outline_there id = ap (option_map (λ (db : Database). outline_of (history_at db id))) t.database ∙ ap (λ h. Some (outline_of h)) (history_of id)
+
+  pub winner_there : (id : List ℕ) → option_map (λ (db : Database). marked_winner (history_at db id)) (finite.get (contents_in trees) name) ≡ Some (marked_winner (history_in (trees revs_tree) k.0 id))
+  winner_there id = ap (option_map (λ (db : Database). marked_winner (history_at db id))) t.database ∙ ap (λ h. Some (marked_winner h)) (history_of id)
+
+  pub revision_there : (id : List ℕ) (q : Revision) → option_map (λ (db : Database). finite.get (history_at db id) q) (finite.get (contents_in trees) name) ≡ Some (finite.get (history_in (trees revs_tree) k.0 id) q)
+  revision_there id q = ap (option_map (λ (db : Database). finite.get (history_at db id) q)) t.database ∙ ap (λ h. Some (finite.get h q)) (history_of id)
 
   -- ---- by id
 

@@ -10,6 +10,7 @@ pub mod Enough
 pub mod FoundPages
 pub mod Afterwards
 pub mod Indexing
+pub mod OneDocument
 mod OpenedAgain
 pub mod Making
 pub mod Lemmas

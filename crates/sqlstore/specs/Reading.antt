@@ -1,6 +1,6 @@
 -- What the rows of databases and names say, and when they are intact.
 -- This server's own: rows are read by the words of `tables`.
-use Rattle.std.specs.Prelude.{◌≡◌, ℕ, ℤ, IsTrue, List, length, filter, slice_get, Some}
+use Rattle.std.specs.Prelude.{◌≡◌, ℕ, ℤ, IsTrue, List, length, filter, slice_get, Option, option_map, Some}
 use Rattle.couch_json.specs.Value as json
 use Rattle.couch_json.specs.View.{view}
 use Rattle.store.specs.DatabaseName.{is_database_name}
@@ -9,6 +9,10 @@ use Rattle.sqlite_value.specs.Order.{Row, bytes, column}
 use Rattle.tables.specs.Rows.{count_in, is_named, json_in, length_of, number_of, security_of, whole_in}
 use Rattle.sqlite_trees.specs.Tree.{Trees}
 use Rattle.tables.specs.Schema.{dbs_tree}
+use Rattle.tables.specs.Listings.{listed_mark, listed_winner}
+use Rattle.transactions.specs.Reading.{entry_shown}
+use Rattle.tree.specs.declared.entry.Entry.{Entry}
+use Rattle.tree.specs.declared.marked_rev.MarkedRev.{MarkedRev}
 use Rattle.sqlstore.specs.declared.known_database.KnownDatabase.{KnownDatabase}
 
 -- the number, the security object and the sequence of a database
@@ -46,6 +50,14 @@ pub record IsShownName (s : Row) : Type 0 where
   pub width : length s ≡ 1
   pub name : column s 0 ≡ Blob (name_shown s)
   pub lawful : IsTrue (is_database_name (name_shown s))
+
+-- the winner of a document, of what a list shows of its row
+abbrev pub winner_shown : Row → Option MarkedRev
+winner_shown s = option_map (λ r. record { rev = r; deleted = listed_mark s }) (listed_winner s)
+
+-- what is known of a revision, of what a query shows of its row
+abbrev pub known_shown : Row → Entry
+known_shown s = (entry_shown s).1
 
 -- the database of this name has this number
 pub record HasNumber (trees : Trees) (name : List ℕ) (number : ℤ) : Type 0 where

@@ -13,7 +13,7 @@ use store::{
     DbName, IdRange, KeyRange, LocalDocument, PageById, PageByKey, PageBySeq, SeqRange, Store,
     StoreFault, Write,
 };
-use tree::{DocId, History};
+use tree::{DocId, Entry, History, MarkedRev, Outline, Rev};
 
 /// A store over tables in memory, which began without databases. Memory returns what was written, so
 /// what it answers is so without a premise.
@@ -91,6 +91,23 @@ impl Store for MemoryStore {
 
     fn history(&mut self, name: &DbName, id: &DocId) -> Result<History, StoreFault> {
         self.store.history(name, id)
+    }
+
+    fn outline(&mut self, name: &DbName, id: &DocId) -> Result<Outline, StoreFault> {
+        self.store.outline(name, id)
+    }
+
+    fn winner(&mut self, name: &DbName, id: &DocId) -> Result<Option<MarkedRev>, StoreFault> {
+        self.store.winner(name, id)
+    }
+
+    fn revision(
+        &mut self,
+        name: &DbName,
+        id: &DocId,
+        rev: &Rev,
+    ) -> Result<Option<Entry>, StoreFault> {
+        self.store.revision(name, id, rev)
     }
 
     fn page_by_id(&mut self, name: &DbName, range: &IdRange) -> Result<PageById, StoreFault> {

@@ -6,6 +6,7 @@ mod committing;
 mod find;
 mod listing_rows;
 mod numbered;
+mod one_document;
 mod page_rows;
 mod rows;
 

@@ -21,3 +21,4 @@ pub mod KeyPlaces
 pub mod DeclaredFields
 pub mod KeyCounts
 pub mod IndexRows
+pub mod Winnings

@@ -13,3 +13,4 @@ pub mod Lawful
 pub mod Leaving
 pub mod Calls
 pub mod Plain
+pub mod Winning

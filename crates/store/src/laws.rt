@@ -4,13 +4,14 @@ ghost use Rattle.std.specs.Prelude.{◌≡◌, ◌<◌, ◌≤◌, ◌++◌, ℕ
 ghost use Rattle.std.specs.FinMap.{get};
 ghost use Rattle.couch_json.specs.Value.{Value};
 ghost use Rattle.tree.specs.Revision.{Revision};
-ghost use Rattle.tree.specs.History.{held_of, winner};
+ghost use Rattle.tree.specs.History.{HistoryContent, held_of, winner};
 ghost use Rattle.tree.specs.declared.entry.Held.{Held};
 ghost use Rattle.store.specs.Contents.{AreAcceptable, IsAcceptable, with_local, with_security};
 ghost use Rattle.store.specs.Database.{Database, Document, DocumentWrite, HasSequences, IsContentOf, IsLater, Log, empty_database, with_all, with_one, with_write_logged};
-ghost use Rattle.store.specs.Indexes.{IndexPlace, IsPlaceOf, index_rows, place_order};
+ghost use Rattle.store.specs.Indexes.{IndexPlace, IsPlaceOf, index_rows, place_order, queried_document, winning_body};
 ghost use Rattle.store.specs.Lawful.{IsBody, IsLawful};
 ghost use Rattle.store.specs.Pages.{IsIdRowOf, IsRowOf, SequenceRow, comes_before, is_within, live_rev, page_of_ids, page_by_sequence, row_of};
+ghost use Rattle.store.specs.Winning.{winner_alone};
 ghost use Rattle.store.specs.Writing.{Addition, writings_in};
 ghost use Rattle.store.specs.declared.local_document.LocalDocument.{LocalDocument};
 ghost use Rattle.store.specs.declared.page.IdRange.{IdRange};
@@ -73,6 +74,12 @@ pub fn lawful_documents()
         → winner d.history ≡ Some r → IsTrue (is_some (held_of d.history r)) }
     ensures body { (db : Database) (id : List ℕ) (d : Document) (r : Revision) (held : Held) → IsLawful db → get db.documents id ≡ Some d
         → held_of d.history r ≡ Some held → IsBody held.body }
+{}
+
+/// Queries and rules see the same of a document's winner alone as of its whole history.
+pub fn winner_alone_is_enough()
+    ensures queried { (h : HistoryContent) (id : List ℕ) → queried_document id (winner_alone h) ≡ queried_document id h }
+    ensures body { (h : HistoryContent) → winning_body (winner_alone h) ≡ winning_body h }
 {}
 
 /// The rows of a page by sequence ascend; each is that of a document whose sequence the range is

@@ -28,6 +28,7 @@ mod plain_store;
 mod range_key;
 mod replay;
 mod store;
+mod winning;
 mod write;
 
 pub use database_name::{DbName, NameFault};
@@ -41,4 +42,5 @@ pub use page::{DocumentCounts, IdRange, IdRow, PageById, PageBySeq, RowCounts, S
 pub use plain_store::PlainStore;
 pub use range_key::RangeKey;
 pub use store::Store;
+pub use winning::{read_winning, take_held};
 pub use write::Write;

@@ -1,11 +1,11 @@
 -- What the tests of a statement say of the cells of a row.
-use Rattle.tables.proofs.Common.{AllByRecursion, AreKeyed, Binary, Blob, Bool, Equal, Int, IsKeyed, List, Null, Row, Term, Value, [], all_weaker, ap, ap₂, bytes_eq, cast, col, column, comes_after, cond, db_of, false, holds, id_of, is_eq-slice_cmp, is_in, is_of, lies_between, list_all, listed_document, nat_cmp, op2, ordering_then, pos, refl, sequence_of, slice_cmp, then-Equal, true, value_cmp, value_cmp-Blob, ℕ, ℤ, ◌&&◌, ◌∙◌, ◌∷◌, ◌≡◌}
+use Rattle.tables.proofs.Common.{AllByRecursion, AreKeyed, Binary, Blob, Bool, Equal, Int, IsKeyed, List, Null, Row, Term, Text, Value, [], all_weaker, ap, ap₂, bytes_eq, cast, col, column, comes_after, cond, db_of, false, holds, id_of, is_eq-slice_cmp, is_in, is_of, lies_between, list_all, listed_document, nat_cmp, op2, ordering_then, pos, refl, sequence_of, slice_cmp, then-Equal, true, value_cmp, value_cmp-Blob, ℕ, ℤ, ◌&&◌, ◌∙◌, ◌∷◌, ◌≡◌}
 use Rattle.sqlite_sql.specs.declared.ops.BinaryOp.TheVariants.{Compare}
 use Rattle.sqlite_sql.specs.declared.ops.CompareOp.{CompareOp}
 use Rattle.sqlite_sql.specs.declared.ops.CompareOp.TheVariants.{Eq, Ge, Gt, Le}
 use Rattle.sqlite_sql.specs.Ops.{binary, unary, is_true}
 use Rattle.sqlite_schema.specs.declared.schema.Kind.TheVariants.{Integer}
-use Rattle.sqlite_typed.proofs.TestLemmas.{at_ints, at_blobs, by_order, int_test, then_term, last_term}
+use Rattle.sqlite_typed.proofs.TestLemmas.{at_ints, at_blobs, at_texts, by_order, int_test, then_term, last_term}
 use Rattle.sqlite_typed.specs.Tests.{bytes_cmp}
 
 -- a cell of the row against a parameter
@@ -20,6 +20,9 @@ blob_by op v a b is = ap (λ x. is_true (binary (Compare op Binary) x (Blob b)))
 
 pub same_blob : (v : Value) (a b : List ℕ) → v ≡ Blob a → is_true (binary (Compare Eq Binary) v (Blob b)) ≡ bytes_eq a b
 same_blob v a b is = blob_by Eq v a b is ∙ is_eq-slice_cmp a b
+
+pub same_text : (v : Value) (a b : List ℕ) → v ≡ Text a → is_true (binary (Compare Eq Binary) v (Text b)) ≡ bytes_eq a b
+same_text v a b is = ap (λ x. is_true (binary (Compare Eq Binary) x (Text b))) is ∙ at_texts false Eq a b ∙ is_eq-slice_cmp a b
 
 -- cells of bytes are in the order of the bytes
 pub blobs_agree : (x y : Value) (a b : List ℕ) → x ≡ Blob a → y ≡ Blob b → ordering_then (value_cmp x y) Equal ≡ slice_cmp nat_cmp a b

@@ -1,11 +1,12 @@
 -- What the statements on documents mean.
-use Rattle.tables.proofs.Common.{AllByRecursion, Binary, Blob, Bool, Delete, Equal, IfOk, Insert, Int, IsDocumentRow, IsStore, IsTotalOrder, Key, List, Null, Ordering, Result, Row, Select, Shown, State, Term, Text, Values, [], all_weaker, and_parts, ap, ap₂, arith, as_count, cast_row, codes, col, column, comes_after, cond, db_of, docs_table, docs_tree, document_cells, document_row, eval, everything, false, filter, filter-map, first_rows, holds, id_of, int_cmp, ints, is_gone, is_in, lies_between, limited, list_all, listed_document, listed_id, lit, map, nat_cmp, nat_cmp-IsAntisymmetric, nat_cmp_total, nat_list_cmp_total, nat_tests, negsuc, number_of, on_total, ordering_then, pos, refl, same_int, schema, sequence_of, sort_by, subst, sym, then-Equal, true, understood, value_cmp, value_cmp-Int, winner, winner_text, ℕ, ℤ, ◌&&◌, ◌∙◌, ◌∷◌, ◌≡◌, ◌≢◌}
-use Rattle.tables.proofs.Cells.{blobs_agree, by_db, by_id, by_later, by_range, cast_null, cast_int, tests_db, tests_later, tests_range}
+use Rattle.tables.proofs.Common.{AllByRecursion, Binary, Blob, Bool, Delete, Equal, IfOk, Insert, Int, IsDocumentRow, IsStore, IsTotalOrder, Key, List, Null, Ordering, Result, Row, Select, Shown, State, Term, Text, Values, [], all_weaker, and_parts, ap, ap₂, arith, as_count, cast_row, codes, col, column, comes_after, cond, db_of, docs_table, docs_tree, document_cells, document_row, eval, everything, false, filter, filter-map, first_rows, holds, id_of, int_cmp, ints, is_gone, is_in, is_of, lies_between, limited, list_all, listed_document, listed_id, lit, map, nat_cmp, nat_cmp-IsAntisymmetric, nat_cmp_total, nat_list_cmp_total, nat_tests, negsuc, number_of, on_total, ordering_then, pos, refl, same_int, schema, sequence_of, sort_by, subst, sym, then-Equal, true, understood, value_cmp, value_cmp-Int, winner, winner_text, ℕ, ℤ, ◌&&◌, ◌∙◌, ◌∷◌, ◌≡◌, ◌≢◌}
+use Rattle.tables.proofs.Cells.{blobs_agree, by_db, by_id, by_later, by_range, cast_null, cast_int, tests_db, tests_id, tests_later, tests_range}
 use Rattle.tables.proofs.RowMaps.{filter_both, text_exact, untied}
 use Rattle.tables.proofs.Sorted.{lists, sorted_left}
 use Rattle.tables.specs.Rows as order
 use Rattle.tables.proofs.Queries.{first_program, program_on}
-use Rattle.tables.proofs.Tables.{docs_keyed}
+use Rattle.tables.proofs.Finds.{finds_one}
+use Rattle.tables.proofs.Tables.{docs_keyed, one_of}
 use Rattle.tables.proofs.Writes.{IsCommand}
 
 pub inserts_document : IsCommand schema (codes "INSERT INTO docs (db, id, seq, winner, del) VALUES (?1, ?2, ?3, ?4, ?5)") (Insert 2 (Values (lit Null ∷ col 0 0 ∷ col 0 1 ∷ col 0 2 ∷ col 0 3 ∷ col 0 4 ∷ []) 6))
@@ -30,6 +31,18 @@ listed = col 1 2 ∷ col 1 3 ∷ col 1 4 ∷ col 1 5 ∷ []
 
 abbrev headings : List (List ℕ)
 headings = codes "id" ∷ codes "seq" ∷ codes "winner" ∷ codes "del" ∷ []
+
+abbrev pub document_text : List ℕ
+document_text = codes "SELECT id, seq, winner, del FROM docs WHERE db = ?1 AND id = ?2"
+
+pub document_is : IsCommand schema document_text (Select (program_on docs_tree by_id listed []) headings)
+unfolding understood everything
+document_is = record { is = refl; plain = (refl, refl); unlisted = refl }
+
+pub finds_document : {X E : Type 0} (old new : State) → IsStore old.now → (db : ℤ) (id : List ℕ) (r : Result X E) (items : X → List Row) → IfOk r (λ x. Shown document_text (Int db ∷ Blob id ∷ []) old new (items x))
+    → IfOk r (λ x. items x ≡ map listed_document (filter (is_of db id) (old.now.trees docs_tree)))
+finds_document old new is db id =
+    finds_one old new is.schema_is document_is (Int db ∷ Blob id ∷ []) (is_of db id) listed_document refl (λ r. refl) (tests_id db id _ (docs_keyed old.now.trees is.laid)) (one_of (old.now.trees docs_tree) is.laid.ids_apart db id)
 
 abbrev pub ids_text : List ℕ
 ids_text = codes "SELECT id, seq, winner, del FROM docs WHERE db = ?1 ORDER BY id"

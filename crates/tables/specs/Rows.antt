@@ -2,7 +2,7 @@
 -- The contents are those of `store`; that a known revision is a row is this server's own layout.
 use Rattle.std.specs.Prelude.{ℕ, ◌-◌, ℤ, pos, negsuc, ◌+ℤ◌, ◌++◌, fold, Bool, true, false, ◌&&◌, nat_lt, bytes_eq, if◌then◌else◌, List, [], ◌∷◌, map, filter, Option, Some, None, Result, Ok, Err}
 use Rattle.std.specs.declared.cmp.Ordering.{Ordering}
-use Rattle.std.specs.Ordering.{int_eq, nat_cmp}
+use Rattle.std.specs.Ordering.{eq_by_cmp, int_eq, nat_cmp}
 use Rattle.std.specs.Cmp.Lexicographic.{slice_cmp}
 use Rattle.std.specs.FinMap.{from_entries}
 use Rattle.couch_json.specs.Canonical.{canonical}
@@ -10,7 +10,7 @@ use Rattle.couch_json.specs.Reading.{reading}
 use Rattle.couch_json.specs.Value as json
 use Rattle.couch_json.specs.declared.fault.JsonFault.{JsonFault}
 use Rattle.tree.specs.History.{HistoryContent, row_of}
-use Rattle.tree.specs.Revision.{Revision}
+use Rattle.tree.specs.Revision.{Revision, revision_cmp}
 use Rattle.tree.specs.declared.entry.Entry.{Entry}
 use Rattle.tree.specs.declared.entry.Held.{Held}
 use Rattle.store.specs.Contents.{Contents}
@@ -216,6 +216,14 @@ held_in r = if is_set (column r 6) then Some (is_set (column r 7), json_in (colu
 
 abbrev pub entry_of : Row → Entry
 entry_of r = row_of (parent_in (count_in (column r 3)) (column r 5)) (held_in r)
+
+-- the same without the body
+abbrev pub shown_outline : Row → Row
+shown_outline r = column r 3 ∷ column r 4 ∷ column r 5 ∷ column r 6 ∷ column r 7 ∷ []
+
+-- the row is that of this revision of the document
+abbrev pub is_revision_of : ℤ → List ℕ → Revision → Row → Bool
+is_revision_of db id rev r = is_of db id r && eq_by_cmp revision_cmp rev (revision_of r)
 
 -- local documents
 abbrev pub local_cells : ℤ → List ℕ → ℕ → List ℕ → Row

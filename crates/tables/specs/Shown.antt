@@ -85,3 +85,20 @@ pub record IsShownRevision (s : Row) : Type 0 where
   pub hash : SpellsHashOf (count_in (column s 0)) (column s 1)
   pub parent : SpellsParentOf (count_in (column s 0)) (column s 2)
   pub held : ShowsHeld s
+
+-- ---- the same without the body
+
+abbrev pub mark_shown : Row → Option Bool
+mark_shown s = if is_set (column s 3) then Some (is_set (column s 4)) else None
+
+-- nothing is held, or a mark is
+pub record ShowsMark (s : Row) : Type 0 where
+  pub held : IsCount (column s 3)
+  pub mark : IsTrue (is_set (column s 3)) → IsCount (column s 4)
+
+pub record IsShownOutline (s : Row) : Type 0 where
+  pub width : length s ≡ 5
+  pub number : IsSmall (column s 0)
+  pub hash : SpellsHashOf (count_in (column s 0)) (column s 1)
+  pub parent : SpellsParentOf (count_in (column s 0)) (column s 2)
+  pub held : ShowsMark s

@@ -7,7 +7,7 @@ ghost use Rattle.sqlite_value.specs.declared.value.Value.TheVariants.{Text};
 ghost use Rattle.tree.specs.Revision.{revision_read, text_of};
 ghost use Rattle.tables.specs.Rows.{count_in, json_in, parent_in, whole_in};
 ghost use Rattle.tables.specs.Listings.{IsListedDocument, SpellsId, listed_id, listed_mark, listed_sequence, listed_winner};
-ghost use Rattle.tables.specs.Shown.{IsCount, IsShownDatabase, IsShownLocal, IsShownRevision, IsSmall, IsWhole, ShowsHeld, SpellsHash, SpellsHashOf, SpellsJson, SpellsParentOf, SpellsRevision, held_shown, local_shown, parent_shown, revision_shown};
+ghost use Rattle.tables.specs.Shown.{IsCount, IsShownDatabase, IsShownLocal, IsShownOutline, IsShownRevision, IsSmall, IsWhole, ShowsHeld, ShowsMark, SpellsHash, SpellsHashOf, SpellsJson, SpellsParentOf, SpellsRevision, held_shown, local_shown, mark_shown, parent_shown, revision_shown};
 
 use couch_json::{Json, JsonFault};
 use sqlite::{Error, ErrorCode, Row};
@@ -51,6 +51,17 @@ pub struct FoundRevision {
     pub parent: Option<Rev>,
     /// Whether it is deleted, and its body; `None` where it only came inside a path.
     pub held: Option<(bool, Json)>,
+}
+
+/// The row of a revision without its body, as a query shows it.
+#[derive(Clone, Copy, Debug)]
+pub struct FoundNode {
+    /// The revision.
+    pub rev: Rev,
+    /// The revision before it, or `None` at a root.
+    pub parent: Option<Rev>,
+    /// Whether it is deleted; `None` where it only came inside a path.
+    pub mark: Option<bool>,
 }
 
 /// The row of a database, as a query shows it.
@@ -200,6 +211,30 @@ pub fn read_revision(alloc: Global, row: &Row) -> Result<FoundRevision, RowFault
     let parent = parent_at(row, number, 2)?;
     let held = held_in(alloc, row)?;
     Ok(FoundRevision { rev, parent, held })
+}
+
+fn mark_in(row: &Row) -> Result<Option<bool>, RowFault>
+    ensures ok { IfOk result (λ mark. mark ≡ mark_shown row.now) }
+    ensures damaged { result ≡ Err RowFault.Damaged → length row.now ≡ 5 → ¬ (ShowsMark row.now) }
+{
+    if count_at(row, 3)? == 0 {
+        return Ok(None);
+    }
+    Ok(Some(count_at(row, 4)? > 0))
+}
+
+/// Reads what a row of `outline_rows` shows.
+pub fn read_node(row: &Row) -> Result<FoundNode, RowFault>
+    ensures revision { IfOk result (λ d. d.rev ≡ revision_shown row.now) }
+    ensures parent { IfOk result (λ d. d.parent ≡ parent_shown row.now) }
+    ensures mark { IfOk result (λ d. d.mark ≡ mark_shown row.now) }
+    ensures damaged { result ≡ Err RowFault.Damaged → ¬ (IsShownOutline row.now) }
+{
+    let number = number_at(row, 0)?;
+    let rev = named_at(row, number, 1)?;
+    let parent = parent_at(row, number, 2)?;
+    let mark = mark_in(row)?;
+    Ok(FoundNode { rev, parent, mark })
 }
 
 /// Reads the local document that a row of `local_rows` shows.

@@ -78,6 +78,21 @@ pub fn rows_by_sequence<S: Alter>(conn: &mut Connection<S>, db: &i64) -> Result<
     )
 }
 
+/// Returns that row of `rows_by_id` which is the one of this id, if there is one.
+pub fn document_rows<S: Alter>(
+    conn: &mut Connection<S>,
+    db: &i64,
+    id: &[u8],
+) -> Result<Vec<Row>, Error>
+    ensures { Reads S.Store IsStore conn.old conn.new (λ trees rows. rows.items ≡ map listed_document (filter (is_of db.now id.now) (trees docs_tree))) result }
+{
+    query(
+        conn,
+        "SELECT id, seq, winner, del FROM docs WHERE db = ?1 AND id = ?2",
+        params![db, id],
+    )
+}
+
 /// Returns those rows of `rows_by_id` whose ids lie between two, or are one of them.
 pub fn rows_between<S: Alter>(
     conn: &mut Connection<S>,

@@ -5,7 +5,7 @@ ghost use Rattle.sqlite.specs.Values.{or_null};
 ghost use Rattle.sqlite_value.specs.declared.value.Value.TheVariants.{Text};
 ghost use Rattle.tables.specs.Calls.{Alters, Reads};
 ghost use Rattle.tables.specs.Layout.{AreKeyed, IsStore};
-ghost use Rattle.tables.specs.Rows.{is_in, is_of, shown_revision, given_cells, with_cells};
+ghost use Rattle.tables.specs.Rows.{is_in, is_of, is_revision_of, shown_outline, shown_revision, given_cells, with_cells};
 ghost use Rattle.tables.specs.Schema.{revs_tree};
 
 use crate::statement::{change, query};
@@ -52,6 +52,38 @@ pub fn revision_rows<S: Alter>(
     query(
         conn,
         "SELECT n, hash, parent, held, del, body FROM revs WHERE db = ?1 AND id = ?2",
+        params![db, id],
+    )
+}
+
+/// Returns the row of one revision of a document, if it is known.
+pub fn one_revision_rows<S: Alter>(
+    conn: &mut Connection<S>,
+    db: &i64,
+    id: &[u8],
+    number: u32,
+    hash: &str,
+) -> Result<Vec<Row>, Error>
+    ensures { Reads S.Store IsStore conn.old conn.new (λ trees rows. rows.items ≡ map shown_revision (filter (is_revision_of db.now id.now (record { number = number; hash = hash.now })) (trees revs_tree))) result }
+{
+    query(
+        conn,
+        "SELECT n, hash, parent, held, del, body FROM revs WHERE db = ?1 AND id = ?2 AND n = ?3 AND hash = ?4",
+        params![db, id, number, hash],
+    )
+}
+
+/// Returns the rows of all known revisions of a document without their bodies, in some order.
+pub fn outline_rows<S: Alter>(
+    conn: &mut Connection<S>,
+    db: &i64,
+    id: &[u8],
+) -> Result<Vec<Row>, Error>
+    ensures { Reads S.Store IsStore conn.old conn.new (λ trees rows. IsPermutation (map shown_outline (filter (is_of db.now id.now) (trees revs_tree))) rows.items) result }
+{
+    query(
+        conn,
+        "SELECT n, hash, parent, held, del FROM revs WHERE db = ?1 AND id = ?2",
         params![db, id],
     )
 }

@@ -1,53 +1,86 @@
 -- The history that the rows of a document's revisions make, in whatever order a query shows them.
-use Rattle.transactions.proofs.Common.{AllByRecursion, Bool, Coded-set, Entry, HistoryContent, IsAscending, IsLaid, IsPermutation, IsPermutation-filter, IsShownRevision, List, Option, Revision, Row, Trees, all-filter, all_map, ap, coded_option, content_code, db_of, entry_of, entry_shown, eq_by_cmp, filter, held_shown, history_in, history_shown, id_of, is_of, map, map-map, option_map, parent_shown, refl, revision_cmp, revision_cmp_exact, revision_cmp_total, revision_of, revision_shown, revs_tree, row_of, rows_make, shown_revision, slice_get, subst, sym, true, ℕ, ℤ, ◌∙◌, ◌≡◌, ◌≢◌}
+use Rattle.transactions.proofs.Common.{Some, bare, column, cond, count_in, false, is_set, json_in, map_same, node_shown, null, outline_of, outline_shown, parent_in, AllByRecursion, Bool, Coded-set, Entry, HistoryContent, IsAscending, IsLaid, IsPermutation, IsPermutation-filter, IsShownOutline, IsShownRevision, List, None, Option, Revision, Row, Trees, all-filter, all_map, ap, coded_option, content_code, db_of, entry_of, entry_shown, eq_by_cmp, filter, held_shown, history_in, history_shown, id_of, is_of, map, map-map, option_map, parent_shown, refl, revision_cmp, revision_cmp_exact, revision_cmp_total, revision_of, revision_shown, revs_tree, row_of, rows_make, shown_outline, shown_revision, slice_get, subst, sym, true, ℕ, ℤ, ◌∙◌, ◌≡◌, ◌≢◌}
 use Rattle.std.proofs.lemmas.List.{map-id}
 use Rattle.std.specs.FinMap as finite
 use Rattle.sqlite_keyed.proofs.ListLemmas.{ascending-map, ascending_weaker}
 use Rattle.sqlite_trees.proofs.ListLemmas.{all-permutation}
-use Rattle.tables.proofs.Laid.{shown_revisions}
+use Rattle.tables.proofs.Laid.{shown_outlines, shown_revisions}
 use Rattle.tables.proofs.ListingOrders.{ascending_within}
 use Rattle.tables.proofs.RowMaps.{get_filtered}
 use Rattle.tables.proofs.Single.{HasOneAtMost, one_order}
 use Rattle.tables.proofs.Tables.{of_these}
+use Rattle.tree.proofs.Outlines.{find_bare, get_outline}
 use Rattle.tree.proofs.Revisions.{same}
 
 -- the rows of a revision, as they are shown
 abbrev at : Revision → Row → Bool
 at q s = eq_by_cmp revision_cmp q (revision_shown s)
 
-one_shown : (db : ℤ) (id : List ℕ) (rows : List Row) → IsAscending (λ a b. db_of a ≡ db_of b → id_of a ≡ id_of b → revision_of a ≢ revision_of b) rows → (q : Revision) → HasOneAtMost (at q) (map shown_revision (filter (is_of db id) rows))
-one_shown db id rows h q =
-    ascending-map (λ a b. at q a ≡ true → at q b ≡ true → ⊥) shown_revision (filter (is_of db id) rows)
-    (ascending_within (is_of db id) (λ a b. at q (shown_revision a) ≡ true → at q (shown_revision b) ≡ true → ⊥) rows
-    (ascending_weaker (λ a b. db_of a ≡ db_of b → id_of a ≡ id_of b → revision_of a ≢ revision_of b) (λ a b. is_of db id a ≡ true → is_of db id b ≡ true → at q (shown_revision a) ≡ true → at q (shown_revision b) ≡ true → ⊥)
-    (λ a b apart of_a of_b at_a at_b.
-    let x = of_these db id a of_a in
-    let y = of_these db id b of_b in
-    apart (x.0 ∙ sym y.0) (x.1 ∙ sym y.1) (sym (same q (revision_of a) at_a) ∙ same q (revision_of b) at_b)) rows h))
+-- what is shown of each row names its revision, and has a value
+module _ (show : Row → Row) (value : Row → Entry) (named : (r : Row) → revision_shown (show r) ≡ revision_of r) where
+  one_shown : (db : ℤ) (id : List ℕ) (rows : List Row) → IsAscending (λ a b. db_of a ≡ db_of b → id_of a ≡ id_of b → revision_of a ≢ revision_of b) rows → (q : Revision) → HasOneAtMost (at q) (map show (filter (is_of db id) rows))
+  one_shown db id rows h q =
+      ascending-map (λ a b. at q a ≡ true → at q b ≡ true → ⊥) show (filter (is_of db id) rows)
+      (ascending_within (is_of db id) (λ a b. at q (show a) ≡ true → at q (show b) ≡ true → ⊥) rows
+      (ascending_weaker (λ a b. db_of a ≡ db_of b → id_of a ≡ id_of b → revision_of a ≢ revision_of b) (λ a b. is_of db id a ≡ true → is_of db id b ≡ true → at q (show a) ≡ true → at q (show b) ≡ true → ⊥)
+      (λ a b apart of_a of_b at_a at_b.
+      let x = of_these db id a of_a in
+      let y = of_these db id b of_b in
+      apart (x.0 ∙ sym y.0) (x.1 ∙ sym y.1) (sym (named a) ∙ sym (same q (revision_shown (show a)) at_a) ∙ same q (revision_shown (show b)) at_b ∙ named b)) rows h))
 
-abbrev value : Row → Entry
-value s = row_of (parent_shown s) (held_shown s)
+  -- what stands at a revision, whatever the order
+  shown_at : (q : Revision) (rows : List Row) → finite.find revision_cmp q (map (λ s. (revision_shown s, value s)) rows) ≡ option_map value (slice_get (filter (at q) rows) 0)
+  shown_at q rows =
+      sym (finite.get-from_entries revision_cmp_total (map (λ s. (revision_shown s, value s)) rows) q)
+      ∙ get_filtered revision_cmp_total revision_cmp_exact revision_shown at (λ q s. refl) value rows q
 
--- what stands at a revision, whatever the order
-shown_at : (q : Revision) (rows : List Row) → finite.find revision_cmp q (map entry_shown rows) ≡ option_map value (slice_get (filter (at q) rows) 0)
-shown_at q rows =
-    sym (finite.get-from_entries revision_cmp_total (map entry_shown rows) q)
-    ∙ get_filtered revision_cmp_total revision_cmp_exact revision_shown at (λ q s. refl) value rows q
+  same_order : (q : Revision) (xs ys : List Row) → HasOneAtMost (at q) xs → IsPermutation xs ys → filter (at q) ys ≡ filter (at q) xs
+  same_order q xs ys one same =
+      one_order (λ r. r) (at q) xs (filter (at q) ys) one (subst (λ l. IsPermutation l (filter (at q) ys)) (sym (map-id (filter (at q) xs))) (IsPermutation-filter (at q) xs ys same)) ∙ map-id (filter (at q) xs)
 
-same_order : (q : Revision) (xs ys : List Row) → HasOneAtMost (at q) xs → IsPermutation xs ys → filter (at q) ys ≡ filter (at q) xs
-same_order q xs ys one same =
-    one_order (λ r. r) (at q) xs (filter (at q) ys) one (subst (λ l. IsPermutation l (filter (at q) ys)) (sym (map-id (filter (at q) xs))) (IsPermutation-filter (at q) xs ys same)) ∙ map-id (filter (at q) xs)
+  named_values : (rows : List Row) → map (λ r. (revision_shown (show r), value (show r))) rows ≡ map (λ r. (revision_of r, value (show r))) rows
+  named_values rows = map_same _ _ (λ r i. (named r i, value (show r))) rows
+
+  found : (trees : Trees) (db : ℤ) (id : List ℕ) (rows : List Row) → IsLaid trees → IsPermutation (map show (filter (is_of db id) (trees revs_tree))) rows → (q : Revision)
+      → finite.find revision_cmp q (map (λ s. (revision_shown s, value s)) rows) ≡ finite.find revision_cmp q (map (λ r. (revision_of r, value (show r))) (filter (is_of db id) (trees revs_tree)))
+  found trees db id rows l same q =
+      let F = filter (is_of db id) (trees revs_tree) in
+      shown_at q rows ∙ ap (λ k. option_map value (slice_get k 0)) (same_order q (map show F) rows (one_shown db id (trees revs_tree) l.revisions_apart q) same)
+      ∙ sym (shown_at q (map show F)) ∙ ap (finite.find revision_cmp q) (map-map (λ s. (revision_shown s, value s)) show F ∙ named_values F)
+
+abbrev known_entry : Row → Revision × Entry
+known_entry r = (revision_of r, entry_of r)
+
+kept : (trees : Trees) (db : ℤ) (id : List ℕ) (q : Revision) → finite.get (history_in (trees revs_tree) db id) q ≡ finite.find revision_cmp q (map known_entry (filter (is_of db id) (trees revs_tree)))
+kept trees db id q = finite.get-from_entries revision_cmp_total (map known_entry (filter (is_of db id) (trees revs_tree))) q
 
 pub history_made : (trees : Trees) (db : ℤ) (id : List ℕ) (rows : List Row) → IsLaid trees → IsPermutation (map shown_revision (filter (is_of db id) (trees revs_tree))) rows → history_shown rows ≡ history_in (trees revs_tree) db id
 history_made trees db id rows l same =
+    rows_make (history_in (trees revs_tree) db id) (map entry_shown rows)
+    (λ q. found shown_revision (λ s. row_of (parent_shown s) (held_shown s)) (λ r. refl) trees db id rows l same q ∙ sym (kept trees db id q))
+
+-- what is shown of a row without the body is what is known of its revision, without it
+bare_is : (r : Row) → (node_shown (shown_outline r)).1 ≡ bare (entry_of r)
+bare_is r = by (is_set (column r 6))
+  where
+    by : (b : Bool) → row_of (parent_in (count_in (column r 3)) (column r 5)) (option_map (λ deleted. (deleted, null)) (cond b (Some (is_set (column r 7))) None))
+        ≡ bare (row_of (parent_in (count_in (column r 3)) (column r 5)) (cond b (Some (is_set (column r 7), json_in (column r 8))) None))
+    by true = refl
+    by false = refl
+
+pub outline_made : (trees : Trees) (db : ℤ) (id : List ℕ) (rows : List Row) → IsLaid trees → IsPermutation (map shown_outline (filter (is_of db id) (trees revs_tree))) rows → outline_shown rows ≡ outline_of (history_in (trees revs_tree) db id)
+outline_made trees db id rows l same =
     let F = filter (is_of db id) (trees revs_tree) in
-    rows_make (history_in (trees revs_tree) db id) (map entry_shown rows) (λ q.
-    shown_at q rows ∙ ap (λ k. option_map value (slice_get k 0)) (same_order q (map shown_revision F) rows (one_shown db id (trees revs_tree) l.revisions_apart q) same)
-    ∙ sym (shown_at q (map shown_revision F)) ∙ ap (finite.find revision_cmp q) (map-map entry_shown shown_revision F)
-    ∙ sym (finite.get-from_entries revision_cmp_total (map (λ r. (revision_of r, entry_of r)) F) q))
+    rows_make (outline_of (history_in (trees revs_tree) db id)) (map node_shown rows) (λ q.
+    found shown_outline (λ s. (node_shown s).1) (λ r. refl) trees db id rows l same q
+    ∙ ap (finite.find revision_cmp q) (map_same _ _ (λ r i. (revision_of r, bare_is r i)) F ∙ sym (map-map (λ (e : Revision × Entry). (e.0, bare e.1)) known_entry F))
+    ∙ find_bare q (map known_entry F) ∙ ap (option_map bare) (sym (kept trees db id q)) ∙ sym (get_outline (history_in (trees revs_tree) db id) q))
 
 pub history_set : IsSet (Option HistoryContent)
 history_set = Coded-set (coded_option content_code)
 
 pub history_intact : (trees : Trees) (p : Row → Bool) (rows : List Row) → IsLaid trees → IsPermutation (map shown_revision (filter p (trees revs_tree))) rows → AllByRecursion IsShownRevision rows
 history_intact trees p rows l same = all-permutation IsShownRevision _ rows same (all_map IsShownRevision shown_revision _ (all-filter _ p _ (shown_revisions trees l)))
+
+pub outline_intact : (trees : Trees) (p : Row → Bool) (rows : List Row) → IsLaid trees → IsPermutation (map shown_outline (filter p (trees revs_tree))) rows → AllByRecursion IsShownOutline rows
+outline_intact trees p rows l same = all-permutation IsShownOutline _ rows same (all_map IsShownOutline shown_outline _ (all-filter _ p _ (shown_outlines trees l)))

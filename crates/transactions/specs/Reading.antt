@@ -1,14 +1,15 @@
 -- What is read of the rows that a query shows, and the history that they make.
 -- This server's own: rows are read by the words of `tables`; what is not intact is told as damaged.
-use Rattle.std.specs.Prelude.{◌≡◌, IsTrue, List, map, is_some, Option, Some, None, Result, Ok, Err, ⊤}
+use Rattle.std.specs.Prelude.{◌≡◌, IsTrue, List, map, is_some, Option, option_map, Some, None, Result, Ok, Err, ⊤}
 use Rattle.std.specs.FinMap as finite
+use Rattle.couch_json.specs.Value.{null}
 use Rattle.store.specs.declared.fault.StoreFault.{StoreFault}
 use Rattle.store.specs.declared.fault.StoreFault.TheVariants.{Memory, Failed, NoDatabase, Exists, Damaged, Full}
 use Rattle.sqlite_value.specs.Order.{Row}
 use Rattle.tree.specs.History.{HistoryContent, row_of, winner, with_entries}
 use Rattle.tree.specs.Revision.{Revision}
 use Rattle.tree.specs.declared.entry.Entry.{Entry}
-use Rattle.tables.specs.Shown.{held_shown, parent_shown, revision_shown}
+use Rattle.tables.specs.Shown.{held_shown, mark_shown, parent_shown, revision_shown}
 use Rattle.transactions.specs.declared.history_fault.HistoryFault.{HistoryFault}
 use Rattle.transactions.specs.declared.history_fault.HistoryFault.TheVariants as history
 
@@ -52,3 +53,11 @@ entry_shown s = (revision_shown s, row_of (parent_shown s) (held_shown s))
 -- the history that the rows make, one after the other
 abbrev pub history_shown : List Row → HistoryContent
 history_shown rows = with_entries finite.empty (map entry_shown rows)
+
+-- a known revision without its body
+abbrev pub node_shown : Row → Revision × Entry
+node_shown s = (revision_shown s, row_of (parent_shown s) (option_map (λ deleted. (deleted, null)) (mark_shown s)))
+
+-- the outline that the rows make
+abbrev pub outline_shown : List Row → HistoryContent
+outline_shown rows = with_entries finite.empty (map node_shown rows)

@@ -2,16 +2,17 @@
 
 ghost use Rattle.std.specs.Prelude.{◌≡◌, IfErr, IfOk, OnOk, Some, option_map};
 ghost use Rattle.std.specs.List.{AllByRecursion};
-ghost use Rattle.tables.specs.Shown.{IsShownRevision};
+ghost use Rattle.tables.specs.Shown.{IsShownOutline, IsShownRevision};
+ghost use Rattle.couch_json.specs.Value.{null};
 ghost use Rattle.couch_json.specs.View.{view};
 ghost use Rattle.tree.specs.History.{row_of, with_new};
-ghost use Rattle.transactions.specs.Reading.{IsLost, IsRead, entry_shown, history_shown};
+ghost use Rattle.transactions.specs.Reading.{IsLost, IsRead, entry_shown, history_shown, node_shown, outline_shown};
 
 use sqlite::Row;
 use std::alloc::Global;
 use store::StoreFault;
-use tables::{FoundRevision, RowFault, read_revision};
-use tree::History;
+use tables::{FoundNode, FoundRevision, RowFault, read_node, read_revision};
+use tree::{History, Outline};
 
 /// Reads the revision of a row.
 fn read_row(alloc: Global, row: &Row) -> Result<FoundRevision, StoreFault>
@@ -44,4 +45,37 @@ pub fn read_history(alloc: Global, rows: &[Row]) -> Result<History, StoreFault>
         put_row(alloc, &mut history, row)?;
     }
     Ok(history)
+}
+
+/// Reads the revision of a row without its body.
+fn read_node_row(row: &Row) -> Result<FoundNode, StoreFault>
+    ensures ok { IfOk result (λ d. (d.rev, row_of d.parent (option_map (λ deleted. (deleted, null)) d.mark)) ≡ node_shown row.now) }
+    ensures err { IfErr result (IsLost (IsShownOutline row.now)) }
+{
+    match read_node(row) {
+        Ok(found) => Ok(found),
+        Err(RowFault::Memory) => Err(StoreFault::Memory),
+        Err(RowFault::Damaged) => Err(StoreFault::Damaged),
+    }
+}
+
+/// Takes in the revision of a row without its body.
+fn put_node(outline: &mut Outline, row: &Row) -> Result<(), StoreFault>
+    ensures ok { OnOk result (outline.new ≡ with_new outline.old (node_shown row.now).0 (node_shown row.now).1) }
+    ensures err { IfErr result (IsLost (IsShownOutline row.now)) }
+{
+    let FoundNode { rev, parent, mark } = read_node_row(row)?;
+    outline.put_revision(rev, parent, mark)?;
+    Ok(())
+}
+
+/// Reads the outline that the rows make.
+pub fn read_outline(alloc: Global, rows: &[Row]) -> Result<Outline, StoreFault>
+    ensures { IsRead (λ outline. outline) (Some (outline_shown rows.now)) (AllByRecursion IsShownOutline rows.now) result }
+{
+    let mut outline = Outline::new(alloc);
+    for row in rows {
+        put_node(&mut outline, row)?;
+    }
+    Ok(outline)
 }

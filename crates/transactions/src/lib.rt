@@ -11,4 +11,4 @@ mod history_fault;
 pub use changes::{add_database, begin_tables, change_security, remove_database, write_local};
 pub use commit_fault::CommitFault;
 pub use commits::{commit_writes, integer_of};
-pub use histories::read_history;
+pub use histories::{read_history, read_outline};

@@ -17,7 +17,7 @@ use Rattle.tree.proofs.Contents.{get-with_entries, or, rows_make}
 use Rattle.tree.proofs.Kept.{Node, revision_cmp_total}
 use Rattle.tree.proofs.Leaves.{leaves_same, winner_same}
 
-find_bare : (r : Revision) (es : List Node) → find revision_cmp r (all_bare es) ≡ option_map bare (find revision_cmp r es)
+pub find_bare : (r : Revision) (es : List Node) → find revision_cmp r (all_bare es) ≡ option_map bare (find revision_cmp r es)
 find_bare r [] = refl
 find_bare r (e ∷ es) = by (eq_by_cmp revision_cmp r e.0) (find_bare r es)
   where

@@ -17,7 +17,7 @@ use auth::Caller;
 use couch_json::Got;
 use policy::{RuleSet, Security};
 use std::alloc::Global;
-use store::{DbName, IdRange, IdRow, RangeKey, Store, find_winning_body};
+use store::{DbName, IdRange, IdRow, RangeKey, Store, find_winning_body, read_winning};
 use tree::{DocId, History};
 
 /// The terms on which a caller writes into a database, as a request finds it.
@@ -114,13 +114,15 @@ fn take_rules<S: Store>(
 {
     let mut rules = RuleSet::new(alloc);
     for row in rows {
-        take_rule(store, db, &row.id, &mut rules)?;
+        take_rule(alloc, store, db, &row.id, &mut rules)?;
     }
     Ok(rules)
 }
 
 /// Takes in the rule of a document, if it is a design document and declares one.
+#[tactic(auto, using(store::proofs::Winnings::body_alone))]
 fn take_rule<S: Store>(
+    alloc: Global,
     store: &mut S,
     db: &DbName,
     id: &DocId,
@@ -135,7 +137,7 @@ fn take_rule<S: Store>(
     if !id.is_design() {
         return Ok(());
     }
-    let history = store.history(db, id)?;
+    let history = read_winning(alloc, store, db, id)?;
     put_rule(rules, id, &history)?;
     Ok(())
 }

@@ -11,7 +11,7 @@ use store::{
     DbName, IdRange, KeyRange, LocalDocument, PageById, PageByKey, PageBySeq, SeqRange, Store,
     StoreFault, Write,
 };
-use tree::{DocId, History};
+use tree::{DocId, Entry, History, MarkedRev, Outline, Rev};
 
 impl<S: Alter + Drop> Store for SqlStore<S> {
     ghost use Rattle.std.proofs.Math.Logic.{∥∥₁_elim, ∥∥₁_prop};
@@ -70,6 +70,29 @@ impl<S: Alter + Drop> Store for SqlStore<S> {
     }
 
     #[tactic(auto, using(crate::proofs::Answering::reads, crate::proofs::Answering::stands_then))]
+    fn outline(&mut self, name: &DbName, id: &DocId) -> Result<Outline, StoreFault> {
+        let found = self.find(name)?;
+        self.find_outline(&found.number, id)
+    }
+
+    #[tactic(auto, using(crate::proofs::Answering::reads, crate::proofs::Answering::stands_then))]
+    fn winner(&mut self, name: &DbName, id: &DocId) -> Result<Option<MarkedRev>, StoreFault> {
+        let found = self.find(name)?;
+        self.find_winner(&found.number, id)
+    }
+
+    #[tactic(auto, using(crate::proofs::Answering::reads, crate::proofs::Answering::stands_then))]
+    fn revision(
+        &mut self,
+        name: &DbName,
+        id: &DocId,
+        rev: &Rev,
+    ) -> Result<Option<Entry>, StoreFault> {
+        let found = self.find(name)?;
+        self.find_revision(&found.number, id, rev)
+    }
+
+    #[tactic(auto, using(crate::proofs::Answering::reads, crate::proofs::Answering::stands_then))]
     fn page_by_id(&mut self, name: &DbName, range: &IdRange) -> Result<PageById, StoreFault> {
         let found = self.find(name)?;
         self.find_page_by_id(&found.number, range)
@@ -94,7 +117,7 @@ impl<S: Alter + Drop> Store for SqlStore<S> {
         range: &KeyRange,
     ) -> Result<Option<PageByKey>, StoreFault> {
         let found = self.find(name)?;
-        let history = self.find_history(&found.number, design)?;
+        let history = self.find_winning(&found.number, design)?;
         match read_index_fields(self.alloc, design, &history, index)? {
             Some(fields) => Ok(Some(self.find_page_by_key(&found.number, &fields, range)?)),
             None => Ok(None),

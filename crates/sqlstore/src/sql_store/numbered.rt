@@ -9,8 +9,7 @@ use store::paging::{cut_by_key, list_index_rows, put_in_index};
 use store::{
     IdRange, KeyRange, KeyRow, PageById, PageByKey, PageBySeq, SeqRange, SeqRow, StoreFault,
 };
-use transactions::read_history;
-use tree::{DocId, History, Rev};
+use tree::{DocId, Rev};
 
 impl<S: Alter> SqlStore<S> {
     ghost use Rattle.std.specs.Prelude.{◌≡◌, ◌<◌, ◌^◌, [], IfOk, Some, map};
@@ -26,15 +25,6 @@ impl<S: Alter> SqlStore<S> {
     ghost use Rattle.tree.specs.History.{leaves};
     ghost use Rattle.sqlstore.specs.Listing.{listed_by_id, listed_by_sequence, page_with_leaves, places_of, winners_page, with_documents, with_leaves};
     ghost use Rattle.sqlstore.specs.Model.{Answers, Stands, trees_of};
-
-    /// Finds the history of a document, empty where it was never written.
-    pub(crate) fn find_history(&mut self, number: &i64, id: &DocId) -> Result<History, StoreFault>
-        ensures answer { Answers S.Store self.old self.new (λ history. history) (Some (history_in (trees_of S.Store self.old revs_tree) number.now id.now)) result }
-        ensures stands { Stands S.Store self.old self.new }
-    {
-        let rows = self.revision_rows(number, id.as_str().as_bytes())?;
-        read_history(self.alloc, &rows)
-    }
 
     // ---- by id
 
@@ -77,8 +67,8 @@ impl<S: Alter> SqlStore<S> {
         ensures answer { Answers S.Store self.old self.new (λ revs. revs.items) (Some (leaves (history_in (trees_of S.Store self.old revs_tree) number.now id.now))) result }
         ensures stands { Stands S.Store self.old self.new }
     {
-        let history = self.find_history(number, id)?;
-        Ok(history.leaves()?)
+        let outline = self.find_outline(number, id)?;
+        Ok(outline.leaves()?)
     }
 
     /// Makes the row of a document with all its leaves.
@@ -142,6 +132,7 @@ impl<S: Alter> SqlStore<S> {
     }
 
     /// Puts a document at its place in an index.
+    #[tactic(auto, using(store::proofs::Winnings::queried_alone))]
     fn index_document(
         &mut self,
         number: &i64,
@@ -153,7 +144,7 @@ impl<S: Alter> SqlStore<S> {
             (Some (put_in_index fields.now id (queried_document id (history_in (trees_of S.Store self.old revs_tree) number.now id)) (place_views index.old.entries))) result }
         ensures stands { Stands S.Store self.old self.new }
     {
-        let history = self.find_history(number, &id)?;
+        let history = self.find_winning(number, &id)?;
         put_in_index(self.alloc, index, fields, id, &history)?;
         Ok(())
     }

@@ -1,4 +1,4 @@
-use Rattle.tables.proofs.Lemmas.{shown_databases, shown_locals, shown_revisions}
+use Rattle.tables.proofs.Lemmas.{shown_databases, shown_locals, shown_outlines, shown_revisions}
 use Rattle.tables.proofs.laws.rows_of_a_store.Goals as goal
 
 pub returns-clause-databases : goal.returns-clause-databases
@@ -9,3 +9,6 @@ returns-clause-revisions c = shown_revisions
 
 pub returns-clause-locals : goal.returns-clause-locals
 returns-clause-locals c = shown_locals
+
+pub returns-clause-outlines : goal.returns-clause-outlines
+returns-clause-outlines c = shown_outlines
