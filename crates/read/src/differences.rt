@@ -73,6 +73,7 @@ fn find_differences<S: Store>(
 }
 
 /// Puts in what is missing of a document.
+#[tactic(auto, using(crate::proofs::Outlines::missing_same))]
 fn put_difference<S: Store>(
     alloc: Global,
     store: &mut S,
@@ -91,6 +92,7 @@ fn put_difference<S: Store>(
 }
 
 /// Reads the outline of the document that a text stands for, empty where it is no id of a document.
+#[tactic(auto, using(crate::proofs::Outlines::outline_of_nothing))]
 fn read_outline_by<S: Store>(
     alloc: Global,
     store: &mut S,

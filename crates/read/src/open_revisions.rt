@@ -1,4 +1,4 @@
-ghost use Rattle.std.specs.Prelude.{◌≡◌, ◌≢◌, map as each, IfErr, IfOk, IfSome, None, Some, Ok, Err, is_some, option_copied, option_map};
+ghost use Rattle.std.specs.Prelude.{◌≡◌, ◌≢◌, ◌++◌, ◌∷◌, [], map as each, IfErr, IfOk, IfSome, None, OnOk, Some, Ok, Err, is_some, option_copied, option_map};
 ghost use Rattle.std.specs.FinMap as map;
 ghost use Rattle.couch_json.specs.Value.{member, no_members, object};
 ghost use Rattle.couch_json.specs.View.{view};
@@ -66,9 +66,22 @@ fn read_elements<S: Store>(
     let mut elements = Vec::with_capacity(alloc, asked.len())?;
     for rev in asked {
         let shown = read_shown(alloc, store, db, id, rev, paths)?;
-        elements.push(build_element(alloc, rev, shown)?)?;
+        push_element(alloc, &mut elements, rev, shown)?;
     }
     Ok(elements)
+}
+
+/// Pushes what is said of one revision.
+fn push_element(
+    alloc: Global,
+    elements: &mut Vec<Json>,
+    rev: &Rev,
+    shown: Option<Json>,
+) -> Got<()>
+    ensures { OnOk result (each view elements.new.items ≡ each view elements.old.items ++ element rev.now (option_map view shown) ∷ []) }
+{
+    elements.push(build_element(alloc, rev, shown)?)?;
+    Ok(())
 }
 
 fn build_element(alloc: Global, rev: &Rev, document: Option<Json>) -> Got<Json>

@@ -35,6 +35,7 @@ pub(crate) fn read_paths<S: Store>(
 
 /// Reads the document that a revision is shown as: its body with `_id`, `_rev`, `_deleted` where it is
 /// deleted, and `_revisions` where the paths are given. `None` where no body is held of it.
+#[tactic(auto, using(crate::proofs::Outlines::paths_of))]
 pub(crate) fn read_shown<S: Store>(
     alloc: Global,
     store: &mut S,

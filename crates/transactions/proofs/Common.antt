@@ -17,7 +17,7 @@ pub use Rattle.tables.specs.Shown.{held_shown, parent_shown, revision_shown}
 pub use Rattle.transactions.specs.Commits.{AreDue, IsSound, IsUnwritten, history_with}
 pub use Rattle.transactions.specs.Histories.{AreStored, IsHeldOpen, IsWith}
 pub use Rattle.transactions.specs.Inserting.{IsBest, IsLawfulAddition, IsOnTheWay, IsPlaced, entries_of, unknown_in}
-pub use Rattle.transactions.specs.Reading.{HasBest, IsRead, entry_shown, history_shown}
+pub use Rattle.transactions.specs.Reading.{HasBest, IsRead, entry_shown, history_shown, node_shown, outline_shown}
 pub use Rattle.transactions.specs.Sequences.{Clears, Replaces}
 pub use Rattle.transactions.specs.declared.commit_fault.CommitFault.{CommitFault}
 pub use Rattle.tree.proofs.Contents.{rows_make}

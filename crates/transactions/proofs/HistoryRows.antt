@@ -1,14 +1,20 @@
 -- The history that the rows of a document's revisions make, in whatever order a query shows them.
-use Rattle.transactions.proofs.Common.{Some, bare, column, cond, count_in, false, is_set, json_in, map_same, node_shown, null, outline_of, outline_shown, parent_in, AllByRecursion, Bool, Coded-set, Entry, HistoryContent, IsAscending, IsLaid, IsPermutation, IsPermutation-filter, IsShownOutline, IsShownRevision, List, None, Option, Revision, Row, Trees, all-filter, all_map, ap, coded_option, content_code, db_of, entry_of, entry_shown, eq_by_cmp, filter, held_shown, history_in, history_shown, id_of, is_of, map, map-map, option_map, parent_shown, refl, revision_cmp, revision_cmp_exact, revision_cmp_total, revision_of, revision_shown, revs_tree, row_of, rows_make, shown_outline, shown_revision, slice_get, subst, sym, true, ℕ, ℤ, ◌∙◌, ◌≡◌, ◌≢◌}
+use Rattle.transactions.proofs.Common.{Some, cond, false, AllByRecursion, Bool, Coded-set, Entry, HistoryContent, IsAscending, IsLaid, IsPermutation, IsPermutation-filter, IsShownRevision, List, None, Option, Revision, Row, Trees, all-filter, all_map, ap, coded_option, content_code, db_of, entry_of, entry_shown, eq_by_cmp, filter, held_shown, history_in, history_shown, id_of, is_of, map, map-map, option_map, parent_shown, refl, revision_cmp, revision_cmp_exact, revision_cmp_total, revision_of, revision_shown, revs_tree, row_of, rows_make, shown_revision, slice_get, subst, sym, true, ℕ, ℤ, ◌∙◌, ◌≡◌, ◌≢◌}
 use Rattle.std.proofs.lemmas.List.{map-id}
 use Rattle.std.specs.FinMap as finite
-use Rattle.sqlite_keyed.proofs.ListLemmas.{ascending-map, ascending_weaker}
+use Rattle.couch_json.specs.Value.{null}
+use Rattle.sqlite_value.specs.Order.{column}
+use Rattle.sqlite_keyed.proofs.ListLemmas.{ascending-map, ascending_weaker, map_same}
 use Rattle.sqlite_trees.proofs.ListLemmas.{all-permutation}
 use Rattle.tables.proofs.Laid.{shown_outlines, shown_revisions}
 use Rattle.tables.proofs.ListingOrders.{ascending_within}
 use Rattle.tables.proofs.RowMaps.{get_filtered}
 use Rattle.tables.proofs.Single.{HasOneAtMost, one_order}
 use Rattle.tables.proofs.Tables.{of_these}
+use Rattle.tables.specs.Rows.{count_in, is_set, json_in, parent_in, shown_outline}
+use Rattle.tables.specs.Shown.{IsShownOutline}
+use Rattle.transactions.specs.Reading.{node_shown, outline_shown}
+use Rattle.tree.specs.Outline.{bare, outline_of}
 use Rattle.tree.proofs.Outlines.{find_bare, get_outline}
 use Rattle.tree.proofs.Revisions.{same}
 
@@ -18,6 +24,9 @@ at q s = eq_by_cmp revision_cmp q (revision_shown s)
 
 -- what is shown of each row names its revision, and has a value
 module _ (show : Row → Row) (value : Row → Entry) (named : (r : Row) → revision_shown (show r) ≡ revision_of r) where
+  abbrev entry_as_shown : Row → Revision × Entry
+  entry_as_shown s = (revision_shown s, value s)
+
   one_shown : (db : ℤ) (id : List ℕ) (rows : List Row) → IsAscending (λ a b. db_of a ≡ db_of b → id_of a ≡ id_of b → revision_of a ≢ revision_of b) rows → (q : Revision) → HasOneAtMost (at q) (map show (filter (is_of db id) rows))
   one_shown db id rows h q =
       ascending-map (λ a b. at q a ≡ true → at q b ≡ true → ⊥) show (filter (is_of db id) rows)
@@ -29,24 +38,30 @@ module _ (show : Row → Row) (value : Row → Entry) (named : (r : Row) → rev
       apart (x.0 ∙ sym y.0) (x.1 ∙ sym y.1) (sym (named a) ∙ sym (same q (revision_shown (show a)) at_a) ∙ same q (revision_shown (show b)) at_b ∙ named b)) rows h))
 
   -- what stands at a revision, whatever the order
-  shown_at : (q : Revision) (rows : List Row) → finite.find revision_cmp q (map (λ s. (revision_shown s, value s)) rows) ≡ option_map value (slice_get (filter (at q) rows) 0)
+  shown_at : (q : Revision) (rows : List Row) → finite.find revision_cmp q (map entry_as_shown rows) ≡ option_map value (slice_get (filter (at q) rows) 0)
   shown_at q rows =
-      sym (finite.get-from_entries revision_cmp_total (map (λ s. (revision_shown s, value s)) rows) q)
+      sym (finite.get-from_entries revision_cmp_total (map entry_as_shown rows) q)
       ∙ get_filtered revision_cmp_total revision_cmp_exact revision_shown at (λ q s. refl) value rows q
 
   same_order : (q : Revision) (xs ys : List Row) → HasOneAtMost (at q) xs → IsPermutation xs ys → filter (at q) ys ≡ filter (at q) xs
   same_order q xs ys one same =
       one_order (λ r. r) (at q) xs (filter (at q) ys) one (subst (λ l. IsPermutation l (filter (at q) ys)) (sym (map-id (filter (at q) xs))) (IsPermutation-filter (at q) xs ys same)) ∙ map-id (filter (at q) xs)
 
-  named_values : (rows : List Row) → map (λ r. (revision_shown (show r), value (show r))) rows ≡ map (λ r. (revision_of r, value (show r))) rows
-  named_values rows = map_same _ _ (λ r i. (named r i, value (show r))) rows
+  abbrev as_shown : Row → Revision × Entry
+  as_shown r = (revision_shown (show r), value (show r))
+
+  abbrev as_named : Row → Revision × Entry
+  as_named r = (revision_of r, value (show r))
+
+  named_values : (rows : List Row) → map as_shown rows ≡ map as_named rows
+  named_values rows = map_same as_shown as_named (λ r i. (named r i, value (show r))) rows
 
   found : (trees : Trees) (db : ℤ) (id : List ℕ) (rows : List Row) → IsLaid trees → IsPermutation (map show (filter (is_of db id) (trees revs_tree))) rows → (q : Revision)
-      → finite.find revision_cmp q (map (λ s. (revision_shown s, value s)) rows) ≡ finite.find revision_cmp q (map (λ r. (revision_of r, value (show r))) (filter (is_of db id) (trees revs_tree)))
+      → finite.find revision_cmp q (map entry_as_shown rows) ≡ finite.find revision_cmp q (map as_named (filter (is_of db id) (trees revs_tree)))
   found trees db id rows l same q =
       let F = filter (is_of db id) (trees revs_tree) in
       shown_at q rows ∙ ap (λ k. option_map value (slice_get k 0)) (same_order q (map show F) rows (one_shown db id (trees revs_tree) l.revisions_apart q) same)
-      ∙ sym (shown_at q (map show F)) ∙ ap (finite.find revision_cmp q) (map-map (λ s. (revision_shown s, value s)) show F ∙ named_values F)
+      ∙ sym (shown_at q (map show F)) ∙ ap (finite.find revision_cmp q) (map-map entry_as_shown show F ∙ named_values F)
 
 abbrev known_entry : Row → Revision × Entry
 known_entry r = (revision_of r, entry_of r)
@@ -58,6 +73,12 @@ pub history_made : (trees : Trees) (db : ℤ) (id : List ℕ) (rows : List Row) 
 history_made trees db id rows l same =
     rows_make (history_in (trees revs_tree) db id) (map entry_shown rows)
     (λ q. found shown_revision (λ s. row_of (parent_shown s) (held_shown s)) (λ r. refl) trees db id rows l same q ∙ sym (kept trees db id q))
+
+abbrev known_node : Row → Revision × Entry
+known_node r = (revision_of r, (node_shown (shown_outline r)).1)
+
+abbrev bare_entry : Row → Revision × Entry
+bare_entry r = (revision_of r, bare (entry_of r))
 
 -- what is shown of a row without the body is what is known of its revision, without it
 bare_is : (r : Row) → (node_shown (shown_outline r)).1 ≡ bare (entry_of r)
@@ -73,7 +94,7 @@ outline_made trees db id rows l same =
     let F = filter (is_of db id) (trees revs_tree) in
     rows_make (outline_of (history_in (trees revs_tree) db id)) (map node_shown rows) (λ q.
     found shown_outline (λ s. (node_shown s).1) (λ r. refl) trees db id rows l same q
-    ∙ ap (finite.find revision_cmp q) (map_same _ _ (λ r i. (revision_of r, bare_is r i)) F ∙ sym (map-map (λ (e : Revision × Entry). (e.0, bare e.1)) known_entry F))
+    ∙ ap (finite.find revision_cmp q) (map_same known_node bare_entry (λ r i. (revision_of r, bare_is r i)) F ∙ sym (map-map (λ (e : Revision × Entry). (e.0, bare e.1)) known_entry F))
     ∙ find_bare q (map known_entry F) ∙ ap (option_map bare) (sym (kept trees db id q)) ∙ sym (get_outline (history_in (trees revs_tree) db id) q))
 
 pub history_set : IsSet (Option HistoryContent)
