@@ -1,6 +1,6 @@
 -- What is read of an outline is what its history says.
-use Rattle.std.proofs.Common.{◌≡◌, List, [], ◌∷◌, Option, Some, None, cond, refl, sym, ap, ◌∙◌, ℕ}
-use Rattle.std.specs.Prelude.{IfSome, is_some, filter, map, not}
+use Rattle.std.proofs.Common.{◌≡◌, List, [], ◌∷◌, Option, Some, None, true, cond, refl, sym, ap, ◌∙◌}
+use Rattle.std.specs.Prelude.{IfSome, is_some, filter, map, not, option_map}
 use Rattle.std.specs.FinMap.{empty, entries, from_entries, len-empty, len-entries}
 use Rattle.couch_json.specs.Value.{Members, text}
 use Rattle.tree.specs.History.{HistoryContent, chain, is_known}
@@ -30,3 +30,13 @@ nothing = empty
 
 pub outline_of_nothing : outline_of nothing ≡ nothing
 outline_of_nothing = ap (λ es. from_entries {R = revision_cmp} (all_bare es)) (no_length (entries nothing) (sym (len-entries nothing) ∙ len-empty revision_cmp Entry))
+
+-- what a database shows, where it is there
+pub shown_there : {A B : Type 0} (o : Option A) (f : A → B) (x : B) → is_some o ≡ true → ((a : A) → o ≡ Some a → f a ≡ x) → option_map f o ≡ Some x
+shown_there None f x there is = absurd (cc)
+shown_there (Some a) f x there is = ap Some (is a refl)
+
+-- a database of which something was answered is there
+pub answered_there : {A B : Type 0} (o : Option A) (f : A → B) (x : B) → option_map f o ≡ Some x → is_some o ≡ true
+answered_there None f x is = cc
+answered_there (Some a) f x is = refl

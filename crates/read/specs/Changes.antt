@@ -1,6 +1,6 @@
 -- The documents of a database that changed after a sequence: each once, at the sequence of its latest write.
 -- CouchDB manual, api/database/changes (`since`, `limit`, `style`; `last_seq`, `results`; `changes`, `deleted`, `id` and `seq` of a row); which rows a range has is the store's words.
-use Rattle.std.specs.Prelude.{Bool, true, false, List, codes, map, pos}
+use Rattle.std.specs.Prelude.{Bool, true, false, codes, map, pos}
 use Rattle.couch_json.specs.Value.{Value, truth, whole, text, array, object, Members, no_members, member, put}
 use Rattle.couch_json.specs.View.{items_of}
 use Rattle.store.specs.Database.{Database}

@@ -1,12 +1,12 @@
 ghost use Rattle.std.specs.Prelude.{◌≡◌, ◌≢◌, ◌++◌, ◌∷◌, [], map as each, IfErr, IfOk, IfSome, None, OnOk, Some, Ok, Err, is_some, option_copied, option_map};
 ghost use Rattle.std.specs.FinMap as map;
-ghost use Rattle.couch_json.specs.Value.{member, no_members, object};
-ghost use Rattle.couch_json.specs.View.{view};
+ghost use Rattle.couch_json.specs.Value.{array, member, no_members, object};
+ghost use Rattle.couch_json.specs.View.{items_of, view};
 ghost use Rattle.store.specs.Calls.{OnlyReads};
 ghost use Rattle.store.specs.Database.{Database, history_at};
 ghost use Rattle.tree.specs.Outline.{outline_of};
 ghost use Rattle.read.specs.Answers.{Answers, Stops};
-ghost use Rattle.read.specs.OpenRevisions.{element, open_revision, open_revisions_in};
+ghost use Rattle.read.specs.OpenRevisions.{asked_revisions, element, open_revision, open_revisions_in};
 
 use crate::fault::ReadFault;
 use crate::shown::{read_paths, read_shown};
@@ -37,15 +37,40 @@ pub fn open_revs<S: Store>(
     ensures plain { (result ≢ Err ReadFault.Missing) × (result ≢ Err ReadFault.Deleted) }
     ensures reads { OnlyReads S.Store store.old store.new }
 {
+    let _present = store.security(db)?;
     let paths = read_paths(store, db, id, revs)?;
-    let elements = match asked {
-        Some(asked) => read_elements(alloc, store, db, id, asked, &paths)?,
-        None => {
-            let leaves = store.outline(db, id)?.leaves()?;
-            read_elements(alloc, store, db, id, &leaves, &paths)?
-        }
+    let elements = read_asked(alloc, store, db, id, asked, &paths)?;
+    Ok(list_elements(elements))
+}
+
+/// Makes the list of these elements.
+fn list_elements(elements: Vec<Json>) -> Json
+    ensures { view result ≡ array (items_of (each view elements.items)) }
+{
+    Json::Array(elements)
+}
+
+/// Tells what is said of the revisions that are asked for, or of all leaves.
+#[tactic(auto, using(tree::proofs::Outlines::leaves_in))]
+fn read_asked<S: Store>(
+    alloc: Global,
+    store: &mut S,
+    db: &DbName,
+    id: &DocId,
+    asked: Option<&[Rev]>,
+    paths: &Option<Outline>,
+) -> Result<Vec<Json>, ReadFault>
+    ensures ok { S.is_honest store.new → IfOk result (λ elements. (d : Database) → map.get (S.contents store.old) db.now ≡ Some d
+        → IfSome paths.now (λ outline. outline ≡ outline_of (history_at d id.now))
+        → each view elements.items ≡ each (open_revision id.now (history_at d id.now) (is_some paths.now)) (asked_revisions (history_at d id.now) (option_copied asked.entry))) }
+    ensures stops { IfErr result (Stops S.Store store.old store.new (map.get (S.contents store.old) db.now ≡ None)) }
+    ensures reads { OnlyReads S.Store store.old store.new }
+{
+    let Some(asked) = asked else {
+        let leaves = store.outline(db, id)?.leaves()?;
+        return read_elements(alloc, store, db, id, &leaves, paths);
     };
-    Ok(Json::Array(elements))
+    read_elements(alloc, store, db, id, asked, paths)
 }
 
 /// Tells what is said of these revisions, in order.

@@ -1,4 +1,4 @@
-ghost use Rattle.std.specs.Prelude.{◌≡◌, IfErr, IfOk, IfSome, None, Some, is_some, option_map};
+ghost use Rattle.std.specs.Prelude.{◌≡◌, IfErr, IfOk, IfSome, None, Some, is_some, option_map, true};
 ghost use Rattle.std.specs.FinMap as map;
 ghost use Rattle.couch_json.specs.View.{view};
 ghost use Rattle.store.specs.Calls.{OnlyReads};
@@ -11,7 +11,7 @@ use crate::fault::ReadFault;
 use crate::path::put_revisions;
 use couch_json::Json;
 use std::alloc::Global;
-use store::{DbName, Store};
+use store::{DbName, Store, take_held};
 use tree::{DocId, Outline, Rev, show_members};
 
 /// Reads the outline of a document, which has the paths of its revisions, where `revs` asks for it.
@@ -44,19 +44,18 @@ pub(crate) fn read_shown<S: Store>(
     rev: &Rev,
     paths: &Option<Outline>,
 ) -> Result<Option<Json>, ReadFault>
+    ensures there { S.is_honest store.new → IfOk result (λ _. is_some (map.get (S.contents store.old) db.now) ≡ true) }
     ensures ok { S.is_honest store.new → IfOk result (λ document. (d : Database) → map.get (S.contents store.old) db.now ≡ Some d
         → IfSome paths.now (λ outline. outline ≡ outline_of (history_at d id.now))
         → option_map view document ≡ shown_document id.now (history_at d id.now) rev.now (is_some paths.now)) }
     ensures stops { IfErr result (Stops S.Store store.old store.new (map.get (S.contents store.old) db.now ≡ None)) }
     ensures reads { OnlyReads S.Store store.old store.new }
 {
-    let Some(known) = store.revision(db, id, rev)? else {
+    let known = store.revision(db, id, rev)?;
+    let Some((deleted, body)) = take_held(known) else {
         return Ok(None);
     };
-    let Some(held) = known.held else {
-        return Ok(None);
-    };
-    let mut members = show_members(alloc, id, rev, held.deleted, held.body.json())?;
+    let mut members = show_members(alloc, id, rev, deleted, &body)?;
     put_revisions(alloc, &mut members, paths, rev)?;
     Ok(Some(Json::Object(members)))
 }
