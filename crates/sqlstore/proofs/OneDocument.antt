@@ -1,6 +1,9 @@
 -- What the rows of one document say: its winner, and what is known of one revision.
-use Rattle.sqlstore.proofs.Common.{AllByRecursion, Bool, Coded, Coded-set, Entry, HistoryContent, IsDocumentRow, IsLaid, IsListedDocument, List, None, Option, Revision, Row, Some, Trees, [], all-filter, all_map, ap, ap₂, coded_option, docs_tree, entry_of, eq_by_cmp, false, filter, find, history_in, id_of, db_of, inl, inr, is_deleted, held_of, is_gone, is_of, is_revision_of, listed_document, map, option_map, refl, revision_cmp, revision_cmp_exact, revision_cmp_total, revision_of, revs_tree, shown_revision, slice_get, slice_get-filter, subst, sym, true, winner, ℕ, ℤ, ◌∙◌, ◌∷◌, ◌≡◌, ◌⊎◌}
+use Rattle.sqlstore.proofs.Common.{AllByRecursion, Bool, Coded, Coded-set, HistoryContent, IsDocumentRow, IsLaid, IsListedDocument, List, None, Option, Revision, Row, Some, Trees, [], all-filter, all_map, ap, ap₂, coded_option, docs_tree, false, filter, find, history_in, id_of, db_of, inl, inr, is_of, listed_document, map, option_map, refl, revs_tree, shown_revision, slice_get, subst, sym, true, ℕ, ℤ, ◌∙◌, ◌∷◌, ◌≡◌, ◌⊎◌}
 use Rattle.std.specs.FinMap as finite
+use Rattle.std.specs.Ordering.{eq_by_cmp}
+use Rattle.sqlite_keyed.proofs.ListLemmas.{slice_get-filter}
+use Rattle.store.proofs.Winnings.{no_winner}
 use Rattle.std.specs.Prelude.{option_and_then}
 use Rattle.tables.proofs.Laid.{history, shown_revisions, stored_winner}
 use Rattle.tables.proofs.ListingRows.{rows_of_a_listing, won}
@@ -8,7 +11,12 @@ use Rattle.tables.proofs.Lookups.{unwritten}
 use Rattle.tables.proofs.RowMaps.{filter_both, get_filtered, passing}
 use Rattle.tables.proofs.Single.{few}
 use Rattle.tables.proofs.Tables.{of_these, one_of}
+use Rattle.tables.specs.Rows.{entry_of, is_gone, is_revision_of, revision_of}
 use Rattle.tables.specs.Shown.{IsShownRevision}
+use Rattle.tree.proofs.Kept.{revision_cmp_total}
+use Rattle.tree.proofs.Revisions.{revision_cmp_exact}
+use Rattle.tree.specs.Revision.{revision_cmp}
+use Rattle.tree.specs.declared.entry.Entry.{Entry}
 use Rattle.tree.specs.HistoryCode.{entry_code}
 use Rattle.tree.specs.Outline.{marked, marked_winner}
 use Rattle.tree.specs.contracts.marked_rev.MarkedRev as marked_rev
@@ -27,10 +35,6 @@ first_of show value (r ∷ rows) = refl
 
 -- ---- the winner
 
-no_winner : marked_winner finite.empty ≡ None
-unfolding finite.entries finite.empty
-no_winner = refl
-
 module _ (trees : Trees) (db : ℤ) (id : List ℕ) (l : IsLaid trees) where
   own_winner : (r : Row) (k : IsDocumentRow trees r) → winner_shown (listed_document r) ≡ marked_winner (history trees l.revs r k)
   own_winner r k =
@@ -43,7 +47,7 @@ module _ (trees : Trees) (db : ℤ) (id : List ℕ) (l : IsLaid trees) where
   winner_first : (rows : List Row) → filter (is_of db id) (trees docs_tree) ≡ rows → (rows ≡ []) ⊎ ((r : Row) × (rows ≡ r ∷ [])) → option_and_then winner_shown (slice_get (map listed_document rows) 0) ≡ marked_winner (history_in (trees revs_tree) db id)
   winner_first rows is (inl none) =
       ap (λ rs. option_and_then winner_shown (slice_get (map listed_document rs) 0)) none
-      ∙ sym (ap marked_winner (unwritten trees db id l (sym (slice_get-filter (is_of db id) (trees docs_tree)) ∙ ap (λ rs. slice_get rs 0) (is ∙ none))) ∙ no_winner)
+      ∙ sym (ap marked_winner (unwritten trees db id l (sym (slice_get-filter (is_of db id) (trees docs_tree)) ∙ ap (λ rs. slice_get rs 0) (is ∙ none))) ∙ ap (option_map (marked finite.empty)) no_winner)
   winner_first rows is (inr (r, one)) =
       let k : IsDocumentRow trees r = (subst (AllByRecursion (IsDocumentRow trees)) (is ∙ one) (all-filter (IsDocumentRow trees) (is_of db id) (trees docs_tree) l.docs)).0 in
       let own = of_these db id r (subst (AllByRecursion (λ x. is_of db id x ≡ true)) (is ∙ one) (passing (is_of db id) (trees docs_tree))).0 in

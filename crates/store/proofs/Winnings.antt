@@ -45,7 +45,7 @@ held_of_one r d =
     ∙ ap (option_and_then (λ (e : Entry). e.held)) (get-insert revision_cmp_total empty r (record { parent = None; held = d }) r)
     ∙ ap (λ b. option_and_then (λ (e : Entry). e.held) (cond b (Some (record { parent = None; held = d })) (get nothing r))) (ap is_eq (tied_itself revision_cmp_total r))
 
-no_winner : winner empty ≡ None
+pub no_winner : winner empty ≡ None
 no_winner = ap (λ (nodes : List Node). slice_get (leaves_in false nodes ++ leaves_in true nodes) 0) none_there
 
 -- ---- what a history shows hangs on its winner and on what is held of it

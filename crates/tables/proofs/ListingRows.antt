@@ -37,7 +37,7 @@ module _ (trees : Trees) (laid : AllByRecursion (IsRevisionRow trees) (trees rev
       ap (is_gone_by (history trees laid r k)) w.1 ∙ sym (k.gone w.0 w.1)
 
   -- the stored text spells the winner
-  won : winner (history trees laid r k) ≡ revision_read (winner_text r)
+  pub won : winner (history trees laid r k) ≡ revision_read (winner_text r)
   won =
       let w = stored_winner trees laid r k in
       w.1 ∙ sym (sym (ap revision_read w.2) ∙ read_of_text w.0 (is_lawful_winner trees laid r k))

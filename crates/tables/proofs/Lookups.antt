@@ -31,7 +31,7 @@ local_found trees d id = get_id (number_of d) id local_of (trees locals_tree)
 
 module _ (trees : Trees) (db : ℤ) (id : List ℕ) where
   -- where no row of a document is of the id, no row of a revision is
-  unwritten : IsLaid trees → find (is_of db id) (trees docs_tree) ≡ None → history_in (trees revs_tree) db id ≡ finite.empty
+  pub unwritten : IsLaid trees → find (is_of db id) (trees docs_tree) ≡ None → history_in (trees revs_tree) db id ≡ finite.empty
   unwritten h none =
       ap (λ l. finite.from_entries (map (λ r. (revision_of r, entry_of r)) l))
       (filter_none (is_of db id) (trees revs_tree) (all_weaker (IsRevisionRow trees) (λ r. is_of db id r ≡ false) (λ r k. false_from_ne_true (is_of db id r) (λ is.

@@ -63,6 +63,7 @@ impl<S: Alter> SqlStore<S> {
     }
 
     /// Finds all leaves of a document, best first.
+    #[tactic(auto, using(tree::proofs::Outlines::leaves_in))]
     fn find_leaves(&mut self, number: &i64, id: &DocId) -> Result<Vec<Rev>, StoreFault>
         ensures answer { Answers S.Store self.old self.new (λ revs. revs.items) (Some (leaves (history_in (trees_of S.Store self.old revs_tree) number.now id.now))) result }
         ensures stands { Stands S.Store self.old self.new }

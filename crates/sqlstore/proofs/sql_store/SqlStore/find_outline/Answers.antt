@@ -1,4 +1,5 @@
-use Rattle.sqlstore.proofs.Lemmas.{IsPermutation, List, Some, answered, ap, filter, outline_intact, outline_made, history_set, is_of, laid, map, revs_tree, shown_outline, subst, sym, trees_of, was_honest, ℕ, ∥∥₁_elim, ∥∥₁_map, ◌∙◌}
+use Rattle.sqlstore.proofs.Lemmas.{IsPermutation, List, Some, answered, ap, filter, outline_intact, outline_made, history_set, is_of, laid, map, revs_tree, subst, sym, trees_of, was_honest, ℕ, ∥∥₁_elim, ∥∥₁_map, ◌∙◌}
+use Rattle.tables.specs.Rows.{shown_outline}
 use Rattle.sqlstore.proofs.sql_store.SqlStore.find_outline.Goals as goal
 
 pub returns-clause-answer : goal.returns-clause-answer

@@ -1,5 +1,7 @@
-use Rattle.sqlstore.proofs.Lemmas.{Held, List, Some, answered, ap, docs_tree, documents_intact, filter, is_of, laid, listed_document, map, state, sym, trees_of, was_honest, winner_found, winner_set, ℕ, ∥∥₁_elim, ◌∙◌, ◌≡◌}
+use Rattle.sqlstore.proofs.Lemmas.{Held, List, Some, answered, ap, documents_intact, filter, is_of, laid, map, state, sym, trees_of, was_honest, winner_found, winner_set, ℕ, ∥∥₁_elim, ◌∙◌, ◌≡◌}
 use Rattle.std.specs.Prelude.{option_and_then, slice_get}
+use Rattle.tables.specs.Rows.{listed_document}
+use Rattle.tables.specs.Schema.{docs_tree}
 use Rattle.sqlstore.specs.Reading.{winner_shown}
 use Rattle.sqlstore.proofs.sql_store.SqlStore.find_winner.Goals as goal
 
