@@ -1,5 +1,5 @@
 -- What the rows of one document say: its winner, and what is known of one revision.
-use Rattle.sqlstore.proofs.Common.{AllByRecursion, Bool, Coded, Coded-set, HistoryContent, IsDocumentRow, IsLaid, IsListedDocument, List, None, Option, Revision, Row, Some, Trees, [], all-filter, all_map, ap, ap₂, coded_option, docs_tree, false, filter, find, history_in, id_of, db_of, inl, inr, is_of, listed_document, map, option_map, refl, revs_tree, shown_revision, slice_get, subst, sym, true, ℕ, ℤ, ◌∙◌, ◌∷◌, ◌≡◌, ◌⊎◌}
+use Rattle.sqlstore.proofs.Common.{AllByRecursion, Bool, Coded-set, IsDocumentRow, IsLaid, IsListedDocument, List, Option, Revision, Row, Some, Trees, [], all-filter, all_map, ap, ap₂, coded_option, docs_tree, filter, history_in, id_of, db_of, inl, inr, is_of, listed_document, map, option_map, refl, revs_tree, shown_revision, slice_get, subst, sym, true, ℕ, ℤ, ◌∙◌, ◌∷◌, ◌≡◌, ◌⊎◌}
 use Rattle.std.specs.FinMap as finite
 use Rattle.std.specs.Ordering.{eq_by_cmp}
 use Rattle.sqlite_keyed.proofs.ListLemmas.{slice_get-filter}

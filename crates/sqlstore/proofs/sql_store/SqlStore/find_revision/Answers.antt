@@ -1,4 +1,4 @@
-use Rattle.sqlstore.proofs.Lemmas.{List, Some, answered, ap, entry_set, filter, laid, map, revision_found, revision_intact, revs_tree, rules, shown_revision, sym, trees_of, was_honest, ℕ, ∥∥₁_elim, ◌∙◌, ◌≡◌}
+use Rattle.sqlstore.proofs.Lemmas.{List, Some, answered, ap, filter, laid, map, revision_found, revision_intact, revs_tree, rules, shown_revision, sym, trees_of, was_honest, ℕ, ∥∥₁_elim, ◌∙◌, ◌≡◌}
 use Rattle.std.specs.Prelude.{option_map, slice_get}
 use Rattle.sqlstore.specs.Reading.{known_shown}
 use Rattle.tables.specs.Rows.{is_revision_of}

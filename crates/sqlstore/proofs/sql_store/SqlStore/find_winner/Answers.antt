@@ -1,4 +1,4 @@
-use Rattle.sqlstore.proofs.Lemmas.{Held, List, Some, answered, ap, documents_intact, filter, is_of, laid, map, state, sym, trees_of, was_honest, winner_found, winner_set, ℕ, ∥∥₁_elim, ◌∙◌, ◌≡◌}
+use Rattle.sqlstore.proofs.Lemmas.{List, Some, answered, ap, documents_intact, filter, is_of, laid, map, sym, trees_of, was_honest, winner_found, winner_set, ℕ, ∥∥₁_elim, ◌∙◌, ◌≡◌}
 use Rattle.std.specs.Prelude.{option_and_then, slice_get}
 use Rattle.tables.specs.Rows.{listed_document}
 use Rattle.tables.specs.Schema.{docs_tree}
