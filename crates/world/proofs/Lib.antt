@@ -6,3 +6,4 @@ pub mod Order
 pub mod Exchanges
 pub mod Shown
 pub mod Unfailing
+pub mod Along

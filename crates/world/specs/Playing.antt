@@ -3,22 +3,26 @@
 use Rattle.std.specs.Prelude.{◌≡◌, ◌⊎◌, ℕ, List, [], ◌∷◌, ◌++◌, map}
 use Rattle.hub.specs.Arrival.{Arrival, Arrives, ArrivesAt, Brings, Piece, stream_of}
 use Rattle.node.specs.Step.{Serving}
-use Rattle.world.specs.Exchanging.{IsExchanged}
+use Rattle.world.specs.Exchanging.{IsExchanged, IsExchangedBy}
 use Rattle.world.specs.Happening.{Happening, Sight, comes, exchanges, replied}
 use Rattle.world.specs.Network.{Network}
-use Rattle.world.specs.Service.{IsService, StepOf, SeenReply}
+use Rattle.world.specs.Service.{HandlingOf, IsHandled, IsService, IsServiceBy, StepOf, SeenReply}
 use Rattle.world.specs.declared.fate.Fate.TheVariants.{Answered, ReplyLost}
 use Rattle.world.specs.declared.fault.WorldFaultKind.{WorldFaultKind}
 use Rattle.world.specs.declared.fault.WorldFaultKind.TheVariants.{Memory}
 
 -- The pieces bring their arrivals to the connections, and these have their replies. Which node a connection leads to stays, and
 -- so do the passes.
-pub record IsPlayed {S : Type 0} (step : StepOf S) (old : Network S) (pieces : List Piece) (seen : List SeenReply) (new : Network S) : Type 0 where
+pub record IsPlayedBy {S : Type 0} (handling : HandlingOf S) (old : Network S) (pieces : List Piece) (seen : List SeenReply) (new : Network S) : Type 0 where
   pub arrivals : List Arrival
   pub arrived : ArrivesAt old.connections pieces arrivals new.connections
-  pub served : IsService step old.homes old.nodes arrivals seen new.nodes
+  pub served : IsServiceBy handling old.homes old.nodes arrivals seen new.nodes
   pub homes : new.homes ≡ old.homes
   pub transfers : new.transfers ≡ old.transfers
+
+-- the same where each node takes steps of this kind, whoever asks
+abbrev pub IsPlayed : {S : Type 0} → StepOf S → Network S → List Piece → List SeenReply → Network S → Type 0
+IsPlayed step old pieces seen new = IsPlayedBy (λ who. IsHandled step) old pieces seen new
 
 -- the replies are those to the requests of the pieces in the order of their arrival
 pub record IsPlayedInOrder {S : Type 0} (step : StepOf S) (homes : List ℕ) (old : List (Serving S)) (pieces : List Piece) (seen : List SeenReply) (new : List (Serving S)) : Type 0 where
@@ -31,16 +35,23 @@ abbrev pub all_replied : List SeenReply → List Sight
 all_replied told = map replied told
 
 -- what comes of one event
-abbrev pub Happens : {S : Type 0} → StepOf S → Network S → Happening → List Sight → Network S → Type 0
-Happens step old (comes piece) seen new = (told : List SeenReply) × IsPlayed step old (piece ∷ []) told new × (seen ≡ all_replied told)
-Happens step old (exchanges number fate) seen new = IsExchanged step fate old number seen new
+abbrev pub HappensBy : {S : Type 0} → HandlingOf S → Network S → Happening → List Sight → Network S → Type 0
+HappensBy handling old (comes piece) seen new = (told : List SeenReply) × IsPlayedBy handling old (piece ∷ []) told new × (seen ≡ all_replied told)
+HappensBy handling old (exchanges number fate) seen new = IsExchangedBy handling fate old number seen new
 
 -- what comes of events, one after another
-abbrev pub Plays : {S : Type 0} → StepOf S → Network S → List Happening → List Sight → Network S → Type 0
-Plays step old [] seen new = (seen ≡ []) × (new ≡ old)
-Plays {S} step old (h ∷ hs) seen new =
-    (first others : List Sight) × (between : Network S) × Happens step old h first between × Plays step between hs others new
+abbrev pub PlaysBy : {S : Type 0} → HandlingOf S → Network S → List Happening → List Sight → Network S → Type 0
+PlaysBy handling old [] seen new = (seen ≡ []) × (new ≡ old)
+PlaysBy {S} handling old (h ∷ hs) seen new =
+    (first others : List Sight) × (between : Network S) × HappensBy handling old h first between × PlaysBy handling between hs others new
     × (seen ≡ first ++ others)
+
+-- the same where each node takes steps of this kind, whoever asks
+abbrev pub Happens : {S : Type 0} → StepOf S → Network S → Happening → List Sight → Network S → Type 0
+Happens step old h seen new = HappensBy (λ who. IsHandled step) old h seen new
+
+abbrev pub Plays : {S : Type 0} → StepOf S → Network S → List Happening → List Sight → Network S → Type 0
+Plays step old hs seen new = PlaysBy (λ who. IsHandled step) old hs seen new
 
 -- ---- in the order of arrival
 

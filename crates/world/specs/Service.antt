@@ -10,6 +10,7 @@ use Rattle.node.specs.Runs.{IsServed}
 use Rattle.hub.specs.Arrival.{Arrival, fault_on, request_on}
 use Rattle.hub.specs.Endings.{refusal_of}
 use Rattle.world.specs.Network.{home_of}
+use Rattle.world.specs.declared.fate.Fate.{Fate}
 
 -- a reply on a connection
 pub record SeenReply : Type 0 where
@@ -20,6 +21,19 @@ pub record SeenReply : Type 0 where
 abbrev pub StepOf : Type 0 → Type 1
 StepOf S = Configuration → S → Message → Reply → S → Type 0
 
+-- who asks: somebody on a connection, or the pass of a number, with this fate of its request and the reply
+pub data Asker : Type 0 where
+  on_connection : ℕ → Asker
+  by_pass : ℕ → Fate → Asker
+
+-- what may come of a request to the node of a number: its reply, and the nodes after it
+abbrev pub Handling : Type 0 → Type 1
+Handling S = List (Serving S) → ℕ → Message → Reply → List (Serving S) → Type 0
+
+-- the same by who asks
+abbrev pub HandlingOf : Type 0 → Type 1
+HandlingOf S = Asker → Handling S
+
 -- the node of this number replies to a request, and the others stay as they are
 pub record IsHandled {S : Type 0} (step : StepOf S) (old : List (Serving S)) (place : ℕ) (m : Message) (reply : Reply) (new : List (Serving S)) : Type 0 where
   pub node : Serving S
@@ -29,16 +43,23 @@ pub record IsHandled {S : Type 0} (step : StepOf S) (old : List (Serving S)) (pl
   pub left : new ≡ slice_set old place (record node { store = after })
 
 -- a request is handled by the node of its connection; a fault of a stream has its fixed reply, and changes nothing
-abbrev pub IsAnswered : {S : Type 0} → StepOf S → List ℕ → List (Serving S) → Arrival → SeenReply → List (Serving S) → Type 0
-IsAnswered step homes old (request_on conn m) told new = (told.conn ≡ conn) × IsHandled step old (home_of homes conn) m told.reply new
-IsAnswered step homes old (fault_on conn fault) told new = (told.conn ≡ conn) × (refusal_of fault ≡ told.reply ∷ []) × (new ≡ old)
+abbrev pub IsAnsweredBy : {S : Type 0} → HandlingOf S → List ℕ → List (Serving S) → Arrival → SeenReply → List (Serving S) → Type 0
+IsAnsweredBy handling homes old (request_on conn m) told new = (told.conn ≡ conn) × handling (on_connection conn) old (home_of homes conn) m told.reply new
+IsAnsweredBy handling homes old (fault_on conn fault) told new = (told.conn ≡ conn) × (refusal_of fault ≡ told.reply ∷ []) × (new ≡ old)
 
 -- each arrival has its reply, from the nodes as the one before left them
+abbrev pub IsServiceBy : {S : Type 0} → HandlingOf S → List ℕ → List (Serving S) → List Arrival → List SeenReply → List (Serving S) → Type 0
+IsServiceBy handling homes old [] [] new = new ≡ old
+IsServiceBy handling homes old [] (t ∷ ts) new = ⊥
+IsServiceBy handling homes old (a ∷ ars) [] new = ⊥
+IsServiceBy {S} handling homes old (a ∷ ars) (t ∷ ts) new = (between : List (Serving S)) × IsAnsweredBy handling homes old a t between × IsServiceBy handling homes between ars ts new
+
+-- the same where each node takes steps of this kind, whoever asks
+abbrev pub IsAnswered : {S : Type 0} → StepOf S → List ℕ → List (Serving S) → Arrival → SeenReply → List (Serving S) → Type 0
+IsAnswered step homes old a told new = IsAnsweredBy (λ who. IsHandled step) homes old a told new
+
 abbrev pub IsService : {S : Type 0} → StepOf S → List ℕ → List (Serving S) → List Arrival → List SeenReply → List (Serving S) → Type 0
-IsService step homes old [] [] new = new ≡ old
-IsService step homes old [] (t ∷ ts) new = ⊥
-IsService step homes old (a ∷ ars) [] new = ⊥
-IsService {S} step homes old (a ∷ ars) (t ∷ ts) new = (between : List (Serving S)) × IsAnswered step homes old a t between × IsService step homes between ars ts new
+IsService step homes old ars seen new = IsServiceBy (λ who. IsHandled step) homes old ars seen new
 
 -- no reply stands for a fault of a store or for want of memory
 abbrev pub AreAllServed : List SeenReply → Type 0

@@ -2,6 +2,7 @@
 
 ghost use Rattle.hub.specs.Answering.{StoreSteps};
 ghost use Rattle.node.specs.Runs.{Steps};
+ghost use Rattle.world.specs.Keeping.{DatabasesBecomeLater};
 ghost use Rattle.world.specs.Laws.{CuttingDoesNotMatter, PiecesAreServedInOrder, PlaysAreChained};
 
 use store::Store;
@@ -22,4 +23,9 @@ pub fn pieces_are_served_in_order()
 pub fn plays_are_chained<S: Store>()
     ensures stores { PlaysAreChained (StoreSteps S.Store) }
     ensures databases { PlaysAreChained Steps }
+{}
+
+/// Through a run that keeps both databases of a pass each of them becomes a later one.
+pub fn databases_become_later()
+    ensures { DatabasesBecomeLater }
 {}
