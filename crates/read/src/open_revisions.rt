@@ -97,12 +97,7 @@ fn read_elements<S: Store>(
 }
 
 /// Pushes what is said of one revision.
-fn push_element(
-    alloc: Global,
-    elements: &mut Vec<Json>,
-    rev: &Rev,
-    shown: Option<Json>,
-) -> Got<()>
+fn push_element(alloc: Global, elements: &mut Vec<Json>, rev: &Rev, shown: Option<Json>) -> Got<()>
     ensures { OnOk result (each view elements.new.items ≡ each view elements.old.items ++ element rev.now (option_map view shown) ∷ []) }
 {
     elements.push(build_element(alloc, rev, shown)?)?;

@@ -73,11 +73,13 @@ pub(crate) fn first_revision(alloc: Global, rows: &[Row]) -> Result<Option<Entry
         return Ok(None);
     };
     match read_revision(alloc, row) {
-        Ok(FoundRevision {
-            rev: _,
-            parent,
-            held,
-        }) => Ok(Some(Entry {
+        Ok(
+            FoundRevision {
+                rev: _,
+                parent,
+                held,
+            },
+        ) => Ok(Some(Entry {
             parent,
             held: hold(held),
         })),

@@ -28,7 +28,11 @@ pub(crate) fn replay_outline(alloc: Global, writes: &Vec<Write>, id: &DocId) -> 
 }
 
 /// Returns the winner that the writes made of a document, with its mark.
-pub(crate) fn replay_winner(alloc: Global, writes: &Vec<Write>, id: &DocId) -> Got<Option<MarkedRev>>
+pub(crate) fn replay_winner(
+    alloc: Global,
+    writes: &Vec<Write>,
+    id: &DocId,
+) -> Got<Option<MarkedRev>>
     ensures { IfOk result (λ found. found ≡ marked_winner (history_after map.empty id.now (additions writes.now.items))) }
 {
     let history = history_of(alloc, writes, id)?;
