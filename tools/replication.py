@@ -5,9 +5,13 @@ from urllib.parse import quote
 
 from server import text_of
 
+GREATEST = 2**63 - 1
+SESSIONS = 50
+LOSSES = 100
+
 
 class Stopped(Exception):
-    """A reply that the pass doesn't expect."""
+    """A reply that the pass doesn't expect, or one loss too many."""
 
 
 def path_of(identifier):
@@ -18,88 +22,173 @@ def path_of(identifier):
     return quote(identifier, safe="")
 
 
+# ---- checkpoints
+
+
+def is_count(value):
+    return isinstance(value, int) and not isinstance(value, bool) and 0 <= value <= GREATEST
+
+
+def is_session(value):
+    return isinstance(value, dict) and isinstance(value.get("session_id"), str) and is_count(value.get("recorded_seq"))
+
+
+def checkpoint_in(stored):
+    """Returns the checkpoint that a document says, or None where it has another shape."""
+    if not stored or not isinstance(stored.get("session_id"), str) or not is_count(stored.get("source_last_seq")):
+        return None
+    history = stored.get("history")
+    return stored if isinstance(history, list) and all(is_session(one) for one in history) else None
+
+
 def start_of(source, target):
     """Returns the sequence behind which a pass begins, by the checkpoints of both sides."""
     if not source or not target:
         return 0
     if source["session_id"] == target["session_id"]:
         return min(source["source_last_seq"], target["source_last_seq"])
-    there = {one["session_id"]: one["recorded_seq"] for one in target["history"]}
+    there = {one["session_id"]: one["recorded_seq"] for one in reversed(target["history"])}
     for one in source["history"]:
         if one["session_id"] in there:
             return min(one["recorded_seq"], there[one["session_id"]])
     return 0
 
 
-def exchanges_of(source, target, session, user=None):
-    """Yields each request of a pass as (side, method, path, body), is sent its status and value, and returns the report.
+def next_checkpoint(older, session, sequence):
+    """Returns the checkpoint of a session that came up to a sequence, before the older sessions of the source."""
+    others = [{"recorded_seq": one["recorded_seq"], "session_id": one["session_id"]} for one in older["history"] if one["session_id"] != session] if older else []
+    history = [{"recorded_seq": sequence, "session_id": session}, *others]
+    return {"history": history[:SESSIONS], "session_id": session, "source_last_seq": sequence}
 
-    The sides are named as a script names them, `NODE/DATABASE`.
-    """
-    database = {side: quote(name.split("/")[1], safe="") for side, name in (("source", source), ("target", target))}
-    local = "/_local/" + hashlib.md5(text_of([source, target, user])).hexdigest()
 
-    def ask(side, method, path, wanted, body=None):
-        status, value = yield side, method, f"/{database[side]}{path}", body
-        if status not in wanted:
-            raise Stopped(f"status {status}")
-        return None if status == 404 else value
-
-    stored = {}
-    for side in ("source", "target"):
-        stored[side] = yield from ask(side, "GET", local, (200, 404))
-    start = start_of(stored["source"], stored["target"])
-    changes = yield from ask("source", "GET", f"/_changes?since={start}&style=all_docs", (200,))
-    report = {"last_seq": changes["last_seq"], "refused": [], "sent": 0, "start_seq": start}
-    if not changes["results"]:
-        return report
-    leaves = {one["id"]: [leaf["rev"] for leaf in one["changes"]] for one in changes["results"]}
-    lacking = yield from ask("target", "POST", "/_revs_diff", (200,), leaves)
-    documents = []
-    for identifier, one in lacking.items():
-        names = quote(text_of(one["missing"]), safe="")
-        for shown in (yield from ask("source", "GET", f"/{path_of(identifier)}?open_revs={names}&revs=true", (200,))):
-            if "ok" in shown:
-                documents.append(shown["ok"])
-            else:
-                report["refused"].append({"error": "missing", "id": identifier, "rev": shown["missing"]})
-    report["sent"] = len(documents)
-    if documents:
-        report["refused"] += yield from ask("target", "POST", "/_bulk_docs", (201,), {"docs": documents, "new_edits": False})
-    older = stored["source"]["history"] if stored["source"] else []
-    checkpoint = {"history": [{"recorded_seq": report["last_seq"], "session_id": session}, *older][:50], "session_id": session, "source_last_seq": report["last_seq"]}
-    for side in ("source", "target"):
-        revision = {"_rev": stored[side]["_rev"]} if stored[side] else {}
-        yield from ask(side, "PUT", local, (201,), {**checkpoint, **revision})
-    return report
+# ---- passes
 
 
 class Pass:
-    """A pass that goes on exchange by exchange, and the lines that the lab prints of it."""
+    """A pass that goes on exchange by exchange, and the lines that the lab prints of it.
 
-    def __init__(self, name, source, target, session, user=None):
-        self.name, self.user = name, user
+    The sides are named as a script names them, `NODE/DATABASE`. What is asked next is `due`, as (side, method, path,
+    body), until the line `end` is there.
+    """
+
+    def __init__(self, name, source, target, session, user=None, batch=None):
+        self.name, self.user, self.session, self.batch = name, user, session, batch
         self.nodes = {"source": source.split("/")[0], "target": target.split("/")[0]}
-        self.exchanges = exchanges_of(source, target, session, user)
+        self.database = {side: quote(text.split("/")[1], safe="") for side, text in (("source", source), ("target", target))}
+        self.local = "/_local/" + hashlib.md5(text_of([source, target, user])).hexdigest()
+        self.report = {"last_seq": 0, "refused": [], "sent": 0, "start_seq": 0}
+        self.losses, self.stored = 0, {}
+        self.exchanges = self.rounds()
         self.due, self.end = next(self.exchanges), None
+
+    # ---- what is asked, and what each reply makes of it; None stands for a loss
+
+    def ask(self, side, method, path, wanted, body=None):
+        """Asks a side until a reply comes, and returns its value, or None where there is no checkpoint."""
+        while (reply := (yield side, method, f"/{self.database[side]}{path}", body)) is None:
+            pass
+        status, value = reply
+        if status not in wanted or status == 404 and value.get("reason") != "missing":
+            raise Stopped(f"status {status}")
+        return None if status == 404 else value
+
+    def read(self, side):
+        """Asks for the checkpoint of a side."""
+        self.stored[side] = yield from self.ask(side, "GET", self.local, (200, 404))
+
+    def is_written(self, side):
+        """Whether the checkpoint that a side has is that of this pass."""
+        found = checkpoint_in(self.stored[side])
+        return bool(found) and (found["session_id"], found["source_last_seq"]) == (self.session, self.report["last_seq"])
+
+    def write(self, side, checkpoint):
+        """Writes the checkpoint of a side. Where that was lost, the checkpoint is read, and written again if it isn't there."""
+        while True:
+            revision = {"_rev": self.stored[side]["_rev"]} if self.stored[side] else {}
+            reply = yield side, "PUT", f"/{self.database[side]}{self.local}", {**checkpoint, **revision}
+            if reply is not None:
+                break
+            yield from self.read(side)
+            if self.is_written(side):
+                return
+        if reply[0] != 201:
+            raise Stopped(f"status {reply[0]}")
+        self.stored[side] = {"_rev": reply[1]["rev"]}
+
+    def open(self, leaves, lacking):
+        """Asks the source for the revisions that are missing, document by document, and returns those that came."""
+        documents = []
+        for identifier in leaves:
+            if identifier not in lacking:
+                continue
+            names = quote(text_of(lacking[identifier]["missing"]), safe="")
+            for shown in (yield from self.ask("source", "GET", f"/{path_of(identifier)}?open_revs={names}&revs=true", (200,))):
+                if "ok" in shown:
+                    documents.append(shown["ok"])
+                else:
+                    self.report["refused"].append({"error": "missing", "id": identifier, "reason": "missing", "rev": shown["missing"]})
+        return documents
+
+    def copy(self, results):
+        """Brings what the target lacks of the changes listed."""
+        leaves = {one["id"]: [leaf["rev"] for leaf in one["changes"]] for one in results}
+        lacking = yield from self.ask("target", "POST", "/_revs_diff", (200,), leaves)
+        documents = yield from self.open(leaves, lacking)
+        if documents:
+            refused = yield from self.ask("target", "POST", "/_bulk_docs", (201,), {"docs": documents, "new_edits": False})
+            self.report["sent"] += len(documents)
+            self.report["refused"] += refused
+
+    def rounds(self):
+        """Plays the pass: the checkpoints, and rounds up to the one whose listing isn't full."""
+        yield from self.read("source")
+        yield from self.read("target")
+        older = checkpoint_in(self.stored["source"])
+        start = since = start_of(older, checkpoint_in(self.stored["target"]))
+        limit = f"&limit={self.batch}" if self.batch else ""
+        while True:
+            changes = yield from self.ask("source", "GET", f"/_changes?since={since}&style=all_docs{limit}", (200,))
+            since = changes["last_seq"]
+            self.report.update(start_seq=start, last_seq=since)
+            if not changes["results"]:
+                return
+            yield from self.copy(changes["results"])
+            checkpoint = next_checkpoint(older, self.session, since)
+            for side in ("source", "target"):
+                yield from self.write(side, checkpoint)
+            if len(changes["results"]) != self.batch:
+                return
+
+    # ---- exchanges
 
     def line(self, status):
         side, method, path, _ = self.due
         return f"{self.name} {side} {method} {path} {status}"
 
-    def take(self, status, body):
-        """Takes a reply in, and returns the lines of this exchange."""
-        lines = [self.line(status)]
+    def go_on(self, reply):
+        """Goes on with a reply, or with None where it was lost."""
         try:
-            self.due = self.exchanges.send((status, json.loads(body)))
-        except StopIteration as done:
-            self.end = f"{self.name} done {text_of(done.value).decode()}"
+            self.due = self.exchanges.send(reply)
+        except StopIteration:
+            self.finish("done")
         except Stopped as why:
-            raise SystemExit(f"the pass {self.name} stopped: {why}") from why
-        return lines + ([self.end] if self.end else [])
+            self.finish(f"stopped {why}")
+
+    def finish(self, how):
+        self.end = f"{self.name} {how} {text_of(self.report).decode()}"
+
+    def take(self, status, body):
+        """Takes a reply in, and returns the line of this exchange."""
+        line = self.line(status)
+        self.go_on((status, json.loads(body)))
+        return line
 
     def lose(self):
-        """Asks again for what was lost, and returns the line of this exchange."""
-        if self.due[1] == "PUT":
-            raise SystemExit("a lost checkpoint, which is read first, isn't played here")
-        return [self.line("lost")]
+        """Takes in that the request or the reply was lost, and returns the line of this exchange."""
+        line = self.line("lost")
+        self.losses += 1
+        if self.losses > LOSSES:
+            self.finish("stopped lost")
+        else:
+            self.go_on(None)
+        return line

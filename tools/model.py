@@ -1,0 +1,393 @@
+"""Answers requests as docs/PROFILE.md says, in plain python: what tools/fuzz_passes compares the program with.
+
+It was written from the page, and has nothing of the program. What it doesn't know it isn't asked: requests
+have lawful names and ids, bodies that are JSON, and the parameters that a client or a pass sends. A body and
+a reply are bytes, so no value is held by two.
+"""
+import hashlib
+import json
+import re
+from urllib.parse import parse_qs, unquote
+
+from server import ADMIN, text_of
+
+MISSING = (404, "not_found", "missing")
+CONFLICT = (409, "conflict", "Document update conflict.")
+BAD_DOCUMENT = (400, "doc_validation", "Bad document.")
+BAD_HISTORY = (400, "bad_history", "Bad revision history.")
+
+# The update rules that a design document may have here, as selectors, and what they say of the new document, the
+# old one or None, and the caller's name.
+RULES = [
+    ({"newDoc.bad": {"$exists": False}}, lambda new, old, name: "bad" not in new),
+    ({"newDoc._deleted": {"$exists": False}}, lambda new, old, name: "_deleted" not in new),
+    ({"userCtx.name": {"$in": ["ann", ADMIN]}}, lambda new, old, name: name in ("ann", ADMIN)),
+    (
+        {"$or": [{"$not": {"oldDoc.owner": "ann"}}, {"userCtx.name": "ann"}]},
+        lambda new, old, name: (old or {}).get("owner") != "ann" or name == "ann",
+    ),
+]
+HOLDS = {text_of(selector): holds for selector, holds in RULES}
+
+
+class Refusal(Exception):
+    """A request, or one document of several, that is refused."""
+
+    def __init__(self, status, error, reason, **more):
+        super().__init__(reason)
+        self.status, self.value = status, {"error": error, "reason": reason, **more}
+
+
+def denial(user, reason, rule):
+    """Returns the refusal of a caller by a rule."""
+    return Refusal(403, "forbidden", reason, rule=rule) if user else Refusal(401, "unauthorized", reason, rule=rule)
+
+
+# ---- revisions
+
+
+def parts_of(revision):
+    """Returns number and hash of a revision, in the order of revisions."""
+    number, name = revision.split("-")
+    return int(number), name.encode()
+
+
+def is_revision(value):
+    return isinstance(value, str) and bool(re.fullmatch(r"[1-9][0-9]{0,8}-[A-Za-z0-9]{1,64}", value))
+
+
+def next_revision(parent, deleted, body):
+    """Returns the revision that an edit makes."""
+    number, name = parts_of(parent) if parent else (0, b"")
+    return f"{number + 1}-{hashlib.md5(text_of([deleted, number, name.decode(), body])).hexdigest()}"
+
+
+class Document:
+    """A document: what each known revision follows, and the mark and the body of those whose body is held."""
+
+    def __init__(self):
+        self.parents, self.held = {}, {}
+
+    def leaves(self):
+        """Returns the leaves, best first."""
+        found = set(self.parents) - set(self.parents.values())
+        return sorted(found, key=lambda one: (not self.held[one][0], parts_of(one)), reverse=True)
+
+    def winner(self):
+        return self.leaves()[0]
+
+    def is_deleted(self):
+        return self.held[self.winner()][0]
+
+    def path(self, revision):
+        """Returns a revision and those that it goes back to, newest first."""
+        found = []
+        while revision:
+            found.append(revision)
+            revision = self.parents[revision]
+        return found
+
+    def add(self, path, deleted, body):
+        """Takes a write in, whose newest revision is new."""
+        for one, parent in zip(path, path[1:] + [None]):
+            self.parents.setdefault(one, parent)
+        self.held[path[0]] = deleted, body
+
+    def shown(self, identifier, revision, with_path=False):
+        """Returns a revision whose body is held, as it is shown."""
+        deleted, body = self.held[revision]
+        value = {**body, "_id": identifier, "_rev": revision}
+        if deleted:
+            value["_deleted"] = True
+        if with_path:
+            path = self.path(revision)
+            value["_revisions"] = {"ids": [one.split("-")[1] for one in path], "start": len(path)}
+        return value
+
+
+# ---- documents that are sent
+
+
+def sent_by(identifier, document):
+    """Returns the revision that a document names, its mark and its body."""
+    body = {name: value for name, value in document.items() if not name.startswith("_")}
+    revision, deleted = document.get("_rev"), document.get("_deleted", False)
+    is_bad = document.get("_id", identifier) != identifier or "_rev" in document and not is_revision(revision)
+    is_bad = is_bad or not isinstance(deleted, bool) or set(document) - set(body) - {"_id", "_rev", "_deleted", "_revisions"}
+    is_bad = is_bad or identifier.startswith("_design/") and "validate_doc_update" in body and text_of(body["validate_doc_update"]) not in HOLDS
+    if is_bad:
+        raise Refusal(*BAD_DOCUMENT)
+    return revision, deleted, body
+
+
+def path_sent(document):
+    """Returns the path that a replicated document comes with, and how long it says that this is."""
+    revision, said = document.get("_rev"), document.get("_revisions")
+    if said is None:
+        if revision is None:
+            raise Refusal(*BAD_DOCUMENT)
+        return [revision], 1
+    names, start = said["ids"], said["start"]
+    if not names or revision not in (None, f"{start}-{names[0]}"):
+        raise Refusal(*BAD_DOCUMENT)
+    return [f"{len(names) - place}-{name}" for place, name in enumerate(names)], start
+
+
+# ---- databases
+
+
+class Database:
+    """A database, which is closed when it is new."""
+
+    def __init__(self):
+        self.security = {"admins": {"roles": ["_admin"]}, "members": {"roles": ["_admin"]}}
+        self.documents, self.sequence, self.sequences, self.locals = {}, 0, {}, {}
+
+    # ---- who may do what
+
+    def names(self, user, part):
+        return user is not None and user in self.security.get(part, {}).get("names", [])
+
+    def is_admin(self, user):
+        return user == ADMIN or self.names(user, "admins")
+
+    def is_member(self, user):
+        members = self.security.get("members", {})
+        return not members.get("names") and not members.get("roles") or self.names(user, "members") or self.is_admin(user)
+
+    def rules(self):
+        """Returns the update rules, by the ids of their design documents."""
+        found = {}
+        for identifier, document in self.documents.items():
+            if identifier.startswith("_design/") and not document.is_deleted():
+                rule = document.held[document.winner()][1].get("validate_doc_update")
+                if rule is not None:
+                    found[identifier] = HOLDS[text_of(rule)]
+        return found
+
+    # ---- writes
+
+    def add(self, identifier, path, deleted, body):
+        self.documents.setdefault(identifier, Document()).add(path, deleted, body)
+        self.sequence += 1
+        self.sequences[identifier] = self.sequence
+
+    def deny_design(self, user, identifier):
+        if identifier.startswith("_design/") and not self.is_admin(user):
+            raise denial(user, "You are not a db or server admin.", "design_document")
+
+    def deny_by_rules(self, rules, user, identifier, behind, deleted, body):
+        """Refuses a write that an update rule doesn't let pass; it follows the newest revision behind it whose body is held."""
+        if identifier.startswith("_design/"):
+            return
+        document = self.documents.get(identifier, Document())
+        old = next((document.shown(identifier, one) for one in behind if one in document.held), None)
+        new = {**body, "_id": identifier, **({"_deleted": True} if deleted else {})}
+        for name in sorted(rules, key=str.encode):
+            if not rules[name](new, old, user):
+                raise denial(user, "Refused by an update rule.", name)
+
+    def followed(self, identifier, revision):
+        """Returns the revision that an edit follows, or None where it is the first."""
+        document = self.documents.get(identifier)
+        leaves = document.leaves() if document else []
+        if revision is None and document and document.is_deleted():
+            return leaves[0]
+        if revision not in leaves and (document or revision):
+            raise Refusal(*CONFLICT)
+        return revision
+
+    def edit(self, rules, user, identifier, sent):
+        """Takes an edit in, and returns the revision that it makes."""
+        revision, deleted, body = sent
+        self.deny_design(user, identifier)
+        parent = self.followed(identifier, revision)
+        made = next_revision(parent, deleted, body)
+        document = self.documents.get(identifier, Document())
+        if made in document.parents:
+            raise Refusal(*CONFLICT)
+        behind = document.path(parent) if parent else []
+        self.deny_by_rules(rules, user, identifier, behind, deleted, body)
+        self.add(identifier, [made, *behind], deleted, body)
+        return made
+
+    def replicate(self, rules, user, identifier, sent, path, start):
+        """Takes a replicated write in, where its revision is new."""
+        self.deny_design(user, identifier)
+        document = self.documents.get(identifier, Document())
+        numbers = [parts_of(one)[0] for one in path]
+        is_whole = start == len(path) and numbers == list(range(len(path), 0, -1))
+        if not is_whole or any(document.parents.get(one, parent) != parent for one, parent in zip(path, path[1:] + [None])):
+            raise Refusal(*BAD_HISTORY)
+        if path[0] not in document.parents:
+            _, deleted, body = sent
+            self.deny_by_rules(rules, user, identifier, path[1:], deleted, body)
+            self.add(identifier, path, deleted, body)
+
+    def element(self, rules, user, document, new_edits):
+        """Takes one document of several in, and returns what is told of it, or None."""
+        identifier = document.get("_id")
+        named = {"id": identifier} if new_edits else {"id": identifier, "rev": document.get("_rev")}
+        try:
+            if identifier is None:
+                raise Refusal(*BAD_DOCUMENT)
+            sent = sent_by(identifier, document)
+            if new_edits:
+                return {"id": identifier, "ok": True, "rev": self.edit(rules, user, identifier, sent)}
+            self.replicate(rules, user, identifier, sent, *path_sent(document))
+            return None
+        except Refusal as refusal:
+            return {**refusal.value, **named}
+
+    def bulk(self, user, value):
+        rules = self.rules()
+        told = [self.element(rules, user, one, value.get("new_edits", True)) for one in value["docs"]]
+        return 201, [one for one in told if one is not None]
+
+    # ---- lists
+
+    def information(self, name):
+        deleted = sum(document.is_deleted() for document in self.documents.values())
+        return 200, {"db_name": name, "doc_count": len(self.documents) - deleted, "doc_del_count": deleted, "update_seq": self.sequence}
+
+    def all_docs(self):
+        there = sorted((one for one, document in self.documents.items() if not document.is_deleted()), key=str.encode)
+        rows = [{"id": one, "key": one, "value": {"rev": self.documents[one].winner()}} for one in there]
+        return 200, {"offset": 0, "rows": rows, "total_rows": len(rows)}
+
+    def changes(self, query):
+        since, results = int(query.get("since", 0)), []
+        for identifier in sorted(self.sequences, key=self.sequences.get):
+            document, sequence = self.documents[identifier], self.sequences[identifier]
+            leaves = document.leaves() if query.get("style") == "all_docs" else [document.winner()]
+            one = {"changes": [{"rev": leaf} for leaf in leaves], "id": identifier, "seq": sequence}
+            if document.is_deleted():
+                one["deleted"] = True
+            if sequence > since:
+                results.append(one)
+        results = results[: int(query.get("limit", len(results)))]
+        return 200, {"last_seq": results[-1]["seq"] if results else min(since, self.sequence), "results": results}
+
+    def differences(self, value):
+        lacking = {}
+        for identifier, revisions in value.items():
+            known = self.documents.get(identifier, Document()).parents
+            missing = [one for one in revisions if one not in known]
+            if missing:
+                lacking[identifier] = {"missing": missing}
+        return 200, lacking
+
+    # ---- single documents
+
+    def read(self, identifier, query):
+        document = self.documents.get(identifier, Document())
+        if "open_revs" in query:
+            asked = document.leaves() if query["open_revs"] == "all" else json.loads(query["open_revs"])
+            paths = query.get("revs") == "true"
+            return 200, [{"ok": document.shown(identifier, one, paths)} if one in document.held else {"missing": one} for one in asked]
+        if not document.parents:
+            raise Refusal(*MISSING)
+        if document.is_deleted():
+            raise Refusal(404, "not_found", "deleted")
+        return 200, document.shown(identifier, document.winner())
+
+    def write(self, user, identifier, query, value):
+        revision, deleted, body = sent_by(identifier, value)
+        asked = query.get("rev")
+        if asked and revision and asked != revision:
+            raise Refusal(*BAD_DOCUMENT)
+        made = self.edit(self.rules(), user, identifier, (asked or revision, deleted, body))
+        return 201, {"id": identifier, "ok": True, "rev": made}
+
+    def delete(self, user, identifier, query):
+        self.deny_design(user, identifier)
+        if "rev" not in query:
+            raise Refusal(*CONFLICT)
+        made = self.edit(self.rules(), user, identifier, (query["rev"], True, {}))
+        return 200, {"id": identifier, "ok": True, "rev": made}
+
+    # ---- local documents
+
+    def read_local(self, name):
+        if name not in self.locals:
+            raise Refusal(*MISSING)
+        number, body = self.locals[name]
+        return 200, {**body, "_id": f"_local/{name}", "_rev": f"0-{number}"}
+
+    def write_local(self, name, value):
+        number, _ = self.locals.get(name, (0, None))
+        if value.get("_rev") != (f"0-{number}" if number else None):
+            raise Refusal(*CONFLICT)
+        self.locals[name] = number + 1, {one: value[one] for one in value if one not in ("_id", "_rev")}
+        return 201, {"id": f"_local/{name}", "ok": True, "rev": f"0-{number + 1}"}
+
+
+# ---- nodes
+
+
+class Node:
+    """A node: its databases by name."""
+
+    def __init__(self):
+        self.databases = {}
+
+    def answer(self, user, method, target, body=None):
+        """Answers a request, and returns the status and the text of the reply."""
+        path, _, query = target.partition("?")
+        parts = [unquote(part) for part in path.split("/")[1:]]
+        asked = {name: values[0] for name, values in parse_qs(query).items()}
+        try:
+            status, value = self.work(user, method, parts, asked, json.loads(body) if body else None)
+        except Refusal as refusal:
+            status, value = refusal.status, refusal.value
+        return status, text_of(value)
+
+    def work(self, user, method, parts, query, value):
+        name = parts[0]
+        if len(parts) == 1 and method != "GET":
+            return self.work_on_database(user, method, name)
+        database = self.databases.get(name)
+        if database is None:
+            raise Refusal(404, "not_found", "Database does not exist.")
+        if not database.is_member(user):
+            raise denial(user, "You are not allowed to access this db.", "db_member")
+        if len(parts) == 1:
+            return database.information(name)
+        if parts[1] == "_security":
+            return self.work_on_security(database, user, method, value)
+        if parts[1] == "_local":
+            return database.read_local(parts[2]) if method == "GET" else database.write_local(parts[2], value)
+        if parts[1] == "_bulk_docs":
+            return database.bulk(user, value)
+        if parts[1] == "_all_docs":
+            return database.all_docs()
+        if parts[1] == "_changes":
+            return database.changes(query)
+        if parts[1] == "_revs_diff":
+            return database.differences(value)
+        identifier = "/".join(parts[1:])
+        if method == "GET":
+            return database.read(identifier, query)
+        return database.write(user, identifier, query, value) if method == "PUT" else database.delete(user, identifier, query)
+
+    def work_on_database(self, user, method, name):
+        """Creates or removes a database."""
+        if user != ADMIN:
+            raise denial(user, "You are not a server admin.", "server_admin")
+        if method == "PUT":
+            if name in self.databases:
+                raise Refusal(412, "file_exists", "The database could not be created, the file already exists.")
+            self.databases[name] = Database()
+            return 201, {"ok": True}
+        if name not in self.databases:
+            raise Refusal(404, "not_found", "Database does not exist.")
+        del self.databases[name]
+        return 200, {"ok": True}
+
+    def work_on_security(self, database, user, method, value):
+        if method == "PUT":
+            if not database.is_admin(user):
+                raise denial(user, "You are not a db or server admin.", "db_admin")
+            database.security = value
+            return 200, {"ok": True}
+        return 200, database.security
