@@ -1,8 +1,8 @@
-"""Answers requests as docs/PROFILE.md says, in plain python: what tools/fuzz_passes compares the program with.
+"""Answers requests as docs/PROFILE.md says, in plain python: what tools/fuzz_passes and tools/disk_check compare with.
 
 It was written from the page, and has nothing of the program. What it doesn't know it isn't asked: requests
-have lawful names and ids, bodies that are JSON, and the parameters that a client or a pass sends. A body and
-a reply are bytes, so no value is held by two.
+have lawful names and ids, bodies that are JSON, and the parameters that a client or a pass sends; keys of
+indexes are whole numbers. A body and a reply are bytes, so no value is held by two.
 """
 import hashlib
 import json
@@ -268,6 +268,20 @@ class Database:
         results = results[: int(query.get("limit", len(results)))]
         return 200, {"last_seq": results[-1]["seq"] if results else min(since, self.sequence), "results": results}
 
+    def view(self, identifier, name):
+        """Returns the rows of an index, made from the documents."""
+        design = self.documents.get(identifier, Document())
+        declared = design.held[design.winner()][1].get("indexes", {}) if design.parents and not design.is_deleted() else {}
+        if name not in declared:
+            raise Refusal(*MISSING)
+        rows = []
+        for one, document in self.documents.items():
+            body = document.held[document.winner()][1]
+            if not document.is_deleted() and not one.startswith("_design/") and all(field in body for field in declared[name]["fields"]):
+                rows.append({"id": one, "key": [body[field] for field in declared[name]["fields"]], "value": None})
+        rows.sort(key=lambda row: (row["key"], row["id"].encode()))
+        return 200, {"offset": 0, "rows": rows, "total_rows": len(rows)}
+
     def differences(self, value):
         lacking = {}
         for identifier, revisions in value.items():
@@ -344,6 +358,8 @@ class Node:
 
     def work(self, user, method, parts, query, value):
         name = parts[0]
+        if name == "_all_dbs":
+            return self.list_databases(user)
         if len(parts) == 1 and method != "GET":
             return self.work_on_database(user, method, name)
         database = self.databases.get(name)
@@ -365,10 +381,17 @@ class Node:
             return database.changes(query)
         if parts[1] == "_revs_diff":
             return database.differences(value)
+        if parts[3:4] == ["_view"]:
+            return database.view("/".join(parts[1:3]), parts[4])
         identifier = "/".join(parts[1:])
         if method == "GET":
             return database.read(identifier, query)
         return database.write(user, identifier, query, value) if method == "PUT" else database.delete(user, identifier, query)
+
+    def list_databases(self, user):
+        if user != ADMIN:
+            raise denial(user, "You are not a server admin.", "server_admin")
+        return 200, sorted(self.databases)
 
     def work_on_database(self, user, method, name):
         """Creates or removes a database."""
