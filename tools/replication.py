@@ -56,8 +56,10 @@ def start_of(source, target):
 
 def next_checkpoint(older, session, sequence):
     """Returns the checkpoint of a session that came up to a sequence, before the older sessions of the source."""
-    others = [{"recorded_seq": one["recorded_seq"], "session_id": one["session_id"]} for one in older["history"] if one["session_id"] != session] if older else []
-    history = [{"recorded_seq": sequence, "session_id": session}, *others]
+    history = [{"recorded_seq": sequence, "session_id": session}]
+    for one in older["history"] if older else []:
+        if one["session_id"] != session:
+            history.append({"recorded_seq": one["recorded_seq"], "session_id": one["session_id"]})
     return {"history": history[:SESSIONS], "session_id": session, "source_last_seq": sequence}
 
 
