@@ -26,6 +26,11 @@ RULES = [
         {"$or": [{"$not": {"oldDoc.owner": "ann"}}, {"userCtx.name": "ann"}]},
         lambda new, old, name: (old or {}).get("owner") != "ann" or name == "ann",
     ),
+    (
+        {"$or": [{"oldDoc": None}, {"newDoc.owner": {"$sameAs": "oldDoc.owner"}}]},
+        lambda new, old, name: old is None or "owner" in new and "owner" in old and new["owner"] == old["owner"],
+    ),
+    ({"newDoc.owner": {"$sameAs": "userCtx.name"}}, lambda new, old, name: "owner" in new and new["owner"] == name),
 ]
 HOLDS = {text_of(selector): holds for selector, holds in RULES}
 

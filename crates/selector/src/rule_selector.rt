@@ -16,9 +16,15 @@ use std::marker::Model;
 /// whole argument that the rule is asked of, also inside of `$elemMatch` and `$allMatch`. Of a
 /// write's argument `{"newDoc.owner":{"$sameAs":"oldDoc.owner"}}` is true where both documents
 /// name the same owner.
-#[derive(Drop)]
 pub struct RuleSelector {
     selector: Selector,
+}
+
+// Written out, so that callers do not prove again how each part is dropped.
+impl Drop for RuleSelector {
+    fn drop(self) {
+        let RuleSelector { selector: _ } = self;
+    }
 }
 
 impl Model for RuleSelector {
