@@ -1,7 +1,8 @@
 //! Conditions on JSON values, in the form of CouchDB's Mango selectors (CouchDB manual, api/database/find).
 //!
-//! [`Selector::parse`] reads a selector once, and [`Selector::matches`] asks it of a value. A row of the
-//! tests, where `<each>` is a list of values with and without the field `f`:
+//! [`Selector::parse`] reads a selector once, and [`Selector::matches`] asks it of a value. A
+//! [`RuleSelector`] may compare parts of the value with one another too. A row of the tests, where
+//! `<each>` is a list of values with and without the field `f`:
 //!
 //! ```rows
 //! {"f":{"$lt":5}} on each of <each> => -TT----
