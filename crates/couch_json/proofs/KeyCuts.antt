@@ -1,5 +1,6 @@
 -- What lies above a cut between keys.
 use Rattle.std.proofs.Common.{◌≡◌, ℕ, List, [], ◌∷◌, ◌++◌, Bool, true, false, not, ◌&&◌, refl, sym, ap, ◌∙◌, append_assoc, append-nil}
+use Rattle.std.proofs.lemmas.List.{append_cancel_right}
 use Rattle.std.specs.declared.cmp.Ordering.{Ordering}
 use Rattle.std.specs.declared.cmp.Ordering.TheVariants.{Less, Equal, Greater}
 use Rattle.std.specs.Ordering.{is_eq, is_ge, is_gt, ordering_then, ordering_reverse, nat_cmp}
@@ -103,5 +104,7 @@ items_key-items_front no_items = refl
 items_key-items_front (item u us) = ap (λ bytes. key u ++ bytes) (items_key-items_front us) ∙ sym (append_assoc (key u) (items_front us) (0 ∷ []))
 
 -- an array's key ends in a byte 0, and the bound has 8 in its place
-pub key-array : (us : Items) → key (array us) ≡ (6 ∷ items_front us) ++ 0 ∷ []
-key-array us = ap (λ bytes. 6 ∷ bytes) (items_key-items_front us)
+pub bound_after_prefix-array : (us : Items) (front : List ℕ) → key (array us) ≡ front ++ 0 ∷ [] → bound_after_prefix (array us) ≡ front ++ 8 ∷ []
+bound_after_prefix-array us front ends =
+    let same : 6 ∷ items_front us ≡ front = append_cancel_right (6 ∷ items_front us) front (0 ∷ []) (sym (ap (λ bytes. 6 ∷ bytes) (items_key-items_front us)) ∙ ends) in
+    ap (λ bytes. bytes ++ 8 ∷ []) same

@@ -1,5 +1,5 @@
 //! What holds of the definitions alone: each law is the contract of a function that does nothing.
-ghost use Rattle.std.specs.Prelude.{◌≡◌, ◌≤◌, ◌++◌, ℕ, List, false, true, not, ◌&&◌, Some, Ok};
+ghost use Rattle.std.specs.Prelude.{◌≡◌, ◌≤◌, ◌++◌, [], ◌∷◌, ℕ, List, false, true, not, ◌&&◌, Some, Ok};
 ghost use Rattle.serde_json.specs.Data.{Data};
 ghost use Rattle.serde_json.specs.Read.{read};
 ghost use Rattle.std.specs.Cmp.{IsTotalOrder};
@@ -13,7 +13,7 @@ ghost use Rattle.couch_json.specs.KeyCuts.{bound_above_all, bound_after, bound_a
 ghost use Rattle.couch_json.specs.Lawful.{IsLawful};
 ghost use Rattle.couch_json.specs.Nesting.{max_open, nests_too_deep};
 ghost use Rattle.couch_json.specs.Reading.{reading, data_read_within};
-ghost use Rattle.couch_json.specs.Value.{Value, depth};
+ghost use Rattle.couch_json.specs.Value.{Value, Items, array, depth};
 ghost use Rattle.couch_json.specs.View.{view};
 
 use crate::value::Json;
@@ -107,4 +107,8 @@ pub fn keys_lie_above_cuts()
     ensures after_prefix { (v k : Value) → IsLawful v → IsLawful k
         → lies_above_cut (bound_after_prefix k) (key v)
         ≡ is_gt (collation v k) && not (extends_key k v) }
+
+    // The bound after a prefix has 8 in place of the byte 0 that its key ends in.
+    ensures made { (vs : Items) (front : List ℕ) → key (array vs) ≡ front ++ 0 ∷ []
+        → bound_after_prefix (array vs) ≡ front ++ 8 ∷ [] }
 {}
