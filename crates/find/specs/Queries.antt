@@ -5,8 +5,8 @@ use Rattle.couch_json.specs.FieldPath.{is_field_path}
 use Rattle.couch_json.specs.Range.{greatest_count}
 use Rattle.couch_json.specs.Parts.{has_only, is_there_and, items_in, text_in}
 use Rattle.couch_json.specs.Value.{Value, whole, text, object, Items, no_items, item, Members, no_members, member, member_of}
+use Rattle.selector.specs.Grammar.{selector_in}
 use Rattle.selector.specs.Truth.{items_length}
-use Rattle.policy.specs.UpdateRules.{selector_in}
 use Rattle.find.specs.declared.query.Query.{Query}
 
 -- ---- numbers

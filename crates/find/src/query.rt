@@ -1,7 +1,7 @@
 ghost use Rattle.std.specs.Prelude.{◌≡◌, option_and_then, option_map};
 ghost use Rattle.couch_json.specs.Value.{whole};
 ghost use Rattle.couch_json.specs.View.{view};
-ghost use Rattle.policy.specs.UpdateRules.{selector_in};
+ghost use Rattle.selector.specs.Grammar.{selector_in};
 ghost use Rattle.find.specs.Queries.{count_in, count_or, query_in};
 ghost use Rattle.find.specs.Reading.{Reads};
 

@@ -14,7 +14,7 @@ use Rattle.couch_json.proofs.ReadingBack.{what_was_read}
 use Rattle.find.specs.Indexes.{design_in, index_in, index_with}
 use Rattle.find.specs.Queries.{query_in, query_names, query_with, sort_entries}
 use Rattle.find.specs.Found.{found_documents}
-use Rattle.policy.specs.UpdateRules.{selector_in}
+use Rattle.selector.specs.Grammar.{selector_in}
 use Rattle.policy.specs.declared.action.Action.TheVariants.{WriteDocument}
 use Rattle.store.specs.Contents.{Contents}
 use Rattle.store.specs.Database.{Database}

@@ -10,7 +10,8 @@ use Rattle.std.specs.FinMap.Entries.{by_order, find_tied, is_sorted-put}
 use Rattle.std.proofs.Math.Dec.{T}
 use Rattle.tree.proofs.Kept.{true_from_T}
 use Rattle.couch_json.specs.Value.{Value, member_of}
-use Rattle.policy.specs.UpdateRules.{AreOnce, Rules, rule_in, rules_of, selector_in, with_declared, with_rule, with_rules}
+use Rattle.selector.specs.Grammar.{rule_selector_in}
+use Rattle.policy.specs.UpdateRules.{AreOnce, Rules, rule_in, rules_of, with_declared, with_rule, with_rules}
 
 abbrev pub Entry : Type 0
 Entry = List ℕ × Option Value
@@ -47,8 +48,8 @@ pub rules_insert : (es new : List Entry) (id : List ℕ) (rule : Option Value) �
 rules_insert es new id rule e h =
     same_entries_map _ _ (entries_of new (sorted_insert es new id rule e h) ∙ e ∙ insert_entry-put es id rule ∙ ap (put cmp id rule) (sym (entries_of es h)) ∙ sym (entries-insert nat_list_cmp_total (from_sorted es) id rule))
 
-pub rule_put : (rules : Rules) (id : List ℕ) (rule : Option Value) (body value : Value) → Some value ≡ member_of body (codes "validate_doc_update") → rule ≡ selector_in value → insert rules id rule ≡ with_rule rules (id, body)
-rule_put rules id rule body value there is = ap (λ r. with_declared rules id (Some r)) is ∙ ap (λ o. with_declared rules id (option_map selector_in o)) there
+pub rule_put : (rules : Rules) (id : List ℕ) (rule : Option Value) (body value : Value) → Some value ≡ member_of body (codes "validate_doc_update") → rule ≡ rule_selector_in value → insert rules id rule ≡ with_rule rules (id, body)
+rule_put rules id rule body value there is = ap (λ r. with_declared rules id (Some r)) is ∙ ap (λ o. with_declared rules id (option_map rule_selector_in o)) there
 
 -- ---- the rule at an id
 

@@ -1,18 +1,16 @@
 -- Which bodies a design document may have: what it declares, a rule and indexes, is of its form.
 -- CouchDB manual, ddocs/ddocs (`validate_doc_update`) and api/database/find (fields of an index); that indexes are declared in the member `indexes`, and the limits, are this server's own.
 use Rattle.std.specs.Prelude.{ℕ, Bool, true, ◌&&◌, List, [], ◌∷◌, length, codes, nat_le, is_some}
-use Rattle.couch_json.specs.FieldPath.{is_field_path}
-use Rattle.couch_json.specs.Parts.{has_only, is_there_and, items_in, members_in, text_in}
+use Rattle.couch_json.specs.Parts.{has_only, is_there_and, items_in, members_in}
 use Rattle.couch_json.specs.Value.{Value, Items, no_items, item, Members, no_members, member, member_of}
+pub use Rattle.selector.specs.Grammar.{is_path}
+use Rattle.selector.specs.Grammar.{rule_selector_in}
 use Rattle.selector.specs.Truth.{items_length}
 use Rattle.policy.specs.Security.{is_absent_or}
-use Rattle.policy.specs.UpdateRules.{selector_in}
 
-abbrev pub is_selector : Value → Bool
-is_selector v = is_some (selector_in v)
-
-abbrev pub is_path : Value → Bool
-is_path v = is_there_and is_field_path (text_in v)
+-- the selector of a rule
+abbrev pub is_rule : Value → Bool
+is_rule v = is_some (rule_selector_in v)
 
 abbrev pub are_paths : Items → Bool
 are_paths no_items = true
@@ -48,5 +46,5 @@ is_index_object v = is_there_and are_indexes (members_in v)
 -- `validate_doc_update` and `indexes`, where there, are of their form; other members are not looked at
 abbrev pub is_design_body : Value → Bool
 is_design_body body =
-    is_absent_or is_selector (member_of body (codes "validate_doc_update"))
+    is_absent_or is_rule (member_of body (codes "validate_doc_update"))
     && is_absent_or is_index_object (member_of body (codes "indexes"))

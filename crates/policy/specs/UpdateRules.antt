@@ -9,13 +9,12 @@ use Rattle.std.specs.FinMap as map
 use Rattle.std.specs.FinMap.{FinMap, empty, entries, find, get, insert}
 use Rattle.couch_json.specs.Code.{value_code}
 use Rattle.couch_json.specs.Value.{Value, member_of}
-use Rattle.selector.specs.Grammar.{first_fault}
+use Rattle.selector.specs.Grammar.{rule_selector_in}
 use Rattle.selector.specs.Truth.{selector_matches}
-use Rattle.selector.specs.declared.fault.SelectorFault.{SelectorFault}
 use Rattle.policy.specs.declared.rule.Rule.{Rule}
 use Rattle.policy.specs.declared.rule.Rule.TheVariants.{Update}
 
--- rules by the ids of the design documents that declare them: each a selector, or None where what is declared is no selector
+-- rules by the ids of the design documents that declare them: each the selector of a rule, or None where what is declared is none
 abbrev pub Rules : Type 0
 Rules = FinMap {K = List ℕ} (slice_cmp nat_cmp) (Option Value)
 
@@ -25,17 +24,9 @@ rules_code = map.code (coded_list coded_ℕ) (coded_option value_code)
 
 -- ---- the rules of design documents, each its id and its body
 
-abbrev pub selector_if : Option SelectorFault → Value → Option Value
-selector_if None v = Some v
-selector_if (Some fault) v = None
-
--- the value, where it is a selector
-abbrev pub selector_in : Value → Option Value
-selector_in v = selector_if (first_fault v) v
-
 -- the rule that a body declares, if it declares one
 abbrev pub rule_in : Value → Option (Option Value)
-rule_in body = option_map selector_in (member_of body (codes "validate_doc_update"))
+rule_in body = option_map rule_selector_in (member_of body (codes "validate_doc_update"))
 
 abbrev pub with_declared : Rules → List ℕ → Option (Option Value) → Rules
 with_declared rules id None = rules

@@ -2,16 +2,16 @@
 
 ghost use Rattle.std.specs.Prelude.{◌≡◌, IfOk, option_map};
 ghost use Rattle.couch_json.specs.View.{view, items_view, members_view};
-ghost use Rattle.policy.specs.DesignDocuments.{are_fields, are_indexes, are_paths, is_design_body, is_field_count, is_field_list, is_index, is_index_name, is_index_object, is_path, is_selector};
+ghost use Rattle.policy.specs.DesignDocuments.{are_fields, are_indexes, are_paths, is_design_body, is_field_count, is_field_list, is_index, is_index_name, is_index_object, is_path, is_rule};
 ghost use Rattle.policy.specs.Security.{is_absent_or};
 
 use couch_json::{FieldPath, Got, Json, NoMemory, PathFault};
-use selector::{Selector, SelectorFault};
+use selector::{RuleSelector, SelectorFault};
 use std::alloc::Global;
 use std::collections::BTreeMap;
 
 /// Tests whether a design document may have this body: whether its `validate_doc_update`, if it has
-/// one, is a selector, and its `indexes`, if it has them, are of their form.
+/// one, is the selector of a rule, and its `indexes`, if it has them, are of their form.
 ///
 /// `indexes` is an object. Its names have 1 to 64 bytes, and its values are objects with `fields`
 /// alone, a list of 1 to 8 field paths. Other members have no effect. See the CouchDB manual,
@@ -25,21 +25,21 @@ pub fn check_design(alloc: Global, body: &Json) -> Got<bool>
     check_indexes(alloc, body.member("indexes"))
 }
 
-/// Tests whether a rule, where there is one, is a selector.
+/// Tests whether a rule, where there is one, is of its form.
 fn check_rule(alloc: Global, rule: Option<&Json>) -> Got<bool>
-    ensures { IfOk result (λ good. good ≡ is_absent_or is_selector (option_map (λ v. view v.now) rule.entry)) }
+    ensures { IfOk result (λ good. good ≡ is_absent_or is_rule (option_map (λ v. view v.now) rule.entry)) }
 {
     match rule {
-        Some(rule) => is_selector(alloc, rule),
+        Some(rule) => is_rule(alloc, rule),
         None => Ok(true),
     }
 }
 
-fn is_selector(alloc: Global, value: &Json) -> Got<bool>
-    ensures { IfOk result (λ good. good ≡ is_selector (view value.now)) }
+fn is_rule(alloc: Global, value: &Json) -> Got<bool>
+    ensures { IfOk result (λ good. good ≡ is_rule (view value.now)) }
 {
-    match Selector::parse(alloc, value) {
-        Ok(_selector) => Ok(true),
+    match RuleSelector::parse(alloc, value) {
+        Ok(_rule) => Ok(true),
         Err(SelectorFault::Memory) => Err(NoMemory),
         Err(_) => Ok(false),
     }

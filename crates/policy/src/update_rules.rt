@@ -1,10 +1,11 @@
 ghost use Rattle.std.specs.Prelude.{◌≡◌, IfOk, OnErr, OnOk, map as each, nat_eq, option_copied};
 ghost use Rattle.std.specs.FinMap as map;
 ghost use Rattle.couch_json.specs.View.{view};
-ghost use Rattle.policy.specs.UpdateRules.{holds, rules_of, selector_in, update_refusal, with_rule};
+ghost use Rattle.policy.specs.UpdateRules.{holds, rules_of, update_refusal, with_rule};
+ghost use Rattle.selector.specs.Grammar.{rule_selector_in};
 
 use couch_json::{Got, Json, NoMemory};
-use selector::{Selector, SelectorFault};
+use selector::{RuleSelector, SelectorFault};
 use std::alloc::Global;
 use std::collections::BTreeMap;
 use std::marker::Model;
@@ -12,12 +13,12 @@ use tree::DocId;
 
 /// The update rules of a database, by the ids of the design documents that declare them.
 ///
-/// A rule is the `validate_doc_update` of a design document: a selector, which has to be true of
-/// the [`argument`](crate::argument) of each write. What is no selector is a rule that no write
+/// A rule is the `validate_doc_update` of a design document: a [`RuleSelector`], which has to be
+/// true of the [`argument`](crate::argument) of each write. What is none is a rule that no write
 /// meets. See the CouchDB manual, ddocs/ddocs.
 pub struct RuleSet {
     alloc: Global,
-    rules: BTreeMap<DocId, Option<Selector>>,
+    rules: BTreeMap<DocId, Option<RuleSelector>>,
 }
 
 // Written out, so that callers do not prove again how each part is dropped.
@@ -102,11 +103,11 @@ impl RuleSet {
     }
 }
 
-/// Parses a rule; `None` where the value is no selector.
-fn parse_rule(alloc: Global, value: &Json) -> Got<Option<Selector>>
-    ensures { IfOk result (λ rule. rule ≡ selector_in (view value.now)) }
+/// Parses a rule; `None` where the value is none.
+fn parse_rule(alloc: Global, value: &Json) -> Got<Option<RuleSelector>>
+    ensures { IfOk result (λ rule. rule ≡ rule_selector_in (view value.now)) }
 {
-    match Selector::parse(alloc, value) {
+    match RuleSelector::parse(alloc, value) {
         Ok(selector) => Ok(Some(selector)),
         Err(SelectorFault::Memory) => Err(NoMemory),
         Err(_) => Ok(None),
@@ -114,7 +115,7 @@ fn parse_rule(alloc: Global, value: &Json) -> Got<Option<Selector>>
 }
 
 /// Tells whether a rule holds of an argument.
-fn is_met(rule: &Option<Selector>, argument: &Json) -> bool
+fn is_met(rule: &Option<RuleSelector>, argument: &Json) -> bool
     ensures { result ≡ holds rule.now (view argument.now) }
 {
     match rule {

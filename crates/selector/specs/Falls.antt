@@ -20,6 +20,7 @@ most_le-members_depth (condition.Field f s ∷ cs) = omega (arith, most_le-membe
 most_le-members_depth (condition.FieldIs f b ∷ cs) = omega (arith, most_le-members_depth cs)
 most_le-members_depth (condition.Exists b ∷ cs) = omega (arith, most_le-members_depth cs)
 most_le-members_depth (condition.Value o j ∷ cs) = omega (arith, most_le-members_depth cs)
+most_le-members_depth (condition.SameAs p ∷ cs) = omega (arith, most_le-members_depth cs)
 most_le-members_depth (condition.Selector o s ∷ cs) = omega (arith, most_le-members_depth cs)
 most_le-members_depth (condition.List o ss ∷ cs) = omega (arith, most_le-members_depth cs, most_le-items_depth ss.items)
 

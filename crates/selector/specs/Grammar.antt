@@ -1,6 +1,6 @@
 -- Which values are selectors, and where the first fault of one that is none stands.
 -- CouchDB manual, api/database/find, "Selector Syntax" and the tables of operators; which fault comes first, and the limit
--- of 32 on nesting, are ours.
+-- of 32 on nesting, are ours, and so is `$sameAs`.
 use Rattle.std.specs.Prelude.{ℕ, ℤ, pos, ◌+◌, ◌==◌, not, Bool, true, false, if◌then◌else◌, List, [], ◌∷◌, Option, Some, None, codes, nat_eq, nat_lt}
 use Rattle.std.specs.List.{starts_with, list_any}
 use Rattle.std.specs.Cmp.Lexicographic.{pointwise}
@@ -43,6 +43,10 @@ takes HasRemainder v = has_divisor (division_in v)
 takes HasAll v = is_array v
 takes o v = true
 
+-- a text that is a field path
+abbrev pub is_path : Value → Bool
+is_path v = is_there_and is_field_path (text_in v)
+
 -- ---- the first fault
 
 abbrev pub unless : Bool → SelectorFault → Option SelectorFault
@@ -63,13 +67,19 @@ abbrev pub field_fault : List ℕ → Value → Option SelectorFault → Option 
 field_fault name v as_selector =
     if is_field_path name then (if is_object v then as_selector else None) else Some fault.Argument
 
+-- a path to compare with, which the selector of a rule alone may hold; elsewhere there is no such operator
+abbrev pub same_fault : Bool → Value → Option SelectorFault
+same_fault true v = unless (is_path v) fault.Argument
+same_fault false v = Some fault.Operator
+
 -- a member, whose value has the fault `as_selector` where it is read as a selector, and `as_list` as a list of selectors
-abbrev pub member_fault : Option Operator → List ℕ → Value → Option SelectorFault → Option SelectorFault → Option SelectorFault
-member_fault (Some operator.Exists) name v as_selector as_list = unless (is_truth v) fault.Argument
-member_fault (Some (operator.Value o)) name v as_selector as_list = unless (takes o v) fault.Argument
-member_fault (Some (operator.Selector o)) name v as_selector as_list = as_selector
-member_fault (Some (operator.List o)) name v as_selector as_list = as_list
-member_fault None name v as_selector as_list = if is_reserved name then Some fault.Operator else field_fault name v as_selector
+abbrev pub member_fault : Bool → Option Operator → List ℕ → Value → Option SelectorFault → Option SelectorFault → Option SelectorFault
+member_fault in_rule (Some operator.Exists) name v as_selector as_list = unless (is_truth v) fault.Argument
+member_fault in_rule (Some (operator.Value o)) name v as_selector as_list = unless (takes o v) fault.Argument
+member_fault in_rule (Some operator.SameAs) name v as_selector as_list = same_fault in_rule v
+member_fault in_rule (Some (operator.Selector o)) name v as_selector as_list = as_selector
+member_fault in_rule (Some (operator.List o)) name v as_selector as_list = as_list
+member_fault in_rule None name v as_selector as_list = if is_reserved name then Some fault.Operator else field_fault name v as_selector
 
 -- a list has at least one selector, and the first fault among them
 abbrev pub filled_fault : Items → Option SelectorFault → Option SelectorFault
@@ -80,25 +90,45 @@ filled_fault (item v vs) among = among
 abbrev pub max_level : ℕ
 max_level = 32
 
--- a selector at a level, the outermost at 1; a list of selectors; the members of a selector object at that level
+-- a selector at a level, the outermost at 1; a list of selectors; the members of a selector object at that level; each in a
+-- rule or elsewhere
 abbrev mutual
-  pub selector_fault : Value → ℕ → Option SelectorFault
-  selector_fault (object ms) level = if nat_lt max_level level then Some fault.Depth else members_fault ms level
-  selector_fault v level = Some fault.Argument
+  pub selector_fault : Bool → Value → ℕ → Option SelectorFault
+  selector_fault in_rule (object ms) level = if nat_lt max_level level then Some fault.Depth else members_fault in_rule ms level
+  selector_fault in_rule v level = Some fault.Argument
 
-  pub list_fault : Value → ℕ → Option SelectorFault
-  list_fault (array vs) level = filled_fault vs (items_fault vs level)
-  list_fault v level = Some fault.Argument
+  pub list_fault : Bool → Value → ℕ → Option SelectorFault
+  list_fault in_rule (array vs) level = filled_fault vs (items_fault in_rule vs level)
+  list_fault in_rule v level = Some fault.Argument
 
-  pub members_fault : Members → ℕ → Option SelectorFault
-  members_fault no_members level = None
-  members_fault (member name v ms) level =
-      first (member_fault (operator_named name) name v (selector_fault v (level + 1)) (list_fault v (level + 1))) (members_fault ms level)
+  pub members_fault : Bool → Members → ℕ → Option SelectorFault
+  members_fault in_rule no_members level = None
+  members_fault in_rule (member name v ms) level =
+      first (member_fault in_rule (operator_named name) name v (selector_fault in_rule v (level + 1)) (list_fault in_rule v (level + 1)))
+      (members_fault in_rule ms level)
 
-  pub items_fault : Items → ℕ → Option SelectorFault
-  items_fault no_items level = None
-  items_fault (item v vs) level = first (selector_fault v level) (items_fault vs level)
+  pub items_fault : Bool → Items → ℕ → Option SelectorFault
+  items_fault in_rule no_items level = None
+  items_fault in_rule (item v vs) level = first (selector_fault in_rule v level) (items_fault in_rule vs level)
 
 -- the fault of a value that is no selector
 abbrev pub first_fault : Value → Option SelectorFault
-first_fault v = selector_fault v 1
+first_fault v = selector_fault false v 1
+
+-- the fault of a value that is no selector of a rule
+abbrev pub first_rule_fault : Value → Option SelectorFault
+first_rule_fault v = selector_fault true v 1
+
+-- ---- the value, where it has no fault
+
+abbrev pub selector_if : Option SelectorFault → Value → Option Value
+selector_if None v = Some v
+selector_if (Some fault) v = None
+
+-- the value, where it is a selector
+abbrev pub selector_in : Value → Option Value
+selector_in v = selector_if (first_fault v) v
+
+-- the value, where it is the selector of a rule
+abbrev pub rule_selector_in : Value → Option Value
+rule_selector_in v = selector_if (first_rule_fault v) v

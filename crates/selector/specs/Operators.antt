@@ -1,9 +1,10 @@
 -- The operators by name.
--- CouchDB manual, api/database/find, "Operators": combination operators and condition operators, as many as this server has.
+-- CouchDB manual, api/database/find, "Operators": combination operators and condition operators, as many as this server has;
+-- `$sameAs`, which rules alone may use, is ours.
 use Rattle.std.specs.Prelude.{ℕ, ◌==◌, List, [], ◌∷◌, Option, Some, None, codes, if◌then◌else◌}
 use Rattle.std.specs.Cmp.Lexicographic.{pointwise}
 use Rattle.selector.specs.declared.operator.Operator.{Operator}
-use Rattle.selector.specs.declared.operator.Operator.TheVariants.{Exists, Value, Selector, List as Several}
+use Rattle.selector.specs.declared.operator.Operator.TheVariants.{Exists, Value, SameAs, Selector, List as Several}
 use Rattle.selector.specs.declared.operator.ValueOperator.{ValueOperator}
 use Rattle.selector.specs.declared.operator.ValueOperator.TheVariants.{IsEqual, IsNotEqual, IsLess, IsAtMost, IsGreater, IsAtLeast, HasType, IsIn, IsNotIn, HasSize, HasRemainder, HasAll}
 use Rattle.selector.specs.declared.operator.SelectorOperator.{SelectorOperator}
@@ -38,6 +39,7 @@ list_operator_name NoneTrue = codes "$nor"
 abbrev pub operator_name : Operator → List ℕ
 operator_name Exists = codes "$exists"
 operator_name (Value o) = value_operator_name o
+operator_name SameAs = codes "$sameAs"
 operator_name (Selector o) = selector_operator_name o
 operator_name (Several o) = list_operator_name o
 
@@ -45,7 +47,7 @@ operator_name (Several o) = list_operator_name o
 abbrev pub operators : List Operator
 operators =
     Exists ∷ Value IsEqual ∷ Value IsNotEqual ∷ Value IsLess ∷ Value IsAtMost ∷ Value IsGreater ∷ Value IsAtLeast
-    ∷ Value HasType ∷ Value IsIn ∷ Value IsNotIn ∷ Value HasSize ∷ Value HasRemainder ∷ Value HasAll
+    ∷ Value HasType ∷ Value IsIn ∷ Value IsNotIn ∷ Value HasSize ∷ Value HasRemainder ∷ Value HasAll ∷ SameAs
     ∷ Selector IsFalse ∷ Selector SomeElement ∷ Selector EachElement ∷ Several AllTrue ∷ Several SomeTrue ∷ Several NoneTrue ∷ []
 
 abbrev pub operator_among : List Operator → List ℕ → Option Operator

@@ -1,6 +1,6 @@
 -- When a selector is true of a value, or of a missing one.
 -- CouchDB manual, api/database/find, "Selector Syntax", "Implicit Operators", "Combination Operators", "Condition Operators";
--- that a missing value makes each operator false but `$exists` and the logical ones, and the order of values, are ours.
+-- that a missing value makes each operator false but `$exists` and the logical ones, the order of values, and `$sameAs`, are ours.
 use Rattle.std.specs.Prelude.{ℕ, ℤ, suc, pos, int_rem, ◌==◌, ◌&&◌, ◌||◌, not, if◌then◌else◌, Bool, true, false, List, [], ◌∷◌, Option, Some, None, is_some, codes, option_and_then}
 use Rattle.std.specs.List.{list_any, list_all}
 use Rattle.std.specs.Cmp.Lexicographic.{pointwise}
@@ -102,33 +102,44 @@ list_operator_truth NoneTrue truths = not (list_any (λ b. b) truths)
 abbrev pub field_truth : Value → (Option Value → Bool) → Option Value → Bool
 field_truth v truth_at reached = if is_object v then truth_at reached else is_there_and (meets IsEqual v) reached
 
+-- what the path that a value is reaches from the root
+abbrev pub reached_from : Value → Value → Option Value
+reached_from root v = option_and_then (λ path. value_at path root) (text_in v)
+
+-- both are there and equal
+abbrev pub are_same : Option Value → Option Value → Bool
+are_same reached current = is_there_and (λ v. is_there_and (λ w. is_eq (collation v w)) reached) current
+
 -- A member, whose value has the truth `truth_at` of each value where it is read as a selector, and the truths `truths_at`
--- as a list of selectors. A name of no operator is a field path.
-abbrev pub member_truth : Option Operator → List ℕ → Value → (Option Value → Bool) → (Option Value → List Bool) → Option Value → Bool
-member_truth (Some operator.Exists) name v truth_at truths_at current = exists_as v current
-member_truth (Some (operator.Value o)) name v truth_at truths_at current = is_there_and (meets o v) current
-member_truth (Some (operator.Selector o)) name v truth_at truths_at current = selector_operator_truth o truth_at current
-member_truth (Some (operator.List o)) name v truth_at truths_at current = list_operator_truth o (truths_at current)
-member_truth None name v truth_at truths_at current = field_truth v truth_at (option_and_then (value_at name) current)
+-- as a list of selectors. A name of no operator is a field path. `root` is the
+-- whole value that the outermost selector is asked of.
+abbrev pub member_truth : Value → Option Operator → List ℕ → Value → (Option Value → Bool) → (Option Value → List Bool) → Option Value → Bool
+member_truth root (Some operator.Exists) name v truth_at truths_at current = exists_as v current
+member_truth root (Some (operator.Value o)) name v truth_at truths_at current = is_there_and (meets o v) current
+member_truth root (Some operator.SameAs) name v truth_at truths_at current = are_same (reached_from root v) current
+member_truth root (Some (operator.Selector o)) name v truth_at truths_at current = selector_operator_truth o truth_at current
+member_truth root (Some (operator.List o)) name v truth_at truths_at current = list_operator_truth o (truths_at current)
+member_truth root None name v truth_at truths_at current = field_truth v truth_at (option_and_then (value_at name) current)
 
 abbrev mutual
-  -- a selector on a value that may be missing: all its members are true
-  pub is_true : Value → Option Value → Bool
-  is_true (object ms) current = are_true ms current
-  is_true v current = false
+  -- a selector on a value that may be missing, under a root: all its members are true
+  pub is_true : Value → Value → Option Value → Bool
+  is_true root (object ms) current = are_true root ms current
+  is_true root v current = false
 
-  pub truths : Value → Option Value → List Bool
-  truths (array vs) current = item_truths vs current
-  truths v current = []
+  pub truths : Value → Value → Option Value → List Bool
+  truths root (array vs) current = item_truths root vs current
+  truths root v current = []
 
-  pub are_true : Members → Option Value → Bool
-  are_true no_members current = true
-  are_true (member name v ms) current = member_truth (operator_named name) name v (is_true v) (truths v) current && are_true ms current
+  pub are_true : Value → Members → Option Value → Bool
+  are_true root no_members current = true
+  are_true root (member name v ms) current =
+      member_truth root (operator_named name) name v (is_true root v) (truths root v) current && are_true root ms current
 
-  pub item_truths : Items → Option Value → List Bool
-  item_truths no_items current = []
-  item_truths (item v vs) current = is_true v current ∷ item_truths vs current
+  pub item_truths : Value → Items → Option Value → List Bool
+  item_truths root no_items current = []
+  item_truths root (item v vs) current = is_true root v current ∷ item_truths root vs current
 
--- this selector is true of this value: the word for whoever uses selectors
+-- this selector is true of this value, which is the root: the word for whoever uses selectors, those of rules too
 unfoldable pub selector_matches : Value → Value → Bool
-selector_matches selector v = is_true selector (Some v)
+selector_matches selector v = is_true v selector (Some v)

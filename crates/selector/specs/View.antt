@@ -1,7 +1,7 @@
 -- The value that a parsed selector stands for: the one that it was parsed from.
 -- This crate's own: it ties the types of the code to the value of couch_json.
 use Rattle.std.specs.Prelude.{ℕ, List, [], ◌∷◌, codes}
-use Rattle.couch_json.specs.Value.{Value, truth, array, Members, no_members, member}
+use Rattle.couch_json.specs.Value.{Value, truth, text, array, Members, no_members, member}
 use Rattle.couch_json.specs.View.{view, items_of}
 use Rattle.selector.specs.Operators.{value_operator_name, selector_operator_name, list_operator_name}
 use Rattle.selector.specs.declared.selector.Condition.{Condition}
@@ -13,6 +13,7 @@ name_of (condition.Field f s) = f.path
 name_of (condition.FieldIs f b) = f.path
 name_of (condition.Exists b) = codes "$exists"
 name_of (condition.Value o j) = value_operator_name o
+name_of (condition.SameAs path) = codes "$sameAs"
 name_of (condition.Selector o s) = selector_operator_name o
 name_of (condition.List o ss) = list_operator_name o
 
@@ -22,6 +23,7 @@ value_of (condition.Field f s) = s
 value_of (condition.FieldIs f b) = view b.json
 value_of (condition.Exists b) = truth b
 value_of (condition.Value o j) = view j
+value_of (condition.SameAs path) = text path
 value_of (condition.Selector o s) = s
 value_of (condition.List o ss) = array (items_of ss.items)
 

@@ -10,12 +10,15 @@
 
 mod elements;
 mod fault;
+pub mod laws;
 mod matching;
 mod meeting;
 mod operator;
 mod parsing;
+mod rule_selector;
 mod selector;
 mod takes;
 
 pub use fault::SelectorFault;
+pub use rule_selector::RuleSelector;
 pub use selector::Selector;

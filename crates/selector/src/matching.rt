@@ -4,23 +4,24 @@ ghost use Rattle.couch_json.specs.FieldPath.{value_at};
 ghost use Rattle.couch_json.specs.Parts.{is_object, is_there_and};
 ghost use Rattle.couch_json.specs.View.{view, items_of, items_view};
 ghost use Rattle.selector.specs.Operators.{operator_named};
-ghost use Rattle.selector.specs.Truth.{is_true, truths, item_truths, member_truth, some_item, each_item, each_of_some, meets};
+ghost use Rattle.selector.specs.Truth.{are_same, is_true, truths, item_truths, member_truth, some_item, each_item, each_of_some, meets};
 ghost use Rattle.selector.specs.View.{name_of, value_of};
 
 use crate::elements::elements;
 use crate::meeting::meets;
 use crate::operator::{ListOperator, SelectorOperator, ValueOperator};
 use crate::selector::{Condition, Field, Selector};
-use couch_json::{Json, at};
+use couch_json::{Json, at, collate};
 
-/// Tells whether the selector is true of the current value, which may be missing.
+/// Tells whether the selector is true of the current value, which may be missing. `root` is the value
+/// that the outermost selector is asked of.
 #[cycle(truth)]
-pub(crate) fn is_true(selector: &Selector, current: Option<&Json>) -> bool
-    ensures truth { result ≡ is_true selector.now (option_map (λ v. view v.now) current.entry) }
+pub(crate) fn is_true(selector: &Selector, current: Option<&Json>, root: &Json) -> bool
+    ensures truth { result ≡ is_true (view root.now) selector.now (option_map (λ v. view v.now) current.entry) }
     ensures object { is_object selector.now ≡ true }
 {
     for condition in &selector.conditions {
-        if !is_condition_true(condition, current) {
+        if !is_condition_true(condition, current, root) {
             return false;
         }
     }
@@ -28,13 +29,13 @@ pub(crate) fn is_true(selector: &Selector, current: Option<&Json>) -> bool
 }
 
 #[cycle(truth)]
-fn is_condition_true(condition: &Condition, current: Option<&Json>) -> bool
+fn is_condition_true(condition: &Condition, current: Option<&Json>, root: &Json) -> bool
     ensures { let v = value_of condition.now in result
-        ≡ member_truth (operator_named (name_of condition.now)) (name_of condition.now) v
-        (is_true v) (truths v) (option_map (λ v. view v.now) current.entry) }
+        ≡ member_truth (view root.now) (operator_named (name_of condition.now)) (name_of condition.now) v
+        (is_true (view root.now) v) (truths (view root.now) v) (option_map (λ v. view v.now) current.entry) }
 {
     match condition {
-        Condition::Field(field, selector) => is_true(selector, follow_path(field, current)),
+        Condition::Field(field, selector) => is_true(selector, follow_path(field, current), root),
         Condition::FieldIs(field, value) => is_met(
             ValueOperator::IsEqual,
             &value.json,
@@ -43,18 +44,25 @@ fn is_condition_true(condition: &Condition, current: Option<&Json>) -> bool
         Condition::Exists(true) => current.is_some(),
         Condition::Exists(false) => current.is_none(),
         Condition::Value(operator, argument) => is_met(*operator, argument, current),
-        Condition::Selector(SelectorOperator::IsFalse, selector) => !is_true(selector, current),
+        Condition::SameAs(path) => is_same(at(root, path), current),
+        Condition::Selector(SelectorOperator::IsFalse, selector) => !is_true(
+            selector, current, root,
+        ),
         Condition::Selector(SelectorOperator::SomeElement, selector) => match current {
-            Some(value) => is_true_of_some(selector, elements(value)),
+            Some(value) => is_true_of_some(selector, elements(value), root),
             None => false,
         },
         Condition::Selector(SelectorOperator::EachElement, selector) => match current {
-            Some(value) => is_true_of_each(selector, elements(value)),
+            Some(value) => is_true_of_each(selector, elements(value), root),
             None => false,
         },
-        Condition::List(ListOperator::AllTrue, selectors) => all_are_true(selectors, current),
-        Condition::List(ListOperator::SomeTrue, selectors) => some_is_true(selectors, current),
-        Condition::List(ListOperator::NoneTrue, selectors) => !some_is_true(selectors, current),
+        Condition::List(ListOperator::AllTrue, selectors) => all_are_true(selectors, current, root),
+        Condition::List(ListOperator::SomeTrue, selectors) => some_is_true(
+            selectors, current, root,
+        ),
+        Condition::List(ListOperator::NoneTrue, selectors) => !some_is_true(
+            selectors, current, root,
+        ),
     }
 }
 
@@ -76,12 +84,22 @@ fn is_met(operator: ValueOperator, argument: &Json, current: Option<&Json>) -> b
     }
 }
 
+/// Tells whether both values are there and equal.
+fn is_same(reached: Option<&Json>, current: Option<&Json>) -> bool
+    ensures { result ≡ are_same (option_map (λ v. view v.now) reached.entry) (option_map (λ v. view v.now) current.entry) }
+{
+    match (reached, current) {
+        (Some(reached), Some(current)) => collate(current, reached).is_eq(),
+        _ => false,
+    }
+}
+
 #[cycle(truth)]
-fn is_true_of_some(selector: &Selector, items: &[Json]) -> bool
-    ensures { result ≡ some_item (λ v. is_true selector.now (Some v)) (items_view items.now) }
+fn is_true_of_some(selector: &Selector, items: &[Json], root: &Json) -> bool
+    ensures { result ≡ some_item (λ v. is_true (view root.now) selector.now (Some v)) (items_view items.now) }
 {
     for item in items {
-        if is_true(selector, Some(item)) {
+        if is_true(selector, Some(item), root) {
             return true;
         }
     }
@@ -90,18 +108,18 @@ fn is_true_of_some(selector: &Selector, items: &[Json]) -> bool
 
 /// Tells whether there is an element, and the selector is true of each.
 #[cycle(truth)]
-fn is_true_of_each(selector: &Selector, items: &[Json]) -> bool
-    ensures { result ≡ each_of_some (λ v. is_true selector.now (Some v)) (items_view items.now) }
+fn is_true_of_each(selector: &Selector, items: &[Json], root: &Json) -> bool
+    ensures { result ≡ each_of_some (λ v. is_true (view root.now) selector.now (Some v)) (items_view items.now) }
 {
-    !items.is_empty() && is_true_of_all(selector, items)
+    !items.is_empty() && is_true_of_all(selector, items, root)
 }
 
 #[cycle(truth)]
-fn is_true_of_all(selector: &Selector, items: &[Json]) -> bool
-    ensures { result ≡ each_item (λ v. is_true selector.now (Some v)) (items_view items.now) }
+fn is_true_of_all(selector: &Selector, items: &[Json], root: &Json) -> bool
+    ensures { result ≡ each_item (λ v. is_true (view root.now) selector.now (Some v)) (items_view items.now) }
 {
     for item in items {
-        if !is_true(selector, Some(item)) {
+        if !is_true(selector, Some(item), root) {
             return false;
         }
     }
@@ -109,11 +127,11 @@ fn is_true_of_all(selector: &Selector, items: &[Json]) -> bool
 }
 
 #[cycle(truth)]
-fn all_are_true(selectors: &Vec<Selector>, current: Option<&Json>) -> bool
-    ensures { result ≡ list_all (λ b. b) (item_truths (items_of selectors.now.items) (option_map (λ v. view v.now) current.entry)) }
+fn all_are_true(selectors: &Vec<Selector>, current: Option<&Json>, root: &Json) -> bool
+    ensures { result ≡ list_all (λ b. b) (item_truths (view root.now) (items_of selectors.now.items) (option_map (λ v. view v.now) current.entry)) }
 {
     for selector in selectors {
-        if !is_true(selector, current) {
+        if !is_true(selector, current, root) {
             return false;
         }
     }
@@ -121,11 +139,11 @@ fn all_are_true(selectors: &Vec<Selector>, current: Option<&Json>) -> bool
 }
 
 #[cycle(truth)]
-fn some_is_true(selectors: &Vec<Selector>, current: Option<&Json>) -> bool
-    ensures { result ≡ list_any (λ b. b) (item_truths (items_of selectors.now.items) (option_map (λ v. view v.now) current.entry)) }
+fn some_is_true(selectors: &Vec<Selector>, current: Option<&Json>, root: &Json) -> bool
+    ensures { result ≡ list_any (λ b. b) (item_truths (view root.now) (items_of selectors.now.items) (option_map (λ v. view v.now) current.entry)) }
 {
     for selector in selectors {
-        if is_true(selector, current) {
+        if is_true(selector, current, root) {
             return true;
         }
     }

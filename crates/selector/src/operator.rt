@@ -8,6 +8,8 @@ pub(crate) enum Operator {
     Exists,
     /// A plain value.
     Value(ValueOperator),
+    /// `$sameAs`: a field path, in the selector of a rule alone.
+    SameAs,
     /// A selector.
     Selector(SelectorOperator),
     /// A list of selectors, not empty.
@@ -84,6 +86,7 @@ pub(crate) fn operator_named(name: &str) -> Option<Operator>
         "$size" => Operator::Value(ValueOperator::HasSize),
         "$mod" => Operator::Value(ValueOperator::HasRemainder),
         "$all" => Operator::Value(ValueOperator::HasAll),
+        "$sameAs" => Operator::SameAs,
         "$not" => Operator::Selector(SelectorOperator::IsFalse),
         "$elemMatch" => Operator::Selector(SelectorOperator::SomeElement),
         "$allMatch" => Operator::Selector(SelectorOperator::EachElement),

@@ -35,6 +35,8 @@ pub(crate) enum Condition {
     Exists(bool),
     /// An operator and its argument, of the shape that the operator takes.
     Value(ValueOperator, Json),
+    /// `$sameAs` and its path, in the selector of a rule alone.
+    SameAs(FieldPath),
     /// An operator and its selector.
     Selector(SelectorOperator, Selector),
     /// An operator and its selectors.
@@ -79,7 +81,7 @@ impl Selector {
         ensures fault { IfErr result (λ e. e ≢ SelectorFault.Memory
             → first_fault (view value.now) ≡ Some e) }
     {
-        parse_selector(alloc, value, 1)
+        parse_selector(alloc, value, false, 1)
     }
 
     /// Tests whether the selector is true of the value. It takes no memory.
@@ -87,7 +89,7 @@ impl Selector {
     pub fn matches(&self, value: &Json) -> bool
         ensures { result ≡ selector_matches self.now (view value.now) }
     {
-        is_true(self, Some(value))
+        is_true(self, Some(value), value)
     }
 }
 

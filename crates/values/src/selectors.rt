@@ -1,12 +1,30 @@
 //! `SELECTOR`: `selector`, or the fault by which it is none.
 //! `SELECTOR on VALUE`: `true` or `false`.
 //! `SELECTOR on each of [VALUE, ..]`: for each value, `T` or `-`.
+//! `rule SELECTOR ..`: the same of the selector of a rule.
 
 use crate::texts::{say, text_of, value_of};
 use couch_json::Json;
 use rows::RowsFault;
-use selector::{Selector, SelectorFault};
+use selector::{RuleSelector, Selector, SelectorFault};
 use std::alloc::Global;
+
+/// A selector, by what it is for.
+#[derive(Drop)]
+enum Parsed {
+    Query(Selector),
+    Rule(RuleSelector),
+}
+
+impl Parsed {
+    /// Tests whether the selector is true of the value.
+    fn matches(&self, value: &Json) -> bool {
+        match self {
+            Parsed::Query(selector) => selector.matches(value),
+            Parsed::Rule(selector) => selector.matches(value),
+        }
+    }
+}
 
 /// Answers what a selector is, or of what it is true.
 pub fn answer(alloc: Global, question: &[u8]) -> Result<Vec<u8>, RowsFault> {
@@ -22,10 +40,25 @@ pub fn answer(alloc: Global, question: &[u8]) -> Result<Vec<u8>, RowsFault> {
 }
 
 /// Returns the selector of a text.
-fn selector_of(alloc: Global, text: &str) -> Result<Selector, RowsFault> {
+fn selector_of(alloc: Global, text: &str) -> Result<Parsed, RowsFault> {
+    match text.strip_prefix("rule ") {
+        Some(text) => rule_of(alloc, text),
+        None => query_of(alloc, text),
+    }
+}
+
+fn query_of(alloc: Global, text: &str) -> Result<Parsed, RowsFault> {
     let value = value_of(alloc, text)?;
     match Selector::parse(alloc, &value) {
-        Ok(selector) => Ok(selector),
+        Ok(selector) => Ok(Parsed::Query(selector)),
+        Err(fault) => Err(refusal_of(fault)),
+    }
+}
+
+fn rule_of(alloc: Global, text: &str) -> Result<Parsed, RowsFault> {
+    let value = value_of(alloc, text)?;
+    match RuleSelector::parse(alloc, &value) {
+        Ok(selector) => Ok(Parsed::Rule(selector)),
         Err(fault) => Err(refusal_of(fault)),
     }
 }
@@ -58,7 +91,7 @@ fn refusal_of(fault: SelectorFault) -> RowsFault {
 }
 
 /// Marks of which values a selector is true.
-fn marks_of(alloc: Global, selector: &Selector, values: &[Json]) -> Result<Vec<u8>, RowsFault> {
+fn marks_of(alloc: Global, selector: &Parsed, values: &[Json]) -> Result<Vec<u8>, RowsFault> {
     let mut marks = Vec::new(alloc);
     for value in values {
         marks.push(if selector.matches(value) { b'T' } else { b'-' })?;

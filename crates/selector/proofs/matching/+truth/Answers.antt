@@ -1,5 +1,6 @@
 use Rattle.std.proofs.Common.{◌≡◌, ◌+◌, Some, max, sym, ap, ◌∙◌, arith}
 use Rattle.couch_json.specs.Value.{depth}
+use Rattle.couch_json.specs.View.{view}
 use Rattle.selector.specs.Truth.{is_true}
 use Rattle.selector.specs.declared.selector.Selector.TheDeep.{deep-Condition}
 use denote.Param.Weighed.{most}
@@ -10,7 +11,7 @@ pub is_true_of_each-returns-then-not-is_empty : goal.is_true_of_each-returns-the
 is_true_of_each-returns-then-not-is_empty t c =
     let items = c.args.items.now in
     let there = sym c.is_empty.ensures ∙ c.if-not-is_empty.true in
-    c.is_true_of_all.ensures ∙ each_of_there (λ v. is_true c.args.selector.now (Some v)) items there
+    c.is_true_of_all.ensures ∙ each_of_there (λ v. is_true (view c.args.root.now) c.args.selector.now (Some v)) items there
 
 pub is_condition_true-all_are_true-requires : goal.is_condition_true-all_are_true-requires
 is_condition_true-all_are_true-requires t c =

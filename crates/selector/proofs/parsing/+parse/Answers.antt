@@ -21,11 +21,11 @@ parse_members-loop-name-preserved t c =
     (λ i. member (name i) (value i) left) ∙ sym (ap members_view c.in-Some.ensures.steps) in
     let n = string_bytes c.in-Some.name.now in
     let v = view c.in-Some.value.now in
-    let lawful : member_fault (operator_named n) n v (selector_fault v (c.args.level + 1)) (list_fault v (c.args.level + 1)) ≡ None = search rules in
+    let lawful : member_fault c.args.in_rule (operator_named n) n v (selector_fault c.args.in_rule v (c.args.level + 1)) (list_fault c.args.in_rule v (c.args.level + 1)) ≡ None = search rules in
     record {
       members = ap (λ cs. members_then cs left) pushed ∙ members_then-push done new left ∙ ap (members_then done) taken ∙ l.invariant.members;
-      fault = l.invariant.fault ∙ ap (λ es. members_fault (members_view es) c.args.level) c.in-Some.ensures.steps
-          ∙ ap (λ f. first f (members_fault left c.args.level)) lawful;
+      fault = l.invariant.fault ∙ ap (λ es. members_fault c.args.in_rule (members_view es) c.args.level) c.in-Some.ensures.steps
+          ∙ ap (λ f. first f (members_fault c.args.in_rule left c.args.level)) lawful;
     }
 
 pub parse_members-returns-clause-members : goal.parse_members-returns-clause-members
@@ -40,5 +40,5 @@ parse_items-loop-item-init t c =
     let there : nat_eq (length items) 0 ≡ false = search rules in
     record {
       items = search rules;
-      fault = filled_fault-there items (items_fault (items_view items) c.args.level) there;
+      fault = filled_fault-there items (items_fault c.args.in_rule (items_view items) c.args.level) there;
     }

@@ -7,11 +7,11 @@ use Rattle.selector.proofs.parsing.+parse.Given as goal
 abbrev pub invariant-parse_members-loop-name : goal.invariant-parse_members-loop-name
 invariant-parse_members-loop-name l = record {
   members : members_then l.conditions.items (members_view l.name-iterator) ≡ members_view l.members.entries;
-  fault : members_fault (members_view l.members.entries) l.level ≡ members_fault (members_view l.name-iterator) l.level;
+  fault : members_fault l.in_rule (members_view l.members.entries) l.level ≡ members_fault l.in_rule (members_view l.name-iterator) l.level;
 }
 
 abbrev pub invariant-parse_items-loop-item : goal.invariant-parse_items-loop-item
 invariant-parse_items-loop-item l = record {
   items : l.selectors.items ≡ map view (take l.item-index l.item-items);
-  fault : filled_fault (items_view l.item-items) (items_fault (items_view l.item-items) l.level) ≡ items_fault (items_view (drop l.item-index l.item-items)) l.level;
+  fault : filled_fault (items_view l.item-items) (items_fault l.in_rule (items_view l.item-items) l.level) ≡ items_fault l.in_rule (items_view (drop l.item-index l.item-items)) l.level;
 }
