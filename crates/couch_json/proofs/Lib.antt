@@ -9,3 +9,6 @@ pub mod TreeDepths
 pub mod Orders
 pub mod Signs
 pub mod Paths
+pub mod KeyOrder
+pub mod KeyCuts
+pub mod KeyReading

@@ -41,15 +41,15 @@ ascending (e ∷ es) h = (is_before e.0 es h.0, ascending es h.1)
 -- ---- members put one after another
 
 -- the second after the first
-abbrev joined : Members → Members → Members
+abbrev pub joined : Members → Members → Members
 joined no_members rest = rest
 joined (member name v ms) rest = member name v (joined ms rest)
 
-joined_assoc : (a b c : Members) → joined (joined a b) c ≡ joined a (joined b c)
+pub joined_assoc : (a b c : Members) → joined (joined a b) c ≡ joined a (joined b c)
 joined_assoc no_members b c = refl
 joined_assoc (member name v ms) b c = ap (member name v) (joined_assoc ms b c)
 
-joined-no_members : (a : Members) → joined a no_members ≡ a
+pub joined-no_members : (a : Members) → joined a no_members ≡ a
 joined-no_members no_members = refl
 joined-no_members (member name v ms) = ap (member name v) (joined-no_members ms)
 
@@ -61,7 +61,7 @@ first_before k no_members name v rest h = h.0
 first_before k (member l w ms) name v rest h = first_before k ms name v rest h.1
 
 -- a name above all others goes last
-put_last : (done : Members) (name : List ℕ) (v : Value) (rest : Members) → HasAscendingNames (joined done (member name v rest)) → put name v done ≡ joined done (member name v no_members)
+pub put_last : (done : Members) (name : List ℕ) (v : Value) (rest : Members) → HasAscendingNames (joined done (member name v rest)) → put name v done ≡ joined done (member name v no_members)
 put_last no_members name v rest h = refl
 put_last (member l w ms) name v rest h = rw (above l name (first_before l ms name v rest h.0)) (ap (member l w) (put_last ms name v rest h.1))
 

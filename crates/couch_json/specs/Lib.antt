@@ -9,4 +9,7 @@ pub mod Nesting
 pub mod Reading
 pub mod Written
 pub mod FieldPath
+pub mod Key
+pub mod KeyCuts
+pub mod KeyFront
 pub mod Code

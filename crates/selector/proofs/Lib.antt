@@ -1,3 +1,6 @@
 pub mod Lists
 pub mod Joined
 pub mod Faultless
+pub mod Edges
+pub mod Hulls
+pub mod OneMember

@@ -3,3 +3,4 @@ pub mod Grammar
 pub mod Truth
 pub mod View
 pub mod Falls
+pub mod Bounds

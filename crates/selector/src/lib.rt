@@ -9,6 +9,7 @@
 //! ```
 #![tactic(auto)]
 
+mod bounds;
 mod elements;
 mod fault;
 pub mod laws;
@@ -20,6 +21,7 @@ mod rule_selector;
 mod selector;
 mod takes;
 
+pub use bounds::{Bounds, Edge};
 pub use fault::SelectorFault;
 pub use rule_selector::RuleSelector;
 pub use selector::Selector;

@@ -3,6 +3,7 @@ ghost use Rattle.couch_json.specs.Parts.{is_object};
 ghost use Rattle.couch_json.specs.View.{view};
 ghost use Rattle.selector.specs.Operators.{operator_named};
 
+use crate::bounds::{Bounds, bounds_in};
 use crate::fault::SelectorFault;
 use crate::matching::is_true;
 use crate::operator::{ListOperator, SelectorOperator, ValueOperator};
@@ -63,7 +64,10 @@ impl Model for Selector {
 }
 
 impl Selector {
-    ghost use Rattle.std.specs.Prelude.{◌≢◌, IfOk, IfErr, Some};
+    ghost use Rattle.std.specs.Prelude.{◌≢◌, IfOk, IfErr, Some, true};
+    ghost use Rattle.couch_json.specs.FieldPath.{value_at};
+    ghost use Rattle.couch_json.specs.Value.{Value as JsonValue, object, member, no_members};
+    ghost use Rattle.selector.specs.Bounds.{AreJust, contain};
     ghost use Rattle.selector.specs.Grammar.{first_fault};
     ghost use Rattle.selector.specs.Truth.{selector_matches};
 
@@ -90,6 +94,21 @@ impl Selector {
         ensures { result ≡ selector_matches self.now (view value.now) }
     {
         is_true(self, Some(value), value)
+    }
+
+    /// Returns between which values a field lies in every value that the selector matches. It
+    /// takes no memory.
+    ///
+    /// If the selector is one member, the path with a bare value, the range goes from that value
+    /// to itself.
+    #[tactic(auto, unfolding(crate::specs::Truth::selector_matches))]
+    pub fn bounds<'a>(&'a self, path: &FieldPath) -> Bounds<'a>
+        ensures inside { (v : JsonValue) → selector_matches self.now v ≡ true
+            → contain result (value_at path.now v) ≡ true }
+        ensures one { (b : JsonValue) → operator_named path.now ≡ None → is_object b ≡ false
+            → self.now ≡ object (member path.now b no_members) → AreJust b result }
+    {
+        bounds_in(self, Some(path))
     }
 }
 

@@ -7,6 +7,7 @@ mod collation;
 mod histories;
 mod ids;
 mod json;
+mod keys;
 mod numbers;
 mod paths;
 mod pieces;

@@ -1,6 +1,6 @@
 //! Kinds of rows that keep nothing from one question to the next.
 
-use crate::{ids, json, numbers, paths, received, replies, selectors, sent, streams, tokens};
+use crate::{ids, json, keys, numbers, paths, received, replies, selectors, sent, streams, tokens};
 use rows::{Joint, Kind, RowsFault};
 use std::alloc::Global;
 
@@ -16,6 +16,7 @@ pub struct PlainRows {
 enum Plain {
     Ids,
     Json,
+    Keys,
     Numbers,
     Paths,
     Received,
@@ -32,6 +33,7 @@ impl PlainRows {
         let kind = match ending {
             "ids" => Plain::Ids,
             "json" => Plain::Json,
+            "keys" => Plain::Keys,
             "numbers" => Plain::Numbers,
             "paths" => Plain::Paths,
             "received" => Plain::Received,
@@ -58,6 +60,7 @@ impl Kind for PlainRows {
         match self.kind {
             Plain::Ids => ids::answer(self.alloc, question),
             Plain::Json => json::answer(self.alloc, question),
+            Plain::Keys => keys::answer(self.alloc, question),
             Plain::Numbers => numbers::answer(self.alloc, question),
             Plain::Paths => paths::answer(self.alloc, question),
             Plain::Received => received::answer(self.alloc, question),

@@ -1,0 +1,99 @@
+ghost use Rattle.std.specs.Prelude.{◌≡◌, ◌++◌, IfOk, OnOk};
+ghost use Rattle.couch_json.specs.Key.{height, items_key, key, members_key, text_key};
+ghost use Rattle.couch_json.specs.Lawful.{IsLawful};
+ghost use Rattle.couch_json.specs.View.{view, items_view, members_view};
+
+use crate::no_memory::Got;
+use crate::number::Number;
+use crate::value::Json;
+use crate::walking::walk_value;
+use std::alloc::Global;
+use std::collections::BTreeMap;
+
+/// Writes the key of a value: bytes that an index may hold in its place.
+///
+/// Keys are in order of their bytes as their values are by [`collate`](crate::collate). Values
+/// of one key are equal, and no key begins another.
+pub fn key_bytes(alloc: Global, value: &Json) -> Got<Vec<u8>>
+    ensures key { IfOk result (λ bytes. bytes.items ≡ key (view value.now)) }
+    ensures lawful { IsLawful (view value.now) }
+{
+    walk_value(value);
+    let mut out = Vec::new(alloc);
+    put_value(&mut out, value)?;
+    Ok(out)
+}
+
+#[cycle(key)]
+fn put_value(out: &mut Vec<u8>, value: &Json) -> Got<()>
+    ensures { OnOk result (out.new.items ≡ out.old.items ++ key (view value.now)) }
+{
+    match value {
+        Json::Null => out.push(1)?,
+        Json::Truth(false) => out.push(2)?,
+        Json::Truth(true) => out.push(3)?,
+        Json::Whole(number) => {
+            out.push(4)?;
+            out.extend_from_slice(&height_of(*number).to_be_bytes())?;
+        }
+        Json::Text(text) => {
+            out.push(5)?;
+            put_text(out, text.as_bytes())?;
+        }
+        Json::Array(items) => {
+            out.push(6)?;
+            put_items(out, items)?;
+        }
+        Json::Object(members) => {
+            out.push(7)?;
+            put_members(out, members)?;
+        }
+    }
+    Ok(())
+}
+
+/// Tells how far the number lies above the least one.
+fn height_of(number: Number) -> u64
+    ensures { result ≡ height number.value }
+{
+    (number.value() + (1 << 63)) as u64
+}
+
+fn put_text(out: &mut Vec<u8>, bytes: &[u8]) -> Got<()>
+    ensures { OnOk result (out.new.items ≡ out.old.items ++ text_key bytes.now) }
+{
+    for byte in bytes {
+        out.push(*byte)?;
+        if *byte == 0 {
+            out.push(255)?;
+        }
+    }
+    out.push(0)?;
+    out.push(0)?;
+    Ok(())
+}
+
+#[cycle(key)]
+fn put_items(out: &mut Vec<u8>, items: &Vec<Json>) -> Got<()>
+    ensures { OnOk result (out.new.items ≡ out.old.items ++ items_key (items_view items.now.items)) }
+{
+    for item in items {
+        put_value(out, item)?;
+    }
+    out.push(0)?;
+    Ok(())
+}
+
+#[cycle(key)]
+fn put_members(out: &mut Vec<u8>, members: &BTreeMap<String, Json>) -> Got<()>
+    ensures { OnOk result (out.new.items
+        ≡ out.old.items ++ members_key (members_view members.now.entries)) }
+{
+    for (name, member) in members.iter() {
+        out.push(5)?;
+        put_text(out, name.as_bytes())?;
+        put_value(out, member)?;
+    }
+    out.push(0)?;
+    Ok(())
+}

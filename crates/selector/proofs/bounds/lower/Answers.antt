@@ -1,0 +1,13 @@
+use Rattle.std.proofs.Common.{sym, ◌∙◌}
+use Rattle.selector.proofs.Edges.{below_from, below_to, and_first, and_second}
+use Rattle.selector.proofs.bounds.lower.Goals as goal
+
+pub returns-then-is_no_lower : goal.returns-then-is_no_lower
+returns-then-is_no_lower c =
+    let edges = c.in-Some-Some in
+    λ v. and_second _ _ (below_from c.args.first c.args.second edges.edge edges.other v edges.is-0 edges.is-1 (sym c.is_no_lower.ensures ∙ c.if-is_no_lower.true))
+
+pub returns-else-is_no_lower : goal.returns-else-is_no_lower
+returns-else-is_no_lower c =
+    let edges = c.in-Some-Some in
+    λ v. and_first _ _ (below_to c.args.first c.args.second edges.edge edges.other v edges.is-0 edges.is-1 (sym c.is_no_lower.ensures ∙ c.if-is_no_lower.false))
