@@ -5,10 +5,12 @@ pub mod Fitting
 pub mod Acceptances
 pub mod Outcomes
 pub mod Unruled
+pub mod WinnerLeaves
 pub mod Names
 pub mod Paths
 pub mod BulkLemmas
 pub mod Judgings
 pub mod Plannings
+pub mod FollowedRules
 pub mod Settlings
 pub mod DesignRows

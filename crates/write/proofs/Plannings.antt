@@ -75,6 +75,31 @@ one_plan (Some d) id h document became terms own w label planned same read e nam
       results = results h ∙ ap (λ (t : Told). t ∷ []) (sym (told_is document o _ _ _ _ is_id is_rev (ap outcome_told told) refl));
     }
 
+-- the same where the outcome is told of the document in the database
+pub made_there : (there : Option Database) (id : List ℕ) (became : Terms → HistoryContent → DocumentOutcome) (terms : Terms) (own : Database → Terms) (w : Option Write) (planned : Planned)
+    → IfThere there (λ d. terms ≡ own d)
+    → IfThere there (λ d. became terms (history_at d id) ≡ Ok (option_map (λ x. written_in (history_at d id) (addition_of x)) w))
+    → ((g : HistoryContent) (v : DocumentWrite) → became terms g ≡ Ok (Some v) → v.id ≡ id)
+    → ((d : Database) → planned_writes d planned.changes ≡ put_before (Ok (option_map (λ x. written_at d (addition_of x)) w)) [])
+    → IfThere there (λ d. writes_alone (became (own d) (history_at d id)) ≡ Ok (planned_writes d planned.changes))
+made_there None id became terms own w planned same e named writes = tt
+made_there (Some d) id became terms own w planned same e named writes = one_made (Some d) id (history_at d id) became terms own w planned same refl e named writes
+
+pub plan_there : (there : Option Database) (id : List ℕ) (document : Value) (became : Terms → HistoryContent → DocumentOutcome) (terms : Terms) (own : Database → Terms) (w : Option Write) (label : Label) (planned : Planned)
+    → IfThere there (λ d. terms ≡ own d)
+    → IfThere there (λ d. became terms (history_at d id) ≡ Ok (option_map (λ x. written_in (history_at d id) (addition_of x)) w))
+    → ((g : HistoryContent) (v : DocumentWrite) → became terms g ≡ Ok (Some v) → v.id ≡ id)
+    → ((d : Database) → there ≡ Some d → AreAcceptable d (writes_in (became (own d) (history_at d id) ∷ [])))
+    → ((d : Database) → planned_writes d planned.changes ≡ put_before (Ok (option_map (λ x. written_at d (addition_of x)) w)) [])
+    → ((d : Database) → database_after planned.changes d ≡ with_all d (planned_writes d planned.changes))
+    → ((d : Database) → AreAcceptable d (planned_writes d planned.changes) → MayBeMade planned.changes d)
+    → ((g : HistoryContent) → map told_of planned.results.items ≡ told_as label (Ok (option_map (λ x. written_in g (addition_of x)) w)) ∷ [])
+    → option_map string_bytes label.id ≡ member_text (codes "_id") document → option_map string_bytes label.rev ≡ member_text (codes "_rev") document
+    → IfThere there (λ d. Plans d (document ∷ []) (became (own d) (history_at d id) ∷ []) planned)
+plan_there None id document became terms own w label planned same e named may writes changes allowed results is_id is_rev = tt
+plan_there (Some d) id document became terms own w label planned same e named may writes changes allowed results is_id is_rev =
+    one_plan (Some d) id (history_at d id) document became terms own w label planned same refl e named may writes changes allowed results is_id is_rev
+
 -- a fault of its own is none of memory
 pub own_refusal : (fault : WriteFault) (fact : Type 0) → (fault ≢ Memory → fact) → IsOwn fault → fact
 own_refusal Memory fact h mine = absurd mine

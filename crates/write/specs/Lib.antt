@@ -11,3 +11,4 @@ pub mod BulkResults
 pub mod Planning
 pub mod Settling
 pub mod IndexWrites
+pub mod Following

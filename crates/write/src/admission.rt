@@ -1,10 +1,10 @@
 //! What becomes of an edit of a document with a history.
 
-ghost use Rattle.std.specs.Prelude.{◌≡◌, ◌≢◌, ◌<◌, IfOk, IfErr, Ok, Err, length};
+ghost use Rattle.std.specs.Prelude.{◌≡◌, ◌≢◌, ◌<◌, ◌∷◌, [], IfOk, IfErr, None, Some, Ok, Err, length};
 ghost use Rattle.couch_json.specs.View.{view};
-ghost use Rattle.tree.specs.History.{winner};
+ghost use Rattle.tree.specs.History.{HistoryContent, winner};
 ghost use Rattle.store.specs.Writing.{addition_of, written_in};
-ghost use Rattle.write.specs.Admission.{base, edit_of, edit_outcome, extended_leaf, is_known_if_any, named_revision, next_edit, revision_after};
+ghost use Rattle.write.specs.Admission.{appended_edit, base, design_refusal, edit_after, edit_of, edit_outcome, extended_leaf, is_known_if_any, named_revision, next_edit, revision_after, rule_refusal, unless_denied};
 ghost use Rattle.write.specs.TermsRead.{terms_of};
 
 use crate::denial::{find_design_refusal, find_rule_refusal};
@@ -14,7 +14,7 @@ use crate::terms::Terms;
 use couch_json::{Got, Json, NoMemory};
 use std::alloc::Global;
 use store::Write;
-use tree::{DocId, History, Rev, RevFault, next_rev};
+use tree::{Body, DocId, History, Rev, RevFault, next_rev};
 
 /// Judges an edit of a document with this history: its write, or why it is refused.
 pub(crate) fn admit_edit(
@@ -30,12 +30,45 @@ pub(crate) fn admit_edit(
     ensures fault { IfErr result (λ fault. fault ≢ WriteFault.Memory → edit_outcome (terms_of terms.now) id.now history.now query (view document) ≡ Err fault) }
     ensures others { IfErr result (λ fault. (fault ≢ WriteFault.BadHistory) × ((cause : _) → fault ≢ WriteFault.Store cause)) }
 {
+    let sent = read_allowed(alloc, terms, id, query, document)?;
+    admit_sent(alloc, terms, history, id, sent)
+}
+
+/// Reads what an edit says, where it is a good document that the caller may write at all.
+pub(crate) fn read_allowed(
+    alloc: Global,
+    terms: &Terms,
+    id: &DocId,
+    query: Option<Rev>,
+    document: Json,
+) -> Result<Sent, WriteFault>
+    ensures ok { IfOk result (λ sent. edit_of id.now query (view document) ≡ Some sent) }
+    ensures allowed { IfOk result (λ sent. design_refusal (terms_of terms.now) id.now ≡ None) }
+    ensures fault { IfErr result (λ fault. fault ≢ WriteFault.Memory → (h : HistoryContent) → edit_outcome (terms_of terms.now) id.now h query (view document) ≡ Err fault) }
+    ensures others { IfErr result (λ fault. (fault ≢ WriteFault.BadHistory) × ((cause : _) → fault ≢ WriteFault.Store cause)) }
+{
     let Some(sent) = read_edit(alloc, id, query, document)? else {
         return Err(WriteFault::BadDocument);
     };
     if let Some(rule) = find_design_refusal(terms, id) {
         return Err(WriteFault::Denied(rule));
     }
+    Ok(sent)
+}
+
+/// Judges what an edit says of a document with this history.
+pub(crate) fn admit_sent(
+    alloc: Global,
+    terms: &Terms,
+    history: &History,
+    id: &DocId,
+    sent: Sent,
+) -> Result<Write, WriteFault>
+    ensures ok { IfOk result (λ write. edit_after (terms_of terms.now) id.now history.now sent (base history.now sent.rev) ≡ Ok (written_in history.now (addition_of write))) }
+    ensures headed { IfOk result (λ write. 0 < length write.path.items) }
+    ensures fault { IfErr result (λ fault. fault ≢ WriteFault.Memory → edit_after (terms_of terms.now) id.now history.now sent (base history.now sent.rev) ≡ Err fault) }
+    ensures others { IfErr result (λ fault. (fault ≢ WriteFault.BadHistory) × ((cause : _) → fault ≢ WriteFault.Store cause)) }
+{
     let Some(parent) = find_base(history, sent.rev) else {
         return Err(WriteFault::Conflict);
     };
@@ -117,25 +150,60 @@ fn write_next(
     if knows(history, next) {
         return Err(WriteFault::Conflict);
     }
-    if let Some(rule) = find_rule_refusal(alloc, terms, history, id, &sent, parent)? {
+    let rev = allow_revision(alloc, terms, history, id, &sent, parent, next)?;
+    Ok(make_write(alloc, id, rev, parent, sent.deleted, sent.body)?)
+}
+
+/// Returns the revision that an edit makes after another one, where there is one and no update rule
+/// refuses it. Of the history it looks at what is held of the other revision.
+pub(crate) fn allow_revision(
+    alloc: Global,
+    terms: &Terms,
+    history: &History,
+    id: &DocId,
+    sent: &Sent,
+    parent: Option<Rev>,
+    next: Option<Rev>,
+) -> Result<Rev, WriteFault>
+    ensures ok { IfOk result (λ rev. next ≡ Some rev) }
+    ensures unruled { IfOk result (λ rev. rule_refusal (terms_of terms.now) id.now history.now sent.now parent ≡ None) }
+    ensures fault { IfErr result (λ fault. fault ≢ WriteFault.Memory → (h : HistoryContent) → rule_refusal (terms_of terms.now) id.now h sent.now parent ≡ rule_refusal (terms_of terms.now) id.now history.now sent.now parent
+        → unless_denied (rule_refusal (terms_of terms.now) id.now h sent.now parent) (appended_edit id.now h sent.now parent next) ≡ Err fault) }
+    ensures others { IfErr result (λ fault. (fault ≢ WriteFault.BadHistory) × ((cause : _) → fault ≢ WriteFault.Store cause)) }
+{
+    if let Some(rule) = find_rule_refusal(alloc, terms, history, id, sent, parent)? {
         return Err(WriteFault::Denied(rule));
     }
-    let Some(rev) = next else {
-        return Err(WriteFault::Generation);
-    };
+    match next {
+        Some(rev) => Ok(rev),
+        None => Err(WriteFault::Generation),
+    }
+}
+
+/// Makes the write of one revision after another one.
+pub(crate) fn make_write(
+    alloc: Global,
+    id: &DocId,
+    rev: Rev,
+    parent: Option<Rev>,
+    deleted: bool,
+    body: Body,
+) -> Got<Write>
+    ensures { IfOk result (λ write. addition_of write ≡ record { id = id.now; path = rev ∷ []; parent = parent; deleted = deleted; body = body }) }
+{
     let mut path = Vec::with_capacity(alloc, 1)?;
     path.push(rev)?;
     Ok(Write {
         id: id.copy(alloc)?,
         path,
         parent,
-        deleted: sent.deleted,
-        body: sent.body.into_json(),
+        deleted,
+        body: body.into_json(),
     })
 }
 
 /// Makes the next revision after this one, or a first one; `None` after the greatest number.
-fn make_revision(alloc: Global, sent: &Sent, parent: Option<Rev>) -> Got<Option<Rev>>
+pub(crate) fn make_revision(alloc: Global, sent: &Sent, parent: Option<Rev>) -> Got<Option<Rev>>
     ensures { IfOk result (λ next. next ≡ revision_after sent.now parent) }
 {
     match next_rev(alloc, parent.as_ref(), sent.deleted, sent.body.json()) {

@@ -11,8 +11,8 @@ ghost use Rattle.write.specs.Planning.{Plans, planned_writes};
 ghost use Rattle.write.specs.Refusing.{IsDecided, IsOwn, Refuses};
 ghost use Rattle.write.specs.Terms.{terms_in};
 
-use crate::admission::admit_edit;
 use crate::fault::WriteFault;
+use crate::following::judge_edit;
 use crate::planned::Planned;
 use crate::planning::{plan_alone, read_label};
 use crate::terms::read_terms;
@@ -60,8 +60,7 @@ pub fn edit<S: Store>(
     ensures reads { OnlyReads S.Store store.old store.new }
 {
     let terms = read_terms(alloc, store, db, caller)?;
-    let history = store.history(db, id)?;
     let label = read_label(alloc, &document)?;
-    let write = admit_edit(alloc, &terms, &history, id, query, document)?;
+    let write = judge_edit(alloc, store, db, &terms, id, query, document)?;
     Ok(plan_alone(alloc, db, label, Some(write))?)
 }

@@ -19,6 +19,7 @@ mod denial;
 mod document;
 mod editing;
 mod fault;
+mod following;
 mod histories;
 mod index_writes;
 pub mod laws;

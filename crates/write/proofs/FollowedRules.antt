@@ -1,0 +1,66 @@
+-- What is held of the revision that an edit follows is all that update rules look at of a history.
+use Rattle.std.proofs.Common.{◌≡◌, ◌≢◌, Bool, true, false, cond, List, [], ◌∷◌, ℕ, Option, Some, None, Result, Ok, Err, IfErr, refl, sym, ap, subst, ◌∙◌}
+use Rattle.std.specs.Prelude.{is_some, option_and_then, option_map}
+use Rattle.std.specs.FinMap as finite
+use Rattle.std.specs.Ordering.{eq_by_cmp}
+use Rattle.tree.proofs.Contents.{get-with_new, or}
+use Rattle.tree.proofs.Revisions.{tied}
+use Rattle.tree.specs.History.{HistoryContent, held_of, with_new}
+use Rattle.tree.specs.Revision.{Revision, revision_cmp}
+use Rattle.tree.specs.declared.entry.Entry.{Entry}
+use Rattle.tree.specs.declared.entry.Held.{Held}
+use Rattle.policy.specs.Argument.{OldDocument, argument}
+use Rattle.policy.specs.UpdateRules.{update_verdict}
+use Rattle.store.specs.Contents.{IfThere}
+use Rattle.store.specs.Database.{Database}
+use Rattle.tree.specs.DocumentId.{is_design_id}
+use Rattle.store.specs.Database.{DocumentWrite}
+use Rattle.store.specs.Writing.{Addition, written_in}
+use Rattle.write.proofs.Plannings.{own_refusal}
+use Rattle.write.specs.Admission.{appended_edit, document_of, edit_with_revision, held_document, is_known_if_any, next_edit, revision_after, rule_refusal, unless_denied}
+use Rattle.write.specs.Refusing.{IsOwn}
+use Rattle.write.specs.Terms.{Terms}
+use Rattle.write.specs.declared.document.Sent.{Sent}
+use Rattle.write.specs.declared.fault.WriteFault.{WriteFault}
+use Rattle.write.specs.declared.fault.WriteFault.TheVariants.{Conflict, Memory}
+
+module _ (terms : Terms) (id : List ℕ) where
+  -- where nothing else is held of it
+  pub same_rule : (h k : HistoryContent) (rev : Option Revision) → held_document id h rev ≡ held_document id k rev → (sent : Sent) → rule_refusal terms id h sent rev ≡ rule_refusal terms id k sent rev
+  same_rule h k rev is sent = ap (λ (o : Option OldDocument). cond (is_design_id id) None (update_verdict terms.rules (argument (document_of id sent) o terms.caller terms.name terms.security))) is
+
+  held_by : (h : HistoryContent) (r : Revision) (d : Option Held) → held_of h r ≡ d → held_document id h (Some r) ≡ option_map (λ (x : Held). record { id = id; rev = r; deleted = x.deleted; body = x.body }) d
+  held_by h r d is = ap (option_map (λ (x : Held). record { id = id; rev = r; deleted = x.deleted; body = x.body })) is
+
+  -- a revision alone, with what is held of it
+  pub followed_rule : (h : HistoryContent) (r : Revision) (known : Option Entry) (d : Option Held) → finite.get h r ≡ known → d ≡ option_and_then (λ (e : Entry). e.held) known
+      → (sent : Sent) → rule_refusal terms id h sent (Some r) ≡ rule_refusal terms id (with_new finite.empty r (record { parent = None; held = d })) sent (Some r)
+  followed_rule h r known d is held = same_rule h (with_new finite.empty r (record { parent = None; held = d })) (Some r) (held_by h r d (ap (option_and_then (λ (e : Entry). e.held)) is ∙ sym held) ∙ sym (held_by (with_new finite.empty r (record { parent = None; held = d })) r d own))
+    where
+      own : held_of (with_new finite.empty r (record { parent = None; held = d })) r ≡ d
+      own =
+          ap (option_and_then (λ (e : Entry). e.held)) (get-with_new finite.empty r (record { parent = None; held = d }) r)
+          ∙ ap (λ (o : Option Entry). option_and_then (λ (e : Entry). e.held) (or o (cond (eq_by_cmp revision_cmp r r) (Some (record { parent = None; held = d })) None))) (finite.get-empty revision_cmp r)
+          ∙ ap (λ b. option_and_then (λ (e : Entry). e.held) (cond b (Some (record { parent = None; held = d })) None)) (tied r r refl)
+
+-- a fact about each database holds of the one that is there
+pub there_is : {fact : Database → Type 0} (there : Option Database) → ((d : Database) → there ≡ Some d → fact d) → IfThere there fact
+there_is None f = tt
+there_is (Some d) f = f d refl
+
+-- the edit that was made of one new revision, which no rule refuses
+pub edit_made : (terms : Terms) (id : List ℕ) (h : HistoryContent) (sent : Sent) (parent next : Option Revision) (rev : Revision) (a : Addition) → next ≡ revision_after sent parent → is_known_if_any h next ≡ false
+    → rule_refusal terms id h sent parent ≡ None → next ≡ Some rev → a ≡ record { id = id; path = rev ∷ []; parent = parent; deleted = sent.deleted; body = sent.body } → next_edit terms id h sent parent ≡ Ok (written_in h a)
+edit_made terms id h sent parent next rev a is new unruled some made =
+    ap (edit_with_revision terms id h sent parent) (sym is)
+    ∙ ap (λ b. cond b (Err Conflict) (unless_denied (rule_refusal terms id h sent parent) (appended_edit id h sent parent next))) new
+    ∙ ap (λ o. unless_denied o (appended_edit id h sent parent next)) unruled
+    ∙ ap (appended_edit id h sent parent) some
+    ∙ ap (λ x. Ok (written_in h x)) (sym made)
+
+-- why the edit is refused is why it is refused in each database
+pub refused_there : {A : Type 0} (r : Result A WriteFault) (fault : WriteFault) (there : Option Database) (outcome : Database → Result DocumentWrite WriteFault) → r ≡ Err fault → (fault ≢ Memory → (d : Database) → outcome d ≡ Err fault)
+    → IfErr r (λ e. IsOwn e → IfThere there (λ d. outcome d ≡ Err e))
+refused_there {A} r fault there outcome is why =
+    subst (λ (x : Result A WriteFault). IfErr x (λ e. IsOwn e → IfThere there (λ d. outcome d ≡ Err e))) (sym is)
+    (λ own. own_refusal fault (IfThere there (λ d. outcome d ≡ Err fault)) (λ other. there_is there (λ d known. why other d)) own)
