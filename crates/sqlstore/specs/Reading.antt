@@ -9,10 +9,8 @@ use Rattle.sqlite_value.specs.Order.{Row, bytes, column}
 use Rattle.tables.specs.Rows.{count_in, is_named, json_in, length_of, number_of, security_of, whole_in}
 use Rattle.sqlite_trees.specs.Tree.{Trees}
 use Rattle.tables.specs.Schema.{dbs_tree}
-use Rattle.tables.specs.Listings.{listed_mark, listed_winner}
 use Rattle.transactions.specs.Reading.{entry_shown}
 use Rattle.tree.specs.declared.entry.Entry.{Entry}
-use Rattle.tree.specs.declared.marked_rev.MarkedRev.{MarkedRev}
 use Rattle.sqlstore.specs.declared.known_database.KnownDatabase.{KnownDatabase}
 
 -- the number, the security object and the sequence of a database
@@ -50,10 +48,6 @@ pub record IsShownName (s : Row) : Type 0 where
   pub width : length s ≡ 1
   pub name : column s 0 ≡ Blob (name_shown s)
   pub lawful : IsTrue (is_database_name (name_shown s))
-
--- the winner of a document, of what a list shows of its row
-abbrev pub winner_shown : Row → Option MarkedRev
-winner_shown s = option_map (λ r. record { rev = r; deleted = listed_mark s }) (listed_winner s)
 
 -- what is known of a revision, of what a query shows of its row
 abbrev pub known_shown : Row → Entry

@@ -1,24 +1,20 @@
 //! What the rows that a query shows say.
 
-ghost use Rattle.std.specs.Prelude.{◌≡◌, IsTrue, Some, option_and_then, option_map, slice_get};
+ghost use Rattle.std.specs.Prelude.{◌≡◌, IsTrue, Some, option_map, slice_get};
 ghost use Rattle.std.specs.List.{AllByRecursion};
 ghost use Rattle.couch_json.specs.View.{view};
 ghost use Rattle.policy.specs.Security.{is_security};
-ghost use Rattle.tables.specs.Listings.{IsListedDocument};
 ghost use Rattle.tables.specs.Shown.{IsShownDatabase, IsShownLocal, IsShownRevision, local_shown};
 ghost use Rattle.transactions.specs.Reading.{IsRead};
-ghost use Rattle.sqlstore.specs.Reading.{found_shown, known_shown, winner_shown};
+ghost use Rattle.sqlstore.specs.Reading.{found_shown, known_shown};
 
 use couch_json::Json;
 use policy::{Security, SecurityFault};
 use sqlite::Row;
 use std::alloc::Global;
 use store::{LocalDocument, StoreFault};
-use tables::{
-    FoundDatabase, FoundRevision, RowFault, read_database, read_listed_document, read_local,
-    read_revision,
-};
-use tree::{Body, Entry, Held, MarkedRev};
+use tables::{FoundDatabase, FoundRevision, RowFault, read_database, read_local, read_revision};
+use tree::{Body, Entry, Held};
 
 /// Reads the database of the first row, if there is one.
 pub(crate) fn first_database(alloc: Global, rows: &[Row]) -> Result<FoundDatabase, StoreFault>
@@ -43,23 +39,6 @@ pub(crate) fn first_local(alloc: Global, rows: &[Row]) -> Result<Option<LocalDoc
     };
     match read_local(alloc, row) {
         Ok(document) => Ok(Some(document)),
-        Err(RowFault::Memory) => Err(StoreFault::Memory),
-        Err(RowFault::Damaged) => Err(StoreFault::Damaged),
-    }
-}
-
-/// Reads the winner of the document of the first row, if there is one.
-pub(crate) fn first_winner(alloc: Global, rows: &[Row]) -> Result<Option<MarkedRev>, StoreFault>
-    ensures { IsRead (λ found. found) (Some (option_and_then winner_shown (slice_get rows.now 0))) (AllByRecursion IsListedDocument rows.now) result }
-{
-    let Some(row) = rows.first() else {
-        return Ok(None);
-    };
-    match read_listed_document(alloc, row) {
-        Ok(listed) => Ok(Some(MarkedRev {
-            rev: listed.winner,
-            deleted: listed.deleted,
-        })),
         Err(RowFault::Memory) => Err(StoreFault::Memory),
         Err(RowFault::Damaged) => Err(StoreFault::Damaged),
     }

@@ -3,8 +3,8 @@
 ghost use Rattle.std.specs.Prelude.{◌≡◌, filter, map, IsPermutation};
 ghost use Rattle.tables.specs.Calls.{ReadsInside};
 ghost use Rattle.tables.specs.Layout.{IsStore};
-ghost use Rattle.tables.specs.Rows.{is_of, shown_revision};
-ghost use Rattle.tables.specs.Schema.{revs_tree};
+ghost use Rattle.tables.specs.Rows.{is_of, listed_document, shown_revision};
+ghost use Rattle.tables.specs.Schema.{docs_tree, revs_tree};
 
 use crate::statement::query_in;
 use sqlite::{Alter, Error, Row, Transaction, params};
@@ -21,6 +21,23 @@ pub fn revision_rows_in<S: Alter>(
     query_in(
         tx,
         "SELECT n, hash, parent, held, del, body FROM revs WHERE db = ?1 AND id = ?2",
+        params![db, id],
+    )
+}
+
+/// Returns the row of the document of this id, if there is one: the id, the sequence, the winner and
+/// whether that is deleted.
+pub fn document_rows_in<S: Alter>(
+    tx: &mut Transaction<'_, S>,
+    db: &i64,
+    id: &[u8],
+) -> Result<Vec<Row>, Error>
+    ensures same_reference { tx.new.conn.ghost_name ≡ tx.old.conn.ghost_name }
+    ensures reads { ReadsInside S.Store IsStore tx.old.conn.now tx.new.conn.now (λ trees rows. rows.items ≡ map listed_document (filter (is_of db.now id.now) (trees docs_tree))) result }
+{
+    query_in(
+        tx,
+        "SELECT id, seq, winner, del FROM docs WHERE db = ?1 AND id = ?2",
         params![db, id],
     )
 }

@@ -12,7 +12,9 @@ use Rattle.store.specs.declared.write.Write.{Write}
 use Rattle.tables.proofs.DocumentWriteNews.{storable_addition}
 use Rattle.tables.proofs.DocumentWrites.{acceptable_in_turn, one_more_written}
 use Rattle.tables.proofs.Lookups.{database_there}
+use Rattle.transactions.specs.Following.{HasPlaceFor, Serves}
 use Rattle.transactions.specs.declared.commit_fault.CommitFault.TheVariants as write
+use Rattle.transactions.proofs.Following.{serves_itself}
 use Rattle.transactions.proofs.HeldHistories.{known}
 use Rattle.transactions.proofs.HistoryRows.{history_made}
 use Rattle.tree.proofs.Shown.{inside}
@@ -74,12 +76,17 @@ module _ (a b c : State) (first : Database) (same : a.committed ≡ first) (kept
 
 -- ---- one write more
 
--- the write of a document whose history was read, over the rows as they were
-pub document_written : (r : Row) (h : HistoryContent) (a : Addition) (old mid new : Database) → mid ≡ old → IsStore old → h ≡ history_in (old.trees revs_tree) (number_of r) a.id
-    → (IsStore mid → h ≡ history_in (mid.trees revs_tree) (number_of r) a.id → IsWrite r (written_in h a) mid new) → IsWrite r (written_in (history_in (old.trees revs_tree) (number_of r) a.id) a) old new
-document_written r h a old mid new same store known writes =
-    let over = subst (λ (d : Database). IsStore d → h ≡ history_in (d.trees revs_tree) (number_of r) a.id → IsWrite r (written_in h a) d new) same writes in
-    subst (λ (k : HistoryContent). IsWrite r (written_in k a) old new) known (over store known)
+-- the write of a document by a history that serves, over the rows as they were
+pub document_written : (r : Row) (a : Addition) (k : HistoryContent) (old mid new : Database) → mid ≡ old → IsStore old → Serves a (history_in (old.trees revs_tree) (number_of r) a.id) k
+    → (IsStore mid → Serves a (history_in (mid.trees revs_tree) (number_of r) a.id) k → IsWrite r (written_in (history_in (mid.trees revs_tree) (number_of r) a.id) a) mid new)
+    → IsWrite r (written_in (history_in (old.trees revs_tree) (number_of r) a.id) a) old new
+document_written r a k old mid new same store serves writes =
+    let Is : Database → Type 0 = λ d. IsStore d → Serves a (history_in (d.trees revs_tree) (number_of r) a.id) k → IsWrite r (written_in (history_in (d.trees revs_tree) (number_of r) a.id) a) d new in
+    subst Is same writes store serves
+
+-- a history that is the document's own serves
+pub own_serves : (a : Addition) (h k : HistoryContent) → k ≡ h → Serves a h k
+own_serves a h k is = subst (Serves a h) (sym is) (serves_itself a h)
 
 pub length-writings_in : (db : store.Database) (all : List Addition) → length (writings_in db all) ≡ length all
 length-writings_in db [] = refl
@@ -87,7 +94,7 @@ length-writings_in db (a ∷ all) = ap suc (length-writings_in (with_one db (wri
 
 pub one_more : (all before more : List Addition) (a : Addition) (name : List ℕ) (r : Row) (old mid new : Database) → all ≡ before ++ a ∷ more → AreAcceptable (database_of old.trees r) (writings_in (database_of old.trees r) all)
     → length_of r + length all < 2 ^ 63 → HasWritten (writings_in (database_of old.trees r) before) name r old mid → IsLawfulAddition a
-    → IsWrite (row_after r (length before)) (written_in (history_in (mid.trees revs_tree) (number_of r) a.id) a) mid new → HasWritten (writings_in (database_of old.trees r) (before ++ a ∷ [])) name r old new
+    → (HasPlaceFor (history_in (mid.trees revs_tree) (number_of r) a.id) a → IsWrite (row_after r (length before)) (written_in (history_in (mid.trees revs_tree) (number_of r) a.id) a) mid new) → HasWritten (writings_in (database_of old.trees r) (before ++ a ∷ [])) name r old new
 one_more all before more a name r old mid new cut acceptable room h lawful write =
     let db = database_of old.trees r in
     let ws = writings_in db before in
@@ -98,13 +105,13 @@ one_more all before more a name r old mid new cut acceptable room h lawful write
     let turn = acceptable_in_turn ws db w (writings_in (with_one (with_all db ws) w) more) (subst (AreAcceptable db) (ap (writings_in db) cut ∙ writings_in-append db before (a ∷ more)) acceptable) in
     let size : length all ≡ length (before ++ a ∷ more) = ap length cut in
     let done : IsWrite (row_after r (length ws)) w mid new =
-    subst (λ (n : ℕ). IsWrite (row_after r n) w mid new) (sym count) (subst (λ (k : HistoryContent). IsWrite (row_after r (length before)) (written_in k a) mid new) same write) in
+    subst (λ (n : ℕ). IsWrite (row_after r n) w mid new) (sym count) (subst (λ (k : HistoryContent). IsWrite (row_after r (length before)) (written_in k a) mid new) same (write (subst (λ (k : HistoryContent). HasPlaceFor k a) (sym same) turn.placed))) in
     subst (λ vs. HasWritten vs name r old new) (sym (writings_in-append db before (a ∷ [])))
     (one_more_written ws w name r old mid new h turn storable (omega (arith, count, size, length-append before (a ∷ more), room)) done)
 
 pub further : (ws : List Write) (i : ℕ) (w : Write) (name : List ℕ) (db : ℤ) (sequence : ℕ) (next : ℤ) (old mid new : Database) → i < length ws → w ≡ get_or ws i w → sequence + length ws < 2 ^ 63 → next ≡ pos (sequence + i + 1)
     → (due : AreDue (additions ws) name db sequence old.trees) → HasWritten (writings_in (database_of old.trees due.row) (additions (take i ws))) name due.row old mid → IsLawfulAddition (addition_of w)
-    → ((r : Row) → db ≡ number_of r → next ≡ pos (length_of r + 1) → IsWrite r (written_in (history_in (mid.trees revs_tree) (number_of r) (addition_of w).id) (addition_of w)) mid new)
+    → ((r : Row) → HasPlaceFor (history_in (mid.trees revs_tree) (number_of r) (addition_of w).id) (addition_of w) → db ≡ number_of r → next ≡ pos (length_of r + 1) → IsWrite r (written_in (history_in (mid.trees revs_tree) (number_of r) (addition_of w).id) (addition_of w)) mid new)
     → HasWritten (writings_in (database_of old.trees due.row) (additions (take (i + 1) ws))) name due.row old new
 further ws i w name db sequence next old mid new lt is room at due h lawful writes =
     let r = due.row in
@@ -119,7 +126,7 @@ further ws i w name db sequence next old mid new lt is room at due h lawful writ
     let number : sequence + i + 1 ≡ length_of r + length before + 1 = omega (arith, due.counted, count) in
     subst (λ all. HasWritten (writings_in (database_of old.trees r) all) name r old new) (sym grown)
     (one_more (additions ws) before more a name r old mid new all due.acceptable (omega (arith, due.counted, size, room)) h lawful
-    (writes (row_after r (length before)) (sym due.numbered) (at ∙ ap pos number)))
+    (λ place. writes (row_after r (length before)) place (sym due.numbered) (at ∙ ap pos number)))
 
 -- ---- the history of a write that may be done has a best revision
 

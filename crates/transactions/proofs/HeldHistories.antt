@@ -1,5 +1,5 @@
 -- Histories that are held by a map while documents are written one after another.
-use Rattle.transactions.proofs.Common.{Addition, AreStored, Bool, Database, HasWritten, HistoryContent, IsWith, List, None, Option, Row, Some, [], addition_of, additions, ap, bytes_eq-Decides, cond, database_of, false, get_or, history_at, history_at-with_all, history_in, is_eq-slice_cmp, length, map-append, number_of, refl, revs_tree, row_after, slice_cmp, subst, sym, take, take_more, true, with_addition, with_all, with_all-writings_in, writings_in, ℕ, ℤ, ◌++◌, ◌+◌, ◌<◌, ◌∙◌, ◌∷◌, ◌≡◌}
+use Rattle.transactions.proofs.Common.{Addition, AreStored, Bool, Database, HasWritten, HistoryContent, IsWith, IsWithin, List, None, Option, Row, Some, [], addition_of, additions, ap, bytes_eq-Decides, cond, database_of, false, get_or, history_at, history_at-with_all, history_in, is_eq-slice_cmp, length, map-append, number_of, refl, revs_tree, row_after, slice_cmp, subst, sym, take, take_more, true, with_addition, with_all, with_all-writings_in, writings_in, ℕ, ℤ, ◌++◌, ◌+◌, ◌<◌, ◌∙◌, ◌∷◌, ◌≡◌}
 use Rattle.std.specs.Prelude.{bytes_eq}
 use Rattle.std.specs.BTreeMap.{BTreeMap, IsEmpty, get, is_at}
 use Rattle.std.specs.Map.{lookup}
@@ -25,12 +25,25 @@ pub put_again : (m r n : BTreeMap (List ℕ) HistoryContent) (id : List ℕ) (h 
     → IsWith r id h n → h ≡ k → IsWith m id k n
 put_again m r n id h k out put is q = put q ∙ twice (is_eq (slice_cmp nat_cmp id q)) h k (get (slice_cmp nat_cmp) m q) (get (slice_cmp nat_cmp) r q) (out q) is
 
+-- one that is as it is wanted is within
+pub with_within : (m n : BTreeMap (List ℕ) HistoryContent) (id : List ℕ) (h : HistoryContent) → IsWith m id h n → IsWithin m id h n
+with_within m n id h is q k found = sym (is q) ∙ found
+
+-- one that was taken out, and not put in again
+pub left_within : (m n : BTreeMap (List ℕ) HistoryContent) (id : List ℕ) (h : HistoryContent)
+    → ((q : List ℕ) → get (slice_cmp nat_cmp) n q ≡ cond (is_eq (slice_cmp nat_cmp id q)) None (get (slice_cmp nat_cmp) m q)) → IsWithin m id h n
+left_within m n id h out q k found = by (is_eq (slice_cmp nat_cmp id q)) (sym (out q) ∙ found)
+  where
+    by : (b : Bool) → cond b None (get (slice_cmp nat_cmp) m q) ≡ Some k → cond b (Some h) (get (slice_cmp nat_cmp) m q) ≡ Some k
+    by true is = absurd (cc)
+    by false is = is
+
 -- what a map holds is stored after a write too, if the history of its document was put in
 pub stored_on : (m n : BTreeMap (List ℕ) HistoryContent) (M N : List ℕ → HistoryContent) (a : Addition)
     → ((id : List ℕ) → N id ≡ cond (bytes_eq a.id id) (with_addition (M id) a) (M id))
-    → AreStored m M → IsWith m a.id (with_addition (M a.id) a) n → AreStored n N
+    → AreStored m M → IsWithin m a.id (with_addition (M a.id) a) n → AreStored n N
 stored_on m n M N a grown stored put id h is =
-    go (bytes_eq a.id id) refl (ap (λ b. cond b (Some (with_addition (M a.id) a)) (get (slice_cmp nat_cmp) m id)) (sym (is_eq-slice_cmp a.id id)) ∙ sym (put id) ∙ is) ∙ sym (grown id)
+    go (bytes_eq a.id id) refl (ap (λ b. cond b (Some (with_addition (M a.id) a)) (get (slice_cmp nat_cmp) m id)) (sym (is_eq-slice_cmp a.id id)) ∙ put id h is) ∙ sym (grown id)
   where
     go : (b : Bool) → bytes_eq a.id id ≡ b → cond b (Some (with_addition (M a.id) a)) (get (slice_cmp nat_cmp) m id) ≡ Some h → h ≡ cond b (with_addition (M id) a) (M id)
     go true same here =
@@ -57,7 +70,7 @@ one_more_known before a name r old mid new first second id =
 
 pub stored_further : (ws : List Write) (i : ℕ) (w : Write) (name : List ℕ) (db : ℤ) (r : Row) (old mid new : Database) (m n : BTreeMap (List ℕ) HistoryContent) → i < length ws → w ≡ get_or ws i w → number_of r ≡ db
     → HasWritten (writings_in (database_of old.trees r) (additions (take i ws))) name r old mid → HasWritten (writings_in (database_of old.trees r) (additions (take (i + 1) ws))) name r old new
-    → AreStored m (history_in (mid.trees revs_tree) db) → IsWith m (addition_of w).id (with_addition (history_in (mid.trees revs_tree) db (addition_of w).id) (addition_of w)) n
+    → AreStored m (history_in (mid.trees revs_tree) db) → IsWithin m (addition_of w).id (with_addition (history_in (mid.trees revs_tree) db (addition_of w).id) (addition_of w)) n
     → AreStored n (history_in (new.trees revs_tree) db)
 stored_further ws i w name db r old mid new m n lt is numbered first second stored put =
     let before = additions (take i ws) in

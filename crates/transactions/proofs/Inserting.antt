@@ -1,5 +1,6 @@
 -- Revisions that are put in one after another.
-use Rattle.transactions.proofs.Common.{AreInserted, Bool, Changes, Database, Entry, Err, HistoryContent, IsOnTheWay, IsPlaced, List, None, Ok, OnOk, Option, Result, Revision, Some, [], ap, arith, cond, docs_tree, document_cells, drop, entries_before, false, filter, get_or, is_known, is_of, length, next_of, not, refl, revision_cells, revs_tree, slice_get, subst, suc, sym, true, unknown_in, with_cells, ℕ, ℤ, ◌++◌, ◌+◌, ◌<◌, ◌∙◌, ◌∷◌, ◌≡◌}
+use Rattle.transactions.proofs.Common.{AreInserted, Bool, Changes, Database, Entry, Err, HistoryContent, IsOnTheWay, IsPlaced, List, None, Ok, OnOk, Option, Result, Revision, Some, [], ap, arith, cond, docs_tree, document_cells, drop, entries_before, false, filter, get_or, is_known, is_of, length, next_of, not, refl, revision_cells, revs_tree, slice_get, subst, suc, sym, true, unknown_in, with_cells, Row, ℕ, ℤ, ◌++◌, ◌+◌, ◌<◌, ◌∙◌, ◌∷◌, ◌≡◌, ◌≢◌}
+use Rattle.tables.proofs.Common.{all_of}
 use Rattle.std.proofs.Math.Seq.{drop-cons}
 use Rattle.tree.specs.declared.entry.Held.{Held}
 use Rattle.tables.proofs.DocumentWriteSteps.{inserted_fit, revisions_changed}
@@ -71,3 +72,22 @@ module _ (db : ℤ) (id : List ℕ) (sequence : ℤ) (winner : List ℕ) (delete
       → OnOk r (Changes docs_tree (with_cells (b.trees docs_tree) (document_cells db id sequence winner deleted)) b c) → OnOk r (IsPlaced db id sequence winner deleted a c)
   placed (Err e) a b c out put = tt
   placed (Ok x) a b c out put = record { removed = b; removes = out; places = put }
+
+-- where there is no row of its own, nothing is taken out
+kept_all : (p : Row → Bool) (rows : List Row) → filter p rows ≡ [] → filter (λ x. not (p x)) rows ≡ rows
+kept_all p [] none = refl
+kept_all p (r ∷ rows) none = by (kept_all p rows) (p r) refl none
+  where
+    by : (filter p rows ≡ [] → filter (λ x. not (p x)) rows ≡ rows) → (b : Bool) → p r ≡ b → cond b (r ∷ filter p rows) (filter p rows) ≡ [] → cond (not (p r)) (r ∷ filter (λ x. not (p x)) rows) (filter (λ x. not (p x)) rows) ≡ r ∷ rows
+    by rest true is none = absurd (cc)
+    by rest false is none = ap (λ b. cond (not b) (r ∷ filter (λ x. not (p x)) rows) (filter (λ x. not (p x)) rows)) is ∙ ap (λ xs. r ∷ xs) (rest none)
+
+pub placed_new : {X E : Type 0} (r : Result X E) (db : ℤ) (id : List ℕ) (sequence : ℤ) (winner : List ℕ) (deleted : Bool) (a b : Database) → filter (is_of db id) (a.trees docs_tree) ≡ []
+    → OnOk r (Changes docs_tree (with_cells (a.trees docs_tree) (document_cells db id sequence winner deleted)) a b) → OnOk r (IsPlaced db id sequence winner deleted a b)
+placed_new r db id sequence winner deleted a b none put =
+    placed db id sequence winner deleted r a a b
+    (record {
+      schema = refl;
+      rows = sym (kept_all (is_of db id) (a.trees docs_tree) none);
+      others = all_of (λ t. t.tree ≢ docs_tree → a.trees t.tree ≡ a.trees t.tree) (λ t apart. refl) a.schema.tables;
+    }) put

@@ -2,6 +2,8 @@ pub mod Common
 pub mod Sequences
 pub mod HistoryRows
 pub mod Inserting
+pub mod WinningRows
+pub mod Following
 pub mod DocumentWriting
 pub mod Committing
 pub mod HeldHistories

@@ -18,3 +18,7 @@ IsHeldOpen m s = (id : List ℕ) (h : HistoryContent) → get (slice_cmp nat_cmp
 -- a map with this history for the id, and else with what another has
 abbrev pub IsWith : BTreeMap (List ℕ) HistoryContent → List ℕ → HistoryContent → BTreeMap (List ℕ) HistoryContent → Type 0
 IsWith m id h n = (q : List ℕ) → get (slice_cmp nat_cmp) n q ≡ (if is_eq (slice_cmp nat_cmp id q) then Some h else get (slice_cmp nat_cmp) m q)
+
+-- a map with this history for the id, or with none, and else with none but those that another has
+abbrev pub IsWithin : BTreeMap (List ℕ) HistoryContent → List ℕ → HistoryContent → BTreeMap (List ℕ) HistoryContent → Type 0
+IsWithin m id h n = (q : List ℕ) (k : HistoryContent) → get (slice_cmp nat_cmp) n q ≡ Some k → (if is_eq (slice_cmp nat_cmp id q) then Some h else get (slice_cmp nat_cmp) m q) ≡ Some k

@@ -9,6 +9,8 @@ use Rattle.sqlite_value.specs.Order.{Row}
 use Rattle.tree.specs.History.{HistoryContent, row_of, winner, with_entries}
 use Rattle.tree.specs.Revision.{Revision}
 use Rattle.tree.specs.declared.entry.Entry.{Entry}
+use Rattle.tree.specs.declared.marked_rev.MarkedRev.{MarkedRev}
+use Rattle.tables.specs.Listings.{listed_mark, listed_winner}
 use Rattle.tables.specs.Shown.{held_shown, mark_shown, parent_shown, revision_shown}
 use Rattle.transactions.specs.declared.history_fault.HistoryFault.{HistoryFault}
 use Rattle.transactions.specs.declared.history_fault.HistoryFault.TheVariants as history
@@ -61,3 +63,7 @@ node_shown s = (revision_shown s, row_of (parent_shown s) (option_map (λ delete
 -- the outline that the rows make
 abbrev pub outline_shown : List Row → HistoryContent
 outline_shown rows = with_entries finite.empty (map node_shown rows)
+
+-- the winner of a document, of what a list shows of its row
+abbrev pub winner_shown : Row → Option MarkedRev
+winner_shown s = option_map (λ r. record { rev = r; deleted = listed_mark s }) (listed_winner s)

@@ -1,6 +1,6 @@
 //! Writes of a database that are committed together.
 
-ghost use Rattle.std.specs.Prelude.{◌≡◌, ◌+◌, ◌<◌, ◌^◌, ℕ, IsTrue, List, false, length, pos, IfErr, IfOk, OnOk, true, ⊤};
+ghost use Rattle.std.specs.Prelude.{◌≡◌, ◌+◌, ◌<◌, ◌^◌, ℕ, IsTrue, List, false, length, pos, IfErr, IfOk, IfSome, OnOk, true, ⊤};
 ghost use Rattle.sqlite.specs.Held.{state};
 ghost use Rattle.sqlite.specs.State.{HasCleanDisk, KeepsCommit};
 ghost use Rattle.sqlite_value.specs.Order.{Row};
@@ -12,7 +12,8 @@ ghost use Rattle.tables.specs.Layout.{IsStore};
 ghost use Rattle.tables.specs.Rows.{database_of, history_in, length_of, number_of};
 ghost use Rattle.tables.specs.Schema.{revs_tree};
 ghost use Rattle.transactions.specs.Commits.{AreDue, IsSound, IsUnwritten, history_with};
-ghost use Rattle.transactions.specs.Histories.{AreStored, IsHeldOpen, IsWith};
+ghost use Rattle.transactions.specs.Histories.{AreStored, IsHeldOpen, IsWith, IsWithin};
+ghost use Rattle.transactions.specs.Following.{HasPlaceFor, Serves};
 ghost use Rattle.transactions.specs.Inserting.{IsLawfulAddition};
 ghost use Rattle.transactions.specs.Endings.{IsDone, IsUndone, Turns};
 ghost use Rattle.transactions.specs.Reading.{HasBest};
@@ -20,12 +21,13 @@ ghost use Rattle.transactions.specs.Reading.{HasBest};
 use crate::commit_fault::CommitFault;
 use crate::document_write::add_write;
 use crate::histories::read_history;
+use crate::winners::{first_winner, history_for};
 use couch_json::Got;
 use sqlite::{Alter, Connection, Transaction};
 use std::alloc::Global;
 use std::collections::BTreeMap;
 use store::Write;
-use tables::reads_in::revision_rows_in;
+use tables::reads_in::{document_rows_in, revision_rows_in};
 use tree::{DocId, History};
 
 /// Reads the history of a document within a transaction.
@@ -49,7 +51,34 @@ fn read_document<S: Alter>(
     Ok(history)
 }
 
-/// Writes a document whose history this is, and returns the history after the write.
+/// Reads what a write asks of its document's history, where that is the winner alone, or nothing since
+/// the document was never written.
+fn read_followed<S: Alter>(
+    alloc: Global,
+    tx: &mut Transaction<'_, S>,
+    db: &i64,
+    write: &Write,
+) -> Result<Option<History>, CommitFault>
+    ensures same_reference { tx.new.conn.ghost_name ≡ tx.old.conn.ghost_name }
+    ensures ok { HasCleanDisk (state S.Store tx.new.conn.now) → IsStore (state S.Store tx.old.conn.now).now
+        → HasPlaceFor (history_in ((state S.Store tx.old.conn.now).now.trees revs_tree) db.now (addition_of write.now).id) (addition_of write.now)
+        → IfOk result (λ found. IfSome found (Serves (addition_of write.now) (history_in ((state S.Store tx.old.conn.now).now.trees revs_tree) db.now (addition_of write.now).id))) }
+    ensures has_best { HasCleanDisk (state S.Store tx.new.conn.now) → IsStore (state S.Store tx.old.conn.now).now
+        → HasBest (history_with (state S.Store tx.old.conn.now).now.trees db.now (addition_of write.now))
+        → IfOk result (λ found. IfSome found (λ history. HasBest (with_addition history (addition_of write.now)))) }
+    ensures err { IfErr result (IsUnwritten (IsSound S.Store (λ _. ⊤) tx.old.conn.now tx.new.conn.now)) }
+    ensures stands { Stands S.Store tx.old.conn.now tx.new.conn.now result }
+    ensures served { IsServed S.Store tx.old.conn.now tx.new.conn.now result }
+    ensures looks { LooksInside S.Store tx.old.conn.now tx.new.conn.now }
+    ensures asks { AsksInside S.Store tx.old.conn.now tx.new.conn.now }
+{
+    let rows = document_rows_in(tx, db, write.id.as_str().as_bytes())?;
+    let winner = first_winner(alloc, &rows)?;
+    Ok(history_for(alloc, winner, write)?)
+}
+
+/// Writes a document by a history that says what the write asks of the document's own, and returns
+/// that history after the write.
 fn write_known<S: Alter>(
     alloc: Global,
     tx: &mut Transaction<'_, S>,
@@ -60,9 +89,10 @@ fn write_known<S: Alter>(
 ) -> Result<History, CommitFault>
     ensures same_reference { tx.new.conn.ghost_name ≡ tx.old.conn.ghost_name }
     ensures ok { (r : Row) → HasCleanDisk (state S.Store tx.new.conn.now) → IsStore (state S.Store tx.old.conn.now).now
-        → history ≡ history_in ((state S.Store tx.old.conn.now).now.trees revs_tree) (number_of r) (addition_of write.now).id
+        → Serves (addition_of write.now) (history_in ((state S.Store tx.old.conn.now).now.trees revs_tree) (number_of r) (addition_of write.now).id) history
         → db.now ≡ number_of r → sequence.now ≡ pos (length_of r + 1)
-        → OnOk result (IsWrite r (written_in history (addition_of write.now)) (state S.Store tx.old.conn.now).now (state S.Store tx.new.conn.now).now) }
+        → OnOk result (IsWrite r (written_in (history_in ((state S.Store tx.old.conn.now).now.trees revs_tree) (number_of r) (addition_of write.now).id) (addition_of write.now))
+        (state S.Store tx.old.conn.now).now (state S.Store tx.new.conn.now).now) }
     ensures after { IfOk result (λ after. after ≡ with_addition history (addition_of write.now)) }
     ensures err { IfErr result (IsUnwritten (HasBest (with_addition history (addition_of write.now)))) }
     ensures lawful { OnOk result (IsLawfulAddition (addition_of write.now)) }
@@ -74,8 +104,8 @@ fn write_known<S: Alter>(
     Ok(history)
 }
 
-/// Writes a document, and returns its history after the write.
-fn write_unread<S: Alter>(
+/// Writes a document after its history was read as a whole, and returns its history after the write.
+fn write_read<S: Alter>(
     alloc: Global,
     tx: &mut Transaction<'_, S>,
     db: &i64,
@@ -100,6 +130,37 @@ fn write_unread<S: Alter>(
     Ok(after)
 }
 
+/// Writes a document, and returns its history after the write, where it was read as a whole.
+fn write_unread<S: Alter>(
+    alloc: Global,
+    tx: &mut Transaction<'_, S>,
+    db: &i64,
+    sequence: &i64,
+    write: &Write,
+) -> Result<Option<History>, CommitFault>
+    ensures same_reference { tx.new.conn.ghost_name ≡ tx.old.conn.ghost_name }
+    ensures ok { (r : Row) → HasCleanDisk (state S.Store tx.new.conn.now) → IsStore (state S.Store tx.old.conn.now).now
+        → HasPlaceFor (history_in ((state S.Store tx.old.conn.now).now.trees revs_tree) (number_of r) (addition_of write.now).id) (addition_of write.now)
+        → db.now ≡ number_of r → sequence.now ≡ pos (length_of r + 1)
+        → OnOk result (IsWrite r (written_in (history_in ((state S.Store tx.old.conn.now).now.trees revs_tree) (number_of r) (addition_of write.now).id) (addition_of write.now))
+        (state S.Store tx.old.conn.now).now (state S.Store tx.new.conn.now).now) }
+    ensures after { HasCleanDisk (state S.Store tx.new.conn.now) → IsStore (state S.Store tx.old.conn.now).now
+        → IfOk result (λ found. IfSome found (λ after. after ≡ with_addition (history_in ((state S.Store tx.old.conn.now).now.trees revs_tree) db.now (addition_of write.now).id) (addition_of write.now))) }
+    ensures lawful { OnOk result (IsLawfulAddition (addition_of write.now)) }
+    ensures inside { HasCleanDisk (state S.Store tx.new.conn.now) → OnOk result (IsTrue (state S.Store tx.new.conn.now).is_open × ((state S.Store tx.new.conn.now).in_transaction ≡ true)) }
+    ensures err { IfErr result (IsUnwritten (IsSound S.Store (λ trees. HasBest (history_with trees db.now (addition_of write.now))) tx.old.conn.now tx.new.conn.now)) }
+    ensures looks { LooksInside S.Store tx.old.conn.now tx.new.conn.now }
+    ensures asks { AsksInside S.Store tx.old.conn.now tx.new.conn.now }
+{
+    match read_followed(alloc, tx, db, write)? {
+        Some(history) => {
+            write_known(alloc, tx, db, sequence, history, write)?;
+            Ok(None)
+        }
+        None => Ok(Some(write_read(alloc, tx, db, sequence, write)?)),
+    }
+}
+
 /// Puts the history of a document in.
 fn put_history(
     alloc: Global,
@@ -114,7 +175,8 @@ fn put_history(
 }
 
 /// Writes a document under this sequence, in a transaction. Its history is taken from those that were
-/// read, or else read, and put back as it is after the write.
+/// read, or else read as far as the write asks; where it is there as a whole it is put back as it is after
+/// the write.
 fn write_document<S: Alter>(
     alloc: Global,
     tx: &mut Transaction<'_, S>,
@@ -126,12 +188,13 @@ fn write_document<S: Alter>(
     ensures same_reference { tx.new.conn.ghost_name ≡ tx.old.conn.ghost_name }
     ensures ok { (r : Row) → HasCleanDisk (state S.Store tx.new.conn.now) → IsStore (state S.Store tx.old.conn.now).now
         → AreStored histories.old (history_in ((state S.Store tx.old.conn.now).now.trees revs_tree) db.now)
+        → HasPlaceFor (history_in ((state S.Store tx.old.conn.now).now.trees revs_tree) (number_of r) (addition_of write.now).id) (addition_of write.now)
         → db.now ≡ number_of r → sequence.now ≡ pos (length_of r + 1)
         → OnOk result (IsWrite r (written_in (history_in ((state S.Store tx.old.conn.now).now.trees revs_tree) (number_of r) (addition_of write.now).id) (addition_of write.now))
         (state S.Store tx.old.conn.now).now (state S.Store tx.new.conn.now).now) }
     ensures after { HasCleanDisk (state S.Store tx.new.conn.now) → IsStore (state S.Store tx.old.conn.now).now
         → AreStored histories.old (history_in ((state S.Store tx.old.conn.now).now.trees revs_tree) db.now)
-        → OnOk result (IsWith histories.old (addition_of write.now).id
+        → OnOk result (IsWithin histories.old (addition_of write.now).id
         (with_addition (history_in ((state S.Store tx.old.conn.now).now.trees revs_tree) db.now (addition_of write.now).id) (addition_of write.now)) histories.new) }
     ensures lawful { OnOk result (IsLawfulAddition (addition_of write.now)) }
     ensures inside { HasCleanDisk (state S.Store tx.new.conn.now) → OnOk result (IsTrue (state S.Store tx.new.conn.now).is_open × ((state S.Store tx.new.conn.now).in_transaction ≡ true)) }
@@ -145,8 +208,9 @@ fn write_document<S: Alter>(
         put_history(alloc, histories, &write.id, history)?;
         return Ok(());
     }
-    let history = write_unread(alloc, tx, db, sequence, write)?;
-    put_history(alloc, histories, &write.id, history)?;
+    if let Some(history) = write_unread(alloc, tx, db, sequence, write)? {
+        put_history(alloc, histories, &write.id, history)?;
+    }
     Ok(())
 }
 

@@ -1,6 +1,6 @@
 //! One write of a document, as statements of a transaction.
 
-ghost use Rattle.std.specs.Prelude.{◌≡◌, ◌+◌, ◌∷◌, [], pos, None, Some, IfErr, IfOk, OnOk, string_bytes, ⊤};
+ghost use Rattle.std.specs.Prelude.{◌≡◌, ◌+◌, ◌∷◌, [], filter, pos, None, Some, IfErr, IfOk, OnOk, string_bytes, true, ⊤};
 ghost use Rattle.std.specs.Prelude.{IsTrue};
 ghost use Rattle.std.specs.List.{AllByRecursion};
 ghost use Rattle.couch_json.specs.Canonical.{canonical};
@@ -15,13 +15,14 @@ ghost use Rattle.store.specs.Writing.{addition_of, written_in};
 ghost use Rattle.sqlite_value.specs.Order.{Row};
 ghost use Rattle.tables.specs.Edits.{IsWrite};
 ghost use Rattle.tables.specs.Layout.{AreKeyed, IsStore};
-ghost use Rattle.tables.specs.Rows.{history_in, length_of, number_of, parent_cell};
+ghost use Rattle.tables.specs.Rows.{history_in, is_of, length_of, number_of, parent_cell};
 ghost use Rattle.tables.specs.Schema.{docs_tree, revs_tree, schema};
 ghost use Rattle.tree.specs.History.{behind};
 ghost use Rattle.tree.specs.Nodes.{entries_before};
 ghost use Rattle.tree.specs.Revision.{is_revision};
 ghost use Rattle.tree.specs.Write.{head};
 ghost use Rattle.transactions.specs.Commits.{IsUnwritten};
+ghost use Rattle.transactions.specs.Following.{Serves};
 ghost use Rattle.transactions.specs.Inserting.{InsertsAll, IsBest, IsLawfulAddition, IsPlaced, entries_of, unknown_in};
 ghost use Rattle.transactions.specs.Reading.{HasBest, IsMissed};
 
@@ -196,6 +197,30 @@ fn insert_revisions<S: Alter>(
     Ok(())
 }
 
+/// Puts the row of a document in the place of the one of its id; where the document is new there is
+/// none.
+fn place_document<S: Alter>(
+    tx: &mut Transaction<'_, S>,
+    db: &i64,
+    id: &[u8],
+    sequence: &i64,
+    winner: &str,
+    deleted: bool,
+    is_new: bool,
+) -> Result<(), Error>
+    ensures same_reference { tx.new.conn.ghost_name ≡ tx.old.conn.ghost_name }
+    ensures ok { HasCleanDisk (state S.Store tx.new.conn.now) → tx.old.conn.now.schema ≡ schema → AreKeyed ((state S.Store tx.old.conn.now).now.trees docs_tree)
+        → (is_new ≡ true → filter (is_of db.now id.now) ((state S.Store tx.old.conn.now).now.trees docs_tree) ≡ [])
+        → OnOk result (IsPlaced db.now id.now sequence.now winner.now deleted (state S.Store tx.old.conn.now).now (state S.Store tx.new.conn.now).now) }
+    ensures inside { Stays S.Store tx.old.conn.now tx.new.conn.now result }
+    ensures proceeds { Proceeds S.Store tx.old.conn.now tx.new.conn.now }
+{
+    if is_new {
+        return insert_document(tx, db, id, sequence, winner, deleted);
+    }
+    replace_document(tx, db, id, sequence, winner, deleted)
+}
+
 /// Puts the row of a document in the place of the one of its id.
 fn replace_document<S: Alter>(
     tx: &mut Transaction<'_, S>,
@@ -228,7 +253,7 @@ fn best_of(alloc: Global, history: &History) -> Result<(String, bool), HistoryFa
     Ok((text, deleted))
 }
 
-/// Does one write of a document, whose history is as it is before the write.
+/// Does one write of a document, whose history says what the write asks of the one before it.
 pub(crate) fn add_write<S: Alter>(
     alloc: Global,
     tx: &mut Transaction<'_, S>,
@@ -239,20 +264,22 @@ pub(crate) fn add_write<S: Alter>(
 ) -> Result<(), CommitFault>
     ensures same_reference { tx.new.conn.ghost_name ≡ tx.old.conn.ghost_name }
     ensures ok { (r : Row) → HasCleanDisk (state S.Store tx.new.conn.now) → IsStore (state S.Store tx.old.conn.now).now
-        → history.old ≡ history_in ((state S.Store tx.old.conn.now).now.trees revs_tree) (number_of r) (addition_of write.now).id
+        → Serves (addition_of write.now) (history_in ((state S.Store tx.old.conn.now).now.trees revs_tree) (number_of r) (addition_of write.now).id) history.old
         → db.now ≡ number_of r → sequence.now ≡ pos (length_of r + 1)
-        → OnOk result (IsWrite r (written_in history.old (addition_of write.now)) (state S.Store tx.old.conn.now).now (state S.Store tx.new.conn.now).now) }
+        → OnOk result (IsWrite r (written_in (history_in ((state S.Store tx.old.conn.now).now.trees revs_tree) (number_of r) (addition_of write.now).id) (addition_of write.now))
+        (state S.Store tx.old.conn.now).now (state S.Store tx.new.conn.now).now) }
     ensures after { OnOk result (history.new ≡ with_addition history.old (addition_of write.now)) }
     ensures err { IfErr result (IsUnwritten (HasBest (with_addition history.old (addition_of write.now)))) }
     ensures lawful { OnOk result (IsLawfulAddition (addition_of write.now)) }
     ensures inside { Stays S.Store tx.old.conn.now tx.new.conn.now result }
     ensures proceeds { Proceeds S.Store tx.old.conn.now tx.new.conn.now }
 {
+    let is_new = history.winner().is_none();
     insert_revisions(alloc, tx, db, history, write)?;
     history.put(&write.path, write.parent, write.deleted, &write.body)?;
     let (text, deleted) = best_of(alloc, history)?;
     let id = write.id.as_str().as_bytes();
-    replace_document(tx, db, id, sequence, text.as_str(), deleted)?;
+    place_document(tx, db, id, sequence, text.as_str(), deleted, is_new)?;
     advance_database(tx, db, sequence)?;
     Ok(())
 }

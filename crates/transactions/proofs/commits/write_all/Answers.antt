@@ -30,7 +30,7 @@ loop-i-preserved g c =
           let done =
           further c.args.writes.now c.loop-i.i c.index-writes-i.result name c.args.db.now c.args.sequence _ old.now mid.now new.now c.loop-i-test.true c.index-writes-i.is c.requires
           (to_z-of_z {w = w64} {z = c.integer_of-next.result} (record { sfits = c.integer_of-next.type_inv }) ∙ c.integer_of-next.ensures) due before.0 e.lawful
-          (λ r numbered at. e.ok r clean before.0.store before.2 numbered at) in (
+          (λ r place numbered at. e.ok r clean before.0.store before.2 place numbered at) in (
             done,
             keeps_then old mid new before.1 ((e.looks before.0.store.schema_is).kept clean),
             stored_further c.args.writes.now c.loop-i.i c.index-writes-i.result name c.args.db.now due.row old.now mid.now new.now c.loop-i.histories c.write_document.new.histories c.loop-i-test.true c.index-writes-i.is due.numbered

@@ -1,13 +1,62 @@
-use Rattle.transactions.proofs.Lemmas.{HasCleanDisk, addition_of, arith, document_written, history_of, number_of, revs_tree, state, ◌∙◌, ◌≡◌}
+use Rattle.transactions.proofs.Lemmas.{CommitFault, Database, Err, HasBest, HasCleanDisk, HistoryContent, IfErr, IsSound, IsStore, IsUnwritten, Result, addition_of, arith, document_written, history_in, history_with, number_of, revs_tree, rules, state, subst, sym, unwritten_of, with_addition, written_in, ◌≡◌}
+use Rattle.transactions.proofs.Common.{IsWrite, Option, Trees, ℤ}
+use Rattle.std.specs.Prelude.{IfSome}
+use Rattle.transactions.specs.Following.{HasPlaceFor, Serves}
 use Rattle.transactions.proofs.commits.write_unread.Goals as goal
 
-pub returns-clause-ok : goal.returns-clause-ok
-returns-clause-ok g c r clean store numbered at =
+pub returns-in_err-write_read-in-None-clause-err : goal.returns-in_err-write_read-in-None-clause-err
+returns-in_err-write_read-in-None-clause-err g c =
+    let old = c.args.tx.now.conn.now in
+    let mid = c.read_followed.new.tx.conn.now in
+    let new = c.write_read.new.tx.conn.now in
+    let e = c.in_err-write_read-in-None.ensures in
+    let fault = c.in_err-write_read-in-None.field-0.0 in
+    let Best : Trees → Type 0 = λ trees. HasBest (history_with trees c.args.db.now (addition_of c.args.write.now)) in
+    let is : c.from_residual-in_err-write_read-in-None.result ≡ Err fault = search rules in
+    subst (λ (r : Result (Option HistoryContent) CommitFault). IfErr r (IsUnwritten (IsSound g.S.Store Best old new))) (sym is)
+    (unwritten_of (IsSound g.S.Store Best mid new) (IsSound g.S.Store Best old new) fault
+    (λ it. (
+      it.0,
+      λ up.
+          let was : HasCleanDisk (state g.S.Store mid) = omega (arith, e.asks.survives.clean, it.0) in
+          let had = it.1 (c.in_ok-history.ensures.served was) in
+          let same : (state g.S.Store mid).now ≡ (state g.S.Store old).now = (c.in_ok-history.ensures.stands had.0.schema_is was).0.now_is in
+          subst (λ (d : Database). IsStore d × Best d.trees) (sym same) had,
+    )) e.err)
+
+pub returns-in_ok-write_known-in-Some-clause-ok : goal.returns-in_ok-write_known-in-Some-clause-ok
+returns-in_ok-write_known-in-Some-clause-ok g c r clean store place numbered at =
     let old = state g.S.Store c.args.tx.now.conn.now in
-    let mid = state g.S.Store c.read_document.new.tx.conn.now in
+    let mid = state g.S.Store c.read_followed.new.tx.conn.now in
     let new = state g.S.Store c.write_known.new.tx.conn.now in
     let a = addition_of c.args.write.now in
-    let was : HasCleanDisk mid = omega (arith, c.in_ok-after.ensures.proceeds.survives.clean, clean) in
+    let e = c.in_ok-write_known-in-Some.ensures in
+    let was : HasCleanDisk mid = omega (arith, e.proceeds.survives.clean, clean) in
     let same : mid.now ≡ old.now = (c.in_ok-history.ensures.stands store.schema_is was).0.now_is in
-    let known = history_of (old.now.trees revs_tree) c.args.db.now (number_of r) c.as_bytes.result.now a.id c.in_ok-history.history numbered (c.as_bytes.ensures.value ∙ c.as_str.ensures.text) (c.in_ok-history.ensures.ok was store) in
-    document_written r c.in_ok-history.history a old.now mid.now new.now same store known (λ is knows. c.in_ok-after.ensures.ok r clean is knows numbered at)
+    let Given : ℤ → Type 0 = λ n. HasPlaceFor (history_in (old.now.trees revs_tree) n a.id) a → IfSome c.in_ok-history.field-0 (Serves a (history_in (old.now.trees revs_tree) n a.id)) in
+    let told = subst Given numbered (c.in_ok-history.ensures.ok was store) place in
+    let serves = subst (λ (o : Option HistoryContent). IfSome o (Serves a (history_in (old.now.trees revs_tree) (number_of r) a.id))) c.in-Some.is told in
+    document_written r a c.in-Some.history old.now mid.now new.now same store serves (λ is s. e.ok r clean is s numbered at)
+
+pub returns-in_ok-write_read-in-None-clause-ok : goal.returns-in_ok-write_read-in-None-clause-ok
+returns-in_ok-write_read-in-None-clause-ok g c r clean store place numbered at =
+    let old = state g.S.Store c.args.tx.now.conn.now in
+    let mid = state g.S.Store c.read_followed.new.tx.conn.now in
+    let new = state g.S.Store c.write_read.new.tx.conn.now in
+    let a = addition_of c.args.write.now in
+    let e = c.in_ok-write_read-in-None.ensures in
+    let was : HasCleanDisk mid = omega (arith, e.asks.survives.clean, clean) in
+    let same : mid.now ≡ old.now = (c.in_ok-history.ensures.stands store.schema_is was).0.now_is in
+    let Is : Database → Type 0 = λ d. IsStore d → IsWrite r (written_in (history_in (d.trees revs_tree) (number_of r) a.id) a) d new.now in
+    subst Is same (λ is. e.ok r clean is numbered at) store
+
+pub returns-in_ok-write_read-in-None-clause-after : goal.returns-in_ok-write_read-in-None-clause-after
+returns-in_ok-write_read-in-None-clause-after g c clean store =
+    let old = state g.S.Store c.args.tx.now.conn.now in
+    let mid = state g.S.Store c.read_followed.new.tx.conn.now in
+    let a = addition_of c.args.write.now in
+    let e = c.in_ok-write_read-in-None.ensures in
+    let was : HasCleanDisk mid = omega (arith, e.asks.survives.clean, clean) in
+    let same : mid.now ≡ old.now = (c.in_ok-history.ensures.stands store.schema_is was).0.now_is in
+    let Is : Database → Type 0 = λ d. IsStore d → c.in_ok-write_read-in-None.field-0 ≡ with_addition (history_in (d.trees revs_tree) c.args.db.now a.id) a in
+    subst Is same (e.after clean) store

@@ -2,7 +2,7 @@ use Rattle.sqlstore.proofs.Lemmas.{List, Some, answered, ap, documents_intact, f
 use Rattle.std.specs.Prelude.{option_and_then, slice_get}
 use Rattle.tables.specs.Rows.{listed_document}
 use Rattle.tables.specs.Schema.{docs_tree}
-use Rattle.sqlstore.specs.Reading.{winner_shown}
+use Rattle.transactions.specs.Reading.{winner_shown}
 use Rattle.sqlstore.proofs.sql_store.SqlStore.find_winner.Goals as goal
 
 pub returns-clause-answer : goal.returns-clause-answer
