@@ -119,7 +119,6 @@ fn read_text<'a>(alloc: Global, bytes: &'a [u8]) -> Result<(String, &'a [u8]), K
 
 /// Reads the bytes of a text and its end: two bytes 0, where a 0 with another byte behind it is a
 /// 0 of the text.
-
 fn read_bytes<'a>(alloc: Global, bytes: &'a [u8]) -> Result<(Vec<u8>, &'a [u8]), KeyFault>
     ensures value { IfOk result (λ found. FindsText bytes.now (Some (found.0.items, found.1.now))) }
     ensures fault { IfErr result (λ fault. fault ≢ KeyFault.Memory → fault ≡ KeyFault.NotKey) }
