@@ -5,7 +5,7 @@ use crate::paths::path_of;
 use crate::selectors::query_of;
 use crate::texts::{say, text_of};
 use couch_json::canon;
-use rows::{RowsFault, push_all};
+use rows::RowsFault;
 use selector::{Bounds, Edge};
 use std::alloc::Global;
 
@@ -43,14 +43,15 @@ fn show(
 fn put_edge(
     alloc: Global,
     text: &mut String,
-    inside: &str,
-    outside: &str,
+    inside: &'static str,
+    outside: &'static str,
     edge: Edge<'_>,
 ) -> Result<(), RowsFault> {
-    let blank = if text.is_empty() { "" } else { " " };
-    let word = if edge.inclusive { inside } else { outside };
-    push_all(
-        text,
-        &[blank, word, " ", canon(alloc, edge.value)?.as_str()],
-    )
+    if !text.is_empty() {
+        text.push(' ')?;
+    }
+    text.push_str(if edge.inclusive { inside } else { outside })?;
+    text.push(' ')?;
+    text.push_str(canon(alloc, edge.value)?.as_str())?;
+    Ok(())
 }
