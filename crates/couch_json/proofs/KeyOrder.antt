@@ -42,7 +42,8 @@ same_shift m c d Less e h = less (m + c) (m + d) (omega arith)
 same_shift m c d Equal e h = sym (nat_cmp_is (m + c) (m + d) Equal (omega arith))
 same_shift m c d Greater e h = greater (m + c) (m + d) (omega arith)
 
-digits_apart : (a b c d base : ℕ) → c < base → d < base → (o : Ordering) → o ≡ nat_cmp a b → MatchOrdering o (a < b) (a ≡ b) (b < a) → nat_cmp (a * base + c) (b * base + d) ≡ ordering_then o (nat_cmp c d)
+digits_apart : (a b c d base : ℕ) → c < base → d < base → (o : Ordering) → o ≡ nat_cmp a b → MatchOrdering o (a < b) (a ≡ b) (b < a)
+    → nat_cmp (a * base + c) (b * base + d) ≡ ordering_then o (nat_cmp c d)
 digits_apart a b c d base p q Less e h = less (a * base + c) (b * base + d) (digits_below a b c d base p h)
 digits_apart a b c d base p q Equal e h =
     ap (λ x. nat_cmp (a * base + c) (x * base + d)) (sym h) ∙ same_shift (a * base) c d (nat_cmp c d) refl (ranked c d (nat_cmp c d) refl)
@@ -59,7 +60,8 @@ byte_is (suc k) n = ap (λ x. n % x) (pow-succ' 256 (suc k)) ∙ mod-mul n {m = 
 mod_below : (n k : ℕ) → n % 256 ^ k < 256 ^ k
 mod_below n k = omega (arith, power_positive k)
 
-bytes_order : (k m n : ℕ) (r s : List ℕ) → slice_cmp nat_cmp (bytes_high_first k m ++ r) (bytes_high_first k n ++ s) ≡ ordering_then (nat_cmp (m % 256 ^ k) (n % 256 ^ k)) (slice_cmp nat_cmp r s)
+bytes_order : (k m n : ℕ) (r s : List ℕ)
+    → slice_cmp nat_cmp (bytes_high_first k m ++ r) (bytes_high_first k n ++ s) ≡ ordering_then (nat_cmp (m % 256 ^ k) (n % 256 ^ k)) (slice_cmp nat_cmp r s)
 bytes_order zero m n r s =
     let a : m % 1 ≡ 0 = omega arith in
     let b : n % 1 ≡ 0 = omega arith in
@@ -75,7 +77,8 @@ pub height_below : (z : ℤ) → IsInRange z → height z < 2 ^ 64
 height_below (pos n) p = omega (arith, ints)
 height_below (negsuc n) p = omega (arith, ints)
 
-pub height_order : (y z : ℤ) → IsInRange y → IsInRange z → (o : Ordering) → MatchOrdering o (height y < height z) (height y ≡ height z) (height z < height y) → MatchOrdering o (y <ℤ z) (y ≡ z) (z <ℤ y)
+pub height_order : (y z : ℤ) → IsInRange y → IsInRange z → (o : Ordering) → MatchOrdering o (height y < height z) (height y ≡ height z) (height z < height y)
+    → MatchOrdering o (y <ℤ z) (y ≡ z) (z <ℤ y)
 height_order (pos a) (pos b) p q Less h = omega (arith, ints)
 height_order (pos a) (pos b) p q Equal h = let e : a ≡ b = omega (arith, ints) in ap pos e
 height_order (pos a) (pos b) p q Greater h = omega (arith, ints)
@@ -146,7 +149,8 @@ ends_second (array vs) r s = refl
 ends_second (object ms) r s = refl
 
 mutual
-  pub key_order : (v w : Value) (r s : List ℕ) → IsLawful v → IsLawful w → slice_cmp nat_cmp (key v ++ r) (key w ++ s) ≡ ordering_then (collation v w) (slice_cmp nat_cmp r s)
+  pub key_order : (v w : Value) (r s : List ℕ) → IsLawful v → IsLawful w
+      → slice_cmp nat_cmp (key v ++ r) (key w ++ s) ≡ ordering_then (collation v w) (slice_cmp nat_cmp r s)
   key_order null (truth false) r s p q = refl
   key_order null (truth true) r s p q = refl
   key_order (truth false) null r s p q = refl
@@ -172,7 +176,8 @@ mutual
   key_order (object ms) (object ns) r s p q = members_key_order ms ns r s p.1 q.1
   key_order v w r s p q = refl
 
-  items_key_order : (vs ws : Items) (r s : List ℕ) → AreLawfulItems vs → AreLawfulItems ws → slice_cmp nat_cmp (items_key vs ++ r) (items_key ws ++ s) ≡ ordering_then (items_collation vs ws) (slice_cmp nat_cmp r s)
+  items_key_order : (vs ws : Items) (r s : List ℕ) → AreLawfulItems vs → AreLawfulItems ws
+      → slice_cmp nat_cmp (items_key vs ++ r) (items_key ws ++ s) ≡ ordering_then (items_collation vs ws) (slice_cmp nat_cmp r s)
   items_key_order no_items no_items r s p q = refl
   items_key_order no_items (item w ws) r s p q = ap (slice_cmp nat_cmp (0 ∷ r)) (append_assoc (key w) (items_key ws) s) ∙ ends_first w r (items_key ws ++ s)
   items_key_order (item v vs) no_items r s p q = ap (λ l. slice_cmp nat_cmp l (0 ∷ s)) (append_assoc (key v) (items_key vs) r) ∙ ends_second v s (items_key vs ++ r)
@@ -181,7 +186,8 @@ mutual
       ∙ key_order v w (items_key vs ++ r) (items_key ws ++ s) p.0 q.0
       ∙ ap (ordering_then (collation v w)) (items_key_order vs ws r s p.1 q.1) ∙ sym (then_assoc (collation v w) (items_collation vs ws) (slice_cmp nat_cmp r s))
 
-  members_key_order : (ms ns : Members) (r s : List ℕ) → AreLawfulMembers ms → AreLawfulMembers ns → slice_cmp nat_cmp (members_key ms ++ r) (members_key ns ++ s) ≡ ordering_then (members_collation ms ns) (slice_cmp nat_cmp r s)
+  members_key_order : (ms ns : Members) (r s : List ℕ) → AreLawfulMembers ms → AreLawfulMembers ns
+      → slice_cmp nat_cmp (members_key ms ++ r) (members_key ns ++ s) ≡ ordering_then (members_collation ms ns) (slice_cmp nat_cmp r s)
   members_key_order no_members no_members r s p q = refl
   members_key_order no_members (member l w ns) r s p q = refl
   members_key_order (member k v ms) no_members r s p q = refl

@@ -50,13 +50,15 @@ finds_text limit bytes o found (truth false) r h d e = absurd (omega (arith, ap 
 finds_text limit bytes o found (truth true) r h d e = absurd (omega (arith, ap first_byte e))
 finds_text limit bytes o found v r h d e = absurd (omega (arith, ap first_byte e))
 
-pub finds_array : (limit : ℕ) (bytes : List ℕ) (o : Option (Items × List ℕ)) → FindsItems (limit - 1) bytes o → FindsValue limit (6 ∷ bytes) (option_map (λ p. (array p.0, p.1)) o)
+pub finds_array : (limit : ℕ) (bytes : List ℕ) (o : Option (Items × List ℕ)) → FindsItems (limit - 1) bytes o
+    → FindsValue limit (6 ∷ bytes) (option_map (λ p. (array p.0, p.1)) o)
 finds_array limit bytes o found (array vs) r h d e = ap (option_map (λ p. (array p.0, p.1))) (found vs r h (omega (arith, d)) (ap after_first e))
 finds_array limit bytes o found (truth false) r h d e = absurd (omega (arith, ap first_byte e))
 finds_array limit bytes o found (truth true) r h d e = absurd (omega (arith, ap first_byte e))
 finds_array limit bytes o found v r h d e = absurd (omega (arith, ap first_byte e))
 
-pub finds_object : (limit : ℕ) (bytes : List ℕ) (o : Option (Members × List ℕ)) → FindsMembers (limit - 1) bytes o → FindsValue limit (7 ∷ bytes) (option_map (λ p. (object p.0, p.1)) o)
+pub finds_object : (limit : ℕ) (bytes : List ℕ) (o : Option (Members × List ℕ)) → FindsMembers (limit - 1) bytes o
+    → FindsValue limit (7 ∷ bytes) (option_map (λ p. (object p.0, p.1)) o)
 finds_object limit bytes o found (object ms) r h d e = ap (option_map (λ p. (object p.0, p.1))) (found ms r h.0 h.1 (omega (arith, d)) (ap after_first e))
 finds_object limit bytes o found (truth false) r h d e = absurd (omega (arith, ap first_byte e))
 finds_object limit bytes o found (truth true) r h d e = absurd (omega (arith, ap first_byte e))
@@ -75,7 +77,8 @@ finds_none limit bytes n1 n2 n3 n4 n5 n6 n7 (object ms) r h d e = absurd (omega 
 
 -- ---- numbers
 
-pub finds_whole : (limit : ℕ) (bytes : List ℕ) (n : ℤ) → IsInRange n → height n ≡ from_be_bytes w64 (take 8 bytes) → FindsValue limit (4 ∷ bytes) (Some (whole n, drop 8 bytes))
+pub finds_whole : (limit : ℕ) (bytes : List ℕ) (n : ℤ) → IsInRange n → height n ≡ from_be_bytes w64 (take 8 bytes)
+    → FindsValue limit (4 ∷ bytes) (Some (whole n, drop 8 bytes))
 finds_whole limit bytes n p is (whole z) r h d e =
     let same : to_be_bytes w64 (height z) ≡ take 8 bytes = ap (λ t. take 8 (after_first t)) e in
     let left : r ≡ drop 8 bytes = ap (λ t. drop 8 (after_first t)) e in
@@ -117,7 +120,8 @@ finds_Truth_false limit bytes rest is = rw (is, view-Truth false) (finds_false l
 pub finds_Truth_true : (limit : ℕ) (bytes rest : List ℕ) → bytes ≡ 3 ∷ rest → FindsValue limit bytes (Some (view (Truth true), rest))
 finds_Truth_true limit bytes rest is = rw (is, view-Truth true) (finds_true limit rest)
 
-pub finds_Whole : (limit : ℕ) (bytes between rest : List ℕ) (n : Number) → bytes ≡ 4 ∷ between → height n.value ≡ from_be_bytes w64 (take 8 between) → rest ≡ drop 8 between
+pub finds_Whole : (limit : ℕ) (bytes between rest : List ℕ) (n : Number) → bytes ≡ 4 ∷ between → height n.value ≡ from_be_bytes w64 (take 8 between)
+    → rest ≡ drop 8 between
     → FindsValue limit bytes (Some (view (Whole n), rest))
 finds_Whole limit bytes between rest n is high left = rw (is, left, view-Whole n) (finds_whole limit between n.value n.in_range high)
 
@@ -213,7 +217,8 @@ ItemsLeft limit bytes done rest count =
 pub items_start : (limit : ℕ) (bytes : List ℕ) → ItemsLeft limit bytes [] bytes 0
 items_start limit bytes vs r h d e = (vs, refl, h, d, e, omega arith)
 
-pub items_end : (limit : ℕ) (bytes : List ℕ) (done : List Json) (after : List ℕ) (count : ℕ) → ItemsLeft limit bytes done (0 ∷ after) count → FindsItems limit bytes (Some (items_view done, after))
+pub items_end : (limit : ℕ) (bytes : List ℕ) (done : List Json) (after : List ℕ) (count : ℕ) → ItemsLeft limit bytes done (0 ∷ after) count
+    → FindsItems limit bytes (Some (items_view done, after))
 items_end limit bytes done after count left vs r h d e = let it = left vs r h d e in go it.0 it.1 it.4
   where
     go : (ws : Items) → vs ≡ items_after done ws → items_key ws ++ r ≡ 0 ∷ after → ◌≡◌ {A = Option (Items × List ℕ)} (Some (items_view done, after)) (Some (vs, r))
@@ -234,7 +239,8 @@ items_go limit bytes done rest after count v left some found vs r h d e = let it
         let long : length rest ≡ length (key w) + length after = ap length (sym opened) ∙ length-append (key w) (items_key ws ++ r) ∙ ap (λ t. length (key w) + length t) (sym is_after) in
         (ws, is ∙ ap (λ x. items_after done (item x ws)) (sym (ap (λ p. p.0) this)) ∙ items_after-push done v ws, lawful.1, omega (arith, deep), sym is_after, omega (arith, few, long, key_long w))
 
-pub items_fail : (limit : ℕ) (bytes : List ℕ) (done : List Json) (rest : List ℕ) (count : ℕ) → ItemsLeft limit bytes done rest count → first_byte rest ≢ 0 → FindsValue limit rest None → FindsItems limit bytes None
+pub items_fail : (limit : ℕ) (bytes : List ℕ) (done : List Json) (rest : List ℕ) (count : ℕ) → ItemsLeft limit bytes done rest count → first_byte rest ≢ 0
+    → FindsValue limit rest None → FindsItems limit bytes None
 items_fail limit bytes done rest count left some found vs r h d e = let it = left vs r h d e in go it.0 it.2 it.3 it.4
   where
     go : (ws : Items) → AreLawfulItems ws → items_depth ws ≤ limit → items_key ws ++ r ≡ rest → ◌≡◌ {A = Option (Items × List ℕ)} None (Some (vs, r))
@@ -245,7 +251,8 @@ items_long : (ws : Items) (r : List ℕ) → 1 ≤ length (items_key ws ++ r)
 items_long no_items r = omega arith
 items_long (item w ws) r = omega (arith, key_long w, length-append (key w) (items_key ws), length-append (key w ++ items_key ws) r)
 
-pub items_short : (limit : ℕ) (bytes : List ℕ) (done : List Json) (rest : List ℕ) (count : ℕ) → ItemsLeft limit bytes done rest count → (length rest + count ≤ length bytes → length rest ≤ 0) → FindsItems limit bytes None
+pub items_short : (limit : ℕ) (bytes : List ℕ) (done : List Json) (rest : List ℕ) (count : ℕ) → ItemsLeft limit bytes done rest count
+    → (length rest + count ≤ length bytes → length rest ≤ 0) → FindsItems limit bytes None
 items_short limit bytes done rest count left short vs r h d e =
     let it = left vs r h d e in
     absurd (omega (arith, items_long it.0 r, ap length it.4, short it.5))
@@ -260,7 +267,8 @@ MembersLeft limit bytes done rest count =
 pub members_start : (limit : ℕ) (bytes : List ℕ) → MembersLeft limit bytes no_members bytes 0
 members_start limit bytes ms r a h d e = (ms, refl, h, d, e, omega arith)
 
-pub members_end : (limit : ℕ) (bytes : List ℕ) (done : Members) (after : List ℕ) (count : ℕ) → MembersLeft limit bytes done (0 ∷ after) count → FindsMembers limit bytes (Some (done, after))
+pub members_end : (limit : ℕ) (bytes : List ℕ) (done : Members) (after : List ℕ) (count : ℕ) → MembersLeft limit bytes done (0 ∷ after) count
+    → FindsMembers limit bytes (Some (done, after))
 members_end limit bytes done after count left ms r a h d e = let it = left ms r a h d e in go it.0 it.1 it.4
   where
     go : (ns : Members) → ms ≡ joined done ns → members_key ns ++ r ≡ 0 ∷ after → ◌≡◌ {A = Option (Members × List ℕ)} (Some (done, after)) (Some (ms, r))
@@ -274,7 +282,8 @@ abbrev found_text : List ℕ → Option (List ℕ × List ℕ) → List ℕ × L
 found_text s None = (s, [])
 found_text s (Some p) = p
 
-pub members_go : (limit : ℕ) (bytes : List ℕ) (done : Members) (b : ℕ) (rest name between after : List ℕ) (v : Value) (count : ℕ) → MembersLeft limit bytes done (b ∷ rest) count → b ≢ 0
+pub members_go : (limit : ℕ) (bytes : List ℕ) (done : Members) (b : ℕ) (rest name between after : List ℕ) (v : Value) (count : ℕ)
+    → MembersLeft limit bytes done (b ∷ rest) count → b ≢ 0
     → FindsText rest (Some (name, between)) → FindsValue limit between (Some (v, after)) → MembersLeft limit bytes (put name v done) after (count + 1)
 members_go limit bytes done b rest name between after v count left some named found ms r a h d e = let it = left ms r a h d e in go it.0 it.1 it.2 it.3 it.4 it.5
   where
@@ -306,7 +315,8 @@ members_fail limit bytes done b rest name between count left some named found ms
         let this = ap (found_text m) (named m (key w ++ (members_key ns ++ r)) lawful.0 opened) in
         absurd (cc (found w (members_key ns ++ r) lawful.1 (omega (arith, deep)) (sym (ap (λ p. p.1) this))))
 
-pub members_unnamed : (limit : ℕ) (bytes : List ℕ) (done : Members) (b : ℕ) (rest : List ℕ) (count : ℕ) → MembersLeft limit bytes done (b ∷ rest) count → b ≢ 0 → FindsText rest None → FindsMembers limit bytes None
+pub members_unnamed : (limit : ℕ) (bytes : List ℕ) (done : Members) (b : ℕ) (rest : List ℕ) (count : ℕ) → MembersLeft limit bytes done (b ∷ rest) count → b ≢ 0
+    → FindsText rest None → FindsMembers limit bytes None
 members_unnamed limit bytes done b rest count left some named ms r a h d e = let it = left ms r a h d e in go it.0 it.2 it.4
   where
     go : (ns : Members) → AreLawfulMembers ns → members_key ns ++ r ≡ b ∷ rest → ◌≡◌ {A = Option (Members × List ℕ)} None (Some (ms, r))
@@ -317,18 +327,21 @@ members_long : (ns : Members) (r : List ℕ) → 1 ≤ length (members_key ns ++
 members_long no_members r = omega arith
 members_long (member m w ns) r = omega arith
 
-pub members_short : (limit : ℕ) (bytes : List ℕ) (done : Members) (rest : List ℕ) (count : ℕ) → MembersLeft limit bytes done rest count → (length rest + count ≤ length bytes → length rest ≤ 0) → FindsMembers limit bytes None
+pub members_short : (limit : ℕ) (bytes : List ℕ) (done : Members) (rest : List ℕ) (count : ℕ) → MembersLeft limit bytes done rest count
+    → (length rest + count ≤ length bytes → length rest ≤ 0) → FindsMembers limit bytes None
 members_short limit bytes done rest count left short ms r a h d e =
     let it = left ms r a h d e in
     absurd (omega (arith, members_long it.0 r, ap length it.4, short it.5))
 
 -- ---- depth
 
-pub items_depth-push : (done : List Json) (v : Json) (limit : ℕ) → items_depth (items_view done) ≤ limit → depth (view v) ≤ limit → items_depth (items_view (done ++ v ∷ [])) ≤ limit
+pub items_depth-push : (done : List Json) (v : Json) (limit : ℕ) → items_depth (items_view done) ≤ limit → depth (view v) ≤ limit
+    → items_depth (items_view (done ++ v ∷ [])) ≤ limit
 items_depth-push [] v limit h d = omega (arith, d)
 items_depth-push (w ∷ done) v limit h d = omega (arith, h, items_depth-push done v limit (omega (arith, h)) d)
 
-put_depth : (o : Ordering) (name other : List ℕ) (v w : Value) (ms put_ms : Members) (limit : ℕ) → members_depth (member other w ms) ≤ limit → depth v ≤ limit → members_depth put_ms ≤ limit
+put_depth : (o : Ordering) (name other : List ℕ) (v w : Value) (ms put_ms : Members) (limit : ℕ) → members_depth (member other w ms) ≤ limit → depth v ≤ limit
+    → members_depth put_ms ≤ limit
     → members_depth (match_ordering o (member name v (member other w ms)) (member other v ms) (member other w put_ms)) ≤ limit
 put_depth Less name other v w ms put_ms limit h d k = omega (arith, h, d)
 put_depth Equal name other v w ms put_ms limit h d k = omega (arith, h, d)

@@ -19,7 +19,8 @@ use Rattle.selector.proofs.Hulls.{contain-AreJust}
 
 -- ---- a field with a bare value
 
-member_truth-bare : (root : Value) (name : List ℕ) (v : Value) (truth_at : Option Value → Bool) (truths_at : Option Value → List Bool) (current : Option Value) → operator_named name ≡ None → is_object v ≡ false
+member_truth-bare : (root : Value) (name : List ℕ) (v : Value) (truth_at : Option Value → Bool) (truths_at : Option Value → List Bool) (current : Option Value)
+    → operator_named name ≡ None → is_object v ≡ false
     → member_truth root (operator_named name) name v truth_at truths_at current ≡ is_there_and (meets IsEqual v) (option_and_then (value_at name) current)
 member_truth-bare root name v truth_at truths_at current none bare = rw (none, bare)
 
@@ -55,7 +56,8 @@ member_count (member name v ms) = 1
 abbrev pub OneMember : List ℕ → Value → Bounds → Members → Type 0
 OneMember p b bounds left = ((bounds ≡ Any) × (left ≡ member p b no_members)) ⊎ (AreJust b bounds × (left ≡ no_members))
 
-pub OneMember-step : (p : List ℕ) (b : Value) (name : List ℕ) (v : Value) (rest : Members) (before this now : Bounds) → (before ≡ Any → now ≡ this) → (name ≡ p → v ≡ b → AreJust v this)
+pub OneMember-step : (p : List ℕ) (b : Value) (name : List ℕ) (v : Value) (rest : Members) (before this now : Bounds) → (before ≡ Any → now ≡ this)
+    → (name ≡ p → v ≡ b → AreJust v this)
     → OneMember p b before (member name v rest) → OneMember p b now rest
 OneMember-step p b name v rest before this now any just (inl h) =
     let named : name ≡ p = ap first_name h.1 in

@@ -1,5 +1,3 @@
-//! Between which values a field lies where a selector is true.
-
 ghost use Rattle.std.specs.Prelude.{◌≡◌, ◌&&◌, ◌||◌, ℕ, List, Option, Some, None, true, false, option_and_then, option_map};
 ghost use Rattle.std.specs.List.{list_all, list_any};
 ghost use Rattle.couch_json.specs.FieldPath.{value_at};
@@ -37,8 +35,8 @@ pub enum Bounds<'a> {
     Range(Option<Edge<'a>>, Option<Edge<'a>>),
 }
 
-/// Returns bounds of what the path reaches from the current value, or of that value without a
-/// path, if the selector is true.
+/// Returns bounds of a field, if the selector is true of the current value. The field is what the
+/// path reaches from that value or, without a path, the value itself.
 #[cycle(bounds)]
 pub(crate) fn bounds_in<'a>(selector: &'a Selector, path: Option<&FieldPath>) -> Bounds<'a>
     ensures inside { IsInside (λ root. is_true root selector.now) (option_map (λ p. p.now) path.entry) result }
@@ -49,12 +47,12 @@ pub(crate) fn bounds_in<'a>(selector: &'a Selector, path: Option<&FieldPath>) ->
 {
     let mut bounds = Bounds::Any;
     for condition in &selector.conditions {
-        bounds = both(bounds, bounds_of(condition, path));
+        bounds = overlap(bounds, bounds_of(condition, path));
     }
     bounds
 }
 
-/// Returns bounds of the same, if one member of a selector is true.
+/// Returns bounds of the field, if this member of a selector is true.
 #[cycle(bounds)]
 fn bounds_of<'a>(condition: &'a Condition, path: Option<&FieldPath>) -> Bounds<'a>
     ensures inside { let v = value_of condition.now in IsInside
@@ -70,22 +68,22 @@ fn bounds_of<'a>(condition: &'a Condition, path: Option<&FieldPath>) -> Bounds<'
             bounds_in(selector, None),
             path,
         ),
-        Condition::FieldIs(field, value) => bounds_by_field(field, just(&value.json), path),
+        Condition::FieldIs(field, value) => bounds_by_field(field, range_of(&value.json), path),
         Condition::Exists(false) => Bounds::Any,
-        Condition::Exists(true) | Condition::SameAs(_) => bounds_here(present(), path),
+        Condition::Exists(true) | Condition::SameAs(_) => bounds_here(whole_range(), path),
         Condition::Value(operator, argument) => {
             bounds_here(bounds_by_value(*operator, argument), path)
         }
         Condition::Selector(SelectorOperator::IsFalse, _) => Bounds::Any,
-        Condition::Selector(SelectorOperator::SomeElement, _) => bounds_here(present(), path),
-        Condition::Selector(SelectorOperator::EachElement, _) => bounds_here(present(), path),
+        Condition::Selector(SelectorOperator::SomeElement, _) => bounds_here(whole_range(), path),
+        Condition::Selector(SelectorOperator::EachElement, _) => bounds_here(whole_range(), path),
         Condition::List(ListOperator::AllTrue, selectors) => bounds_of_all(selectors, path),
         Condition::List(ListOperator::SomeTrue, selectors) => bounds_of_some(selectors, path),
         Condition::List(ListOperator::NoneTrue, _) => Bounds::Any,
     }
 }
 
-/// Returns bounds of the same, if each of the selectors is true.
+/// Returns bounds of the field, if each of the selectors is true.
 #[cycle(bounds)]
 fn bounds_of_all<'a>(selectors: &'a Vec<Selector>, path: Option<&FieldPath>) -> Bounds<'a>
     ensures { IsInside (λ root current. list_all (λ b. b) (item_truths root (items_of selectors.now.items) current))
@@ -93,12 +91,12 @@ fn bounds_of_all<'a>(selectors: &'a Vec<Selector>, path: Option<&FieldPath>) -> 
 {
     let mut bounds = Bounds::Any;
     for selector in selectors {
-        bounds = both(bounds, bounds_in(selector, path));
+        bounds = overlap(bounds, bounds_in(selector, path));
     }
     bounds
 }
 
-/// Returns bounds of the same, if at least one of the selectors is true.
+/// Returns bounds of the field, if at least one of the selectors is true.
 #[cycle(bounds)]
 fn bounds_of_some<'a>(selectors: &'a Vec<Selector>, path: Option<&FieldPath>) -> Bounds<'a>
     ensures { IsInside (λ root current. list_any (λ b. b) (item_truths root (items_of selectors.now.items) current))
@@ -106,7 +104,7 @@ fn bounds_of_some<'a>(selectors: &'a Vec<Selector>, path: Option<&FieldPath>) ->
 {
     let mut hull = None;
     for selector in selectors {
-        hull = Some(either(hull, bounds_in(selector, path)));
+        hull = Some(hull_of(hull, bounds_in(selector, path)));
     }
     match hull {
         Some(bounds) => bounds,
@@ -114,8 +112,7 @@ fn bounds_of_some<'a>(selectors: &'a Vec<Selector>, path: Option<&FieldPath>) ->
     }
 }
 
-/// Returns bounds of what the path reaches from the current value, if these are bounds of its
-/// field.
+/// Returns bounds of the field, if these are bounds of what another field's path reaches.
 fn bounds_by_field<'a>(field: &Field, bounds: Bounds<'a>, path: Option<&FieldPath>) -> Bounds<'a>
     ensures inside { (current : Option Value)
         → contain bounds.entry (option_and_then (value_at field.now.path) current) ≡ true
@@ -127,13 +124,12 @@ fn bounds_by_field<'a>(field: &Field, bounds: Bounds<'a>, path: Option<&FieldPat
         Some(_) => Bounds::Any,
         None => match bounds {
             Bounds::Any => Bounds::Any,
-            Bounds::Range(_, _) => present(),
+            Bounds::Range(_, _) => whole_range(),
         },
     }
 }
 
-/// Returns bounds of what the path reaches from the current value, if these are bounds of that
-/// value.
+/// Returns bounds of the field, if these are bounds of the current value.
 fn bounds_here<'a>(bounds: Bounds<'a>, path: Option<&FieldPath>) -> Bounds<'a>
     ensures { (current : Option Value) → contain bounds.entry current ≡ true
         → contain result (reached (option_map (λ p. p.now) path.entry) current) ≡ true }
@@ -150,13 +146,13 @@ fn bounds_by_value<'a>(operator: ValueOperator, argument: &'a Json) -> Bounds<'a
         → contain result current ≡ true }
 {
     match operator {
-        ValueOperator::IsEqual => just(argument),
+        ValueOperator::IsEqual => range_of(argument),
         ValueOperator::IsLess => Bounds::Range(None, Some(edge_at(argument, false))),
         ValueOperator::IsAtMost => Bounds::Range(None, Some(edge_at(argument, true))),
         ValueOperator::IsGreater => Bounds::Range(Some(edge_at(argument, false)), None),
         ValueOperator::IsAtLeast => Bounds::Range(Some(edge_at(argument, true)), None),
         ValueOperator::IsIn => bounds_of_items(elements(argument)),
-        _ => present(),
+        _ => whole_range(),
     }
 }
 
@@ -167,23 +163,23 @@ fn bounds_of_items<'a>(items: &'a [Json]) -> Bounds<'a>
 {
     let mut hull = None;
     for item in items {
-        hull = Some(either(hull, just(item)));
+        hull = Some(hull_of(hull, range_of(item)));
     }
     match hull {
         Some(bounds) => bounds,
-        None => present(),
+        None => whole_range(),
     }
 }
 
-/// Returns the bounds of a field that is there.
-fn present<'a>() -> Bounds<'a>
+/// Returns the bounds of a field of which it is known only that it is there.
+fn whole_range<'a>() -> Bounds<'a>
     ensures { (v : Value) → contain result (Some v) ≡ true }
 {
     Bounds::Range(None, None)
 }
 
-/// Returns the bounds of one value.
-fn just<'a>(value: &'a Json) -> Bounds<'a>
+/// Returns the bounds of a field that equals the value.
+fn range_of<'a>(value: &'a Json) -> Bounds<'a>
     ensures { AreJust (view value.now) result }
 {
     Bounds::Range(Some(edge_at(value, true)), Some(edge_at(value, true)))
@@ -197,7 +193,7 @@ fn edge_at<'a>(value: &'a Json, inclusive: bool) -> Edge<'a>
 }
 
 /// Returns the bounds that contain what both contain.
-fn both<'a>(first: Bounds<'a>, second: Bounds<'a>) -> Bounds<'a>
+fn overlap<'a>(first: Bounds<'a>, second: Bounds<'a>) -> Bounds<'a>
     ensures contain { (field : Option Value)
         → contain result field ≡ contain first.entry field && contain second.entry field }
     ensures any { first.entry ≡ Any → result ≡ second.entry }
@@ -246,7 +242,7 @@ fn lower<'a>(first: Option<Edge<'a>>, second: Option<Edge<'a>>) -> Option<Edge<'
 }
 
 /// Returns bounds that contain what one of both contains.
-fn either<'a>(first: Option<Bounds<'a>>, second: Bounds<'a>) -> Bounds<'a>
+fn hull_of<'a>(first: Option<Bounds<'a>>, second: Bounds<'a>) -> Bounds<'a>
     ensures first { (field : Option Value) → is_there_and (λ b. contain b field) first.entry ≡ true
         → contain result field ≡ true }
     ensures second { (field : Option Value) → contain second.entry field ≡ true

@@ -3,7 +3,7 @@
 
 use crate::texts::{canonical, text_of, value_of};
 use couch_json::{Json, KeyFault, key_bytes, key_of};
-use rows::{RowsFault, push_all};
+use rows::RowsFault;
 use std::alloc::Global;
 
 /// Answers with the key of a value, or the value of a key.
@@ -39,13 +39,11 @@ fn read_key(alloc: Global, key: &[u8]) -> Result<Json, RowsFault> {
 /// Answers with bytes, two digits each, with blanks between them.
 fn show(alloc: Global, bytes: &[u8]) -> Result<Vec<u8>, RowsFault> {
     let mut text = String::new(alloc);
-    let mut blank = "";
-    for byte in bytes {
-        push_all(
-            &mut text,
-            &[blank, format!(in alloc; "{byte:02x}")?.as_str()],
-        )?;
-        blank = " ";
+    for (place, byte) in bytes.iter().enumerate() {
+        if place > 0 {
+            text.push(' ')?;
+        }
+        text.push_str(format!(in alloc; "{byte:02x}")?.as_str())?;
     }
     Ok(text.into_bytes())
 }

@@ -1,7 +1,8 @@
-//! Plays rows on the crates that hold no database: JSON, selectors, callers, streams of requests and
+//! Plays rows on the crates that hold no database: JSON, keys, selectors, callers, streams of requests and
 //! replies, revisions, histories, verdicts and update rules. A file's ending says which kind its rows are of.
 #![tactic(auto)]
 
+mod bounds;
 mod callers;
 mod collation;
 mod histories;

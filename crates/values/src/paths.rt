@@ -17,7 +17,7 @@ pub fn answer(alloc: Global, question: &[u8]) -> Result<Vec<u8>, RowsFault> {
 }
 
 /// Returns the path of a text, which is its text.
-fn path_of(alloc: Global, text: &str) -> Result<FieldPath, RowsFault> {
+pub fn path_of(alloc: Global, text: &str) -> Result<FieldPath, RowsFault> {
     match FieldPath::parse(alloc, text) {
         Ok(path) if path.as_str() == text => Ok(path),
         Ok(_) => Err(RowsFault::Refused("the path has another text")),

@@ -1,6 +1,8 @@
 //! Kinds of rows that keep nothing from one question to the next.
 
-use crate::{ids, json, keys, numbers, paths, received, replies, selectors, sent, streams, tokens};
+use crate::{
+    bounds, ids, json, keys, numbers, paths, received, replies, selectors, sent, streams, tokens,
+};
 use rows::{Joint, Kind, RowsFault};
 use std::alloc::Global;
 
@@ -14,6 +16,7 @@ pub struct PlainRows {
 /// One of these kinds: the module of its name says what its rows ask.
 #[derive(Clone, Copy)]
 enum Plain {
+    Bounds,
     Ids,
     Json,
     Keys,
@@ -31,6 +34,7 @@ impl PlainRows {
     /// Makes a player of files with this ending; `None` where none of these kinds has it.
     pub fn of_ending(alloc: Global, ending: &str) -> Option<PlainRows> {
         let kind = match ending {
+            "bounds" => Plain::Bounds,
             "ids" => Plain::Ids,
             "json" => Plain::Json,
             "keys" => Plain::Keys,
@@ -58,6 +62,7 @@ impl Kind for PlainRows {
 
     fn answer(&mut self, question: &[u8]) -> Result<Vec<u8>, RowsFault> {
         match self.kind {
+            Plain::Bounds => bounds::answer(self.alloc, question),
             Plain::Ids => ids::answer(self.alloc, question),
             Plain::Json => json::answer(self.alloc, question),
             Plain::Keys => keys::answer(self.alloc, question),

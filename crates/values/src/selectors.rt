@@ -43,14 +43,15 @@ pub fn answer(alloc: Global, question: &[u8]) -> Result<Vec<u8>, RowsFault> {
 fn selector_of(alloc: Global, text: &str) -> Result<Parsed, RowsFault> {
     match text.strip_prefix("rule ") {
         Some(text) => rule_of(alloc, text),
-        None => query_of(alloc, text),
+        None => Ok(Parsed::Query(query_of(alloc, text)?)),
     }
 }
 
-fn query_of(alloc: Global, text: &str) -> Result<Parsed, RowsFault> {
+/// Returns the selector of a query.
+pub fn query_of(alloc: Global, text: &str) -> Result<Selector, RowsFault> {
     let value = value_of(alloc, text)?;
     match Selector::parse(alloc, &value) {
-        Ok(selector) => Ok(Parsed::Query(selector)),
+        Ok(selector) => Ok(selector),
         Err(fault) => Err(refusal_of(fault)),
     }
 }

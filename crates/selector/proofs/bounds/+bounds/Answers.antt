@@ -29,11 +29,11 @@ bounds_in-loop-condition-preserved t c =
     let left : (root : Value) (current : Option Value) → is_true root c.args.selector.now current ≡ true → are_true root (members_of (this ∷ rest)) current ≡ true =
     λ root current h. subst (λ left. are_true root (members_of left) current ≡ true) steps (l.invariant.left root current h) in
     record {
-      inside = λ root current h. c.both-bounds.ensures.contain (reached path current)
+      inside = λ root current h. c.overlap-bounds.ensures.contain (reached path current)
           ∙ both_true (contain l.bounds (reached path current)) (contain c.bounds_of.result (reached path current)) (l.invariant.inside root current h)
           (c.bounds_of.ensures.inside root current (first_true (truth root current) (are_true root (members_of rest) current) (left root current h)));
       left = λ root current h. second_true (truth root current) (are_true root (members_of rest) current) (left root current h);
-      one = λ p b is_path none bare alone. OneMember-step p b (name_of this) (value_of this) (members_of rest) l.bounds c.bounds_of.result c.both-bounds.result c.both-bounds.ensures.any
+      one = λ p b is_path none bare alone. OneMember-step p b (name_of this) (value_of this) (members_of rest) l.bounds c.bounds_of.result c.overlap-bounds.result c.overlap-bounds.ensures.any
           (λ named valued. c.bounds_of.ensures.one (is_path ∙ ap Some (sym named)) (ap operator_named named ∙ none) (ap is_object valued ∙ bare))
           (subst (λ left. OneMember p b l.bounds (members_of left)) steps (l.invariant.one p b is_path none bare alone));
     }
@@ -54,7 +54,7 @@ pub bounds_of-returns-in-FieldIs-clause-inside : goal.bounds_of-returns-in-Field
 bounds_of-returns-in-FieldIs-clause-inside t c =
     let step = c.in-FieldIs in
     let result = c.bounds_by_field-in-FieldIs in
-    IsInside-FieldIs c.args.condition.now step.field step.value step.is (option_map (λ p. p.now) c.args.path) c.just.result result.result c.just.ensures result.ensures.inside
+    IsInside-FieldIs c.args.condition.now step.field step.value step.is (option_map (λ p. p.now) c.args.path) c.range_of.result result.result c.range_of.ensures result.ensures.inside
 
 pub bounds_of_all-loop-selector-preserved : goal.bounds_of_all-loop-selector-preserved
 bounds_of_all-loop-selector-preserved t c =
@@ -69,7 +69,7 @@ bounds_of_all-loop-selector-preserved t c =
     → list_all (λ b. b) (item_truths root (items_of (this ∷ rest)) current) ≡ true =
     λ root current h. subst (λ left. list_all (λ b. b) (item_truths root (items_of left) current) ≡ true) steps (l.invariant.left root current h) in
     record {
-      inside = λ root current h. c.both-bounds.ensures.contain (reached path current)
+      inside = λ root current h. c.overlap-bounds.ensures.contain (reached path current)
           ∙ both_true (contain l.bounds (reached path current)) (contain c.bounds_in.result (reached path current)) (l.invariant.inside root current h)
           (c.bounds_in.ensures.inside root current (first_true (is_true root this current) (others root current) (left root current h)));
       left = λ root current h. second_true (is_true root this current) (others root current) (left root current h);
@@ -85,8 +85,8 @@ bounds_of_some-loop-selector-preserved t c =
     let steps : drop l.selector-index items ≡ this ∷ rest = grind (arith, common_steps) in
     λ root current h.
     let field = reached path current in
-    hull_step (hull_contain l.hull field) (is_true root this current) (list_any (λ b. b) (item_truths root (items_of rest) current)) (contain c.either.result field)
-    (c.either.ensures.first field) (λ holds. c.either.ensures.second field (c.bounds_in.ensures.inside root current holds))
+    hull_step (hull_contain l.hull field) (is_true root this current) (list_any (λ b. b) (item_truths root (items_of rest) current)) (contain c.hull_of.result field)
+    (c.hull_of.ensures.first field) (λ holds. c.hull_of.ensures.second field (c.bounds_in.ensures.inside root current holds))
     (subst (λ left. hull_contain l.hull field || list_any (λ b. b) (item_truths root (items_of left) current) ≡ true) steps (l.invariant root current h))
 
 pub bounds_of_some-returns-in-Some : goal.bounds_of_some-returns-in-Some

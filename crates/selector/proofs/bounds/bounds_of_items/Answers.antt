@@ -14,7 +14,7 @@ loop-item-preserved c =
     let item = c.item-item.result in
     let rest = drop (l.item-index + 1) items in
     let steps : drop l.item-index items ≡ item ∷ rest = grind (arith, common_steps) in
-    λ current among. among_step item rest l.hull c.just.result c.either.result c.just.ensures c.either.ensures.first c.either.ensures.second current
+    λ current among. among_step item rest l.hull c.range_of.result c.hull_of.result c.range_of.ensures c.hull_of.ensures.first c.hull_of.ensures.second current
     (subst (λ left. is_there_and (λ b. contain b current) l.hull || is_there_and (λ v. is_among v (items_view left)) current ≡ true) steps (l.invariant current among))
 
 pub returns-in-Some : goal.returns-in-Some

@@ -1,5 +1,5 @@
 use Rattle.selector.proofs.Edges.{contain-both}
-use Rattle.selector.proofs.bounds.both.Goals as goal
+use Rattle.selector.proofs.bounds.overlap.Goals as goal
 
 pub returns-in-Range-Range-clause-contain : goal.returns-in-Range-Range-clause-contain
 returns-in-Range-Range-clause-contain c =

@@ -3,7 +3,7 @@ use Rattle.couch_json.specs.Parts.{is_there_and}
 use Rattle.selector.specs.Bounds.{contain}
 use Rattle.selector.specs.declared.bounds.Bounds.TheVariants.{Range}
 use Rattle.selector.proofs.Edges.{contain-either_first, contain-either_second}
-use Rattle.selector.proofs.bounds.either.Goals as goal
+use Rattle.selector.proofs.bounds.hull_of.Goals as goal
 
 pub returns-in-Some-Range-Range-clause-first : goal.returns-in-Some-Range-Range-clause-first
 returns-in-Some-Range-Range-clause-first c =
