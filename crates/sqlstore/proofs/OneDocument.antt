@@ -1,27 +1,17 @@
 -- What the row of one revision says.
-use Rattle.sqlstore.proofs.Common.{AllByRecursion, Bool, Coded-set, IsDocumentRow, IsLaid, IsListedDocument, List, Option, Revision, Row, Some, Trees, [], all-filter, all_map, ap, ap₂, coded_option, docs_tree, filter, history_in, id_of, db_of, inl, inr, is_of, listed_document, map, option_map, refl, revs_tree, shown_revision, slice_get, subst, sym, true, ℕ, ℤ, ◌∙◌, ◌∷◌, ◌≡◌, ◌⊎◌}
+use Rattle.sqlstore.proofs.Common.{AllByRecursion, Bool, Coded-set, IsLaid, List, Option, Revision, Row, Trees, [], all-filter, all_map, ap, coded_option, filter, history_in, is_of, map, option_map, refl, revs_tree, shown_revision, slice_get, subst, sym, ℕ, ℤ, ◌∙◌, ◌∷◌, ◌≡◌}
 use Rattle.std.specs.FinMap as finite
 use Rattle.std.specs.Ordering.{eq_by_cmp}
-use Rattle.sqlite_keyed.proofs.ListLemmas.{slice_get-filter}
-use Rattle.store.proofs.Winnings.{no_winner}
-use Rattle.std.specs.Prelude.{option_and_then}
-use Rattle.tables.proofs.Laid.{history, shown_revisions, stored_winner}
-use Rattle.tables.proofs.ListingRows.{rows_of_a_listing, won}
-use Rattle.tables.proofs.Lookups.{unwritten}
-use Rattle.tables.proofs.RowMaps.{filter_both, get_filtered, passing}
-use Rattle.tables.proofs.Single.{few}
-use Rattle.tables.proofs.Tables.{of_these, one_of}
-use Rattle.tables.specs.Rows.{entry_of, is_gone, is_revision_of, revision_of}
+use Rattle.tables.proofs.Laid.{shown_revisions}
+use Rattle.tables.proofs.RowMaps.{filter_both, get_filtered}
+use Rattle.tables.specs.Rows.{entry_of, is_revision_of, revision_of}
 use Rattle.tables.specs.Shown.{IsShownRevision}
 use Rattle.tree.proofs.Kept.{revision_cmp_total}
 use Rattle.tree.proofs.Revisions.{revision_cmp_exact}
 use Rattle.tree.specs.Revision.{revision_cmp}
 use Rattle.tree.specs.declared.entry.Entry.{Entry}
 use Rattle.tree.specs.HistoryCode.{entry_code}
-use Rattle.tree.specs.Outline.{marked, marked_winner}
-use Rattle.tree.specs.contracts.marked_rev.MarkedRev as marked_rev
-use Rattle.tree.specs.declared.marked_rev.MarkedRev.{MarkedRev}
-use Rattle.sqlstore.specs.Reading.{known_shown, winner_shown}
+use Rattle.sqlstore.specs.Reading.{known_shown}
 
 pub entry_set : IsSet (Option (Option Entry))
 entry_set = Coded-set (coded_option (coded_option entry_code))

@@ -1,6 +1,6 @@
 -- What the rows of databases and names say, and when they are intact.
 -- This server's own: rows are read by the words of `tables`.
-use Rattle.std.specs.Prelude.{◌≡◌, ℕ, ℤ, IsTrue, List, length, filter, slice_get, Option, option_map, Some}
+use Rattle.std.specs.Prelude.{◌≡◌, ℕ, ℤ, IsTrue, List, length, filter, slice_get, Some}
 use Rattle.couch_json.specs.Value as json
 use Rattle.couch_json.specs.View.{view}
 use Rattle.store.specs.DatabaseName.{is_database_name}
