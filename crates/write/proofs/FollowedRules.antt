@@ -1,23 +1,29 @@
 -- What is held of the revision that an edit follows is all that update rules look at of a history.
-use Rattle.std.proofs.Common.{◌≡◌, ◌≢◌, Bool, true, false, cond, List, [], ◌∷◌, ℕ, Option, Some, None, Result, Ok, Err, IfErr, refl, sym, ap, subst, ◌∙◌}
+use Rattle.std.proofs.Common.{◌≡◌, ◌≢◌, false, cond, List, [], ◌∷◌, ℕ, Option, Some, None, Result, Ok, Err, IfErr, IfOk, refl, sym, ap, subst, ◌∙◌}
 use Rattle.std.specs.Prelude.{is_some, option_and_then, option_map}
 use Rattle.std.specs.FinMap as finite
 use Rattle.std.specs.Ordering.{eq_by_cmp}
 use Rattle.tree.proofs.Contents.{get-with_new, or}
 use Rattle.tree.proofs.Revisions.{tied}
-use Rattle.tree.specs.History.{HistoryContent, held_of, with_new}
+use Rattle.tree.specs.History.{HistoryContent, held_of, winner, with_new}
 use Rattle.tree.specs.Revision.{Revision, revision_cmp}
 use Rattle.tree.specs.declared.entry.Entry.{Entry}
 use Rattle.tree.specs.declared.entry.Held.{Held}
 use Rattle.policy.specs.Argument.{OldDocument, argument}
 use Rattle.policy.specs.UpdateRules.{update_verdict}
-use Rattle.store.specs.Contents.{IfThere}
-use Rattle.store.specs.Database.{Database}
+use Rattle.store.specs.Contents.{Contents, IfThere}
+use Rattle.store.specs.Database.{Database, Document, history_at, history_in}
+use Rattle.store.specs.Lawful.{AreLawful, IsLawful}
+use Rattle.store.proofs.Lawfuls.{has_winner}
+use Rattle.std.proofs.Math.Logic.{∥∥₁_elim}
+use Rattle.std.proofs.lemmas.Bool.{false≢true}
+use Rattle.tree.specs.HistoryCode.{content_code}
+use package.base.Stored.{Coded-set}
 use Rattle.tree.specs.DocumentId.{is_design_id}
 use Rattle.store.specs.Database.{DocumentWrite}
 use Rattle.store.specs.Writing.{Addition, written_in}
 use Rattle.write.proofs.Plannings.{own_refusal}
-use Rattle.write.specs.Admission.{appended_edit, document_of, edit_with_revision, held_document, is_known_if_any, next_edit, revision_after, rule_refusal, unless_denied}
+use Rattle.write.specs.Admission.{appended_edit, base, document_of, edit_after, edit_with_revision, held_document, is_known_if_any, next_edit, revision_after, rule_refusal, unless_denied}
 use Rattle.write.specs.Refusing.{IsOwn}
 use Rattle.write.specs.Terms.{Terms}
 use Rattle.write.specs.declared.document.Sent.{Sent}
@@ -64,3 +70,27 @@ pub refused_there : {A : Type 0} (r : Result A WriteFault) (fault : WriteFault) 
 refused_there {A} r fault there outcome is why =
     subst (λ (x : Result A WriteFault). IfErr x (λ e. IsOwn e → IfThere there (λ d. outcome d ≡ Err e))) (sym is)
     (λ own. own_refusal fault (IfThere there (λ d. outcome d ≡ Err fault)) (λ other. there_is there (λ d known. why other d)) own)
+
+-- a document of a lawful database that has no winner was never written
+pub never_written : (contents : Contents) (name : List ℕ) (d : Database) (id : List ℕ) → ∥ AreLawful contents ∥₁ → finite.get contents name ≡ Some d → winner (history_at d id) ≡ None → history_at d id ≡ finite.empty
+never_written contents name d id lawful there none = ∥∥₁_elim lawful (Coded-set content_code _ _) (λ are. by (are name d there) (finite.get d.documents id) refl none)
+  where
+    by : IsLawful d → (o : Option Document) → finite.get d.documents id ≡ o → winner (history_in o) ≡ None → history_in o ≡ finite.empty
+    by l None is none = refl
+    by l (Some x) is none = absurd (false≢true (sym (ap is_some none) ∙ has_winner x.history (l.documents id x is)))
+
+-- what becomes of an edit of a new document becomes of it in the database, where it was never written
+pub new_there : (contents : Contents) (name : List ℕ) (terms : Terms) (id : List ℕ) (sent : Sent) (outcome : HistoryContent → Result DocumentWrite WriteFault) → ∥ AreLawful contents ∥₁
+    → ((d : Database) → finite.get contents name ≡ Some d → (base (history_at d id) sent.rev ≡ Some None) × (winner (history_at d id) ≡ None))
+    → next_edit terms id finite.empty sent None ≡ outcome finite.empty → IfThere (finite.get contents name) (λ d. edit_after terms id (history_at d id) sent (base (history_at d id) sent.rev) ≡ outcome (history_at d id))
+new_there contents name terms id sent outcome lawful told it = there_is (finite.get contents name) (λ d is.
+    ap (edit_after terms id (history_at d id) sent) (told d is).0
+    ∙ subst (λ (h : HistoryContent). next_edit terms id h sent None ≡ outcome h) (sym (never_written contents name d id lawful is (told d is).1)) it)
+
+pub ok_then : {A F : Type 0} {P Q : A → Type 0} (r : Result A F) → ((x : A) → P x → Q x) → IfOk r P → IfOk r Q
+ok_then (Ok x) f p = f x p
+ok_then (Err e) f p = tt
+
+pub err_then : {A F : Type 0} {P Q : F → Type 0} (r : Result A F) → ((e : F) → P e → Q e) → IfErr r P → IfErr r Q
+err_then (Ok x) f p = tt
+err_then (Err e) f p = f e p

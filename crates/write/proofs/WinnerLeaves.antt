@@ -1,7 +1,6 @@
 -- The winner is a leaf, and where there is none no revision is one.
 use Rattle.std.proofs.Common.{◌≡◌, Bool, true, false, cond, Option, Some, None, refl, sym, ap, subst, ◌∙◌}
 use Rattle.std.specs.Prelude.{IsTrue, MatchOption, option_map, ◌⊎◌}
-use Rattle.std.proofs.lemmas.Bool.{false≢true}
 use Rattle.tree.proofs.Leaves.{winner_is_best}
 use Rattle.tree.proofs.Shown.{inside}
 use Rattle.tree.specs.History.{HistoryContent, IsBetter, is_leaf, winner}

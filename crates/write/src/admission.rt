@@ -133,7 +133,7 @@ fn find_extended_leaf(history: &History) -> Option<Option<Rev>>
 }
 
 /// Writes what an edit says as the next revision after this one.
-fn write_next(
+pub(crate) fn write_next(
     alloc: Global,
     terms: &Terms,
     history: &History,

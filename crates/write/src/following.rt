@@ -15,7 +15,7 @@ ghost use Rattle.write.specs.Refusing.{IsDecided, IsOfStoreOrMemory, IsOwn, Refu
 ghost use Rattle.write.specs.TermsRead.{terms_of};
 ghost use Rattle.write.specs.declared.document.Sent.{Sent};
 
-use crate::admission::{admit_sent, allow_revision, make_revision, make_write, read_allowed};
+use crate::admission::{admit_sent, allow_revision, make_revision, make_write, read_allowed, write_next};
 use crate::document::Sent;
 use crate::fault::WriteFault;
 use crate::terms::Terms;
@@ -27,8 +27,10 @@ use tree::{DocId, History, MarkedRev, Rev};
 /// What the winner alone says of the revision that an edit follows.
 #[derive(Clone, Copy, Drop)]
 pub(crate) enum Followed {
-    /// The edit follows this revision, or none where the document is new.
-    Leaf(Option<Rev>),
+    /// The edit follows no revision, since the document was never written.
+    New,
+    /// The edit follows this revision.
+    Leaf(Rev),
     /// There is none that it may follow.
     Conflict,
     /// The winner doesn't tell.
@@ -37,7 +39,7 @@ pub(crate) enum Followed {
 
 /// Finds what an edit that names this revision, or none, follows, as far as the winner tells.
 fn find_followed(winner: Option<MarkedRev>, rev: Option<Rev>) -> Followed
-    ensures { (h : HistoryContent) → winner ≡ marked_winner h → IsFollowed (base h rev) result }
+    ensures { (h : HistoryContent) → winner ≡ marked_winner h → IsFollowed h (base h rev) result }
 {
     match rev {
         None => follow_winner(winner),
@@ -47,13 +49,13 @@ fn find_followed(winner: Option<MarkedRev>, rev: Option<Rev>) -> Followed
 
 /// Finds what an edit that names no revision follows.
 fn follow_winner(winner: Option<MarkedRev>) -> Followed
-    ensures { (h : HistoryContent) → winner ≡ marked_winner h → IsFollowed (base h None) result }
+    ensures { (h : HistoryContent) → winner ≡ marked_winner h → IsFollowed h (base h None) result }
 {
     match winner {
-        None => Followed::Leaf(None),
+        None => Followed::New,
         Some(winner) => {
             if winner.deleted {
-                Followed::Leaf(Some(winner.rev))
+                Followed::Leaf(winner.rev)
             } else {
                 Followed::Conflict
             }
@@ -63,18 +65,29 @@ fn follow_winner(winner: Option<MarkedRev>) -> Followed
 
 /// Finds what an edit that names this revision follows.
 fn follow_named(winner: Option<MarkedRev>, rev: Rev) -> Followed
-    ensures { (h : HistoryContent) → winner ≡ marked_winner h → IsFollowed (base h (Some rev)) result }
+    ensures { (h : HistoryContent) → winner ≡ marked_winner h → IsFollowed h (base h (Some rev)) result }
 {
     match winner {
         None => Followed::Conflict,
         Some(winner) => {
             if winner.rev.cmp(&rev).is_eq() {
-                Followed::Leaf(Some(rev))
+                Followed::Leaf(rev)
             } else {
                 Followed::Open
             }
         }
     }
+}
+
+/// Judges what an edit says of a document that was never written.
+fn judge_new(alloc: Global, terms: &Terms, id: &DocId, sent: Sent) -> Result<Write, WriteFault>
+    ensures ok { IfOk result (λ write. next_edit (terms_of terms.now) id.now map.empty sent None ≡ Ok (written_in map.empty (addition_of write))) }
+    ensures headed { IfOk result (λ write. 0 < length write.path.items) }
+    ensures fault { IfErr result (λ fault. fault ≢ WriteFault.Memory → next_edit (terms_of terms.now) id.now map.empty sent None ≡ Err fault) }
+    ensures others { IfErr result (λ fault. (fault ≢ WriteFault.BadHistory) × ((cause : _) → fault ≢ WriteFault.Store cause)) }
+{
+    let history = History::new(alloc);
+    write_next(alloc, terms, &history, id, sent, None)
 }
 
 /// Tells whether the document has the revision, if there is one.
@@ -194,7 +207,8 @@ fn judge_sent<S: Store>(
 {
     let winner = store.winner(db, id)?;
     match find_followed(winner, sent.rev) {
-        Followed::Leaf(parent) => judge_next(alloc, store, db, terms, id, sent, parent),
+        Followed::New => judge_new(alloc, terms, id, sent),
+        Followed::Leaf(parent) => judge_next(alloc, store, db, terms, id, sent, Some(parent)),
         Followed::Conflict => Err(WriteFault::Conflict),
         Followed::Open => judge_whole(alloc, store, db, terms, id, sent),
     }

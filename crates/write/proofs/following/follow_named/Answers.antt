@@ -1,4 +1,4 @@
-use Rattle.std.proofs.Common.{rules, ap, ◌∙◌, sym, ◌≡◌}
+use Rattle.std.proofs.Common.{rules, ◌∙◌, sym}
 use Rattle.tree.proofs.Revisions.{same}
 use Rattle.write.proofs.WinnerLeaves.{named_winner, no_named}
 use Rattle.write.proofs.following.follow_named.Goals as goal

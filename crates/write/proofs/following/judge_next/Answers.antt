@@ -1,4 +1,4 @@
-use Rattle.std.proofs.Common.{Some, ap, rules, sym, ◌∙◌, ◌≡◌}
+use Rattle.std.proofs.Common.{Some, ap, sym, ◌∙◌, ◌≡◌}
 use Rattle.std.specs.FinMap as finite
 use Rattle.store.specs.Contents.{Contents}
 use Rattle.store.specs.Database.{Database, history_at}
