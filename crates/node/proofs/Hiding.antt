@@ -1,5 +1,5 @@
 -- Hidden databases can't be told: what a group of callers is answered doesn't depend on what they hold, nor on what others ask of them.
-use Rattle.std.proofs.Common.{◌≡◌, ℕ, List, [], ◌∷◌, Bool, true, false, cond, not, ◌&&◌, map, Option, Some, None, Result, Ok, Err, ◌⊎◌, inl, inr, refl, sym, ap, ◌∙◌, subst, is_none, option_map, bytes_eq}
+use Rattle.std.proofs.Common.{◌≡◌, ℕ, List, [], ◌∷◌, Bool, true, false, cond, not, ◌&&◌, map, Option, Some, None, Result, Ok, Err, ◌⊎◌, inl, inr, refl, sym, ap, ◌∙◌, subst, is_none, bytes_eq}
 use Rattle.std.specs.Prelude.{⊤, T}
 use Rattle.std.specs.FinMap.{get, insert, remove, keys, entries, entries_sorted, entries-from_sorted, from_sorted, get-entries, get-from_sorted, is_sorted, find, same_map, nat_cmp-IsAntisymmetric, slice_cmp-IsAntisymmetric}
 use Rattle.std.specs.FinMap.Entries.{below_all}
@@ -18,8 +18,8 @@ use Rattle.policy.specs.declared.action.Action.{Action}
 use Rattle.policy.specs.declared.action.Action.TheVariants.{Read, WriteSecurity, WriteDocument}
 use Rattle.policy.specs.declared.rule.Rule.{Rule}
 use Rattle.policy.specs.declared.rule.Rule.TheVariants.{DbAdmin, DbMember}
-use Rattle.store.specs.Contents.{Contents, local_at, new_database, with_security}
-use Rattle.store.specs.Database.{Database, DocumentWrite, history_at, with_all, with_one}
+use Rattle.store.specs.Contents.{Contents, local_at, new_database}
+use Rattle.store.specs.Database.{Database, DocumentWrite, with_all, with_one}
 use Rattle.store.specs.declared.local_document.LocalDocument.{LocalDocument}
 use Rattle.write.specs.Admission.{admission}
 use Rattle.write.specs.Bulk.{DocumentOutcome}
