@@ -4,3 +4,4 @@ pub mod Planned
 pub mod Tasks
 pub mod Denials
 pub mod Steps
+pub mod Hiding

@@ -116,10 +116,10 @@ unlike : (x y : List ℕ) (b : Bool) → bytes_eq x y ≡ b → x ≢ y → b �
 unlike x y true e other = absurd (other ((bytes_eq-Decides x y).0 e))
 unlike x y false e other = refl
 
-got_insert : (a : Contents) (name : List ℕ) (db : Database) (other : List ℕ) → get (insert a name db) other ≡ cond (bytes_eq other name) (Some db) (get a other)
+pub got_insert : (a : Contents) (name : List ℕ) (db : Database) (other : List ℕ) → get (insert a name db) other ≡ cond (bytes_eq other name) (Some db) (get a other)
 got_insert a name db other = get-insert nat_list_cmp_total a name db other ∙ ap (λ b. cond b (Some db) (get a other)) (is_eq-slice_cmp other name)
 
-got_remove : (a : Contents) (name other : List ℕ) → get (remove a name) other ≡ cond (bytes_eq other name) None (get a other)
+pub got_remove : (a : Contents) (name other : List ℕ) → get (remove a name) other ≡ cond (bytes_eq other name) None (get a other)
 got_remove a name other = get-remove nat_list_cmp_total a name other ∙ ap (λ b. cond b None (get a other)) (is_eq-slice_cmp other name)
 
 other_insert : (a : Contents) (name other : List ℕ) (db : Database) → other ≢ name → get (insert a name db) other ≡ get a other

@@ -10,3 +10,4 @@ pub mod Step
 pub mod Effects
 pub mod Denials
 pub mod Runs
+pub mod Hidden

@@ -1,6 +1,6 @@
 //! What follows from the definitions alone. Each function has an empty body: its contract is the law.
 
-ghost use Rattle.std.specs.Prelude.{◌≡◌, ◌≢◌, ◌≤◌, ℕ, List, None, Some, Err, is_none, if◌then◌else◌};
+ghost use Rattle.std.specs.Prelude.{◌≡◌, ◌≢◌, ◌≤◌, ℕ, List, false, true, None, Some, Err, is_none, if◌then◌else◌};
 ghost use Rattle.std.specs.FinMap.{get};
 ghost use Rattle.auth.specs.Callers.{Configuration, Identity};
 ghost use Rattle.couch_http.specs.Message.{Message};
@@ -15,6 +15,7 @@ ghost use Rattle.api.specs.Asking.{denial};
 ghost use Rattle.api.specs.Paths.{database_name_in};
 ghost use Rattle.api.specs.Refusals.{name_of_rule, rule_of, status_of};
 ghost use Rattle.api.specs.declared.refusal.Refusal.{Refusal};
+ghost use Rattle.node.specs.Hidden.{AreAlike, AreHidden, Group, Names, is_struck};
 ghost use Rattle.node.specs.Runs.{AreServed, IsRun, Stepped, Steps, end_of, messages_of};
 
 /// No answer has a status that stands for a failure; one from 400 on changes nothing.
@@ -64,6 +65,19 @@ pub fn denials_name_the_first_refusing_rule()
     ensures statuses { (caller : Identity) (rule : Rule) → status_of (denial caller rule) ≡ (if is_none caller.name then 401 else 403) }
     ensures others { (refusal : Refusal) → rule_denied_by refusal ≡ None → (status_of refusal ≢ 401) × (status_of refusal ≢ 403) }
     ensures rule { (refusal : Refusal) (rule : Rule) → rule_denied_by refusal ≡ Some rule → rule_of refusal ≡ Some (name_of_rule rule) }
+{}
+
+/// Databases that are hidden from a group of callers tell them nothing: where two states are the same but
+/// for what these databases hold, each request is answered alike by both, but those of other callers on
+/// these databases, which may as well be struck. States that can't be told apart stay so, through
+/// each request that is answered by both, and where one of them alone answers a struck one.
+pub fn hidden_databases_tell_nothing()
+    ensures answers { (c : Configuration) (group : Group) (names : Names) (a b : Contents) (m : Message) → AreAlike names a b → AreHidden group names a
+        → is_struck c group names m ≡ false → answer c a m ≡ answer c b m }
+    ensures stays { (c : Configuration) (group : Group) (names : Names) (a b : Contents) (m : Message) → AreAlike names a b → AreHidden group names a
+        → is_struck c group names m ≡ false → AreAlike names (with_change (answer c a m).change a) (with_change (answer c b m).change b) }
+    ensures struck { (c : Configuration) (group : Group) (names : Names) (a b : Contents) (m : Message) → is_struck c group names m ≡ true
+        → AreAlike names a b → AreAlike names (with_change (answer c a m).change a) b }
 {}
 
 /// Two runs of the same requests from the same databases in which all were served have the same

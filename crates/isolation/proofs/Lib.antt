@@ -1,0 +1,2 @@
+pub mod Isolations
+pub mod Played

@@ -1,0 +1,3 @@
+pub mod Struck
+pub mod Turns
+pub mod Isolated
