@@ -104,9 +104,8 @@ class Tables:
         run = self.conn.execute
         self.sequence += 1
         digest = hashlib.md5(body.encode()).hexdigest()
-        run("SELECT n, hash, parent, held, del, body FROM revs WHERE db = 1 AND id = ?", (name,)).fetchall()
+        self.look_up(name)
         run("INSERT INTO revs (db, id, n, hash, parent, held, del, body) VALUES (1, ?, 1, ?, NULL, 1, 0, ?)", (name, digest, body))
-        run("DELETE FROM docs WHERE db = 1 AND id = ?", (name,))
         run("INSERT INTO docs (db, id, seq, winner, del) VALUES (1, ?, ?, ?, 0)", (name, self.sequence, f"1-{digest}"))
         run("UPDATE dbs SET seq = ? WHERE num = 1", (self.sequence,))
 
@@ -122,16 +121,17 @@ class Tables:
         before: the design documents, what the documents were, and the writes."""
         self.conn.execute("SELECT id, seq, winner, del FROM docs WHERE db = 1 AND id >= ? AND id <= ? ORDER BY id", (b"_design/", b"_design0")).fetchall()
         for name in names:
-            self.read(name)
+            self.look_up(name)
         self.commit(names, body)
 
-    def read(self, name):
-        """Runs the statement by which a server reads the history of a document."""
-        self.conn.execute("SELECT n, hash, parent, held, del, body FROM revs WHERE db = 1 AND id = ?", (name,)).fetchall()
+    def look_up(self, name):
+        """Runs the statement by which a server reads the row of a document, and returns it."""
+        return self.conn.execute("SELECT id, seq, winner, del FROM docs WHERE db = 1 AND id = ?", (name,)).fetchall()
 
     def get(self, name):
         """Runs all statements of a request that reads a document of a database that was asked before."""
-        self.read(name)
+        number, digest = self.look_up(name)[0][2].split("-")
+        self.conn.execute("SELECT n, hash, parent, held, del, body FROM revs WHERE db = 1 AND id = ? AND n = ? AND hash = ?", (name, int(number), digest)).fetchall()
 
     def changes(self, since, limit):
         self.conn.execute("SELECT id, seq, winner, del FROM docs WHERE db = 1 AND seq > ? ORDER BY seq LIMIT ?", (since, limit)).fetchall()
