@@ -44,8 +44,7 @@ module _ (trees : Trees) (db : ℤ) (id : List ℕ) (l : IsLaid trees) where
   one_row r is =
       let k : IsDocumentRow trees r = (subst (AllByRecursion (IsDocumentRow trees)) is (all-filter (IsDocumentRow trees) (is_of db id) (trees docs_tree) l.docs)).0 in
       let own = of_these db id r (subst (AllByRecursion (λ x. is_of db id x ≡ true)) is (passing (is_of db id) (trees docs_tree))).0 in
-      let here = λ (n : ℤ) (i : List ℕ). history_in (trees revs_tree) n i in
-      (
+      let here = λ (n : ℤ) (i : List ℕ). history_in (trees revs_tree) n i in (
         own_winner r k ∙ ap₂ (λ (n : ℤ) (i : List ℕ). marked_winner (here n i)) own.0 own.1,
         ap₂ (λ (n : ℤ) (i : List ℕ). is_some (winner (here n i))) (sym own.0) (sym own.1) ∙ ap is_some (stored_winner trees l.revs r k).1,
       )

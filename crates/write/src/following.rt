@@ -15,7 +15,9 @@ ghost use Rattle.write.specs.Refusing.{IsDecided, IsOfStoreOrMemory, IsOwn, Refu
 ghost use Rattle.write.specs.TermsRead.{terms_of};
 ghost use Rattle.write.specs.declared.document.Sent.{Sent};
 
-use crate::admission::{admit_sent, allow_revision, make_revision, make_write, read_allowed, write_next};
+use crate::admission::{
+    admit_sent, allow_revision, make_revision, make_write, read_allowed, write_next,
+};
 use crate::document::Sent;
 use crate::fault::WriteFault;
 use crate::terms::Terms;
