@@ -143,14 +143,17 @@ def resets(made):
 # ---- the program
 
 
-def limiting(limit):
-    """Returns what a new process does first: it bounds how long its files may grow."""
-    if limit is None:
+def limiting(limit, memory):
+    """Returns what a new process does first: it bounds how long its files may grow, and how much memory it may take."""
+    if limit is None and memory is None:
         return None
 
     def bound():
-        signal.signal(signal.SIGXFSZ, signal.SIG_IGN)
-        resource.setrlimit(resource.RLIMIT_FSIZE, (limit, limit))
+        if limit is not None:
+            signal.signal(signal.SIGXFSZ, signal.SIG_IGN)
+            resource.setrlimit(resource.RLIMIT_FSIZE, (limit, limit))
+        if memory is not None:
+            resource.setrlimit(resource.RLIMIT_AS, (memory, memory))
 
     return bound
 
@@ -158,10 +161,10 @@ def limiting(limit):
 class Server:
     """A running server."""
 
-    def __init__(self, options, file, conns, port=0, limit=None):
+    def __init__(self, options, file, conns, port=0, limit=None, memory=None):
         self.port = port or options.port
         words = ["serve", "--secret", SECRET, "--file", file, "--port", str(self.port), "--conns", str(conns), ADMIN]
-        self.process = subprocess.Popen(shlex.split(options.program) + words, stdout=subprocess.PIPE, stderr=subprocess.PIPE, preexec_fn=limiting(limit))
+        self.process = subprocess.Popen(shlex.split(options.program) + words, stdout=subprocess.PIPE, stderr=subprocess.PIPE, preexec_fn=limiting(limit, memory))
         self.lines = queue.Queue()
         threading.Thread(target=self.read_lines, daemon=True).start()
         self.line = None
