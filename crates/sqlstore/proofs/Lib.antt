@@ -11,6 +11,7 @@ pub mod FoundPages
 pub mod Afterwards
 pub mod Indexing
 pub mod OneDocument
+pub mod LeafRows
 mod OpenedAgain
 pub mod Making
 pub mod Lemmas

@@ -1,6 +1,6 @@
 -- What the rows of databases and names say, and when they are intact.
 -- This server's own: rows are read by the words of `tables`.
-use Rattle.std.specs.Prelude.{◌≡◌, ℕ, ℤ, IsTrue, List, length, filter, slice_get, Some}
+use Rattle.std.specs.Prelude.{◌≡◌, ℕ, ◌-◌, ℤ, IsTrue, List, length, filter, slice_get, Some}
 use Rattle.couch_json.specs.Value as json
 use Rattle.couch_json.specs.View.{view}
 use Rattle.store.specs.DatabaseName.{is_database_name}
@@ -9,7 +9,9 @@ use Rattle.sqlite_value.specs.Order.{Row, bytes, column}
 use Rattle.tables.specs.Rows.{count_in, is_named, json_in, length_of, number_of, security_of, whole_in}
 use Rattle.sqlite_trees.specs.Tree.{Trees}
 use Rattle.tables.specs.Schema.{dbs_tree}
+use Rattle.tables.specs.Shown.{revision_shown}
 use Rattle.transactions.specs.Reading.{entry_shown}
+use Rattle.tree.specs.Revision.{Revision}
 use Rattle.tree.specs.declared.entry.Entry.{Entry}
 use Rattle.sqlstore.specs.declared.known_database.KnownDatabase.{KnownDatabase}
 
@@ -58,3 +60,10 @@ pub record HasNumber (trees : Trees) (name : List ℕ) (number : ℤ) : Type 0 w
   pub row : Row
   pub first : slice_get (filter (is_named name) (trees dbs_tree)) 0 ≡ Some row
   pub numbered : number_of row ≡ number
+
+-- the revision of the last row, and its number is the number of the rows
+pub record EndsPath (rev : Revision) (rows : List Row) : Type 0 where
+  pub row : Row
+  pub last : slice_get rows (length rows - 1) ≡ Some row
+  pub named : revision_shown row ≡ rev
+  pub counted : rev.number ≡ length rows

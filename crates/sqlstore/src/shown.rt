@@ -1,20 +1,22 @@
 //! What the rows that a query shows say.
 
-ghost use Rattle.std.specs.Prelude.{◌≡◌, IsTrue, Some, option_map, slice_get};
+ghost use Rattle.std.specs.Prelude.{◌≡◌, IfErr, IfOk, IfSome, IsTrue, Some, option_map, slice_get};
 ghost use Rattle.std.specs.List.{AllByRecursion};
 ghost use Rattle.couch_json.specs.View.{view};
 ghost use Rattle.policy.specs.Security.{is_security};
-ghost use Rattle.tables.specs.Shown.{IsShownDatabase, IsShownLocal, IsShownRevision, local_shown};
-ghost use Rattle.transactions.specs.Reading.{IsRead};
-ghost use Rattle.sqlstore.specs.Reading.{found_shown, known_shown};
+ghost use Rattle.tables.specs.Shown.{IsShownDatabase, IsShownHash, IsShownLocal, IsShownRevision, local_shown};
+ghost use Rattle.transactions.specs.Reading.{IsLost, IsRead};
+ghost use Rattle.sqlstore.specs.Reading.{EndsPath, found_shown, known_shown};
 
 use couch_json::Json;
 use policy::{Security, SecurityFault};
 use sqlite::Row;
 use std::alloc::Global;
 use store::{LocalDocument, StoreFault};
-use tables::{FoundDatabase, FoundRevision, RowFault, read_database, read_local, read_revision};
-use tree::{Body, Entry, Held};
+use tables::{
+    FoundDatabase, FoundRevision, RowFault, read_database, read_hash, read_local, read_revision,
+};
+use tree::{Body, Entry, Held, Rev};
 
 /// Reads the database of the first row, if there is one.
 pub(crate) fn first_database(alloc: Global, rows: &[Row]) -> Result<FoundDatabase, StoreFault>
@@ -86,5 +88,22 @@ pub(crate) fn read_security(alloc: Global, value: &Json) -> Result<Security, Sto
         Ok(security) => Ok(security),
         Err(SecurityFault::Memory) => Err(StoreFault::Memory),
         Err(SecurityFault::Shape) => Err(StoreFault::Damaged),
+    }
+}
+
+/// Reads the last row where its revision's number is the number of the rows: then they are the path of
+/// this revision.
+pub(crate) fn last_of_path(rows: &[Row]) -> Result<Option<Rev>, StoreFault>
+    ensures ok { IfOk result (λ last. IfSome last (λ rev. EndsPath rev rows.now)) }
+    ensures err { IfErr result (IsLost (AllByRecursion IsShownHash rows.now)) }
+{
+    let Some(row) = rows.last() else {
+        return Ok(None);
+    };
+    match read_hash(row) {
+        Ok(rev) if rev.number() as usize == rows.len() => Ok(Some(rev)),
+        Ok(_) => Ok(None),
+        Err(RowFault::Memory) => Err(StoreFault::Memory),
+        Err(RowFault::Damaged) => Err(StoreFault::Damaged),
     }
 }

@@ -1,5 +1,5 @@
 -- What the layout says of new tables and of the rows that are shown.
-use Rattle.tables.proofs.Common.{AllByRecursion, AreLawful, AreNumbered, Bool, Err, HistoryContent, Int, IsAscending, IsBetter, IsCount, IsDatabaseRow, IsDocumentRow, IsLaid, IsLocalRow, IsNew, IsRevisionRow, IsShownDatabase, IsShownDocument, IsShownLocal, IsShownOutline, IsShownRevision, IsStore, IsTrue, List, MatchOption, None, Ok, Option, Result, Revision, Row, Some, SpellsJson, SpellsParentOf, Text, Trees, Value, [], all-filter, all_weaker, and_parts, ap, arith, body_cell, bytes, canonical, column, cond, contents_in, count_in, database_of, db_of, dbs_tree, docs_tree, entry_of, eq_by_cmp, false, filter, greatest_number, has_all, history_in, id_of, if◌then◌else◌, inl, inr, inside, is_gone, is_held, is_known, is_leaf, is_marked, is_of, is_revision, is_set, is_some, json_in, length_of, local_of, locals_tree, map, name_of, nat_le, nat_tests, number_of, option_map, parent_cell, parent_in, pos, refl, revision_cmp, revision_cmp_total, revision_of, revs_tree, rowid, same, schema, sequence_of, shown_database, shown_document, shown_local, shown_outline, shown_revision, slice_cmp, subst, sym, text_of, tied, true, value_or_null, winner, winner_text, ℕ, ℤ, ◌<◌, ◌^◌, ◌∙◌, ◌∷◌, ◌≡◌, ◌⊎◌}
+use Rattle.tables.proofs.Common.{AllByRecursion, AreLawful, AreNumbered, Bool, Err, HistoryContent, Int, IsAscending, IsBetter, IsCount, IsDatabaseRow, IsDocumentRow, IsLaid, IsLocalRow, IsNew, IsRevisionRow, IsShownDatabase, IsShownDocument, IsShownHash, IsShownLocal, IsShownOutline, IsShownRevision, IsStore, IsTrue, List, MatchOption, None, Ok, Option, Result, Revision, Row, Some, SpellsJson, SpellsParentOf, Text, Trees, Value, [], all-filter, all_weaker, and_parts, ap, arith, body_cell, bytes, canonical, column, cond, contents_in, count_in, database_of, db_of, dbs_tree, docs_tree, entry_of, eq_by_cmp, false, filter, greatest_number, has_all, history_in, id_of, if◌then◌else◌, inl, inr, inside, is_gone, is_held, is_known, is_leaf, is_marked, is_of, is_revision, is_set, is_some, json_in, length_of, local_of, locals_tree, map, name_of, nat_le, nat_tests, number_of, option_map, parent_cell, parent_in, pos, refl, revision_cmp, revision_cmp_total, revision_of, revs_tree, rowid, same, schema, sequence_of, shown_database, shown_document, shown_hash, shown_local, shown_outline, shown_revision, slice_cmp, subst, sym, text_of, tied, true, value_or_null, winner, winner_text, ℕ, ℤ, ◌<◌, ◌^◌, ◌∙◌, ◌∷◌, ◌≡◌, ◌⊎◌}
 use Rattle.std.specs.FinMap as map
 use Rattle.std.specs.Ordering.{nat_cmp}
 use Rattle.couch_json.specs.Reading.{reading}
@@ -137,6 +137,11 @@ module _ (trees : Trees) (laid : AllByRecursion (IsRevisionRow trees) (trees rev
     parent = shown_revision_is.parent;
     held = record { held = shown_revision_is.held.held; mark = shown_revision_is.held.mark };
   }
+
+pub shown_hashes : (trees : Trees) → IsLaid trees → AllByRecursion (λ r. IsShownHash (shown_hash r)) (trees revs_tree)
+shown_hashes trees h =
+    all_weaker (IsRevisionRow trees) (λ r. IsShownHash (shown_hash r))
+    (λ r k. let is = shown_revision_is trees h.revs r k in record { width = refl; number = is.number; hash = is.hash }) (trees revs_tree) h.revs
 
 pub shown_outlines : (trees : Trees) → IsLaid trees → AllByRecursion (λ r. IsShownOutline (shown_outline r)) (trees revs_tree)
 shown_outlines trees h = all_weaker (IsRevisionRow trees) (λ r. IsShownOutline (shown_outline r)) (shown_outline_is trees h.revs) (trees revs_tree) h.revs

@@ -5,12 +5,12 @@ pub use Rattle.tables.proofs.Deletes.{clears, deletes_id, deletes_where}
 pub use Rattle.tables.proofs.DocumentStatements.{cast_document, clears_documents, deletes_document, document_is, finds_document, ids_are, inserts_document, later_are, lists_by_id, lists_by_sequence, lists_later, lists_range, range_are, sequences_are}
 pub use Rattle.tables.proofs.DocumentWrites.{acceptable_in_turn, none_written, one_more_written}
 pub use Rattle.tables.proofs.Finds.{alters, reads_inside, reads_nothing, reads_of, reads_so}
-pub use Rattle.tables.proofs.Laid.{ours_has_all, shown_databases, shown_locals, shown_outlines, shown_revisions}
+pub use Rattle.tables.proofs.Laid.{ours_has_all, shown_databases, shown_hashes, shown_locals, shown_outlines, shown_revisions}
 pub use Rattle.tables.proofs.ListingRows.{documents_by_id, leaves_by_sequence, winners_by_sequence}
 pub use Rattle.tables.proofs.LocalStatements.{cast_local, clears_locals, deletes_local, finds_local, inserts_local, local_is}
 pub use Rattle.tables.proofs.MetaStatements.{cast_version, finds_version, inserts_version, shows_version, version_is}
 pub use Rattle.tables.proofs.Numbered.{numbered_from_keyed}
-pub use Rattle.tables.proofs.RevisionStatements.{cast_revision, clears_revisions, finds_one_revision, finds_outline, finds_revisions, inserts_revision, one_revision_is, outline_is, revisions_are}
+pub use Rattle.tables.proofs.RevisionStatements.{cast_revision, clears_revisions, finds_hashes, finds_one_revision, finds_outline, finds_revisions, hash_is, inserts_revision, one_revision_is, outline_is, revisions_are}
 pub use Rattle.tables.proofs.Single.{inserts_row}
 pub use Rattle.tables.proofs.Stays.{asks, looks, query_fails, query_stands, served}
 pub use Rattle.tables.proofs.Tables.{dbs_plain, docs_plain, locals_plain, meta_plain, numbered_databases, revs_plain}

@@ -29,6 +29,7 @@ pub mod Laid
 pub mod ListingOrders
 pub mod ListingRows
 pub mod RowMaps
+pub mod SinglePath
 pub mod Lookups
 pub mod Changed
 pub mod Rests

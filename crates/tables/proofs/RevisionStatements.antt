@@ -1,5 +1,5 @@
 -- What the statements on revisions mean.
-use Rattle.tables.proofs.Common.{AllByRecursion, Blob, Bool, Decides-int_eq, Delete, IsAscending, IsLaid, IsRevisionRow, Revision, Term, Trees, all_weaker, and_parts, ap, ascending_weaker, bytes_eq, bytes_eq-Decides, column, db_of, eq_by_cmp, false, holds, id_of, int_eq, is_in, is_revision_of, list_all, revision_cmp, revision_of, same, same_int, shown_outline, sym, tied, true, ◌&&◌, ◌∙◌, ◌≢◌, IfOk, Insert, Int, IsPermutation, IsStore, List, Null, Result, Row, Select, Shown, State, Text, Value, Values, [], as_text, cast_row, codes, col, cond, everything, filter, given_cells, is_of, lit, map, pos, refl, revs_table, revs_tree, schema, shown_revision, understood, ℕ, ℤ, ◌∷◌, ◌≡◌}
+use Rattle.tables.proofs.Common.{AllByRecursion, Blob, Bool, Decides-int_eq, Delete, IsAscending, IsLaid, IsRevisionRow, Revision, Term, Trees, all_weaker, and_parts, ap, ascending_weaker, bytes_eq, bytes_eq-Decides, column, db_of, eq_by_cmp, false, holds, id_of, int_eq, is_in, is_revision_of, list_all, revision_cmp, revision_of, same, same_int, shown_hash, shown_outline, sym, tied, true, ◌&&◌, ◌∙◌, ◌≢◌, IfOk, Insert, Int, IsPermutation, IsStore, List, Null, Result, Row, Select, Shown, State, Text, Value, Values, [], as_text, cast_row, codes, col, cond, everything, filter, given_cells, is_of, lit, map, pos, refl, revs_table, revs_tree, schema, shown_revision, understood, ℕ, ℤ, ◌∷◌, ◌≡◌}
 use Rattle.tables.proofs.Cells.{by_db, by_id, cast_null, cast_int, compares, int_by, same_blob, same_text, tests_id}
 use Rattle.sqlite_sql.specs.declared.ops.CompareOp.TheVariants.{Eq}
 use Rattle.sqlite_typed.proofs.TestLemmas.{last_term, then_term}
@@ -110,3 +110,16 @@ outline_is = record { is = refl; plain = (refl, refl); unlisted = refl }
 pub finds_outline : {X E : Type 0} (old new : State) → IsStore old.now → (db : ℤ) (id : List ℕ) (r : Result X E) (items : X → List Row) → IfOk r (λ x. Shown outline_text (Int db ∷ Blob id ∷ []) old new (items x))
     → IfOk r (λ x. IsPermutation (map shown_outline (filter (is_of db id) (old.now.trees revs_tree))) (items x))
 finds_outline old new is db id = finds_where old new is.schema_is outline_is (Int db ∷ Blob id ∷ []) (is_of db id) shown_outline refl (λ r. refl) (tests_id db id _ (revs_keyed old.now.trees is.laid))
+
+-- ---- revisions by their numbers and hashes alone
+
+abbrev pub hash_text : List ℕ
+hash_text = codes "SELECT n, hash FROM revs WHERE db = ?1 AND id = ?2"
+
+pub hash_is : IsCommand schema hash_text (Select (program_on revs_tree by_id (col 1 3 ∷ col 1 4 ∷ []) []) (codes "n" ∷ codes "hash" ∷ []))
+unfolding understood everything
+hash_is = record { is = refl; plain = (refl, refl); unlisted = refl }
+
+pub finds_hashes : {X E : Type 0} (old new : State) → IsStore old.now → (db : ℤ) (id : List ℕ) (r : Result X E) (items : X → List Row) → IfOk r (λ x. Shown hash_text (Int db ∷ Blob id ∷ []) old new (items x))
+    → IfOk r (λ x. IsPermutation (map shown_hash (filter (is_of db id) (old.now.trees revs_tree))) (items x))
+finds_hashes old new is db id = finds_where old new is.schema_is hash_is (Int db ∷ Blob id ∷ []) (is_of db id) shown_hash refl (λ r. refl) (tests_id db id _ (revs_keyed old.now.trees is.laid))

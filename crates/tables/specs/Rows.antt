@@ -221,6 +221,10 @@ entry_of r = row_of (parent_in (count_in (column r 3)) (column r 5)) (held_in r)
 abbrev pub shown_outline : Row → Row
 shown_outline r = column r 3 ∷ column r 4 ∷ column r 5 ∷ column r 6 ∷ column r 7 ∷ []
 
+-- the number and the hash alone
+abbrev pub shown_hash : Row → Row
+shown_hash r = column r 3 ∷ column r 4 ∷ []
+
 -- the row is that of this revision of the document
 abbrev pub is_revision_of : ℤ → List ℕ → Revision → Row → Bool
 is_revision_of db id rev r = is_of db id r && eq_by_cmp revision_cmp rev (revision_of r)

@@ -102,3 +102,10 @@ pub record IsShownOutline (s : Row) : Type 0 where
   pub hash : SpellsHashOf (count_in (column s 0)) (column s 1)
   pub parent : SpellsParentOf (count_in (column s 0)) (column s 2)
   pub held : ShowsMark s
+
+-- ---- the number and the hash alone
+
+pub record IsShownHash (s : Row) : Type 0 where
+  pub width : length s ≡ 2
+  pub number : IsSmall (column s 0)
+  pub hash : SpellsHashOf (count_in (column s 0)) (column s 1)

@@ -7,7 +7,7 @@ ghost use Rattle.sqlite_value.specs.declared.value.Value.TheVariants.{Text};
 ghost use Rattle.tree.specs.Revision.{revision_read, text_of};
 ghost use Rattle.tables.specs.Rows.{count_in, json_in, parent_in, whole_in};
 ghost use Rattle.tables.specs.Listings.{IsListedDocument, SpellsId, listed_id, listed_mark, listed_sequence, listed_winner};
-ghost use Rattle.tables.specs.Shown.{IsCount, IsShownDatabase, IsShownLocal, IsShownOutline, IsShownRevision, IsSmall, IsWhole, ShowsHeld, ShowsMark, SpellsHash, SpellsHashOf, SpellsJson, SpellsParentOf, SpellsRevision, held_shown, local_shown, mark_shown, parent_shown, revision_shown};
+ghost use Rattle.tables.specs.Shown.{IsCount, IsShownDatabase, IsShownHash, IsShownLocal, IsShownOutline, IsShownRevision, IsSmall, IsWhole, ShowsHeld, ShowsMark, SpellsHash, SpellsHashOf, SpellsJson, SpellsParentOf, SpellsRevision, held_shown, local_shown, mark_shown, parent_shown, revision_shown};
 
 use couch_json::{Json, JsonFault};
 use sqlite::{Error, ErrorCode, Row};
@@ -235,6 +235,15 @@ pub fn read_node(row: &Row) -> Result<FoundNode, RowFault>
     let parent = parent_at(row, number, 2)?;
     let mark = mark_in(row)?;
     Ok(FoundNode { rev, parent, mark })
+}
+
+/// Reads the revision that a row of `hash_rows` shows.
+pub fn read_hash(row: &Row) -> Result<Rev, RowFault>
+    ensures revision { IfOk result (λ r. r ≡ revision_shown row.now) }
+    ensures damaged { result ≡ Err RowFault.Damaged → ¬ (IsShownHash row.now) }
+{
+    let number = number_at(row, 0)?;
+    named_at(row, number, 1)
 }
 
 /// Reads the local document that a row of `local_rows` shows.

@@ -7,10 +7,10 @@ ghost use Rattle.sqlite.specs.Effect as sqlite;
 ghost use Rattle.sqlite_trees.specs.Tree.{Trees};
 ghost use Rattle.tables.specs.Layout.{IsLaid, IsNew, IsStore};
 ghost use Rattle.tables.specs.Presence.{has_all, is_first};
-ghost use Rattle.tables.specs.Rows.{contents_in, shown_database, shown_local, shown_outline, shown_revision};
+ghost use Rattle.tables.specs.Rows.{contents_in, shown_database, shown_hash, shown_local, shown_outline, shown_revision};
 ghost use Rattle.tables.specs.Schema as tables;
 ghost use Rattle.tables.specs.Schema.{dbs_tree, locals_tree, meta_tree, revs_tree};
-ghost use Rattle.tables.specs.Shown.{IsShownDatabase, IsShownLocal, IsShownOutline, IsShownRevision};
+ghost use Rattle.tables.specs.Shown.{IsShownDatabase, IsShownHash, IsShownLocal, IsShownOutline, IsShownRevision};
 
 /// What `create_tables` makes holds a store, and no database.
 pub fn new_tables()
@@ -29,5 +29,6 @@ pub fn rows_of_a_store()
     ensures databases { (trees : Trees) → IsLaid trees → AllByRecursion (λ r. IsShownDatabase (shown_database r)) (trees dbs_tree) }
     ensures revisions { (trees : Trees) → IsLaid trees → AllByRecursion (λ r. IsShownRevision (shown_revision r)) (trees revs_tree) }
     ensures outlines { (trees : Trees) → IsLaid trees → AllByRecursion (λ r. IsShownOutline (shown_outline r)) (trees revs_tree) }
+    ensures hashes { (trees : Trees) → IsLaid trees → AllByRecursion (λ r. IsShownHash (shown_hash r)) (trees revs_tree) }
     ensures locals { (trees : Trees) → IsLaid trees → AllByRecursion (λ r. IsShownLocal (shown_local r)) (trees locals_tree) }
 {}

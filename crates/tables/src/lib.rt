@@ -17,7 +17,7 @@ mod statement;
 
 pub use create::create_tables;
 pub use decode::{
-    FoundDatabase, FoundNode, FoundRevision, ListedDocument, RowFault, read_database,
+    FoundDatabase, FoundNode, FoundRevision, ListedDocument, RowFault, read_database, read_hash,
     read_listed_document, read_local, read_node, read_revision,
 };
 pub use meta::{FoundTables, is_first_version, tables_in};

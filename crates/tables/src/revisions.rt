@@ -5,7 +5,7 @@ ghost use Rattle.sqlite.specs.Values.{or_null};
 ghost use Rattle.sqlite_value.specs.declared.value.Value.TheVariants.{Text};
 ghost use Rattle.tables.specs.Calls.{Alters, Reads};
 ghost use Rattle.tables.specs.Layout.{AreKeyed, IsStore};
-ghost use Rattle.tables.specs.Rows.{is_in, is_of, is_revision_of, shown_outline, shown_revision, given_cells, with_cells};
+ghost use Rattle.tables.specs.Rows.{is_in, is_of, is_revision_of, shown_hash, shown_outline, shown_revision, given_cells, with_cells};
 ghost use Rattle.tables.specs.Schema.{revs_tree};
 
 use crate::statement::{change, query};
@@ -84,6 +84,18 @@ pub fn outline_rows<S: Alter>(
     query(
         conn,
         "SELECT n, hash, parent, held, del FROM revs WHERE db = ?1 AND id = ?2",
+        params![db, id],
+    )
+}
+
+/// Returns the rows of all known revisions of a document, each with its number and its hash alone, in
+/// some order. SQLite finds both in the table's key, so it reads no row of the table itself.
+pub fn hash_rows<S: Alter>(conn: &mut Connection<S>, db: &i64, id: &[u8]) -> Result<Vec<Row>, Error>
+    ensures { Reads S.Store IsStore conn.old conn.new (λ trees rows. IsPermutation (map shown_hash (filter (is_of db.now id.now) (trees revs_tree))) rows.items) result }
+{
+    query(
+        conn,
+        "SELECT n, hash FROM revs WHERE db = ?1 AND id = ?2",
         params![db, id],
     )
 }

@@ -1,6 +1,7 @@
 //! The pages of the database of a number.
 
 use crate::listings::{read_ids, read_page_by_id, read_page_by_sequence};
+use crate::shown::last_of_path;
 use crate::sql_store::SqlStore;
 use couch_json::{FieldPath, Json};
 use sqlite::Alter;
@@ -62,12 +63,19 @@ impl<S: Alter> SqlStore<S> {
         read_page_by_sequence(self.alloc, &rows, sequence, range)
     }
 
-    /// Finds all leaves of a document, best first.
+    /// Finds all leaves of a document, best first. Where all its revisions are one path, no row of the
+    /// table of revisions is read.
     #[tactic(auto, using(tree::proofs::Outlines::leaves_in))]
     fn find_leaves(&mut self, number: &i64, id: &DocId) -> Result<Vec<Rev>, StoreFault>
         ensures answer { Answers S.Store self.old self.new (λ revs. revs.items) (Some (leaves (history_in (trees_of S.Store self.old revs_tree) number.now id.now))) result }
         ensures stands { Stands S.Store self.old self.new }
     {
+        let rows = self.hash_rows(number, id.as_str().as_bytes())?;
+        if let Some(rev) = last_of_path(&rows)? {
+            let mut revs = Vec::new(self.alloc);
+            revs.push(rev)?;
+            return Ok(revs);
+        }
         let outline = self.find_outline(number, id)?;
         Ok(outline.leaves()?)
     }

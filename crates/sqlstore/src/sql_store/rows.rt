@@ -9,7 +9,7 @@ use tables::{databases, documents, locals, revisions};
 impl<S: Alter> SqlStore<S> {
     ghost use Rattle.std.specs.Prelude.{◌≡◌, IsPermutation, filter, map};
     ghost use Rattle.sqlite_keyed.specs.Lists.{sort_by};
-    ghost use Rattle.tables.specs.Rows.{by_name, is_named, is_of, is_revision_of, listed_document, shown_database, shown_local, shown_name, shown_outline, shown_revision};
+    ghost use Rattle.tables.specs.Rows.{by_name, is_named, is_of, is_revision_of, listed_document, shown_database, shown_hash, shown_local, shown_name, shown_outline, shown_revision};
     ghost use Rattle.tables.specs.Schema.{dbs_tree, docs_tree, locals_tree, revs_tree};
     ghost use Rattle.sqlstore.specs.Model.{Finds};
 
@@ -42,6 +42,15 @@ impl<S: Alter> SqlStore<S> {
         ensures { Finds S.Store (λ trees rows. ∥ IsPermutation (map shown_outline (filter (is_of db.now id.now) (trees revs_tree))) rows.items ∥₁) self.old self.new result }
     {
         let rows = revisions::outline_rows(&mut self.conn, db, id);
+        judge_answer(&mut self.faults, rows)
+    }
+
+    /// Returns the rows of the known revisions of a document, each with its number and its hash alone, in
+    /// some order.
+    pub(crate) fn hash_rows(&mut self, db: &i64, id: &[u8]) -> Result<Vec<Row>, StoreFault>
+        ensures { Finds S.Store (λ trees rows. ∥ IsPermutation (map shown_hash (filter (is_of db.now id.now) (trees revs_tree))) rows.items ∥₁) self.old self.new result }
+    {
+        let rows = revisions::hash_rows(&mut self.conn, db, id);
         judge_answer(&mut self.faults, rows)
     }
 
