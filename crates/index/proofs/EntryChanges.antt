@@ -124,6 +124,7 @@ module _ (due : Entries) (d : ℤ) (id : List ℕ) where
         gone : (b : Bool) → (not (true && (b && true)) && b) ≡ false
         gone true = refl
         gone false = refl
+
         kept : (x y z w : Bool) → (x && z) ≡ false → (not (x && (y && z)) && w) ≡ w
         kept false y z w out = refl
         kept true false z w out = refl
@@ -144,9 +145,11 @@ module _ (due : Entries) (d : ℤ) (id : List ℕ) where
         comes : (b : Bool) → (false || (true && (b && true))) ≡ b
         comes true = refl
         comes false = refl
+
         or_false : (b : Bool) → (b || false) ≡ b
         or_false true = refl
         or_false false = refl
+
         kept : (x y z w : Bool) → (x && z) ≡ false → (w || (x && (y && z))) ≡ w
         kept false y z w out = or_false w
         kept true false z w out = or_false w

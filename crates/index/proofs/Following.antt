@@ -1,6 +1,7 @@
 -- The indexes of a database follow one document, one index after another.
 use Rattle.index.proofs.Common.{AllByRecursion, AreDeclarationRows, AreEntriesOf, Bool, Declared, Documents, Entries, IsAscending, List, None, Option, Row, Some, [], all-filter, all_both, all_weaker, and_from, and_parts, ap, arith, ascending-filter, bytes_eq, bytes_eq-Decides, cases_Bool, cond, declaration_at, declared_at, false, fields_of, filter, find, has_number, home_of, inl, inr, int_eq, ints, is_at_home, is_due, is_due_by, is_due_while, is_key, key_if_seen, list_any, map, number_of, passing, refl, same_int, subst, sym, true, with_key, with_seen, find_found, none_from_any, ℕ, ℤ, ◌&&◌, ◌<ℤ◌, ◌||◌, ◌∙◌, ◌∷◌, ◌≡◌}
 use Rattle.index.proofs.EntryChanges.{same_bytes, same_number, int_eq-sym}
+use Rattle.couch_json.specs.Value.{Value}
 use Rattle.std.proofs.lemmas.Bool.{false_from_ne_true}
 use Rattle.tables.proofs.Common.{all_kept}
 
@@ -31,7 +32,7 @@ fails_test p q rows d none is =
     let found = find_found (λ x. q x ≡ true → p x ≡ false) p rows d never is in
     false_from_ne_true (q d) (λ passes. let out = found.0 passes in let here = found.1 in cc)
 
-module _ (db : ℤ) (id : List ℕ) (sees : Documents) (seen : Option _) (decls : List Row) where
+module _ (db : ℤ) (id : List ℕ) (sees : Documents) (seen : Option Value) (decls : List Row) where
   abbrev after : Documents
   after = with_seen sees db id seen
 
@@ -100,7 +101,7 @@ module _ (db : ℤ) (id : List ℕ) (sees : Documents) (seen : Option _) (decls 
     left_first : (m : ℤ) → m ≡ n → list_any (has_number m) (r ∷ more) ≡ true
     left_first m same = ap (λ b. b || list_any (has_number m) more) (same_number n m (sym same))
 
-    pub was : (before : Option _) → sees db id ≡ before → (k : List ℕ) → is_due_while (r ∷ more) sees after decls n k id ≡ is_key (key_if_seen (fields_of r) before) k
+    pub was : (before : Option Value) → sees db id ≡ before → (k : List ℕ) → is_due_while (r ∷ more) sees after decls n k id ≡ is_key (key_if_seen (fields_of r) before) k
     was before is k =
         ap (λ b. cond b (is_due sees decls n k id) (is_due after decls n k id)) (left_first n refl)
         ∙ due_by sees k id ∙ ap (λ h. is_key (key_if_seen (fields_of r) (sees h id)) k) home ∙ ap (λ v. is_key (key_if_seen (fields_of r) v) k) is
@@ -111,47 +112,49 @@ module _ (db : ℤ) (id : List ℕ) (sees : Documents) (seen : Option _) (decls 
     pub next : (m : ℤ) (k i : List ℕ) → with_key (is_due_while (r ∷ more) sees after decls) n id (key_if_seen (fields_of r) seen) m k i ≡ is_due_while more sees after decls m k i
     next m k i = elim (cases_Bool (int_eq m n)) [
       | inl same ↦ elim (cases_Bool (bytes_eq i id)) [
-          | inl alike ↦
-              let number : m ≡ n = same_int m n same in
-              let key : Bool = is_key (key_if_seen (fields_of r) seen) k in
-              ap (λ b. cond b (is_key (key_if_seen (fields_of r) seen) k) (is_due_while (r ∷ more) sees after decls m k i)) (and_from (int_eq m n) (bytes_eq i id) same alike)
-              ∙ sym ((λ j. is_due_while more sees after decls (number j) k i) ∙ gone k i
-              ∙ ap (λ v. is_key (key_if_seen (fields_of r) v) k) (seen_here (home_of r) i (and_from (int_eq (home_of r) db) (bytes_eq i id) one.at_home alike)))
-          | inr apart ↦
-              let number : m ≡ n = same_int m n same in
-              let out : (int_eq m n && bytes_eq i id) ≡ false = (λ j. same j && apart j) in
-              let away : (int_eq (home_of r) db && bytes_eq i id) ≡ false = (λ j. one.at_home j && apart j) in
-              ap (λ b. cond b (is_key (key_if_seen (fields_of r) seen) k) (is_due_while (r ∷ more) sees after decls m k i)) out
-              ∙ ap (λ b. cond b (is_due sees decls m k i) (is_due after decls m k i)) (left_first m number)
-              ∙ (λ j. is_due sees decls (number j) k i) ∙ due_by sees k i ∙ ap (λ v. is_key (key_if_seen (fields_of r) v) k) (sym (seen_before (home_of r) i away))
-              ∙ sym ((λ j. is_due_while more sees after decls (number j) k i) ∙ gone k i)
-        ]
+        | inl alike ↦
+            let number : m ≡ n = same_int m n same in
+            let key : Bool = is_key (key_if_seen (fields_of r) seen) k in
+            ap (λ b. cond b (is_key (key_if_seen (fields_of r) seen) k) (is_due_while (r ∷ more) sees after decls m k i)) (and_from (int_eq m n) (bytes_eq i id) same alike)
+            ∙ sym ((λ j. is_due_while more sees after decls (number j) k i) ∙ gone k i
+            ∙ ap (λ v. is_key (key_if_seen (fields_of r) v) k) (seen_here (home_of r) i (and_from (int_eq (home_of r) db) (bytes_eq i id) one.at_home alike)))
+        | inr apart ↦
+            let number : m ≡ n = same_int m n same in
+            let out : (int_eq m n && bytes_eq i id) ≡ false = (λ j. same j && apart j) in
+            let away : (int_eq (home_of r) db && bytes_eq i id) ≡ false = (λ j. one.at_home j && apart j) in
+            ap (λ b. cond b (is_key (key_if_seen (fields_of r) seen) k) (is_due_while (r ∷ more) sees after decls m k i)) out
+            ∙ ap (λ b. cond b (is_due sees decls m k i) (is_due after decls m k i)) (left_first m number)
+            ∙ (λ j. is_due sees decls (number j) k i) ∙ due_by sees k i ∙ ap (λ v. is_key (key_if_seen (fields_of r) v) k) (sym (seen_before (home_of r) i away))
+            ∙ sym ((λ j. is_due_while more sees after decls (number j) k i) ∙ gone k i)
+      ]
       | inr other ↦
           ap (λ b. cond (b && bytes_eq i id) (is_key (key_if_seen (fields_of r) seen) k) (is_due_while (r ∷ more) sees after decls m k i)) other
           ∙ ap (λ b. cond (b || list_any (has_number m) more) (is_due sees decls m k i) (is_due after decls m k i)) (int_eq-sym n m ∙ other)
     ]
 
   -- what is left begins with the declaration that comes next
-  step_left : (d : Declared) (rest : List Declared) (rows new : List Row) (before : Option _) → sees db id ≡ before
-      → ((due : Entries) → AreEntriesOf due rows → ((k : List ℕ) → due d.number k id ≡ is_key (key_if_seen d.fields before) k) → AreEntriesOf (with_key due d.number id (key_if_seen d.fields seen)) new)
+  step_left : {P : Type 0} (d : Declared) (rest : List Declared) (rows new : List Row) (before : Option Value) → sees db id ≡ before
+      → ((due : Entries) → AreEntriesOf due rows → ((k : List ℕ) → due d.number k id ≡ is_key (key_if_seen d.fields before) k) → AreEntriesOf (with_key due d.number id (key_if_seen d.fields seen)) new × P)
       → (left : List Row) → map declared_at left ≡ d ∷ rest → AllByRecursion IsOneOf left → IsAscending (λ a b. number_of a <ℤ number_of b) left
-      → AreEntriesOf (is_due_while left sees after decls) rows → IsOnTheWay rest new
+      → AreEntriesOf (is_due_while left sees after decls) rows → IsOnTheWay rest new × P
   step_left d rest rows new before is replaces [] says each up h = absurd (cc)
-  step_left d rest rows new before is replaces (r ∷ more) says each up h =
+  step_left {P} d rest rows new before is replaces (r ∷ more) says each up h =
       let same : d ≡ declared_at r = cc in
       let others : map declared_at more ≡ rest = cc in
       let replaced = subst (λ (x : Declared). (due : Entries) → AreEntriesOf due rows → ((k : List ℕ) → due x.number k id ≡ is_key (key_if_seen x.fields before) k)
-      → AreEntriesOf (with_key due x.number id (key_if_seen x.fields seen)) new) same replaces in
-      let made = replaced (is_due_while (r ∷ more) sees after decls) h (was r more each.0 up.0 before is) in
-      record {
-        left = more;
-        says = others;
-        each = each.1;
-        rising = up.1;
-        entries = record { laid = made.laid; exact = λ m k i. made.exact m k i ∙ next r more each.0 up.0 m k i };
-      }
+      → AreEntriesOf (with_key due x.number id (key_if_seen x.fields seen)) new × P) same replaces in
+      let made = replaced (is_due_while (r ∷ more) sees after decls) h (was r more each.0 up.0 before is) in (
+        record {
+          left = more;
+          says = others;
+          each = each.1;
+          rising = up.1;
+          entries = record { laid = made.0.laid; exact = λ m k i. made.0.exact m k i ∙ next r more each.0 up.0 m k i };
+        },
+        made.1,
+      )
 
-  pub steps : (d : Declared) (rest : List Declared) (rows new : List Row) (before : Option _) → sees db id ≡ before
-      → ((due : Entries) → AreEntriesOf due rows → ((k : List ℕ) → due d.number k id ≡ is_key (key_if_seen d.fields before) k) → AreEntriesOf (with_key due d.number id (key_if_seen d.fields seen)) new)
-      → IsOnTheWay (d ∷ rest) rows → IsOnTheWay rest new
+  pub steps : {P : Type 0} (d : Declared) (rest : List Declared) (rows new : List Row) (before : Option Value) → sees db id ≡ before
+      → ((due : Entries) → AreEntriesOf due rows → ((k : List ℕ) → due d.number k id ≡ is_key (key_if_seen d.fields before) k) → AreEntriesOf (with_key due d.number id (key_if_seen d.fields seen)) new × P)
+      → IsOnTheWay (d ∷ rest) rows → IsOnTheWay rest new × P
   steps d rest rows new before is replaces h = step_left d rest rows new before is replaces h.left h.says h.each h.rising h.entries

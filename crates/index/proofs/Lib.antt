@@ -6,3 +6,4 @@ pub mod Following
 pub mod Going
 pub mod ShownDeclarations
 pub mod NewIndexes
+pub mod Dropping

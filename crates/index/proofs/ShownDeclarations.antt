@@ -1,5 +1,5 @@
 -- A row of a declaration is shown as what a reader takes, and fields read back from their text.
-use Rattle.index.proofs.Common.{AllByRecursion, AreDeclarationRows, IfErr, IndexFault, IsDeclarationRow, IsRefused, IsShownDeclaration, List, [], all_weaker, ap, arith, fields_in_cell, fields_of, fields_text, number_of, refl, rowid, shown_declaration, column, true, Row, ℕ, ◌∙◌, ◌∷◌, ◌≡◌, ◌≤◌, and_from}
+use Rattle.index.proofs.Common.{AllByRecursion, AreDeclarationRows, IfErr, IndexFault, IsDeclarationRow, IsRefused, IsShownDeclaration, List, [], all_weaker, ap, arith, fields_in_cell, fields_of, fields_text, number_of, refl, rowid, shown_declaration, column, true, Row, ℕ, ◌∙◌, ◌∷◌, ◌≡◌, and_from}
 use Rattle.couch_json.proofs.ReadingBack.{reading-canonical}
 use Rattle.couch_json.specs.FieldPath.{is_field_path}
 use Rattle.couch_json.specs.Lawful.{AreLawfulItems}

@@ -1,6 +1,6 @@
 -- When the rows of `decls` are the indexes that are declared, and those of `entries` are the keys that documents have in them.
 -- This server's own: stated of each entry apart, with what is declared and what is seen as parameters, so that each step within a change has its statement.
-use Rattle.std.specs.Prelude.{◌≡◌, ℕ, ℤ, Bool, false, ◌&&◌, bytes_eq, if◌then◌else◌, List, Option, Some, None}
+use Rattle.std.specs.Prelude.{◌≡◌, ℕ, ℤ, Bool, false, ◌&&◌, bytes_eq, not, if◌then◌else◌, List, Option, Some, None}
 use Rattle.std.specs.List.{list_any}
 use Rattle.std.specs.Ordering.{int_eq}
 use Rattle.sqlite_trees.specs.Tree.{Trees}
@@ -49,3 +49,7 @@ with_key due declaration id key n k i = if int_eq n declaration && bytes_eq i id
 -- while the declarations of some rows are left over documents as they were, those of the others are over documents as they are now
 abbrev pub is_due_while : List Row → Documents → Documents → List Row → Entries
 is_due_while left before now decls n k id = if list_any (has_number n) left then is_due before decls n k id else is_due now decls n k id
+
+-- the declarations of these numbers have no entries
+abbrev pub without_numbers : Entries → List ℤ → Entries
+without_numbers due numbers n k id = due n k id && not (list_any (int_eq n) numbers)

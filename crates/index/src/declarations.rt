@@ -11,10 +11,7 @@ use sqlite::{Alter, Connection, Error, Row, Transaction, params};
 use tables::statement::{change, query, query_in};
 
 /// Returns the rows of the indexes of a database, by their numbers: the number, the name and the fields.
-pub fn rows_of_database<S: Alter>(
-    tx: &mut Transaction<'_, S>,
-    db: &i64,
-) -> Result<Vec<Row>, Error>
+pub fn rows_of_database<S: Alter>(tx: &mut Transaction<'_, S>, db: &i64) -> Result<Vec<Row>, Error>
     ensures same_reference { tx.new.conn.ghost_name ≡ tx.old.conn.ghost_name }
     ensures reads { ReadsInside S.Store HasIndexRows tx.old.conn.now tx.new.conn.now (λ trees rows. rows.items ≡ map shown_declaration (filter (is_at_home db.now) (trees decls_tree))) result }
 {
@@ -61,10 +58,7 @@ pub fn insert_declaration<S: Alter>(
 }
 
 /// Takes out the row of the declaration of this number.
-pub fn delete_declaration<S: Alter>(
-    tx: &mut Transaction<'_, S>,
-    number: &i64,
-) -> Result<(), Error>
+pub fn delete_declaration<S: Alter>(tx: &mut Transaction<'_, S>, number: &i64) -> Result<(), Error>
     ensures same_reference { tx.new.conn.ghost_name ≡ tx.old.conn.ghost_name }
     ensures alters { Alters S.Store decls_tree AreDeclarationRows (λ rows. filter (λ r. not (has_number number.now r)) rows) tx.old.conn.now tx.new.conn.now result }
 {

@@ -45,10 +45,7 @@ pub fn delete_entry<S: Alter>(
 }
 
 /// Takes out all entries of an index.
-pub fn clear_entries<S: Alter>(
-    tx: &mut Transaction<'_, S>,
-    declaration: &i64,
-) -> Result<(), Error>
+pub fn clear_entries<S: Alter>(tx: &mut Transaction<'_, S>, declaration: &i64) -> Result<(), Error>
     ensures same_reference { tx.new.conn.ghost_name ≡ tx.old.conn.ghost_name }
     ensures alters { Alters S.Store entries_tree AreEntryRows (λ rows. filter (λ r. not (is_entry_in declaration.now r)) rows) tx.old.conn.now tx.new.conn.now result }
 {
