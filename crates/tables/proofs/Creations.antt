@@ -29,6 +29,12 @@ revs_text = codes "CREATE TABLE revs (db INTEGER NOT NULL, id BLOB NOT NULL, n I
 abbrev pub locals_text : List ℕ
 locals_text = codes "CREATE TABLE locals (db INTEGER NOT NULL, id BLOB NOT NULL, n INTEGER NOT NULL, body TEXT NOT NULL, PRIMARY KEY (db, id)) STRICT"
 
+abbrev pub decls_text : List ℕ
+decls_text = codes "CREATE TABLE decls (num INTEGER PRIMARY KEY, db INTEGER NOT NULL, ddoc BLOB NOT NULL, name BLOB NOT NULL, fields TEXT NOT NULL, UNIQUE (db, ddoc, name)) STRICT"
+
+abbrev pub entries_text : List ℕ
+entries_text = codes "CREATE TABLE entries (decl INTEGER NOT NULL, k BLOB NOT NULL, id BLOB NOT NULL, PRIMARY KEY (decl, k, id)) STRICT"
+
 pub meta_made : Creates tables.no_schema meta_text tables.meta
 unfolding understood everything
 meta_made = record { command = refl; whole = refl; defined = refl; plain = (refl, refl); uncounted = refl }
@@ -49,6 +55,14 @@ pub locals_made : Creates tables.schema_4 locals_text tables.locals
 unfolding understood everything
 locals_made = record { command = refl; whole = refl; defined = refl; plain = (refl, refl); uncounted = refl }
 
+pub decls_made : Creates tables.schema_5 decls_text tables.decls
+unfolding understood everything
+decls_made = record { command = refl; whole = refl; defined = refl; plain = (refl, refl); uncounted = refl }
+
+pub entries_made : Creates tables.schema_6 entries_text tables.entries
+unfolding understood everything
+entries_made = record { command = refl; whole = refl; defined = refl; plain = (refl, refl); uncounted = refl }
+
 -- a text that makes a table makes it
 pub adds_table : (schema : Schema) (text : List ℕ) (table : Table) (old new : State) → Creates schema text table → old.now.schema ≡ schema → Ran text [] old new → AddsTable schema table old.now new.now
 adds_table schema text table old new creates has ran =
@@ -67,24 +81,29 @@ adds_table schema text table old new creates has ran =
       others = subst (λ (d : Database). KeepsRows schema.tables old.now.trees d.trees) (sym now) (subst (λ (s : Schema). KeepsRows s.tables old.now.trees first.0.trees) has made.others);
     }
 
--- the five texts, one after the other where there was no table, make all
-pub makes_all : (a b c d e f : State) → a.now.schema ≡ tables.no_schema → Ran meta_text [] a b → Ran dbs_text [] b c → Ran docs_text [] c d → Ran revs_text [] d e → Ran locals_text [] e f → IsEmpty f.now
-makes_all a b c d e f has first second third fourth fifth =
+-- the seven texts, one after the other where there was no table, make all
+pub makes_all : (a b c d e f g h : State) → a.now.schema ≡ tables.no_schema → Ran meta_text [] a b → Ran dbs_text [] b c → Ran docs_text [] c d → Ran revs_text [] d e → Ran locals_text [] e f
+    → Ran decls_text [] f g → Ran entries_text [] g h → IsEmpty h.now
+makes_all a b c d e f g h has first second third fourth fifth sixth seventh =
     let one = adds_table tables.no_schema meta_text tables.meta a b meta_made has first in
     let two = adds_table tables.schema_1 dbs_text tables.dbs b c dbs_made one.schema_is second in
     let three = adds_table tables.schema_2 docs_text tables.docs c d docs_made two.schema_is third in
     let four = adds_table tables.schema_3 revs_text tables.revs d e revs_made three.schema_is fourth in
     let five = adds_table tables.schema_4 locals_text tables.locals e f locals_made four.schema_is fifth in
+    let six = adds_table tables.schema_5 decls_text tables.decls f g decls_made five.schema_is sixth in
+    let seven = adds_table tables.schema_6 entries_text tables.entries g h entries_made six.schema_is seventh in
     record {
-      schema_is = five.schema_is;
-      meta = five.others.0 ∙ four.others.0 ∙ three.others.0 ∙ two.others.0 ∙ one.empty;
-      dbs = five.others.1.0 ∙ four.others.1.0 ∙ three.others.1.0 ∙ two.empty;
-      docs = five.others.1.1.0 ∙ four.others.1.1.0 ∙ three.empty;
-      revs = five.others.1.1.1.0 ∙ four.empty;
-      locals = five.empty;
+      schema_is = seven.schema_is;
+      meta = seven.others.0 ∙ six.others.0 ∙ five.others.0 ∙ four.others.0 ∙ three.others.0 ∙ two.others.0 ∙ one.empty;
+      dbs = seven.others.1.0 ∙ six.others.1.0 ∙ five.others.1.0 ∙ four.others.1.0 ∙ three.others.1.0 ∙ two.empty;
+      docs = seven.others.1.1.0 ∙ six.others.1.1.0 ∙ five.others.1.1.0 ∙ four.others.1.1.0 ∙ three.empty;
+      revs = seven.others.1.1.1.0 ∙ six.others.1.1.1.0 ∙ five.others.1.1.1.0 ∙ four.empty;
+      locals = seven.others.1.1.1.1.0 ∙ six.others.1.1.1.1.0 ∙ five.empty;
+      decls = seven.others.1.1.1.1.1.0 ∙ six.empty;
+      entries = seven.empty;
     }
 
-pub makes_if_ran : {X E : Type 0} (a b c d e f : State) (r : Result X E) → a.now.schema ≡ tables.no_schema → Ran meta_text [] a b → Ran dbs_text [] b c → Ran docs_text [] c d → Ran revs_text [] d e
-    → OnOk r (Ran locals_text [] e f) → OnOk r (IsEmpty f.now)
-makes_if_ran a b c d e f (Err x) has first second third fourth fifth = tt
-makes_if_ran a b c d e f (Ok x) has first second third fourth fifth = makes_all a b c d e f has first second third fourth fifth
+pub makes_if_ran : {X E : Type 0} (a b c d e f g h : State) (r : Result X E) → a.now.schema ≡ tables.no_schema → Ran meta_text [] a b → Ran dbs_text [] b c → Ran docs_text [] c d → Ran revs_text [] d e
+    → Ran locals_text [] e f → Ran decls_text [] f g → OnOk r (Ran entries_text [] g h) → OnOk r (IsEmpty h.now)
+makes_if_ran a b c d e f g h (Err x) has first second third fourth fifth sixth seventh = tt
+makes_if_ran a b c d e f g h (Ok x) has first second third fourth fifth sixth seventh = makes_all a b c d e f g h has first second third fourth fifth sixth seventh

@@ -1,5 +1,5 @@
 -- What a change leaves of other tables and of rows that it doesn't touch, and tables that say the same.
-use Rattle.tables.proofs.Common.{AllByRecursion, AreLawful, AreNumbered, Changes, Contents, HistoryContent, IsAscending, IsDatabaseNumber, IsDatabaseRow, IsDocumentRow, IsLaid, IsLawful, IsLocalRow, IsRevisionRow, IsStore, List, None, Option, Revision, Row, Schema, Some, Trees, all_weaker, any_is_found, ap, arith, cond, contents_in, database_at, db_of, dbs_tree, docs_tree, documents_in, eqb, eqb_tells, from_entries, held_of, history_in, id_of, inl, inr, is_deleted, is_gone, is_known, is_of, is_some, json_in, length_of, list_any, locals_in, locals_tree, map, meta_tree, name_of, number_of, option_map, refl, revs_tree, same, schema, security_of, sequence_of, subst, sym, text_cell, text_of, true, value_or_null, winner, winner_text, ℕ, ℤ, ◌∙◌, ◌≡◌, ◌≢◌, ◌≤◌}
+use Rattle.tables.proofs.Common.{AllByRecursion, AreLawful, AreNumbered, Changes, Contents, HistoryContent, IsAscending, IsDatabaseNumber, IsDatabaseRow, IsDocumentRow, IsLaid, IsLawful, IsLocalRow, IsRevisionRow, IsStore, List, None, Option, Revision, Row, Schema, Some, Trees, all_weaker, any_is_found, ap, arith, cond, contents_in, database_at, db_of, dbs_tree, decls_tree, docs_tree, documents_in, entries_tree, eqb, eqb_tells, from_entries, held_of, history_in, id_of, inl, inr, is_deleted, is_gone, is_known, is_of, is_some, json_in, length_of, list_any, locals_in, locals_tree, map, meta_tree, name_of, number_of, option_map, refl, revs_tree, same, schema, security_of, sequence_of, subst, sym, text_cell, text_of, true, value_or_null, winner, winner_text, ℕ, ℤ, ◌∙◌, ◌≡◌, ◌≢◌, ◌≤◌}
 use Rattle.std.specs.Ordering.{int_eq}
 use Rattle.couch_json.specs.Nesting.{max_open}
 use Rattle.couch_json.specs.Value as json
@@ -15,11 +15,13 @@ pub record Leaves (tree : ℕ) (old new : Trees) : Type 0 where
   pub docs : docs_tree ≢ tree → new docs_tree ≡ old docs_tree
   pub revs : revs_tree ≢ tree → new revs_tree ≡ old revs_tree
   pub locals : locals_tree ≢ tree → new locals_tree ≡ old locals_tree
+  pub decls : decls_tree ≢ tree → new decls_tree ≡ old decls_tree
+  pub entries : entries_tree ≢ tree → new entries_tree ≡ old entries_tree
 
 pub leaves : (tree : ℕ) (rows : List Row) (old new : sqlite.Database) → old.schema ≡ schema → Changes tree rows old new → Leaves tree old.trees new.trees
 leaves tree rows old new is c =
     let others = subst (λ (s : Schema). AllByRecursion (λ t. t.tree ≢ tree → new.trees t.tree ≡ old.trees t.tree) s.tables) is c.others in
-    record { meta = others.0; dbs = others.1.0; docs = others.1.1.0; revs = others.1.1.1.0; locals = others.1.1.1.1.0 }
+    record { meta = others.0; dbs = others.1.0; docs = others.1.1.0; revs = others.1.1.1.0; locals = others.1.1.1.1.0; decls = others.1.1.1.1.1.0; entries = others.1.1.1.1.1.1.0 }
 
 -- ---- rows that stay
 

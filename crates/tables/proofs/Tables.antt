@@ -1,5 +1,5 @@
 -- The tables are plain ones, and what their layout says of their keys.
-use Rattle.tables.proofs.Common.{AreDatabaseRows, AreKeyed, AreNumbered, Int, IsAscending, IsDatabaseRow, IsDocumentRow, IsKeyed, IsLaid, IsLocalRow, IsRevisionRow, List, Row, Trees, all_weaker, and_parts, ap, arith, ascending_weaker, bytes_eq-Decides, column, database_row, db_of, dbs_table, dbs_tree, docs_table, docs_tree, has_number, id_of, ints, is_in, is_named, is_of, length_of, locals_table, locals_tree, meta_table, name_of, number_of, pos, refl, revs_table, revs_tree, rowid, same_int, schema, security_text, sym, true, ℕ, ℤ, ◌<ℤ◌, ◌∙◌, ◌≡◌, ◌≢◌}
+use Rattle.tables.proofs.Common.{AreDatabaseRows, AreKeyed, AreNumbered, Int, IsAscending, IsDatabaseRow, IsDocumentRow, IsKeyed, IsLaid, IsLocalRow, IsRevisionRow, List, Row, Trees, all_weaker, and_parts, ap, arith, ascending_weaker, bytes_eq-Decides, column, database_row, db_of, dbs_table, dbs_tree, decls_table, docs_table, docs_tree, entries_table, has_number, id_of, ints, is_in, is_named, is_of, length_of, locals_table, locals_tree, meta_table, name_of, number_of, pos, refl, revs_table, revs_tree, rowid, same_int, schema, security_text, sym, true, ℕ, ℤ, ◌<ℤ◌, ◌∙◌, ◌≡◌, ◌≢◌}
 use Rattle.tables.proofs.Single.{HasOneAtMost}
 use Rattle.tables.proofs.Writes.{IsPlainTable}
 
@@ -17,6 +17,12 @@ revs_plain = record { there = refl; uncounted = refl; unstamped = refl; alone = 
 
 pub locals_plain : IsPlainTable schema 4 locals_table
 locals_plain = record { there = refl; uncounted = refl; unstamped = refl; alone = λ olds news. refl }
+
+pub decls_plain : IsPlainTable schema 5 decls_table
+decls_plain = record { there = refl; uncounted = refl; unstamped = refl; alone = λ olds news. refl }
+
+pub entries_plain : IsPlainTable schema 6 entries_table
+entries_plain = record { there = refl; uncounted = refl; unstamped = refl; alone = λ olds news. refl }
 
 pub docs_keyed : (trees : Trees) → IsLaid trees → AreKeyed (trees docs_tree)
 docs_keyed trees h = record {

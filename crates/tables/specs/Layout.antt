@@ -15,7 +15,7 @@ use Rattle.sqlite_value.specs.declared.value.Value.TheVariants.{Int, Blob}
 use Rattle.sqlite_value.specs.Order.{Row, column}
 use Rattle.sqlite_trees.specs.Tree.{Trees, IsAscending, rowid}
 use Rattle.sqlite.specs.Effect as sqlite
-use Rattle.tables.specs.Schema.{schema, meta_tree, dbs_tree, docs_tree, revs_tree, locals_tree}
+use Rattle.tables.specs.Schema.{schema, meta_tree, dbs_tree, docs_tree, revs_tree, locals_tree, decls_tree, entries_tree}
 use Rattle.tables.specs.Rows.{number_of, db_of, id_of, is_of, count, database_row, name_of, security_text, security_of, length_of, document_row, sequence_of, winner_text, is_gone, revision_row, revision_of, entry_of, local_row, local_of, history_in, contents_in}
 
 -- each row has a number, and the numbers rise
@@ -117,6 +117,8 @@ pub record IsEmpty (db : sqlite.Database) : Type 0 where
   pub docs : db.trees docs_tree ≡ []
   pub revs : db.trees revs_tree ≡ []
   pub locals : db.trees locals_tree ≡ []
+  pub decls : db.trees decls_tree ≡ []
+  pub entries : db.trees entries_tree ≡ []
 
 -- the tables as they are made: with the version, and no other row
 pub record IsNew (db : sqlite.Database) : Type 0 where
@@ -126,3 +128,5 @@ pub record IsNew (db : sqlite.Database) : Type 0 where
   pub docs : db.trees docs_tree ≡ []
   pub revs : db.trees revs_tree ≡ []
   pub locals : db.trees locals_tree ≡ []
+  pub decls : db.trees decls_tree ≡ []
+  pub entries : db.trees entries_tree ≡ []

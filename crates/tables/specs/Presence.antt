@@ -9,7 +9,7 @@ use Rattle.sqlite_schema.specs.Names.{table_named}
 use Rattle.tables.specs.Rows.{whole_in}
 
 abbrev pub table_names : List (List ℕ)
-table_names = codes "meta" ∷ codes "dbs" ∷ codes "docs" ∷ codes "revs" ∷ codes "locals" ∷ []
+table_names = codes "meta" ∷ codes "dbs" ∷ codes "docs" ∷ codes "revs" ∷ codes "locals" ∷ codes "decls" ∷ codes "entries" ∷ []
 
 abbrev pub has_table : Schema → List ℕ → Bool
 has_table schema name = is_some (table_named schema name)

@@ -73,6 +73,20 @@ locals =
     (required_column (codes "db") Integer ∷ required_column (codes "id") Blob ∷ required_column (codes "n") Integer ∷ required_column (codes "body") Text ∷ [])
     None (1 ∷ 2 ∷ []) ((1 ∷ 2 ∷ []) ∷ [])
 
+-- the indexes that design documents declare, each with its fields
+abbrev pub decls : Table
+decls =
+    table_of (codes "decls")
+    (optional_column (codes "num") Integer ∷ required_column (codes "db") Integer ∷ required_column (codes "ddoc") Blob ∷ required_column (codes "name") Blob ∷ required_column (codes "fields") Text ∷ [])
+    (Some 0) (0 ∷ []) ((2 ∷ 3 ∷ 4 ∷ []) ∷ [])
+
+-- the entries of each index
+abbrev pub entries : Table
+entries =
+    table_of (codes "entries")
+    (required_column (codes "decl") Integer ∷ required_column (codes "k") Blob ∷ required_column (codes "id") Blob ∷ [])
+    None (1 ∷ 2 ∷ 3 ∷ []) ((1 ∷ 2 ∷ 3 ∷ []) ∷ [])
+
 abbrev pub no_schema : Schema
 no_schema = record { tables = []; indexes = []; views = [] }
 
@@ -88,9 +102,15 @@ schema_3 = created schema_2 docs
 abbrev pub schema_4 : Schema
 schema_4 = created schema_3 revs
 
+abbrev pub schema_5 : Schema
+schema_5 = created schema_4 locals
+
+abbrev pub schema_6 : Schema
+schema_6 = created schema_5 decls
+
 -- the whole schema
 abbrev pub schema : Schema
-schema = created schema_4 locals
+schema = created schema_6 entries
 
 -- ---- where the rows of each table are kept
 
@@ -109,6 +129,12 @@ revs_tree = 6
 abbrev pub locals_tree : ℕ
 locals_tree = 8
 
+abbrev pub decls_tree : ℕ
+decls_tree = 10
+
+abbrev pub entries_tree : ℕ
+entries_tree = 12
+
 -- the tables at their places in the schema
 abbrev pub meta_table : Table
 meta_table = record meta { tree = meta_tree }
@@ -124,3 +150,9 @@ revs_table = record revs { tree = revs_tree }
 
 abbrev pub locals_table : Table
 locals_table = record locals { tree = locals_tree }
+
+abbrev pub decls_table : Table
+decls_table = record decls { tree = decls_tree }
+
+abbrev pub entries_table : Table
+entries_table = record entries { tree = entries_tree }

@@ -20,7 +20,7 @@ fn insert_version<S: Alter>(tx: &mut Transaction<'_, S>) -> Result<(), Error>
     change(tx, "INSERT INTO meta (version) VALUES (1)", &[])
 }
 
-/// Makes all five tables, where there is none.
+/// Makes all seven tables, where there is none.
 fn make_tables<S: Alter>(tx: &mut Transaction<'_, S>) -> Result<(), Error>
     ensures same_reference { tx.new.conn.ghost_name ≡ tx.old.conn.ghost_name }
     ensures ok { HasCleanDisk (state S.Store tx.new.conn.now) → tx.old.conn.now.schema ≡ tables.no_schema
@@ -52,10 +52,20 @@ fn make_tables<S: Alter>(tx: &mut Transaction<'_, S>) -> Result<(), Error>
         tx,
         "CREATE TABLE locals (db INTEGER NOT NULL, id BLOB NOT NULL, n INTEGER NOT NULL, body TEXT NOT NULL, PRIMARY KEY (db, id)) STRICT",
         &[],
+    )?;
+    change(
+        tx,
+        "CREATE TABLE decls (num INTEGER PRIMARY KEY, db INTEGER NOT NULL, ddoc BLOB NOT NULL, name BLOB NOT NULL, fields TEXT NOT NULL, UNIQUE (db, ddoc, name)) STRICT",
+        &[],
+    )?;
+    change(
+        tx,
+        "CREATE TABLE entries (decl INTEGER NOT NULL, k BLOB NOT NULL, id BLOB NOT NULL, PRIMARY KEY (decl, k, id)) STRICT",
+        &[],
     )
 }
 
-/// Makes all five tables, where there is none, and writes the version.
+/// Makes all seven tables, where there is none, and writes the version.
 pub fn create_tables<S: Alter>(tx: &mut Transaction<'_, S>) -> Result<(), Error>
     ensures same_reference { tx.new.conn.ghost_name ≡ tx.old.conn.ghost_name }
     ensures ok { HasCleanDisk (state S.Store tx.new.conn.now) → tx.old.conn.now.schema ≡ tables.no_schema

@@ -75,7 +75,8 @@ pub struct FoundDatabase {
     pub sequence: u64,
 }
 
-fn whole_at(row: &Row, at: usize) -> Result<i64, RowFault>
+/// Reads the whole number in a cell.
+pub fn whole_at(row: &Row, at: usize) -> Result<i64, RowFault>
     ensures ok { IfOk result (λ n. n ≡ whole_in (column row.now at)) }
     ensures damaged { result ≡ Err RowFault.Damaged → at < length row.now → ¬ (IsWhole (column row.now at)) }
 {
@@ -139,7 +140,8 @@ fn number_at(row: &Row, at: usize) -> Result<u32, RowFault>
     }
 }
 
-fn json_at(alloc: Global, row: &Row, at: usize) -> Result<Json, RowFault>
+/// Reads the JSON value whose text is in a cell.
+pub fn json_at(alloc: Global, row: &Row, at: usize) -> Result<Json, RowFault>
     ensures ok { IfOk result (λ json. view json ≡ json_in (column row.now at)) }
     ensures damaged { result ≡ Err RowFault.Damaged → at < length row.now → ¬ (SpellsJson (column row.now at)) }
 {

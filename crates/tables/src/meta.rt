@@ -38,6 +38,8 @@ fn has_all(schema: &Schema) -> bool
         && has_table(schema, "docs")
         && has_table(schema, "revs")
         && has_table(schema, "locals")
+        && has_table(schema, "decls")
+        && has_table(schema, "entries")
 }
 
 fn has_any(schema: &Schema) -> bool
@@ -48,6 +50,8 @@ fn has_any(schema: &Schema) -> bool
         || has_table(schema, "docs")
         || has_table(schema, "revs")
         || has_table(schema, "locals")
+        || has_table(schema, "decls")
+        || has_table(schema, "entries")
 }
 
 fn is_blank(schema: &Schema) -> bool
@@ -56,7 +60,7 @@ fn is_blank(schema: &Schema) -> bool
     schema.tables.is_empty() && schema.indexes.is_empty() && schema.views.is_empty()
 }
 
-/// Tells which of the five tables a schema has, by their names.
+/// Tells which of the tables a schema has, by their names.
 pub fn tables_in(schema: &Schema) -> FoundTables
     ensures nothing { result ≡ FoundTables.Nothing ↔ schema.now ≡ tables.no_schema }
     ensures part { result ≡ FoundTables.Part ↔ ((has_any schema.now ≡ true) × (has_all schema.now ≡ false)) }

@@ -12,7 +12,7 @@ use sqlite::{Alter, Connection, Error, Row, Transaction};
 use sqlite_value::value::ValueRef;
 
 /// Runs one statement of a transaction.
-pub(crate) fn change<S: Alter>(
+pub fn change<S: Alter>(
     tx: &mut Transaction<'_, S>,
     sql: &str,
     params: &[ValueRef<'_>],
@@ -29,7 +29,7 @@ pub(crate) fn change<S: Alter>(
 }
 
 /// Returns all rows that a query shows.
-pub(crate) fn query<S: Alter>(
+pub fn query<S: Alter>(
     conn: &mut Connection<S>,
     sql: &str,
     params: &[ValueRef<'_>],
@@ -46,7 +46,7 @@ pub(crate) fn query<S: Alter>(
 }
 
 /// Returns all rows that a query shows in a transaction.
-pub(crate) fn query_in<S: Alter>(
+pub fn query_in<S: Alter>(
     tx: &mut Transaction<'_, S>,
     sql: &str,
     params: &[ValueRef<'_>],

@@ -1,0 +1,6 @@
+pub mod Rows
+pub mod Meaning
+pub mod Layout
+pub mod Shown
+pub mod Indexed
+pub mod Calls

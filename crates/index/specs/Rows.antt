@@ -1,0 +1,99 @@
+-- What the rows of `decls` and `entries` say: which indexes are declared, and which keys their documents have.
+-- This server's own layout: the fields of an index are the canonical text of the list of their paths, and a key is the bytes of `couch_json`.
+use Rattle.std.specs.Prelude.{ℕ, ℤ, Bool, ◌&&◌, bytes_eq, List, [], ◌∷◌, find, Option, option_map}
+use Rattle.std.specs.List.{list_any}
+use Rattle.std.specs.Ordering.{int_eq}
+use Rattle.couch_json.specs.Canonical.{canonical}
+use Rattle.couch_json.specs.Parts.{items_in, items_or_none}
+use Rattle.couch_json.specs.Value.{Items, no_items, item, text, array}
+use Rattle.sqlite_trees.specs.Tree.{rowid}
+use Rattle.sqlite_value.specs.Order.{Row, bytes, column}
+use Rattle.sqlite_value.specs.declared.value.Value.{Value}
+use Rattle.sqlite_value.specs.declared.value.Value.TheVariants.{Null, Int, Text, Blob}
+use Rattle.store.specs.Indexes.{paths_in}
+use Rattle.tables.specs.Rows.{has_number, json_in, number_of, whole_in}
+
+-- ---- declarations: the number stands in the place of the rowid
+
+-- the paths, as the elements of a list
+abbrev pub path_items : List (List ℕ) → Items
+path_items [] = no_items
+path_items (path ∷ paths) = item (text path) (path_items paths)
+
+-- the text of the fields of an index
+abbrev pub fields_text : List (List ℕ) → List ℕ
+fields_text fields = canonical (array (path_items fields))
+
+abbrev pub declaration_cells : ℤ → List ℕ → List ℕ → List ℕ → Row
+declaration_cells db design name fields = Null ∷ Int db ∷ Blob design ∷ Blob name ∷ Text fields ∷ []
+
+abbrev pub declaration_row : ℤ → ℤ → List ℕ → List ℕ → List ℕ → Row
+declaration_row number db design name fields = Int number ∷ declaration_cells db design name fields
+
+-- the database, the design document and the name of the index
+abbrev pub home_of : Row → ℤ
+home_of r = whole_in (column r 2)
+
+abbrev pub design_of : Row → List ℕ
+design_of r = bytes (column r 3)
+
+abbrev pub index_name_of : Row → List ℕ
+index_name_of r = bytes (column r 4)
+
+-- the fields that a cell says
+abbrev pub fields_in_cell : Value → List (List ℕ)
+fields_in_cell v = paths_in (items_or_none (items_in (json_in v)))
+
+abbrev pub fields_of : Row → List (List ℕ)
+fields_of r = fields_in_cell (column r 5)
+
+abbrev pub is_at_home : ℤ → Row → Bool
+is_at_home db r = int_eq (home_of r) db
+
+-- the row is that of the index of this name of the design document
+abbrev pub is_declaration_of : ℤ → List ℕ → List ℕ → Row → Bool
+is_declaration_of db design name r = is_at_home db r && (bytes_eq (design_of r) design && bytes_eq (index_name_of r) name)
+
+-- what a query shows of such a row: the number, the name and the text of the fields
+abbrev pub shown_declaration : Row → Row
+shown_declaration r = rowid r ∷ column r 4 ∷ column r 5 ∷ []
+
+-- the declaration of this number
+abbrev pub declaration_at : List Row → ℤ → Option Row
+declaration_at rows number = find (has_number number) rows
+
+-- the fields that the rows say of this index
+abbrev pub declared_by : List Row → ℤ → List ℕ → List ℕ → Option (List (List ℕ))
+declared_by rows db design name = option_map fields_of (find (is_declaration_of db design name) rows)
+
+-- ---- entries
+
+abbrev pub entry_cells : ℤ → List ℕ → List ℕ → Row
+entry_cells declaration k id = Int declaration ∷ Blob k ∷ Blob id ∷ []
+
+abbrev pub entry_row : ℤ → ℤ → List ℕ → List ℕ → Row
+entry_row number declaration k id = Int number ∷ entry_cells declaration k id
+
+-- the number of the declaration, the key, and the id of the document
+abbrev pub declaration_of : Row → ℤ
+declaration_of r = whole_in (column r 1)
+
+abbrev pub key_of : Row → List ℕ
+key_of r = bytes (column r 2)
+
+abbrev pub entry_id : Row → List ℕ
+entry_id r = bytes (column r 3)
+
+abbrev pub is_entry_in : ℤ → Row → Bool
+is_entry_in declaration r = int_eq (declaration_of r) declaration
+
+abbrev pub is_entry_of : ℤ → List ℕ → List ℕ → Row → Bool
+is_entry_of declaration k id r = is_entry_in declaration r && (bytes_eq (key_of r) k && bytes_eq (entry_id r) id)
+
+-- what a query shows of such a row: the key and the id
+abbrev pub shown_entry : Row → Row
+shown_entry r = column r 2 ∷ column r 3 ∷ []
+
+-- there is such an entry
+abbrev pub has_entry : List Row → ℤ → List ℕ → List ℕ → Bool
+has_entry rows declaration k id = list_any (is_entry_of declaration k id) rows

@@ -1,0 +1,15 @@
+//! The stored rows of indexes: which are declared, and which documents have which keys in them.
+#![tactic(auto)]
+
+mod declaration;
+pub mod declarations;
+pub mod entries;
+mod fault;
+mod keys;
+pub mod laws;
+mod reading;
+mod refreshing;
+
+pub use declaration::Declaration;
+pub use fault::IndexFault;
+pub use refreshing::{list_declarations, refresh, refresh_indexes};
