@@ -112,13 +112,13 @@ known_there k h r w root c s known = by (is_known h s) refl
     by true is = before is (entry_kept h w s is)
     by false is = let e = entry_of_known (with_write h w) s known in new e.0 e.1 is
 
-abbrev parent_in : Option Entry → Option Revision
+abbrev pub parent_in : Option Entry → Option Revision
 parent_in o = option_and_then (λ (e : Entry). e.parent) o
 
-abbrev held_in : Option Entry → Option Held
+abbrev pub held_in : Option Entry → Option Held
 held_in o = option_and_then (λ (e : Entry). e.held) o
 
-held_known : (h : HistoryContent) (s : Revision) (d : Held) → held_of h s ≡ Some d → is_known h s ≡ true
+pub held_known : (h : HistoryContent) (s : Revision) (d : Held) → held_of h s ≡ Some d → is_known h s ≡ true
 held_known h s d e = by (get h s) refl e
   where
     by : (o : Option Entry) → get h s ≡ o → held_in o ≡ Some d → is_known h s ≡ true

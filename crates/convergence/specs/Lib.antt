@@ -1,1 +1,5 @@
 pub mod Agreement
+pub mod Sound
+pub mod Appended
+pub mod Crossing
+pub mod Converged
