@@ -4,3 +4,7 @@ pub mod Replicas
 pub mod PlainMembers
 pub mod Sayings
 pub mod Crossings
+pub mod Quiet
+pub mod Pushed
+pub mod Opened
+pub mod Cleanly

@@ -20,8 +20,7 @@ use Rattle.store.specs.declared.local_document.LocalDocument.{LocalDocument}
 use Rattle.store.proofs.Contents.{history_at-with_one}
 use Rattle.store.proofs.Lawfuls.{held_body, lawful_by_one, writes_behind}
 use Rattle.convergence.specs.Agreement.{Agrees}
-use Rattle.convergence.specs.Appended.{ComesFrom, KeepsDocuments}
-use Rattle.convergence.specs.Converged.{IsReplica}
+use Rattle.convergence.specs.Appended.{ComesFrom, IsReplica, KeepsDocuments}
 use Rattle.convergence.specs.Sound.{Agree, AreWritable, HavePlainBodies, IsSound, is_plain}
 use Rattle.convergence.proofs.Writings.{IsCopied, Keeps, agrees_on, held_from, held_known, kept_known, known_from}
 

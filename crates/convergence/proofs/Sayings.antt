@@ -15,9 +15,7 @@ use Rattle.store.specs.Database.{Database, DocumentWrite, history_at}
 use Rattle.store.specs.Lawful.{IsBody}
 use Rattle.read.specs.Path.{revisions_of, with_path, with_revisions}
 use Rattle.read.specs.Shown.{shown_document}
-use Rattle.write.specs.Admission.{write_at}
 use Rattle.write.specs.Document.{Ancestry, ancestry_by, ancestry_if_newest, ancestry_in, are_allowed, body_for, body_if, body_in, body_of, count, fits_id, given_revisions, id_if, id_in, ids_in, is_body_for, is_bulk_id, is_newest, mark_in, member_text, onto, path_of, revision_in, revisions_if, revisions_in, sent_in, sent_with, start_in, without_special, words_in, words_said}
-use Rattle.write.specs.declared.document.Sent.{Sent}
 use Rattle.passes.proofs.MemberLemmas.{put_at_other, put_at_same}
 use Rattle.convergence.specs.Appended.{ComesFrom, IsSaidBy, IsShownBy}
 use Rattle.convergence.specs.Sound.{IsSound, are_plain, is_plain}
@@ -77,7 +75,7 @@ path_back (s ∷ rest) found counts e =
 
 -- ---- what `_revisions` says
 
-given_path : (b : Bool) (v : Value) (said : Ancestry) → revisions_if b v ≡ Some said → ids_in v ≡ Some said.path
+pub given_path : (b : Bool) (v : Value) (said : Ancestry) → revisions_if b v ≡ Some said → ids_in v ≡ Some said.path
 given_path false v said e = absurd cc
 given_path true v said e = by (start_in v) (ids_in v) e
   where
@@ -88,7 +86,7 @@ given_path true v said e = by (start_in v) (ids_in v) e
         let made : Ancestry = record { start = s; path = p } in
         let same : made ≡ said = same_inside made said k in ap (λ (x : Ancestry). Some x.path) same
 
-newest_given : (rev : Option Revision) (o : Option Ancestry) (ancestry : Ancestry) → option_and_then (λ said. ancestry_if_newest rev said) o ≡ Some ancestry → o ≡ Some ancestry
+pub newest_given : (rev : Option Revision) (o : Option Ancestry) (ancestry : Ancestry) → option_and_then (λ said. ancestry_if_newest rev said) o ≡ Some ancestry → o ≡ Some ancestry
 newest_given rev None ancestry e = absurd cc
 newest_given rev (Some said) ancestry e = by (is_newest said.start said.path rev) e
   where
@@ -149,26 +147,31 @@ object_of (object ms) e = refl
 
 -- ---- what is sent
 
-record Said (words : Option (Option Revision × Bool)) (body : Option Value) (sent : Sent) : Type 0 where
-  words_said : Option Revision × Bool
-  body_said : Value
-  words_are : words ≡ Some words_said
-  body_is : body ≡ Some body_said
-  is : sent ≡ sent_with words_said body_said
+pub record Said {A : Type 0} (with_words : Option Revision × Bool → Value → A) (words : Option (Option Revision × Bool)) (body : Option Value) (sent : A) : Type 0 where
+  pub words_said : Option Revision × Bool
+  pub body_said : Value
+  pub words_are : words ≡ Some words_said
+  pub body_is : body ≡ Some body_said
+  pub is : sent ≡ with_words words_said body_said
 
-said_of : (words : Option (Option Revision × Bool)) (body : Option Value) (sent : Sent) → option_and_then (λ w. option_map (λ b. sent_with w b) body) words ≡ Some sent → Said words body sent
-said_of None body sent e = absurd cc
-said_of (Some w) None sent e = absurd cc
-said_of (Some w) (Some b) sent e = record { words_said = w; body_said = b; words_are = refl; body_is = refl; is = sym (same_inside (sent_with w b) sent e) }
+pub said_of : {A : Type 0} (with_words : Option Revision × Bool → Value → A) (words : Option (Option Revision × Bool)) (body : Option Value) (sent : A)
+    → option_and_then (λ w. option_map (λ b. with_words w b) body) words ≡ Some sent → Said with_words words body sent
+said_of with_words None body sent e = absurd cc
+said_of with_words (Some w) None sent e = absurd cc
+said_of with_words (Some w) (Some b) sent e = record { words_said = w; body_said = b; words_are = refl; body_is = refl; is = sym (same_inside (with_words w b) sent e) }
 
-mark_of : (fits : Bool) (rev : Option (Option Revision)) (mark : Option Bool) (words : Option Revision × Bool)
+-- a field of equal values
+pub along : {A B : Type 0} (with_words : Option Revision × Bool → Value → A) (field : A → B) (x y : A) → x ≡ y → field x ≡ field y
+along with_words field x y e = ap field e
+
+pub mark_of : (fits : Bool) (rev : Option (Option Revision)) (mark : Option Bool) (words : Option Revision × Bool)
     → cond fits (option_and_then (λ r. option_map (λ deleted. (r, deleted)) mark) rev) None ≡ Some words → mark ≡ Some words.1
 mark_of false rev mark words e = absurd cc
 mark_of true None mark words e = absurd cc
 mark_of true (Some r) None words e = absurd cc
 mark_of true (Some r) (Some d) words e = let pair : Option Revision × Bool = (r, d) in let k : pair ≡ words = same_inside pair words e in ap (λ (x : Option Revision × Bool). Some x.1) k
 
-suited : (id : List ℕ) (plain : Option Value) (body : Value) → option_and_then (λ b. body_if (is_body_for id b) b) plain ≡ Some body → plain ≡ Some body
+pub suited : (id : List ℕ) (plain : Option Value) (body : Value) → option_and_then (λ b. body_if (is_body_for id b) b) plain ≡ Some body → plain ≡ Some body
 suited id None body e = absurd cc
 suited id (Some b) body e = by (is_body_for id b) e
   where
@@ -176,23 +179,23 @@ suited id (Some b) body e = by (is_body_for id b) e
     by true k = k
     by false k = absurd cc
 
-kept_body : (good : Bool) (v body : Value) → body_if good v ≡ Some body → body ≡ v
+pub kept_body : (good : Bool) (v body : Value) → body_if good v ≡ Some body → body ≡ v
 kept_body true v body e = sym (same_inside v body e)
 kept_body false v body e = absurd cc
 
 -- what a shown document sends is what is held: the mark and the body
-sent_held : (id other : List ℕ) (r : Revision) (path : List Revision) (held : Held) (sent : Sent) → is_plain held.body ≡ true → is_object held.body ≡ true
-    → sent_in other (object (shown_all id r path held)) ≡ Some sent → (sent.deleted ≡ held.deleted) × (sent.body ≡ held.body)
-sent_held id other r path held sent plain is_body e =
+sent_held : (id other : List ℕ) (r : Revision) (path : List Revision) (held : Held) (rev : Option Revision) (deleted : Bool) (body : Value) → is_plain held.body ≡ true → is_object held.body ≡ true
+    → sent_in other (object (shown_all id r path held)) ≡ Some (sent_with (rev, deleted) body) → (deleted ≡ held.deleted) × (body ≡ held.body)
+sent_held id other r path held rev deleted body plain is_body e =
     let v = object (shown_all id r path held) in
-    let s = said_of (words_in other v) (body_for other v) sent e in
+    let s = said_of sent_with (words_in other v) (body_for other v) (sent_with (rev, deleted) body) e in
     let marked : Some held.deleted ≡ Some s.words_said.1 =
     sym (mark_shown id r path held plain)
     ∙ mark_of (fits_id other (member_of v (codes "_id"))) (revision_in (member_of v (codes "_rev"))) (mark_in (member_of v (codes "_deleted"))) s.words_said s.words_are in
-    let body : s.body_said ≡ object (without_special (shown_all id r path held)) = kept_body _ (object (without_special (shown_all id r path held))) s.body_said (suited other (body_in v) s.body_said s.body_is) in
+    let is : s.body_said ≡ object (without_special (shown_all id r path held)) = kept_body _ (object (without_special (shown_all id r path held))) s.body_said (suited other (body_in v) s.body_said s.body_is) in
     (
-      ap (λ (x : Sent). x.deleted) s.is ∙ sym (same_inside held.deleted s.words_said.1 marked),
-      ap (λ (x : Sent). x.body) s.is ∙ body ∙ ap object (body_shown id r path held plain) ∙ object_of held.body is_body,
+      along sent_with (λ x. x.deleted) (sent_with (rev, deleted) body) (sent_with s.words_said s.body_said) s.is ∙ sym (same_inside held.deleted s.words_said.1 marked),
+      along sent_with (λ x. x.body) (sent_with (rev, deleted) body) (sent_with s.words_said s.body_said) s.is ∙ is ∙ ap object (body_shown id r path held plain) ∙ object_of held.body is_body,
     )
 
 -- the path that it leads to is the one that is shown
@@ -226,15 +229,14 @@ comes db id r held w sound holds said =
     let chained : chain h r ≡ Some path = ap (λ (b : Bool). cond b (Some path) None) known in
     let s : IsSaidBy (object (shown_all id r path held)) w = subst (λ (o : Option (List Revision)). IsSaidBy (object (with_path r o (shown_members id r held))) w) chained said in
     let plain = sound.plain id r held holds in
-    let sent = sent_held id w.id r path held s.sent plain (body_at db sound id r held holds).object s.says in
-    let led = path_led id r path held s.sent.rev s.ancestry (line_counts h root r.number r refl known).1 s.leads in
+    let sent = sent_held id w.id r path held s.rev w.write.deleted w.write.body plain (body_at db sound id r held holds).object s.says in
+    let led = path_led id r path held s.rev s.ancestry (line_counts h root r.number r refl known).1 s.leads in
     let same : w.id ≡ id = id_said (member_text (codes "_id") (object (shown_all id r path held))) id w.id (ap (λ (o : Option Value). option_and_then (λ m. text_in m) o) (id_shown id r path held)) s.named in
-    let brought : held ≡ held_by w.write =
-    sym ((λ i. let x : Held = record { deleted = sent.0 i; body = sent.1 i } in x)) ∙ sym (ap (λ (x : DocumentWrite). held_by x.write) s.is) in
+    let brought : held_by w.write ≡ held = (λ i. let x : Held = record { deleted = sent.0 i; body = sent.1 i } in x) in
     record {
       rev = r;
-      path = ap (λ (i : List ℕ). chain (history_at db i) r) same ∙ chained ∙ ap Some (sym led ∙ sym (ap (λ (x : DocumentWrite). x.write.path) s.is));
-      held = ap (λ (i : List ℕ). held_of (history_at db i) r) same ∙ holds ∙ ap Some brought;
+      path = ap (λ (i : List ℕ). chain (history_at db i) r) same ∙ chained ∙ ap Some (sym led ∙ sym s.path);
+      held = ap (λ (i : List ℕ). held_of (history_at db i) r) same ∙ holds ∙ ap Some (sym brought);
     }
 
 pub shown_is_said : (db : Database) (id : List ℕ) (v : Value) (w : DocumentWrite) → IsSound db → IsShownBy db id v → IsSaidBy v w → ComesFrom db w

@@ -7,11 +7,10 @@ use Rattle.tree.specs.History.{chain, held_of}
 use Rattle.tree.specs.Revision.{Revision}
 use Rattle.tree.specs.Write.{held_by}
 use Rattle.store.specs.Contents.{AreAcceptable}
-use Rattle.store.specs.Database.{Database, DocumentWrite, history_at, with_all}
+use Rattle.store.specs.Database.{Database, DocumentWrite, IsKnownAt, history_at, with_all}
 use Rattle.read.specs.Shown.{shown_document}
-use Rattle.write.specs.Admission.{write_at}
-use Rattle.write.specs.Document.{Ancestry, ancestry_in, id_in, sent_in}
-use Rattle.write.specs.declared.document.Sent.{Sent}
+use Rattle.write.specs.Document.{Ancestry, ancestry_in, id_in, sent_in, sent_with}
+use Rattle.convergence.specs.Sound.{Agree, IsSound}
 
 -- no document was written: local documents and the security object may have changed
 pub record KeepsDocuments (old new : Database) : Type 0 where
@@ -20,12 +19,12 @@ pub record KeepsDocuments (old new : Database) : Type 0 where
 
 -- the write is what the document says: under its id, at the end of the path that it comes with, with its mark and its body
 pub record IsSaidBy (v : Value) (w : DocumentWrite) : Type 0 where
-  pub sent : Sent
+  pub rev : Option Revision
   pub ancestry : Ancestry
   pub named : id_in v ≡ Some w.id
-  pub says : sent_in w.id v ≡ Some sent
-  pub leads : ancestry_in v sent.rev ≡ Some ancestry
-  pub is : w ≡ write_at w.id ancestry.path sent
+  pub says : sent_in w.id v ≡ Some (sent_with (rev, w.write.deleted) w.write.body)
+  pub leads : ancestry_in v rev ≡ Some ancestry
+  pub path : w.write.path ≡ ancestry.path
 
 -- one of these documents says the write
 abbrev pub IsSaidByOne : List Value → DocumentWrite → Type 0
@@ -52,3 +51,9 @@ pub record ComesFrom (db : Database) (w : DocumentWrite) : Type 0 where
   pub rev : Revision
   pub path : chain (history_at db w.id) rev ≡ Some w.write.path
   pub held : held_of (history_at db w.id) rev ≡ Some (held_by w.write)
+
+-- A database after writes from a source: it is sound, and agrees with the source. Whatever it knows now it knew before, or the source knows it.
+pub record IsReplica (source old new : Database) : Type 0 where
+  pub sound : IsSound new
+  pub agree : Agree source new
+  pub known : (id : List ℕ) (r : Revision) → IsKnownAt new id r → IsKnownAt old id r ⊎ IsKnownAt source id r

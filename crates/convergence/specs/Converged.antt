@@ -1,19 +1,18 @@
 -- Two passes in opposite directions converge, and what this stands on.
 -- CouchDB manual, replication/conflicts (replicas that have the same edits pick the same winner) and replication/protocol.
-use Rattle.std.specs.Prelude.{◌≡◌, ◌⊎◌, ℕ, List, []}
+use Rattle.std.specs.Prelude.{◌≡◌, ℕ, List, []}
 use Rattle.std.specs.List.{AllByRecursion}
 use Rattle.couch_json.specs.Value.{Value}
 use Rattle.tree.specs.History.{content_of}
-use Rattle.tree.specs.Revision.{Revision}
 use Rattle.tree.specs.Write as tree
 use Rattle.store.specs.Contents.{AreAcceptable}
-use Rattle.store.specs.Database.{Database, DocumentWrite, IsKnownAt, history_at, with_all}
+use Rattle.store.specs.Database.{Database, DocumentWrite, history_at, with_all}
 use Rattle.repl.specs.Configuration.{Configuration}
 use Rattle.repl.specs.Passes.{Pass}
 use Rattle.repl.specs.declared.phase.Phase.TheVariants.{Done}
 use Rattle.convergence.specs.Agreement.{Agrees, HaveSameLeaves, LeavesAreKnown}
 use Rattle.convergence.specs.Sound.{Agree, IsSound}
-use Rattle.convergence.specs.Appended.{ComesFrom, IsSaidBy, IsShownBy}
+use Rattle.convergence.specs.Appended.{ComesFrom, IsReplica, IsSaidBy, IsShownBy}
 use Rattle.convergence.specs.Crossing.{Crossed, Crossing, Move}
 
 -- Two lawful histories that agree, where each leaf of either is known in the other, have the same leaves and the same winner. For each
@@ -28,13 +27,7 @@ LeavesMeet =
 abbrev pub ShownIsSaid : Type 0
 ShownIsSaid = (db : Database) (id : List ℕ) (v : Value) (w : DocumentWrite) → IsSound db → IsShownBy db id v → IsSaidBy v w → ComesFrom db w
 
--- Writes that come from a sound database, each acceptable when its turn comes, leave the other one sound. It agrees with the source where
--- it did before, and whatever it knows now it knew before, or the source knows it.
-pub record IsReplica (source old new : Database) : Type 0 where
-  pub sound : IsSound new
-  pub agree : Agree source new
-  pub known : (id : List ℕ) (r : Revision) → IsKnownAt new id r → IsKnownAt old id r ⊎ IsKnownAt source id r
-
+-- Writes that come from a sound database, each acceptable when its turn comes, make a replica of the other one.
 abbrev pub WritesKeepAgreement : Type 0
 WritesKeepAgreement =
     (source target : Database) (ws : List DocumentWrite) → IsSound source → IsSound target → Agree source target → AllByRecursion (ComesFrom source) ws

@@ -3,3 +3,5 @@ pub mod Sound
 pub mod Appended
 pub mod Crossing
 pub mod Converged
+pub mod Written
+pub mod Replicable

@@ -35,6 +35,11 @@ HavePlainBodies db = (id : List ℕ) (r : Revision) (d : Held) → held_of (hist
 abbrev pub AreWritable : Database → Type 0
 AreWritable db = (id : List ℕ) (r : Revision) → IsKnownAt db id r → IsTrue (is_revision r)
 
+-- bodies are plain, and revisions can be written
+pub record IsReplicable (db : Database) : Type 0 where
+  pub plain : HavePlainBodies db
+  pub writable : AreWritable db
+
 -- Each document is what lawful writes made of it, with a sequence of its own, as in each lawful database; bodies are plain, and revisions
 -- can be written.
 pub record IsSound (db : Database) : Type 0 where
