@@ -47,7 +47,7 @@ AreClean db (w ∷ ws) = IsClean db w × AreClean (with_one db w) ws
 
 said_of_entry : (path : List Revision) (d : Option Held) (s : Revision) (e : Entry) (g : Held) → find revision_cmp s (path_entries d path) ≡ Some e → e.held ≡ Some g → d ≡ Some g
 said_of_entry [] d s e g found held = absurd cc
-said_of_entry (r ∷ path) d s e g found held = by (eq_by_cmp revision_cmp s r) found
+said_of_entry (r ∷ path) d s e g found held = by (λ k. said_of_entry path None s e g k held) (eq_by_cmp revision_cmp s r) found
   where
     one : Entry
     one = record { parent = head path; held = d }
@@ -55,9 +55,10 @@ said_of_entry (r ∷ path) d s e g found held = by (eq_by_cmp revision_cmp s r) 
     none : (let x : Option Held = None in x) ≡ Some g → d ≡ Some g
     none k = absurd cc
 
-    by : (b : Bool) → cond b (Some one) (find revision_cmp s (path_entries None path)) ≡ Some e → d ≡ Some g
-    by true k = ap (λ (x : Entry). x.held) (inside one e k) ∙ held
-    by false k = none (said_of_entry path None s e g k held)
+    by : (find revision_cmp s (path_entries None path) ≡ Some e → (let x : Option Held = None in x) ≡ Some g) → (b : Bool)
+        → cond b (Some one) (find revision_cmp s (path_entries None path)) ≡ Some e → d ≡ Some g
+    by below true k = ap (λ (x : Entry). x.held) (inside one e k) ∙ held
+    by below false k = none (below k)
 
 -- what is known after a write was known, or stands in its path
 known_or_stands : (h : HistoryContent) (w : Write) (s : Revision) → is_known (with_write h w) s ≡ true → (is_known h s ≡ true) ⊎ StandsIn w.path s
@@ -98,11 +99,11 @@ all_stay (w ∷ ws) db h k = all_stay ws (with_one db w) (one_stays db w h k.0) 
 
 pub without_plain : (ms : Members) → are_plain (without_special ms) ≡ true
 without_plain no_members = refl
-without_plain (member name v ms) = by (is_special name) refl
+without_plain (member name v ms) = by (is_special name) refl (without_plain ms)
   where
-    by : (b : Bool) → is_special name ≡ b → are_plain (cond b (without_special ms) (member name v (without_special ms))) ≡ true
-    by true is = without_plain ms
-    by false is = ap (λ (b : Bool). not b && are_plain (without_special ms)) is ∙ without_plain ms
+    by : (b : Bool) → is_special name ≡ b → are_plain (without_special ms) ≡ true → are_plain (cond b (without_special ms) (member name v (without_special ms))) ≡ true
+    by true is rest = rest
+    by false is rest = ap (λ (b : Bool). not b && are_plain (without_special ms)) is ∙ rest
 
 body_plain : (document body : Value) → body_in document ≡ Some body → is_plain body ≡ true
 body_plain null body e = absurd cc
@@ -153,7 +154,7 @@ joined_bytes [] ys h k = k
 joined_bytes (x ∷ xs) ys h k = (h.0, joined_bytes xs ys h.1 k)
 
 word_bytes : (n : ℕ) → AllByRecursion (λ b. b < 256) (to_le_bytes w32 n)
-word_bytes n = (omega arith, omega arith, omega arith, omega arith, tt)
+word_bytes n = (omega arith, (omega arith, (omega arith, (omega arith, tt))))
 
 digest_parts : (h : List ℕ) (n : ℕ) → AllByRecursion (λ b. b < 256) (digest_bytes h n)
 unfolding digest_bytes

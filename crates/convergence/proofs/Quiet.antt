@@ -1,5 +1,5 @@
 -- Calls of a pass that write no document.
-use Rattle.std.proofs.Common.{◌≡◌, ◌≢◌, ◌⊎◌, inl, inr, ◌==◌, ℕ, List, [], ◌∷◌, ◌++◌, map, Bool, true, false, cond, not, Option, Some, None, option_map, option_and_then, Result, Ok, Err, codes, bytes_eq, Ordering, Less, Equal, Greater, nat_cmp, slice_get, refl, sym, ap, ◌∙◌, subst}
+use Rattle.std.proofs.Common.{◌≡◌, ◌≢◌, ◌⊎◌, inl, inr, ◌==◌, ℕ, List, [], ◌∷◌, ◌++◌, map, Bool, true, false, cond, not, Option, Some, None, option_map, option_and_then, Result, Ok, Err, codes, bytes_eq, Ordering, Less, Equal, Greater, nat_cmp, slice_get, length, lt-ltb, is_none, arith, refl, sym, ap, ◌∙◌, subst}
 use Rattle.std.specs.Prelude.{⊤}
 use Rattle.std.specs.Cmp.Lexicographic.{slice_cmp}
 use Rattle.std.specs.Ordering.{match_ordering}
@@ -36,18 +36,18 @@ use Rattle.write.specs.declared.fault.WriteFault.{WriteFault}
 use Rattle.api.specs.Asking.{asker, body_of, method_of, plain}
 use Rattle.api.specs.Bulk.{Bulk, bulk_by, bulk_in, documents_in, elements, new_edits_in}
 use Rattle.api.specs.Paths.{decoded_text, document_id_in, id_if, id_text_by, id_text_in, joined_by_slash, local_id_in, named_id_in, part_at, parts_of, slash, text_if}
-use Rattle.api.specs.Refusals.{next, there_or}
+use Rattle.api.specs.Refusals.{next, there_or, true_or}
 use Rattle.api.specs.Routing.{page_of}
 use Rattle.api.specs.declared.method.RequestMethod.{RequestMethod}
 use Rattle.api.specs.declared.method.RequestMethod.TheVariants.{Get, Post, Put}
 use Rattle.api.specs.declared.page.Page.{Page}
 use Rattle.api.specs.declared.page.Page.TheVariants.{Welcome, AllDatabases, Database as DatabasePage, Security, BulkDocuments, AllDocuments, Changes, Differences, Find, Index, View, Document, LocalDocument as LocalDocumentPage}
 use Rattle.api.specs.declared.refusal.Refusal.{Refusal}
-use Rattle.api.specs.declared.refusal.Refusal.TheVariants.{Body, Id, Method, Path}
+use Rattle.api.specs.declared.refusal.Refusal.TheVariants.{Body, Exists, Id, Method, Path}
 use Rattle.node.specs.Answer.{Change, Outcome, Task, administration, admin_task, answer, change_at, created, creation, database_name_of, entry, inside, judgement, kept, listed, outcome_in as outcome_at, page_outcome, removal, removed, settlement, task_of, task_outcome, told, welcome, with_change, with_effect_at, work_task, worked}
 use Rattle.node.specs.Runs.{Steps}
 use Rattle.node.specs.Work.{Done, Effect, Work, appended, local_put, nothing, read_work, secured, value_done, with_effect}
-use Rattle.node.specs.Works.{bulk_done, bulk_written, change_list, database_read, difference_list, document_finds, document_list, document_read, document_written, documents_written, edit_asked, edit_in, index_asked_in, index_written, local_read, local_set, local_written, security_read, security_set, security_written, view_read}
+use Rattle.node.specs.Works.{bulk_written, change_list, database_read, difference_list, document_finds, document_list, document_read, document_written, documents_written, done, edit_asked, edit_in, index_asked_in, index_written, local_read, local_set, local_written, security_read, security_set, security_written, view_read}
 use Rattle.node.proofs.Tasks.{IsMade, IsRight, judged_right, named as was_named, same, went}
 use Rattle.repl.specs.Calls.{Call, Revisions, compare_revisions, list_changes, open_revisions, path_of, push_documents, read_checkpoint, request_of, revisions_put, texts_value, write_checkpoint}
 use Rattle.repl.specs.Configuration.{Configuration, database_of}
@@ -93,8 +93,9 @@ silent : (caller : auth.Identity) (a : Contents) (task : Task) (o : Outcome) →
 silent caller a (told value) o quiet e = subst (λ (x : Outcome). IsSilent x.change) (same {A = Outcome} _ o e) tt
 silent caller a listed o quiet e = subst (λ (x : Outcome). IsSilent x.change) (same {A = Outcome} _ o e) tt
 silent caller a (created name asked) o quiet e =
-    let k = went _ _ o e in
-    let l = went _ _ o k.then in
+    let made : Outcome = record { status = 201; value = done; change = creation name } in
+    let k = went (true_or Exists (is_none (get a name))) (λ _. next asked (λ _. Ok made)) o e in
+    let l = went asked (λ _. Ok made) o k.then in
     subst (λ (x : Outcome). IsSilent x.change) (same {A = Outcome} _ o l.then) tt
 silent caller a (removed name asked) o quiet e = absurd quiet
 silent caller a (worked action name work) o quiet e =
@@ -146,8 +147,8 @@ change_keeps a m kept quiet made = nowhere a
 change_keeps a m (creation name) quiet made = λ other. by other (bytes_eq other name) refl
   where
     by : (other : List ℕ) (b : Bool) → bytes_eq other name ≡ b → Becomes a other (insert a name new_database) KeepsDocuments
-    by other true is db at =
-        absurd (let none : None ≡ Some db = sym made.1 ∙ ap (get a) (sym ((bytes_eq-Decides other name).0 is)) ∙ at in cc)
+    by other true is =
+        λ db at. absurd (let none : None ≡ Some db = sym made.1 ∙ ap (get a) (sym ((bytes_eq-Decides other name).0 is)) ∙ at in cc)
     by other false is = put_elsewhere a name new_database other (λ e. false≢true (sym is ∙ (bytes_eq-Decides other name).1 e))
 change_keeps a m (removal name) quiet made = absurd quiet
 change_keeps a m (inside name effect) quiet made =
@@ -278,8 +279,11 @@ never_document : (rest : List ℕ) → option_and_then (λ id. text_if (not (is_
 never_document [] = refl
 never_document (b ∷ rest) = by (is_document_id (codes "_local/" ++ b ∷ rest))
   where
+    local : is_local_id (codes "_local/" ++ b ∷ rest) ≡ true
+    local = lt-ltb 7 (length (codes "_local/" ++ b ∷ rest)) (omega arith)
+
     by : (good : Bool) → option_and_then (λ id. text_if (not (is_local_id id)) id) (text_if good (codes "_local/" ++ b ∷ rest)) ≡ None
-    by true = refl
+    by true = ap (λ (x : Bool). text_if (not x) (codes "_local/" ++ b ∷ rest)) local
     by false = refl
 
 abbrev document_by : Option (List ℕ) → Option (List ℕ)
