@@ -1,9 +1,9 @@
 -- What an accepted write brings: a plain body, and revisions that can be written.
-use Rattle.std.proofs.Common.{◌≡◌, ◌≢◌, ◌≤◌, ◌<◌, ◌+◌, ◌==◌, ◌&&◌, ◌⊎◌, ⊎_elim, inl, inr, ℕ, zero, suc, Bool, true, false, cond, not, List, [], ◌∷◌, ◌++◌, length, Option, Some, None, option_map, option_and_then, Result, Ok, Err, codes, nat_le, le-leb, leb-true, eq-eqb, refl, sym, ap, ◌∙◌, subst, arith}
+use Rattle.std.proofs.Common.{◌≡◌, ◌≢◌, ◌≤◌, ◌<◌, ◌+◌, ◌==◌, ◌&&◌, ◌⊎◌, ⊎_elim, inl, inr, ℕ, zero, suc, Bool, true, false, cond, not, List, [], ◌∷◌, ◌++◌, Option, Some, None, option_map, option_and_then, codes, nat_le, le-leb, leb-true, eq-eqb, refl, sym, ap, ◌∙◌, subst, arith}
 use Rattle.std.specs.Prelude.{IsTrue, MatchOption, is_some, slice_index}
 use Rattle.std.specs.List.{AllByRecursion}
 use Rattle.std.proofs.lemmas.Bool.{false≢true}
-use Rattle.std.specs.FinMap.{empty, find, get, get-empty}
+use Rattle.std.specs.FinMap.{find, get}
 use Rattle.std.specs.Ordering.{eq_by_cmp}
 use Rattle.std.specs.Int.{to_le_bytes, w32}
 use Rattle.couch_json.specs.Canonical.{canonical}
@@ -24,14 +24,14 @@ use Rattle.tree.proofs.EditText.{hash_of_bytes}
 use Rattle.tree.proofs.Leaves.{leaf_is_childless, winner_is_best}
 use Rattle.tree.proofs.RevisionText.{parts, read_gives}
 use Rattle.tree.proofs.Shown.{entry_of_known, found_stands, inside}
-use Rattle.store.specs.Database.{Database, DocumentWrite, IsKnownAt, history_at, is_of, with_all, with_one}
-use Rattle.write.specs.Admission.{base, edit_of, edit_path, extended_leaf, named_revision, revision_after, with_named_revision, write_at}
-use Rattle.write.specs.Document.{Ancestry, ancestry_alone, ancestry_by, ancestry_if_newest, ancestry_in, are_allowed, body_for, body_if, body_in, body_of, count, fits_id, given_revisions, ids_in, is_newest, is_special, mark_in, onto, path_of, revision_in, revisions_if, revisions_in, sent_in, sent_with, start_in, without_special, words_in}
+use Rattle.store.specs.Database.{Database, DocumentWrite, IsKnownAt, history_at, with_all, with_one}
+use Rattle.write.specs.Admission.{base, edit_of, edit_path, extended_leaf, named_revision, revision_after, with_named_revision}
+use Rattle.write.specs.Document.{Ancestry, ancestry_alone, ancestry_by, body_for, body_in, count, fits_id, is_special, mark_in, onto, path_of, revision_in, revisions_in, sent_in, sent_with, without_special, words_in}
 use Rattle.write.specs.Terms.{Terms}
 use Rattle.write.proofs.Outcomes.{IsEdit, IsReplicated}
 use Rattle.convergence.specs.Sound.{IsReplicable, are_plain, is_plain}
 use Rattle.convergence.proofs.Replicas.{after_write}
-use Rattle.convergence.proofs.Sayings.{along, given_path, kept_body, mark_of, newest_given, said_of, suited}
+use Rattle.convergence.proofs.Sayings.{along, given_path, kept_body, newest_given, said_of, suited}
 use Rattle.convergence.proofs.Writings.{held_in, held_known}
 
 -- ---- one write

@@ -1,19 +1,16 @@
 -- Two passes in opposite directions: what holds from move to move, and what it comes to at the end.
-use Rattle.std.proofs.Common.{◌≡◌, ◌≤◌, ◌<◌, ◌+◌, ◌||◌, ◌⊎◌, ⊎_elim, ℕ, Bool, true, false, List, [], ◌∷◌, ◌++◌, map, Option, Some, None, Result, Ok, Err, refl, sym, ap, ◌∙◌, subst, arith, inl, inr}
-use Rattle.std.specs.Prelude.{⊤, IsTrue, is_some}
+use Rattle.std.proofs.Common.{◌≡◌, ◌≤◌, ◌<◌, ◌||◌, ◌⊎◌, ⊎_elim, ℕ, Bool, true, false, List, [], ◌∷◌, ◌++◌, map, Option, Some, None, Result, Ok, Err, refl, sym, ap, ◌∙◌, subst, arith, inl, inr}
+use Rattle.std.specs.Prelude.{is_some}
 use Rattle.std.specs.List.{AllByRecursion}
 use Rattle.std.specs.FinMap.{empty, get, get-empty}
-use Rattle.std.specs.Cmp.{first_so}
 use Rattle.couch_json.specs.Value.{Value}
-use Rattle.tree.specs.History.{HistoryContent, content_of, held_of, is_known, is_leaf}
-use Rattle.tree.specs.Revision.{Revision, is_revision, revision_cmp}
+use Rattle.tree.specs.History.{HistoryContent, content_of, is_known}
+use Rattle.tree.specs.Revision.{Revision, revision_cmp}
 use Rattle.tree.specs.Write.{IsLawful as AreWritten, Write}
 use Rattle.tree.specs.declared.entry.Entry.{Entry}
 use Rattle.tree.proofs.Leaves.{leaf_is_childless}
-use Rattle.store.specs.Contents.{AreAcceptable}
 use Rattle.store.specs.Database.{Database, Document, DocumentWrite, IsKnownAt, IsLater, TextMap, history_at, history_in, sequence_at, sequence_in, with_all}
 use Rattle.store.proofs.Laters.{later_by_all, later_still}
-use Rattle.repl.specs.Calls.{Revisions}
 use Rattle.repl.specs.Configuration.{Configuration}
 use Rattle.repl.specs.Passes.{Pass, answered_in, first_of_pending, first_pass, pass_after, with_changes, with_differences, with_failures, with_opened, with_source, with_source_reread, with_source_written, with_target, with_target_reread, with_target_written}
 use Rattle.repl.specs.Replies.{Opened, changes_listed, checkpoint_read, checkpoint_written, differences_read, documents_of, documents_pushed, revisions_opened}
@@ -22,13 +19,13 @@ use Rattle.repl.specs.declared.phase.Phase.{Phase}
 use Rattle.repl.specs.declared.phase.Phase.TheVariants.{ReadSource, ReadTarget, ListChanges, Compare, Open, Push, WriteSource, WriteTarget, RereadSource, RereadTarget, Done, Stopped}
 use Rattle.repl.specs.declared.why.Why.{Why}
 use Rattle.repl.proofs.LossLemmas.{lost_by}
-use Rattle.passes.specs.Owed.{Event, Follows, Goes, Grows, Scene, Went, listed_after, others as others_write, turn}
+use Rattle.passes.specs.Owed.{Event, Follows, Goes, Scene, Went, listed_after, others as others_write, turn}
 use Rattle.passes.specs.Settled.{is_reported}
 use Rattle.passes.proofs.Rounds.{owes_nothing}
 use Rattle.convergence.specs.Agreement.{Agrees, HaveSameLeaves, LeavesAreKnown}
 use Rattle.convergence.specs.Appended.{Appends, ComesFrom, IsReplica, IsSaidByOne, IsShownBy, KeepsDocuments}
 use Rattle.convergence.specs.Converged.{HasCopiedAll, TwoPassesConverge}
-use Rattle.convergence.specs.Crossing.{BringsShown, Crossed, Crosses, Crossing, HasBatch, IsTurn, Move, Moves, Waits, back_of, goes_back, goes_there, others, pushed_in, there_of}
+use Rattle.convergence.specs.Crossing.{BringsShown, Crossed, Crosses, Crossing, IsTurn, Move, Moves, Waits, back_of, goes_back, goes_there, others, pushed_in, there_of}
 use Rattle.convergence.specs.Sound.{Agree, IsSound}
 use Rattle.convergence.proofs.Meeting.{agrees_back, all_reached, both_true, meeting}
 use Rattle.convergence.proofs.Replicas.{KeepsAll, all_keep, keep_agreement, keeps_still, past_at, rooted_at, same_agree, same_keeps, same_sound}
@@ -364,10 +361,10 @@ all_known : (c : Configuration) (es : List Event) (now : Scene) (vs : List Value
 all_known c es now vs went ended side target agree id r known =
     ⊎_elim
     (λ k.
-        let past = past_at now.listed side.listed_sound id in
-        let agrees = subst (λ (h : HistoryContent). Agrees h (history_at now.target id)) past.2 (listed_agrees now.source now.target now.listed side.kept agree id) in
-        let leaves = subst (λ (h : HistoryContent). LeavesAreKnown h (history_at now.target id)) past.2 (leaves_known c es now went ended side.listed_sound id) in
-        all_reached past.0 (history_at now.target id) past.1 (rooted_at now.target target id) agrees leaves r (subst (λ (h : HistoryContent). is_known h r ≡ true) past.2 k))
+    let past = past_at now.listed side.listed_sound id in
+    let agrees = subst (λ (h : HistoryContent). Agrees h (history_at now.target id)) past.2 (listed_agrees now.source now.target now.listed side.kept agree id) in
+    let leaves = subst (λ (h : HistoryContent). LeavesAreKnown h (history_at now.target id)) past.2 (leaves_known c es now went ended side.listed_sound id) in
+    all_reached past.0 (history_at now.target id) past.1 (rooted_at now.target target id) agrees leaves r (subst (λ (h : HistoryContent). is_known h r ≡ true) past.2 k))
     (λ k. k)
     (side.known id r known)
 

@@ -8,3 +8,4 @@ pub mod Quiet
 pub mod Pushed
 pub mod Opened
 pub mod Cleanly
+pub mod Replicables

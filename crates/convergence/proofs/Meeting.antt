@@ -1,9 +1,9 @@
 -- Histories that agree and know each other's leaves know the same, and so have the same leaves.
-use Rattle.std.proofs.Common.{◌≡◌, ◌≢◌, ◌⊎◌, ◌+◌, ◌≤◌, ℕ, zero, suc, Bool, true, false, List, [], ◌∷◌, length, Option, Some, None, eqb-true, refl, sym, ap, ◌∙◌, subst, arith, inl, inr}
+use Rattle.std.proofs.Common.{◌≡◌, ◌+◌, ◌≤◌, ℕ, zero, suc, Bool, true, false, List, [], ◌∷◌, length, Option, Some, None, eqb-true, refl, sym, ap, ◌∙◌, arith, inl, inr}
 use Rattle.std.specs.Prelude.{IsTrue, is_some, option_and_then}
 use Rattle.std.specs.FinMap.{get}
 use Rattle.std.proofs.lemmas.Bool.{false≢true}
-use Rattle.tree.specs.History.{HistoryContent, IsRooted, LooksAlike, content_of, held_of, is_deleted, is_known, is_leaf, leaves, parent_of, winner}
+use Rattle.tree.specs.History.{HistoryContent, IsRooted, LooksAlike, content_of, held_of, is_deleted, is_known, is_leaf, leaves, parent_of}
 use Rattle.tree.specs.Revision.{Revision}
 use Rattle.tree.specs.Write.{AreWhole, IsKnown, IsLawful, StandsIn, Write, counts_down}
 use Rattle.tree.specs.declared.entry.Entry.{Entry}
@@ -71,8 +71,11 @@ reached h k top (suc n) root_h root_k agrees leaves few r le known =
     by : ((s : Revision) → top ≤ s.number + n → is_known h s ≡ true → is_known k s ≡ true) → (b : Bool) → is_known k r ≡ b → is_known k r ≡ true
     by above true is = is
     by above false is =
-        leaves r ((leaf_is_childless h r).1 (known, λ s up.
-            false≢true (sym is ∙ parent_known h k agrees root_k s r up (above s (omega (arith, le, root_h.descends s r up)) (child_known h s r up)))))
+        leaves r ((leaf_is_childless h r).1 (
+          known,
+          λ s up.
+              false≢true (sym is ∙ parent_known h k agrees root_k s r up (above s (omega (arith, le, root_h.descends s r up)) (child_known h s r up))),
+        ))
 
 pub all_reached : (ws : List Write) (k : HistoryContent) → IsLawful ws → IsRooted k → Agrees (content_of ws) k → LeavesAreKnown (content_of ws) k
     → (r : Revision) → is_known (content_of ws) r ≡ true → is_known k r ≡ true

@@ -1,7 +1,6 @@
 -- The documents of opened revisions are shown by the source.
-use Rattle.std.proofs.Common.{◌≡◌, ◌≤◌, inl, inr, ℕ, List, [], ◌∷◌, map, true, Option, Some, None, option_map, Ok, refl, sym, ap, ◌∙◌, subst, arith}
+use Rattle.std.proofs.Common.{◌≡◌, ◌≤◌, inl, inr, ℕ, List, [], ◌∷◌, map, true, Option, Some, None, option_map, refl, sym, ap, ◌∙◌, subst, arith}
 use Rattle.std.specs.List.{AllByRecursion}
-use Rattle.std.specs.FinMap.{get}
 use Rattle.auth.specs.Callers as auth
 use Rattle.couch_http.specs.Message.{Message}
 use Rattle.couch_http.specs.Reply.{Reply}

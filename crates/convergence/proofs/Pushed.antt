@@ -1,30 +1,24 @@
 -- A push appends what its documents say.
-use Rattle.std.proofs.Common.{◌≡◌, ◌≢◌, ◌⊎◌, ⊎_elim, inl, inr, ℕ, List, [], ◌∷◌, Bool, true, false, cond, Option, Some, None, Result, Ok, Err, codes, bytes_eq, refl, sym, ap, ◌∙◌, subst}
-use Rattle.std.specs.Prelude.{⊤}
+use Rattle.std.proofs.Common.{◌≡◌, ◌≢◌, ◌⊎◌, inl, inr, ℕ, List, [], ◌∷◌, false, Option, Some, None, Result, Ok, Err, codes, refl, sym, ap, ◌∙◌, subst}
 use Rattle.std.specs.List.{AllByRecursion}
-use Rattle.std.specs.FinMap.{get, insert}
+use Rattle.std.specs.FinMap.{get}
 use Rattle.auth.specs.Callers as auth
 use Rattle.couch_http.specs.Message.{Message}
-use Rattle.couch_http.specs.Reply.{Reply}
 use Rattle.couch_json.specs.Reading.{reading}
 use Rattle.couch_json.specs.Value.{Value}
-use Rattle.couch_json.specs.View.{items_of}
 use Rattle.couch_json.proofs.ReadingBack.{what_was_read}
 use Rattle.find.specs.Indexes.{index_in}
 use Rattle.policy.specs.declared.action.Action.TheVariants.{WriteDocument}
-use Rattle.tree.specs.History.{HistoryContent, placement}
-use Rattle.tree.specs.declared.placement.Placed.TheVariants.{Added}
+use Rattle.tree.specs.History.{HistoryContent}
 use Rattle.store.specs.Contents.{AreAcceptable, Contents, IsAcceptable}
-use Rattle.store.specs.Database.{Database, DocumentWrite, history_at, with_all, with_one}
-use Rattle.write.specs.Admission.{replicated_outcome, write_at}
+use Rattle.store.specs.Database.{Database, DocumentWrite, history_at, with_all}
 use Rattle.write.specs.Bulk.{DocumentOutcome, Histories, after, outcome_by_id, outcome_in, outcomes, put_before, writes_in}
-use Rattle.write.specs.Document.{ancestry_in, id_in, sent_in}
+use Rattle.write.specs.Document.{id_in}
 use Rattle.write.specs.Terms.{Terms, terms_in}
-use Rattle.write.specs.declared.fault.WriteFault.{WriteFault}
 use Rattle.write.proofs.Acceptances.{after_is, db_after, replicated_acceptable}
 use Rattle.write.proofs.Outcomes.{IsReplicated, replicated_accepted}
 use Rattle.api.specs.Asking.{asker, body_of, method_of, plain}
-use Rattle.api.specs.Bulk.{Bulk, bulk_in, elements}
+use Rattle.api.specs.Bulk.{Bulk, bulk_in}
 use Rattle.api.specs.Refusals.{next, there_or}
 use Rattle.api.specs.Routing.{page_of}
 use Rattle.api.specs.Paths.{database_name_in}
@@ -33,20 +27,18 @@ use Rattle.api.specs.declared.page.Page.{Page}
 use Rattle.api.specs.declared.page.Page.TheVariants.{Welcome, AllDatabases, Database as DatabasePage, Security, BulkDocuments, AllDocuments, Changes, Differences, Find, Index, View, Document, LocalDocument}
 use Rattle.api.specs.declared.refusal.Refusal.{Refusal}
 use Rattle.api.specs.declared.refusal.Refusal.TheVariants.{Body, Method, Path}
-use Rattle.node.specs.Answer.{Change, Outcome, Task, answer, inside, judgement, kept, outcome_in as outcome_at, page_outcome, settlement, task_of, task_outcome, with_change, with_effect_at}
-use Rattle.node.specs.Runs.{Steps}
+use Rattle.node.specs.Answer.{Change, Outcome, Task, inside, judgement, kept, outcome_in as outcome_at, page_outcome, settlement, task_of, task_outcome, with_change, with_effect_at}
 use Rattle.node.specs.Work.{Done, appended}
 use Rattle.node.specs.Works.{bulk_done, bulk_written, difference_list, document_finds, documents_written, index_asked_in, index_written}
 use Rattle.node.proofs.Tasks.{named as was_named, same, went}
 use Rattle.repl.specs.Calls.{documents_value, push_documents, request_of}
-use Rattle.repl.specs.Configuration.{Configuration, database_of}
-use Rattle.repl.specs.declared.side.Side.{Side}
+use Rattle.repl.specs.Configuration.{database_of}
 use Rattle.passes.proofs.Comparing.{value_was}
 use Rattle.passes.proofs.Judged.{never, read_out, there_never, work_out}
 use Rattle.passes.proofs.Spellings.{leads_into}
 use Rattle.passes.specs.Spelled.{replicated}
 use Rattle.convergence.specs.Appended.{Appends, IsSaidBy, IsSaidByOne, KeepsDocuments}
-use Rattle.convergence.specs.Written.{Becomes, PushesAppendWhatIsSaid, WritesNowhere}
+use Rattle.convergence.specs.Written.{Becomes, PushesAppendWhatIsSaid}
 use Rattle.convergence.proofs.Quiet.{elements_back, nowhere, put_becomes, put_elsewhere, same_documents}
 
 -- ---- what is appended is said

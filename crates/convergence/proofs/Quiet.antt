@@ -1,5 +1,5 @@
 -- Calls of a pass that write no document.
-use Rattle.std.proofs.Common.{◌≡◌, ◌≢◌, ◌⊎◌, inl, inr, ◌==◌, ℕ, List, [], ◌∷◌, ◌++◌, map, Bool, true, false, cond, not, Option, Some, None, option_map, option_and_then, Result, Ok, Err, codes, bytes_eq, Ordering, Less, Equal, Greater, nat_cmp, slice_get, length, lt-ltb, is_none, arith, refl, sym, ap, ◌∙◌, subst}
+use Rattle.std.proofs.Common.{◌≡◌, ◌≢◌, inl, inr, ◌==◌, ℕ, List, [], ◌∷◌, ◌++◌, map, Bool, true, false, cond, not, Option, Some, None, option_and_then, Result, Ok, Err, codes, bytes_eq, Ordering, Less, Equal, Greater, nat_cmp, slice_get, length, lt-ltb, is_none, arith, refl, sym, ap, ◌∙◌, subst}
 use Rattle.std.specs.Prelude.{⊤}
 use Rattle.std.specs.Cmp.Lexicographic.{slice_cmp}
 use Rattle.std.specs.Ordering.{match_ordering}
@@ -13,13 +13,11 @@ use Rattle.std.proofs.lemmas.Slice.Eq.{bytes_eq-Decides}
 use Rattle.auth.specs.Callers as auth
 use Rattle.couch_http.specs.Message.{Message}
 use Rattle.couch_http.specs.Reply.{Reply}
-use Rattle.couch_json.specs.Lawful.{IsLawful}
-use Rattle.couch_json.specs.Parts.{has_only, items_in, text_in}
 use Rattle.couch_json.specs.Reading.{reading}
-use Rattle.couch_json.specs.Value.{Value, Items, Members, array, item, member, member_at, member_of, no_items, no_members, object, put, text}
+use Rattle.couch_json.specs.Value.{Value, Members, member, member_at, no_members, object, put, text}
 use Rattle.couch_json.specs.View.{items_of}
 use Rattle.couch_json.proofs.ReadingBack.{what_was_read}
-use Rattle.find.specs.Indexes.{design_in, index_in, index_with, is_json_type, index_names}
+use Rattle.find.specs.Indexes.{design_in, index_in, index_with}
 use Rattle.percent_encoding.proofs.OnLiterals.{percent_encoding_on_literals}
 use Rattle.percent_encoding.specs.Percent.{percent_decode}
 use Rattle.policy.specs.declared.action.Action.{Action}
@@ -28,27 +26,26 @@ use Rattle.tree.specs.DocumentId.{is_document_id, is_local_id}
 use Rattle.store.specs.Contents.{Contents, local_at, new_database}
 use Rattle.store.specs.Database.{Database, history_at, with_all}
 use Rattle.store.specs.declared.local_document.LocalDocument.{LocalDocument}
-use Rattle.write.specs.Bulk.{DocumentOutcome, Histories, after, outcome_in, outcomes, writes_in}
+use Rattle.write.specs.Bulk.{Histories, after, outcomes, writes_in}
 use Rattle.write.specs.LocalWrites.{local_outcome}
 use Rattle.write.specs.Planning.{security_outcome}
 use Rattle.write.specs.Terms.{Terms, terms_in}
 use Rattle.write.specs.declared.fault.WriteFault.{WriteFault}
 use Rattle.api.specs.Asking.{asker, body_of, method_of, plain}
 use Rattle.api.specs.Bulk.{Bulk, bulk_by, bulk_in, documents_in, elements, new_edits_in}
-use Rattle.api.specs.Paths.{decoded_text, document_id_in, id_if, id_text_by, id_text_in, joined_by_slash, local_id_in, named_id_in, part_at, parts_of, slash, text_if}
+use Rattle.api.specs.Paths.{decoded_text, document_id_in, id_if, id_text_by, id_text_in, joined_by_slash, local_id_in, part_at, parts_of, slash, text_if}
 use Rattle.api.specs.Refusals.{next, there_or, true_or}
 use Rattle.api.specs.Routing.{page_of}
-use Rattle.api.specs.declared.method.RequestMethod.{RequestMethod}
 use Rattle.api.specs.declared.method.RequestMethod.TheVariants.{Get, Post, Put}
 use Rattle.api.specs.declared.page.Page.{Page}
 use Rattle.api.specs.declared.page.Page.TheVariants.{Welcome, AllDatabases, Database as DatabasePage, Security, BulkDocuments, AllDocuments, Changes, Differences, Find, Index, View, Document, LocalDocument as LocalDocumentPage}
 use Rattle.api.specs.declared.refusal.Refusal.{Refusal}
 use Rattle.api.specs.declared.refusal.Refusal.TheVariants.{Body, Exists, Id, Method, Path}
-use Rattle.node.specs.Answer.{Change, Outcome, Task, administration, admin_task, answer, change_at, created, creation, database_name_of, entry, inside, judgement, kept, listed, outcome_in as outcome_at, page_outcome, removal, removed, settlement, task_of, task_outcome, told, welcome, with_change, with_effect_at, work_task, worked}
+use Rattle.node.specs.Answer.{Change, Outcome, Task, administration, change_at, created, creation, database_name_of, entry, inside, judgement, kept, listed, outcome_in as outcome_at, page_outcome, removal, removed, settlement, task_of, task_outcome, told, welcome, with_change, with_effect_at, work_task, worked}
 use Rattle.node.specs.Runs.{Steps}
 use Rattle.node.specs.Work.{Done, Effect, Work, appended, local_put, nothing, read_work, secured, value_done, with_effect}
 use Rattle.node.specs.Works.{bulk_written, change_list, database_read, difference_list, document_finds, document_list, document_read, document_written, documents_written, done, edit_asked, edit_in, index_asked_in, index_written, local_read, local_set, local_written, security_read, security_set, security_written, view_read}
-use Rattle.node.proofs.Tasks.{IsMade, IsRight, judged_right, named as was_named, same, went}
+use Rattle.node.proofs.Tasks.{IsMade, judged_right, named as was_named, same, went}
 use Rattle.repl.specs.Calls.{Call, Revisions, compare_revisions, list_changes, open_revisions, path_of, push_documents, read_checkpoint, request_of, revisions_put, texts_value, write_checkpoint}
 use Rattle.repl.specs.Configuration.{Configuration, database_of}
 use Rattle.repl.specs.Spelling.{segment}

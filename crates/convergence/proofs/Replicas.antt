@@ -1,28 +1,28 @@
 -- Writes that come from a database, appended to another one that agrees with it.
-use Rattle.std.proofs.Common.{◌≡◌, ◌≤◌, ◌⊎◌, ⊎_elim, ℕ, Bool, true, false, cond, List, [], ◌∷◌, Option, Some, None, bytes_eq, refl, sym, ap, ◌∙◌, subst, inl, inr}
-use Rattle.std.specs.Prelude.{IsTrue, option_and_then}
+use Rattle.std.proofs.Common.{◌≡◌, ◌≤◌, ◌⊎◌, ⊎_elim, ℕ, Bool, true, false, cond, List, [], ◌∷◌, Option, Some, None, refl, sym, ap, ◌∙◌, subst, inl, inr}
+use Rattle.std.specs.Prelude.{option_and_then}
 use Rattle.std.specs.Ordering.{nat_cmp}
 use Rattle.std.specs.Cmp.Lexicographic.{slice_cmp}
 use Rattle.std.specs.List.{AllByRecursion}
 use Rattle.std.specs.FinMap.{empty, get, get-empty}
 use Rattle.std.proofs.lemmas.Slice.Eq.{bytes_eq-Decides}
-use Rattle.tree.specs.History.{HistoryContent, IsRooted, chain, content_of, held_of, is_known, parent_of, with_write}
+use Rattle.tree.specs.History.{HistoryContent, IsRooted, chain, content_of, held_of, is_known, with_write}
 use Rattle.tree.specs.Revision.{Revision, revision_cmp}
-use Rattle.tree.specs.Write.{IsLawful as AreWritten, Write, held_by}
+use Rattle.tree.specs.Write.{IsLawful as AreWritten, Write}
 use Rattle.tree.specs.declared.entry.Entry.{Entry}
 use Rattle.tree.specs.declared.entry.Held.{Held}
 use Rattle.tree.proofs.Contents.{entry_kept}
 use Rattle.tree.proofs.LawfulContents.{rooted}
 use Rattle.store.specs.Contents.{AreAcceptable, IsAcceptable}
-use Rattle.store.specs.Database.{Database, Document, DocumentWrite, HasSequences, IsKnownAt, TextMap, history_at, history_in, is_of, with_all, with_one}
+use Rattle.store.specs.Database.{Database, Document, DocumentWrite, IsKnownAt, TextMap, history_at, history_in, is_of, with_all, with_one}
 use Rattle.store.specs.Lawful.{IsBody, IsLawful}
 use Rattle.store.specs.declared.local_document.LocalDocument.{LocalDocument}
 use Rattle.store.proofs.Contents.{history_at-with_one}
 use Rattle.store.proofs.Lawfuls.{held_body, lawful_by_one, writes_behind}
 use Rattle.convergence.specs.Agreement.{Agrees}
 use Rattle.convergence.specs.Appended.{ComesFrom, IsReplica, KeepsDocuments}
-use Rattle.convergence.specs.Sound.{Agree, AreWritable, HavePlainBodies, IsSound, is_plain}
-use Rattle.convergence.proofs.Writings.{IsCopied, Keeps, agrees_on, held_from, held_known, kept_known, known_from}
+use Rattle.convergence.specs.Sound.{Agree, IsSound}
+use Rattle.convergence.proofs.Writings.{IsCopied, Keeps, agrees_on, held_from, kept_known, known_from}
 
 -- ---- sound databases
 

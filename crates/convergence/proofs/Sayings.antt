@@ -1,24 +1,22 @@
 -- What a document says that a database shows: the revision that is held there, with its path, its mark and its body.
-use Rattle.std.proofs.Common.{◌≡◌, ◌==◌, ◌&&◌, ◌≤◌, ℕ, zero, suc, Bool, true, false, cond, List, [], ◌∷◌, length, map, Option, Some, None, option_map, option_and_then, codes, bytes_eq, eq-eqb, eqb-true, refl, sym, ap, ◌∙◌, subst, arith}
-use Rattle.std.specs.Prelude.{is_some}
-use Rattle.couch_json.specs.Parts.{has_only, is_object, items_in, text_in}
-use Rattle.couch_json.specs.Value.{Value, Items, Members, array, item, member_at, member_of, no_items, null, object, put, text, truth, whole}
+use Rattle.std.proofs.Common.{◌≡◌, ◌==◌, ◌&&◌, ℕ, zero, suc, Bool, true, false, cond, List, [], ◌∷◌, length, map, Option, Some, None, option_map, option_and_then, codes, bytes_eq, eq-eqb, eqb-true, refl, sym, ap, ◌∙◌, subst, arith}
+use Rattle.couch_json.specs.Parts.{has_only, is_object, text_in}
+use Rattle.couch_json.specs.Value.{Value, Items, Members, array, member_at, member_of, null, object, put, text, truth, whole}
 use Rattle.couch_json.specs.View.{items_of}
 use Rattle.tree.specs.History.{HistoryContent, IsRooted, chain, held_of, is_known, line, onward, parent_of}
-use Rattle.tree.specs.Revision.{Revision, is_revision, revision_of, text_of}
+use Rattle.tree.specs.Revision.{Revision, is_revision, text_of}
 use Rattle.tree.specs.ShownDocument.{members_in, shown_members, with_mark}
 use Rattle.tree.specs.Write.{counts_down, held_by}
 use Rattle.tree.specs.declared.entry.Held.{Held}
 use Rattle.tree.proofs.Kept.{line_on}
 use Rattle.tree.proofs.RevisionText.{parts}
 use Rattle.store.specs.Database.{Database, DocumentWrite, history_at}
-use Rattle.store.specs.Lawful.{IsBody}
 use Rattle.read.specs.Path.{revisions_of, with_path, with_revisions}
 use Rattle.read.specs.Shown.{shown_document}
-use Rattle.write.specs.Document.{Ancestry, ancestry_by, ancestry_if_newest, ancestry_in, are_allowed, body_for, body_if, body_in, body_of, count, fits_id, given_revisions, id_if, id_in, ids_in, is_body_for, is_bulk_id, is_newest, mark_in, member_text, onto, path_of, revision_in, revisions_if, revisions_in, sent_in, sent_with, start_in, without_special, words_in, words_said}
+use Rattle.write.specs.Document.{Ancestry, ancestry_by, ancestry_if_newest, ancestry_in, body_for, body_if, body_in, count, fits_id, id_if, ids_in, is_body_for, is_bulk_id, is_newest, mark_in, member_text, onto, path_of, revision_in, revisions_if, revisions_in, sent_in, sent_with, start_in, without_special, words_in}
 use Rattle.passes.proofs.MemberLemmas.{put_at_other, put_at_same}
 use Rattle.convergence.specs.Appended.{ComesFrom, IsSaidBy, IsShownBy}
-use Rattle.convergence.specs.Sound.{IsSound, are_plain, is_plain}
+use Rattle.convergence.specs.Sound.{IsSound, is_plain}
 use Rattle.convergence.proofs.PlainMembers.{plain_lacks, plain_whole, put_special}
 use Rattle.convergence.proofs.Replicas.{KeepsAll, body_at, rooted_at}
 use Rattle.convergence.proofs.Writings.{held_known, kept_chain, kept_held, positive}
@@ -192,8 +190,7 @@ sent_held id other r path held rev deleted body plain is_body e =
     let marked : Some held.deleted ≡ Some s.words_said.1 =
     sym (mark_shown id r path held plain)
     ∙ mark_of (fits_id other (member_of v (codes "_id"))) (revision_in (member_of v (codes "_rev"))) (mark_in (member_of v (codes "_deleted"))) s.words_said s.words_are in
-    let is : s.body_said ≡ object (without_special (shown_all id r path held)) = kept_body _ (object (without_special (shown_all id r path held))) s.body_said (suited other (body_in v) s.body_said s.body_is) in
-    (
+    let is : s.body_said ≡ object (without_special (shown_all id r path held)) = kept_body _ (object (without_special (shown_all id r path held))) s.body_said (suited other (body_in v) s.body_said s.body_is) in (
       along sent_with (λ x. x.deleted) (sent_with (rev, deleted) body) (sent_with s.words_said s.body_said) s.is ∙ sym (same_inside held.deleted s.words_said.1 marked),
       along sent_with (λ x. x.body) (sent_with (rev, deleted) body) (sent_with s.words_said s.body_said) s.is ∙ is ∙ ap object (body_shown id r path held plain) ∙ object_of held.body is_body,
     )

@@ -1,9 +1,8 @@
 -- What a write that comes from one history brings to another.
-use Rattle.std.proofs.Common.{◌≡◌, ◌⊎◌, ◌≤◌, ℕ, zero, suc, Bool, true, false, cond, List, [], ◌∷◌, Option, Some, None, refl, sym, ap, ◌∙◌, subst, arith, inl, inr}
-use Rattle.std.specs.Prelude.{IsTrue, is_some, option_and_then}
+use Rattle.std.proofs.Common.{◌≡◌, ◌⊎◌, ◌≤◌, ℕ, zero, suc, Bool, true, false, cond, List, [], ◌∷◌, Option, Some, None, refl, sym, ap, ◌∙◌, arith, inl, inr}
+use Rattle.std.specs.Prelude.{is_some, option_and_then}
 use Rattle.std.specs.FinMap.{find, get}
 use Rattle.std.specs.Ordering.{eq_by_cmp}
-use Rattle.std.proofs.lemmas.Bool.{false≢true}
 use Rattle.tree.specs.History.{HistoryContent, IsRooted, chain, held_of, is_known, line, onward, parent_of, path_entries, with_write, write_entries}
 use Rattle.tree.specs.Revision.{Revision, revision_cmp}
 use Rattle.tree.specs.Write.{Write, head, held_by}
@@ -14,7 +13,6 @@ use Rattle.tree.proofs.Kept.{line_off, line_on}
 use Rattle.tree.proofs.Revisions.{same}
 use Rattle.tree.proofs.Shown.{entry_of_known, inside}
 use Rattle.convergence.specs.Agreement.{Agrees}
-use Rattle.convergence.proofs.Meeting.{unknown_parent}
 
 -- ---- numbers begin at 1
 

@@ -1,6 +1,8 @@
 //! What follows from the definitions alone. Each function has an empty body: its contract is the law.
 
 ghost use Rattle.convergence.specs.Converged.{LeavesMeet, ShownIsSaid, TwoPassesConverge, WritesKeepAgreement};
+ghost use Rattle.convergence.specs.Replicable.{StepsKeepReplicable};
+ghost use Rattle.convergence.specs.Written.{OpenedAreShown, OtherCallsWriteNothing, PushesAppendWhatIsSaid};
 
 /// Two lawful histories that agree, and of which each knows the leaves of the other, have the same leaves
 /// and the same winner.
@@ -23,4 +25,22 @@ pub fn writes_keep_agreement()
 /// leaves and the same winner of each document, where nobody else writes and the databases agreed at first.
 pub fn two_passes_converge()
     ensures { TwoPassesConverge }
+{}
+
+/// A pass's push appends in its target what the documents say, or some of it, or nothing, and writes no
+/// document elsewhere. A pass's other calls write no document at all. So it is whatever the node replies.
+pub fn passes_write_what_they_push()
+    ensures push { PushesAppendWhatIsSaid }
+    ensures others { OtherCallsWriteNothing }
+{}
+
+/// The documents in a reply to a pass's call to open revisions that the pass takes in are those that the
+/// source shows, each with its path.
+pub fn opened_documents_are_shown()
+    ensures { OpenedAreShown }
+{}
+
+/// Whatever a node answers, the bodies in its databases stay plain, and their revisions can be written as text.
+pub fn answers_keep_databases_replicable()
+    ensures { StepsKeepReplicable }
 {}
