@@ -80,7 +80,7 @@ written_list ts are =
 
 -- ---- parts
 
-items_part : (v : Value) (vs : Items) → IsLawful v → items_in v ≡ Some vs → AreLawfulItems vs
+pub items_part : (v : Value) (vs : Items) → IsLawful v → items_in v ≡ Some vs → AreLawfulItems vs
 items_part null vs h e = absurd cc
 items_part (truth b) vs h e = absurd cc
 items_part (whole n) vs h e = absurd cc

@@ -1,1 +1,2 @@
 pub mod LawfulParts
+pub mod Shapes
