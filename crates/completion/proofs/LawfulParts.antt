@@ -66,7 +66,7 @@ read_text true text_ok bytes v is e = absurd cc
 read_text false true bytes v is e = is
 read_text false false bytes v is e = absurd cc
 
-lawful_texts : (ts : List (List ℕ)) → AllByRecursion IsUtf8 ts → AreLawfulItems (items_of (map text ts))
+pub lawful_texts : (ts : List (List ℕ)) → AllByRecursion IsUtf8 ts → AreLawfulItems (items_of (map text ts))
 lawful_texts [] are = tt
 lawful_texts (t ∷ ts) are = (are.0, lawful_texts ts are.1)
 

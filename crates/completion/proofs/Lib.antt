@@ -1,2 +1,3 @@
 pub mod LawfulParts
 pub mod Shapes
+pub mod Sound
