@@ -1,3 +1,4 @@
 pub mod LawfulParts
 pub mod Shapes
 pub mod Sound
+pub mod Tables
