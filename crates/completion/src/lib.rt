@@ -1,0 +1,2 @@
+//! What a run of a network promises of a replication pass.
+#![tactic(auto)]
