@@ -9,3 +9,6 @@ pub mod Pushed
 pub mod Opened
 pub mod Cleanly
 pub mod Replicables
+pub mod Handlings
+pub mod Turnings
+pub mod Plays

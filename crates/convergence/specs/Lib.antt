@@ -5,3 +5,4 @@ pub mod Crossing
 pub mod Converged
 pub mod Written
 pub mod Replicable
+pub mod Networks

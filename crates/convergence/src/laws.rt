@@ -1,6 +1,7 @@
 //! What follows from the definitions alone. Each function has an empty body: its contract is the law.
 
 ghost use Rattle.convergence.specs.Converged.{LeavesMeet, ShownIsSaid, TwoPassesConverge, WritesKeepAgreement};
+ghost use Rattle.convergence.specs.Networks.{PassesOfANetworkConverge};
 ghost use Rattle.convergence.specs.Replicable.{StepsKeepReplicable};
 ghost use Rattle.convergence.specs.Written.{OpenedAreShown, OtherCallsWriteNothing, PushesAppendWhatIsSaid};
 
@@ -43,4 +44,11 @@ pub fn opened_documents_are_shown()
 /// Whatever a node answers, the bodies in its databases stay plain, and their revisions can be written as text.
 pub fn answers_keep_databases_replicable()
     ensures { StepsKeepReplicable }
+{}
+
+/// Two passes of a network in opposite directions leave both databases with the same leaves and the same
+/// winner of each document, where both have copied all, and nobody else wrote a document since they were
+/// started.
+pub fn passes_of_a_network_converge()
+    ensures { PassesOfANetworkConverge }
 {}
