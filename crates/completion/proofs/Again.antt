@@ -1,15 +1,14 @@
 -- A run all of whose requests are of a kind is a run of that kind.
-use Rattle.std.proofs.Common.{◌≡◌, ◌∙◌, ◌==◌, ℕ, Bool, true, false, cond, List, [], ◌∷◌, ◌++◌, refl, sym, ap, subst}
+use Rattle.std.proofs.Common.{◌≡◌, ◌∙◌, ◌==◌, ℕ, cond, List, [], ◌∷◌, ◌++◌, refl, ap}
 use Rattle.std.specs.List.{AllByRecursion}
 use Rattle.couch_http.specs.Message.{Message}
 use Rattle.couch_http.specs.Reply.{Reply}
-use Rattle.store.specs.Contents.{Contents}
 use Rattle.node.specs.Runs.{IsServed, Steps}
 use Rattle.node.specs.Step.{Serving}
 use Rattle.hub.specs.Arrival.{Arrival, fault_on, request_on}
 use Rattle.repl.specs.Passes.{Asked, Pass, to_source, to_target, done, stopped_by, asked_of}
 use Rattle.repl.specs.Turns.{Turn}
-use Rattle.world.specs.Exchanging.{IsAskedBy, IsCarriedBy, IsMadeBy}
+use Rattle.world.specs.Exchanging.{IsAskedBy, IsCarriedBy}
 use Rattle.world.specs.Happening.{Happening, Sight, comes, exchanges}
 use Rattle.world.specs.Keeping.{Keeping, StaysAt}
 use Rattle.world.specs.Network.{Network, Transfer, home_of}

@@ -1,24 +1,24 @@
 -- In each round of a run what was listed is settled, and a pass that is done owes nothing.
-use Rattle.std.proofs.Common.{◌≡◌, ◌≢◌, ◌≤◌, ◌<◌, ◌∙◌, ◌⊎◌, inl, inr, ⊎_elim, ◌==◌, ◌||◌, ℕ, Bool, true, false, cond, List, [], ◌∷◌, ◌++◌, Option, Some, None, option_map, Result, Ok, Err, append_assoc, eqb-true, eq-eqb, refl, sym, ap, subst, arith}
+use Rattle.std.proofs.Common.{◌≡◌, ◌≤◌, ◌<◌, ◌∙◌, ◌⊎◌, inl, inr, ⊎_elim, ◌==◌, ◌||◌, ℕ, Bool, true, false, cond, List, [], ◌∷◌, ◌++◌, Option, Some, option_map, Result, Ok, Err, append_assoc, eqb-true, eq-eqb, refl, sym, ap, subst}
 use Rattle.std.specs.Prelude.{IsTrue, is_ok, ⊤}
 use Rattle.std.proofs.Math.Bool.{Bool-set}
 use Rattle.std.proofs.Math.Logic.{∥∥₁_elim}
 use Rattle.std.proofs.lemmas.List.Folds.{list_any-append}
 use Rattle.couch_json.specs.Value.{Value}
 use Rattle.tree.specs.History.{is_known, is_leaf}
-use Rattle.tree.specs.Revision.{Revision, is_revision}
+use Rattle.tree.specs.Revision.{Revision}
 use Rattle.store.specs.Contents.{Contents}
 use Rattle.store.specs.Database.{Database, IsLater, history_at, sequence_at}
 use Rattle.repl.specs.Configuration.{Configuration}
-use Rattle.repl.specs.Passes.{Asked, Pass, answered_in, asked_of, done, first_pass, stopped_by, to_source, to_target, lost_in, pass_after, phase_after_loss, with_changes, with_source, with_target}
-use Rattle.repl.specs.Replies.{Changes, Stored, changes_listed, checkpoint_read}
+use Rattle.repl.specs.Passes.{Asked, Pass, answered_in, asked_of, done, first_pass, stopped_by, to_source, to_target, pass_after, phase_after_loss, with_changes, with_source, with_target}
+use Rattle.repl.specs.Replies.{Changes, changes_listed, checkpoint_read}
 use Rattle.repl.specs.Turns.{Turn, after_turn, after_turns, answered, has_listed, lists_at, lists_in, lost, told_at, told_of}
 use Rattle.repl.specs.declared.phase.Phase.{Phase}
 use Rattle.repl.specs.declared.phase.Phase.TheVariants.{ReadSource, ReadTarget, ListChanges, Compare, Open, Push, WriteSource, WriteTarget, RereadSource, RereadTarget, Done, Stopped}
 use Rattle.repl.specs.declared.why.Why.{Why}
 use Rattle.repl.proofs.LossLemmas.{lost_by}
 use Rattle.repl.proofs.ReportLemmas.{all_told}
-use Rattle.passes.specs.Owed.{Covers, Scene, has_covered}
+use Rattle.passes.specs.Owed.{has_covered}
 use Rattle.passes.specs.Settled.{is_entry_of, is_reported, is_settled}
 use Rattle.passes.proofs.Rounds.{owes_nothing, rounds_cover}
 use Rattle.world.specs.Exchanging.{IsAskedBy, IsExchangedBy}
@@ -29,11 +29,11 @@ use Rattle.world.specs.Playing.{HappensBy, PlaysBy}
 use Rattle.world.specs.declared.fate.Fate.{Fate}
 use Rattle.world.specs.declared.fate.Fate.TheVariants.{Answered, ReplyLost, RequestLost}
 use Rattle.completion.specs.Finished.{Begins, DonePassesHaveListed, DonePassesOweNothing, HasListed, RoundsCoverInRuns, scene_of, source_of, target_of}
-use Rattle.completion.specs.Runs.{Run, pass_at, turn_of, turns_asked, turns_at, turns_in}
+use Rattle.completion.specs.Runs.{Run, pass_at, turns_asked, turns_at, turns_in}
 use Rattle.completion.proofs.Keepings.{LawfulAt, all_lawful, one_event, plays_later, plays_lawful}
 use Rattle.completion.proofs.Outcomes.{plays_then}
 use Rattle.completion.proofs.Places.{one_transfer}
-use Rattle.completion.proofs.Standings.{IsStopped, Stands, StandsAfter, begins_stand, event_stands, listed_asked, listed_by, lists_join, play_stands}
+use Rattle.completion.proofs.Standings.{IsStopped, Stands, begins_stand, event_stands, listed_asked, listed_by, lists_join, play_stands}
 use Rattle.completion.proofs.Turned.{event_takes, one_pass, passes_go, plays_take, turns_join}
 
 -- ---- settled stays settled
@@ -254,7 +254,17 @@ listing_by n t start a b now first q begins earlier at since none number Answere
     → has_listed y.transfer.pass (turns_asked (Keeping t) Answered a k y.transfer (asked_of y.transfer.pass) first b y.asked) ≡ true → HasListed n t a now)
     (sym is)
     (λ y l. record {
-      start = start; begins = begins; earlier = earlier; sights = first; next = b; listing = y; lists = l; since = since; taken = q; stands = at; no_other = none q at;
+      start = start;
+      begins = begins;
+      earlier = earlier;
+      sights = first;
+      next = b;
+      listing = y;
+      lists = l;
+      since = since;
+      taken = q;
+      stands = at;
+      no_other = none q at;
     }) x e
 listing_by n t start a b now first q begins earlier at since none number ReplyLost x is e =
     absurd (let k : false ≡ true = sym (lost_reply t a b number x.transfer (asked_of x.transfer.pass) first x.transfer.pass x.asked) ∙ e in cc)

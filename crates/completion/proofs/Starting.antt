@@ -1,8 +1,7 @@
 -- A pass that is started among honest stores begins.
-use Rattle.std.proofs.Common.{◌≡◌, ◌≤◌, ◌+◌, ℕ, suc, List, [], ◌∷◌, ◌++◌, length, Option, None, Some, option_map, add-one, refl, sym, ap, ◌∙◌}
+use Rattle.std.proofs.Common.{◌≡◌, ◌≤◌, ◌+◌, List, [], ◌∷◌, ◌++◌, length, Option, None, Some, option_map, add-one, ap, ◌∙◌}
 use Rattle.std.specs.Prelude.{IfSome}
 use Rattle.std.specs.List.{AllByRecursion}
-use Rattle.store.specs.Contents.{Contents}
 use Rattle.store.specs.Lawful.{AreLawful}
 use Rattle.store.specs.declared.store.Store.{Ghosts}
 use Rattle.node.specs.Step.{Serving}
