@@ -1,25 +1,17 @@
 -- What connections and passes that are added later change of events played before: nothing.
-use Rattle.std.proofs.Common.{◌≡◌, ◌≢◌, ◌<◌, ◌≤◌, ◌∙◌, ◌⊎◌, inl, inr, ℕ, zero, suc, ◌+◌, ◌-◌, leb, leb-true, leb-false, Bool, true, false, ◌&&◌, cond, List, [], ◌∷◌, ◌++◌, get_or, length, map, Option, Some, None, refl, sym, ap, subst, arith}
-use Rattle.std.specs.Prelude.{⊤, nat_le, slice_set}
-use Rattle.std.specs.List.{AllByRecursion, slice_get}
-use Rattle.std.specs.Cmp.{nat_cmp_total}
-use Rattle.std.specs.FinMap.{FinMap, get, get-insert, get-remove, gets, insert, remove, same_map, nat_cmp-IsAntisymmetric}
-use Rattle.std.specs.Ordering.{eq_by_cmp, nat_cmp}
-use Rattle.std.proofs.lemmas.Bool.{cases_eq}
+use Rattle.std.proofs.Common.{◌≡◌, ◌<◌, ◌∙◌, ℕ, zero, suc, ◌-◌, leb, leb-true, Bool, true, false, ◌&&◌, List, [], ◌∷◌, ◌++◌, get_or, length, Some, refl, sym, ap, subst, arith}
+use Rattle.std.specs.Prelude.{⊤, nat_le}
+use Rattle.std.specs.List.{AllByRecursion}
 use Rattle.std.proofs.lemmas.List.Elements.{recursion_from_All}
-use Rattle.std.proofs.lemmas.Map.Lookups.{exact_unsigned}
-use Rattle.std.proofs.lemmas.Map.Views.{tells_apart}
 use Rattle.couch_http.specs.Message.{Message}
-use Rattle.couch_http.specs.Stream.{StreamEnd, unfinished, ended, faulty}
 use Rattle.node.specs.Step.{Serving}
-use Rattle.hub.specs.Arrival.{Arrival, ArrivesAt, BringsBehind, Piece, fault_at, fault_on, request_on}
-use Rattle.hub.specs.Connections.{ConnectionTable, next_connection, rest_on, was_opened, with_connection, with_rest}
-use Rattle.hub.specs.Endings.{rest_of}
+use Rattle.hub.specs.Arrival.{Arrival, fault_on, request_on}
+use Rattle.hub.specs.Connections.{ConnectionTable, was_opened}
 use Rattle.repl.specs.Passes.{Asked, to_source, to_target, done, stopped_by, asked_of}
 use Rattle.world.specs.Exchanging.{IsAskedBy, IsMadeBy}
 use Rattle.world.specs.Happening.{Happening, Sight, comes, exchanges}
 use Rattle.world.specs.Network.{Network, Transfer, home_of, transfer_at, with_transfer}
-use Rattle.world.specs.Playing.{HappensBy, Plays, PlaysBy}
+use Rattle.world.specs.Playing.{HappensBy, PlaysBy}
 use Rattle.world.specs.Service.{HandlingOf, IsAnsweredBy, IsHandled, IsServiceBy, SeenReply, StepOf}
 use Rattle.world.specs.Turning.{is_known}
 use Rattle.world.specs.declared.fate.Fate.{Fate}

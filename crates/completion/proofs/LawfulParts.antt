@@ -1,6 +1,6 @@
 -- The parts of a lawful value are lawful, and its texts are bytes.
-use Rattle.std.proofs.Common.{◌≡◌, ◌≤◌, ◌<◌, ◌⊎◌, inl, inr, ⊎_elim, ℕ, ◌+◌, ◌^◌, ◌/◌, ◌%◌, Bool, true, false, cond, ◌&&◌, List, [], ◌∷◌, ◌++◌, map, Option, Some, None, option_map, option_and_then, Result, Ok, Err, refl, sym, ap, ◌∙◌, subst, ltb, ltb-true, arith}
-use Rattle.std.specs.Prelude.{IsUtf8, ⊤}
+use Rattle.std.proofs.Common.{◌≡◌, ◌<◌, ◌⊎◌, inl, inr, ⊎_elim, ℕ, ◌+◌, ◌/◌, ◌%◌, Bool, true, false, cond, ◌&&◌, List, [], ◌∷◌, ◌++◌, map, Option, Some, None, Ok, Err, refl, ap, ◌∙◌, subst, ltb, ltb-true, arith}
+use Rattle.std.specs.Prelude.{IsUtf8}
 use Rattle.std.specs.List.{All, AllByRecursion}
 use Rattle.std.specs.Str.{is_utf8}
 use Rattle.std.specs.declared.cmp.Ordering.{Ordering}
@@ -14,11 +14,10 @@ use Rattle.couch_json.specs.Canonical.{canonical}
 use Rattle.couch_json.specs.Lawful.{AreLawfulItems, AreLawfulMembers, HasAscendingNames, IsBefore, IsLawful}
 use Rattle.couch_json.specs.Nesting.{nests_too_deep}
 use Rattle.couch_json.specs.Parts.{items_in, text_in}
-use Rattle.couch_json.specs.Reading.{reading, value_or_fault}
-use Rattle.couch_json.specs.Value.{Items, Members, Value, array, depth, item, items_depth, member, member_at, member_of, no_items, no_members, null, object, put, text, truth, whole}
+use Rattle.couch_json.specs.Reading.{value_or_fault}
+use Rattle.couch_json.specs.Value.{Items, Members, Value, array, items_depth, member, member_at, member_of, no_members, null, object, put, text, truth, whole}
 use Rattle.couch_json.specs.View.{items_of}
-use Rattle.couch_json.specs.declared.fault.JsonFault.{JsonFault}
-use Rattle.couch_json.specs.declared.fault.JsonFault.TheVariants.{Depth, Syntax}
+use Rattle.couch_json.specs.declared.fault.JsonFault.TheVariants.{Depth}
 use Rattle.couch_json.proofs.ReadingBack.{reading-canonical}
 use Rattle.serde_json.specs.Read.{read}
 use lib.Utf8.{encode, encodes, scalar, scalar_cases, scalars}

@@ -9,3 +9,6 @@ pub mod Turned
 pub mod Keepings
 pub mod Truths
 pub mod Standings
+pub mod Settlements
+pub mod Again
+pub mod Starting

@@ -1,5 +1,5 @@
 -- The same events from the same network have one outcome, where each request was served; and so two calls are one.
-use Rattle.std.proofs.Common.{◌≡◌, ◌≢◌, ◌∙◌, ℕ, List, [], ◌∷◌, ◌++◌, map, Bool, true, false, Option, Some, None, append_assoc, append-nil, refl, sym, ap, subst}
+use Rattle.std.proofs.Common.{◌≡◌, ◌≢◌, ◌∙◌, ℕ, List, [], ◌∷◌, ◌++◌, map, Bool, true, false, Option, Some, None, append_assoc, refl, sym, ap, subst}
 use Rattle.std.specs.Prelude.{⊤, slice_set}
 use Rattle.couch_http.proofs.CutLemmas.{Cuts_unique}
 use Rattle.couch_http.specs.Message.{Message}
@@ -13,15 +13,15 @@ use Rattle.node.specs.Step.{Serving, reply_to}
 use Rattle.hub.specs.Arrival.{Arrival, ArrivesAt, BringsBehind, Piece, fault_at, fault_on, request_on}
 use Rattle.hub.specs.Connections.{ConnectionTable, rest_on, with_rest}
 use Rattle.hub.specs.Endings.{rest_of}
-use Rattle.repl.specs.Passes.{Asked, Pass, to_source, to_target, done, stopped_by, answered_of, asked_of, lost_of}
+use Rattle.repl.specs.Passes.{Asked, Pass, to_source, to_target, done, stopped_by, answered_of, asked_of}
 use Rattle.world.specs.Exchanging.{IsAskedBy, IsCarriedBy, IsMadeBy}
-use Rattle.world.specs.Happening.{Happening, Sight, comes, ended, exchanged, exchanges, replied}
+use Rattle.world.specs.Happening.{Happening, Sight, comes, exchanged, exchanges}
 use Rattle.world.specs.Network.{Network, Transfer, home_of, with_transfer}
-use Rattle.world.specs.Playing.{HappensBy, Plays, PlaysBy, all_replied}
+use Rattle.world.specs.Playing.{HappensBy, PlaysBy, all_replied}
 use Rattle.world.specs.Service.{Asker, HandlingOf, IsAnsweredBy, IsHandled, IsServiceBy, SeenReply, StepOf, by_pass, on_connection}
 use Rattle.world.specs.declared.fate.Fate.{Fate}
 use Rattle.world.specs.declared.fate.Fate.TheVariants.{Answered, ReplyLost, RequestLost}
-use Rattle.completion.specs.Parted.{AreHeard, AreServedSights, IsServedSight, PlaysHaveOneOutcome, Serves, SightsTellService, TwoCallsAreOne}
+use Rattle.completion.specs.Parted.{AreHeard, AreServedSights, PlaysHaveOneOutcome, Serves, SightsTellService, TwoCallsAreOne}
 
 abbrev Nodes : Type 0
 Nodes = List (Serving Contents)

@@ -1,5 +1,5 @@
 -- What a shape reads of a lawful value: texts in UTF-8, lawful documents, and counts up to the greatest.
-use Rattle.std.proofs.Common.{◌≡◌, ◌≤◌, ◌⊎◌, inl, inr, ⊎_elim, ℕ, ℤ, pos, negsuc, leb, leb-true, Bool, true, false, cond, List, [], ◌∷◌, ◌++◌, drop, map, Option, Some, None, option_map, option_and_then, unwrap_or, codes, refl, sym, ap, ◌∙◌, subst, arith}
+use Rattle.std.proofs.Common.{◌≡◌, ◌≤◌, ℕ, ℤ, pos, negsuc, leb, leb-true, Bool, true, false, cond, List, [], ◌∷◌, Option, Some, None, option_map, option_and_then, unwrap_or, codes, refl, subst, arith}
 use Rattle.std.specs.Prelude.{IfSome, IsUtf8, min, ⊤}
 use Rattle.std.specs.List.{AllByRecursion}
 use Rattle.couch_json.specs.Lawful.{AreLawfulItems, IsLawful}
@@ -9,7 +9,7 @@ use Rattle.couch_json.specs.Value.{Items, Value, item, member_of, no_items}
 use Rattle.repl.specs.Calls.{Revisions}
 use Rattle.repl.specs.Checkpoints.{Checkpoint, Session, checkpoint_in, session_in, start_of, common_sequence, smaller_or, sequence_of}
 use Rattle.repl.specs.Replies.{Changes, Opened, change_in, changes_in, differences_in, document, document_by, documents_of, has_missing_lists, missing, missing_in, missing_of, missing_of_each, opened_in, revision_in, unless_empty}
-use Rattle.repl.specs.Shapes.{before, count_at, count_in, count_of, each_in, list_at, list_in, text_at, texts_at}
+use Rattle.repl.specs.Shapes.{count_at, count_in, count_of, each_in, list_at, list_in, text_at}
 use Rattle.completion.proofs.LawfulParts.{member_part, text_part, items_part}
 
 -- ---- options

@@ -1,6 +1,6 @@
 -- What a pass keeps in hand can be asked: its texts are UTF-8, its documents are lawful, and its sequences are counts.
-use Rattle.std.proofs.Common.{◌≡◌, ◌≤◌, ◌<◌, ◌==◌, ◌&&◌, inl, inr, ℕ, ◌+◌, Bool, true, false, cond, List, [], ◌∷◌, ◌++◌, drop, map, Option, Some, None, Result, Ok, Err, codes, refl, sym, ap, ◌∙◌, subst, arith}
-use Rattle.std.specs.Prelude.{IfOk, IfSome, IsUtf8, ⊤}
+use Rattle.std.proofs.Common.{◌≡◌, ◌≤◌, ◌<◌, ◌==◌, ◌&&◌, inl, inr, ℕ, Bool, true, false, cond, List, [], ◌∷◌, ◌++◌, drop, Option, Some, None, Result, Ok, Err, codes, refl, sym, ap, ◌∙◌, subst, arith}
+use Rattle.std.specs.Prelude.{IfSome}
 use Rattle.std.specs.List.{All, AllByRecursion}
 use Rattle.std.proofs.lemmas.Str.{IsUtf8-nil}
 use Rattle.json.proofs.Printed.Utf8.{IsUtf8-are_ascii}
@@ -17,19 +17,18 @@ use Rattle.couch_json.proofs.ReadingBack.{what_was_read}
 use Rattle.store.specs.Contents.{Contents}
 use Rattle.node.specs.Answer.{answer}
 use Rattle.node.specs.Runs.{Steps}
-use Rattle.node.specs.Step.{reply_to}
 use Rattle.repl.specs.Calls.{Revisions, documents_value, revisions_put, revisions_value, texts_value}
 use Rattle.repl.specs.Checkpoints.{Checkpoint, checkpoint_in}
 use Rattle.repl.specs.Configuration.{Configuration}
-use Rattle.repl.specs.Passes.{Pass, answered_in, first_of_pending, first_pass, lost_of, pass_after, with_changes, with_differences, with_failures, with_opened, with_source, with_source_reread, with_source_written, with_target, with_target_reread, with_target_written}
-use Rattle.repl.specs.Replies.{Changes, Opened, Stored, changes_in, changes_listed, checkpoint_read, checkpoint_written, differences_in, differences_read, documents_of, documents_pushed, is_missing, nothing_stored, opened_in, revisions_opened, said_at, stored_by, stored_in}
-use Rattle.repl.specs.Shapes.{list_in, text_at}
+use Rattle.repl.specs.Passes.{Pass, first_of_pending, first_pass, lost_of, pass_after, with_changes, with_differences, with_failures, with_opened, with_source, with_target, with_target_reread, with_target_written}
+use Rattle.repl.specs.Replies.{Changes, Opened, Stored, checkpoint_read, documents_of, is_missing, nothing_stored, said_at, stored_by, stored_in}
+use Rattle.repl.specs.Shapes.{text_at}
 use Rattle.repl.specs.declared.why.Why.{Why}
 use Rattle.repl.proofs.LossLemmas.{lost_by}
 use Rattle.passes.specs.Owed.{AreDistinct}
 use Rattle.passes.proofs.Told.{Said, fine, said}
 use Rattle.completion.proofs.LawfulParts.{put_lawful, text_is_bytes, written_list, lawful_texts}
-use Rattle.completion.proofs.Shapes.{AreCounts, AreRead, AreTexts, changes_read, checkpoint_counted, differences_texts, mapped_of, opened_documents, start_counted}
+use Rattle.completion.proofs.Shapes.{AreCounts, AreRead, AreTexts, checkpoint_counted, mapped_of, start_counted}
 
 -- ---- what a pass has in hand
 

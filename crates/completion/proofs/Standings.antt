@@ -1,5 +1,5 @@
 -- Where a pass stands in a run: what its events make a scene of, and which list of changes it took in last.
-use Rattle.std.proofs.Common.{◌≡◌, ◌≢◌, ◌≤◌, ◌∙◌, ◌⊎◌, inl, inr, ◌==◌, ◌||◌, ℕ, Bool, true, false, cond, List, [], ◌∷◌, ◌++◌, Option, Some, None, Result, Ok, Err, eqb-true, refl, sym, ap, subst, arith}
+use Rattle.std.proofs.Common.{◌≡◌, ◌≤◌, ◌∙◌, ◌⊎◌, inl, inr, ◌==◌, ◌||◌, ℕ, Bool, true, false, cond, List, [], ◌∷◌, ◌++◌, Option, Some, None, Result, Ok, Err, eqb-true, refl, sym, ap, subst}
 use Rattle.std.specs.Prelude.{IfSome, is_ok, ⊤}
 use Rattle.couch_http.specs.Message.{Message}
 use Rattle.couch_http.specs.Reply.{Reply}
@@ -14,7 +14,7 @@ use Rattle.repl.specs.declared.phase.Phase.{Phase}
 use Rattle.repl.specs.declared.phase.Phase.TheVariants.{ReadSource, ReadTarget, ListChanges, Compare, Open, Push, WriteSource, WriteTarget, RereadSource, RereadTarget, Done, Stopped}
 use Rattle.repl.specs.declared.why.Why.{Why}
 use Rattle.repl.proofs.LossLemmas.{lost_by}
-use Rattle.passes.specs.Owed.{Event, Follows, Goes, Grows, IsTruth, SaysTruth, Scene, Went, listed_after, others, turn}
+use Rattle.passes.specs.Owed.{Event, Follows, Goes, IsTruth, Scene, Went, listed_after, others, turn}
 use Rattle.world.specs.Exchanging.{IsAskedBy, IsMadeBy}
 use Rattle.world.specs.Happening.{Happening, Sight, comes, exchanges}
 use Rattle.world.specs.Keeping.{Keeping}

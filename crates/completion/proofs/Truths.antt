@@ -1,8 +1,8 @@
 -- What a pass takes in from the nodes of a network is true of its two databases, and keeps the pass sound.
-use Rattle.std.proofs.Common.{◌≡◌, ◌≤◌, ◌<◌, ◌∙◌, ℕ, Bool, true, false, List, [], ◌∷◌, Option, Some, None, Result, Ok, Err, refl, sym, ap, subst, arith}
-use Rattle.std.specs.Prelude.{IfSome, ⊤, slice_set}
+use Rattle.std.proofs.Common.{◌≡◌, ◌≤◌, ◌∙◌, ℕ, List, Option, Some, None, sym, ap, subst, arith}
+use Rattle.std.specs.Prelude.{IfSome, ⊤}
 use Rattle.std.specs.FinMap.{get}
-use Rattle.std.specs.List.{AllByRecursion, slice_get}
+use Rattle.std.specs.List.{AllByRecursion}
 use Rattle.couch_http.specs.Message.{Message}
 use Rattle.couch_http.specs.Reply.{Reply}
 use Rattle.couch_json.specs.Lawful.{IsLawful}
@@ -14,22 +14,21 @@ use Rattle.node.specs.Runs.{Steps}
 use Rattle.node.specs.Step.{Serving}
 use Rattle.repl.specs.Calls.{Revisions, compare_revisions, list_changes, open_revisions, push_documents, request_of}
 use Rattle.repl.specs.Configuration.{Configuration}
-use Rattle.repl.specs.Passes.{Asked, Pass, Step, answered_in, asked_by, first_of_pending, step_in, to_source, to_target, done, stopped_by, with_changes, with_differences, with_failures, with_opened, with_source, with_source_reread, with_source_written, with_target, with_target_reread, with_target_written}
-use Rattle.repl.specs.Replies.{Changes, Opened, Stored, changes_in, changes_listed, checkpoint_read, checkpoint_written, differences_in, differences_read, documents_pushed, failure_in, opened_in, revisions_opened}
+use Rattle.repl.specs.Passes.{Asked, Pass, answered_in, asked_by, first_of_pending, step_in, to_source, to_target, done, stopped_by, with_changes, with_differences, with_failures, with_opened, with_source, with_source_reread, with_source_written, with_target, with_target_reread, with_target_written}
+use Rattle.repl.specs.Replies.{Changes, Opened, changes_in, changes_listed, checkpoint_read, checkpoint_written, differences_in, differences_read, documents_pushed, opened_in, revisions_opened}
 use Rattle.repl.specs.Shapes.{list_in}
 use Rattle.repl.specs.declared.phase.Phase.{Phase}
 use Rattle.repl.specs.declared.phase.Phase.TheVariants.{ReadSource, ReadTarget, ListChanges, Compare, Open, Push, WriteSource, WriteTarget, RereadSource, RereadTarget, Done, Stopped}
 use Rattle.repl.specs.declared.side.Side.TheVariants.{Source, Target}
-use Rattle.repl.specs.declared.why.Why.{Why}
 use Rattle.passes.specs.Owed.{AreDistinct, Compares, IsTruth, Names, Opens, Pushes}
 use Rattle.passes.proofs.Told.{fine, true_comparison, true_listing, true_opening, true_push}
-use Rattle.world.specs.Network.{Network, Transfer}
+use Rattle.world.specs.Network.{Transfer}
 use Rattle.world.specs.Service.{IsHandled}
-use Rattle.completion.specs.Finished.{IsTold, database_at, database_of_node, found_or_new, source_of, target_of}
+use Rattle.completion.specs.Finished.{IsTold, database_at, database_of_node, found_or_new}
 use Rattle.completion.proofs.Keepings.{LawfulAt, Nodes, lawful_at}
 use Rattle.completion.proofs.Places.{set_here}
-use Rattle.completion.proofs.Shapes.{AreCounts, AreRead, AreTexts, changes_read, differences_texts, opened_documents}
-use Rattle.completion.proofs.Sound.{IsSound, SaidOf, asks_lawfully, changes_sound, differences_sound, failures_sound, first_texts, id_bytes, keeps_with, list_bytes, list_lawful, opened_sound, pushes_lawfully, read_counted, said_lawfully, source_sound, target_reread_sound, target_sound, target_written_sound}
+use Rattle.completion.proofs.Shapes.{AreTexts, changes_read, differences_texts, opened_documents}
+use Rattle.completion.proofs.Sound.{IsSound, asks_lawfully, changes_sound, differences_sound, failures_sound, first_texts, id_bytes, keeps_with, list_bytes, list_lawful, opened_sound, pushes_lawfully, read_counted, said_lawfully, source_sound, target_reread_sound, target_sound, target_written_sound}
 
 -- ---- the database of the node that is asked
 

@@ -1,12 +1,9 @@
 -- Through a run each pass becomes what its turns make of it, and their statuses are seen.
-use Rattle.std.proofs.Common.{◌≡◌, ◌≢◌, ◌∙◌, ◌==◌, ℕ, Bool, true, false, cond, List, [], ◌∷◌, ◌++◌, map, Option, Some, None, option_map, append_assoc, append-nil, eqb-true, eq-eqb, refl, sym, ap, subst}
+use Rattle.std.proofs.Common.{◌≡◌, ◌≢◌, ◌∙◌, ◌==◌, ℕ, Bool, true, false, cond, List, [], ◌∷◌, ◌++◌, map, Option, Some, option_map, eqb-true, eq-eqb, refl, sym, ap}
 use Rattle.couch_http.specs.Message.{Message}
 use Rattle.node.specs.Step.{Serving}
-use Rattle.repl.specs.Configuration.{Configuration}
 use Rattle.repl.specs.Passes.{Asked, Pass, to_source, to_target, done, stopped_by, asked_of, first_pass}
-use Rattle.repl.specs.Turns.{Turn, after_turn, after_turns, answered, has_listed, lost, replies_in, start_by, told_of}
-use Rattle.repl.specs.declared.phase.Phase.{Phase}
-use Rattle.repl.specs.declared.phase.Phase.TheVariants.{Stopped}
+use Rattle.repl.specs.Turns.{Turn, after_turn, after_turns}
 use Rattle.repl.proofs.ReportLemmas.{all_told}
 use Rattle.repl.proofs.StartLemmas.{start_is}
 use Rattle.repl.proofs.StopLemmas.{stop_cause}
@@ -18,7 +15,7 @@ use Rattle.world.specs.Service.{Asker, HandlingOf, IsHandled, SeenReply, StepOf,
 use Rattle.world.specs.declared.fate.Fate.{Fate}
 use Rattle.world.specs.declared.fate.Fate.TheVariants.{Answered, ReplyLost, RequestLost}
 use Rattle.completion.specs.Reported.{PassesGoByTurns, ReportsAreToldInRuns, StartsAreReadInRuns, StopsHaveCausesInRuns, TurnsAreSeen, status_of, statuses_of}
-use Rattle.completion.specs.Runs.{RunOf, pass_at, turn_of, turns_asked, turns_at, turns_in}
+use Rattle.completion.specs.Runs.{pass_at, turn_of, turns_asked, turns_at, turns_in}
 use Rattle.completion.proofs.Places.{one_transfer, passed_elsewhere, passed_here}
 use Rattle.completion.proofs.Shapes.{mapped_of}
 

@@ -1,6 +1,6 @@
 -- What a pass has settled in a run of a network: in each round what it listed, and in the end all that it owes its target.
 -- CouchDB manual, replication/protocol; what is reported is this project's own.
-use Rattle.std.specs.Prelude.{◌≡◌, ◌<◌, ◌≤◌, ℕ, Bool, true, false, List, [], ◌∷◌, Option, Some, None, IfSome, IsTrue}
+use Rattle.std.specs.Prelude.{◌≡◌, ◌<◌, ◌≤◌, ℕ, true, false, List, Option, Some, None, IfSome, IsTrue}
 use Rattle.std.specs.FinMap.{get}
 use Rattle.std.specs.List.{AllByRecursion, slice_get}
 use Rattle.tree.specs.History.{is_leaf}

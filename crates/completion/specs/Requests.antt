@@ -14,7 +14,7 @@ use Rattle.world.specs.Happening.{Happening, Sight, comes, exchanges}
 use Rattle.world.specs.Keeping.{Keeping, StaysAt}
 use Rattle.world.specs.Network.{Network, Transfer, home_of}
 use Rattle.world.specs.Playing.{HappensBy, PlaysBy}
-use Rattle.world.specs.Service.{Asker, Handling, HandlingOf, IsAnsweredBy, IsHandled, IsServiceBy, SeenReply, StepOf, by_pass, on_connection}
+use Rattle.world.specs.Service.{Asker, HandlingOf, IsAnsweredBy, IsServiceBy, SeenReply, by_pass, on_connection}
 use Rattle.world.specs.declared.fate.Fate.{Fate}
 use Rattle.world.specs.declared.fate.Fate.TheVariants.{Answered, ReplyLost, RequestLost}
 use Rattle.completion.specs.Parted.{Serves}
