@@ -12,3 +12,4 @@ pub mod Replicables
 pub mod Handlings
 pub mod Turnings
 pub mod Plays
+pub mod Sparings

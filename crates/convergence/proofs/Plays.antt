@@ -26,6 +26,7 @@ use Rattle.world.specs.Service.{Asker, HandlingOf, IsAnsweredBy, IsHandled, IsSe
 use Rattle.world.specs.declared.fate.Fate.{Fate}
 use Rattle.world.specs.declared.fate.Fate.TheVariants.{Answered, ReplyLost, RequestLost}
 use Rattle.completion.specs.Finished.{IsTold}
+use Rattle.completion.specs.Runs.{Run}
 use Rattle.completion.proofs.Keepings.{LawfulAt, all_lawful}
 use Rattle.completion.proofs.Places.{one_transfer, passed_elsewhere, passed_here}
 use Rattle.completion.proofs.Sound.{IsSound as IsSoundPass, first_sound}
@@ -34,7 +35,7 @@ use Rattle.convergence.specs.Appended.{KeepsDocuments}
 use Rattle.convergence.specs.Converged.{HasCopiedAll}
 use Rattle.convergence.specs.Crossing.{Crossed, Crosses, Crossing, Move, goes_back, goes_there, others}
 use Rattle.convergence.specs.Networks.{AreEnds, AreStarted, BecomesAt, HasEnded, IsOneOf, KeepsBoth, Only, PassesOfANetworkConverge}
-use Rattle.convergence.specs.Sound.{Agree, AreWritable, HavePlainBodies, IsSound}
+use Rattle.convergence.specs.Sound.{Agree, IsReplicable, IsSound}
 use Rattle.convergence.proofs.Handlings.{Nodes, lawful_after, one_at}
 use Rattle.convergence.proofs.Quiet.{same_documents}
 use Rattle.convergence.proofs.Crossings.{turn_configured, two_converge}
@@ -297,10 +298,10 @@ module _ (p q : ℕ) (t u : Transfer) where
 -- ---- from the start to the end
 
 -- the lawful databases of the nodes, and plain bodies and revisions that can be written
-sound_at : (nodes : Nodes) (place : ℕ) (name : List ℕ) (db : Database) → LawfulAt nodes → IsAt nodes place name db → HavePlainBodies db → AreWritable db → IsSound db
-sound_at nodes place name db lawful at plain writable =
+sound_at : (nodes : Nodes) (place : ℕ) (name : List ℕ) (db : Database) → LawfulAt nodes → IsAt nodes place name db → IsReplicable db → IsSound db
+sound_at nodes place name db lawful at clean =
     let k = lawful place at.node at.there name db at.holds in
-    record { documents = k.documents; sequences = k.sequences; plain = plain; writable = writable }
+    record { documents = k.documents; sequences = k.sequences; plain = clean.plain; writable = clean.writable }
 
 batch_told : (batch : Option ℕ) → IfSome batch (λ size. (1 ≤ size) × (size ≤ 1000)) → IfSome batch (λ size. 1 ≤ size)
 batch_told None h = tt
@@ -347,12 +348,12 @@ copied n now t p there ended =
     let same : ended.transfer ≡ record t { pass = p } = same_transfer ended.transfer (record t { pass = p }) (sym ended.there ∙ there) in
     subst (λ (x : Transfer). HasCopiedAll x.pass) same ended.copied
 
-lawfully : (p q : ℕ) (t u : Transfer) (hs : List Happening) (seen : List Sight) (old new : Network Contents) (a b one other : Database) → AreStarted p q t u old
-    → PlaysBy (Only p q t) old hs seen new → AreEnds t old a b → HavePlainBodies a → HavePlainBodies b → AreWritable a → AreWritable b → Agree a b → HasEnded p new → HasEnded q new
+lawfully : (p q : ℕ) (t u : Transfer) (old new : Network Contents) (a b one other : Database) → AreStarted p q t u old → Run (Only p q t) old new → AreEnds t old a b → IsReplicable a
+    → IsReplicable b → Agree a b → HasEnded p new → HasEnded q new
     → AreEnds t new one other → (id : List ℕ) → LawfulAt old.nodes → HaveSameLeaves (history_at one id) (history_at other id)
-lawfully p q t u hs seen old new a b one other s plays ends plain_a plain_b writable_a writable_b agree there back now id lawful =
+lawfully p q t u old new a b one other s run ends clean_a clean_b agree there back now id lawful =
     let c = first_crossing t u a b in
-    let k = play_moves p q t u hs old new c seen (opposite p q t u old s) (two_passes p q t u old s) (stands_first p q t u old a b s lawful ends) plays in
+    let k = play_moves p q t u run.happenings old new c run.seen (opposite p q t u old s) (two_passes p q t u old s) (stands_first p q t u old a b s lawful ends) run.played in
     let crossed : Crossed t.pass.configuration u.pass.configuration k.moves k.crossing = record {
       first = c;
       there = s.there_first;
@@ -365,17 +366,17 @@ lawfully p q t u hs seen old new a b one other s plays ends plain_a plain_b writ
     } in
     let same : HaveSameLeaves (history_at k.crossing.one id) (history_at k.crossing.other id) =
     two_converge t.pass.configuration u.pass.configuration k.moves k.crossing crossed
-    (sound_at old.nodes t.from t.pass.configuration.source_db a lawful ends.source plain_a writable_a)
-    (sound_at old.nodes t.to t.pass.configuration.target_db b lawful ends.target plain_b writable_b) agree
+    (sound_at old.nodes t.from t.pass.configuration.source_db a lawful ends.source clean_a)
+    (sound_at old.nodes t.to t.pass.configuration.target_db b lawful ends.target clean_b) agree
     (copied p new t k.crossing.there k.stand.there there) (copied q new u k.crossing.back k.stand.back back) id in
     subst (λ (x : Database). HaveSameLeaves (history_at x id) (history_at other id)) (one_at new.nodes t.from t.pass.configuration.source_db k.crossing.one one k.stand.one now.source)
     (subst (λ (y : Database). HaveSameLeaves (history_at k.crossing.one id) (history_at y id)) (one_at new.nodes t.to t.pass.configuration.target_db k.crossing.other other k.stand.other now.target) same)
 
 pub networks_converge : PassesOfANetworkConverge
-networks_converge p q t u hs seen old new a b one other s plays ends plain_a plain_b writable_a writable_b agree there back now id =
+networks_converge p q t u old new a b one other s run ends clean_a clean_b agree there back now id =
     let all = all_lawful old.nodes s.lawful in
     let by : LawfulAt old.nodes → HaveSameLeaves (history_at one id) (history_at other id) =
-    λ lawful. lawfully p q t u hs seen old new a b one other s plays ends plain_a plain_b writable_a writable_b agree there back now id lawful in
+    λ lawful. lawfully p q t u old new a b one other s run ends clean_a clean_b agree there back now id lawful in
     record {
       known = λ r. ∥∥₁_elim all (Bool-set _ _) (λ lawful. (by lawful).known r);
       leaves = ∥∥₁_elim all (Coded-set (coded_list revision_code) _ _) (λ lawful. (by lawful).leaves);

@@ -190,7 +190,7 @@ quiet_read : (m : Message) (read : List ℕ → Database → Result Value Refusa
 quiet_read m read task e = quiet_work Read m (λ name. read_work (read name)) task (λ name. quiet_reading (read name)) e
 
 -- whatever is asked by GET only reads
-quiet_get : (page : Page) (caller : auth.Identity) (m : Message) (task : Task) → task_of page (Some Get) caller m ≡ Ok task → IsQuiet task
+pub quiet_get : (page : Page) (caller : auth.Identity) (m : Message) (task : Task) → task_of page (Some Get) caller m ≡ Ok task → IsQuiet task
 quiet_get Welcome caller m task e = let k = went (plain m) (λ _. Ok (told welcome)) task e in subst IsQuiet (same {A = Task} _ task k.then) tt
 quiet_get AllDatabases caller m task e =
     let k = went (administration caller) (λ _. next (plain m) (λ _. Ok listed)) task e in
@@ -377,8 +377,9 @@ quiet_documents caller m name ms body texts db d e =
     let asked : bulk_in (object ms) ≡ Some b.first = ap bulk_in (sym (body l.first l.was)) ∙ was_named Body (bulk_in l.first) b.first b.was in
     let documents = bulk_documents _ (new_edits_in (member_at (codes "new_edits") ms)) (documents_in (member_at (codes "docs") ms)) b.first asked in
     let listed = texts_listed (member_at (codes "docs") ms) b.first.documents (texts_at (codes "docs") ms texts) documents in
-    let none : writes_in (outcomes (terms_in caller name db) b.first.new_edits (history_at db) b.first.documents) ≡ [] =
-    ap (λ (vs : List Value). writes_in (outcomes (terms_in caller name db) b.first.new_edits (history_at db) vs)) listed.1 ∙ no_writes (terms_in caller name db) b.first.new_edits (history_at db) listed.0 in
+    let terms = terms_in caller name db in
+    let none : writes_in (outcomes terms b.first.new_edits (history_at db) b.first.documents) ≡ [] =
+    subst (λ (vs : List Value). writes_in (outcomes terms b.first.new_edits (history_at db) vs) ≡ []) (sym listed.1) (no_writes terms b.first.new_edits (history_at db) listed.0) in
     subst (λ (x : Done). WritesNothing x.effect) (same {A = Done} _ d b.then) none
 
 no_declaration : (caller : auth.Identity) (m : Message) (name : List ℕ) (ms : Members) → HasBody m ms → index_in (object ms) ≡ None → IsQuietWork (index_written caller m name)

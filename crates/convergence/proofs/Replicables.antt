@@ -1,10 +1,11 @@
 -- Whatever a node answers, bodies stay plain and revisions can be written.
-use Rattle.std.proofs.Common.{◌≡◌, inl, inr, ℕ, List, [], ◌∷◌, Bool, true, false, cond, Option, Some, None, Result, Ok, Err, bytes_eq, is_none, refl, sym, ap, ◌∙◌, subst}
-use Rattle.std.specs.Prelude.{⊤, is_some, option_and_then}
+use Rattle.std.proofs.Common.{◌⊎◌, ◌≢◌, ◌≡◌, inl, inr, ℕ, List, [], ◌∷◌, Bool, true, false, cond, Option, Some, None, Result, Ok, Err, bytes_eq, is_none, refl, sym, ap, ◌∙◌, subst}
+use Rattle.std.specs.Prelude.{⊤, is_some, option_and_then, slice_set}
 use Rattle.std.specs.FinMap.{empty, get, get-empty, get-remove, insert, remove}
 use Rattle.std.specs.Cmp.Lexicographic.{slice_cmp}
 use Rattle.std.specs.Ordering.{eq_by_cmp, nat_cmp}
-use Rattle.std.proofs.lemmas.Bool.{false≢true}
+use Rattle.std.specs.List.{slice_get}
+use Rattle.std.proofs.lemmas.Bool.{cases_eq, false≢true}
 use Rattle.std.proofs.lemmas.Cmp.{nat_list_cmp_total}
 use Rattle.auth.specs.Callers as auth
 use Rattle.couch_http.specs.Message.{Message}
@@ -46,10 +47,14 @@ use Rattle.api.specs.declared.refusal.Refusal.{Refusal}
 use Rattle.api.specs.declared.refusal.Refusal.TheVariants.{Body, Exists, Id, NoDatabase, Path}
 use Rattle.node.specs.Answer.{Outcome, Task, admin_task, administration, change_at, created, creation, database_name_of, entry, judgement, listed, outcome_in as outcome_at, page_outcome, removal, removed, settlement, task_of, task_outcome, told, welcome, with_change, with_effect_at, work_task, worked}
 use Rattle.node.specs.Runs.{Steps}
+use Rattle.node.specs.Step.{Serving}
+use Rattle.world.specs.Service.{IsHandled}
+use Rattle.world.proofs.Along.{along}
+use Rattle.completion.proofs.Places.{set_elsewhere, set_here}
 use Rattle.node.specs.Work.{Done, Effect, Work, appended, local_put, nothing, read_work, secured, value_done, with_effect}
 use Rattle.node.specs.Works.{bulk_written, change_list, database_read, deletion, deletion_outcome, difference_list, document_deleted, document_finds, document_list, document_read, document_written, documents_written, done, edit_asked, edit_done, edit_in, index_asked_in, index_done, index_written, local_read, local_set, local_written, security_read, security_set, security_written, view_read}
 use Rattle.node.proofs.Tasks.{same, there, went}
-use Rattle.convergence.specs.Replicable.{AreReplicable, StepsKeepReplicable}
+use Rattle.convergence.specs.Replicable.{AreAllReplicable, AreReplicable, RunsKeepReplicable, StepsKeepReplicable}
 use Rattle.convergence.specs.Sound.{IsReplicable}
 use Rattle.convergence.proofs.Cleanly.{AreClean, IsClean, all_stay, edit_clean, replicated_clean}
 use Rattle.convergence.proofs.Quiet.{get_put}
@@ -334,3 +339,25 @@ step_stays c a m r after (inr (inr failed)) h = subst AreReplicable (sym failed.
 
 pub keep_replicable : StepsKeepReplicable
 keep_replicable = record { none = λ name db e. absurd (let k : None ≡ Some db = sym (get-empty {X = Database} (slice_cmp nat_cmp) name) ∙ e in cc); steps = step_stays }
+
+-- ---- runs
+
+one_node : (a b : Serving Contents) → (let x : Option (Serving Contents) = Some a in x) ≡ Some b → a ≡ b
+one_node a b e = cc
+
+handled_stays : (old new : List (Serving Contents)) (place : ℕ) (m : Message) (r : Reply) → IsHandled Steps old place m r new → AreAllReplicable old → AreAllReplicable new
+handled_stays old new place m r h all q node at = by (cases_eq q place)
+  where
+    next : Serving Contents
+    next = record h.node { store = h.after }
+
+    by : (q ≡ place) ⊎ (q ≢ place) → AreReplicable node.store
+    by (inl e) =
+        let is : next ≡ node = one_node next node (sym (set_here old place h.node next h.there) ∙ ap (slice_get (slice_set old place next)) (sym e) ∙ ap (λ (xs : List (Serving Contents)). slice_get xs q) (sym h.left) ∙ at) in
+        subst (λ (n : Serving Contents). AreReplicable n.store) is (step_stays h.node.configuration h.node.store m r h.after h.handled (all place h.node h.there))
+    by (inr e) = all q node (sym (set_elsewhere old place q next e) ∙ ap (λ (xs : List (Serving Contents)). slice_get xs q) (sym h.left) ∙ at)
+
+pub runs_keep : RunsKeepReplicable
+runs_keep old new run =
+    along (λ who. IsHandled Steps) (λ a b. AreAllReplicable a → AreAllReplicable b) (λ a h. h) (λ a b c f g h. g (f h)) (λ who a place m r b h. handled_stays a b place m r h)
+    run.happenings old new run.seen run.played

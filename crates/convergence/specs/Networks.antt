@@ -1,21 +1,26 @@
 -- Two passes of a network in opposite directions, in a run in which nobody else writes a document in their two databases.
 -- CouchDB manual, replication/protocol; that all comes in one order is this project's own.
 use Rattle.std.specs.Prelude.{◌≡◌, ◌≢◌, ◌⊎◌, ℕ, List, Some}
+use Rattle.std.specs.List.{AllByRecursion}
 use Rattle.store.specs.Contents.{Contents}
 use Rattle.store.specs.Database.{Database, history_at}
+use Rattle.api.specs.Asking.{method_of}
+use Rattle.api.specs.Paths.{database_name_in}
+use Rattle.api.specs.declared.method.RequestMethod.TheVariants.{Get}
 use Rattle.node.specs.Runs.{Steps}
 use Rattle.node.specs.Step.{Serving}
 use Rattle.repl.specs.Passes.{first_pass}
-use Rattle.world.specs.Happening.{Happening, Sight}
 use Rattle.world.specs.Keeping.{IsAt}
 use Rattle.world.specs.Network.{Network, Transfer, transfer_at}
-use Rattle.world.specs.Playing.{PlaysBy}
 use Rattle.world.specs.Service.{Asker, HandlingOf, IsHandled, by_pass, on_connection}
 use Rattle.completion.specs.Finished.{AreAllLawful, IsTold}
+use Rattle.completion.specs.Parted.{with_pass}
+use Rattle.completion.specs.Requests.{Handled, IsSameRun, requests_of}
+use Rattle.completion.specs.Runs.{Run, RunOf}
 use Rattle.convergence.specs.Agreement.{HaveSameLeaves}
 use Rattle.convergence.specs.Appended.{KeepsDocuments}
 use Rattle.convergence.specs.Converged.{HasCopiedAll}
-use Rattle.convergence.specs.Sound.{Agree, AreWritable, HavePlainBodies}
+use Rattle.convergence.specs.Sound.{Agree, IsReplicable}
 
 -- the database of this name at the node of this number, where there is one, is there afterwards, and became this
 abbrev pub BecomesAt : List (Serving Contents) → ℕ → List ℕ → List (Serving Contents) → (Database → Database → Type 0) → Type 0
@@ -66,6 +71,37 @@ pub record HasEnded (n : ℕ) (now : Network Contents) : Type 0 where
 -- written, and the databases agree.
 abbrev pub PassesOfANetworkConverge : Type 0
 PassesOfANetworkConverge =
-    (p q : ℕ) (t u : Transfer) (hs : List Happening) (seen : List Sight) (old new : Network Contents) (a b one other : Database) → AreStarted p q t u old
-    → PlaysBy (Only p q t) old hs seen new → AreEnds t old a b → HavePlainBodies a → HavePlainBodies b → AreWritable a → AreWritable b → Agree a b → HasEnded p new → HasEnded q new
-    → AreEnds t new one other → (id : List ℕ) → HaveSameLeaves (history_at one id) (history_at other id)
+    (p q : ℕ) (t u : Transfer) (old new : Network Contents) (a b one other : Database) → AreStarted p q t u old → Run (Only p q t) old new → AreEnds t old a b → IsReplicable a
+    → IsReplicable b → Agree a b → HasEnded p new → HasEnded q new → AreEnds t new one other → (id : List ℕ) → HaveSameLeaves (history_at one id) (history_at other id)
+
+-- ---- which runs are such
+
+-- one of the two passes asks, or both databases stay, and no document is written in them
+abbrev pub AreTheirs : ℕ → ℕ → Transfer → List (Handled Contents) → Type 0
+AreTheirs p q t rs = AllByRecursion (λ (r : Handled Contents). IsOneOf p q r.who ⊎ KeepsBoth t r.old r.new) rs
+
+-- The request can't write a document in the database of this name at the node of this number: another node handles it, its path leads into
+-- no database or into another one, or it only reads.
+abbrev pub Spares : ℕ → List ℕ → Handled Contents → Type 0
+Spares place name r = (r.place ≢ place) ⊎ ((database_name_in r.message.path ≢ Some name) ⊎ (method_of r.message.method ≡ Some Get))
+
+-- one of the two passes asks, or the request spares both databases
+abbrev pub AreSparing : ℕ → ℕ → Transfer → List (Handled Contents) → Type 0
+AreSparing p q t rs =
+    AllByRecursion
+    (λ (r : Handled Contents). IsOneOf p q r.who ⊎ (Spares t.from t.pass.configuration.source_db r × Spares t.to t.pass.configuration.target_db r)) rs
+
+-- a run in which nobody else writes is one by `Only`
+abbrev pub RunsOfTheTwo : Type 0
+RunsOfTheTwo =
+    (p q : ℕ) (t : Transfer) (old new : Network Contents) (run : RunOf Steps old new) → AreTheirs p q t (requests_of run) → (again : Run (Only p q t) old new) × IsSameRun run again
+
+-- so is a run in which the others' requests spare both databases
+abbrev pub SparingRuns : Type 0
+SparingRuns =
+    (p q : ℕ) (t : Transfer) (old new : Network Contents) (run : RunOf Steps old new) → AreSparing p q t (requests_of run) → (again : Run (Only p q t) old new) × IsSameRun run again
+
+-- A pass that was started after some events changes nothing of them. So it doesn't matter which of the two passes was started first.
+abbrev pub LaterStartsChangeNothing : Type 0
+LaterStartsChangeNothing =
+    (p q : ℕ) (t v : Transfer) (old new : Network Contents) → Run (Only p q t) old new → Run (Only p q t) (with_pass v old) (with_pass v new)

@@ -1,8 +1,8 @@
 //! What follows from the definitions alone. Each function has an empty body: its contract is the law.
 
 ghost use Rattle.convergence.specs.Converged.{LeavesMeet, ShownIsSaid, TwoPassesConverge, WritesKeepAgreement};
-ghost use Rattle.convergence.specs.Networks.{PassesOfANetworkConverge};
-ghost use Rattle.convergence.specs.Replicable.{StepsKeepReplicable};
+ghost use Rattle.convergence.specs.Networks.{LaterStartsChangeNothing, PassesOfANetworkConverge, RunsOfTheTwo, SparingRuns};
+ghost use Rattle.convergence.specs.Replicable.{RunsKeepReplicable, StepsKeepReplicable};
 ghost use Rattle.convergence.specs.Written.{OpenedAreShown, OtherCallsWriteNothing, PushesAppendWhatIsSaid};
 
 /// Two lawful histories that agree, and of which each knows the leaves of the other, have the same leaves
@@ -41,14 +41,21 @@ pub fn opened_documents_are_shown()
     ensures { OpenedAreShown }
 {}
 
-/// Whatever a node answers, the bodies in its databases stay plain, and their revisions can be written as text.
+/// Whatever a node answers, the bodies in its databases stay plain, and their revisions can be written as
+/// text. So it is through each run of a network.
 pub fn answers_keep_databases_replicable()
-    ensures { StepsKeepReplicable }
+    ensures steps { StepsKeepReplicable }
+    ensures runs { RunsKeepReplicable }
 {}
 
 /// Two passes of a network in opposite directions leave both databases with the same leaves and the same
 /// winner of each document, where both have copied all, and nobody else wrote a document since they were
-/// started.
+/// started. Nobody else writes where the requests of others spare both databases: they are handled by
+/// another node, lead into another database, or only read. A pass that is started later changes nothing of
+/// what went before.
 pub fn passes_of_a_network_converge()
-    ensures { PassesOfANetworkConverge }
+    ensures converge { PassesOfANetworkConverge }
+    ensures runs { RunsOfTheTwo }
+    ensures sparing { SparingRuns }
+    ensures later { LaterStartsChangeNothing }
 {}
