@@ -1,6 +1,6 @@
 -- What a request of a pass makes of its two databases at the nodes of a network.
-use Rattle.std.proofs.Common.{◌≡◌, ◌≢◌, ◌≤◌, ◌⊎◌, ⊎_elim, inl, inr, ℕ, List, [], ◌∷◌, Bool, true, false, Option, Some, None, Result, Ok, Err, refl, sym, ap, ◌∙◌, subst}
-use Rattle.std.specs.Prelude.{slice_set, ⊤}
+use Rattle.std.proofs.Common.{◌≡◌, ◌≢◌, ⊎_elim, ℕ, List, [], false, Option, Some, sym, ap, ◌∙◌, subst}
+use Rattle.std.specs.Prelude.{⊤}
 use Rattle.std.specs.List.{AllByRecursion, slice_get}
 use Rattle.std.specs.FinMap.{get}
 use Rattle.std.proofs.lemmas.Bool.{cases_eq}
@@ -14,13 +14,10 @@ use Rattle.store.specs.Database.{Database}
 use Rattle.node.specs.Runs.{Steps}
 use Rattle.node.specs.Step.{Serving}
 use Rattle.node.proofs.Steps.{step_lawful}
-use Rattle.repl.specs.Calls.{Call, compare_revisions, list_changes, open_revisions, push_documents, read_checkpoint, request_of, write_checkpoint}
-use Rattle.repl.specs.Checkpoints.{checkpoint_id}
-use Rattle.repl.specs.Configuration.{Configuration, database_of}
-use Rattle.repl.specs.Passes.{Asked, Pass, asked_by, checkpoint_after, done, first_of_pending, step_in, stopped_by, to_source, to_target}
-use Rattle.repl.specs.Replies.{Opened, documents_of, revisions_opened}
-use Rattle.repl.specs.declared.phase.Phase.{Phase}
-use Rattle.repl.specs.declared.phase.Phase.TheVariants.{ReadSource, ReadTarget, ListChanges, Compare, Open, Push, WriteSource, WriteTarget, RereadSource, RereadTarget, Done, Stopped}
+use Rattle.repl.specs.Calls.{Call, open_revisions, push_documents, request_of}
+use Rattle.repl.specs.Configuration.{Configuration}
+use Rattle.repl.specs.Passes.{Pass, first_of_pending}
+use Rattle.repl.specs.Replies.{documents_of}
 use Rattle.repl.specs.declared.side.Side.{Side}
 use Rattle.repl.specs.declared.side.Side.TheVariants.{Source, Target}
 use Rattle.world.specs.Keeping.{IsAt}
@@ -29,10 +26,9 @@ use Rattle.world.specs.Service.{IsHandled}
 use Rattle.completion.specs.Finished.{IsTold}
 use Rattle.completion.proofs.Keepings.{LawfulAt}
 use Rattle.completion.proofs.Places.{set_elsewhere, set_here}
-use Rattle.completion.proofs.Sound.{IsSound, asks_lawfully, first_texts, id_bytes, list_bytes, list_lawful, pushes_lawfully}
-use Rattle.completion.proofs.Truths.{IsHandledFor}
+use Rattle.completion.proofs.Sound.{IsSound, first_texts, id_bytes, list_bytes, list_lawful, pushes_lawfully}
 use Rattle.convergence.specs.Appended.{Appends, IsShownBy, KeepsDocuments}
-use Rattle.convergence.specs.Crossing.{OpensShown, pushed_in}
+use Rattle.convergence.specs.Crossing.{OpensShown}
 use Rattle.convergence.specs.Networks.{BecomesAt}
 use Rattle.convergence.specs.Written.{AsksLawfully, Becomes, WritesNowhere, is_push}
 use Rattle.convergence.proofs.Opened.{opened_shown}

@@ -1,6 +1,6 @@
 -- A run of a network in which two passes alone write is a crossing of the two.
 use Rattle.std.proofs.Common.{◌≡◌, ◌≢◌, ◌≤◌, ◌⊎◌, ⊎_elim, inl, inr, ℕ, Bool, true, false, List, [], ◌∷◌, ◌++◌, Option, Some, None, refl, sym, ap, ◌∙◌, subst}
-use Rattle.std.specs.Prelude.{IfSome, ⊤}
+use Rattle.std.specs.Prelude.{IfSome}
 use Rattle.std.specs.Coded.{Coded-set, coded_list, coded_option}
 use Rattle.std.proofs.Math.Bool.{Bool-set}
 use Rattle.std.proofs.Math.Logic.{∥∥₁_elim}
@@ -14,15 +14,15 @@ use Rattle.store.specs.Database.{Database, history_at}
 use Rattle.node.specs.Runs.{Steps}
 use Rattle.hub.specs.Arrival.{Arrival, fault_on, request_on}
 use Rattle.repl.specs.Configuration.{Configuration}
-use Rattle.repl.specs.Passes.{Asked, Pass, asked_of, done, first_pass, stopped_by, to_source, to_target}
-use Rattle.repl.specs.Turns.{Turn, after_turn}
+use Rattle.repl.specs.Passes.{Asked, Pass, asked_of, done, stopped_by, to_source, to_target}
+use Rattle.repl.specs.Turns.{after_turn}
 use Rattle.passes.specs.Owed.{listed_after}
 use Rattle.world.specs.Exchanging.{IsAskedBy, IsCarriedBy, IsMadeBy}
 use Rattle.world.specs.Happening.{Happening, Sight, comes, exchanges}
 use Rattle.world.specs.Keeping.{IsAt}
-use Rattle.world.specs.Network.{Network, Transfer, transfer_at, with_transfer}
+use Rattle.world.specs.Network.{Network, Transfer, transfer_at}
 use Rattle.world.specs.Playing.{HappensBy, PlaysBy}
-use Rattle.world.specs.Service.{Asker, HandlingOf, IsAnsweredBy, IsHandled, IsServiceBy, SeenReply, by_pass, on_connection}
+use Rattle.world.specs.Service.{Asker, IsAnsweredBy, IsHandled, IsServiceBy, SeenReply, by_pass, on_connection}
 use Rattle.world.specs.declared.fate.Fate.{Fate}
 use Rattle.world.specs.declared.fate.Fate.TheVariants.{Answered, ReplyLost, RequestLost}
 use Rattle.completion.specs.Finished.{IsTold}

@@ -116,7 +116,8 @@ at_page BulkDocuments caller a m documents task o body e f =
     let bulk : replicated documents ≡ b.first =
     (let k : Some (replicated documents) ≡ Some b.first = sym (asked_back documents) ∙ ap bulk_in (sym (body l.first l.was)) ∙ was_named Body (bulk_in l.first) b.first b.was in cc) in
     let done : bulk_done caller (replicated documents) (outcomes terms false (history_at w.db) documents) ≡ w.done =
-    ap (λ (x : Bulk). bulk_done caller x (outcomes terms x.new_edits (history_at w.db) x.documents)) bulk ∙ same {A = Done} _ w.done b.then in
+    ap (λ (x : Bulk). bulk_done caller x (outcomes terms x.new_edits (history_at w.db) x.documents)) bulk
+    ∙ same {A = Done} (bulk_done caller b.first (outcomes terms b.first.new_edits (history_at w.db) b.first.documents)) w.done b.then in
     inr (record {
       name = w.name;
       db = w.db;

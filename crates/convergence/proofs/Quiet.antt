@@ -358,6 +358,9 @@ no_writes : (terms : Terms) (new_edits : Bool) (histories : Histories) (ts : Lis
 no_writes terms new_edits histories [] = refl
 no_writes terms new_edits histories (t ∷ ts) = no_writes terms new_edits histories ts
 
+none_written : (terms : Terms) (new_edits : Bool) (histories : Histories) (vs : List Value) (ts : List (List ℕ)) → vs ≡ map text ts → writes_in (outcomes terms new_edits histories vs) ≡ []
+none_written terms new_edits histories vs ts is = subst (λ (xs : List Value). writes_in (outcomes terms new_edits histories xs) ≡ []) (sym is) (no_writes terms new_edits histories ts)
+
 bulk_documents : (good : Bool) (new_edits : Option Bool) (documents : Option (List Value)) (bulk : Bulk) → cond good (bulk_by new_edits documents) None ≡ Some bulk → documents ≡ Some bulk.documents
 bulk_documents false new_edits documents bulk e = absurd cc
 bulk_documents true None documents bulk e = absurd cc
@@ -377,9 +380,7 @@ quiet_documents caller m name ms body texts db d e =
     let asked : bulk_in (object ms) ≡ Some b.first = ap bulk_in (sym (body l.first l.was)) ∙ was_named Body (bulk_in l.first) b.first b.was in
     let documents = bulk_documents _ (new_edits_in (member_at (codes "new_edits") ms)) (documents_in (member_at (codes "docs") ms)) b.first asked in
     let listed = texts_listed (member_at (codes "docs") ms) b.first.documents (texts_at (codes "docs") ms texts) documents in
-    let terms = terms_in caller name db in
-    let none : writes_in (outcomes terms b.first.new_edits (history_at db) b.first.documents) ≡ [] =
-    subst (λ (vs : List Value). writes_in (outcomes terms b.first.new_edits (history_at db) vs) ≡ []) (sym listed.1) (no_writes terms b.first.new_edits (history_at db) listed.0) in
+    let none = none_written (terms_in caller name db) b.first.new_edits (history_at db) b.first.documents listed.0 listed.1 in
     subst (λ (x : Done). WritesNothing x.effect) (same {A = Done} _ d b.then) none
 
 no_declaration : (caller : auth.Identity) (m : Message) (name : List ℕ) (ms : Members) → HasBody m ms → index_in (object ms) ≡ None → IsQuietWork (index_written caller m name)

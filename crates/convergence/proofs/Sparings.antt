@@ -29,15 +29,13 @@ use Rattle.world.specs.Playing.{HappensBy, PlaysBy}
 use Rattle.world.specs.Service.{Asker, HandlingOf, IsHandled}
 use Rattle.world.specs.declared.fate.Fate.{Fate}
 use Rattle.completion.specs.Parted.{with_pass}
-use Rattle.completion.specs.Requests.{Handled}
-use Rattle.completion.specs.Runs.{Run}
 use Rattle.completion.proofs.Again.{run_again}
 use Rattle.completion.proofs.Places.{got_before, set_before}
 use Rattle.convergence.specs.Appended.{KeepsDocuments}
 use Rattle.convergence.specs.Networks.{BecomesAt, IsOneOf, KeepsBoth, LaterStartsChangeNothing, Only, RunsOfTheTwo, Spares, SparingRuns}
 use Rattle.convergence.specs.Written.{Becomes, WritesNowhere}
 use Rattle.convergence.proofs.Handlings.{Nodes, anywhere, elsewhere, here}
-use Rattle.convergence.proofs.Quiet.{IsQuiet, nowhere, put_elsewhere, quiet_get, quiet_step, same_documents}
+use Rattle.convergence.proofs.Quiet.{nowhere, put_elsewhere, quiet_get, quiet_step, same_documents}
 
 pub of_the_two : RunsOfTheTwo
 of_the_two p q t old new run h =
@@ -94,13 +92,12 @@ pub sparing : SparingRuns
 sparing p q t old new run h =
     run_again (λ who. IsHandled Steps) (Only p q t)
     (λ r. IsOneOf p q r.who ⊎ (Spares t.from t.pass.configuration.source_db r × Spares t.to t.pass.configuration.target_db r))
-    (λ who a place m r b handled theirs.
-        (
-          handled,
-          ⊎_elim (λ one. inl one)
+    (λ who a place m r b handled theirs. (
+      handled,
+      ⊎_elim (λ one. inl one)
           (λ both. inr (spared_at who a place m r b handled t.from t.pass.configuration.source_db (cases_eq t.from place) both.0, spared_at who a place m r b handled t.to t.pass.configuration.target_db (cases_eq t.to place) both.1))
           theirs,
-        )) old new run h
+    )) old new run h
 
 -- ---- a pass that is started later
 

@@ -1,5 +1,5 @@
 -- An exchange of a pass is a turn of it.
-use Rattle.std.proofs.Common.{◌≡◌, ◌≢◌, ◌⊎◌, inl, inr, ℕ, Bool, true, false, List, [], ◌∷◌, Option, Some, None, refl, sym, ap, ◌∙◌, subst}
+use Rattle.std.proofs.Common.{◌≡◌, ◌≢◌, ◌⊎◌, inl, inr, ℕ, Bool, true, false, List, refl, sym, ap, ◌∙◌, subst}
 use Rattle.std.specs.Prelude.{⊤}
 use Rattle.couch_http.specs.Message.{Message}
 use Rattle.couch_http.specs.Reply.{Reply}
@@ -8,7 +8,7 @@ use Rattle.store.specs.Database.{Database}
 use Rattle.node.specs.Runs.{Steps}
 use Rattle.repl.specs.Calls.{compare_revisions, list_changes, open_revisions, read_checkpoint, request_of, write_checkpoint}
 use Rattle.repl.specs.Checkpoints.{checkpoint_id}
-use Rattle.repl.specs.Passes.{Asked, Pass, answered_in, answered_of, asked_by, asked_of, checkpoint_after, first_of_pending, lost_of, step_in}
+use Rattle.repl.specs.Passes.{Pass, answered_in, asked_by, checkpoint_after, first_of_pending, lost_of, step_in}
 use Rattle.repl.specs.Turns.{Turn, after_turn, answered, lost}
 use Rattle.repl.specs.declared.phase.Phase.{Phase}
 use Rattle.repl.specs.declared.phase.Phase.TheVariants.{ReadSource, ReadTarget, ListChanges, Compare, Open, Push, WriteSource, WriteTarget, RereadSource, RereadTarget, Done, Stopped}
@@ -17,7 +17,7 @@ use Rattle.passes.specs.Owed.{IsTruth, SaysTruth, Scene, listed_after}
 use Rattle.world.specs.Exchanging.{IsAskedBy, IsCarriedBy, IsMadeBy}
 use Rattle.world.specs.Happening.{Sight}
 use Rattle.world.specs.Keeping.{IsAt}
-use Rattle.world.specs.Network.{Network, Transfer, transfer_at, with_transfer}
+use Rattle.world.specs.Network.{Network, Transfer, with_transfer}
 use Rattle.world.specs.Service.{Asker, HandlingOf, IsHandled, by_pass}
 use Rattle.world.specs.declared.fate.Fate.{Fate}
 use Rattle.world.specs.declared.fate.Fate.TheVariants.{Answered, ReplyLost, RequestLost}
@@ -25,7 +25,6 @@ use Rattle.completion.specs.Finished.{IsTold, database_at}
 use Rattle.completion.proofs.Keepings.{LawfulAt, at_found}
 use Rattle.completion.proofs.Sound.{IsSound, asks_lawfully, lost_sound}
 use Rattle.completion.proofs.Truths.{IsHandledFor, taken_rightly}
-use Rattle.convergence.specs.Appended.{Appends, KeepsDocuments}
 use Rattle.convergence.specs.Crossing.{BringsShown, IsTurn, pushed_in}
 use Rattle.convergence.proofs.Handlings.{BothBecome, Nodes, appends_none, opens_shown, pushed, quiet}
 use Rattle.convergence.proofs.Quiet.{same_documents}
