@@ -22,7 +22,7 @@ use Rattle.repl.proofs.LossLemmas.{lost_by}
 use Rattle.passes.specs.Owed.{Event, Follows, Goes, Scene, Went, listed_after, others as others_write, turn}
 use Rattle.passes.specs.Settled.{is_reported}
 use Rattle.passes.proofs.Rounds.{owes_nothing}
-use Rattle.convergence.specs.Agreement.{Agrees, HaveSameLeaves, LeavesAreKnown}
+use Rattle.convergence.specs.Agreement.{Agrees, HaveSameTree, LeavesAreKnown}
 use Rattle.convergence.specs.Appended.{Appends, ComesFrom, IsReplica, IsSaidByOne, IsShownBy, KeepsDocuments}
 use Rattle.convergence.specs.Converged.{HasCopiedAll, TwoPassesConverge}
 use Rattle.convergence.specs.Crossing.{BringsShown, Crossed, Crosses, Crossing, IsTurn, Move, Moves, Waits, back_of, goes_back, goes_there, others, pushed_in, there_of}
@@ -369,16 +369,16 @@ all_known c es now vs went ended side target agree id r known =
     (side.known id r known)
 
 same_leaves : (a b : Database) → IsSound a → IsSound b → Agree a b → (id : List ℕ) → ((r : Revision) → is_known (history_at a id) r ≡ is_known (history_at b id) r)
-    → HaveSameLeaves (history_at a id) (history_at b id)
+    → HaveSameTree (history_at a id) (history_at b id)
 same_leaves a b sound_a sound_b agree id same = by (past_at a sound_a id) (past_at b sound_b id)
   where
-    by : ((ws : List Write) × AreWritten ws × (history_at a id ≡ content_of ws)) → ((vs : List Write) × AreWritten vs × (history_at b id ≡ content_of vs)) → HaveSameLeaves (history_at a id) (history_at b id)
+    by : ((ws : List Write) × AreWritten ws × (history_at a id ≡ content_of ws)) → ((vs : List Write) × AreWritten vs × (history_at b id ≡ content_of vs)) → HaveSameTree (history_at a id) (history_at b id)
     by (ws, lawful_a, is_a) (vs, lawful_b, is_b) =
         let agrees : Agrees (content_of ws) (content_of vs) = subst (λ (h : HistoryContent). Agrees h (content_of vs)) is_a (subst (λ (k : HistoryContent). Agrees (history_at a id) k) is_b (agree id)) in
         let known : (r : Revision) → is_known (content_of ws) r ≡ is_known (content_of vs) r =
         λ r. ap (λ (h : HistoryContent). is_known h r) (sym is_a) ∙ same r ∙ ap (λ (h : HistoryContent). is_known h r) is_b in
-        subst (λ (h : HistoryContent). HaveSameLeaves h (history_at b id)) (sym is_a)
-        (subst (λ (k : HistoryContent). HaveSameLeaves (content_of ws) k) (sym is_b) (meeting ws vs lawful_a lawful_b agrees known))
+        subst (λ (h : HistoryContent). HaveSameTree h (history_at b id)) (sym is_a)
+        (subst (λ (k : HistoryContent). HaveSameTree (content_of ws) k) (sym is_b) (meeting ws vs lawful_a lawful_b agrees known))
 
 pub two_converge : TwoPassesConverge
 two_converge c d ms now went one other agree there back id =

@@ -12,7 +12,7 @@ use Rattle.tree.proofs.LawfulContents.{rooted}
 use Rattle.tree.proofs.Leaves.{leaf_alike, leaf_is_childless, leaf_is_held, leaves_same, winner_same}
 use Rattle.tree.proofs.RevisionText.{parts}
 use Rattle.tree.proofs.Shown.{is_known_writes, whole_counts}
-use Rattle.convergence.specs.Agreement.{Agrees, HaveSameLeaves, LeavesAreKnown}
+use Rattle.convergence.specs.Agreement.{Agrees, HaveSameTree, LeavesAreKnown}
 
 -- ---- truth values
 
@@ -103,7 +103,7 @@ both_held (Some d) None x y one = absurd cc
 both_held (Some d) (Some e) x y one = ap Some (one d e refl refl)
 
 pub meeting : (ws vs : List Write) → IsLawful ws → IsLawful vs → Agrees (content_of ws) (content_of vs) → ((r : Revision) → is_known (content_of ws) r ≡ is_known (content_of vs) r)
-    → HaveSameLeaves (content_of ws) (content_of vs)
+    → HaveSameTree (content_of ws) (content_of vs)
 meeting ws vs lawful_ws lawful_vs agrees same =
     let h = content_of ws in
     let k = content_of vs in
@@ -111,10 +111,10 @@ meeting ws vs lawful_ws lawful_vs agrees same =
     let held : (r : Revision) → IsTrue (is_leaf h r) → held_of h r ≡ held_of k r =
     λ r leaf. both_held (held_of h r) (held_of k r) (leaf_is_held ws lawful_ws r leaf) (leaf_is_held vs lawful_vs r (leaf_alike h k same parents r leaf)) (agrees.held r) in
     let alike : LooksAlike h k = record { known = same; parents = parents; marks = λ r leaf. ap is_deleted (held r leaf) } in
-    record { known = same; leaves = leaves_same h k alike; winner = winner_same h k alike; held = held }
+    record { known = same; parents = parents; leaves = leaves_same h k alike; winner = winner_same h k alike; held = held }
 
 pub leaves_meet : (ws vs : List Write) → IsLawful ws → IsLawful vs → Agrees (content_of ws) (content_of vs) → LeavesAreKnown (content_of ws) (content_of vs)
-    → LeavesAreKnown (content_of vs) (content_of ws) → HaveSameLeaves (content_of ws) (content_of vs)
+    → LeavesAreKnown (content_of vs) (content_of ws) → HaveSameTree (content_of ws) (content_of vs)
 leaves_meet ws vs lawful_ws lawful_vs agrees there back =
     meeting ws vs lawful_ws lawful_vs agrees
     (λ r. both_true (is_known (content_of ws) r) (is_known (content_of vs) r)

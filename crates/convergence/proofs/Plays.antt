@@ -26,15 +26,14 @@ use Rattle.world.specs.Service.{Asker, IsAnsweredBy, IsHandled, IsServiceBy, See
 use Rattle.world.specs.declared.fate.Fate.{Fate}
 use Rattle.world.specs.declared.fate.Fate.TheVariants.{Answered, ReplyLost, RequestLost}
 use Rattle.completion.specs.Finished.{IsTold}
-use Rattle.completion.specs.Runs.{Run}
 use Rattle.completion.proofs.Keepings.{LawfulAt, all_lawful}
 use Rattle.completion.proofs.Places.{one_transfer, passed_elsewhere, passed_here}
 use Rattle.completion.proofs.Sound.{IsSound as IsSoundPass, first_sound}
-use Rattle.convergence.specs.Agreement.{HaveSameLeaves}
+use Rattle.convergence.specs.Agreement.{HaveSameTree}
 use Rattle.convergence.specs.Appended.{KeepsDocuments}
 use Rattle.convergence.specs.Converged.{HasCopiedAll}
 use Rattle.convergence.specs.Crossing.{Crossed, Crosses, Crossing, Move, goes_back, goes_there, others}
-use Rattle.convergence.specs.Networks.{AreEnds, AreStarted, BecomesAt, HasEnded, IsOneOf, KeepsBoth, Only, PassesOfANetworkConverge}
+use Rattle.convergence.specs.Networks.{AreAhead, AreEnds, AreOpposite, BecomesAt, Course, HasEnded, IsAhead, IsArranged, IsOneOf, KeepsBoth, Only, PassesOfANetworkConverge, Stage, StaysOrStarts, arranges, runs}
 use Rattle.convergence.specs.Sound.{Agree, IsReplicable, IsSound}
 use Rattle.convergence.proofs.Handlings.{Nodes, lawful_after, one_at}
 use Rattle.convergence.proofs.Quiet.{same_documents}
@@ -116,19 +115,21 @@ asked_passes p q t fate old new number x (stopped_by why s) seen not_p not_q i =
 
 -- ---- where the two passes stand
 
--- the ends of the pass back are those of the pass there
-record AreOpposite (t u : Transfer) : Type 0 where
-  from : u.from ≡ t.to
-  to : u.to ≡ t.from
-  source : u.pass.configuration.source_db ≡ t.pass.configuration.target_db
-  target : u.pass.configuration.target_db ≡ t.pass.configuration.source_db
-  apart : t.from ≡ t.to → t.pass.configuration.source_db ≢ t.pass.configuration.target_db
-  there_told : IsTold t.pass.configuration
-  back_told : IsTold u.pass.configuration
+-- a pass under its number, or one that is still to be started
+abbrev IsHere : Transfer → Pass → Option Transfer → Type 0
+IsHere t pass there = (there ≡ Some (record t { pass = pass })) ⊎ ((there ≡ None) × (pass ≡ t.pass))
+
+-- where there is a pass under the number, it is this one
+present : (t : Transfer) (pass : Pass) (x : Transfer) (there : Option Transfer) → IsHere t pass there → there ≡ Some x → there ≡ Some (record t { pass = pass })
+present t pass x there (inl e) is = e
+present t pass x there (inr none) is = absurd (let k : (let y : Option Transfer = None in y) ≡ Some x = sym none.0 ∙ is in cc)
+
+here_still : (t : Transfer) (pass : Pass) (before after : Option Transfer) → after ≡ before → IsHere t pass before → IsHere t pass after
+here_still t pass before after e h = subst (IsHere t pass) (sym e) h
 
 record Stand (p q : ℕ) (t u : Transfer) (now : Network Contents) (c : Crossing) : Type 0 where
-  there : transfer_at now.transfers p ≡ Some (record t { pass = c.there })
-  back : transfer_at now.transfers q ≡ Some (record u { pass = c.back })
+  there : IsHere t c.there (transfer_at now.transfers p)
+  back : IsHere u c.back (transfer_at now.transfers q)
   there_same : c.there.configuration ≡ t.pass.configuration
   back_same : c.back.configuration ≡ u.pass.configuration
   there_sound : IsSoundPass c.there
@@ -164,8 +165,8 @@ module _ (p q : ℕ) (t u : Transfer) where
         crossing = after;
         crosses = (after, (a.2, b.2, (refl, refl), (refl, refl)), refl);
         stand = record {
-          there = there ∙ s.there;
-          back = back ∙ s.back;
+          there = here_still t c.there (transfer_at old.transfers p) (transfer_at new.transfers p) there s.there;
+          back = here_still u c.back (transfer_at old.transfers q) (transfer_at new.transfers q) back s.back;
           there_same = s.there_same;
           back_same = s.back_same;
           there_sound = s.there_sound;
@@ -180,8 +181,8 @@ module _ (p q : ℕ) (t u : Transfer) where
   no_move old new c e s = record { moves = []; crossing = c; crosses = refl; stand = subst (λ (x : Network Contents). Stand p q t u x c) (sym e) s }
 
   -- the pass there has a turn
-  there_move : (old new : Network Contents) (c : Crossing) → p ≢ q → Stand p q t u old c → HasTurned p (record t { pass = c.there }) old new c.one c.other c.one_listed → Next p q t u new c
-  there_move old new c apart s h =
+  there_move : (old new : Network Contents) (c : Crossing) → p ≢ q → transfer_at old.transfers p ≡ Some (record t { pass = c.there }) → Stand p q t u old c → HasTurned p (record t { pass = c.there }) old new c.one c.other c.one_listed → Next p q t u new c
+  there_move old new c apart at s h =
       let listed = listed_after c.there.phase c.one c.one_listed h.turn in
       let pass = after_turn c.there h.turn in
       let after : Crossing = record c { one = h.source_now; other = h.target_now; there = pass; one_listed = listed } in
@@ -190,8 +191,9 @@ module _ (p q : ℕ) (t u : Transfer) where
         crossing = after;
         crosses = (after, (h.is, (refl, refl)), refl);
         stand = record {
-          there = ap (λ (ts : List Transfer). transfer_at ts p) h.transfers ∙ passed_here old.transfers p (record t { pass = c.there }) (record t { pass = pass }) s.there;
-          back = ap (λ (ts : List Transfer). transfer_at ts q) h.transfers ∙ passed_elsewhere old.transfers p q (record t { pass = pass }) (λ e. apart (sym e)) ∙ s.back;
+          there = inl (ap (λ (ts : List Transfer). transfer_at ts p) h.transfers ∙ passed_here old.transfers p (record t { pass = c.there }) (record t { pass = pass }) at);
+          back = here_still u c.back (transfer_at old.transfers q) (transfer_at new.transfers q)
+              (ap (λ (ts : List Transfer). transfer_at ts q) h.transfers ∙ passed_elsewhere old.transfers p q (record t { pass = pass }) (λ e. apart (sym e))) s.back;
           there_same = turn_configured c.there h.turn ∙ s.there_same;
           back_same = s.back_same;
           there_sound = h.sound;
@@ -203,8 +205,8 @@ module _ (p q : ℕ) (t u : Transfer) where
       }
 
   -- the pass back has a turn
-  back_move : (old new : Network Contents) (c : Crossing) → AreOpposite t u → p ≢ q → Stand p q t u old c → HasTurned q (record u { pass = c.back }) old new c.other c.one c.other_listed → Next p q t u new c
-  back_move old new c o apart s h =
+  back_move : (old new : Network Contents) (c : Crossing) → AreOpposite t u → p ≢ q → transfer_at old.transfers q ≡ Some (record u { pass = c.back }) → Stand p q t u old c → HasTurned q (record u { pass = c.back }) old new c.other c.one c.other_listed → Next p q t u new c
+  back_move old new c o apart at s h =
       let listed = listed_after c.back.phase c.other c.other_listed h.turn in
       let pass = after_turn c.back h.turn in
       let after : Crossing = record c { one = h.target_now; other = h.source_now; back = pass; other_listed = listed } in
@@ -213,8 +215,9 @@ module _ (p q : ℕ) (t u : Transfer) where
         crossing = after;
         crosses = (after, (h.is, (refl, refl)), refl);
         stand = record {
-          there = ap (λ (ts : List Transfer). transfer_at ts p) h.transfers ∙ passed_elsewhere old.transfers q p (record u { pass = pass }) apart ∙ s.there;
-          back = ap (λ (ts : List Transfer). transfer_at ts q) h.transfers ∙ passed_here old.transfers q (record u { pass = c.back }) (record u { pass = pass }) s.back;
+          there = here_still t c.there (transfer_at old.transfers p) (transfer_at new.transfers p)
+              (ap (λ (ts : List Transfer). transfer_at ts p) h.transfers ∙ passed_elsewhere old.transfers q p (record u { pass = pass }) apart) s.there;
+          back = inl (ap (λ (ts : List Transfer). transfer_at ts q) h.transfers ∙ passed_here old.transfers q (record u { pass = c.back }) (record u { pass = pass }) at);
           there_same = s.there_same;
           back_same = turn_configured c.back h.turn ∙ s.back_same;
           there_sound = s.there_sound;
@@ -229,9 +232,9 @@ module _ (p q : ℕ) (t u : Transfer) where
   handled who old place m r new h = h.0
 
   -- an exchange of the pass there
-  there_asks : (fate : Fate) (old new : Network Contents) (c : Crossing) (seen : List Sight) → AreOpposite t u → p ≢ q → Stand p q t u old c
+  there_asks : (fate : Fate) (old new : Network Contents) (c : Crossing) (seen : List Sight) → AreOpposite t u → p ≢ q → transfer_at old.transfers p ≡ Some (record t { pass = c.there }) → Stand p q t u old c
       → IsAskedBy (Only p q t) fate old p (record t { pass = c.there }) (asked_of c.there) seen new → Next p q t u new c
-  there_asks fate old new c seen o apart s i =
+  there_asks fate old new c seen o apart at s i =
       let x : Transfer = record t { pass = c.there } in
       let told = subst IsTold (sym s.there_same) o.there_told in
       let distinct : t.from ≡ t.to → c.there.configuration.source_db ≢ c.there.configuration.target_db = subst (λ (k : Configuration). t.from ≡ t.to → k.source_db ≢ k.target_db) (sym s.there_same) o.apart in
@@ -239,13 +242,13 @@ module _ (p q : ℕ) (t u : Transfer) where
       let other : IsAt old.nodes t.to c.there.configuration.target_db c.other = subst (λ (k : Configuration). IsAt old.nodes t.to k.target_db c.other) (sym s.there_same) s.other in
       ⊎_elim
       (λ e. no_move old new c e s)
-      (λ h. there_move old new c apart s (has_turned p x old new c.one c.other c.one_listed s.lawful one other h))
+      (λ h. there_move old new c apart at s (has_turned p x old new c.one c.other c.one_listed s.lawful one other h))
       (turned (Only p q t) handled fate old new p x seen told distinct s.lawful s.there_sound c.there.phase i)
 
   -- an exchange of the pass back
-  back_asks : (fate : Fate) (old new : Network Contents) (c : Crossing) (seen : List Sight) → AreOpposite t u → p ≢ q → Stand p q t u old c
+  back_asks : (fate : Fate) (old new : Network Contents) (c : Crossing) (seen : List Sight) → AreOpposite t u → p ≢ q → transfer_at old.transfers q ≡ Some (record u { pass = c.back }) → Stand p q t u old c
       → IsAskedBy (Only p q t) fate old q (record u { pass = c.back }) (asked_of c.back) seen new → Next p q t u new c
-  back_asks fate old new c seen o apart s i =
+  back_asks fate old new c seen o apart at s i =
       let x : Transfer = record u { pass = c.back } in
       let told = subst IsTold (sym s.back_same) o.back_told in
       let distinct : u.from ≡ u.to → c.back.configuration.source_db ≢ c.back.configuration.target_db =
@@ -256,7 +259,7 @@ module _ (p q : ℕ) (t u : Transfer) where
       let one = at_moved old.nodes t.from u.to t.pass.configuration.source_db c.back.configuration.target_db c.one (sym o.to) (sym (ap (λ (k : Configuration). k.target_db) s.back_same ∙ o.target)) s.one in
       ⊎_elim
       (λ e. no_move old new c e s)
-      (λ h. back_move old new c o apart s (has_turned q x old new c.other c.one c.other_listed s.lawful other one h))
+      (λ h. back_move old new c o apart at s (has_turned q x old new c.other c.one c.other_listed s.lawful other one h))
       (turned (Only p q t) handled fate old new q x seen told distinct s.lawful s.back_sound c.back.phase i)
 
   exchange_moves : (number : ℕ) (fate : Fate) (old new : Network Contents) (c : Crossing) (seen : List Sight) (x : Transfer) → AreOpposite t u → p ≢ q → Stand p q t u old c
@@ -265,15 +268,17 @@ module _ (p q : ℕ) (t u : Transfer) where
     where
       as_there : number ≡ p → Next p q t u new c
       as_there e =
-          let same : x ≡ record t { pass = c.there } = one_transfer x (record t { pass = c.there }) (sym there ∙ ap (transfer_at old.transfers) e ∙ s.there) in
-          there_asks fate old new c seen o apart s
+          let at = present t c.there x (transfer_at old.transfers p) s.there (ap (transfer_at old.transfers) (sym e) ∙ there) in
+          let same : x ≡ record t { pass = c.there } = one_transfer x (record t { pass = c.there }) (sym there ∙ ap (transfer_at old.transfers) e ∙ at) in
+          there_asks fate old new c seen o apart at s
           (subst (λ (y : Transfer). IsAskedBy (Only p q t) fate old p y (asked_of y.pass) seen new) same
           (subst (λ (n : ℕ). IsAskedBy (Only p q t) fate old n x (asked_of x.pass) seen new) e i))
 
       as_back : number ≡ q → Next p q t u new c
       as_back e =
-          let same : x ≡ record u { pass = c.back } = one_transfer x (record u { pass = c.back }) (sym there ∙ ap (transfer_at old.transfers) e ∙ s.back) in
-          back_asks fate old new c seen o apart s
+          let at = present u c.back x (transfer_at old.transfers q) s.back (ap (transfer_at old.transfers) (sym e) ∙ there) in
+          let same : x ≡ record u { pass = c.back } = one_transfer x (record u { pass = c.back }) (sym there ∙ ap (transfer_at old.transfers) e ∙ at) in
+          back_asks fate old new c seen o apart at s
           (subst (λ (y : Transfer). IsAskedBy (Only p q t) fate old q y (asked_of y.pass) seen new) same
           (subst (λ (n : ℕ). IsAskedBy (Only p q t) fate old n x (asked_of x.pass) seen new) e i))
 
@@ -295,6 +300,34 @@ module _ (p q : ℕ) (t u : Transfer) where
       let l = play_moves hs between new k.crossing rest o apart k.stand later in
       record { moves = k.moves ++ l.moves; crossing = l.crossing; crosses = crosses_more k.moves l.moves c k.crossing l.crossing k.crosses l.crosses; stand = l.stand }
 
+  -- ---- courses
+
+  here_now : (v : Transfer) (pass : Pass) (before after : Option Transfer) → StaysOrStarts v before after → IsHere v pass before → IsHere v pass after
+  here_now v pass before after (inl e) h = here_still v pass before after e h
+  here_now v pass before after (inr k) (inl e) = absurd (let x : (let y : Option Transfer = None in y) ≡ Some (record v { pass = pass }) = sym k.0 ∙ e in cc)
+  here_now v pass before after (inr k) (inr none) = inl (k.1 ∙ ap (λ (y : Pass). Some (record v { pass = y })) (sym none.1))
+
+  arranged_stand : (old new : Network Contents) (c : Crossing) → IsArranged p q t u old new → Stand p q t u old c → Stand p q t u new c
+  arranged_stand old new c k s = record {
+    there = here_now t c.there (transfer_at old.transfers p) (transfer_at new.transfers p) k.there s.there;
+    back = here_now u c.back (transfer_at old.transfers q) (transfer_at new.transfers q) k.back s.back;
+    there_same = s.there_same;
+    back_same = s.back_same;
+    there_sound = s.there_sound;
+    back_sound = s.back_sound;
+    lawful = subst LawfulAt (sym k.nodes) s.lawful;
+    one = subst (λ (n : Nodes). IsAt n t.from t.pass.configuration.source_db c.one) (sym k.nodes) s.one;
+    other = subst (λ (n : Nodes). IsAt n t.to t.pass.configuration.target_db c.other) (sym k.nodes) s.other;
+  }
+
+  course_moves : (ss : List Stage) (old new : Network Contents) (c : Crossing) → AreOpposite t u → p ≢ q → Stand p q t u old c → Course p q t u ss old new → Next p q t u new c
+  course_moves [] old new c o apart s i = no_move old new c i s
+  course_moves (runs ∷ ss) old new c o apart s (between, run, later) =
+      let k = play_moves run.happenings old between c run.seen o apart s run.played in
+      let l = course_moves ss between new k.crossing o apart k.stand later in
+      record { moves = k.moves ++ l.moves; crossing = l.crossing; crosses = crosses_more k.moves l.moves c k.crossing l.crossing k.crosses l.crosses; stand = l.stand }
+  course_moves (arranges ∷ ss) old new c o apart s (between, here, later) = course_moves ss between new c o apart (arranged_stand old between c here s) later
+
 -- ---- from the start to the end
 
 -- the lawful databases of the nodes, and plain bodies and revisions that can be written
@@ -310,75 +343,65 @@ batch_told (Some size) h = h.0
 same_transfer : (a b : Transfer) → (let x : Option Transfer = Some a in x) ≡ Some b → a ≡ b
 same_transfer a b e = cc
 
-opposite : (p q : ℕ) (t u : Transfer) (old : Network Contents) → AreStarted p q t u old → AreOpposite t u
-opposite p q t u old s = record {
-  from = s.from;
-  to = s.to;
-  source = s.source;
-  target = s.target;
-  apart = s.apart;
-  there_told = s.there_told;
-  back_told = s.back_told;
-}
-
--- a pass isn't its own way back
-two_passes : (p q : ℕ) (t u : Transfer) (old : Network Contents) → AreStarted p q t u old → p ≢ q
-two_passes p q t u old s e =
-    let same : t ≡ u = same_transfer t u (sym s.there ∙ ap (transfer_at old.transfers) e ∙ s.back) in
-    s.apart (ap (λ (x : Transfer). x.from) same ∙ s.from) (ap (λ (x : Transfer). x.pass.configuration.source_db) same ∙ s.source)
-
 abbrev first_crossing : Transfer → Transfer → Database → Database → Crossing
 first_crossing t u a b = record { one = a; other = b; there = t.pass; back = u.pass; one_listed = a; other_listed = b }
 
-stands_first : (p q : ℕ) (t u : Transfer) (old : Network Contents) (a b : Database) → AreStarted p q t u old → LawfulAt old.nodes → AreEnds t old a b → Stand p q t u old (first_crossing t u a b)
-stands_first p q t u old a b s lawful ends = record {
-  there = s.there;
-  back = s.back;
+here_first : (t : Transfer) (there : Option Transfer) → IsAhead t there → IsHere t t.pass there
+here_first t there (inl e) = inl e
+here_first t there (inr e) = inr (e, refl)
+
+stands_first : (p q : ℕ) (t u : Transfer) (old : Network Contents) (a b : Database) → AreOpposite t u → AreAhead p q t u old → LawfulAt old.nodes → AreEnds t old a b
+    → Stand p q t u old (first_crossing t u a b)
+stands_first p q t u old a b o s lawful ends = record {
+  there = here_first t (transfer_at old.transfers p) s.there;
+  back = here_first u (transfer_at old.transfers q) s.back;
   there_same = refl;
   back_same = refl;
-  there_sound = subst IsSoundPass (sym s.there_first) (first_sound t.pass.configuration);
-  back_sound = subst IsSoundPass (sym s.back_first) (first_sound u.pass.configuration);
+  there_sound = subst IsSoundPass (sym o.there_first) (first_sound t.pass.configuration);
+  back_sound = subst IsSoundPass (sym o.back_first) (first_sound u.pass.configuration);
   lawful = lawful;
   one = ends.source;
   other = ends.target;
 }
 
-copied : (n : ℕ) (now : Network Contents) (t : Transfer) (p : Pass) → transfer_at now.transfers n ≡ Some (record t { pass = p }) → HasEnded n now → HasCopiedAll p
+copied : (n : ℕ) (now : Network Contents) (t : Transfer) (p : Pass) → IsHere t p (transfer_at now.transfers n) → HasEnded n now → HasCopiedAll p
 copied n now t p there ended =
-    let same : ended.transfer ≡ record t { pass = p } = same_transfer ended.transfer (record t { pass = p }) (sym ended.there ∙ there) in
+    let at = present t p ended.transfer (transfer_at now.transfers n) there ended.there in
+    let same : ended.transfer ≡ record t { pass = p } = one_transfer ended.transfer (record t { pass = p }) (sym ended.there ∙ at) in
     subst (λ (x : Transfer). HasCopiedAll x.pass) same ended.copied
 
-lawfully : (p q : ℕ) (t u : Transfer) (old new : Network Contents) (a b one other : Database) → AreStarted p q t u old → Run (Only p q t) old new → AreEnds t old a b → IsReplicable a
-    → IsReplicable b → Agree a b → HasEnded p new → HasEnded q new
-    → AreEnds t new one other → (id : List ℕ) → LawfulAt old.nodes → HaveSameLeaves (history_at one id) (history_at other id)
-lawfully p q t u old new a b one other s run ends clean_a clean_b agree there back now id lawful =
+lawfully : (p q : ℕ) (t u : Transfer) (ss : List Stage) (old new : Network Contents) (a b one other : Database) → AreOpposite t u → AreAhead p q t u old → Course p q t u ss old new
+    → AreEnds t old a b → IsReplicable a → IsReplicable b → Agree a b → HasEnded p new → HasEnded q new → AreEnds t new one other → (id : List ℕ) → LawfulAt old.nodes
+    → HaveSameTree (history_at one id) (history_at other id)
+lawfully p q t u ss old new a b one other o s course ends clean_a clean_b agree there back now id lawful =
     let c = first_crossing t u a b in
-    let k = play_moves p q t u run.happenings old new c run.seen (opposite p q t u old s) (two_passes p q t u old s) (stands_first p q t u old a b s lawful ends) run.played in
+    let k = course_moves p q t u ss old new c o s.two (stands_first p q t u old a b o s lawful ends) course in
     let crossed : Crossed t.pass.configuration u.pass.configuration k.moves k.crossing = record {
       first = c;
-      there = s.there_first;
-      back = s.back_first;
+      there = o.there_first;
+      back = o.back_first;
       one_listed = refl;
       other_listed = refl;
-      there_batch = batch_told t.pass.configuration.batch s.there_told.batch;
-      back_batch = batch_told u.pass.configuration.batch s.back_told.batch;
+      there_batch = batch_told t.pass.configuration.batch o.there_told.batch;
+      back_batch = batch_told u.pass.configuration.batch o.back_told.batch;
       crosses = k.crosses;
     } in
-    let same : HaveSameLeaves (history_at k.crossing.one id) (history_at k.crossing.other id) =
+    let same : HaveSameTree (history_at k.crossing.one id) (history_at k.crossing.other id) =
     two_converge t.pass.configuration u.pass.configuration k.moves k.crossing crossed
     (sound_at old.nodes t.from t.pass.configuration.source_db a lawful ends.source clean_a)
     (sound_at old.nodes t.to t.pass.configuration.target_db b lawful ends.target clean_b) agree
     (copied p new t k.crossing.there k.stand.there there) (copied q new u k.crossing.back k.stand.back back) id in
-    subst (λ (x : Database). HaveSameLeaves (history_at x id) (history_at other id)) (one_at new.nodes t.from t.pass.configuration.source_db k.crossing.one one k.stand.one now.source)
-    (subst (λ (y : Database). HaveSameLeaves (history_at k.crossing.one id) (history_at y id)) (one_at new.nodes t.to t.pass.configuration.target_db k.crossing.other other k.stand.other now.target) same)
+    subst (λ (x : Database). HaveSameTree (history_at x id) (history_at other id)) (one_at new.nodes t.from t.pass.configuration.source_db k.crossing.one one k.stand.one now.source)
+    (subst (λ (y : Database). HaveSameTree (history_at k.crossing.one id) (history_at y id)) (one_at new.nodes t.to t.pass.configuration.target_db k.crossing.other other k.stand.other now.target) same)
 
 pub networks_converge : PassesOfANetworkConverge
-networks_converge p q t u old new a b one other s run ends clean_a clean_b agree there back now id =
+networks_converge p q t u ss old new a b one other o s course ends clean_a clean_b agree there back now id =
     let all = all_lawful old.nodes s.lawful in
-    let by : LawfulAt old.nodes → HaveSameLeaves (history_at one id) (history_at other id) =
-    λ lawful. lawfully p q t u old new a b one other s run ends clean_a clean_b agree there back now id lawful in
+    let by : LawfulAt old.nodes → HaveSameTree (history_at one id) (history_at other id) =
+    λ lawful. lawfully p q t u ss old new a b one other o s course ends clean_a clean_b agree there back now id lawful in
     record {
       known = λ r. ∥∥₁_elim all (Bool-set _ _) (λ lawful. (by lawful).known r);
+      parents = λ r. ∥∥₁_elim all (Coded-set (coded_option revision_code) _ _) (λ lawful. (by lawful).parents r);
       leaves = ∥∥₁_elim all (Coded-set (coded_list revision_code) _ _) (λ lawful. (by lawful).leaves);
       winner = ∥∥₁_elim all (Coded-set (coded_option revision_code) _ _) (λ lawful. (by lawful).winner);
       held = λ r leaf. ∥∥₁_elim all (Coded-set (coded_option held_code) _ _) (λ lawful. (by lawful).held r leaf);

@@ -1,6 +1,7 @@
 -- Runs in which the two passes alone write in their databases, told by the requests.
-use Rattle.std.proofs.Common.{◌≡◌, ◌≢◌, ◌⊎◌, ⊎_elim, inl, inr, ℕ, zero, suc, Bool, true, false, cond, List, [], ◌∷◌, ◌++◌, Option, Some, None, Result, Ok, Err, refl, sym, ap, ◌∙◌, subst}
+use Rattle.std.proofs.Common.{◌≡◌, ◌≢◌, ◌⊎◌, ◌+◌, ⊎_elim, inl, inr, ℕ, zero, suc, Bool, true, false, cond, List, [], ◌∷◌, ◌++◌, Option, Some, None, Result, Ok, Err, length, refl, sym, ap, ◌∙◌, subst, arith}
 use Rattle.std.specs.FinMap.{get, get-remove, remove}
+use Rattle.std.specs.List.{slice_get}
 use Rattle.std.specs.Cmp.Lexicographic.{slice_cmp}
 use Rattle.std.specs.Ordering.{eq_by_cmp, nat_cmp}
 use Rattle.std.proofs.lemmas.Bool.{cases_eq}
@@ -21,18 +22,11 @@ use Rattle.node.specs.Answer.{Change, Outcome, creation, inside, judgement, kept
 use Rattle.node.specs.Runs.{Steps}
 use Rattle.node.specs.Work.{with_effect}
 use Rattle.node.proofs.Tasks.{IsMade, judged_right}
-use Rattle.repl.specs.Passes.{Asked, asked_of, done, stopped_by, to_source, to_target}
-use Rattle.world.specs.Exchanging.{IsAskedBy, IsMadeBy}
-use Rattle.world.specs.Happening.{Happening, Sight, comes, exchanges}
-use Rattle.world.specs.Network.{Network, Transfer, transfer_at, with_transfer}
-use Rattle.world.specs.Playing.{HappensBy, PlaysBy}
-use Rattle.world.specs.Service.{Asker, HandlingOf, IsHandled}
-use Rattle.world.specs.declared.fate.Fate.{Fate}
-use Rattle.completion.specs.Parted.{with_pass}
+use Rattle.world.specs.Network.{Transfer, transfer_at}
+use Rattle.world.specs.Service.{Asker, IsHandled}
 use Rattle.completion.proofs.Again.{run_again}
-use Rattle.completion.proofs.Places.{got_before, set_before}
 use Rattle.convergence.specs.Appended.{KeepsDocuments}
-use Rattle.convergence.specs.Networks.{BecomesAt, IsOneOf, KeepsBoth, LaterStartsChangeNothing, Only, RunsOfTheTwo, Spares, SparingRuns}
+use Rattle.convergence.specs.Networks.{BecomesAt, CallsArrange, IsOneOf, KeepsBoth, Only, RunsOfTheTwo, Spares, SparingRuns, StaysOrStarts}
 use Rattle.convergence.specs.Written.{Becomes, WritesNowhere}
 use Rattle.convergence.proofs.Handlings.{Nodes, anywhere, elsewhere, here}
 use Rattle.convergence.proofs.Quiet.{nowhere, put_elsewhere, quiet_get, quiet_step, same_documents}
@@ -99,51 +93,20 @@ sparing p q t old new run h =
           theirs,
     )) old new run h
 
--- ---- a pass that is started later
+-- ---- what arranges
 
-module _ (handling : HandlingOf Contents) (v : Transfer) where
-  with_kept : (ts : List Transfer) (x y : Transfer) (number : ℕ) → transfer_at ts number ≡ Some x → with_transfer (ts ++ v ∷ []) number y ≡ with_transfer ts number y ++ v ∷ []
-  with_kept ts x y zero e = absurd cc
-  with_kept ts x y (suc k) e = set_before ts (v ∷ []) k x y e
+one_more : (ts : List Transfer) (v : Transfer) (n : ℕ) → (slice_get (ts ++ v ∷ []) n ≡ slice_get ts n) ⊎ ((n ≡ length ts) × (slice_get ts n ≡ None) × (slice_get (ts ++ v ∷ []) n ≡ Some v))
+one_more [] v zero = inr (refl, refl, refl)
+one_more [] v (suc n) = inl refl
+one_more (t ∷ ts) v zero = inl refl
+one_more (t ∷ ts) v (suc n) = ⊎_elim (λ e. inl e) (λ k. inr (ap suc k.0, k.1, k.2)) (one_more ts v n)
 
-  at_kept : (ts : List Transfer) (x : Transfer) (number : ℕ) → transfer_at ts number ≡ Some x → transfer_at (ts ++ v ∷ []) number ≡ Some x
-  at_kept ts x zero e = absurd cc
-  at_kept ts x (suc k) e = got_before ts (v ∷ []) k x e
+started : (ts : List Transfer) (t v : Transfer) (p : ℕ) → (p ≡ length ts + 1 → v ≡ t) → StaysOrStarts t (transfer_at ts p) (transfer_at (ts ++ v ∷ []) p)
+started ts t v zero is = inl refl
+started ts t v (suc n) is = ⊎_elim (λ e. inl e) (λ k. inr (k.1, k.2 ∙ ap (λ (x : Transfer). Some x) (is (omega (arith, k.0))))) (one_more ts v n)
 
-  made_later : (fate : Fate) (old new : Network Contents) (number : ℕ) (x : Transfer) (place : ℕ) (is_to_target : Bool) (m : Message) (seen : List Sight) → transfer_at old.transfers number ≡ Some x
-      → IsMadeBy handling fate old number x place is_to_target m seen new → IsMadeBy handling fate (with_pass v old) number x place is_to_target m seen (with_pass v new)
-  made_later fate old new number x place is_to_target m seen at i = record {
-    status = i.status;
-    nodes = i.nodes;
-    after = i.after;
-    carried = i.carried;
-    sight = i.sight;
-    left = ap (with_pass v) i.left ∙ ap (λ (ts : List Transfer). record old { nodes = i.nodes; transfers = ts }) (sym (with_kept old.transfers x (record x { pass = i.after }) number at));
-  }
-
-  asked_later : (fate : Fate) (old new : Network Contents) (number : ℕ) (x : Transfer) (asked : Asked) (seen : List Sight) → transfer_at old.transfers number ≡ Some x
-      → IsAskedBy handling fate old number x asked seen new → IsAskedBy handling fate (with_pass v old) number x asked seen (with_pass v new)
-  asked_later fate old new number x (to_source m) seen at i = made_later fate old new number x x.from false m seen at i
-  asked_later fate old new number x (to_target m) seen at i = made_later fate old new number x x.to true m seen at i
-  asked_later fate old new number x (done s) seen at i = (i.0, ap (with_pass v) i.1)
-  asked_later fate old new number x (stopped_by why s) seen at i = (i.0, ap (with_pass v) i.1)
-
-  event_later : (h : Happening) (old new : Network Contents) (seen : List Sight) → HappensBy handling old h seen new → HappensBy handling (with_pass v old) h seen (with_pass v new)
-  event_later (comes piece) old new seen (told, i, is) = (
-    told,
-    record { arrivals = i.arrivals; arrived = i.arrived; served = i.served; homes = i.homes; transfers = ap (λ (ts : List Transfer). ts ++ v ∷ []) i.transfers },
-    is,
-  )
-  event_later (exchanges number fate) old new seen i = record {
-    transfer = i.transfer;
-    there = at_kept old.transfers i.transfer number i.there;
-    asked = asked_later fate old new number i.transfer (asked_of i.transfer.pass) seen i.there i.asked;
-  }
-
-  plays_later : (hs : List Happening) (old new : Network Contents) (seen : List Sight) → PlaysBy handling old hs seen new → PlaysBy handling (with_pass v old) hs seen (with_pass v new)
-  plays_later [] old new seen i = (i.0, ap (with_pass v) i.1)
-  plays_later (h ∷ hs) old new seen (first, others, between, one, later, order) =
-      (first, others, with_pass v between, event_later h old between first one, plays_later hs between new others later, order)
-
-pub later_starts : LaterStartsChangeNothing
-later_starts p q t v old new run = record { happenings = run.happenings; seen = run.seen; played = plays_later (Only p q t) v run.happenings old new run.seen run.played }
+pub arrange : CallsArrange
+arrange = record {
+  connecting = λ p q t u old homes connections. record { nodes = refl; there = inl refl; back = inl refl };
+  starting = λ p q t u v old there back. record { nodes = refl; there = started old.transfers t v p there; back = started old.transfers u v q back };
+}

@@ -1,4 +1,4 @@
--- Histories of one document that agree in what both know; and histories that have the same leaves.
+-- Histories of one document that agree in what both know; and histories that are one tree.
 -- CouchDB manual, replication/conflicts (revision trees; replicas that have the same edits pick the same winner); the words are this project's own.
 use Rattle.std.specs.Prelude.{◌≡◌, Some, IsTrue}
 use Rattle.tree.specs.History.{HistoryContent, held_of, is_known, is_leaf, leaves, parent_of, winner}
@@ -14,9 +14,10 @@ pub record Agrees (h k : HistoryContent) : Type 0 where
 abbrev pub LeavesAreKnown : HistoryContent → HistoryContent → Type 0
 LeavesAreKnown h k = (r : Revision) → IsTrue (is_leaf h r) → IsTrue (is_known k r)
 
--- the same revisions are known, and there are the same leaves, best first, and so the same winner; of each leaf the same is held
-pub record HaveSameLeaves (h k : HistoryContent) : Type 0 where
+-- The same revisions are known, with the same parents; so there are the same leaves, best first, and the same winner. Of each leaf the same is held.
+pub record HaveSameTree (h k : HistoryContent) : Type 0 where
   pub known : (r : Revision) → is_known h r ≡ is_known k r
+  pub parents : (r : Revision) → parent_of h r ≡ parent_of k r
   pub leaves : leaves h ≡ leaves k
   pub winner : winner h ≡ winner k
   pub held : (r : Revision) → IsTrue (is_leaf h r) → held_of h r ≡ held_of k r

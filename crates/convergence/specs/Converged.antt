@@ -10,7 +10,7 @@ use Rattle.store.specs.Database.{Database, DocumentWrite, history_at, with_all}
 use Rattle.repl.specs.Configuration.{Configuration}
 use Rattle.repl.specs.Passes.{Pass}
 use Rattle.repl.specs.declared.phase.Phase.TheVariants.{Done}
-use Rattle.convergence.specs.Agreement.{Agrees, HaveSameLeaves, LeavesAreKnown}
+use Rattle.convergence.specs.Agreement.{Agrees, HaveSameTree, LeavesAreKnown}
 use Rattle.convergence.specs.Sound.{Agree, IsSound}
 use Rattle.convergence.specs.Appended.{ComesFrom, IsReplica, IsSaidBy, IsShownBy}
 use Rattle.convergence.specs.Crossing.{Crossed, Crossing, Move}
@@ -21,7 +21,7 @@ use Rattle.convergence.specs.Crossing.{Crossed, Crossing, Move}
 abbrev pub LeavesMeet : Type 0
 LeavesMeet =
     (ws vs : List tree.Write) → tree.IsLawful ws → tree.IsLawful vs → Agrees (content_of ws) (content_of vs) → LeavesAreKnown (content_of ws) (content_of vs)
-    → LeavesAreKnown (content_of vs) (content_of ws) → HaveSameLeaves (content_of ws) (content_of vs)
+    → LeavesAreKnown (content_of vs) (content_of ws) → HaveSameTree (content_of ws) (content_of vs)
 
 -- what a document says that a sound database shows is a write that comes from there: the same path, the same mark, the same body
 abbrev pub ShownIsSaid : Type 0
@@ -48,4 +48,4 @@ pub record HasCopiedAll (p : Pass) : Type 0 where
 abbrev pub TwoPassesConverge : Type 0
 TwoPassesConverge =
     (c d : Configuration) (ms : List Move) (now : Crossing) (went : Crossed c d ms now) → IsSound went.first.one → IsSound went.first.other → Agree went.first.one went.first.other
-    → HasCopiedAll now.there → HasCopiedAll now.back → (id : List ℕ) → HaveSameLeaves (history_at now.one id) (history_at now.other id)
+    → HasCopiedAll now.there → HasCopiedAll now.back → (id : List ℕ) → HaveSameTree (history_at now.one id) (history_at now.other id)

@@ -1,6 +1,6 @@
 -- Two passes of a network in opposite directions, in a run in which nobody else writes a document in their two databases.
 -- CouchDB manual, replication/protocol; that all comes in one order is this project's own.
-use Rattle.std.specs.Prelude.{◌≡◌, ◌≢◌, ◌⊎◌, ℕ, List, Some}
+use Rattle.std.specs.Prelude.{◌≡◌, ◌≢◌, ◌⊎◌, ◌+◌, ℕ, List, [], ◌∷◌, length, Option, Some, None}
 use Rattle.std.specs.List.{AllByRecursion}
 use Rattle.store.specs.Contents.{Contents}
 use Rattle.store.specs.Database.{Database, history_at}
@@ -9,6 +9,7 @@ use Rattle.api.specs.Paths.{database_name_in}
 use Rattle.api.specs.declared.method.RequestMethod.TheVariants.{Get}
 use Rattle.node.specs.Runs.{Steps}
 use Rattle.node.specs.Step.{Serving}
+use Rattle.hub.specs.Connections.{ConnectionTable}
 use Rattle.repl.specs.Passes.{first_pass}
 use Rattle.world.specs.Keeping.{IsAt}
 use Rattle.world.specs.Network.{Network, Transfer, transfer_at}
@@ -17,7 +18,7 @@ use Rattle.completion.specs.Finished.{AreAllLawful, IsTold}
 use Rattle.completion.specs.Parted.{with_pass}
 use Rattle.completion.specs.Requests.{Handled, IsSameRun, requests_of}
 use Rattle.completion.specs.Runs.{Run, RunOf}
-use Rattle.convergence.specs.Agreement.{HaveSameLeaves}
+use Rattle.convergence.specs.Agreement.{HaveSameTree}
 use Rattle.convergence.specs.Appended.{KeepsDocuments}
 use Rattle.convergence.specs.Converged.{HasCopiedAll}
 use Rattle.convergence.specs.Sound.{Agree, IsReplicable}
@@ -40,20 +41,52 @@ IsOneOf p q (by_pass number fate) = (number ≡ p) ⊎ (number ≡ q)
 abbrev pub Only : ℕ → ℕ → Transfer → HandlingOf Contents
 Only p q t who old place m reply new = IsHandled Steps old place m reply new × (IsOneOf p q who ⊎ KeepsBoth t old new)
 
--- Two passes were started, and have asked nothing yet. The one goes between two databases, the other back between the same two.
-pub record AreStarted (p q : ℕ) (t u : Transfer) (now : Network Contents) : Type 0 where
-  pub there : transfer_at now.transfers p ≡ Some t
-  pub back : transfer_at now.transfers q ≡ Some u
-  pub there_first : t.pass ≡ first_pass t.pass.configuration
-  pub back_first : u.pass ≡ first_pass u.pass.configuration
-  pub there_told : IsTold t.pass.configuration
-  pub back_told : IsTold u.pass.configuration
+-- ---- two passes
+
+-- The one pass goes between two databases, the other back between the same two. Neither has asked anything.
+pub record AreOpposite (t u : Transfer) : Type 0 where
   pub from : u.from ≡ t.to
   pub to : u.to ≡ t.from
   pub source : u.pass.configuration.source_db ≡ t.pass.configuration.target_db
   pub target : u.pass.configuration.target_db ≡ t.pass.configuration.source_db
   pub apart : t.from ≡ t.to → t.pass.configuration.source_db ≢ t.pass.configuration.target_db
+  pub there_told : IsTold t.pass.configuration
+  pub back_told : IsTold u.pass.configuration
+  pub there_first : t.pass ≡ first_pass t.pass.configuration
+  pub back_first : u.pass ≡ first_pass u.pass.configuration
+
+-- a pass under a number: it was started and asked nothing, or it is still to be started
+abbrev pub IsAhead : Transfer → Option Transfer → Type 0
+IsAhead t there = (there ≡ Some t) ⊎ (there ≡ None)
+
+-- neither of the two passes has asked anything, and the databases of all nodes are lawful
+pub record AreAhead (p q : ℕ) (t u : Transfer) (now : Network Contents) : Type 0 where
+  pub two : p ≢ q
+  pub there : IsAhead t (transfer_at now.transfers p)
+  pub back : IsAhead u (transfer_at now.transfers q)
   pub lawful : AreAllLawful now.nodes
+
+-- ---- what happens
+
+-- the pass is as it was, or it is started now
+abbrev pub StaysOrStarts : Transfer → Option Transfer → Option Transfer → Type 0
+StaysOrStarts t before after = (after ≡ before) ⊎ ((before ≡ None) × (after ≡ Some t))
+
+-- Nothing is asked of any node: connections are opened or closed, and passes are started.
+pub record IsArranged (p q : ℕ) (t u : Transfer) (old new : Network Contents) : Type 0 where
+  pub nodes : new.nodes ≡ old.nodes
+  pub there : StaysOrStarts t (transfer_at old.transfers p) (transfer_at new.transfers p)
+  pub back : StaysOrStarts u (transfer_at old.transfers q) (transfer_at new.transfers q)
+
+pub data Stage : Type 0 where
+  runs : Stage
+  arranges : Stage
+
+-- runs in which nobody else writes, and what is arranged before, between and after
+abbrev pub Course : ℕ → ℕ → Transfer → Transfer → List Stage → Network Contents → Network Contents → Type 0
+Course p q t u [] old new = new ≡ old
+Course p q t u (runs ∷ ss) old new = (between : Network Contents) × Run (Only p q t) old between × Course p q t u ss between new
+Course p q t u (arranges ∷ ss) old new = (between : Network Contents) × IsArranged p q t u old between × Course p q t u ss between new
 
 -- the two databases of a pass
 pub record AreEnds (t : Transfer) (now : Network Contents) (one other : Database) : Type 0 where
@@ -66,13 +99,14 @@ pub record HasEnded (n : ℕ) (now : Network Contents) : Type 0 where
   pub there : transfer_at now.transfers n ≡ Some transfer
   pub copied : HasCopiedAll transfer.pass
 
--- Two passes of a network in opposite directions converge: where both have copied all, and nobody else wrote a document since both were
--- started, their databases have the same leaves and the same winner of each document. At the start bodies are plain, revisions can be
--- written, and the databases agree.
+-- Two passes of a network in opposite directions converge: where both have copied all, and nobody else wrote a document since before both
+-- asked for the first time, their databases have the same tree of each document, with the same leaves and the same winner. At the start
+-- bodies are plain, revisions can be written, and the databases agree.
 abbrev pub PassesOfANetworkConverge : Type 0
 PassesOfANetworkConverge =
-    (p q : ℕ) (t u : Transfer) (old new : Network Contents) (a b one other : Database) → AreStarted p q t u old → Run (Only p q t) old new → AreEnds t old a b → IsReplicable a
-    → IsReplicable b → Agree a b → HasEnded p new → HasEnded q new → AreEnds t new one other → (id : List ℕ) → HaveSameLeaves (history_at one id) (history_at other id)
+    (p q : ℕ) (t u : Transfer) (ss : List Stage) (old new : Network Contents) (a b one other : Database) → AreOpposite t u → AreAhead p q t u old → Course p q t u ss old new
+    → AreEnds t old a b → IsReplicable a → IsReplicable b → Agree a b → HasEnded p new → HasEnded q new → AreEnds t new one other → (id : List ℕ)
+    → HaveSameTree (history_at one id) (history_at other id)
 
 -- ---- which runs are such
 
@@ -101,7 +135,8 @@ abbrev pub SparingRuns : Type 0
 SparingRuns =
     (p q : ℕ) (t : Transfer) (old new : Network Contents) (run : RunOf Steps old new) → AreSparing p q t (requests_of run) → (again : Run (Only p q t) old new) × IsSameRun run again
 
--- A pass that was started after some events changes nothing of them. So it doesn't matter which of the two passes was started first.
-abbrev pub LaterStartsChangeNothing : Type 0
-LaterStartsChangeNothing =
-    (p q : ℕ) (t v : Transfer) (old new : Network Contents) → Run (Only p q t) old new → Run (Only p q t) (with_pass v old) (with_pass v new)
+-- Opening and closing connections arranges, and so does starting a pass, where it is one of the two if it gets the number of one.
+pub record CallsArrange : Type 0 where
+  pub connecting : (p q : ℕ) (t u : Transfer) (old : Network Contents) (homes : List ℕ) (connections : ConnectionTable) → IsArranged p q t u old (record old { homes = homes; connections = connections })
+  pub starting : (p q : ℕ) (t u v : Transfer) (old : Network Contents) → (p ≡ length old.transfers + 1 → v ≡ t) → (q ≡ length old.transfers + 1 → v ≡ u)
+      → IsArranged p q t u old (with_pass v old)

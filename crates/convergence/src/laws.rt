@@ -1,12 +1,12 @@
 //! What follows from the definitions alone. Each function has an empty body: its contract is the law.
 
 ghost use Rattle.convergence.specs.Converged.{LeavesMeet, ShownIsSaid, TwoPassesConverge, WritesKeepAgreement};
-ghost use Rattle.convergence.specs.Networks.{LaterStartsChangeNothing, PassesOfANetworkConverge, RunsOfTheTwo, SparingRuns};
+ghost use Rattle.convergence.specs.Networks.{CallsArrange, PassesOfANetworkConverge, RunsOfTheTwo, SparingRuns};
 ghost use Rattle.convergence.specs.Replicable.{RunsKeepReplicable, StepsKeepReplicable};
 ghost use Rattle.convergence.specs.Written.{OpenedAreShown, OtherCallsWriteNothing, PushesAppendWhatIsSaid};
 
-/// Two lawful histories that agree, and of which each knows the leaves of the other, have the same leaves
-/// and the same winner.
+/// Two lawful histories that agree, and of which each knows the leaves of the other, are one tree: with the
+/// same leaves and the same winner.
 pub fn leaves_meet()
     ensures { LeavesMeet }
 {}
@@ -22,8 +22,9 @@ pub fn writes_keep_agreement()
     ensures { WritesKeepAgreement }
 {}
 
-/// Two passes in opposite directions that are done, with nothing refused, leave both databases with the same
-/// leaves and the same winner of each document, where nobody else writes and the databases agreed at first.
+/// Two passes in opposite directions that are done, with nothing refused, make one tree of each document, with
+/// the same leaves and the same winner in both databases, where nobody else writes and the databases agreed at
+/// first.
 pub fn two_passes_converge()
     ensures { TwoPassesConverge }
 {}
@@ -48,14 +49,14 @@ pub fn answers_keep_databases_replicable()
     ensures runs { RunsKeepReplicable }
 {}
 
-/// Two passes of a network in opposite directions leave both databases with the same leaves and the same
-/// winner of each document, where both have copied all, and nobody else wrote a document since they were
-/// started. Nobody else writes where the requests of others spare both databases: they are handled by
-/// another node, lead into another database, or only read. A pass that is started later changes nothing of
-/// what went before.
+/// Two passes of a network in opposite directions make one tree of each document, with the same leaves and the
+/// same winner in both databases, where both have copied all, and nobody else wrote a document meanwhile.
+/// Nobody else writes where the requests of others spare both databases: they are handled by another node,
+/// lead into another database, or only read. Between its runs connections may be opened and closed, and passes
+/// started, the two among them.
 pub fn passes_of_a_network_converge()
     ensures converge { PassesOfANetworkConverge }
     ensures runs { RunsOfTheTwo }
     ensures sparing { SparingRuns }
-    ensures later { LaterStartsChangeNothing }
+    ensures arrangements { CallsArrange }
 {}
