@@ -156,14 +156,15 @@ change_keeps a m (inside name effect) quiet made =
 -- ---- a step of a quiet request
 
 abbrev pub IsQuietCall : Message → Type 0
-IsQuietCall m = (page : Page) (caller : auth.Identity) (task : Task) → task_of page (method_of m.method) caller m ≡ Ok task → IsQuiet task
+IsQuietCall m =
+    (page : Page) (caller : auth.Identity) (task : Task) → page_of m.path ≡ Some page → task_of page (method_of m.method) caller m ≡ Ok task → IsQuiet task
 
 judged_silent : (c : auth.Configuration) (a : Contents) (m : Message) (o : Outcome) → IsQuietCall m → judgement c a m ≡ Ok o → IsSilent o.change
 judged_silent c a m o quiet e =
     let k = went (asker c m) (λ caller. next (there_or Path (page_of m.path)) (λ page. page_outcome page (method_of m.method) caller a m)) o e in
     let l = went (there_or Path (page_of m.path)) (λ page. page_outcome page (method_of m.method) k.first a m) o k.then in
     let t = went (task_of l.first (method_of m.method) k.first m) (λ task. task_outcome k.first a task) o l.then in
-    silent k.first a t.first o (quiet l.first k.first t.first t.was) t.then
+    silent k.first a t.first o (quiet l.first k.first t.first (was_named Path (page_of m.path) l.first l.was) t.was) t.then
 
 pub quiet_step : (c : auth.Configuration) (a : Contents) (m : Message) (r : Reply) (after : Contents) → IsQuietCall m → Steps c a m r after → WritesNowhere a after
 quiet_step c a m r after quiet (inl done) = subst (λ (x : Contents). WritesNowhere a x) (sym done.1) (by (judgement c a m) refl)
@@ -176,7 +177,7 @@ quiet_step c a m r after quiet (inr (inr failed)) = subst (λ (x : Contents). Wr
 
 -- ---- tasks
 
-quiet_work : (action : Action) (m : Message) (work : List ℕ → Work) (task : Task) → ((name : List ℕ) → IsQuietWork (work name)) → work_task action m work ≡ Ok task → IsQuiet task
+pub quiet_work : (action : Action) (m : Message) (work : List ℕ → Work) (task : Task) → ((name : List ℕ) → IsQuietWork (work name)) → work_task action m work ≡ Ok task → IsQuiet task
 quiet_work action m work task quiet e =
     let k = went (database_name_of m) (λ name. Ok (worked action name (work name))) task e in
     subst IsQuiet (same {A = Task} _ task k.then) (quiet k.first)
@@ -186,7 +187,7 @@ quiet_reading read db d e =
     let k = went (read db) (λ value. Ok (value_done value)) d e in
     subst (λ (x : Done). WritesNothing x.effect) (same {A = Done} _ d k.then) tt
 
-quiet_read : (m : Message) (read : List ℕ → Database → Result Value Refusal) (task : Task) → work_task Read m (λ name. read_work (read name)) ≡ Ok task → IsQuiet task
+pub quiet_read : (m : Message) (read : List ℕ → Database → Result Value Refusal) (task : Task) → work_task Read m (λ name. read_work (read name)) ≡ Ok task → IsQuiet task
 quiet_read m read task e = quiet_work Read m (λ name. read_work (read name)) task (λ name. quiet_reading (read name)) e
 
 -- whatever is asked by GET only reads
@@ -214,7 +215,7 @@ quiet_set : (r : Result Value WriteFault) (d : Done) → security_set r ≡ Ok d
 quiet_set (Ok security) d e = subst (λ (x : Done). WritesNothing x.effect) (same {A = Done} _ d e) tt
 quiet_set (Err fault) d e = absurd cc
 
-quiet_security : (m : Message) → IsQuietWork (security_written m)
+pub quiet_security : (m : Message) → IsQuietWork (security_written m)
 quiet_security m db d e =
     let k = went (plain m) (λ _. next (body_of m) (λ value. security_set (security_outcome value))) d e in
     let l = went (body_of m) (λ value. security_set (security_outcome value)) d k.then in
@@ -224,7 +225,7 @@ quiet_stored : (caller : auth.Identity) (id : List ℕ) (r : Result LocalDocumen
 quiet_stored caller id (Ok document) d e = subst (λ (x : Done). WritesNothing x.effect) (same {A = Done} _ d e) tt
 quiet_stored caller id (Err fault) d e = absurd cc
 
-quiet_local : (caller : auth.Identity) (m : Message) → IsQuietWork (local_written caller m)
+pub quiet_local : (caller : auth.Identity) (m : Message) → IsQuietWork (local_written caller m)
 quiet_local caller m db d e =
     let k = went (there_or Id (local_id_in m.path)) (λ id. next (plain m) (λ _. next (body_of m) (λ document. local_set caller id (local_outcome (local_at db id) id document)))) d e in
     let l = went (plain m) (λ _. next (body_of m) (λ document. local_set caller k.first (local_outcome (local_at db k.first) k.first document))) d k.then in
@@ -407,17 +408,17 @@ quiet_post LocalDocumentPage caller m ms task body texts e = absurd (never Metho
 -- ---- the calls
 
 quiet_call : (k : Configuration) (side : Side) (call : Call) → is_push call ≡ false → AsksLawfully call → IsQuietCall (request_of k side call)
-quiet_call k side (read_checkpoint id) other asks page caller task e = quiet_get page caller (request_of k side (read_checkpoint id)) task e
-quiet_call k side (write_checkpoint id value) other asks page caller task e =
+quiet_call k side (read_checkpoint id) other asks page caller task at e = quiet_get page caller (request_of k side (read_checkpoint id)) task e
+quiet_call k side (write_checkpoint id value) other asks page caller task at e =
     quiet_put page caller (request_of k side (write_checkpoint id value)) task (checkpoint_path (database_of k side) id) e
-quiet_call k side (list_changes since most) other asks page caller task e = quiet_get page caller (request_of k side (list_changes since most)) task e
-quiet_call k side (compare_revisions rs) other asks page caller task e =
+quiet_call k side (list_changes since most) other asks page caller task at e = quiet_get page caller (request_of k side (list_changes since most)) task e
+quiet_call k side (compare_revisions rs) other asks page caller task at e =
     let m = request_of k side (compare_revisions rs) in
     let ms = revisions_put rs no_members in
     let body : HasBody m ms = λ w f. sym (what_was_read (object ms) w asks (value_was (reading m.body) w f)) in
     quiet_post page caller m ms task body (texts_all rs no_members tt) e
-quiet_call k side (open_revisions r) other asks page caller task e = quiet_get page caller (request_of k side (open_revisions r)) task e
-quiet_call k side (push_documents documents) other asks page caller task e = absurd cc
+quiet_call k side (open_revisions r) other asks page caller task at e = quiet_get page caller (request_of k side (open_revisions r)) task e
+quiet_call k side (push_documents documents) other asks page caller task at e = absurd cc
 
 pub others_write_nothing : OtherCallsWriteNothing
 others_write_nothing c before k side call r after other asks step = quiet_step c before (request_of k side call) r after (quiet_call k side call other asks) step

@@ -13,23 +13,29 @@ use Rattle.couch_http.specs.Message.{Message}
 use Rattle.couch_http.specs.Reply.{Reply}
 use Rattle.store.specs.Contents.{Contents, new_database}
 use Rattle.store.specs.Database.{Database}
-use Rattle.api.specs.Asking.{method_of}
+use Rattle.policy.specs.declared.action.Action.TheVariants.{Read, WriteSecurity}
+use Rattle.api.specs.Asking.{method_of, plain}
 use Rattle.api.specs.Paths.{database_name_in}
 use Rattle.api.specs.declared.method.RequestMethod.{RequestMethod}
-use Rattle.api.specs.declared.method.RequestMethod.TheVariants.{Get}
+use Rattle.api.specs.declared.method.RequestMethod.TheVariants.{Delete, Get, Post, Put}
+use Rattle.api.specs.declared.page.Page.{Page}
+use Rattle.api.specs.declared.page.Page.TheVariants.{Welcome, AllDatabases, Database as DatabasePage, Security, BulkDocuments, AllDocuments, Changes, Differences, Find, Index, View, Document, LocalDocument}
+use Rattle.api.specs.Refusals.{next}
+use Rattle.api.specs.Routing.{page_of}
 use Rattle.api.specs.declared.refusal.Refusal.{Refusal}
-use Rattle.node.specs.Answer.{Change, Outcome, creation, inside, judgement, kept, removal, settlement, task_of, with_change, with_effect_at}
+use Rattle.node.specs.Answer.{Change, Outcome, Task, admin_task, administration, created, creation, database_name_of, inside, judgement, kept, removal, settlement, task_of, with_change, with_effect_at}
 use Rattle.node.specs.Runs.{Steps}
 use Rattle.node.specs.Work.{with_effect}
-use Rattle.node.proofs.Tasks.{IsMade, judged_right}
+use Rattle.node.specs.Works.{difference_list, document_finds, local_written, security_written}
+use Rattle.node.proofs.Tasks.{IsMade, judged_right, same, went}
 use Rattle.world.specs.Network.{Transfer, transfer_at}
 use Rattle.world.specs.Service.{Asker, IsHandled}
 use Rattle.completion.proofs.Again.{run_again}
 use Rattle.convergence.specs.Appended.{KeepsDocuments}
-use Rattle.convergence.specs.Networks.{BecomesAt, CallsArrange, IsOneOf, KeepsBoth, Only, RunsOfTheTwo, Spares, SparingRuns, StaysOrStarts}
+use Rattle.convergence.specs.Networks.{BecomesAt, CallsArrange, IsOneOf, KeepsBoth, Only, RunsOfTheTwo, Spares, SparingRuns, StaysOrStarts, may_write, may_write_at}
 use Rattle.convergence.specs.Written.{Becomes, WritesNowhere}
 use Rattle.convergence.proofs.Handlings.{Nodes, anywhere, elsewhere, here}
-use Rattle.convergence.proofs.Quiet.{nowhere, put_elsewhere, quiet_get, quiet_step, same_documents}
+use Rattle.convergence.proofs.Quiet.{IsQuiet, nowhere, put_elsewhere, quiet_get, quiet_local, quiet_read, quiet_security, quiet_step, quiet_work, same_documents}
 
 pub of_the_two : RunsOfTheTwo
 of_the_two p q t old new run h =
@@ -67,14 +73,44 @@ other_step c a m r after name apart (inr (inr failed)) = subst (λ (x : Contents
 
 -- ---- a request that spares a database
 
-reads : (c : auth.Configuration) (a : Contents) (m : Message) (r : Reply) (after : Contents) → method_of m.method ≡ Some Get → Steps c a m r after → WritesNowhere a after
-reads c a m r after get_it step =
-    quiet_step c a m r after (λ page caller task e. quiet_get page caller m task (ap (λ (x : Option RequestMethod). task_of page x caller m) (sym get_it) ∙ e)) step
+-- what may not write asks for nothing that writes
+quiet_created : (caller : auth.Identity) (m : Message) (task : Task) → admin_task caller m (λ name. created name (plain m)) ≡ Ok task → IsQuiet task
+quiet_created caller m task e =
+    let k = went (database_name_of m) (λ name. next (administration caller) (λ _. Ok (created name (plain m)))) task e in
+    let l = went (administration caller) (λ _. Ok (created k.first (plain m))) task k.then in
+    subst IsQuiet (same {A = Task} _ task l.then) tt
+
+quiet_page : (page : Page) (method : Option RequestMethod) (caller : auth.Identity) (m : Message) (task : Task) → may_write page method ≡ false → task_of page method caller m ≡ Ok task → IsQuiet task
+quiet_page Welcome (Some Get) caller m task none e = quiet_get Welcome caller m task e
+quiet_page AllDatabases (Some Get) caller m task none e = quiet_get AllDatabases caller m task e
+quiet_page DatabasePage (Some Get) caller m task none e = quiet_get DatabasePage caller m task e
+quiet_page DatabasePage (Some Put) caller m task none e = quiet_created caller m task e
+quiet_page DatabasePage (Some Delete) caller m task none e = absurd cc
+quiet_page Security (Some Get) caller m task none e = quiet_get Security caller m task e
+quiet_page Security (Some Put) caller m task none e = quiet_work WriteSecurity m (λ name. security_written m) task (λ name. quiet_security m) e
+quiet_page BulkDocuments method caller m task none e = absurd cc
+quiet_page AllDocuments (Some Get) caller m task none e = quiet_get AllDocuments caller m task e
+quiet_page Changes (Some Get) caller m task none e = quiet_get Changes caller m task e
+quiet_page Differences (Some Post) caller m task none e = quiet_read m (λ name. difference_list m) task e
+quiet_page Document (Some Get) caller m task none e = quiet_get Document caller m task e
+quiet_page Document (Some Put) caller m task none e = absurd cc
+quiet_page Document (Some Delete) caller m task none e = absurd cc
+quiet_page Find (Some Post) caller m task none e = quiet_read m (λ name. document_finds m) task e
+quiet_page Index method caller m task none e = absurd cc
+quiet_page View (Some Get) caller m task none e = quiet_get View caller m task e
+quiet_page LocalDocument (Some Get) caller m task none e = quiet_get LocalDocument caller m task e
+quiet_page LocalDocument (Some Put) caller m task none e = quiet_work Read m (λ name. local_written caller m) task (λ name. quiet_local caller m) e
+quiet_page page method caller m task none e = absurd cc
+
+writes_none : (c : auth.Configuration) (a : Contents) (m : Message) (r : Reply) (after : Contents) → may_write_at (page_of m.path) (method_of m.method) ≡ false → Steps c a m r after → WritesNowhere a after
+writes_none c a m r after none step =
+    quiet_step c a m r after
+    (λ page caller task at e. quiet_page page (method_of m.method) caller m task (ap (λ (o : Option Page). may_write_at o (method_of m.method)) (sym at) ∙ none) e) step
 
 module _ (who : Asker) (old : Nodes) (place : ℕ) (m : Message) (r : Reply) (new : Nodes) (h : IsHandled Steps old place m r new) where
-  spared_here : (name : List ℕ) → (database_name_in m.path ≢ Some name) ⊎ (method_of m.method ≡ Some Get) → BecomesAt old place name new KeepsDocuments
+  spared_here : (name : List ℕ) → (database_name_in m.path ≢ Some name) ⊎ (may_write_at (page_of m.path) (method_of m.method) ≡ false) → BecomesAt old place name new KeepsDocuments
   spared_here name (inl apart) = here old new place m r h name KeepsDocuments (other_step h.node.configuration h.node.store m r h.after name apart h.handled)
-  spared_here name (inr get_it) = anywhere old new place m r h place name (reads h.node.configuration h.node.store m r h.after get_it h.handled)
+  spared_here name (inr none) = anywhere old new place m r h place name (writes_none h.node.configuration h.node.store m r h.after none h.handled)
 
   spared_at : (q : ℕ) (name : List ℕ) → (q ≡ place) ⊎ (q ≢ place) → Spares q name (record { who = who; old = old; place = place; message = m; reply = r; new = new })
       → BecomesAt old q name new KeepsDocuments

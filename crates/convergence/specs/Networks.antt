@@ -1,12 +1,16 @@
 -- Two passes of a network in opposite directions, in a run in which nobody else writes a document in their two databases.
 -- CouchDB manual, replication/protocol; that all comes in one order is this project's own.
-use Rattle.std.specs.Prelude.{◌≡◌, ◌≢◌, ◌⊎◌, ◌+◌, ℕ, List, [], ◌∷◌, length, Option, Some, None}
+use Rattle.std.specs.Prelude.{◌≡◌, ◌≢◌, ◌⊎◌, ◌+◌, ℕ, List, [], ◌∷◌, length, Option, Some, None, Bool, false, true}
 use Rattle.std.specs.List.{AllByRecursion}
 use Rattle.store.specs.Contents.{Contents}
 use Rattle.store.specs.Database.{Database, history_at}
 use Rattle.api.specs.Asking.{method_of}
 use Rattle.api.specs.Paths.{database_name_in}
-use Rattle.api.specs.declared.method.RequestMethod.TheVariants.{Get}
+use Rattle.api.specs.Routing.{page_of}
+use Rattle.api.specs.declared.method.RequestMethod.{RequestMethod}
+use Rattle.api.specs.declared.method.RequestMethod.TheVariants.{Delete, Put}
+use Rattle.api.specs.declared.page.Page.{Page}
+use Rattle.api.specs.declared.page.Page.TheVariants.{BulkDocuments, Database as DatabasePage, Document, Index}
 use Rattle.node.specs.Runs.{Steps}
 use Rattle.node.specs.Step.{Serving}
 use Rattle.hub.specs.Connections.{ConnectionTable}
@@ -114,10 +118,24 @@ PassesOfANetworkConverge =
 abbrev pub AreTheirs : ℕ → ℕ → Transfer → List (Handled Contents) → Type 0
 AreTheirs p q t rs = AllByRecursion (λ (r : Handled Contents). IsOneOf p q r.who ⊎ KeepsBoth t r.old r.new) rs
 
--- The request can't write a document in the database of this name at the node of this number: another node handles it, its path leads into
--- no database or into another one, or it only reads.
+-- What is asked of a page by a method may write documents, or remove a whole database.
+abbrev pub may_write : Page → Option RequestMethod → Bool
+may_write Document (Some Put) = true
+may_write Document (Some Delete) = true
+may_write BulkDocuments method = true
+may_write Index method = true
+may_write DatabasePage (Some Delete) = true
+may_write page method = false
+
+abbrev pub may_write_at : Option Page → Option RequestMethod → Bool
+may_write_at None method = false
+may_write_at (Some page) method = may_write page method
+
+-- The request can't write a document in the database of this name at the node of this number, nor remove it: another node handles it, its path
+-- leads into no database or into another one, or no page of this path writes documents by this method.
 abbrev pub Spares : ℕ → List ℕ → Handled Contents → Type 0
-Spares place name r = (r.place ≢ place) ⊎ ((database_name_in r.message.path ≢ Some name) ⊎ (method_of r.message.method ≡ Some Get))
+Spares place name r =
+    (r.place ≢ place) ⊎ ((database_name_in r.message.path ≢ Some name) ⊎ (may_write_at (page_of r.message.path) (method_of r.message.method) ≡ false))
 
 -- one of the two passes asks, or the request spares both databases
 abbrev pub AreSparing : ℕ → ℕ → Transfer → List (Handled Contents) → Type 0

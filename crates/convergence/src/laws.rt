@@ -52,8 +52,8 @@ pub fn answers_keep_databases_replicable()
 /// Two passes of a network in opposite directions make one tree of each document, with the same leaves and the
 /// same winner in both databases, where both have copied all, and nobody else wrote a document meanwhile.
 /// Nobody else writes where the requests of others spare both databases: they are handled by another node,
-/// lead into another database, or only read. Between its runs connections may be opened and closed, and passes
-/// started, the two among them.
+/// lead into another database, or ask for nothing that writes a document. Between its runs connections may be
+/// opened and closed, and passes started, the two among them.
 pub fn passes_of_a_network_converge()
     ensures converge { PassesOfANetworkConverge }
     ensures runs { RunsOfTheTwo }
