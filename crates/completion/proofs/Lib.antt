@@ -12,3 +12,4 @@ pub mod Standings
 pub mod Settlements
 pub mod Again
 pub mod Starting
+pub mod Removals

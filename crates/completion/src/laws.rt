@@ -9,7 +9,7 @@ ghost use Rattle.world.specs.Network.{AreHonest, Network, Transfer, over_databas
 ghost use Rattle.completion.specs.Finished.{Begins, DonePassesHaveListed, DonePassesOweNothing, IsTold, RoundsCoverInRuns};
 ghost use Rattle.completion.specs.Parted.{OpeningChangesNothing, PlaysHaveOneOutcome, SightsTellService, StartingChangesNothing, TwoCallsAreOne, with_pass};
 ghost use Rattle.completion.specs.Reported.{PassesGoByTurns, ReportsAreToldInRuns, StartsAreReadInRuns, StopsHaveCausesInRuns, TurnsAreSeen};
-ghost use Rattle.completion.specs.Requests.{RunsThatKeep, RunsThatServe};
+ghost use Rattle.completion.specs.Requests.{RunsThatKeep, RunsThatServe, RunsWithoutRemovals};
 
 use repl::Config;
 use store::Store;
@@ -74,6 +74,7 @@ pub fn additions_change_nothing<S: Store>()
 /// is served is one that serves, with the same events, sights and turns.
 pub fn runs_are_told_by_their_requests()
     ensures keep { RunsThatKeep }
+    ensures spared { RunsWithoutRemovals }
     ensures serve { RunsThatServe }
 {}
 
