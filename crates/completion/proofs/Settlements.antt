@@ -20,7 +20,7 @@ use Rattle.repl.specs.declared.why.Why.{Why}
 use Rattle.repl.proofs.LossLemmas.{lost_by}
 use Rattle.repl.proofs.ReportLemmas.{all_told}
 use Rattle.repl.proofs.StartLemmas.{start_is}
-use Rattle.passes.specs.Owed.{has_covered}
+use Rattle.passes.specs.Owed.{Covers, has_covered}
 use Rattle.passes.specs.Settled.{is_entry_of, is_reported, is_settled}
 use Rattle.passes.proofs.Rounds.{owes_nothing, rounds_cover}
 use Rattle.world.specs.Happening.{Happening, Sight}
@@ -144,17 +144,26 @@ stays_settled n t now later last p q s more kept at id r e =
     (settled_more (target_of t now) (target_of t later) p.refused (told_of (after_turns (first_pass t.pass.configuration) s.turns) ys) id r grown e)
 
 pub rounds_in_runs : RoundsCoverInRuns
-rounds_in_runs n t start listed now later run more p q begins kept l at covered kept_later then id r good leaf gt le =
-    ∥∥₁_elim (all_lawful start.nodes begins.lawful) (Bool-set _ _) (λ lawful. by (arrives_from n t start listed now run p begins lawful kept l at))
+rounds_in_runs n t start listed now later run more p q begins kept l at covered kept_later then = (
+  λ id r good leaf gt le.
+      ∥∥₁_elim (all_lawful start.nodes begins.lawful) (Bool-set _ _) (λ lawful. then_listed (arrives_from n t start listed now run p begins lawful kept l at) id r good leaf gt le),
+  λ id r good leaf gt le.
+      ∥∥₁_elim (all_lawful start.nodes begins.lawful) (Bool-set _ _) (λ lawful. then_now (arrives_from n t start listed now run p begins lawful kept l at) id r good leaf gt le),
+)
   where
-    by : Arrives n t listed now p → is_settled (target_of t later) q.refused id r ≡ true
-    by a =
+    then_listed : Arrives n t listed now p → Covers (source_of t listed) p.start_seq p.last_seq (scene_of t (source_of t listed) later q)
+    then_listed a id r good leaf gt le =
         let same : a.last ≡ source_of t listed = ⊎_elim (λ e. e) (λ s. absurd (not_stopped p.phase covered s)) a.is in
         let k = (rounds_cover t.pass.configuration a.stands.events (scene_of t a.last now p) a.stands.went covered).0 id r good
         (subst (λ (x : Database). IsTrue (is_leaf (history_at x id) r)) (sym same) leaf)
         (subst (λ (x : Database). p.start_seq < sequence_at x id) (sym same) gt)
         (subst (λ (x : Database). sequence_at x id ≤ p.last_seq) (sym same) le) in
         stays_settled n t now later a.last p q a.stands more kept_later then id r k
+
+    then_now : Arrives n t listed now p → Covers (source_of t now) p.start_seq p.last_seq (scene_of t (source_of t listed) later q)
+    then_now a id r good leaf gt le =
+        stays_settled n t now later a.last p q a.stands more kept_later then id r
+        ((rounds_cover t.pass.configuration a.stands.events (scene_of t a.last now p) a.stands.went covered).1 id r good leaf gt le)
 
 pub done_owes : DonePassesOweNothing
 done_owes n t start listed now later run more p q begins kept l at ended kept_later then id r good leaf gt =

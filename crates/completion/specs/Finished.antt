@@ -74,7 +74,7 @@ abbrev pub takes_list : Option Pass → List Turn → Bool
 takes_list None ts = false
 takes_list (Some p) ts = has_listed p ts
 
--- In these events the pass of this number takes a list of changes in, at an event that comes to the network `listed`, and none later.
+-- In these events the pass of this number takes a list of changes in, at the event that came when the network was `listed`, and none later.
 abbrev pub ListsLastIn : {S : Type 0} (handling : HandlingOf S) (n : ℕ) (hs : List Happening) (old : Network S) (seen : List Sight) (new : Network S) → PlaysBy handling old hs seen new → Network S → Type 0
 ListsLastIn handling n [] old seen new p listed = ⊥
 ListsLastIn handling n (h ∷ hs) old seen new (first, others, between, here, later, order) listed =
@@ -88,12 +88,14 @@ ListsLast {S} {handling} {old} {new} run n listed = ListsLastIn handling n run.h
 
 -- ---- what is settled
 
--- Where a pass writes its checkpoints, or is done, it has settled what it listed last, and that is so at every later event.
+-- Where a pass writes its checkpoints, or is done, it has settled what it listed in all its rounds: of the source as it was at the last list, and
+-- as it is now. That is so at every later event.
 abbrev pub RoundsCoverInRuns : Type 0
 RoundsCoverInRuns =
     (n : ℕ) (t : Transfer) (start listed now later : Network Contents) (run : RunOf Steps start now) (more : RunOf Steps now later) (p q : Pass) → Begins n t start
     → AreKept t (requests_of run) → ListsLast run n listed → pass_at now.transfers n ≡ Some p → has_covered p.phase ≡ true
-    → AreKept t (requests_of more) → pass_at later.transfers n ≡ Some q → Covers (source_of t listed) p.start_seq p.last_seq (scene_of t (source_of t listed) later q)
+    → AreKept t (requests_of more) → pass_at later.transfers n ≡ Some q
+    → Covers (source_of t listed) p.start_seq p.last_seq (scene_of t (source_of t listed) later q) × Covers (source_of t now) p.start_seq p.last_seq (scene_of t (source_of t listed) later q)
 
 -- A pass that is done owes nothing, then and later: each leaf that the source had when it was listed last, of a document whose sequence is
 -- above the start, is known at the target or reported.

@@ -23,8 +23,9 @@ pub fn done_pass_owes_nothing()
     ensures listed { DonePassesHaveListed }
 {}
 
-/// A pass that writes its checkpoints, or is done, has settled what it listed last, and that is so at every
-/// later event, in each run in which both databases stay there.
+/// A pass that writes its checkpoints, or is done, has settled what it listed in all its rounds: of the
+/// source as it was at the last list, and as it is now. That is so at every later event, in each run in
+/// which both databases stay there.
 pub fn rounds_cover_what_they_list()
     ensures { RoundsCoverInRuns }
 {}
