@@ -1,8 +1,9 @@
 -- A run all of whose requests are of a kind is a run of that kind.
-use Rattle.std.proofs.Common.{◌≡◌, ◌∙◌, ◌==◌, ℕ, cond, List, [], ◌∷◌, ◌++◌, refl, ap}
+use Rattle.std.proofs.Common.{◌≡◌, ◌∙◌, inl, inr, ◌==◌, ℕ, cond, List, [], ◌∷◌, ◌++◌, refl, ap}
 use Rattle.std.specs.List.{AllByRecursion}
 use Rattle.couch_http.specs.Message.{Message}
 use Rattle.couch_http.specs.Reply.{Reply}
+use Rattle.store.specs.Contents.{Contents}
 use Rattle.node.specs.Runs.{IsServed, Steps}
 use Rattle.node.specs.Step.{Serving}
 use Rattle.hub.specs.Arrival.{Arrival, fault_on, request_on}
@@ -16,15 +17,16 @@ use Rattle.world.specs.Playing.{HappensBy, PlaysBy}
 use Rattle.world.specs.Service.{Asker, HandlingOf, IsAnsweredBy, IsHandled, IsServiceBy, SeenReply, by_pass, on_connection}
 use Rattle.world.specs.declared.fate.Fate.{Fate}
 use Rattle.world.specs.declared.fate.Fate.TheVariants.{Answered, ReplyLost, RequestLost}
+use Rattle.completion.specs.Finished.{ListsLastIn, takes_list}
 use Rattle.completion.specs.Parted.{Serves}
 use Rattle.completion.specs.Requests.{Handled, IsSameRun, RunsThatKeep, RunsThatServe, handled_answer, handled_asked, handled_at, handled_carry, handled_in, handled_service}
-use Rattle.completion.specs.Runs.{Run, turn_of, turns_asked, turns_at, turns_in}
+use Rattle.completion.specs.Runs.{Run, pass_at, turn_of, turns_asked, turns_at, turns_in}
 
-front : {A : Type 0} (P : A → Type 0) (xs ys : List A) → AllByRecursion P (xs ++ ys) → AllByRecursion P xs
+pub front : {A : Type 0} (P : A → Type 0) (xs ys : List A) → AllByRecursion P (xs ++ ys) → AllByRecursion P xs
 front P [] ys h = tt
 front P (x ∷ xs) ys h = (h.0, front P xs ys h.1)
 
-back : {A : Type 0} (P : A → Type 0) (xs ys : List A) → AllByRecursion P (xs ++ ys) → AllByRecursion P ys
+pub back : {A : Type 0} (P : A → Type 0) (xs ys : List A) → AllByRecursion P (xs ++ ys) → AllByRecursion P ys
 back P [] ys h = h
 back P (x ∷ xs) ys h = back P xs ys h.1
 
@@ -97,7 +99,7 @@ module _ {S : Type 0} (handling other : HandlingOf S) (Q : Handled S → Type 0)
   abbrev PlaysAgain : (hs : List Happening) (old : Network S) (seen : List Sight) (new : Network S) → PlaysBy handling old hs seen new → Type 0
   PlaysAgain hs old seen new p = (q : PlaysBy other old hs seen new) × ((n : ℕ) → turns_in other n hs old seen new q ≡ turns_in handling n hs old seen new p)
 
-  plays_again : (hs : List Happening) (old : Network S) (seen : List Sight) (new : Network S) (p : PlaysBy handling old hs seen new) → AllByRecursion Q (handled_in handling hs old seen new p)
+  pub plays_again : (hs : List Happening) (old : Network S) (seen : List Sight) (new : Network S) (p : PlaysBy handling old hs seen new) → AllByRecursion Q (handled_in handling hs old seen new p)
       → PlaysAgain hs old seen new p
   plays_again [] old seen new p h = (p, λ n. refl)
   plays_again (h ∷ hs) old seen new (first, others, between, here, later, order) k =
@@ -109,16 +111,35 @@ module _ {S : Type 0} (handling other : HandlingOf S) (Q : Handled S → Type 0)
         λ n. ap (λ (ts : List Turn). ts ++ turns_in other n hs between others new more.0) (one.1 n) ∙ ap (λ (ts : List Turn). turns_at handling n h old first between here ++ ts) (more.1 n),
       )
 
+  -- its last list is of the same network
+  pub lists_again : (n : ℕ) (hs : List Happening) (old : Network S) (seen : List Sight) (new : Network S) (p : PlaysBy handling old hs seen new) (k : AllByRecursion Q (handled_in handling hs old seen new p))
+      (listed : Network S) → ListsLastIn handling n hs old seen new p listed → ListsLastIn other n hs old seen new (plays_again hs old seen new p k).0 listed
+  unfolding plays_again event_again
+  lists_again n [] old seen new p k listed l = absurd l
+  lists_again n (h ∷ hs) old seen new (first, others, between, here, later, order) k listed (inl (same, lists, none)) =
+      let rs = handled_at handling h old first between here in
+      let rest = handled_in handling hs between others new later in
+      let one = event_again h old first between here (front Q rs rest k) in
+      let more = plays_again hs between others new later (back Q rs rest k) in
+      inl (same, ap (takes_list (pass_at old.transfers n)) (one.1 n) ∙ lists, ap (takes_list (pass_at between.transfers n)) (more.1 n) ∙ none)
+  lists_again n (h ∷ hs) old seen new (first, others, between, here, later, order) k listed (inr l) =
+      inr (lists_again n hs between others new later (back Q (handled_at handling h old first between here) (handled_in handling hs between others new later) k) listed l)
+
   pub run_again : (old new : Network S) (run : Run handling old new) → AllByRecursion Q (handled_in handling run.happenings old run.seen new run.played) → (again : Run other old new) × IsSameRun run again
   run_again old new run h =
       let k = plays_again run.happenings old run.seen new run.played h in
       (record { happenings = run.happenings; seen = run.seen; played = k.0 }, record { happenings = refl; seen = refl; turns = k.1 })
 
+-- both databases of a pass stay at a request
+abbrev pub Stays : Transfer → Handled Contents → Type 0
+Stays t r = StaysAt r.old r.new t.from t.pass.configuration.source_db × StaysAt r.old r.new t.to t.pass.configuration.target_db
+
+pub keeping : (t : Transfer) (who : Asker) (a : List (Serving Contents)) (place : ℕ) (m : Message) (r : Reply) (b : List (Serving Contents)) → IsHandled Steps a place m r b
+    → Stays t (record { who = who; old = a; place = place; message = m; reply = r; new = b }) → Keeping t who a place m r b
+keeping t who a place m r b handled stays = (handled, stays.0, stays.1)
+
 pub that_keep : RunsThatKeep
-that_keep t old new run h =
-    run_again (λ who. IsHandled Steps) (Keeping t)
-    (λ r. StaysAt r.old r.new t.from t.pass.configuration.source_db × StaysAt r.old r.new t.to t.pass.configuration.target_db)
-    (λ who a place m r b handled stays. (handled, stays.0, stays.1)) old new run h
+that_keep t old new run h = run_again (λ who. IsHandled Steps) (Keeping t) (Stays t) (keeping t) old new run h
 
 pub that_serve : RunsThatServe
 that_serve old new run h =

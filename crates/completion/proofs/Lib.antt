@@ -9,6 +9,7 @@ pub mod Turned
 pub mod Keepings
 pub mod Truths
 pub mod Standings
-pub mod Settlements
 pub mod Again
+pub mod Settlements
 pub mod Starting
+pub mod Removals

@@ -1,5 +1,5 @@
 -- In each round of a run what was listed is settled, and a pass that is done owes nothing.
-use Rattle.std.proofs.Common.{◌≡◌, ◌≤◌, ◌<◌, ◌∙◌, ◌⊎◌, inl, inr, ⊎_elim, ◌==◌, ◌||◌, ℕ, Bool, true, false, cond, List, [], ◌∷◌, ◌++◌, Option, Some, option_map, Result, Ok, Err, append_assoc, eqb-true, eq-eqb, refl, sym, ap, subst}
+use Rattle.std.proofs.Common.{◌≡◌, ◌≤◌, ◌<◌, ◌∙◌, ◌⊎◌, inl, inr, ⊎_elim, ◌||◌, ℕ, Bool, true, false, cond, List, [], ◌∷◌, ◌++◌, Option, Some, None, option_map, Result, Ok, Err, append_assoc, refl, sym, ap, subst}
 use Rattle.std.specs.Prelude.{IsTrue, is_ok, ⊤}
 use Rattle.std.proofs.Math.Bool.{Bool-set}
 use Rattle.std.proofs.Math.Logic.{∥∥₁_elim}
@@ -8,32 +8,33 @@ use Rattle.couch_json.specs.Value.{Value}
 use Rattle.tree.specs.History.{is_known, is_leaf}
 use Rattle.tree.specs.Revision.{Revision}
 use Rattle.store.specs.Contents.{Contents}
+use Rattle.node.specs.Runs.{Steps}
 use Rattle.store.specs.Database.{Database, IsLater, history_at, sequence_at}
 use Rattle.repl.specs.Configuration.{Configuration}
-use Rattle.repl.specs.Passes.{Asked, Pass, answered_in, asked_of, done, first_pass, stopped_by, to_source, to_target, pass_after, phase_after_loss, with_changes, with_source, with_target}
+use Rattle.repl.specs.Passes.{Pass, answered_in, first_pass, pass_after, phase_after_loss, with_changes, with_source, with_target}
 use Rattle.repl.specs.Replies.{Changes, changes_listed, checkpoint_read}
-use Rattle.repl.specs.Turns.{Turn, after_turn, after_turns, answered, has_listed, lists_at, lists_in, lost, told_at, told_of}
+use Rattle.repl.specs.Turns.{Turn, after_turn, after_turns, answered, has_listed, lists_at, lists_in, lost, replies_in, start_by, told_at, told_of}
 use Rattle.repl.specs.declared.phase.Phase.{Phase}
 use Rattle.repl.specs.declared.phase.Phase.TheVariants.{ReadSource, ReadTarget, ListChanges, Compare, Open, Push, WriteSource, WriteTarget, RereadSource, RereadTarget, Done, Stopped}
 use Rattle.repl.specs.declared.why.Why.{Why}
 use Rattle.repl.proofs.LossLemmas.{lost_by}
 use Rattle.repl.proofs.ReportLemmas.{all_told}
-use Rattle.passes.specs.Owed.{has_covered}
+use Rattle.repl.proofs.StartLemmas.{start_is}
+use Rattle.passes.specs.Owed.{Covers, has_covered}
 use Rattle.passes.specs.Settled.{is_entry_of, is_reported, is_settled}
 use Rattle.passes.proofs.Rounds.{owes_nothing, rounds_cover}
-use Rattle.world.specs.Exchanging.{IsAskedBy, IsExchangedBy}
-use Rattle.world.specs.Happening.{Happening, Sight, comes, exchanges}
+use Rattle.world.specs.Happening.{Happening, Sight}
 use Rattle.world.specs.Keeping.{Keeping}
 use Rattle.world.specs.Network.{Network, Transfer, transfer_at}
 use Rattle.world.specs.Playing.{HappensBy, PlaysBy}
-use Rattle.world.specs.declared.fate.Fate.{Fate}
-use Rattle.world.specs.declared.fate.Fate.TheVariants.{Answered, ReplyLost, RequestLost}
-use Rattle.completion.specs.Finished.{Begins, DonePassesHaveListed, DonePassesOweNothing, HasListed, RoundsCoverInRuns, scene_of, source_of, target_of}
-use Rattle.completion.specs.Runs.{Run, pass_at, turns_asked, turns_at, turns_in}
-use Rattle.completion.proofs.Keepings.{LawfulAt, all_lawful, one_event, plays_later, plays_lawful}
-use Rattle.completion.proofs.Outcomes.{plays_then}
-use Rattle.completion.proofs.Places.{one_transfer}
-use Rattle.completion.proofs.Standings.{IsStopped, Stands, begins_stand, event_stands, listed_asked, listed_by, lists_join, play_stands}
+use Rattle.world.specs.Service.{HandlingOf, IsHandled}
+use Rattle.completion.specs.Finished.{Begins, DonePassesHaveListed, DonePassesOweNothing, IsTold, ListsLast, ListsLastIn, RoundsCoverInRuns, scene_of, source_of, takes_list, target_of}
+use Rattle.completion.specs.Requests.{AreKept, requests_of}
+use Rattle.completion.specs.Runs.{RunOf, pass_at, turns_at, turns_in}
+use Rattle.completion.proofs.Keepings.{LawfulAt, all_lawful, plays_later, plays_lawful}
+use Rattle.completion.proofs.Again.{Stays, keeping, lists_again, plays_again}
+use Rattle.completion.proofs.Shapes.{mapped_of}
+use Rattle.completion.proofs.Standings.{IsStopped, Stands, begins_stand, event_fit, event_stands, listed_at, listed_by, lists_join, play_stands}
 use Rattle.completion.proofs.Turned.{event_takes, one_pass, passes_go, plays_take, turns_join}
 
 -- ---- settled stays settled
@@ -71,77 +72,102 @@ refused_more c xs ys p q is then =
     ∙ all_told c (xs ++ ys) ∙ told_join (first_pass c) xs ys
     ∙ ap (λ (vs : List Value). vs ++ told_of (after_turns (first_pass c) xs) ys) (sym (all_told c xs) ∙ ap (λ (x : Pass). x.refused) (sym is))
 
+stands_at : (n : ℕ) (t : Transfer) (now : Network Contents) (last : Database) (p : Pass) → Stands n t now last p → pass_at now.transfers n ≡ Some p
+stands_at n t now last p s = ap (λ (o : Option Transfer). option_map (λ x. x.pass) o) s.there
+
+event_goes : {S : Type 0} (handling : HandlingOf S) (n : ℕ) (h : Happening) (old : Network S) (seen : List Sight) (new : Network S) (here : HappensBy handling old h seen new) (p : Pass)
+    → pass_at old.transfers n ≡ Some p → pass_at new.transfers n ≡ Some (after_turns p (turns_at handling n h old seen new here))
+event_goes handling n h old seen new here p e =
+    let m = mapped_of (λ (t : Transfer). t.pass) (transfer_at old.transfers n) p e in
+    ap (λ (o : Option Transfer). option_map (λ x. x.pass) o) (event_takes handling n h old seen new m.first m.was here)
+    ∙ ap (λ (x : Pass). Some (after_turns x (turns_at handling n h old seen new here))) m.is
+
 -- ---- from the start to the list, and on to where the pass stands now
 
--- where the pass stands now, with the source as it was at the list
+-- where the pass stands after its turns, with the source as it was at its last list
 record Arrives (n : ℕ) (t : Transfer) (listed now : Network Contents) (p : Pass) : Type 0 where
   last : Database
   stands : Stands n t now last p
   is : (last ≡ source_of t listed) ⊎ IsStopped p.phase
 
-number_is : (n : ℕ) (b : Bool) → (n == n) ≡ b → b ≡ true
-number_is n true e = refl
-number_is n false e = let k : true ≡ false = sym (eq-eqb n n refl) ∙ e in cc
+arrives : (n : ℕ) (t : Transfer) (listed : Network Contents) (hs : List Happening) (old now : Network Contents) (seen : List Sight) (before : Database) (p : Pass) → IsTold t.pass.configuration
+    → Stands n t old before p → (run : PlaysBy (Keeping t) old hs seen now) → ListsLastIn (Keeping t) n hs old seen now run listed
+    → Arrives n t listed now (after_turns p (turns_in (Keeping t) n hs old seen now run))
+arrives n t listed [] old now seen before p told s run l = absurd l
+arrives n t listed (h ∷ hs) old now seen before p told s (first, others, between, here, later, order) (inl (same, lists, none)) =
+    let ts = turns_at (Keeping t) n h old first between here in
+    let us = turns_in (Keeping t) n hs between others now later in
+    let q = after_turns p ts in
+    let one = event_stands n t h old between first before p told s here in
+    let more = play_stands n t hs between now others (listed_by p (source_of t old) before ts) q told one later in
+    let listing : has_listed p ts ≡ true = ap (λ (o : Option Pass). takes_list o ts) (sym (stands_at n t old before p s)) ∙ lists in
+    let nothing : has_listed q us ≡ false = ap (λ (o : Option Pass). takes_list o us) (sym (stands_at n t between (listed_by p (source_of t old) before ts) q one)) ∙ none in
+    let source : listed_by p (source_of t old) before ts ≡ source_of t listed =
+    listed_at p (source_of t old) before (target_of t between) ts (event_fit t n h old between first p told s.there s.same s.lawful s.sound here) listing ∙ ap (source_of t) (sym same) in
+    subst (Arrives n t listed now) (sym (turns_join p ts us)) (record {
+      last = more.listed;
+      stands = more.stands;
+      is = ⊎_elim (λ e. inl (e ∙ source)) (λ stopped. inr stopped) (more.kept nothing);
+    })
+arrives n t listed (h ∷ hs) old now seen before p told s (first, others, between, here, later, order) (inr l) =
+    let ts = turns_at (Keeping t) n h old first between here in
+    let us = turns_in (Keeping t) n hs between others now later in
+    subst (Arrives n t listed now) (sym (turns_join p ts us))
+    (arrives n t listed hs between now others (listed_by p (source_of t old) before ts) (after_turns p ts) told (event_stands n t h old between first before p told s here) later l)
 
-arrives : (n : ℕ) (t : Transfer) (listed now : Network Contents) (p : Pass) → (h : HasListed n t listed now) → LawfulAt h.start.nodes → pass_at now.transfers n ≡ Some p → Arrives n t listed now p
-arrives n t listed now p h lawful stands_at =
-    let told = h.begins.told in
-    let s0 = begins_stand n t h.start h.begins lawful in
-    let ts = turns_in (Keeping t) n h.earlier.happenings h.start h.earlier.seen listed h.earlier.played in
-    let s1 = play_stands n t h.earlier.happenings h.start listed h.earlier.seen (source_of t h.start) t.pass told s0 h.earlier.played in
-    let p1 = after_turns t.pass ts in
-    let asked = turns_asked (Keeping t) Answered listed n h.listing.transfer (asked_of h.listing.transfer.pass) h.sights h.next h.listing.asked in
-    let us = turns_at (Keeping t) n (exchanges n Answered) listed h.sights h.next h.listing in
-    let same : us ≡ asked = ap (λ (b : Bool). cond b asked []) (number_is n (n == n) refl) in
-    let s2 = event_stands n t (exchanges n Answered) listed h.next h.sights s1.listed p1 told s1.stands h.listing in
-    let at : h.listing.transfer ≡ record t { pass = p1 } = one_transfer h.listing.transfer (record t { pass = p1 }) (sym h.listing.there ∙ s1.stands.there) in
-    let lists : has_listed p1 asked ≡ true = ap (λ (x : Transfer). has_listed x.pass asked) (sym at) ∙ h.lists in
-    let source : listed_by p1 (source_of t listed) s1.listed us ≡ source_of t listed =
-    ap (listed_by p1 (source_of t listed) s1.listed) same
-    ∙ listed_asked t Answered listed h.next n h.listing.transfer (asked_of h.listing.transfer.pass) h.sights p1 (source_of t listed) s1.listed h.listing.asked lists in
-    let p2 = after_turns p1 us in
-    let s3 = play_stands n t h.since.happenings h.next now h.since.seen (listed_by p1 (source_of t listed) s1.listed us) p2 told s2 h.since.played in
-    let vs = turns_in (Keeping t) n h.since.happenings h.next h.since.seen now h.since.played in
-    let taken : h.taken ≡ p2 = one_pass h.taken p2 (pass_at h.next.transfers n) h.stands (ap (λ (o : Option Transfer). option_map (λ x. x.pass) o) s2.there) in
-    let none : has_listed p2 vs ≡ false = ap (λ (x : Pass). has_listed x vs) (sym taken) ∙ h.no_other in
-    let here : after_turns p2 vs ≡ p = one_pass (after_turns p2 vs) p (pass_at now.transfers n) (ap (λ (o : Option Transfer). option_map (λ x. x.pass) o) s3.stands.there) stands_at in
-    record {
-      last = s3.listed;
-      stands = subst (λ (q : Pass). Stands n t now s3.listed q) here s3.stands;
-      is = ⊎_elim (λ e. inl (e ∙ source)) (λ s. inr (subst (λ (q : Pass). IsStopped q.phase) here s)) (s3.kept none);
-    }
+-- a run of steps that keeps both databases, from the start of the pass
+arrives_from : (n : ℕ) (t : Transfer) (start listed now : Network Contents) (run : RunOf Steps start now) (p : Pass) → Begins n t start → LawfulAt start.nodes → AreKept t (requests_of run)
+    → ListsLast run n listed → pass_at now.transfers n ≡ Some p → Arrives n t listed now p
+arrives_from n t start listed now run p begins lawful kept l at =
+    let plain : HandlingOf Contents = λ who. IsHandled Steps in
+    let again = plays_again plain (Keeping t) (Stays t) (keeping t) run.happenings start run.seen now run.played kept in
+    let s = begins_stand n t start begins lawful in
+    let a = arrives n t listed run.happenings start now run.seen (source_of t start) t.pass begins.told s again.0
+    (lists_again plain (Keeping t) (Stays t) (keeping t) n run.happenings start run.seen now run.played kept listed l) in
+    subst (Arrives n t listed now) (one_pass _ p (pass_at now.transfers n) (stands_at n t now a.last _ a.stands) at) a
 
 -- a pass that has covered has not stopped
 not_stopped : (f : Phase) → has_covered f ≡ true → IsStopped f → ⊥
 not_stopped f e (why, is) = let k : false ≡ true = sym (ap has_covered is) ∙ e in cc
 
 -- a later event keeps what is settled
-stays_settled : (n : ℕ) (t : Transfer) (now later : Network Contents) (last : Database) (p q : Pass) → Stands n t now last p → (run : Run (Keeping t) now later)
+stays_settled : (n : ℕ) (t : Transfer) (now later : Network Contents) (last : Database) (p q : Pass) → Stands n t now last p → (more : RunOf Steps now later) → AreKept t (requests_of more)
     → pass_at later.transfers n ≡ Some q → (id : List ℕ) (r : Revision) → is_settled (target_of t now) p.refused id r ≡ true → is_settled (target_of t later) q.refused id r ≡ true
-stays_settled n t now later last p q s run at id r e =
-    let ys = turns_in (Keeping t) n run.happenings now run.seen later run.played in
-    let there = ap (λ (o : Option Transfer). option_map (λ x. x.pass) o) (plays_take (Keeping t) n run.happenings now run.seen later (record t { pass = p }) s.there run.played) in
+stays_settled n t now later last p q s more kept at id r e =
+    let plain : HandlingOf Contents = λ who. IsHandled Steps in
+    let run = (plays_again plain (Keeping t) (Stays t) (keeping t) more.happenings now more.seen later more.played kept).0 in
+    let ys = turns_in (Keeping t) n more.happenings now more.seen later run in
+    let there = ap (λ (o : Option Transfer). option_map (λ x. x.pass) o) (plays_take (Keeping t) n more.happenings now more.seen later (record t { pass = p }) s.there run) in
     let then : q ≡ after_turns p ys = one_pass q (after_turns p ys) (pass_at later.transfers n) at there in
-    let grown = (plays_later t run.happenings now later run.seen (plays_lawful t run.happenings now later run.seen run.played s.lawful) run.played).1 in
+    let grown = (plays_later t more.happenings now later more.seen (plays_lawful t more.happenings now later more.seen run s.lawful) run).1 in
     subst (λ (vs : List Value). is_settled (target_of t later) vs id r ≡ true) (sym (refused_more t.pass.configuration s.turns ys p q s.is then))
     (settled_more (target_of t now) (target_of t later) p.refused (told_of (after_turns (first_pass t.pass.configuration) s.turns) ys) id r grown e)
 
 pub rounds_in_runs : RoundsCoverInRuns
-rounds_in_runs n t listed now later p q h at covered run then id r good leaf gt le =
-    ∥∥₁_elim (all_lawful h.start.nodes h.begins.lawful) (Bool-set _ _) (λ lawful. by (arrives n t listed now p h lawful at))
+rounds_in_runs n t start listed now later run more p q begins kept l at covered kept_later then = (
+  λ id r good leaf gt le.
+      ∥∥₁_elim (all_lawful start.nodes begins.lawful) (Bool-set _ _) (λ lawful. then_listed (arrives_from n t start listed now run p begins lawful kept l at) id r good leaf gt le),
+  λ id r good leaf gt le.
+      ∥∥₁_elim (all_lawful start.nodes begins.lawful) (Bool-set _ _) (λ lawful. then_now (arrives_from n t start listed now run p begins lawful kept l at) id r good leaf gt le),
+)
   where
-    by : Arrives n t listed now p → is_settled (target_of t later) q.refused id r ≡ true
-    by a =
+    then_listed : Arrives n t listed now p → Covers (source_of t listed) p.start_seq p.last_seq (scene_of t (source_of t listed) later q)
+    then_listed a id r good leaf gt le =
         let same : a.last ≡ source_of t listed = ⊎_elim (λ e. e) (λ s. absurd (not_stopped p.phase covered s)) a.is in
         let k = (rounds_cover t.pass.configuration a.stands.events (scene_of t a.last now p) a.stands.went covered).0 id r good
         (subst (λ (x : Database). IsTrue (is_leaf (history_at x id) r)) (sym same) leaf)
         (subst (λ (x : Database). p.start_seq < sequence_at x id) (sym same) gt)
         (subst (λ (x : Database). sequence_at x id ≤ p.last_seq) (sym same) le) in
-        stays_settled n t now later a.last p q a.stands run then id r k
+        stays_settled n t now later a.last p q a.stands more kept_later then id r k
+
+    then_now : Arrives n t listed now p → Covers (source_of t now) p.start_seq p.last_seq (scene_of t (source_of t listed) later q)
+    then_now a id r good leaf gt le =
+        stays_settled n t now later a.last p q a.stands more kept_later then id r
+        ((rounds_cover t.pass.configuration a.stands.events (scene_of t a.last now p) a.stands.went covered).1 id r good leaf gt le)
 
 pub done_owes : DonePassesOweNothing
-done_owes n t listed now later p q h at ended run then id r good leaf gt =
-    ∥∥₁_elim (all_lawful h.start.nodes h.begins.lawful) (Bool-set _ _) (λ lawful. by (arrives n t listed now p h lawful at))
+done_owes n t start listed now later run more p q begins kept l at ended kept_later then id r good leaf gt =
+    ∥∥₁_elim (all_lawful start.nodes begins.lawful) (Bool-set _ _) (λ lawful. by (arrives_from n t start listed now run p begins lawful kept l at))
   where
     by : Arrives n t listed now p → is_settled (target_of t later) q.refused id r ≡ true
     by a =
@@ -149,7 +175,7 @@ done_owes n t listed now later p q h at ended run then id r good leaf gt =
         let k = owes_nothing t.pass.configuration a.stands.events (scene_of t a.last now p) a.stands.went ended id r good
         (subst (λ (x : Database). IsTrue (is_leaf (history_at x id) r)) (sym same) leaf)
         (subst (λ (x : Database). p.start_seq < sequence_at x id) (sym same) gt) in
-        stays_settled n t now later a.last p q a.stands run then id r k
+        stays_settled n t now later a.last p q a.stands more kept_later then id r k
 
 -- ---- a pass that is done has listed
 
@@ -218,123 +244,64 @@ early_turns p (x ∷ ts) h e = by (lists_at p x) refl e (λ f g. early_turns (af
     by true is k rest = absurd cc
     by false is k rest = rest (early_turn p x h is) k
 
-run_then : (t : Transfer) (a b c : Network Contents) (h : Happening) (seen : List Sight) → Run (Keeping t) a b → PlaysBy (Keeping t) b (h ∷ []) seen c → Run (Keeping t) a c
-run_then t a b c h seen run p = record {
-  happenings = run.happenings ++ h ∷ [];
-  seen = run.seen ++ seen;
-  played = plays_then (Keeping t) a b c run.happenings (h ∷ []) run.seen seen run.played p;
-}
+-- the last list in some events, or none
+none_taken : (o : Option Pass) → takes_list o [] ≡ false
+none_taken None = refl
+none_taken (Some p) = refl
 
--- a loss is no list
-lost_reply : (t : Transfer) (old new : Network Contents) (number : ℕ) (u : Transfer) (asked : Asked) (seen : List Sight) (p : Pass) → (run : IsAskedBy (Keeping t) ReplyLost old number u asked seen new)
-    → has_listed p (turns_asked (Keeping t) ReplyLost old number u asked seen new run) ≡ false
-lost_reply t old new number u (to_source m) seen p run = refl
-lost_reply t old new number u (to_target m) seen p run = refl
-lost_reply t old new number u (done s) seen p run = refl
-lost_reply t old new number u (stopped_by why s) seen p run = refl
-
-lost_request : (t : Transfer) (old new : Network Contents) (number : ℕ) (u : Transfer) (asked : Asked) (seen : List Sight) (p : Pass) → (run : IsAskedBy (Keeping t) RequestLost old number u asked seen new)
-    → has_listed p (turns_asked (Keeping t) RequestLost old number u asked seen new run) ≡ false
-lost_request t old new number u (to_source m) seen p run = refl
-lost_request t old new number u (to_target m) seen p run = refl
-lost_request t old new number u (done s) seen p run = refl
-lost_request t old new number u (stopped_by why s) seen p run = refl
-
--- no list was taken in through these events
-abbrev NoneSince : (n : ℕ) (t : Transfer) (b now : Network Contents) → Run (Keeping t) b now → Type 0
-NoneSince n t b now run = (v : Pass) → pass_at b.transfers n ≡ Some v → has_listed v (turns_in (Keeping t) n run.happenings b run.seen now run.played) ≡ false
-
--- the exchange listed, and nothing since did
-listing_by : (n : ℕ) (t : Transfer) (start a b now : Network Contents) (first : List Sight) (q : Pass) → Begins n t start → Run (Keeping t) start a → pass_at b.transfers n ≡ Some q
-    → (since : Run (Keeping t) b now) → NoneSince n t b now since → (number : ℕ) (fate : Fate) (x : IsExchangedBy (Keeping t) fate a number first b) → number ≡ n
-    → has_listed x.transfer.pass (turns_asked (Keeping t) fate a number x.transfer (asked_of x.transfer.pass) first b x.asked) ≡ true → HasListed n t a now
-listing_by n t start a b now first q begins earlier at since none number Answered x is e =
-    subst
-    (λ (k : ℕ). (y : IsExchangedBy (Keeping t) Answered a k first b)
-    → has_listed y.transfer.pass (turns_asked (Keeping t) Answered a k y.transfer (asked_of y.transfer.pass) first b y.asked) ≡ true → HasListed n t a now)
-    (sym is)
-    (λ y l. record {
-      start = start;
-      begins = begins;
-      earlier = earlier;
-      sights = first;
-      next = b;
-      listing = y;
-      lists = l;
-      since = since;
-      taken = q;
-      stands = at;
-      no_other = none q at;
-    }) x e
-listing_by n t start a b now first q begins earlier at since none number ReplyLost x is e =
-    absurd (let k : false ≡ true = sym (lost_reply t a b number x.transfer (asked_of x.transfer.pass) first x.transfer.pass x.asked) ∙ e in cc)
-listing_by n t start a b now first q begins earlier at since none number RequestLost x is e =
-    absurd (let k : false ≡ true = sym (lost_request t a b number x.transfer (asked_of x.transfer.pass) first x.transfer.pass x.asked) ∙ e in cc)
-
-listing_now : (n : ℕ) (t : Transfer) (start a b now : Network Contents) (first : List Sight) (u : Transfer) (q : Pass) → Begins n t start → Run (Keeping t) start a → transfer_at a.transfers n ≡ Some u
-    → pass_at b.transfers n ≡ Some q → (since : Run (Keeping t) b now) → NoneSince n t b now since → (h : Happening) (here : HappensBy (Keeping t) a h first b)
-    → has_listed u.pass (turns_at (Keeping t) n h a first b here) ≡ true → HasListed n t a now
-listing_now n t start a b now first u q begins earlier there at since none (comes piece) here e = absurd cc
-listing_now n t start a b now first u q begins earlier there at since none (exchanges number fate) here e = by (number == n) refl e
+last_list : {S : Type 0} (handling : HandlingOf S) (n : ℕ) (hs : List Happening) (old : Network S) (seen : List Sight) (now : Network S) (p : PlaysBy handling old hs seen now)
+    → ((listed : Network S) × ListsLastIn handling n hs old seen now p listed) ⊎ (takes_list (pass_at old.transfers n) (turns_in handling n hs old seen now p) ≡ false)
+last_list handling n [] old seen now p = inr (none_taken (pass_at old.transfers n))
+last_list {S} handling n (h ∷ hs) old seen now (first, others, between, here, later, order) = by (last_list handling n hs between others now later)
   where
-    turns : List Turn
-    turns = turns_asked (Keeping t) fate a number here.transfer (asked_of here.transfer.pass) first b here.asked
+    ts : List Turn
+    ts = turns_at handling n h old first between here
 
-    by : (c : Bool) → (number == n) ≡ c → has_listed u.pass (cond c turns []) ≡ true → HasListed n t a now
-    by true is k =
-        let same : here.transfer ≡ u = one_transfer here.transfer u (sym here.there ∙ ap (transfer_at a.transfers) (eqb-true number n is) ∙ there) in
-        listing_by n t start a b now first q begins earlier at since none number fate here (eqb-true number n is) (ap (λ (x : Transfer). has_listed x.pass turns) same ∙ k)
-    by false is k = absurd cc
+    us : List Turn
+    us = turns_in handling n hs between others now later
 
--- a later part of a run has a last list, or none
-last_list : (n : ℕ) (t : Transfer) (start : Network Contents) → Begins n t start → (hs : List Happening) (a now : Network Contents) (seen : List Sight) (u : Transfer) → Run (Keeping t) start a
-    → transfer_at a.transfers n ≡ Some u → (p : PlaysBy (Keeping t) a hs seen now)
-    → ((listed : Network Contents) × HasListed n t listed now) ⊎ NoneSince n t a now (record { happenings = hs; seen = seen; played = p })
-last_list n t start begins [] a now seen u earlier there p = inr (λ v at. refl)
-last_list n t start begins (h ∷ hs) a now seen u earlier there (first, others, b, here, later, order) =
-    let turns = turns_at (Keeping t) n h a first b here in
-    let next : transfer_at b.transfers n ≡ Some (record u { pass = after_turns u.pass turns }) = event_takes (Keeping t) n h a first b u there here in
-    let onward = run_then t start a b h first earlier (one_event t h a b first here) in
-    by (last_list n t start begins hs b now others (record u { pass = after_turns u.pass turns }) onward next later)
-  where
-    turns : List Turn
-    turns = turns_at (Keeping t) n h a first b here
+    Found : Type 0
+    Found = ((listed : Network S) × ListsLastIn handling n (h ∷ hs) old seen now (first, others, between, here, later, order) listed) ⊎ (takes_list (pass_at old.transfers n) (ts ++ us) ≡ false)
 
-    rest : List Turn
-    rest = turns_in (Keeping t) n hs b others now later
+    -- nothing at this event, and nothing later
+    neither : (o : Option Pass) → pass_at old.transfers n ≡ o → takes_list o ts ≡ false → takes_list (pass_at between.transfers n) us ≡ false → takes_list o (ts ++ us) ≡ false
+    neither None is e f = refl
+    neither (Some p) is e f =
+        let next : pass_at between.transfers n ≡ Some (after_turns p ts) = event_goes handling n h old first between here p is in
+        lists_join p ts us ∙ ap (λ (b : Bool). b || has_listed (after_turns p ts) us) e ∙ ap (λ (o : Option Pass). takes_list o us) (sym next) ∙ f
 
-    at : pass_at b.transfers n ≡ Some (after_turns u.pass turns)
-    at = ap (λ (o : Option Transfer). option_map (λ x. x.pass) o) (event_takes (Keeping t) n h a first b u there here)
+    here_or : takes_list (pass_at between.transfers n) us ≡ false → (b : Bool) → takes_list (pass_at old.transfers n) ts ≡ b → Found
+    here_or none true is = inl (old, inl (refl, is, none))
+    here_or none false is = inr (neither (pass_at old.transfers n) refl is none)
 
-    since : Run (Keeping t) b now
-    since = record { happenings = hs; seen = others; played = later }
-
-    here_or : NoneSince n t b now since → (c : Bool) → has_listed u.pass turns ≡ c
-        → ((listed : Network Contents) × HasListed n t listed now) ⊎ NoneSince n t a now (record { happenings = h ∷ hs; seen = seen; played = (first, others, b, here, later, order) })
-    here_or none true is = inl (a, listing_now n t start a b now first u (after_turns u.pass turns) begins earlier there at since none h here is)
-    here_or none false is = inr (λ v e.
-        let same : v ≡ u.pass = one_pass v u.pass (pass_at a.transfers n) e (ap (λ (o : Option Transfer). option_map (λ x. x.pass) o) there) in
-        ap (λ (x : Pass). has_listed x (turns ++ rest)) same ∙ lists_join u.pass turns rest ∙ ap (λ (c : Bool). c || has_listed (after_turns u.pass turns) rest) is
-        ∙ none (after_turns u.pass turns) at)
-
-    by : ((listed : Network Contents) × HasListed n t listed now) ⊎ NoneSince n t b now since
-        → ((listed : Network Contents) × HasListed n t listed now) ⊎ NoneSince n t a now (record { happenings = h ∷ hs; seen = seen; played = (first, others, b, here, later, order) })
-    by (inl found) = inl found
-    by (inr none) = here_or none (has_listed u.pass turns) refl
+    by : ((listed : Network S) × ListsLastIn handling n hs between others now later listed) ⊎ (takes_list (pass_at between.transfers n) us ≡ false) → Found
+    by (inl found) = inl (found.0, inr found.1)
+    by (inr none) = here_or none (takes_list (pass_at old.transfers n) ts) refl
 
 pub done_has_listed : DonePassesHaveListed
-done_has_listed n t start now p begins run at ended =
-    by (last_list n t start begins run.happenings start now run.seen t (record { happenings = []; seen = []; played = (refl, refl) }) begins.there run.played)
+done_has_listed n c start now run p first at ended = (by (last_list plain n run.happenings start run.seen now run.played), start_is_read)
   where
+    plain : HandlingOf Contents
+    plain who = IsHandled Steps
+
     turns : List Turn
-    turns = turns_in (Keeping t) n run.happenings start run.seen now run.played
+    turns = turns_in plain n run.happenings start run.seen now run.played
 
-    early : IsEarly t.pass.phase
-    early = subst (λ (x : Pass). IsEarly x.phase) (sym begins.first) tt
+    is : p ≡ after_turns (first_pass c) turns
+    is = one_pass p (after_turns (first_pass c) turns) (pass_at now.transfers n) at (passes_go plain n run.happenings start run.seen now run.played (first_pass c) first)
 
-    by : ((listed : Network Contents) × HasListed n t listed now) ⊎ NoneSince n t start now run → (listed : Network Contents) × HasListed n t listed now
+    -- without a list it would not be done
+    never : has_listed (first_pass c) turns ≡ false → ⊥
+    never none = subst IsEarly (ap (λ (x : Pass). x.phase) (sym is) ∙ ended) (early_turns (first_pass c) turns tt none)
+
+    by : ((listed : Network Contents) × ListsLast run n listed) ⊎ (takes_list (pass_at start.transfers n) turns ≡ false) → (listed : Network Contents) × ListsLast run n listed
     by (inl found) = found
-    by (inr none) =
-        let there : pass_at start.transfers n ≡ Some t.pass = ap (λ (o : Option Transfer). option_map (λ x. x.pass) o) begins.there in
-        let is : p ≡ after_turns t.pass turns = one_pass p (after_turns t.pass turns) (pass_at now.transfers n) at (passes_go (Keeping t) n run.happenings start run.seen now run.played t.pass there) in
-        absurd (subst IsEarly (ap (λ (x : Pass). x.phase) (sym is) ∙ ended) (early_turns t.pass turns early (none t.pass there)))
+    by (inr none) = absurd (never (ap (λ (o : Option Pass). takes_list o turns) (sym first) ∙ none))
+
+    listed_once : (b : Bool) → has_listed (first_pass c) turns ≡ b → p.start_seq ≡ cond b (start_by (replies_in turns)) 0 → p.start_seq ≡ start_by (replies_in turns)
+    listed_once true e k = k
+    listed_once false e k = absurd (never e)
+
+    start_is_read : p.start_seq ≡ start_by (replies_in turns)
+    start_is_read =
+        listed_once (has_listed (first_pass c) turns) refl (ap (λ (x : Pass). x.start_seq) is ∙ start_is c turns)

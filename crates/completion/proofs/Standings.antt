@@ -178,7 +178,7 @@ module _ (t : Transfer) where
   asked_fit fate old new number u (done s) seen is told lawful sound p = tt
   asked_fit fate old new number u (stopped_by why s) seen is told lawful sound p = tt
 
-  event_fit : (n : ℕ) (h : Happening) (old new : Network Contents) (seen : List Sight) (p : Pass) → IsTold t.pass.configuration → transfer_at old.transfers n ≡ Some (record t { pass = p })
+  pub event_fit : (n : ℕ) (h : Happening) (old new : Network Contents) (seen : List Sight) (p : Pass) → IsTold t.pass.configuration → transfer_at old.transfers n ≡ Some (record t { pass = p })
       → p.configuration ≡ t.pass.configuration → LawfulAt old.nodes → IsSound p → (run : HappensBy (Keeping t) old h seen new)
       → AreFit p (source_of t old) (target_of t new) (turns_at (Keeping t) n h old seen new run)
   event_fit n (comes piece) old new seen p told there same lawful sound run = tt
@@ -343,10 +343,9 @@ or_none : (b : Bool) → (b || false) ≡ true → b ≡ true
 or_none true e = refl
 or_none false e = e
 
-pub listed_asked : (t : Transfer) (fate : Fate) (old new : Network Contents) (number : ℕ) (u : Transfer) (asked : Asked) (seen : List Sight) (p : Pass) (source before : Database)
-    → (run : IsAskedBy (Keeping t) fate old number u asked seen new) → has_listed p (turns_asked (Keeping t) fate old number u asked seen new run) ≡ true
-    → listed_by p source before (turns_asked (Keeping t) fate old number u asked seen new run) ≡ source
-listed_asked t fate old new number u (to_source m) seen p source before run e = listed_now p source before _ (or_none _ e)
-listed_asked t fate old new number u (to_target m) seen p source before run e = listed_now p source before _ (or_none _ e)
-listed_asked t fate old new number u (done s) seen p source before run e = absurd cc
-listed_asked t fate old new number u (stopped_by why s) seen p source before run e = absurd cc
+-- where a list was taken in, it is of the source as it was then
+pub listed_at : (p : Pass) (source before target : Database) (ts : List Turn) → AreFit p source target ts → has_listed p ts ≡ true → listed_by p source before ts ≡ source
+listed_at p source before target [] fit e = absurd cc
+listed_at p source before target (answered status body ∷ []) fit e = listed_now p source before (answered status body) (or_none (lists_at p (answered status body)) e)
+listed_at p source before target (lost ∷ []) fit e = absurd cc
+listed_at p source before target (x ∷ y ∷ ys) fit e = absurd fit

@@ -1,7 +1,12 @@
 -- The requests that nodes handle in a run, in order, with the nodes before and after each; and what may be said of all of them.
 -- RFC 9112, section 9.3.2, for the order on a connection; CouchDB manual, replication/protocol, for passes.
-use Rattle.std.specs.Prelude.{◌≡◌, ℕ, List, [], ◌∷◌, ◌++◌}
+use Rattle.std.specs.Prelude.{◌≡◌, Some, ℕ, List, [], ◌∷◌, ◌++◌}
 use Rattle.std.specs.List.{AllByRecursion}
+use Rattle.api.specs.Asking.{method_of}
+use Rattle.api.specs.Paths.{database_name_in}
+use Rattle.api.specs.Routing.{page_of}
+use Rattle.api.specs.declared.method.RequestMethod.TheVariants.{Delete}
+use Rattle.api.specs.declared.page.Page.TheVariants.{Database as DatabasePage}
 use Rattle.couch_http.specs.Message.{Message}
 use Rattle.couch_http.specs.Reply.{Reply}
 use Rattle.store.specs.Contents.{Contents}
@@ -74,6 +79,17 @@ abbrev pub AreKept : Transfer → List (Handled Contents) → Type 0
 AreKept t rs =
     AllByRecursion (λ (r : Handled Contents). StaysAt r.old r.new t.from t.pass.configuration.source_db × StaysAt r.old r.new t.to t.pass.configuration.target_db) rs
 
+-- a request to remove the database of this name
+pub record AsksRemoval (m : Message) (name : List ℕ) : Type 0 where
+  pub page : page_of m.path ≡ Some DatabasePage
+  pub method : method_of m.method ≡ Some Delete
+  pub names : database_name_in m.path ≡ Some name
+
+-- none of them asks to remove a database of a pass
+abbrev pub AreNoRemovals : Transfer → List (Handled Contents) → Type 0
+AreNoRemovals t rs =
+    AllByRecursion (λ (r : Handled Contents). (r.place ≡ t.from → ¬ (AsksRemoval r.message t.pass.configuration.source_db)) × (r.place ≡ t.to → ¬ (AsksRemoval r.message t.pass.configuration.target_db))) rs
+
 -- no request is answered with 500 or 503
 abbrev pub AreAllServed : {S : Type 0} → List (Handled S) → Type 0
 AreAllServed {S} rs = AllByRecursion (λ (r : Handled S). IsServed r.reply) rs
@@ -88,6 +104,10 @@ pub record IsSameRun {S : Type 0} {handling other : HandlingOf S} {old new : Net
 abbrev pub RunsThatKeep : Type 0
 RunsThatKeep =
     (t : Transfer) (old new : Network Contents) (run : RunOf Steps old new) → AreKept t (requests_of run) → (again : Run (Keeping t) old new) × IsSameRun run again
+
+-- Where nobody asks to remove a database of a pass, both stay there.
+abbrev pub RunsWithoutRemovals : Type 0
+RunsWithoutRemovals = (t : Transfer) (old new : Network Contents) (run : RunOf Steps old new) → AreNoRemovals t (requests_of run) → AreKept t (requests_of run)
 
 -- A run in which no request is answered with 500 or 503 is one in which each is served.
 abbrev pub RunsThatServe : Type 0

@@ -9,22 +9,23 @@ ghost use Rattle.world.specs.Network.{AreHonest, Network, Transfer, over_databas
 ghost use Rattle.completion.specs.Finished.{Begins, DonePassesHaveListed, DonePassesOweNothing, IsTold, RoundsCoverInRuns};
 ghost use Rattle.completion.specs.Parted.{OpeningChangesNothing, PlaysHaveOneOutcome, SightsTellService, StartingChangesNothing, TwoCallsAreOne, with_pass};
 ghost use Rattle.completion.specs.Reported.{PassesGoByTurns, ReportsAreToldInRuns, StartsAreReadInRuns, StopsHaveCausesInRuns, TurnsAreSeen};
-ghost use Rattle.completion.specs.Requests.{RunsThatKeep, RunsThatServe};
+ghost use Rattle.completion.specs.Requests.{RunsThatKeep, RunsThatServe, RunsWithoutRemovals};
 
 use repl::Config;
 use store::Store;
 
 /// A pass that is done owes its target nothing: each leaf that its source had when it was listed last, of
 /// the documents whose sequence is above the start, is known at the target or reported. This is so when
-/// the pass ends and at every later event, in each run that keeps both databases. A pass that is done has
-/// listed its source.
+/// the pass ends and at every later event, in each run in which both databases stay there. A pass that is
+/// done has listed its source, and its start is that of the first two replies.
 pub fn done_pass_owes_nothing()
     ensures owed { DonePassesOweNothing }
     ensures listed { DonePassesHaveListed }
 {}
 
-/// A pass that writes its checkpoints, or is done, has settled what it listed last, and that is so at every
-/// later event.
+/// A pass that writes its checkpoints, or is done, has settled what it listed in all its rounds: of the
+/// source as it was at the last list, and as it is now. That is so at every later event, in each run in
+/// which both databases stay there.
 pub fn rounds_cover_what_they_list()
     ensures { RoundsCoverInRuns }
 {}
@@ -70,9 +71,11 @@ pub fn additions_change_nothing<S: Store>()
     ensures starting_of_databases { StartingChangesNothing Steps }
 {}
 
-/// A run all of whose requests keep both databases of a pass is one that keeps them, and one in which each
-/// is served is one that serves, with the same events, sights and turns.
+/// Where nobody asks to remove a database of a pass, both stay there. A run in which both stay there is one
+/// that keeps them, and one in which each request is served is one that serves, with the same events,
+/// sights and turns.
 pub fn runs_are_told_by_their_requests()
+    ensures spared { RunsWithoutRemovals }
     ensures keep { RunsThatKeep }
     ensures serve { RunsThatServe }
 {}
