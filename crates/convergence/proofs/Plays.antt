@@ -22,9 +22,12 @@ use Rattle.world.specs.Happening.{Happening, Sight, comes, exchanges}
 use Rattle.world.specs.Keeping.{IsAt}
 use Rattle.world.specs.Network.{Network, Transfer, transfer_at}
 use Rattle.world.specs.Playing.{HappensBy, PlaysBy}
-use Rattle.world.specs.Service.{Asker, IsAnsweredBy, IsHandled, IsServiceBy, SeenReply, by_pass, on_connection}
+use Rattle.world.specs.Service.{Asker, IsAnsweredBy, IsHandled, IsServiceBy, SeenReply, by_pass, on_connection, HandlingOf}
 use Rattle.world.specs.declared.fate.Fate.{Fate}
 use Rattle.world.specs.declared.fate.Fate.TheVariants.{Answered, ReplyLost, RequestLost}
+use Rattle.completion.specs.Requests.{requests_of}
+use Rattle.completion.specs.Runs.{Run, RunOf}
+use Rattle.completion.proofs.Again.{run_again}
 use Rattle.completion.specs.Finished.{IsTold}
 use Rattle.completion.proofs.Keepings.{LawfulAt, all_lawful}
 use Rattle.completion.proofs.Places.{one_transfer, passed_elsewhere, passed_here}
@@ -33,12 +36,22 @@ use Rattle.convergence.specs.Agreement.{HaveSameTree}
 use Rattle.convergence.specs.Appended.{KeepsDocuments}
 use Rattle.convergence.specs.Converged.{HasCopiedAll}
 use Rattle.convergence.specs.Crossing.{Crossed, Crosses, Crossing, Move, goes_back, goes_there, others}
-use Rattle.convergence.specs.Networks.{AreAhead, AreEnds, AreOpposite, BecomesAt, Course, HasEnded, IsAhead, IsArranged, IsOneOf, KeepsBoth, Only, PassesOfANetworkConverge, Stage, StaysOrStarts, arranges, runs}
+use Rattle.convergence.specs.Networks.{AreAhead, AreEnds, AreOpposite, AreTheirs, BecomesAt, Course, HasEnded, IsAhead, IsArranged, IsOneOf, KeepsBoth, PassesOfANetworkConverge, Stage, StaysOrStarts, arranges, runs}
 use Rattle.convergence.specs.Sound.{Agree, IsReplicable, IsSound}
 use Rattle.convergence.proofs.Handlings.{Nodes, lawful_after, one_at}
 use Rattle.convergence.proofs.Quiet.{same_documents}
 use Rattle.convergence.proofs.Crossings.{turn_configured, two_converge}
 use Rattle.convergence.proofs.Turnings.{HasTurned, has_turned, turned}
+
+-- ---- a request of the two passes, or of others
+
+-- A request is handled. Where neither of the two passes asks, both databases stay, and no document is written in them.
+abbrev Only : ℕ → ℕ → Transfer → HandlingOf Contents
+Only p q t who old place m reply new = IsHandled Steps old place m reply new × (IsOneOf p q who ⊎ KeepsBoth t old new)
+
+only_theirs : (p q : ℕ) (t : Transfer) (old new : Network Contents) (run : RunOf Steps old new) → AreTheirs p q t (requests_of run) → Run (Only p q t) old new
+only_theirs p q t old new run h =
+    (run_again (λ who. IsHandled Steps) (Only p q t) (λ r. IsOneOf p q r.who ⊎ KeepsBoth t r.old r.new) (λ who a place m r b handled theirs. (handled, theirs)) old new run h).0
 
 -- ---- what others do
 
@@ -322,8 +335,9 @@ module _ (p q : ℕ) (t u : Transfer) where
 
   course_moves : (ss : List Stage) (old new : Network Contents) (c : Crossing) → AreOpposite t u → p ≢ q → Stand p q t u old c → Course p q t u ss old new → Next p q t u new c
   course_moves [] old new c o apart s i = no_move old new c i s
-  course_moves (runs ∷ ss) old new c o apart s (between, run, later) =
-      let k = play_moves run.happenings old between c run.seen o apart s run.played in
+  course_moves (runs ∷ ss) old new c o apart s (between, run, theirs, later) =
+      let only = only_theirs p q t old between run theirs in
+      let k = play_moves only.happenings old between c only.seen o apart s only.played in
       let l = course_moves ss between new k.crossing o apart k.stand later in
       record { moves = k.moves ++ l.moves; crossing = l.crossing; crosses = crosses_more k.moves l.moves c k.crossing l.crossing k.crosses l.crosses; stand = l.stand }
   course_moves (arranges ∷ ss) old new c o apart s (between, here, later) = course_moves ss between new c o apart (arranged_stand old between c here s) later

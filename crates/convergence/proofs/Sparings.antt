@@ -30,16 +30,12 @@ use Rattle.node.specs.Works.{difference_list, document_finds, local_written, sec
 use Rattle.node.proofs.Tasks.{IsMade, judged_right, same, went}
 use Rattle.world.specs.Network.{Transfer, transfer_at}
 use Rattle.world.specs.Service.{Asker, IsHandled}
-use Rattle.completion.proofs.Again.{run_again}
+use Rattle.completion.proofs.Removals.{plays_so}
 use Rattle.convergence.specs.Appended.{KeepsDocuments}
-use Rattle.convergence.specs.Networks.{BecomesAt, CallsArrange, IsOneOf, KeepsBoth, Only, RunsOfTheTwo, Spares, SparingRuns, StaysOrStarts, may_write, may_write_at}
+use Rattle.convergence.specs.Networks.{BecomesAt, CallsArrange, IsOneOf, KeepsBoth, Spares, SparingRuns, StaysOrStarts, may_write, may_write_at}
 use Rattle.convergence.specs.Written.{Becomes, WritesNowhere}
 use Rattle.convergence.proofs.Handlings.{Nodes, anywhere, elsewhere, here}
 use Rattle.convergence.proofs.Quiet.{IsQuiet, nowhere, put_elsewhere, quiet_get, quiet_local, quiet_read, quiet_security, quiet_step, quiet_work, same_documents}
-
-pub of_the_two : RunsOfTheTwo
-of_the_two p q t old new run h =
-    run_again (λ who. IsHandled Steps) (Only p q t) (λ r. IsOneOf p q r.who ⊎ KeepsBoth t r.old r.new) (λ who a place m r b handled theirs. (handled, theirs)) old new run h
 
 -- ---- a request of another database
 
@@ -120,14 +116,15 @@ module _ (who : Asker) (old : Nodes) (place : ℕ) (m : Message) (r : Reply) (ne
 
 pub sparing : SparingRuns
 sparing p q t old new run h =
-    run_again (λ who. IsHandled Steps) (Only p q t)
-    (λ r. IsOneOf p q r.who ⊎ (Spares t.from t.pass.configuration.source_db r × Spares t.to t.pass.configuration.target_db r))
-    (λ who a place m r b handled theirs. (
-      handled,
-      ⊎_elim (λ one. inl one)
-          (λ both. inr (spared_at who a place m r b handled t.from t.pass.configuration.source_db (cases_eq t.from place) both.0, spared_at who a place m r b handled t.to t.pass.configuration.target_db (cases_eq t.to place) both.1))
-          theirs,
-    )) old new run h
+    plays_so (λ who. IsHandled Steps)
+    (λ r. IsOneOf p q r.who ⊎ (Spares t.from t.pass.configuration.source_db r × Spares t.to t.pass.configuration.target_db r)) (λ r. IsOneOf p q r.who ⊎ KeepsBoth t r.old r.new)
+    (λ who a place m r b handled theirs.
+    ⊎_elim (λ one. inl one)
+    (λ both. inr (
+      spared_at who a place m r b handled t.from t.pass.configuration.source_db (cases_eq t.from place) both.0,
+      spared_at who a place m r b handled t.to t.pass.configuration.target_db (cases_eq t.to place) both.1,
+    ))
+    theirs) run.happenings old run.seen new run.played h
 
 -- ---- what arranges
 

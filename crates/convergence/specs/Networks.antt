@@ -17,11 +17,11 @@ use Rattle.hub.specs.Connections.{ConnectionTable}
 use Rattle.repl.specs.Passes.{first_pass}
 use Rattle.world.specs.Keeping.{IsAt}
 use Rattle.world.specs.Network.{Network, Transfer, transfer_at}
-use Rattle.world.specs.Service.{Asker, HandlingOf, IsHandled, by_pass, on_connection}
+use Rattle.world.specs.Service.{Asker, by_pass, on_connection}
 use Rattle.completion.specs.Finished.{AreAllLawful, IsTold}
 use Rattle.completion.specs.Parted.{with_pass}
-use Rattle.completion.specs.Requests.{Handled, IsSameRun, requests_of}
-use Rattle.completion.specs.Runs.{Run, RunOf}
+use Rattle.completion.specs.Requests.{Handled, requests_of}
+use Rattle.completion.specs.Runs.{RunOf}
 use Rattle.convergence.specs.Agreement.{HaveSameTree}
 use Rattle.convergence.specs.Appended.{KeepsDocuments}
 use Rattle.convergence.specs.Converged.{HasCopiedAll}
@@ -41,9 +41,9 @@ abbrev pub IsOneOf : ℕ → ℕ → Asker → Type 0
 IsOneOf p q (on_connection conn) = ⊥
 IsOneOf p q (by_pass number fate) = (number ≡ p) ⊎ (number ≡ q)
 
--- A request is handled. Where neither of the two passes asks, both databases stay, and no document is written in them.
-abbrev pub Only : ℕ → ℕ → Transfer → HandlingOf Contents
-Only p q t who old place m reply new = IsHandled Steps old place m reply new × (IsOneOf p q who ⊎ KeepsBoth t old new)
+-- Each request is one of the two passes, or both databases stay, and no document is written in them.
+abbrev pub AreTheirs : ℕ → ℕ → Transfer → List (Handled Contents) → Type 0
+AreTheirs p q t rs = AllByRecursion (λ (r : Handled Contents). IsOneOf p q r.who ⊎ KeepsBoth t r.old r.new) rs
 
 -- ---- two passes
 
@@ -89,7 +89,8 @@ pub data Stage : Type 0 where
 -- runs in which nobody else writes, and what is arranged before, between and after
 abbrev pub Course : ℕ → ℕ → Transfer → Transfer → List Stage → Network Contents → Network Contents → Type 0
 Course p q t u [] old new = new ≡ old
-Course p q t u (runs ∷ ss) old new = (between : Network Contents) × Run (Only p q t) old between × Course p q t u ss between new
+Course p q t u (runs ∷ ss) old new =
+    (between : Network Contents) × (run : RunOf Steps old between) × AreTheirs p q t (requests_of run) × Course p q t u ss between new
 Course p q t u (arranges ∷ ss) old new = (between : Network Contents) × IsArranged p q t u old between × Course p q t u ss between new
 
 -- the two databases of a pass
@@ -114,10 +115,6 @@ PassesOfANetworkConverge =
 
 -- ---- which runs are such
 
--- one of the two passes asks, or both databases stay, and no document is written in them
-abbrev pub AreTheirs : ℕ → ℕ → Transfer → List (Handled Contents) → Type 0
-AreTheirs p q t rs = AllByRecursion (λ (r : Handled Contents). IsOneOf p q r.who ⊎ KeepsBoth t r.old r.new) rs
-
 -- What is asked of a page by a method may write documents, or remove a whole database.
 abbrev pub may_write : Page → Option RequestMethod → Bool
 may_write Document (Some Put) = true
@@ -137,21 +134,16 @@ abbrev pub Spares : ℕ → List ℕ → Handled Contents → Type 0
 Spares place name r =
     (r.place ≢ place) ⊎ ((database_name_in r.message.path ≢ Some name) ⊎ (may_write_at (page_of r.message.path) (method_of r.message.method) ≡ false))
 
--- one of the two passes asks, or the request spares both databases
+-- each request is one of the two passes, or spares both databases
 abbrev pub AreSparing : ℕ → ℕ → Transfer → List (Handled Contents) → Type 0
 AreSparing p q t rs =
     AllByRecursion
     (λ (r : Handled Contents). IsOneOf p q r.who ⊎ (Spares t.from t.pass.configuration.source_db r × Spares t.to t.pass.configuration.target_db r)) rs
 
--- a run in which nobody else writes is one by `Only`
-abbrev pub RunsOfTheTwo : Type 0
-RunsOfTheTwo =
-    (p q : ℕ) (t : Transfer) (old new : Network Contents) (run : RunOf Steps old new) → AreTheirs p q t (requests_of run) → (again : Run (Only p q t) old new) × IsSameRun run again
-
--- so is a run in which the others' requests spare both databases
+-- Where the others' requests spare both databases, nobody else writes in them.
 abbrev pub SparingRuns : Type 0
 SparingRuns =
-    (p q : ℕ) (t : Transfer) (old new : Network Contents) (run : RunOf Steps old new) → AreSparing p q t (requests_of run) → (again : Run (Only p q t) old new) × IsSameRun run again
+    (p q : ℕ) (t : Transfer) (old new : Network Contents) (run : RunOf Steps old new) → AreSparing p q t (requests_of run) → AreTheirs p q t (requests_of run)
 
 -- Opening and closing connections arranges, and so does starting a pass, where it is one of the two if it gets the number of one.
 pub record CallsArrange : Type 0 where

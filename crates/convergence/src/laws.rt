@@ -1,7 +1,7 @@
 //! What follows from the definitions alone. Each function has an empty body: its contract is the law.
 
 ghost use Rattle.convergence.specs.Converged.{LeavesMeet, ShownIsSaid, TwoPassesConverge, WritesKeepAgreement};
-ghost use Rattle.convergence.specs.Networks.{CallsArrange, PassesOfANetworkConverge, RunsOfTheTwo, SparingRuns};
+ghost use Rattle.convergence.specs.Networks.{CallsArrange, PassesOfANetworkConverge, SparingRuns};
 ghost use Rattle.convergence.specs.Replicable.{RunsKeepReplicable, StepsKeepReplicable};
 ghost use Rattle.convergence.specs.Written.{OpenedAreShown, OtherCallsWriteNothing, PushesAppendWhatIsSaid};
 
@@ -56,7 +56,6 @@ pub fn answers_keep_databases_replicable()
 /// opened and closed, and passes started, the two among them.
 pub fn passes_of_a_network_converge()
     ensures converge { PassesOfANetworkConverge }
-    ensures runs { RunsOfTheTwo }
     ensures sparing { SparingRuns }
     ensures arrangements { CallsArrange }
 {}
