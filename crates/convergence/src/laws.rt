@@ -1,9 +1,13 @@
 //! What follows from the definitions alone. Each function has an empty body: its contract is the law.
 
+ghost use Rattle.world.specs.Network.{AreHonest, Network, over_databases};
+ghost use Rattle.completion.specs.Finished.{AreAllLawful};
 ghost use Rattle.convergence.specs.Converged.{LeavesMeet, ShownIsSaid, TwoPassesConverge, WritesKeepAgreement};
 ghost use Rattle.convergence.specs.Networks.{CallsArrange, PassesOfANetworkConverge, SparingRuns};
 ghost use Rattle.convergence.specs.Replicable.{RunsKeepReplicable, StepsKeepReplicable};
 ghost use Rattle.convergence.specs.Written.{OpenedAreShown, OtherCallsWriteNothing, PushesAppendWhatIsSaid};
+
+use store::Store;
 
 /// Two lawful histories that agree, and of which each knows the leaves of the other, are one tree: with the
 /// same leaves and the same winner.
@@ -58,4 +62,9 @@ pub fn passes_of_a_network_converge()
     ensures converge { PassesOfANetworkConverge }
     ensures sparing { SparingRuns }
     ensures arrangements { CallsArrange }
+{}
+
+/// Honest stores have lawful databases, so the nodes of a network that stand on them have.
+pub fn honest_nodes_are_lawful<S: Store>()
+    ensures { (old : Network S) → AreHonest S.Store old.nodes → AreAllLawful (over_databases S.Store old).nodes }
 {}
