@@ -24,7 +24,7 @@ use Rattle.passes.specs.Settled.{is_reported}
 use Rattle.passes.proofs.Rounds.{owes_nothing}
 use Rattle.convergence.specs.Agreement.{Agrees, HaveSameTree, LeavesAreKnown}
 use Rattle.convergence.specs.Appended.{Appends, ComesFrom, IsReplica, IsSaidByOne, IsShownBy, KeepsDocuments}
-use Rattle.convergence.specs.Converged.{HasCopiedAll, TwoPassesConverge}
+use Rattle.convergence.specs.Converged.{HasCopiedAll, PassesKeepAgreement, TwoPassesConverge}
 use Rattle.convergence.specs.Crossing.{BringsShown, Crossed, Crosses, Crossing, IsTurn, Move, Moves, Waits, back_of, goes_back, goes_there, others, pushed_in, there_of}
 use Rattle.convergence.specs.Sound.{Agree, IsSound}
 use Rattle.convergence.proofs.Meeting.{agrees_back, all_reached, both_true, meeting}
@@ -380,9 +380,14 @@ same_leaves a b sound_a sound_b agree id same = by (past_at a sound_a id) (past_
         subst (λ (h : HistoryContent). HaveSameTree h (history_at b id)) (sym is_a)
         (subst (λ (k : HistoryContent). HaveSameTree (content_of ws) k) (sym is_b) (meeting ws vs lawful_a lawful_b agrees known))
 
+pub keep_pair : PassesKeepAgreement
+keep_pair c d ms now went pair =
+    let h = went_holds c d ms now went pair.one pair.other pair.agree in
+    record { one = h.one.sound; other = h.other.sound; agree = h.agree }
+
 pub two_converge : TwoPassesConverge
-two_converge c d ms now went one other agree there back id =
-    let h = went_holds c d ms now went one other agree in
+two_converge c d ms now went pair there back id =
+    let h = went_holds c d ms now went pair.one pair.other pair.agree in
     let there_went : Went c (map event_there ms) (there_of now) =
     record { first = there_of went.first; begins = went.there; batch = went.there_batch; goes = goes_as there_of event_there moves_there ms went.first now went.crosses } in
     let back_went : Went d (map event_back ms) (back_of now) =

@@ -34,13 +34,13 @@ use Rattle.completion.proofs.Places.{one_transfer, passed_elsewhere, passed_here
 use Rattle.completion.proofs.Sound.{IsSound as IsSoundPass, first_sound}
 use Rattle.convergence.specs.Agreement.{HaveSameTree}
 use Rattle.convergence.specs.Appended.{KeepsDocuments}
-use Rattle.convergence.specs.Converged.{HasCopiedAll}
+use Rattle.convergence.specs.Converged.{HasCopiedAll, IsPair}
 use Rattle.convergence.specs.Crossing.{Crossed, Crosses, Crossing, Move, goes_back, goes_there, others}
-use Rattle.convergence.specs.Networks.{AreAhead, AreEnds, AreOpposite, AreTheirs, BecomesAt, Course, HasEnded, IsAhead, IsArranged, IsOneOf, KeepsBoth, PassesOfANetworkConverge, Stage, StaysOrStarts, arranges, runs}
-use Rattle.convergence.specs.Sound.{Agree, IsReplicable, IsSound}
+use Rattle.convergence.specs.Networks.{AreAhead, AreEnds, AreOpposite, AreTheirs, BecomesAt, Course, HasEnded, IsAhead, IsArranged, IsOneOf, KeepsBoth, PassesOfANetworkConverge, Stage, StaysOrStarts, arranges, runs, AreTwins, CoursesKeepAgreement}
+use Rattle.convergence.specs.Sound.{IsReplicable, IsSound}
 use Rattle.convergence.proofs.Handlings.{Nodes, lawful_after, one_at}
 use Rattle.convergence.proofs.Quiet.{same_documents}
-use Rattle.convergence.proofs.Crossings.{turn_configured, two_converge}
+use Rattle.convergence.proofs.Crossings.{keep_pair, turn_configured, two_converge}
 use Rattle.convergence.proofs.Turnings.{HasTurned, has_turned, turned}
 
 -- ---- a request of the two passes, or of others
@@ -384,39 +384,85 @@ copied n now t p there ended =
     let same : ended.transfer ≡ record t { pass = p } = one_transfer ended.transfer (record t { pass = p }) (sym ended.there ∙ at) in
     subst (λ (x : Transfer). HasCopiedAll x.pass) same ended.copied
 
-lawfully : (p q : ℕ) (t u : Transfer) (ss : List Stage) (old new : Network Contents) (a b one other : Database) → AreOpposite t u → AreAhead p q t u old → Course p q t u ss old new
-    → AreEnds t old a b → IsReplicable a → IsReplicable b → Agree a b → HasEnded p new → HasEnded q new → AreEnds t new one other → (id : List ℕ) → LawfulAt old.nodes
-    → HaveSameTree (history_at one id) (history_at other id)
-lawfully p q t u ss old new a b one other o s course ends clean_a clean_b agree there back now id lawful =
+-- the two databases, and how they came to be as they are
+record Met (p q : ℕ) (t u : Transfer) (new : Network Contents) (one other : Database) : Type 0 where
+  moves : List Move
+  now : Crossing
+  went : Crossed t.pass.configuration u.pass.configuration moves now
+  begins : IsPair went.first.one went.first.other
+  stand : Stand p q t u new now
+  one_is : now.one ≡ one
+  other_is : now.other ≡ other
+
+met : (p q : ℕ) (t u : Transfer) (ss : List Stage) (old new : Network Contents) (a b one other : Database) → AreOpposite t u → AreAhead p q t u old → Course p q t u ss old new → AreEnds t old a b
+    → AreTwins a b → AreEnds t new one other → LawfulAt old.nodes → Met p q t u new one other
+met p q t u ss old new a b one other o s course ends twins now lawful =
     let c = first_crossing t u a b in
     let k = course_moves p q t u ss old new c o s.two (stands_first p q t u old a b o s lawful ends) course in
-    let crossed : Crossed t.pass.configuration u.pass.configuration k.moves k.crossing = record {
-      first = c;
-      there = o.there_first;
-      back = o.back_first;
-      one_listed = refl;
-      other_listed = refl;
-      there_batch = batch_told t.pass.configuration.batch o.there_told.batch;
-      back_batch = batch_told u.pass.configuration.batch o.back_told.batch;
-      crosses = k.crosses;
-    } in
-    let same : HaveSameTree (history_at k.crossing.one id) (history_at k.crossing.other id) =
-    two_converge t.pass.configuration u.pass.configuration k.moves k.crossing crossed
-    (sound_at old.nodes t.from t.pass.configuration.source_db a lawful ends.source clean_a)
-    (sound_at old.nodes t.to t.pass.configuration.target_db b lawful ends.target clean_b) agree
-    (copied p new t k.crossing.there k.stand.there there) (copied q new u k.crossing.back k.stand.back back) id in
-    subst (λ (x : Database). HaveSameTree (history_at x id) (history_at other id)) (one_at new.nodes t.from t.pass.configuration.source_db k.crossing.one one k.stand.one now.source)
-    (subst (λ (y : Database). HaveSameTree (history_at k.crossing.one id) (history_at y id)) (one_at new.nodes t.to t.pass.configuration.target_db k.crossing.other other k.stand.other now.target) same)
+    record {
+      moves = k.moves;
+      now = k.crossing;
+      went = record {
+        first = c;
+        there = o.there_first;
+        back = o.back_first;
+        one_listed = refl;
+        other_listed = refl;
+        there_batch = batch_told t.pass.configuration.batch o.there_told.batch;
+        back_batch = batch_told u.pass.configuration.batch o.back_told.batch;
+        crosses = k.crosses;
+      };
+      begins = record {
+        one = sound_at old.nodes t.from t.pass.configuration.source_db a lawful ends.source twins.one;
+        other = sound_at old.nodes t.to t.pass.configuration.target_db b lawful ends.target twins.other;
+        agree = twins.agree;
+      };
+      stand = k.stand;
+      one_is = one_at new.nodes t.from t.pass.configuration.source_db k.crossing.one one k.stand.one now.source;
+      other_is = one_at new.nodes t.to t.pass.configuration.target_db k.crossing.other other k.stand.other now.target;
+    }
+
+met_pair : (p q : ℕ) (t u : Transfer) (new : Network Contents) (one other : Database) → Met p q t u new one other → IsPair one other
+met_pair p q t u new one other k =
+    let pair = keep_pair t.pass.configuration u.pass.configuration k.moves k.now k.went k.begins in
+    subst (λ (x : Database). IsPair x other) k.one_is (subst (λ (y : Database). IsPair k.now.one y) k.other_is pair)
+
+met_tree : (p q : ℕ) (t u : Transfer) (new : Network Contents) (one other : Database) → HasEnded p new → HasEnded q new → (id : List ℕ) → Met p q t u new one other
+    → HaveSameTree (history_at one id) (history_at other id)
+met_tree p q t u new one other there back id k =
+    let same : HaveSameTree (history_at k.now.one id) (history_at k.now.other id) =
+    two_converge t.pass.configuration u.pass.configuration k.moves k.now k.went k.begins (copied p new t k.now.there k.stand.there there) (copied q new u k.now.back k.stand.back back) id in
+    subst (λ (x : Database). HaveSameTree (history_at x id) (history_at other id)) k.one_is
+    (subst (λ (y : Database). HaveSameTree (history_at k.now.one id) (history_at y id)) k.other_is same)
 
 pub networks_converge : PassesOfANetworkConverge
-networks_converge p q t u ss old new a b one other o s course ends clean_a clean_b agree there back now id =
+networks_converge p q t u ss old new a b one other o s course ends twins there back now id =
     let all = all_lawful old.nodes s.lawful in
     let by : LawfulAt old.nodes → HaveSameTree (history_at one id) (history_at other id) =
-    λ lawful. lawfully p q t u ss old new a b one other o s course ends clean_a clean_b agree there back now id lawful in
+    λ lawful. met_tree p q t u new one other there back id (met p q t u ss old new a b one other o s course ends twins now lawful) in
     record {
       known = λ r. ∥∥₁_elim all (Bool-set _ _) (λ lawful. (by lawful).known r);
       parents = λ r. ∥∥₁_elim all (Coded-set (coded_option revision_code) _ _) (λ lawful. (by lawful).parents r);
       leaves = ∥∥₁_elim all (Coded-set (coded_list revision_code) _ _) (λ lawful. (by lawful).leaves);
       winner = ∥∥₁_elim all (Coded-set (coded_option revision_code) _ _) (λ lawful. (by lawful).winner);
       held = λ r leaf. ∥∥₁_elim all (Coded-set (coded_option held_code) _ _) (λ lawful. (by lawful).held r leaf);
+    }
+
+pub networks_agree : CoursesKeepAgreement
+networks_agree p q t u ss old new a b one other o s course ends twins now =
+    let all = all_lawful old.nodes s.lawful in
+    let by : LawfulAt old.nodes → IsPair one other = λ lawful. met_pair p q t u new one other (met p q t u ss old new a b one other o s course ends twins now lawful) in
+    record {
+      one = record {
+        plain = λ id r d e. ∥∥₁_elim all (Bool-set _ _) (λ lawful. (by lawful).one.plain id r d e);
+        writable = λ id r known. ∥∥₁_elim all (Bool-set _ _) (λ lawful. (by lawful).one.writable id r known);
+      };
+      other = record {
+        plain = λ id r d e. ∥∥₁_elim all (Bool-set _ _) (λ lawful. (by lawful).other.plain id r d e);
+        writable = λ id r known. ∥∥₁_elim all (Bool-set _ _) (λ lawful. (by lawful).other.writable id r known);
+      };
+      agree = λ id. record {
+        parents = λ r there back. ∥∥₁_elim all (Coded-set (coded_option revision_code) _ _) (λ lawful. ((by lawful).agree id).parents r there back);
+        held = λ r d e there back. ∥∥₁_elim all (Coded-set held_code _ _) (λ lawful. ((by lawful).agree id).held r d e there back);
+      };
     }

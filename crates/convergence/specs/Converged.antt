@@ -33,6 +33,17 @@ WritesKeepAgreement =
     (source target : Database) (ws : List DocumentWrite) → IsSound source → IsSound target → Agree source target → AllByRecursion (ComesFrom source) ws
     → AreAcceptable target ws → IsReplica source target (with_all target ws)
 
+-- two sound databases that agree
+pub record IsPair (a b : Database) : Type 0 where
+  pub one : IsSound a
+  pub other : IsSound b
+  pub agree : Agree a b
+
+-- Two passes in opposite directions keep two sound databases sound, and their agreement, at every moment.
+abbrev pub PassesKeepAgreement : Type 0
+PassesKeepAgreement =
+    (c d : Configuration) (ms : List Move) (now : Crossing) (went : Crossed c d ms now) → IsPair went.first.one went.first.other → IsPair now.one now.other
+
 -- a pass ended that began at the start of its source, and reports nothing
 pub record HasCopiedAll (p : Pass) : Type 0 where
   pub done : p.phase ≡ Done
@@ -47,5 +58,4 @@ pub record HasCopiedAll (p : Pass) : Type 0 where
 -- that nobody else writes: a revision that somebody adds after the last listing is known to one side alone.
 abbrev pub TwoPassesConverge : Type 0
 TwoPassesConverge =
-    (c d : Configuration) (ms : List Move) (now : Crossing) (went : Crossed c d ms now) → IsSound went.first.one → IsSound went.first.other → Agree went.first.one went.first.other
-    → HasCopiedAll now.there → HasCopiedAll now.back → (id : List ℕ) → HaveSameTree (history_at now.one id) (history_at now.other id)
+    (c d : Configuration) (ms : List Move) (now : Crossing) (went : Crossed c d ms now) → IsPair went.first.one went.first.other → HasCopiedAll now.there → HasCopiedAll now.back → (id : List ℕ) → HaveSameTree (history_at now.one id) (history_at now.other id)

@@ -2,8 +2,8 @@
 
 ghost use Rattle.world.specs.Network.{AreHonest, Network, over_databases};
 ghost use Rattle.completion.specs.Finished.{AreAllLawful};
-ghost use Rattle.convergence.specs.Converged.{LeavesMeet, ShownIsSaid, TwoPassesConverge, WritesKeepAgreement};
-ghost use Rattle.convergence.specs.Networks.{CallsArrange, PassesOfANetworkConverge, SparingRuns};
+ghost use Rattle.convergence.specs.Converged.{LeavesMeet, PassesKeepAgreement, ShownIsSaid, TwoPassesConverge, WritesKeepAgreement};
+ghost use Rattle.convergence.specs.Networks.{CallsArrange, CoursesKeepAgreement, PassesOfANetworkConverge, SparingRuns};
 ghost use Rattle.convergence.specs.Replicable.{RunsKeepReplicable, StepsKeepReplicable};
 ghost use Rattle.convergence.specs.Written.{OpenedAreShown, OtherCallsWriteNothing, PushesAppendWhatIsSaid};
 
@@ -28,9 +28,10 @@ pub fn writes_keep_agreement()
 
 /// Two passes in opposite directions that are done, with nothing refused, make one tree of each document, with
 /// the same leaves and the same winner in both databases, where nobody else writes and the databases agreed at
-/// first.
+/// first. Until then they agree at every moment.
 pub fn two_passes_converge()
-    ensures { TwoPassesConverge }
+    ensures converge { TwoPassesConverge }
+    ensures agree { PassesKeepAgreement }
 {}
 
 /// A pass's push appends in its target what the documents say, or some of it, or nothing, and writes no
@@ -57,9 +58,10 @@ pub fn answers_keep_databases_replicable()
 /// same winner in both databases, where both have copied all, and nobody else wrote a document meanwhile.
 /// Nobody else writes where the requests of others spare both databases: they are handled by another node,
 /// lead into another database, or ask for nothing that writes a document. Between its runs connections may be
-/// opened and closed, and passes started, the two among them.
+/// opened and closed, and passes started, the two among them. The databases agree at every moment.
 pub fn passes_of_a_network_converge()
     ensures converge { PassesOfANetworkConverge }
+    ensures agree { CoursesKeepAgreement }
     ensures sparing { SparingRuns }
     ensures arrangements { CallsArrange }
 {}
