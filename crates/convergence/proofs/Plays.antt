@@ -3,7 +3,7 @@ use Rattle.std.proofs.Common.{◌≡◌, ◌≢◌, ◌≤◌, ◌⊎◌, ⊎_el
 use Rattle.std.specs.Prelude.{IfSome}
 use Rattle.std.specs.Coded.{Coded-set, coded_list, coded_option}
 use Rattle.std.proofs.Math.Bool.{Bool-set}
-use Rattle.std.proofs.Math.Logic.{∥∥₁_elim}
+use Rattle.std.proofs.Math.Logic.{∥∥₁_elim, ∥∥₁_map}
 use Rattle.std.proofs.lemmas.Bool.{cases_eq}
 use Rattle.couch_http.specs.Message.{Message}
 use Rattle.couch_http.specs.Reply.{Reply}
@@ -36,7 +36,7 @@ use Rattle.convergence.specs.Agreement.{HaveSameTree}
 use Rattle.convergence.specs.Appended.{KeepsDocuments}
 use Rattle.convergence.specs.Converged.{HasCopiedAll, IsPair}
 use Rattle.convergence.specs.Crossing.{Crossed, Crosses, Crossing, Move, goes_back, goes_there, others}
-use Rattle.convergence.specs.Networks.{AreAhead, AreEnds, AreOpposite, AreTheirs, BecomesAt, Course, HasEnded, IsAhead, IsArranged, IsOneOf, KeepsBoth, PassesOfANetworkConverge, Stage, StaysOrStarts, arranges, runs, AreTwins, CoursesKeepAgreement}
+use Rattle.convergence.specs.Networks.{AreAhead, AreEnds, AreOpposite, AreTheirs, BecomesAt, Course, HasEnded, IsAhead, IsArranged, IsOneOf, KeepsBoth, PassesOfANetworkConverge, Stage, StaysOrStarts, arranges, runs, AreReconcilable, CoursesKeepAgreement, CoursesKeepBoth}
 use Rattle.convergence.specs.Sound.{IsReplicable, IsSound}
 use Rattle.convergence.proofs.Handlings.{Nodes, lawful_after, one_at}
 use Rattle.convergence.proofs.Quiet.{same_documents}
@@ -395,8 +395,8 @@ record Met (p q : ℕ) (t u : Transfer) (new : Network Contents) (one other : Da
   other_is : now.other ≡ other
 
 met : (p q : ℕ) (t u : Transfer) (ss : List Stage) (old new : Network Contents) (a b one other : Database) → AreOpposite t u → AreAhead p q t u old → Course p q t u ss old new → AreEnds t old a b
-    → AreTwins a b → AreEnds t new one other → LawfulAt old.nodes → Met p q t u new one other
-met p q t u ss old new a b one other o s course ends twins now lawful =
+    → AreReconcilable a b → AreEnds t new one other → LawfulAt old.nodes → Met p q t u new one other
+met p q t u ss old new a b one other o s course ends pair now lawful =
     let c = first_crossing t u a b in
     let k = course_moves p q t u ss old new c o s.two (stands_first p q t u old a b o s lawful ends) course in
     record {
@@ -413,9 +413,9 @@ met p q t u ss old new a b one other o s course ends twins now lawful =
         crosses = k.crosses;
       };
       begins = record {
-        one = sound_at old.nodes t.from t.pass.configuration.source_db a lawful ends.source twins.one;
-        other = sound_at old.nodes t.to t.pass.configuration.target_db b lawful ends.target twins.other;
-        agree = twins.agree;
+        one = sound_at old.nodes t.from t.pass.configuration.source_db a lawful ends.source pair.one;
+        other = sound_at old.nodes t.to t.pass.configuration.target_db b lawful ends.target pair.other;
+        agree = pair.agree;
       };
       stand = k.stand;
       one_is = one_at new.nodes t.from t.pass.configuration.source_db k.crossing.one one k.stand.one now.source;
@@ -436,10 +436,10 @@ met_tree p q t u new one other there back id k =
     (subst (λ (y : Database). HaveSameTree (history_at k.now.one id) (history_at y id)) k.other_is same)
 
 pub networks_converge : PassesOfANetworkConverge
-networks_converge p q t u ss old new a b one other o s course ends twins there back now id =
+networks_converge p q t u ss old new a b one other o s course ends pair there back now id =
     let all = all_lawful old.nodes s.lawful in
     let by : LawfulAt old.nodes → HaveSameTree (history_at one id) (history_at other id) =
-    λ lawful. met_tree p q t u new one other there back id (met p q t u ss old new a b one other o s course ends twins now lawful) in
+    λ lawful. met_tree p q t u new one other there back id (met p q t u ss old new a b one other o s course ends pair now lawful) in
     record {
       known = λ r. ∥∥₁_elim all (Bool-set _ _) (λ lawful. (by lawful).known r);
       parents = λ r. ∥∥₁_elim all (Coded-set (coded_option revision_code) _ _) (λ lawful. (by lawful).parents r);
@@ -449,9 +449,9 @@ networks_converge p q t u ss old new a b one other o s course ends twins there b
     }
 
 pub networks_agree : CoursesKeepAgreement
-networks_agree p q t u ss old new a b one other o s course ends twins now =
+networks_agree p q t u ss old new a b one other o s course ends pair now =
     let all = all_lawful old.nodes s.lawful in
-    let by : LawfulAt old.nodes → IsPair one other = λ lawful. met_pair p q t u new one other (met p q t u ss old new a b one other o s course ends twins now lawful) in
+    let by : LawfulAt old.nodes → IsPair one other = λ lawful. met_pair p q t u new one other (met p q t u ss old new a b one other o s course ends pair now lawful) in
     record {
       one = record {
         plain = λ id r d e. ∥∥₁_elim all (Bool-set _ _) (λ lawful. (by lawful).one.plain id r d e);
@@ -466,3 +466,10 @@ networks_agree p q t u ss old new a b one other o s course ends twins now =
         held = λ r d e there back. ∥∥₁_elim all (Coded-set held_code _ _) (λ lawful. ((by lawful).agree id).held r d e there back);
       };
     }
+
+pub both_stay : CoursesKeepBoth
+both_stay p q t u ss old new a b o s course ends =
+    ∥∥₁_map (all_lawful old.nodes s.lawful)
+    (λ lawful.
+    let k = course_moves p q t u ss old new (first_crossing t u a b) o s.two (stands_first p q t u old a b o s lawful ends) course in
+    (k.crossing.one, k.crossing.other, record { source = k.stand.one; target = k.stand.other }))

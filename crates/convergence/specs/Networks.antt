@@ -105,7 +105,7 @@ pub record HasEnded (n : ℕ) (now : Network Contents) : Type 0 where
   pub copied : HasCopiedAll transfer.pass
 
 -- bodies are plain and revisions can be written in both databases, and they agree
-pub record AreTwins (a b : Database) : Type 0 where
+pub record AreReconcilable (a b : Database) : Type 0 where
   pub one : IsReplicable a
   pub other : IsReplicable b
   pub agree : Agree a b
@@ -114,7 +114,13 @@ pub record AreTwins (a b : Database) : Type 0 where
 abbrev pub CoursesKeepAgreement : Type 0
 CoursesKeepAgreement =
     (p q : ℕ) (t u : Transfer) (ss : List Stage) (old new : Network Contents) (a b one other : Database) → AreOpposite t u → AreAhead p q t u old → Course p q t u ss old new
-    → AreEnds t old a b → AreTwins a b → AreEnds t new one other → AreTwins one other
+    → AreEnds t old a b → AreReconcilable a b → AreEnds t new one other → AreReconcilable one other
+
+-- Through such a course both databases stay there.
+abbrev pub CoursesKeepBoth : Type 0
+CoursesKeepBoth =
+    (p q : ℕ) (t u : Transfer) (ss : List Stage) (old new : Network Contents) (a b : Database) → AreOpposite t u → AreAhead p q t u old → Course p q t u ss old new → AreEnds t old a b
+    → ∥ ((one other : Database) × AreEnds t new one other) ∥₁
 
 -- Two passes of a network in opposite directions converge: where both have copied all, and nobody else wrote a document since before both
 -- asked for the first time, their databases have the same tree of each document, with the same leaves and the same winner. At the start
@@ -122,7 +128,7 @@ CoursesKeepAgreement =
 abbrev pub PassesOfANetworkConverge : Type 0
 PassesOfANetworkConverge =
     (p q : ℕ) (t u : Transfer) (ss : List Stage) (old new : Network Contents) (a b one other : Database) → AreOpposite t u → AreAhead p q t u old → Course p q t u ss old new
-    → AreEnds t old a b → AreTwins a b → HasEnded p new → HasEnded q new → AreEnds t new one other → (id : List ℕ) → HaveSameTree (history_at one id) (history_at other id)
+    → AreEnds t old a b → AreReconcilable a b → HasEnded p new → HasEnded q new → AreEnds t new one other → (id : List ℕ) → HaveSameTree (history_at one id) (history_at other id)
 
 -- ---- which runs are such
 

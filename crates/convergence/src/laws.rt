@@ -3,7 +3,7 @@
 ghost use Rattle.world.specs.Network.{AreHonest, Network, over_databases};
 ghost use Rattle.completion.specs.Finished.{AreAllLawful};
 ghost use Rattle.convergence.specs.Converged.{LeavesMeet, PassesKeepAgreement, ShownIsSaid, TwoPassesConverge, WritesKeepAgreement};
-ghost use Rattle.convergence.specs.Networks.{CallsArrange, CoursesKeepAgreement, PassesOfANetworkConverge, SparingRuns};
+ghost use Rattle.convergence.specs.Networks.{CallsArrange, CoursesKeepAgreement, CoursesKeepBoth, PassesOfANetworkConverge, SparingRuns};
 ghost use Rattle.convergence.specs.Replicable.{RunsKeepReplicable, StepsKeepReplicable};
 ghost use Rattle.convergence.specs.Written.{OpenedAreShown, OtherCallsWriteNothing, PushesAppendWhatIsSaid};
 
@@ -58,10 +58,12 @@ pub fn answers_keep_databases_replicable()
 /// same winner in both databases, where both have copied all, and nobody else wrote a document meanwhile.
 /// Nobody else writes where the requests of others spare both databases: they are handled by another node,
 /// lead into another database, or ask for nothing that writes a document. Between its runs connections may be
-/// opened and closed, and passes started, the two among them. The databases agree at every moment.
+/// opened and closed, and passes started, the two among them. The databases stay there, and agree at every
+/// moment.
 pub fn passes_of_a_network_converge()
     ensures converge { PassesOfANetworkConverge }
     ensures agree { CoursesKeepAgreement }
+    ensures stay { CoursesKeepBoth }
     ensures sparing { SparingRuns }
     ensures arrangements { CallsArrange }
 {}
