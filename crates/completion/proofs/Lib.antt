@@ -1,0 +1,15 @@
+pub mod LawfulParts
+pub mod Shapes
+pub mod Sound
+pub mod Tables
+pub mod Places
+pub mod Outcomes
+pub mod Adding
+pub mod Turned
+pub mod Keepings
+pub mod Truths
+pub mod Standings
+pub mod Again
+pub mod Settlements
+pub mod Starting
+pub mod Removals

@@ -1,0 +1,5 @@
+pub mod Runs
+pub mod Reported
+pub mod Parted
+pub mod Requests
+pub mod Finished

@@ -1,0 +1,77 @@
+-- Events that are played in parts: in two calls, and with connections and passes that are added between.
+-- None of it is said by a standard; it follows from the definitions.
+use Rattle.std.specs.Prelude.{◌≡◌, ◌≢◌, ⊤, ℕ, length, List, [], ◌∷◌, ◌++◌}
+use Rattle.hub.specs.Connections.{with_connection}
+use Rattle.node.specs.Runs.{IsServed, Steps}
+use Rattle.store.specs.Contents.{Contents}
+use Rattle.world.specs.Happening.{Happening, Sight, comes, ended, exchanged, exchanges, replied}
+use Rattle.world.specs.Network.{Network, Transfer}
+use Rattle.world.specs.Playing.{Plays, PlaysBy}
+use Rattle.world.specs.Service.{HandlingOf, IsHandled, StepOf}
+use Rattle.world.specs.Turning.{AreKnown}
+use Rattle.world.specs.declared.fate.Fate.TheVariants.{Answered, ReplyLost, RequestLost}
+
+-- ---- two calls
+
+-- whoever asks, a request is handled, and its reply stands neither for a fault of the store nor for want of memory
+abbrev pub Serves : {S : Type 0} → StepOf S → HandlingOf S
+Serves step who old place m reply new = IsHandled step old place m reply new × IsServed reply
+
+-- The same events from the same network have one outcome, where each request was served.
+abbrev pub PlaysHaveOneOutcome : Type 0
+PlaysHaveOneOutcome =
+    (old new other : Network Contents) (hs : List Happening) (seen told : List Sight) → PlaysBy (Serves Steps) old hs seen new → PlaysBy (Serves Steps) old hs told other
+    → (seen ≡ told) × (new ≡ other)
+
+-- Events that are played in two calls have the outcome of one call with both lists, where each request was served.
+abbrev pub TwoCallsAreOne : Type 0
+TwoCallsAreOne =
+    (a b c d : Network Contents) (earlier later : List Happening) (seen others all : List Sight) → PlaysBy (Serves Steps) a earlier seen b → PlaysBy (Serves Steps) b later others c
+    → PlaysBy (Serves Steps) a (earlier ++ later) all d → (all ≡ seen ++ others) × (d ≡ c)
+
+-- what is seen is no reply of 500 or 503
+abbrev pub IsServedSight : Sight → Type 0
+IsServedSight (replied t) = IsServed t.reply
+IsServedSight (exchanged number is_to_target m status) = (status ≢ 500) × (status ≢ 503)
+IsServedSight (ended number asked) = ⊤
+
+abbrev pub AreServedSights : List Sight → Type 0
+AreServedSights [] = ⊤
+AreServedSights (s ∷ ss) = IsServedSight s × AreServedSights ss
+
+-- no reply to a pass is lost: of one that is lost nothing is seen
+abbrev pub IsHeard : Happening → Type 0
+IsHeard (comes piece) = ⊤
+IsHeard (exchanges number Answered) = ⊤
+IsHeard (exchanges number ReplyLost) = ⊥
+IsHeard (exchanges number RequestLost) = ⊤
+
+abbrev pub AreHeard : List Happening → Type 0
+AreHeard [] = ⊤
+AreHeard (h ∷ hs) = IsHeard h × AreHeard hs
+
+-- Where no reply is lost, and none that is seen is a 500 or a 503, each request was served.
+abbrev pub SightsTellService : {S : Type 0} → StepOf S → Type 0
+SightsTellService {S} step =
+    (old new : Network S) (hs : List Happening) (seen : List Sight) → AreHeard hs → AreServedSights seen → Plays step old hs seen new → PlaysBy (Serves step) old hs seen new
+
+-- ---- what is added between
+
+-- a network with one more connection, to the node of this number
+abbrev pub with_home : {S : Type 0} → ℕ → Network S → Network S
+with_home node old = record old { homes = old.homes ++ node ∷ []; connections = with_connection old.connections }
+
+-- a network with one more pass
+abbrev pub with_pass : {S : Type 0} → Transfer → Network S → Network S
+with_pass t old = record old { transfers = old.transfers ++ t ∷ [] }
+
+-- What was played before a connection was opened is what is played after it was opened.
+abbrev pub OpeningChangesNothing : {S : Type 0} → StepOf S → Type 0
+OpeningChangesNothing {S} step =
+    (node : ℕ) (old new : Network S) (hs : List Happening) (seen : List Sight) → length old.homes ≡ old.connections.opened → AreKnown old.connections old.transfers hs
+    → Plays step old hs seen new → Plays step (with_home node old) hs seen (with_home node new)
+
+-- What was played before a pass was started is what is played after it was started.
+abbrev pub StartingChangesNothing : {S : Type 0} → StepOf S → Type 0
+StartingChangesNothing {S} step =
+    (t : Transfer) (old new : Network S) (hs : List Happening) (seen : List Sight) → Plays step old hs seen new → Plays step (with_pass t old) hs seen (with_pass t new)

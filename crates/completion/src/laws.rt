@@ -1,0 +1,92 @@
+//! What follows from the definitions alone. Each function has an empty body: its contract is the law.
+
+ghost use Rattle.std.specs.Prelude.{◌≡◌, ◌+◌, ℕ, length};
+ghost use Rattle.hub.specs.Answering.{StoreSteps};
+ghost use Rattle.node.specs.Runs.{Steps};
+ghost use Rattle.repl.specs.Configuration.{configuration_of};
+ghost use Rattle.repl.specs.Passes.{first_pass};
+ghost use Rattle.world.specs.Network.{AreHonest, Network, Transfer, over_databases};
+ghost use Rattle.completion.specs.Finished.{Begins, DonePassesHaveListed, DonePassesOweNothing, IsTold, RoundsCoverInRuns};
+ghost use Rattle.completion.specs.Parted.{OpeningChangesNothing, PlaysHaveOneOutcome, SightsTellService, StartingChangesNothing, TwoCallsAreOne, with_pass};
+ghost use Rattle.completion.specs.Reported.{PassesGoByTurns, ReportsAreToldInRuns, StartsAreReadInRuns, StopsHaveCausesInRuns, TurnsAreSeen};
+ghost use Rattle.completion.specs.Requests.{RunsThatKeep, RunsThatServe, RunsWithoutRemovals};
+
+use repl::Config;
+use store::Store;
+
+/// A pass that is done owes its target nothing: each leaf that its source had when it was listed last, of
+/// the documents whose sequence is above the start, is known at the target or reported. This is so when
+/// the pass ends and at every later event, in each run in which both databases stay there. A pass that is
+/// done has listed its source, and its start is that of the first two replies.
+pub fn done_pass_owes_nothing()
+    ensures owed { DonePassesOweNothing }
+    ensures listed { DonePassesHaveListed }
+{}
+
+/// A pass that writes its checkpoints, or is done, has settled what it listed in all its rounds: of the
+/// source as it was at the last list, and as it is now. That is so at every later event, in each run in
+/// which both databases stay there.
+pub fn rounds_cover_what_they_list()
+    ensures { RoundsCoverInRuns }
+{}
+
+/// Through a run a pass becomes what its turns make of it, and of each turn its status is seen: over any
+/// store, and over databases alone.
+pub fn passes_go_by_turns<S: Store>()
+    ensures stores { PassesGoByTurns (StoreSteps S.Store) }
+    ensures databases { PassesGoByTurns Steps }
+    ensures seen { TurnsAreSeen (StoreSteps S.Store) }
+    ensures seen_of_databases { TurnsAreSeen Steps }
+{}
+
+/// At the end of a run a pass reports what the replies that it took in say, in order. Its start is that of
+/// the first two replies, and where it has stopped, one of its turns is the cause.
+pub fn passes_report_what_was_told<S: Store>()
+    ensures reports { ReportsAreToldInRuns (StoreSteps S.Store) }
+    ensures starts { StartsAreReadInRuns (StoreSteps S.Store) }
+    ensures stops { StopsHaveCausesInRuns (StoreSteps S.Store) }
+    ensures reports_of_databases { ReportsAreToldInRuns Steps }
+    ensures starts_of_databases { StartsAreReadInRuns Steps }
+    ensures stops_of_databases { StopsHaveCausesInRuns Steps }
+{}
+
+/// Events that are played in two calls have the outcome of one call with both lists, where each request is
+/// served: none is answered with 500 or 503.
+pub fn two_calls_are_one()
+    ensures calls { TwoCallsAreOne }
+    ensures outcome { PlaysHaveOneOutcome }
+{}
+
+/// Where no reply to a pass is lost, and none that is seen is a 500 or a 503, each request was served.
+pub fn sights_tell_service<S: Store>()
+    ensures stores { SightsTellService (StoreSteps S.Store) }
+    ensures databases { SightsTellService Steps }
+{}
+
+/// A connection that is opened, or a pass that is started, after some events changes nothing of them.
+pub fn additions_change_nothing<S: Store>()
+    ensures opening { OpeningChangesNothing (StoreSteps S.Store) }
+    ensures starting { StartingChangesNothing (StoreSteps S.Store) }
+    ensures opening_of_databases { OpeningChangesNothing Steps }
+    ensures starting_of_databases { StartingChangesNothing Steps }
+{}
+
+/// Where nobody asks to remove a database of a pass, both stay there. A run in which both stay there is one
+/// that keeps them, and one in which each request is served is one that serves, with the same events,
+/// sights and turns.
+pub fn runs_are_told_by_their_requests()
+    ensures spared { RunsWithoutRemovals }
+    ensures keep { RunsThatKeep }
+    ensures serve { RunsThatServe }
+{}
+
+/// A pass that is started begins, where the stores of all nodes are honest.
+pub fn started_passes_begin<S: Store>()
+    ensures { (old : Network S) (t : Transfer) → AreHonest S.Store old.nodes → t.pass ≡ first_pass t.pass.configuration → IsTold t.pass.configuration
+        → Begins (length old.transfers + 1) t (with_pass t (over_databases S.Store old)) }
+{}
+
+/// The names of databases that a pass is told are bytes, and its batch has 1 to 1,000 changes.
+pub fn configurations_are_told(config: &Config)
+    ensures { IsTold (configuration_of config.now) }
+{}

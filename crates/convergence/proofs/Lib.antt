@@ -1,0 +1,15 @@
+pub mod Meeting
+pub mod Writings
+pub mod Replicas
+pub mod PlainMembers
+pub mod Sayings
+pub mod Crossings
+pub mod Quiet
+pub mod Pushed
+pub mod Opened
+pub mod Cleanly
+pub mod Replicables
+pub mod Handlings
+pub mod Turnings
+pub mod Plays
+pub mod Sparings

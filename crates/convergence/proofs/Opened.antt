@@ -1,0 +1,87 @@
+-- The documents of opened revisions are shown by the source.
+use Rattle.std.proofs.Common.{◌≡◌, ◌≤◌, inl, inr, ℕ, List, [], ◌∷◌, map, true, Option, Some, None, option_map, refl, sym, ap, ◌∙◌, subst, arith}
+use Rattle.std.specs.List.{AllByRecursion}
+use Rattle.auth.specs.Callers as auth
+use Rattle.couch_http.specs.Message.{Message}
+use Rattle.couch_http.specs.Reply.{Reply}
+use Rattle.couch_json.specs.Lawful.{IsLawful}
+use Rattle.couch_json.specs.Reading.{reading}
+use Rattle.couch_json.specs.Value.{Value, object}
+use Rattle.couch_json.specs.View.{items_of}
+use Rattle.couch_json.proofs.ReadingBack.{what_was_read}
+use Rattle.tree.specs.History.{HistoryContent, held_of}
+use Rattle.tree.specs.Revision.{Revision, text_of}
+use Rattle.tree.specs.ShownDocument.{shown_members}
+use Rattle.tree.specs.declared.entry.Held.{Held}
+use Rattle.store.specs.Contents.{Contents}
+use Rattle.store.specs.Database.{Database, history_at}
+use Rattle.read.specs.OpenRevisions.{element, open_revision, open_revisions}
+use Rattle.read.specs.Path.{with_revisions}
+use Rattle.node.specs.Answer.{Outcome, answer, with_change}
+use Rattle.node.specs.Runs.{Steps}
+use Rattle.node.specs.Step.{reply_to}
+use Rattle.repl.specs.Calls as call
+use Rattle.repl.specs.Calls.{Revisions, request_of}
+use Rattle.repl.specs.Replies.{Opened, document, documents_of, missing, opened_in}
+use Rattle.repl.specs.Shapes.{before, each_in, list_in}
+use Rattle.repl.specs.declared.side.Side.TheVariants.{Source}
+use Rattle.passes.proofs.Opening.{opened_by}
+use Rattle.passes.proofs.Told.{said}
+use Rattle.convergence.specs.Appended.{IsShownBy}
+use Rattle.convergence.specs.Written.{OpenedAreShown}
+
+abbrev shown : List ℕ → HistoryContent → Revision → Held → Value
+shown id h r held = object (with_revisions true h r (shown_members id r held))
+
+-- what is read of one revision
+abbrev read_by : List ℕ → HistoryContent → Revision → Option Held → Opened
+read_by id h r None = missing (text_of r)
+read_by id h r (Some held) = document (shown id h r held)
+
+one_read : (id : List ℕ) (h : HistoryContent) (r : Revision) (o : Option Held) → opened_in (element r (option_map (λ held. shown id h r held) o)) ≡ Some (read_by id h r o)
+one_read id h r None = refl
+one_read id h r (Some held) = refl
+
+all_read : (id : List ℕ) (h : HistoryContent) (rs : List Revision) → each_in opened_in (items_of (map (open_revision id h true) rs)) ≡ Some (map (λ r. read_by id h r (held_of h r)) rs)
+all_read id h [] = refl
+all_read id h (r ∷ rs) = (λ i. before (one_read id h r (held_of h r) i) (all_read id h rs i))
+
+more_shown : (db : Database) (id : List ℕ) (r : Revision) (o : Option Held) (rest : List Opened) → held_of (history_at db id) r ≡ o → AllByRecursion (IsShownBy db id) (documents_of rest)
+    → AllByRecursion (IsShownBy db id) (documents_of (read_by id (history_at db id) r o ∷ rest))
+more_shown db id r None rest is h = h
+more_shown db id r (Some held) rest is h = (record { rev = r; is = ap (λ (o : Option Held). option_map (λ d. shown id (history_at db id) r d) o) is }, h)
+
+all_shown : (db : Database) (id : List ℕ) (rs : List Revision) → AllByRecursion (IsShownBy db id) (documents_of (map (λ r. read_by id (history_at db id) r (held_of (history_at db id) r)) rs))
+all_shown db id [] = tt
+all_shown db id (r ∷ rs) = more_shown db id r (held_of (history_at db id) r) _ refl (all_shown db id rs)
+
+-- a step whose reply has a status below 500 is the answer
+record Answered (c : auth.Configuration) (a : Contents) (m : Message) (r : Reply) (after : Contents) : Type 0 where
+  left : after ≡ with_change (answer c a m).change a
+  reply : r ≡ reply_to (answer c a m) m.last
+  lawful : IsLawful (answer c a m).value
+
+was_answered : (c : auth.Configuration) (a : Contents) (m : Message) (r : Reply) (after : Contents) → r.status ≤ 499 → Steps c a m r after → Answered c a m r after
+was_answered c a m r after low (inl done) = record { left = done.1; reply = done.0; lawful = done.2 }
+was_answered c a m r after low (inr (inl none)) = absurd (omega (arith, low, ap (λ (x : Reply). x.status) none.0))
+was_answered c a m r after low (inr (inr failed)) = absurd (omega (arith, low, ap (λ (x : Reply). x.status) failed.0))
+
+pub opened_shown : OpenedAreShown
+opened_shown c a k row opened r after small id_small list_small lawful step e =
+    let m = request_of k Source (call.open_revisions row) in
+    let s = said 200 (λ v. list_in opened_in v) r.status r.body opened e in
+    let told = was_answered c a m r after (omega (arith, s.right)) step in
+    let ok : (answer c a m).status ≡ 200 = sym (ap (λ (x : Reply). x.status) told.reply) ∙ s.right in
+    let h = opened_by c a k Source row small id_small list_small lawful ok in
+    let value : (answer c a m).value ≡ open_revisions row.id (history_at h.db row.id) (Some h.asked) true = ap (λ (o : Outcome). o.value) h.is in
+    let read : (answer c a m).value ≡ s.value = what_was_read (answer c a m).value s.value told.lawful (ap (λ (x : Reply). reading x.body) (sym told.reply) ∙ s.was) in
+    let content = history_at h.db row.id in
+    let list : list_in opened_in (open_revisions row.id content (Some h.asked) true) ≡ Some opened = ap (λ (v : Value). list_in opened_in v) (sym value ∙ read) ∙ s.shaped in
+    let is : map (λ x. read_by row.id content x (held_of content x)) h.asked ≡ opened =
+    (let k : Some (map (λ x. read_by row.id content x (held_of content x)) h.asked) ≡ Some opened = sym (all_read row.id content h.asked) ∙ list in cc) in
+    record {
+      db = h.db;
+      there = h.there;
+      same = told.left ∙ ap (λ (o : Outcome). with_change o.change a) h.is;
+      says = subst (λ (os : List Opened). AllByRecursion (IsShownBy h.db row.id) (documents_of os)) is (all_shown h.db row.id h.asked);
+    }

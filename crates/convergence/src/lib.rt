@@ -1,0 +1,4 @@
+//! Two replication passes in opposite directions make two databases one.
+#![tactic(auto)]
+
+pub mod laws;
