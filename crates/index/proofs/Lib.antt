@@ -6,4 +6,4 @@ pub mod Following
 pub mod Going
 pub mod ShownDeclarations
 pub mod NewIndexes
-pub mod Dropping
+pub mod Dropped

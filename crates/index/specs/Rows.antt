@@ -11,7 +11,7 @@ use Rattle.sqlite_value.specs.Order.{Row, bytes, column}
 use Rattle.sqlite_value.specs.declared.value.Value.{Value}
 use Rattle.sqlite_value.specs.declared.value.Value.TheVariants.{Null, Int, Text, Blob}
 use Rattle.store.specs.Indexes.{paths_in}
-use Rattle.tables.specs.Rows.{has_number, json_in, number_of, whole_in}
+use Rattle.tables.specs.Rows.{has_number, json_in, whole_in}
 
 -- ---- declarations: the number stands in the place of the rowid
 

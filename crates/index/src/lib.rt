@@ -3,6 +3,7 @@
 
 mod declaration;
 pub mod declarations;
+mod dropping;
 pub mod entries;
 mod fault;
 mod keys;
@@ -11,5 +12,6 @@ mod reading;
 mod refreshing;
 
 pub use declaration::Declaration;
+pub use dropping::drop_db;
 pub use fault::IndexFault;
 pub use refreshing::{list_declarations, refresh, refresh_indexes};
