@@ -8,7 +8,7 @@ use Rattle.tables.proofs.Common.{all_kept}
 -- ---- rows whose numbers rise
 
 -- each row is the one that is found by its number
-found_each : (rows : List Row) → IsAscending (λ a b. number_of a <ℤ number_of b) rows → AllByRecursion (λ r. declaration_at rows (number_of r) ≡ Some r) rows
+pub found_each : (rows : List Row) → IsAscending (λ a b. number_of a <ℤ number_of b) rows → AllByRecursion (λ r. declaration_at rows (number_of r) ≡ Some r) rows
 found_each [] up = tt
 found_each (r ∷ rows) up = (
   ap (λ b. cond b (Some r) (find (has_number (number_of r)) rows)) (same_number (number_of r) (number_of r) refl),

@@ -7,3 +7,4 @@ pub mod Going
 pub mod ShownDeclarations
 pub mod NewIndexes
 pub mod Dropped
+pub mod Alike

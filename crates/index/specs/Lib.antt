@@ -4,3 +4,4 @@ pub mod Layout
 pub mod Shown
 pub mod Indexed
 pub mod Calls
+pub mod Entries
