@@ -1,5 +1,5 @@
 -- What index rows say, and when they say the same of something else.
-use Rattle.index.proofs.Common.{AllByRecursion, AreDeclarationRows, AreEntriesOf, AreEntryRows, AreIndexed, Bool, Declarations, Documents, IsIndexed, List, None, Option, Row, Some, Trees, [], all_both, and_from, ap, bytes_eq, bytes_eq-Decides, cond, declaration_at, declared_by, declares_in, decls_tree, design_of, entries_tree, fields_of, find, find_found, find_passes, has_entry, has_number, home_of, index_name_of, int_eq, is_declaration_of, is_due, is_due_by, is_key, key_if_seen, number_of, option_map, refl, sees_in, subst, sym, true, ℕ, ℤ, ◌∙◌, ◌∷◌, ◌≡◌, ◌≢◌}
+use Rattle.index.proofs.Common.{AllByRecursion, AreDeclarationRows, AreEntryRows, AreIndexed, Declarations, Documents, IsIndexed, List, None, Option, Row, Some, Trees, [], all_both, and_from, ap, bytes_eq, bytes_eq-Decides, cond, declaration_at, declared_by, decls_tree, design_of, entries_tree, fields_of, find, find_found, find_passes, has_entry, has_number, home_of, index_name_of, int_eq, is_declaration_of, is_due, is_due_by, is_key, key_if_seen, number_of, option_map, refl, subst, sym, true, ℕ, ℤ, ◌∙◌, ◌∷◌, ◌≡◌, ◌≢◌}
 use Rattle.index.proofs.DeclarationStatements.{of_index}
 use Rattle.index.proofs.EntryChanges.{same_bytes, same_number}
 use Rattle.index.proofs.Following.{found_each}
@@ -63,8 +63,7 @@ module _ (declares : Declarations) (sees : Documents) (trees : Trees) (h : AreIn
       let found = mapped_some fields_of (find (is_declaration_of db design name) (trees decls_tree)) fields (h.declared db design name ∙ is) in
       let d = found.0 in
       let own = of_index db design name d (find_passes (is_declaration_of db design name) (trees decls_tree) d found.1) in
-      let number = find_found (λ r. declaration_at (trees decls_tree) (number_of r) ≡ Some r) (is_declaration_of db design name) (trees decls_tree) d (found_each (trees decls_tree) h.decls.rising) found.1 in
-      (
+      let number = find_found (λ r. declaration_at (trees decls_tree) (number_of r) ≡ Some r) (is_declaration_of db design name) (trees decls_tree) d (found_each (trees decls_tree) h.decls.rising) found.1 in (
         number_of d,
         record { row = d; found = number.0; home = own.0; design_is = own.1; name_is = own.2; fields_are = found.2 },
         λ k id key.

@@ -8,3 +8,6 @@ pub mod ShownDeclarations
 pub mod NewIndexes
 pub mod Dropped
 pub mod Alike
+pub mod SeenDocuments
+pub mod Pages
+pub mod RangeStatements

@@ -10,6 +10,7 @@ mod keys;
 pub mod laws;
 mod reading;
 mod refreshing;
+mod seen;
 
 pub use declaration::Declaration;
 pub use dropping::drop_db;
