@@ -5,6 +5,7 @@ pub use Rattle.tables.proofs.Deletes.{clears, deletes_id, deletes_where}
 pub use Rattle.tables.proofs.DocumentStatements.{cast_document, clears_documents, deletes_document, document_is, finds_document, ids_are, inserts_document, later_are, lists_by_id, lists_by_sequence, lists_later, lists_range, range_are, sequences_are}
 pub use Rattle.tables.proofs.DocumentWrites.{acceptable_in_turn, none_written, one_more_written}
 pub use Rattle.tables.proofs.Finds.{alters, reads_inside, reads_nothing, reads_of, reads_so}
+pub use Rattle.tables.proofs.KnownRevisions.{known_are_revisions}
 pub use Rattle.tables.proofs.Laid.{ours_has_all, shown_databases, shown_hashes, shown_locals, shown_outlines, shown_revisions}
 pub use Rattle.tables.proofs.ListingRows.{documents_by_id, leaves_by_sequence, winners_by_sequence}
 pub use Rattle.tables.proofs.LocalStatements.{cast_local, clears_locals, deletes_local, finds_local, inserts_local, local_is}

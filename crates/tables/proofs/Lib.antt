@@ -31,6 +31,7 @@ pub mod ListingRows
 pub mod RowMaps
 pub mod SinglePath
 pub mod Lookups
+pub mod KnownRevisions
 pub mod Changed
 pub mod Rests
 pub mod NewDatabases

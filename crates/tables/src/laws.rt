@@ -1,10 +1,13 @@
 //! What follows from the definitions alone. Each function has an empty body: its contract is the law.
 
-ghost use Rattle.std.specs.Prelude.{◌≡◌, true};
-ghost use Rattle.std.specs.FinMap.{empty};
+ghost use Rattle.std.specs.Prelude.{◌≡◌, ℕ, IsTrue, List, Some, true};
+ghost use Rattle.std.specs.FinMap.{empty, get};
 ghost use Rattle.std.specs.List.{AllByRecursion};
 ghost use Rattle.sqlite.specs.Effect as sqlite;
 ghost use Rattle.sqlite_trees.specs.Tree.{Trees};
+ghost use Rattle.store.specs.Database.{Database, history_at};
+ghost use Rattle.tree.specs.History.{is_known};
+ghost use Rattle.tree.specs.Revision.{Revision, is_revision};
 ghost use Rattle.tables.specs.Layout.{IsLaid, IsNew, IsStore};
 ghost use Rattle.tables.specs.Presence.{has_all, is_first};
 ghost use Rattle.tables.specs.Rows.{contents_in, shown_database, shown_hash, shown_local, shown_outline, shown_revision};
@@ -31,4 +34,11 @@ pub fn rows_of_a_store()
     ensures outlines { (trees : Trees) → IsLaid trees → AllByRecursion (λ r. IsShownOutline (shown_outline r)) (trees revs_tree) }
     ensures hashes { (trees : Trees) → IsLaid trees → AllByRecursion (λ r. IsShownHash (shown_hash r)) (trees revs_tree) }
     ensures locals { (trees : Trees) → IsLaid trees → AllByRecursion (λ r. IsShownLocal (shown_local r)) (trees locals_tree) }
+{}
+
+/// Each revision that a database knows is a revision where the tables are laid out: it can be written as
+/// text, and is read back from it.
+pub fn revisions_of_a_store()
+    ensures { (trees : Trees) → IsLaid trees → (name id : List ℕ) (db : Database) (r : Revision) → get (contents_in trees) name ≡ Some db
+        → IsTrue (is_known (history_at db id) r) → IsTrue (is_revision r) }
 {}
