@@ -9,6 +9,7 @@ pub mod Pushed
 pub mod Opened
 pub mod Cleanly
 pub mod Replicables
+pub mod Leafless
 pub mod Handlings
 pub mod Turnings
 pub mod Plays

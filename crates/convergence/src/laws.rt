@@ -4,7 +4,7 @@ ghost use Rattle.world.specs.Network.{AreHonest, Network, over_databases};
 ghost use Rattle.completion.specs.Finished.{AreAllLawful};
 ghost use Rattle.convergence.specs.Converged.{LeavesMeet, PassesKeepAgreement, ShownIsSaid, TwoPassesConverge, WritesKeepAgreement};
 ghost use Rattle.convergence.specs.Networks.{CallsArrange, CoursesKeepAgreement, CoursesKeepBoth, PassesOfANetworkConverge, SparingRuns};
-ghost use Rattle.convergence.specs.Replicable.{RunsKeepReplicable, StepsKeepReplicable};
+ghost use Rattle.convergence.specs.Replicable.{DonePassesOweNoLeaf, RunsKeepReplicable, StepsKeepReplicable};
 ghost use Rattle.convergence.specs.Written.{OpenedAreShown, OtherCallsWriteNothing, PushesAppendWhatIsSaid};
 
 use store::Store;
@@ -71,4 +71,10 @@ pub fn passes_of_a_network_converge()
 /// Honest stores have lawful databases, so the nodes of a network that stand on them have.
 pub fn honest_nodes_are_lawful<S: Store>()
     ensures { (old : Network S) → AreHonest S.Store old.nodes → AreAllLawful (over_databases S.Store old).nodes }
+{}
+
+/// A pass that is done owes its target no leaf, where at first the databases of all nodes are replicable:
+/// their known revisions are then revisions, and stay so.
+pub fn done_passes_owe_no_leaf()
+    ensures { DonePassesOweNoLeaf }
 {}
