@@ -55,6 +55,12 @@ abbrev pub SightsTellService : {S : Type 0} → StepOf S → Type 0
 SightsTellService {S} step =
     (old new : Network S) (hs : List Happening) (seen : List Sight) → AreHeard hs → AreServedSights seen → Plays step old hs seen new → PlaysBy (Serves step) old hs seen new
 
+-- The same of two calls by what is seen: where no reply is lost, and none that is seen is a 500 or a 503.
+abbrev pub TwoCallsAreSeenAsOne : Type 0
+TwoCallsAreSeenAsOne =
+    (a b c d : Network Contents) (earlier later : List Happening) (seen others all : List Sight) → AreHeard earlier → AreHeard later → AreServedSights seen → AreServedSights others → AreServedSights all
+    → Plays Steps a earlier seen b → Plays Steps b later others c → Plays Steps a (earlier ++ later) all d → (all ≡ seen ++ others) × (d ≡ c)
+
 -- ---- what is added between
 
 -- a network with one more connection, to the node of this number

@@ -7,7 +7,7 @@ ghost use Rattle.repl.specs.Configuration.{configuration_of};
 ghost use Rattle.repl.specs.Passes.{first_pass};
 ghost use Rattle.world.specs.Network.{AreHonest, Network, Transfer, over_databases};
 ghost use Rattle.completion.specs.Finished.{Begins, DonePassesHaveListed, DonePassesOweNothing, IsTold, RoundsCoverInRuns};
-ghost use Rattle.completion.specs.Parted.{OpeningChangesNothing, PlaysHaveOneOutcome, SightsTellService, StartingChangesNothing, TwoCallsAreOne, with_pass};
+ghost use Rattle.completion.specs.Parted.{OpeningChangesNothing, PlaysHaveOneOutcome, SightsTellService, StartingChangesNothing, TwoCallsAreOne, TwoCallsAreSeenAsOne, with_pass};
 ghost use Rattle.completion.specs.Reported.{PassesGoByTurns, ReportsAreToldInRuns, StartsAreReadInRuns, StopsHaveCausesInRuns, TurnsAreSeen};
 ghost use Rattle.completion.specs.Requests.{RunsThatKeep, RunsThatServe, RunsWithoutRemovals};
 
@@ -51,9 +51,10 @@ pub fn passes_report_what_was_told<S: Store>()
 {}
 
 /// Events that are played in two calls have the outcome of one call with both lists, where each request is
-/// served: none is answered with 500 or 503.
+/// served: none is answered with 500 or 503. Where no reply is lost, what is seen tells whether that is so.
 pub fn two_calls_are_one()
     ensures calls { TwoCallsAreOne }
+    ensures seen { TwoCallsAreSeenAsOne }
     ensures outcome { PlaysHaveOneOutcome }
 {}
 
