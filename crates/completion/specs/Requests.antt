@@ -105,10 +105,6 @@ abbrev pub RunsThatKeep : Type 0
 RunsThatKeep =
     (t : Transfer) (old new : Network Contents) (run : RunOf Steps old new) → AreKept t (requests_of run) → (again : Run (Keeping t) old new) × IsSameRun run again
 
--- Where nobody asks to remove a database of a pass, both stay there.
-abbrev pub RunsWithoutRemovals : Type 0
-RunsWithoutRemovals = (t : Transfer) (old new : Network Contents) (run : RunOf Steps old new) → AreNoRemovals t (requests_of run) → AreKept t (requests_of run)
-
 -- A run in which no request is answered with 500 or 503 is one in which each is served.
 abbrev pub RunsThatServe : Type 0
 RunsThatServe = (old new : Network Contents) (run : RunOf Steps old new) → AreAllServed (requests_of run) → (again : Run (Serves Steps) old new) × IsSameRun run again
