@@ -17,7 +17,7 @@ use Rattle.world.specs.Playing.{HappensBy, PlaysBy}
 use Rattle.world.specs.Service.{Asker, HandlingOf, IsAnsweredBy, IsHandled, IsServiceBy, SeenReply, by_pass, on_connection}
 use Rattle.world.specs.declared.fate.Fate.{Fate}
 use Rattle.world.specs.declared.fate.Fate.TheVariants.{Answered, ReplyLost, RequestLost}
-use Rattle.completion.specs.Courses.{ListsLastIn, takes_list}
+use Rattle.completion.specs.Finished.{ListsLastIn, takes_list}
 use Rattle.completion.specs.Parted.{Serves}
 use Rattle.completion.specs.Requests.{Handled, IsSameRun, RunsThatKeep, RunsThatServe, handled_answer, handled_asked, handled_at, handled_carry, handled_in, handled_service}
 use Rattle.completion.specs.Runs.{Run, pass_at, turn_of, turns_asked, turns_at, turns_in}

@@ -1,5 +1,5 @@
 -- In each round of a run what was listed is settled, and a pass that is done owes nothing.
-use Rattle.std.proofs.Common.{◌≡◌, ◌≤◌, ◌<◌, ◌∙◌, ◌⊎◌, inl, inr, ⊎_elim, ◌||◌, ℕ, Bool, true, false, cond, List, [], ◌∷◌, ◌++◌, Option, Some, None, option_map, Result, Ok, Err, append_assoc, refl, sym, ap, subst}
+use Rattle.std.proofs.Common.{◌≡◌, ◌≤◌, ◌<◌, ◌∙◌, ◌⊎◌, inl, inr, ⊎_elim, ◌||◌, ℕ, Bool, true, false, cond, List, [], ◌∷◌, ◌++◌, Option, Some, None, option_map, Result, Ok, Err, append_assoc, append-nil, refl, sym, ap, subst}
 use Rattle.std.specs.Prelude.{IsTrue, is_ok, ⊤}
 use Rattle.std.proofs.Math.Bool.{Bool-set}
 use Rattle.std.proofs.Math.Logic.{∥∥₁_elim}
@@ -29,8 +29,8 @@ use Rattle.world.specs.Keeping.{Keeping}
 use Rattle.world.specs.Network.{Network, Transfer, transfer_at}
 use Rattle.world.specs.Playing.{HappensBy, PlaysBy}
 use Rattle.world.specs.Service.{HandlingOf, IsHandled}
-use Rattle.completion.specs.Courses.{Course, GoesBy, IsArranged, ListsLast, ListsLastBy, ListsLastIn, ListsLastOf, Stage, arranges, requests_by, requests_through, runs, takes_list, turns_by}
-use Rattle.completion.specs.Finished.{Begins, DonePassesHaveListed, DonePassesOweNothing, IsTold, RoundsCoverInCourses, database_at, scene_of, source_of, target_of}
+use Rattle.completion.specs.Courses.{Course, DonePassesHaveListedInCourses, DonePassesOweNothingInCourses, GoesBy, IsArranged, ListsLastBy, ListsLastThrough, RoundsCoverInCourses, Stage, arranges, requests_by, requests_through, runs, turns_by}
+use Rattle.completion.specs.Finished.{Begins, DonePassesHaveListed, DonePassesOweNothing, IsTold, ListsLast, ListsLastIn, database_at, scene_of, source_of, takes_list, target_of}
 use Rattle.completion.specs.Requests.{AreKept, Handled, requests_of}
 use Rattle.completion.specs.Runs.{RunOf, pass_at, turns_at, turns_in, turns_of}
 use Rattle.completion.proofs.Keepings.{LawfulAt, Nodes, all_lawful, plays_later, plays_lawful}
@@ -172,7 +172,7 @@ arrives_on n t listed between now q us a more nothing = record { last = more.lis
 
 -- a run in which the last list was taken in
 run_arrives : (n : ℕ) (t : Transfer) (listed old new : Network Contents) (run : RunOf Steps old new) (before : Database) (p : Pass) → IsTold t.pass.configuration → AreKept t (requests_of run)
-    → Stands n t old before p → ListsLastOf run n listed → Arrives n t listed new (after_turns p (turns_of run n))
+    → Stands n t old before p → ListsLast run n listed → Arrives n t listed new (after_turns p (turns_of run n))
 run_arrives n t listed old new run before p told kept s l =
     let again = plays_again plain (Keeping t) (Stays t) (keeping t) run.happenings old run.seen new run.played kept in
     subst (λ (xs : List Turn). Arrives n t listed new (after_turns p xs)) (again.1 n)
@@ -214,7 +214,7 @@ arrives_by n t listed (arranges ∷ ss) old now (between, arranged, rest) before
 
 -- a course that keeps both databases, from the start of the pass
 arrives_from : (n : ℕ) (t : Transfer) (start listed now : Network Contents) (course : Course Steps start now) (p : Pass) → Begins n t start → LawfulAt start.nodes
-    → AreKept t (requests_through course) → ListsLast course n listed → pass_at now.transfers n ≡ Some p → Arrives n t listed now p
+    → AreKept t (requests_through course) → ListsLastThrough course n listed → pass_at now.transfers n ≡ Some p → Arrives n t listed now p
 arrives_from n t start listed now course p begins lawful kept l at =
     let a = arrives_by n t listed course.stages start now course.goes (source_of t start) t.pass begins.told kept (begins_stand n t start begins lawful) l in
     subst (Arrives n t listed now) (one_pass _ p (pass_at now.transfers n) (stands_at n t now a.last _ a.stands) at) a
@@ -270,8 +270,8 @@ rounds_in_courses n t start listed now later course more p q begins kept l at co
         stays_settled n t now later a.last p q a.stands more kept_later then id r
         ((rounds_cover t.pass.configuration a.stands.events (scene_of t a.last now p) a.stands.went covered).1 id r good leaf gt le)
 
-pub done_owes : DonePassesOweNothing
-done_owes n t start listed now later course more p q begins kept l at ended kept_later then id r good leaf gt =
+pub done_owes_in_courses : DonePassesOweNothingInCourses
+done_owes_in_courses n t start listed now later course more p q begins kept l at ended kept_later then id r good leaf gt =
     ∥∥₁_elim (all_lawful start.nodes begins.lawful) (Bool-set _ _) (λ lawful. by (arrives_from n t start listed now course p begins lawful kept l at))
   where
     by : Arrives n t listed now p → is_settled (target_of t later) q.refused id r ≡ true
@@ -409,7 +409,7 @@ last_by n (runs ∷ ss) old now (between, run, rest) = by (last_by n ss between 
     Found = ((listed : Network Contents) × ListsLastBy Steps n (runs ∷ ss) old now (between, run, rest) listed) ⊎ (takes_list (pass_at old.transfers n) (turns_of run n ++ us) ≡ false)
 
     here_or : takes_list (pass_at between.transfers n) us ≡ false
-        → ((listed : Network Contents) × ListsLastOf run n listed) ⊎ (takes_list (pass_at old.transfers n) (turns_of run n) ≡ false) → Found
+        → ((listed : Network Contents) × ListsLast run n listed) ⊎ (takes_list (pass_at old.transfers n) (turns_of run n) ≡ false) → Found
     here_or none (inl found) = inl (found.0, inl (found.1, none))
     here_or none (inr e) = inr (none_later n old between run us (pass_at old.transfers n) refl e none)
 
@@ -420,8 +420,8 @@ last_by n (arranges ∷ ss) old now (between, arranged, rest) =
     ⊎_elim (λ found. inl found)
     (λ none. inr (none_arranged n old between (turns_by Steps n ss between now rest) (pass_at old.transfers n) refl arranged none)) (last_by n ss between now rest)
 
-pub done_has_listed : DonePassesHaveListed
-done_has_listed n c start now course p first at ended = (by (last_by n course.stages start now course.goes), start_is_read)
+pub done_has_listed_in_courses : DonePassesHaveListedInCourses
+done_has_listed_in_courses n c start now course p first at ended = (by (last_by n course.stages start now course.goes), start_is_read)
   where
     turns : List Turn
     turns = turns_by Steps n course.stages start now course.goes
@@ -433,7 +433,7 @@ done_has_listed n c start now course p first at ended = (by (last_by n course.st
     never : has_listed (first_pass c) turns ≡ false → ⊥
     never none = subst IsEarly (ap (λ (x : Pass). x.phase) (sym is) ∙ ended) (early_turns (first_pass c) turns tt none)
 
-    by : ((listed : Network Contents) × ListsLast course n listed) ⊎ (takes_list (pass_at start.transfers n) turns ≡ false) → (listed : Network Contents) × ListsLast course n listed
+    by : ((listed : Network Contents) × ListsLastThrough course n listed) ⊎ (takes_list (pass_at start.transfers n) turns ≡ false) → (listed : Network Contents) × ListsLastThrough course n listed
     by (inl found) = found
     by (inr none) = absurd (never (ap (λ (o : Option Pass). takes_list o turns) (sym first) ∙ none))
 
@@ -443,3 +443,29 @@ done_has_listed n c start now course p first at ended = (by (last_by n course.st
 
     start_is_read : p.start_seq ≡ start_by (replies_in turns)
     start_is_read = listed_once (has_listed (first_pass c) turns) refl (ap (λ (x : Pass). x.start_seq) is ∙ start_is c turns)
+
+-- ---- one run
+
+kept_alone : (t : Transfer) (rs : List (Handled Contents)) → AreKept t rs → AreKept t (rs ++ [])
+kept_alone t rs h = subst (AreKept t) (sym (append-nil rs)) h
+
+pub done_owes : DonePassesOweNothing
+done_owes n t start listed now later run more p q begins kept l at ended kept_later then id r good leaf gt =
+    done_owes_in_courses n t start listed now later (record { stages = runs ∷ []; goes = (now, run, refl) }) (record { stages = runs ∷ []; goes = (later, more, refl) }) p q begins
+    (kept_alone t (requests_of run) kept) (inl (l, none_taken (pass_at now.transfers n))) at ended (kept_alone t (requests_of more) kept_later) then id r good leaf gt
+
+pub done_has_listed : DonePassesHaveListed
+done_has_listed n c start now run p first at ended = (by all.0, all.1 ∙ ap (λ (ts : List Turn). start_by (replies_in ts)) (append-nil (turns_of run n)))
+  where
+    course : Course Steps start now
+    course = record { stages = runs ∷ []; goes = (now, run, refl) }
+
+    all : ((listed : Network Contents) × ListsLastThrough course n listed) × (p.start_seq ≡ start_by (replies_in (turns_of run n ++ [])))
+    all = done_has_listed_in_courses n c start now course p first at ended
+
+    in_run : (listed : Network Contents) → ListsLastThrough course n listed → ListsLast run n listed
+    in_run listed (inl (l, none)) = l
+    in_run listed (inr l) = absurd l
+
+    by : (listed : Network Contents) × ListsLastThrough course n listed → (listed : Network Contents) × ListsLast run n listed
+    by found = (found.0, in_run found.0 found.1)

@@ -1,18 +1,24 @@
 -- What is done to a world, call after call: events are played; and between, connections are opened and closed, and passes are started.
 -- This project's own.
-use Rattle.std.specs.Prelude.{◌≡◌, ◌⊎◌, ℕ, Bool, true, false, List, [], ◌∷◌, ◌++◌, Option, None, Some}
+use Rattle.std.specs.Prelude.{◌≡◌, ◌<◌, ◌⊎◌, ℕ, true, false, List, [], ◌∷◌, ◌++◌, Some, IsTrue}
+use Rattle.tree.specs.History.{is_leaf}
+use Rattle.tree.specs.Revision.{Revision, is_revision}
 use Rattle.store.specs.Contents.{Contents}
+use Rattle.store.specs.Database.{history_at, sequence_at}
 use Rattle.node.specs.Runs.{Steps}
 use Rattle.hub.specs.Connections.{ConnectionTable}
-use Rattle.repl.specs.Passes.{Pass}
-use Rattle.repl.specs.Turns.{Turn, has_listed}
-use Rattle.world.specs.Happening.{Happening, Sight}
+use Rattle.repl.specs.Configuration.{Configuration}
+use Rattle.repl.specs.Passes.{Pass, first_pass}
+use Rattle.repl.specs.Turns.{Turn, replies_in, start_by}
+use Rattle.repl.specs.declared.phase.Phase.TheVariants.{Done}
+use Rattle.passes.specs.Owed.{Covers, has_covered}
+use Rattle.passes.specs.Settled.{is_settled}
 use Rattle.world.specs.Network.{Network, Transfer, transfer_at}
-use Rattle.world.specs.Playing.{PlaysBy}
-use Rattle.world.specs.Service.{HandlingOf, StepOf}
+use Rattle.world.specs.Service.{StepOf}
+use Rattle.completion.specs.Finished.{Begins, ListsLast, scene_of, source_of, takes_list, target_of}
 use Rattle.completion.specs.Parted.{with_pass}
 use Rattle.completion.specs.Requests.{AreKept, AreNoRemovals, Handled, requests_of}
-use Rattle.completion.specs.Runs.{Run, RunOf, pass_at, turns_at, turns_in, turns_of}
+use Rattle.completion.specs.Runs.{RunOf, pass_at, turns_of}
 
 -- Nothing is asked of any node, and the passes that were there are as they were.
 pub record IsArranged {S : Type 0} (old new : Network S) : Type 0 where
@@ -55,32 +61,15 @@ requests_through {S} {step} {old} {new} course = requests_by step course.stages 
 
 -- ---- the last list of changes
 
--- a pass, if there is one, takes a list of changes in at one of these turns
-abbrev pub takes_list : Option Pass → List Turn → Bool
-takes_list None ts = false
-takes_list (Some p) ts = has_listed p ts
-
--- In these events the pass of this number takes a list of changes in, at the event that came when the network was `listed`, and none later.
-abbrev pub ListsLastIn : {S : Type 0} (handling : HandlingOf S) (n : ℕ) (hs : List Happening) (old : Network S) (seen : List Sight) (new : Network S) → PlaysBy handling old hs seen new → Network S → Type 0
-ListsLastIn handling n [] old seen new p listed = ⊥
-ListsLastIn handling n (h ∷ hs) old seen new (first, others, between, here, later, order) listed =
-    ((listed ≡ old) × (takes_list (pass_at old.transfers n) (turns_at handling n h old first between here) ≡ true)
-    × (takes_list (pass_at between.transfers n) (turns_in handling n hs between others new later) ≡ false))
-    ⊎ ListsLastIn handling n hs between others new later listed
-
--- the same of a run
-abbrev pub ListsLastOf : {S : Type 0} {handling : HandlingOf S} {old new : Network S} → Run handling old new → ℕ → Network S → Type 0
-ListsLastOf {S} {handling} {old} {new} run n listed = ListsLastIn handling n run.happenings old run.seen new run.played listed
-
 abbrev pub ListsLastBy : {S : Type 0} (step : StepOf S) (n : ℕ) (ss : List Stage) (old new : Network S) → GoesBy step ss old new → Network S → Type 0
 ListsLastBy step n [] old new p listed = ⊥
 ListsLastBy step n (runs ∷ ss) old new (between, run, rest) listed =
-    (ListsLastOf run n listed × (takes_list (pass_at between.transfers n) (turns_by step n ss between new rest) ≡ false)) ⊎ ListsLastBy step n ss between new rest listed
+    (ListsLast run n listed × (takes_list (pass_at between.transfers n) (turns_by step n ss between new rest) ≡ false)) ⊎ ListsLastBy step n ss between new rest listed
 ListsLastBy step n (arranges ∷ ss) old new (between, arranged, rest) listed = ListsLastBy step n ss between new rest listed
 
 -- in a course the last list of changes that the pass of this number takes in is of this network
-abbrev pub ListsLast : {S : Type 0} {step : StepOf S} {old new : Network S} → Course step old new → ℕ → Network S → Type 0
-ListsLast {S} {step} {old} {new} course n listed = ListsLastBy step n course.stages old new course.goes listed
+abbrev pub ListsLastThrough : {S : Type 0} {step : StepOf S} {old new : Network S} → Course step old new → ℕ → Network S → Type 0
+ListsLastThrough {S} {step} {old} {new} course n listed = ListsLastBy step n course.stages old new course.goes listed
 
 -- ---- which calls arrange
 
@@ -92,3 +81,29 @@ pub record CallsArrange (S : Type 0) : Type 0 where
 -- Where nobody asks to remove a database of a pass, both stay there.
 abbrev pub CoursesWithoutRemovals : Type 0
 CoursesWithoutRemovals = (t : Transfer) (old new : Network Contents) (course : Course Steps old new) → AreNoRemovals t (requests_through course) → AreKept t (requests_through course)
+
+-- ---- what is settled
+
+-- Where a pass writes its checkpoints, or is done, it has settled what it listed in all its rounds: of the source as it was at the last list, and
+-- as it is now. That is so at every later event.
+abbrev pub RoundsCoverInCourses : Type 0
+RoundsCoverInCourses =
+    (n : ℕ) (t : Transfer) (start listed now later : Network Contents) (course : Course Steps start now) (more : Course Steps now later) (p q : Pass) → Begins n t start
+    → AreKept t (requests_through course) → ListsLastThrough course n listed → pass_at now.transfers n ≡ Some p → has_covered p.phase ≡ true
+    → AreKept t (requests_through more) → pass_at later.transfers n ≡ Some q
+    → Covers (source_of t listed) p.start_seq p.last_seq (scene_of t (source_of t listed) later q) × Covers (source_of t now) p.start_seq p.last_seq (scene_of t (source_of t listed) later q)
+
+-- A pass that is done owes nothing, then and later, as in a run.
+abbrev pub DonePassesOweNothingInCourses : Type 0
+DonePassesOweNothingInCourses =
+    (n : ℕ) (t : Transfer) (start listed now later : Network Contents) (course : Course Steps start now) (more : Course Steps now later) (p q : Pass) → Begins n t start
+    → AreKept t (requests_through course) → ListsLastThrough course n listed → pass_at now.transfers n ≡ Some p → p.phase ≡ Done
+    → AreKept t (requests_through more) → pass_at later.transfers n ≡ Some q
+    → (id : List ℕ) (r : Revision) → IsTrue (is_revision r) → IsTrue (is_leaf (history_at (source_of t listed) id) r) → p.start_seq < sequence_at (source_of t listed) id
+    → is_settled (target_of t later) q.refused id r ≡ true
+
+-- A pass that is done has listed its source, as in a run, and starts where the first two replies say.
+abbrev pub DonePassesHaveListedInCourses : Type 0
+DonePassesHaveListedInCourses =
+    (n : ℕ) (c : Configuration) (start now : Network Contents) (course : Course Steps start now) (p : Pass) → pass_at start.transfers n ≡ Some (first_pass c) → pass_at now.transfers n ≡ Some p
+    → p.phase ≡ Done → ((listed : Network Contents) × ListsLastThrough course n listed) × (p.start_seq ≡ start_by (replies_in (turns_through course n)))

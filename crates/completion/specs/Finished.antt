@@ -1,6 +1,6 @@
 -- What a pass has settled in a run of a network: in each round what it listed, and in the end all that it owes its target.
 -- CouchDB manual, replication/protocol; what is reported is this project's own.
-use Rattle.std.specs.Prelude.{◌≡◌, ◌<◌, ◌≤◌, ℕ, true, List, Option, Some, None, IfSome, IsTrue}
+use Rattle.std.specs.Prelude.{◌≡◌, ◌<◌, ◌≤◌, ◌⊎◌, ℕ, Bool, true, false, List, [], ◌∷◌, Option, Some, None, IfSome, IsTrue}
 use Rattle.std.specs.FinMap.{get}
 use Rattle.std.specs.List.{AllByRecursion, slice_get}
 use Rattle.tree.specs.History.{is_leaf}
@@ -12,15 +12,17 @@ use Rattle.node.specs.Runs.{Steps}
 use Rattle.node.specs.Step.{Serving}
 use Rattle.repl.specs.Configuration.{Configuration}
 use Rattle.repl.specs.Passes.{Pass, first_pass}
-use Rattle.repl.specs.Turns.{replies_in, start_by}
+use Rattle.repl.specs.Turns.{Turn, has_listed, replies_in, start_by}
 use Rattle.repl.specs.declared.phase.Phase.TheVariants.{Done}
-use Rattle.passes.specs.Owed.{Covers, Scene, has_covered}
+use Rattle.passes.specs.Owed.{Scene}
 use Rattle.passes.specs.Settled.{is_settled}
 use Rattle.passes.specs.Spelled.{AreBytes}
+use Rattle.world.specs.Happening.{Happening, Sight}
 use Rattle.world.specs.Network.{Network, Transfer, transfer_at}
-use Rattle.completion.specs.Courses.{Course, ListsLast, requests_through, turns_through}
-use Rattle.completion.specs.Requests.{AreKept}
-use Rattle.completion.specs.Runs.{pass_at}
+use Rattle.world.specs.Playing.{PlaysBy}
+use Rattle.world.specs.Service.{HandlingOf}
+use Rattle.completion.specs.Requests.{AreKept, requests_of}
+use Rattle.completion.specs.Runs.{Run, RunOf, pass_at, turns_at, turns_in, turns_of}
 
 -- ---- the databases of a pass
 
@@ -65,29 +67,39 @@ pub record Begins (n : ℕ) (t : Transfer) (now : Network Contents) : Type 0 whe
   pub told : IsTold t.pass.configuration
   pub lawful : AreAllLawful now.nodes
 
--- ---- what is settled
+-- ---- a list of changes
 
--- Where a pass writes its checkpoints, or is done, it has settled what it listed in all its rounds: of the source as it was at the last list, and
--- as it is now. That is so at every later event.
-abbrev pub RoundsCoverInCourses : Type 0
-RoundsCoverInCourses =
-    (n : ℕ) (t : Transfer) (start listed now later : Network Contents) (course : Course Steps start now) (more : Course Steps now later) (p q : Pass) → Begins n t start
-    → AreKept t (requests_through course) → ListsLast course n listed → pass_at now.transfers n ≡ Some p → has_covered p.phase ≡ true
-    → AreKept t (requests_through more) → pass_at later.transfers n ≡ Some q
-    → Covers (source_of t listed) p.start_seq p.last_seq (scene_of t (source_of t listed) later q) × Covers (source_of t now) p.start_seq p.last_seq (scene_of t (source_of t listed) later q)
+-- a pass, if there is one, takes a list of changes in at one of these turns
+abbrev pub takes_list : Option Pass → List Turn → Bool
+takes_list None ts = false
+takes_list (Some p) ts = has_listed p ts
+
+-- In these events the pass of this number takes a list of changes in, at the event that came when the network was `listed`, and none later.
+abbrev pub ListsLastIn : {S : Type 0} (handling : HandlingOf S) (n : ℕ) (hs : List Happening) (old : Network S) (seen : List Sight) (new : Network S) → PlaysBy handling old hs seen new → Network S → Type 0
+ListsLastIn handling n [] old seen new p listed = ⊥
+ListsLastIn handling n (h ∷ hs) old seen new (first, others, between, here, later, order) listed =
+    ((listed ≡ old) × (takes_list (pass_at old.transfers n) (turns_at handling n h old first between here) ≡ true)
+    × (takes_list (pass_at between.transfers n) (turns_in handling n hs between others new later) ≡ false))
+    ⊎ ListsLastIn handling n hs between others new later listed
+
+-- the same of a run: its last list of changes is of this network
+abbrev pub ListsLast : {S : Type 0} {handling : HandlingOf S} {old new : Network S} → Run handling old new → ℕ → Network S → Type 0
+ListsLast {S} {handling} {old} {new} run n listed = ListsLastIn handling n run.happenings old run.seen new run.played listed
+
+-- ---- what is settled
 
 -- A pass that is done owes nothing, then and later: each leaf that the source had when it was listed last, of a document whose sequence is
 -- above the start, is known at the target or reported.
 abbrev pub DonePassesOweNothing : Type 0
 DonePassesOweNothing =
-    (n : ℕ) (t : Transfer) (start listed now later : Network Contents) (course : Course Steps start now) (more : Course Steps now later) (p q : Pass) → Begins n t start
-    → AreKept t (requests_through course) → ListsLast course n listed → pass_at now.transfers n ≡ Some p → p.phase ≡ Done
-    → AreKept t (requests_through more) → pass_at later.transfers n ≡ Some q
+    (n : ℕ) (t : Transfer) (start listed now later : Network Contents) (run : RunOf Steps start now) (more : RunOf Steps now later) (p q : Pass) → Begins n t start
+    → AreKept t (requests_of run) → ListsLast run n listed → pass_at now.transfers n ≡ Some p → p.phase ≡ Done
+    → AreKept t (requests_of more) → pass_at later.transfers n ≡ Some q
     → (id : List ℕ) (r : Revision) → IsTrue (is_revision r) → IsTrue (is_leaf (history_at (source_of t listed) id) r) → p.start_seq < sequence_at (source_of t listed) id
     → is_settled (target_of t later) q.refused id r ≡ true
 
 -- A pass that is done has listed its source, and starts where the first two replies say.
 abbrev pub DonePassesHaveListed : Type 0
 DonePassesHaveListed =
-    (n : ℕ) (c : Configuration) (start now : Network Contents) (course : Course Steps start now) (p : Pass) → pass_at start.transfers n ≡ Some (first_pass c) → pass_at now.transfers n ≡ Some p
-    → p.phase ≡ Done → ((listed : Network Contents) × ListsLast course n listed) × (p.start_seq ≡ start_by (replies_in (turns_through course n)))
+    (n : ℕ) (c : Configuration) (start now : Network Contents) (run : RunOf Steps start now) (p : Pass) → pass_at start.transfers n ≡ Some (first_pass c) → pass_at now.transfers n ≡ Some p
+    → p.phase ≡ Done → ((listed : Network Contents) × ListsLast run n listed) × (p.start_seq ≡ start_by (replies_in (turns_of run n)))

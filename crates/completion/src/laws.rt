@@ -7,8 +7,8 @@ ghost use Rattle.node.specs.Runs.{Steps};
 ghost use Rattle.repl.specs.Configuration.{configuration_of};
 ghost use Rattle.repl.specs.Passes.{first_pass};
 ghost use Rattle.world.specs.Network.{AreHonest, Network, Transfer, over_databases};
-ghost use Rattle.completion.specs.Courses.{CallsArrange, CoursesWithoutRemovals};
-ghost use Rattle.completion.specs.Finished.{Begins, DonePassesHaveListed, DonePassesOweNothing, IsTold, RoundsCoverInCourses};
+ghost use Rattle.completion.specs.Courses.{CallsArrange, CoursesWithoutRemovals, DonePassesHaveListedInCourses, DonePassesOweNothingInCourses, RoundsCoverInCourses};
+ghost use Rattle.completion.specs.Finished.{Begins, DonePassesHaveListed, DonePassesOweNothing, IsTold};
 ghost use Rattle.completion.specs.Parted.{OpeningChangesNothing, PlaysHaveOneOutcome, SightsTellService, StartingChangesNothing, TwoCallsAreOne, TwoCallsAreSeenAsOne, with_pass};
 ghost use Rattle.completion.specs.Reported.{PassesGoByTurns, ReportsAreToldInCourses, StartsAreReadInCourses, StopsHaveCausesInCourses, TurnsAreSeen};
 ghost use Rattle.completion.specs.Requests.{RunsThatKeep, RunsThatServe};
@@ -18,11 +18,13 @@ use store::Store;
 
 /// A pass that is done owes its target nothing: each leaf that its source had when it was listed last, of
 /// the documents whose sequence is above the start, is known at the target or reported. This is so when
-/// the pass ends and at every later event, in each course in which both databases stay there. A pass that
-/// is done has listed its source, and its start is that of the first two replies.
+/// the pass ends and at every later event, in each run in which both databases stay there, and in each such
+/// course. A pass that is done has listed its source, and its start is that of the first two replies.
 pub fn done_pass_owes_nothing()
     ensures owed { DonePassesOweNothing }
     ensures listed { DonePassesHaveListed }
+    ensures owed_in_courses { DonePassesOweNothingInCourses }
+    ensures listed_in_courses { DonePassesHaveListedInCourses }
 {}
 
 /// A pass that writes its checkpoints, or is done, has settled what it listed in all its rounds: of the
