@@ -25,6 +25,7 @@ pub record IsArranged {S : Type 0} (old new : Network S) : Type 0 where
   pub nodes : new.nodes ≡ old.nodes
   pub passes : (m : ℕ) (t : Transfer) → transfer_at old.transfers m ≡ Some t → transfer_at new.transfers m ≡ Some t
 
+-- events are played, or something is arranged
 pub data Stage : Type 0 where
   runs : Stage
   arranges : Stage
@@ -35,12 +36,14 @@ GoesBy step [] old new = new ≡ old
 GoesBy {S} step (runs ∷ ss) old new = (between : Network S) × RunOf step old between × GoesBy step ss between new
 GoesBy {S} step (arranges ∷ ss) old new = (between : Network S) × IsArranged old between × GoesBy step ss between new
 
+-- such stages, from one network to another
 pub record Course {S : Type 0} (step : StepOf S) (old new : Network S) : Type 0 where
   pub stages : List Stage
   pub goes : GoesBy step stages old new
 
 -- ---- turns and requests
 
+-- the turns of the pass of this number in several stages
 abbrev pub turns_by : {S : Type 0} (step : StepOf S) (n : ℕ) (ss : List Stage) (old new : Network S) → GoesBy step ss old new → List Turn
 turns_by step n [] old new p = []
 turns_by step n (runs ∷ ss) old new (between, run, rest) = turns_of run n ++ turns_by step n ss between new rest
@@ -50,6 +53,7 @@ turns_by step n (arranges ∷ ss) old new (between, arranged, rest) = turns_by s
 abbrev pub turns_through : {S : Type 0} {step : StepOf S} {old new : Network S} → Course step old new → ℕ → List Turn
 turns_through {S} {step} {old} {new} course n = turns_by step n course.stages old new course.goes
 
+-- the requests of several stages
 abbrev pub requests_by : {S : Type 0} (step : StepOf S) (ss : List Stage) (old new : Network S) → GoesBy step ss old new → List (Handled S)
 requests_by step [] old new p = []
 requests_by step (runs ∷ ss) old new (between, run, rest) = requests_of run ++ requests_by step ss between new rest
@@ -61,6 +65,7 @@ requests_through {S} {step} {old} {new} course = requests_by step course.stages 
 
 -- ---- the last list of changes
 
+-- In these stages it is of this network: in one of the runs, and no later run takes one in.
 abbrev pub ListsLastBy : {S : Type 0} (step : StepOf S) (n : ℕ) (ss : List Stage) (old new : Network S) → GoesBy step ss old new → Network S → Type 0
 ListsLastBy step n [] old new p listed = ⊥
 ListsLastBy step n (runs ∷ ss) old new (between, run, rest) listed =

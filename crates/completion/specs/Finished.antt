@@ -26,10 +26,12 @@ use Rattle.completion.specs.Runs.{Run, RunOf, pass_at, turns_at, turns_in, turns
 
 -- ---- the databases of a pass
 
+-- a database that is there, or a new one
 abbrev pub found_or_new : Option Database → Database
 found_or_new None = new_database
 found_or_new (Some db) = db
 
+-- the database of this name, if there are such a node and such a database
 abbrev pub database_of_node : Option (Serving Contents) → List ℕ → Option Database
 database_of_node None name = None
 database_of_node (Some node) name = get node.store name
@@ -38,6 +40,7 @@ database_of_node (Some node) name = get node.store name
 abbrev pub database_at : List (Serving Contents) → ℕ → List ℕ → Database
 database_at nodes place name = found_or_new (database_of_node (slice_get nodes place) name)
 
+-- the two databases of a pass
 abbrev pub source_of : Transfer → Network Contents → Database
 source_of t now = database_at now.nodes t.from t.pass.configuration.source_db
 

@@ -35,6 +35,7 @@ IsServedSight (replied t) = IsServed t.reply
 IsServedSight (exchanged number is_to_target m status) = (status ≢ 500) × (status ≢ 503)
 IsServedSight (ended number asked) = ⊤
 
+-- nothing that is seen is one
 abbrev pub AreServedSights : List Sight → Type 0
 AreServedSights [] = ⊤
 AreServedSights (s ∷ ss) = IsServedSight s × AreServedSights ss
@@ -46,6 +47,7 @@ IsHeard (exchanges number Answered) = ⊤
 IsHeard (exchanges number ReplyLost) = ⊥
 IsHeard (exchanges number RequestLost) = ⊤
 
+-- so it is of several events
 abbrev pub AreHeard : List Happening → Type 0
 AreHeard [] = ⊤
 AreHeard (h ∷ hs) = IsHeard h × AreHeard hs

@@ -21,6 +21,7 @@ PassesGoByTurns {S} step =
 
 -- ---- what is seen of turns
 
+-- the status of a reply, and 0 for a loss
 abbrev pub status_of : Turn → ℕ
 status_of (answered status body) = status
 status_of lost = 0
