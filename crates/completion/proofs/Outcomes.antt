@@ -21,7 +21,7 @@ use Rattle.world.specs.Playing.{HappensBy, PlaysBy, all_replied}
 use Rattle.world.specs.Service.{Asker, HandlingOf, IsAnsweredBy, IsHandled, IsServiceBy, SeenReply, StepOf, by_pass, on_connection}
 use Rattle.world.specs.declared.fate.Fate.{Fate}
 use Rattle.world.specs.declared.fate.Fate.TheVariants.{Answered, ReplyLost, RequestLost}
-use Rattle.completion.specs.Parted.{AreHeard, AreServedSights, PlaysHaveOneOutcome, Serves, SightsTellService, TwoCallsAreOne}
+use Rattle.completion.specs.Parted.{AreHeard, AreServedSights, PlaysHaveOneOutcome, Serves, SightsTellService, TwoCallsAreOne, TwoCallsAreSeenAsOne}
 
 abbrev Nodes : Type 0
 Nodes = List (Serving Contents)
@@ -230,3 +230,12 @@ module _ {S : Type 0} (step : StepOf S) where
   sights_tell old new (h ∷ hs) seen heard served (first, others, between, here, later, order) =
       let all = subst AreServedSights order served in
       (first, others, between, event_told h old between first (heard.0, tt) (sights_front first others all) here, sights_tell between new hs others heard.1 (sights_back first others all) later, order)
+
+heard_both : (hs ks : List Happening) → AreHeard hs → AreHeard ks → AreHeard (hs ++ ks)
+heard_both [] ks p q = q
+heard_both (h ∷ hs) ks p q = (p.0, heard_both hs ks p.1 q)
+
+pub two_calls_seen : TwoCallsAreSeenAsOne
+two_calls_seen a b c d earlier later seen others all heard and_heard served and_served all_served p q r =
+    two_calls a b c d earlier later seen others all (sights_tell Steps a b earlier seen heard served p) (sights_tell Steps b c later others and_heard and_served q)
+    (sights_tell Steps a d (earlier ++ later) all (heard_both earlier later heard and_heard) all_served r)

@@ -38,7 +38,9 @@ use Rattle.world.specs.Playing.{HappensBy, PlaysBy}
 use Rattle.world.specs.Service.{Asker, HandlingOf, IsAnsweredBy, IsHandled, IsServiceBy, SeenReply, by_pass, on_connection}
 use Rattle.world.specs.declared.fate.Fate.{Fate}
 use Rattle.world.specs.declared.fate.Fate.TheVariants.{Answered, ReplyLost, RequestLost}
-use Rattle.completion.specs.Requests.{AsksRemoval, Handled, RunsWithoutRemovals, handled_answer, handled_asked, handled_at, handled_carry, handled_in, handled_service}
+use Rattle.completion.specs.Courses.{CoursesWithoutRemovals, GoesBy, Stage, arranges, requests_by, runs}
+use Rattle.completion.specs.Requests.{AreKept, AreNoRemovals, AsksRemoval, Handled, handled_answer, handled_asked, handled_at, handled_carry, handled_in, handled_service, requests_of}
+use Rattle.completion.specs.Runs.{RunOf}
 use Rattle.completion.proofs.Again.{Stays, back, front}
 use Rattle.completion.proofs.Keepings.{Nodes, one_node}
 use Rattle.completion.proofs.Places.{set_elsewhere, set_here}
@@ -217,10 +219,21 @@ module _ {S : Type 0} (handling : HandlingOf S) (P Q : Handled S → Type 0)
 abbrev Spares : Transfer → Handled Contents → Type 0
 Spares t r = (r.place ≡ t.from → AsksRemoval r.message t.pass.configuration.source_db → ⊥) × (r.place ≡ t.to → AsksRemoval r.message t.pass.configuration.target_db → ⊥)
 
-pub without_removals : RunsWithoutRemovals
-without_removals t old new run h =
+run_without : (t : Transfer) (old new : Network Contents) (run : RunOf Steps old new) → AreNoRemovals t (requests_of run) → AreKept t (requests_of run)
+run_without t old new run h =
     plays_so (λ who. IsHandled Steps) (Spares t) (Stays t)
     (λ who a place m r b handled spared. (
       stays_unless a b place t.from m r t.pass.configuration.source_db handled spared.0,
       stays_unless a b place t.to m r t.pass.configuration.target_db handled spared.1,
     )) run.happenings old run.seen new run.played h
+
+stages_without : (t : Transfer) (ss : List Stage) (old new : Network Contents) (g : GoesBy Steps ss old new) → AreNoRemovals t (requests_by Steps ss old new g) → AreKept t (requests_by Steps ss old new g)
+stages_without t [] old new g h = tt
+stages_without t (runs ∷ ss) old new (between, run, rest) h =
+    let rs = requests_of run in
+    let others = requests_by Steps ss between new rest in
+    both (Stays t) rs others (run_without t old between run (front (Spares t) rs others h)) (stages_without t ss between new rest (back (Spares t) rs others h))
+stages_without t (arranges ∷ ss) old new (between, arranged, rest) h = stages_without t ss between new rest h
+
+pub without_removals : CoursesWithoutRemovals
+without_removals t old new course h = stages_without t course.stages old new course.goes h

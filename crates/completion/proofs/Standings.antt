@@ -129,7 +129,7 @@ pub stopped_turns : (p : Pass) (ts : List Turn) → IsStopped p.phase → IsStop
 stopped_turns p [] s = s
 stopped_turns p (x ∷ ts) s = stopped_turns (after_turn p x) ts (subst (λ (q : Pass). IsStopped q.phase) (sym (stopped_turn p x s)) s)
 
-or_false : (a b : Bool) → (a || b) ≡ false → (a ≡ false) × (b ≡ false)
+pub or_false : (a b : Bool) → (a || b) ≡ false → (a ≡ false) × (b ≡ false)
 or_false true b e = absurd cc
 or_false false b e = (refl, e)
 
@@ -288,7 +288,7 @@ unlisted_by p source before target (answered status body ∷ []) fit e = unliste
 unlisted_by p source before target (lost ∷ []) fit e = unlisted_now p source before lost refl
 unlisted_by p source before target (x ∷ y ∷ ys) fit e = absurd fit
 
-kept_both : (before middle last : Database) (p : Pass) (xs ys : List Turn) → (has_listed p xs ≡ false → (middle ≡ before) ⊎ IsStopped (after_turns p xs).phase)
+pub kept_both : (before middle last : Database) (p : Pass) (xs ys : List Turn) → (has_listed p xs ≡ false → (middle ≡ before) ⊎ IsStopped (after_turns p xs).phase)
     → (has_listed (after_turns p xs) ys ≡ false → (last ≡ middle) ⊎ IsStopped (after_turns (after_turns p xs) ys).phase) → has_listed p (xs ++ ys) ≡ false
     → (last ≡ before) ⊎ IsStopped (after_turns (after_turns p xs) ys).phase
 kept_both before middle last p xs ys first rest e = by (first both.0) (rest both.1)

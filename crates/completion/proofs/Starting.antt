@@ -1,5 +1,5 @@
 -- A pass that is started among honest stores begins.
-use Rattle.std.proofs.Common.{◌≡◌, ◌≤◌, ◌+◌, List, [], ◌∷◌, ◌++◌, length, Option, None, Some, option_map, add-one, ap, ◌∙◌}
+use Rattle.std.proofs.Common.{ℕ, ◌≡◌, ◌≤◌, ◌+◌, List, [], ◌∷◌, ◌++◌, length, Option, None, Some, option_map, add-one, ap, ◌∙◌, zero, suc, refl}
 use Rattle.std.specs.Prelude.{IfSome}
 use Rattle.std.specs.List.{AllByRecursion}
 use Rattle.store.specs.Lawful.{AreLawful}
@@ -8,8 +8,9 @@ use Rattle.node.specs.Step.{Serving}
 use Rattle.repl.specs.Configuration.{batch_size}
 use Rattle.repl.specs.declared.batch.Batch.{Batch}
 use Rattle.world.specs.Network.{Transfer, databases_of, transfer_at}
+use Rattle.completion.specs.Courses.{CallsArrange}
 use Rattle.completion.specs.Finished.{AreAllLawful}
-use Rattle.completion.proofs.Places.{got_last}
+use Rattle.completion.proofs.Places.{got_before, got_last}
 
 -- stores are lawful where each of them is
 pub stores_lawful : {S : Type 0} (g : Ghosts S) → ((s : S) → g.is_honest s → ∥ AreLawful (g.contents s) ∥₁) → (nodes : List (Serving S)) → AllByRecursion (λ n. g.is_honest n.store) nodes
@@ -24,3 +25,13 @@ started_there ts t = ap (transfer_at (ts ++ t ∷ [])) (add-one (length ts)) ∙
 pub told_batch : (o : Option Batch) → IfSome (option_map batch_size o) (λ size. (1 ≤ size) × (size ≤ 1000))
 told_batch None = tt
 told_batch (Some b) = (b.at_least_one, b.at_most_thousand)
+
+still_there : (ts : List Transfer) (u t : Transfer) (m : ℕ) → transfer_at ts m ≡ Some t → transfer_at (ts ++ u ∷ []) m ≡ Some t
+still_there ts u t zero e = absurd cc
+still_there ts u t (suc k) e = got_before ts (u ∷ []) k t e
+
+pub arranging : {S : Type 0} → CallsArrange S
+arranging = record {
+  connecting = λ old homes connections. record { nodes = refl; passes = λ m t e. e };
+  starting = λ old u. record { nodes = refl; passes = λ m t e. still_there old.transfers u t m e };
+}

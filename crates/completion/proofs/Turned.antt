@@ -14,7 +14,8 @@ use Rattle.world.specs.Playing.{HappensBy, PlaysBy, all_replied}
 use Rattle.world.specs.Service.{Asker, HandlingOf, IsHandled, SeenReply, StepOf, by_pass}
 use Rattle.world.specs.declared.fate.Fate.{Fate}
 use Rattle.world.specs.declared.fate.Fate.TheVariants.{Answered, ReplyLost, RequestLost}
-use Rattle.completion.specs.Reported.{PassesGoByTurns, ReportsAreToldInRuns, StartsAreReadInRuns, StopsHaveCausesInRuns, TurnsAreSeen, status_of, statuses_of}
+use Rattle.completion.specs.Courses.{GoesBy, IsArranged, Stage, arranges, runs, turns_by}
+use Rattle.completion.specs.Reported.{PassesGoByTurns, ReportsAreToldInCourses, StartsAreReadInCourses, StopsHaveCausesInCourses, TurnsAreSeen, status_of, statuses_of}
 use Rattle.completion.specs.Runs.{pass_at, turn_of, turns_asked, turns_at, turns_in}
 use Rattle.completion.proofs.Places.{one_transfer, passed_elsewhere, passed_here}
 use Rattle.completion.proofs.Shapes.{mapped_of}
@@ -167,25 +168,40 @@ passes_go handling n hs old seen new run p e =
 pub one_pass : (a b : Pass) (o : Option Pass) → o ≡ Some a → o ≡ Some b → a ≡ b
 one_pass a b o e f = let k : Some a ≡ Some b = sym e ∙ f in cc
 
+-- a pass that is there stays through what is arranged
+pub pass_arranged : {S : Type 0} (old new : Network S) (n : ℕ) (p : Pass) → IsArranged old new → pass_at old.transfers n ≡ Some p → pass_at new.transfers n ≡ Some p
+pass_arranged old new n p a e =
+    let m = mapped_of (λ (t : Transfer). t.pass) (transfer_at old.transfers n) p e in
+    ap (λ (o : Option Transfer). option_map (λ t. t.pass) o) (a.passes n m.first m.was) ∙ ap (λ (x : Pass). Some x) m.is
+
+pub passes_along : {S : Type 0} (step : StepOf S) (n : ℕ) (ss : List Stage) (old new : Network S) (g : GoesBy step ss old new) (p : Pass) → pass_at old.transfers n ≡ Some p
+    → pass_at new.transfers n ≡ Some (after_turns p (turns_by step n ss old new g))
+passes_along {S} step n [] old new g p e = ap (λ (x : Network S). pass_at x.transfers n) g ∙ e
+passes_along step n (runs ∷ ss) old new (between, run, rest) p e =
+    let ts = turns_in (λ who. IsHandled step) n run.happenings old run.seen between run.played in
+    passes_along step n ss between new rest (after_turns p ts) (passes_go (λ who. IsHandled step) n run.happenings old run.seen between run.played p e)
+    ∙ ap (λ (x : Pass). Some x) (sym (turns_join p ts (turns_by step n ss between new rest)))
+passes_along step n (arranges ∷ ss) old new (between, arranged, rest) p e = passes_along step n ss between new rest p (pass_arranged old between n p arranged e)
+
 module _ {S : Type 0} (step : StepOf S) where
   pub go_by_turns : PassesGoByTurns step
-  go_by_turns n old new run p e = passes_go (λ who. IsHandled step) n run.happenings old run.seen new run.played p e
+  go_by_turns n old new course p e = passes_along step n course.stages old new course.goes p e
 
   pub are_seen : TurnsAreSeen step
   are_seen n old new run = plays_show (λ who. IsHandled step) n run.happenings old run.seen new run.played
 
-  pub told_in_runs : ReportsAreToldInRuns step
-  told_in_runs n c old new run p e f =
-      let ts = turns_in (λ who. IsHandled step) n run.happenings old run.seen new run.played in
-      ap (λ (x : Pass). x.refused) (one_pass p (after_turns (first_pass c) ts) (pass_at new.transfers n) f (go_by_turns n old new run (first_pass c) e)) ∙ all_told c ts
+  pub told_in_courses : ReportsAreToldInCourses step
+  told_in_courses n c old new course p e f =
+      let ts = turns_by step n course.stages old new course.goes in
+      ap (λ (x : Pass). x.refused) (one_pass p (after_turns (first_pass c) ts) (pass_at new.transfers n) f (go_by_turns n old new course (first_pass c) e)) ∙ all_told c ts
 
-  pub read_in_runs : StartsAreReadInRuns step
-  read_in_runs n c old new run p e f =
-      let ts = turns_in (λ who. IsHandled step) n run.happenings old run.seen new run.played in
-      ap (λ (x : Pass). x.start_seq) (one_pass p (after_turns (first_pass c) ts) (pass_at new.transfers n) f (go_by_turns n old new run (first_pass c) e)) ∙ start_is c ts
+  pub read_in_courses : StartsAreReadInCourses step
+  read_in_courses n c old new course p e f =
+      let ts = turns_by step n course.stages old new course.goes in
+      ap (λ (x : Pass). x.start_seq) (one_pass p (after_turns (first_pass c) ts) (pass_at new.transfers n) f (go_by_turns n old new course (first_pass c) e)) ∙ start_is c ts
 
-  pub caused_in_runs : StopsHaveCausesInRuns step
-  caused_in_runs n c old new run p why e f stopped =
-      let ts = turns_in (λ who. IsHandled step) n run.happenings old run.seen new run.played in
+  pub caused_in_courses : StopsHaveCausesInCourses step
+  caused_in_courses n c old new course p why e f stopped =
+      let ts = turns_by step n course.stages old new course.goes in
       stop_cause c ts why
-      (ap (λ (x : Pass). x.phase) (one_pass (after_turns (first_pass c) ts) p (pass_at new.transfers n) (go_by_turns n old new run (first_pass c) e) f) ∙ stopped)
+      (ap (λ (x : Pass). x.phase) (one_pass (after_turns (first_pass c) ts) p (pass_at new.transfers n) (go_by_turns n old new course (first_pass c) e) f) ∙ stopped)

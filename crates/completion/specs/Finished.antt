@@ -14,7 +14,7 @@ use Rattle.repl.specs.Configuration.{Configuration}
 use Rattle.repl.specs.Passes.{Pass, first_pass}
 use Rattle.repl.specs.Turns.{Turn, has_listed, replies_in, start_by}
 use Rattle.repl.specs.declared.phase.Phase.TheVariants.{Done}
-use Rattle.passes.specs.Owed.{Covers, Scene, has_covered}
+use Rattle.passes.specs.Owed.{Scene}
 use Rattle.passes.specs.Settled.{is_settled}
 use Rattle.passes.specs.Spelled.{AreBytes}
 use Rattle.world.specs.Happening.{Happening, Sight}
@@ -26,10 +26,12 @@ use Rattle.completion.specs.Runs.{Run, RunOf, pass_at, turns_at, turns_in, turns
 
 -- ---- the databases of a pass
 
+-- a database that is there, or a new one
 abbrev pub found_or_new : Option Database → Database
 found_or_new None = new_database
 found_or_new (Some db) = db
 
+-- the database of this name, if there are such a node and such a database
 abbrev pub database_of_node : Option (Serving Contents) → List ℕ → Option Database
 database_of_node None name = None
 database_of_node (Some node) name = get node.store name
@@ -38,6 +40,7 @@ database_of_node (Some node) name = get node.store name
 abbrev pub database_at : List (Serving Contents) → ℕ → List ℕ → Database
 database_at nodes place name = found_or_new (database_of_node (slice_get nodes place) name)
 
+-- the two databases of a pass
 abbrev pub source_of : Transfer → Network Contents → Database
 source_of t now = database_at now.nodes t.from t.pass.configuration.source_db
 
@@ -87,15 +90,6 @@ abbrev pub ListsLast : {S : Type 0} {handling : HandlingOf S} {old new : Network
 ListsLast {S} {handling} {old} {new} run n listed = ListsLastIn handling n run.happenings old run.seen new run.played listed
 
 -- ---- what is settled
-
--- Where a pass writes its checkpoints, or is done, it has settled what it listed in all its rounds: of the source as it was at the last list, and
--- as it is now. That is so at every later event.
-abbrev pub RoundsCoverInRuns : Type 0
-RoundsCoverInRuns =
-    (n : ℕ) (t : Transfer) (start listed now later : Network Contents) (run : RunOf Steps start now) (more : RunOf Steps now later) (p q : Pass) → Begins n t start
-    → AreKept t (requests_of run) → ListsLast run n listed → pass_at now.transfers n ≡ Some p → has_covered p.phase ≡ true
-    → AreKept t (requests_of more) → pass_at later.transfers n ≡ Some q
-    → Covers (source_of t listed) p.start_seq p.last_seq (scene_of t (source_of t listed) later q) × Covers (source_of t now) p.start_seq p.last_seq (scene_of t (source_of t listed) later q)
 
 -- A pass that is done owes nothing, then and later: each leaf that the source had when it was listed last, of a document whose sequence is
 -- above the start, is known at the target or reported.

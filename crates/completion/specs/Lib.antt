@@ -1,5 +1,6 @@
 pub mod Runs
-pub mod Reported
 pub mod Parted
 pub mod Requests
 pub mod Finished
+pub mod Courses
+pub mod Reported

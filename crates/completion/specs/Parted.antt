@@ -35,6 +35,7 @@ IsServedSight (replied t) = IsServed t.reply
 IsServedSight (exchanged number is_to_target m status) = (status ≢ 500) × (status ≢ 503)
 IsServedSight (ended number asked) = ⊤
 
+-- nothing that is seen is one
 abbrev pub AreServedSights : List Sight → Type 0
 AreServedSights [] = ⊤
 AreServedSights (s ∷ ss) = IsServedSight s × AreServedSights ss
@@ -46,6 +47,7 @@ IsHeard (exchanges number Answered) = ⊤
 IsHeard (exchanges number ReplyLost) = ⊥
 IsHeard (exchanges number RequestLost) = ⊤
 
+-- so it is of several events
 abbrev pub AreHeard : List Happening → Type 0
 AreHeard [] = ⊤
 AreHeard (h ∷ hs) = IsHeard h × AreHeard hs
@@ -54,6 +56,12 @@ AreHeard (h ∷ hs) = IsHeard h × AreHeard hs
 abbrev pub SightsTellService : {S : Type 0} → StepOf S → Type 0
 SightsTellService {S} step =
     (old new : Network S) (hs : List Happening) (seen : List Sight) → AreHeard hs → AreServedSights seen → Plays step old hs seen new → PlaysBy (Serves step) old hs seen new
+
+-- The same of two calls by what is seen: where no reply is lost, and none that is seen is a 500 or a 503.
+abbrev pub TwoCallsAreSeenAsOne : Type 0
+TwoCallsAreSeenAsOne =
+    (a b c d : Network Contents) (earlier later : List Happening) (seen others all : List Sight) → AreHeard earlier → AreHeard later → AreServedSights seen → AreServedSights others → AreServedSights all
+    → Plays Steps a earlier seen b → Plays Steps b later others c → Plays Steps a (earlier ++ later) all d → (all ≡ seen ++ others) × (d ≡ c)
 
 -- ---- what is added between
 

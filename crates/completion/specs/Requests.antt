@@ -37,22 +37,26 @@ pub record Handled (S : Type 0) : Type 0 where
 -- ---- those of a run
 
 module _ {S : Type 0} (handling : HandlingOf S) where
+  -- an arrival's: none where the stream is faulty
   abbrev pub handled_answer : (homes : List ℕ) (old : List (Serving S)) (a : Arrival) (told : SeenReply) (new : List (Serving S)) → IsAnsweredBy handling homes old a told new → List (Handled S)
   handled_answer homes old (request_on conn m) told new p = record { who = on_connection conn; old = old; place = home_of homes conn; message = m; reply = told.reply; new = new } ∷ []
   handled_answer homes old (fault_on conn fault) told new p = []
 
+  -- those of several arrivals
   abbrev pub handled_service : (homes : List ℕ) (old : List (Serving S)) (ars : List Arrival) (told : List SeenReply) (new : List (Serving S)) → IsServiceBy handling homes old ars told new → List (Handled S)
   handled_service homes old [] [] new p = []
   handled_service homes old [] (t ∷ ts) new p = []
   handled_service homes old (a ∷ ars) [] new p = []
   handled_service homes old (a ∷ ars) (t ∷ ts) new (between, here, later) = handled_answer homes old a t between here ++ handled_service homes between ars ts new later
 
+  -- that of a pass, unless the request is lost
   abbrev pub handled_carry : (number : ℕ) (fate : Fate) (old : List (Serving S)) (place : ℕ) (m : Message) (before : Pass) (status : ℕ) (new : List (Serving S)) (after : Pass)
       → IsCarriedBy (handling (by_pass number fate)) fate old place m before status new after → List (Handled S)
   handled_carry number Answered old place m before status new after c = record { who = by_pass number Answered; old = old; place = place; message = m; reply = c.reply; new = new } ∷ []
   handled_carry number ReplyLost old place m before status new after c = record { who = by_pass number ReplyLost; old = old; place = place; message = m; reply = c.reply; new = new } ∷ []
   handled_carry number RequestLost old place m before status new after c = []
 
+  -- that of what a pass asks; a pass that has ended asks nothing
   abbrev pub handled_asked : (fate : Fate) (old : Network S) (number : ℕ) (t : Transfer) (asked : Asked) (seen : List Sight) (new : Network S) → IsAskedBy handling fate old number t asked seen new
       → List (Handled S)
   handled_asked fate old number t (to_source m) seen new p = handled_carry number fate old.nodes t.from m t.pass p.status p.nodes p.after p.carried
@@ -60,10 +64,12 @@ module _ {S : Type 0} (handling : HandlingOf S) where
   handled_asked fate old number t (done s) seen new p = []
   handled_asked fate old number t (stopped_by why s) seen new p = []
 
+  -- those of one event
   abbrev pub handled_at : (h : Happening) (old : Network S) (seen : List Sight) (new : Network S) → HappensBy handling old h seen new → List (Handled S)
   handled_at (comes piece) old seen new (told, played, same) = handled_service old.homes old.nodes played.arrivals told new.nodes played.served
   handled_at (exchanges number fate) old seen new p = handled_asked fate old number p.transfer (asked_of p.transfer.pass) seen new p.asked
 
+  -- those of several events
   abbrev pub handled_in : (hs : List Happening) (old : Network S) (seen : List Sight) (new : Network S) → PlaysBy handling old hs seen new → List (Handled S)
   handled_in [] old seen new p = []
   handled_in (h ∷ hs) old seen new (first, others, between, here, later, order) = handled_at h old first between here ++ handled_in hs between others new later
@@ -104,10 +110,6 @@ pub record IsSameRun {S : Type 0} {handling other : HandlingOf S} {old new : Net
 abbrev pub RunsThatKeep : Type 0
 RunsThatKeep =
     (t : Transfer) (old new : Network Contents) (run : RunOf Steps old new) → AreKept t (requests_of run) → (again : Run (Keeping t) old new) × IsSameRun run again
-
--- Where nobody asks to remove a database of a pass, both stay there.
-abbrev pub RunsWithoutRemovals : Type 0
-RunsWithoutRemovals = (t : Transfer) (old new : Network Contents) (run : RunOf Steps old new) → AreNoRemovals t (requests_of run) → AreKept t (requests_of run)
 
 -- A run in which no request is answered with 500 or 503 is one in which each is served.
 abbrev pub RunsThatServe : Type 0

@@ -2,36 +2,52 @@
 
 ghost use Rattle.std.specs.Prelude.{◌≡◌, ◌+◌, ℕ, length};
 ghost use Rattle.hub.specs.Answering.{StoreSteps};
+ghost use Rattle.store.specs.Contents.{Contents};
 ghost use Rattle.node.specs.Runs.{Steps};
 ghost use Rattle.repl.specs.Configuration.{configuration_of};
 ghost use Rattle.repl.specs.Passes.{first_pass};
 ghost use Rattle.world.specs.Network.{AreHonest, Network, Transfer, over_databases};
-ghost use Rattle.completion.specs.Finished.{Begins, DonePassesHaveListed, DonePassesOweNothing, IsTold, RoundsCoverInRuns};
-ghost use Rattle.completion.specs.Parted.{OpeningChangesNothing, PlaysHaveOneOutcome, SightsTellService, StartingChangesNothing, TwoCallsAreOne, with_pass};
-ghost use Rattle.completion.specs.Reported.{PassesGoByTurns, ReportsAreToldInRuns, StartsAreReadInRuns, StopsHaveCausesInRuns, TurnsAreSeen};
-ghost use Rattle.completion.specs.Requests.{RunsThatKeep, RunsThatServe, RunsWithoutRemovals};
+ghost use Rattle.completion.specs.Courses.{CallsArrange, CoursesWithoutRemovals, DonePassesHaveListedInCourses, DonePassesOweNothingInCourses, RoundsCoverInCourses};
+ghost use Rattle.completion.specs.Finished.{Begins, DonePassesHaveListed, DonePassesOweNothing, IsTold};
+ghost use Rattle.completion.specs.Parted.{OpeningChangesNothing, PlaysHaveOneOutcome, SightsTellService, StartingChangesNothing, TwoCallsAreOne, TwoCallsAreSeenAsOne, with_pass};
+ghost use Rattle.completion.specs.Reported.{PassesGoByTurns, ReportsAreToldInCourses, StartsAreReadInCourses, StopsHaveCausesInCourses, TurnsAreSeen};
+ghost use Rattle.completion.specs.Requests.{RunsThatKeep, RunsThatServe};
 
 use repl::Config;
 use store::Store;
 
 /// A pass that is done owes its target nothing: each leaf that its source had when it was listed last, of
 /// the documents whose sequence is above the start, is known at the target or reported. This is so when
-/// the pass ends and at every later event, in each run in which both databases stay there. A pass that is
-/// done has listed its source, and its start is that of the first two replies.
+/// the pass ends and at every later event, in each run in which both databases stay there, and in each such
+/// course. A pass that is done has listed its source, and its start is that of the first two replies.
 pub fn done_pass_owes_nothing()
     ensures owed { DonePassesOweNothing }
     ensures listed { DonePassesHaveListed }
+    ensures owed_in_courses { DonePassesOweNothingInCourses }
+    ensures listed_in_courses { DonePassesHaveListedInCourses }
 {}
 
 /// A pass that writes its checkpoints, or is done, has settled what it listed in all its rounds: of the
-/// source as it was at the last list, and as it is now. That is so at every later event, in each run in
+/// source as it was at the last list, and as it is now. That is so at every later event, in each course in
 /// which both databases stay there.
 pub fn rounds_cover_what_they_list()
-    ensures { RoundsCoverInRuns }
+    ensures { RoundsCoverInCourses }
 {}
 
-/// Through a run a pass becomes what its turns make of it, and of each turn its status is seen: over any
-/// store, and over databases alone.
+/// Where nobody asks to remove a database of a pass, both stay there.
+pub fn databases_stay_unless_removed()
+    ensures { CoursesWithoutRemovals }
+{}
+
+/// Opening and closing connections, and starting passes, asks nothing of a node: it may come between the
+/// runs of a course.
+pub fn calls_arrange<S: Store>()
+    ensures stores { CallsArrange S }
+    ensures databases { CallsArrange Contents }
+{}
+
+/// Through a course a pass becomes what its turns make of it, over any store, and over databases alone. Of
+/// each turn its status is seen.
 pub fn passes_go_by_turns<S: Store>()
     ensures stores { PassesGoByTurns (StoreSteps S.Store) }
     ensures databases { PassesGoByTurns Steps }
@@ -39,21 +55,22 @@ pub fn passes_go_by_turns<S: Store>()
     ensures seen_of_databases { TurnsAreSeen Steps }
 {}
 
-/// At the end of a run a pass reports what the replies that it took in say, in order. Its start is that of
-/// the first two replies, and where it has stopped, one of its turns is the cause.
+/// At the end of a course a pass reports what the replies that it took in say, in order. Its start is that
+/// of the first two replies, and where it has stopped, one of its turns is the cause.
 pub fn passes_report_what_was_told<S: Store>()
-    ensures reports { ReportsAreToldInRuns (StoreSteps S.Store) }
-    ensures starts { StartsAreReadInRuns (StoreSteps S.Store) }
-    ensures stops { StopsHaveCausesInRuns (StoreSteps S.Store) }
-    ensures reports_of_databases { ReportsAreToldInRuns Steps }
-    ensures starts_of_databases { StartsAreReadInRuns Steps }
-    ensures stops_of_databases { StopsHaveCausesInRuns Steps }
+    ensures reports { ReportsAreToldInCourses (StoreSteps S.Store) }
+    ensures starts { StartsAreReadInCourses (StoreSteps S.Store) }
+    ensures stops { StopsHaveCausesInCourses (StoreSteps S.Store) }
+    ensures reports_of_databases { ReportsAreToldInCourses Steps }
+    ensures starts_of_databases { StartsAreReadInCourses Steps }
+    ensures stops_of_databases { StopsHaveCausesInCourses Steps }
 {}
 
 /// Events that are played in two calls have the outcome of one call with both lists, where each request is
-/// served: none is answered with 500 or 503.
+/// served: none is answered with 500 or 503. Where no reply is lost, what is seen tells whether that is so.
 pub fn two_calls_are_one()
     ensures calls { TwoCallsAreOne }
+    ensures seen { TwoCallsAreSeenAsOne }
     ensures outcome { PlaysHaveOneOutcome }
 {}
 
@@ -71,11 +88,9 @@ pub fn additions_change_nothing<S: Store>()
     ensures starting_of_databases { StartingChangesNothing Steps }
 {}
 
-/// Where nobody asks to remove a database of a pass, both stay there. A run in which both stay there is one
-/// that keeps them, and one in which each request is served is one that serves, with the same events,
-/// sights and turns.
+/// A run in which both databases of a pass stay there is one that keeps them, and one in which each request
+/// is served is one that serves, with the same events, sights and turns.
 pub fn runs_are_told_by_their_requests()
-    ensures spared { RunsWithoutRemovals }
     ensures keep { RunsThatKeep }
     ensures serve { RunsThatServe }
 {}

@@ -1,12 +1,8 @@
 use Rattle.completion.proofs.Again.{that_keep, that_serve}
-use Rattle.completion.proofs.Removals.{without_removals}
 use Rattle.completion.proofs.laws.runs_are_told_by_their_requests.Goals as goal
 
 pub returns-clause-keep : goal.returns-clause-keep
 returns-clause-keep c = that_keep
-
-pub returns-clause-spared : goal.returns-clause-spared
-returns-clause-spared c = without_removals
 
 pub returns-clause-serve : goal.returns-clause-serve
 returns-clause-serve c = that_serve
