@@ -6,3 +6,6 @@ pub mod Indexed
 pub mod Seen
 pub mod Calls
 pub mod Entries
+pub mod Steps
+pub mod Filling
+pub mod Declaring

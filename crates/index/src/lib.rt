@@ -3,9 +3,11 @@
 
 mod declaration;
 pub mod declarations;
+mod declaring;
 mod dropping;
 pub mod entries;
 mod fault;
+mod filling;
 mod finding;
 mod keys;
 pub mod laws;
