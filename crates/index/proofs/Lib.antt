@@ -16,3 +16,4 @@ pub mod StepLemmas
 pub mod Filled
 pub mod Undeclared
 pub mod Declared
+pub mod Rebuilt

@@ -91,3 +91,13 @@ module _ {S : Type 0} (g : Ghosts S) where
     goes_on = λ clean fit up inside. went_on r (state g a) (state g b) (h.inside clean);
     asks = asks_changed (state g a) (state g b) h.proceeds;
   }
+
+  -- where more is known, and less is said
+  pub steps_weaker : {X E : Type 0} (F F' : Database → Type 0) (G G' : Database → Database → Type 0) (a b : Held S) (r : Result X E) → Steps g F' G' a b r → (F (state g a).now → F' (state g a).now)
+      → (F (state g a).now → G' (state g a).now (state g b).now → G (state g a).now (state g b).now) → Steps g F G a b r
+  steps_weaker F F' G G' a b r p fits so = record {
+    ok = λ clean fit. on_ok r (so fit) (p.ok clean (fits fit));
+    kept = λ clean fit. p.kept clean (fits fit);
+    goes_on = λ clean fit up inside. p.goes_on clean (fits fit) up inside;
+    asks = p.asks;
+  }

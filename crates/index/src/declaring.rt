@@ -1,13 +1,14 @@
 //! One index more, and one fewer.
 
-ghost use Rattle.std.specs.Prelude.{◌≡◌, IfOk, IsUtf8, filter, map, string_bytes, true};
+ghost use Rattle.std.specs.Prelude.{◌≡◌, IfOk, IsUtf8, filter, map, option_map, string_bytes, true};
 ghost use Rattle.std.specs.List.{AllByRecursion};
 ghost use Rattle.couch_json.specs.FieldPath.{is_field_path};
 ghost use Rattle.couch_json.specs.Value.{array, text};
 ghost use Rattle.couch_json.specs.View.{items_view, view};
 ghost use Rattle.tables.specs.Calls.{AsksInside, LooksInside, ReadsInside, Stands};
-ghost use Rattle.index.specs.Declaring.{Declares, FindsDeclared, Undeclares};
+ghost use Rattle.index.specs.Declaring.{Declares, FindsDeclared, FindsStored, PutsIn, SetsIndex, TakesOut, Undeclares};
 ghost use Rattle.index.specs.Layout.{HasIndexRows};
+ghost use Rattle.index.specs.Shown.{declared};
 ghost use Rattle.index.specs.Rows.{fields_text, is_declaration_of, path_items, shown_declaration};
 ghost use Rattle.tables.specs.Schema.{decls_tree};
 
@@ -66,6 +67,105 @@ fn rows_of_index_in<S: Alter>(
         "SELECT num, name, fields FROM decls WHERE db = ?1 AND ddoc = ?2 AND name = ?3",
         params![db, design, name],
     )
+}
+
+/// Lets an index have these fields, or takes it out where there are none; nothing is done where it is so.
+pub(crate) fn set_index<S: Alter>(
+    alloc: Global,
+    tx: &mut Transaction<'_, S>,
+    db: &i64,
+    design: &[u8],
+    name: &[u8],
+    fields: &Option<Vec<FieldPath>>,
+) -> Result<(), IndexFault>
+    ensures same_reference { tx.new.conn.ghost_name ≡ tx.old.conn.ghost_name }
+    ensures sets { SetsIndex S.Store db.now design.now name.now (option_map (λ paths. paths.items) fields.now) tx.old.conn.now tx.new.conn.now result }
+{
+    let found = find_stored(alloc, tx, db, design, name)?;
+    if is_declared_so(&found, fields) {
+        return Ok(());
+    }
+    take_out(tx, db, design, name, &found)?;
+    put_in(alloc, tx, db, design, name, fields)
+}
+
+/// Tells whether the index that was found has these fields, or is missing where there are none.
+fn is_declared_so(found: &Option<Declaration>, fields: &Option<Vec<FieldPath>>) -> bool
+    ensures { result ≡ true → option_map (λ d. (declared d).fields) found.now ≡ option_map (λ paths. paths.items) fields.now }
+{
+    match (found, fields) {
+        (Some(declaration), Some(fields)) => are_same_paths(&declaration.fields, fields),
+        (None, None) => true,
+        _ => false,
+    }
+}
+
+/// Tells whether these are the same paths.
+fn are_same_paths(a: &[FieldPath], b: &[FieldPath]) -> bool
+    ensures { result ≡ true → a.now ≡ b.now }
+{
+    if a.len() != b.len() {
+        return false;
+    }
+    for (i, path) in a.iter().enumerate() {
+        if path.as_str() != b[i].as_str() {
+            return false;
+        }
+    }
+    true
+}
+
+/// Takes out the index that was found, if there is one.
+fn take_out<S: Alter>(
+    tx: &mut Transaction<'_, S>,
+    db: &i64,
+    design: &[u8],
+    name: &[u8],
+    found: &Option<Declaration>,
+) -> Result<(), Error>
+    ensures same_reference { tx.new.conn.ghost_name ≡ tx.old.conn.ghost_name }
+    ensures takes { TakesOut S.Store db.now design.now name.now (option_map declared found.now) tx.old.conn.now tx.new.conn.now result }
+{
+    match found {
+        Some(declaration) => undeclare(tx, &declaration.number),
+        None => Ok(()),
+    }
+}
+
+/// Declares an index with these fields, if there are any.
+fn put_in<S: Alter>(
+    alloc: Global,
+    tx: &mut Transaction<'_, S>,
+    db: &i64,
+    design: &[u8],
+    name: &[u8],
+    fields: &Option<Vec<FieldPath>>,
+) -> Result<(), IndexFault>
+    ensures same_reference { tx.new.conn.ghost_name ≡ tx.old.conn.ghost_name }
+    ensures puts { PutsIn S.Store db.now design.now name.now (option_map (λ paths. paths.items) fields.now) tx.old.conn.now tx.new.conn.now result }
+{
+    match fields {
+        Some(fields) => declare(alloc, tx, db, design, name, fields),
+        None => Ok(()),
+    }
+}
+
+/// Finds the declaration of an index, if it is declared, in a transaction.
+fn find_stored<S: Alter>(
+    alloc: Global,
+    tx: &mut Transaction<'_, S>,
+    db: &i64,
+    design: &[u8],
+    name: &[u8],
+) -> Result<Option<Declaration>, IndexFault>
+    ensures same_reference { tx.new.conn.ghost_name ≡ tx.old.conn.ghost_name }
+    ensures finds { FindsStored S.Store db.now design.now name.now tx.old.conn.now tx.new.conn.now result }
+    ensures stands { Stands S.Store tx.old.conn.now tx.new.conn.now result }
+    ensures looks { LooksInside S.Store tx.old.conn.now tx.new.conn.now }
+    ensures asks { AsksInside S.Store tx.old.conn.now tx.new.conn.now }
+{
+    let rows = rows_of_index_in(tx, db, design, name)?;
+    first_declaration(alloc, &rows)
 }
 
 /// Finds the declaration of an index that is declared.
