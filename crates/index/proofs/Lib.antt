@@ -17,3 +17,4 @@ pub mod Filled
 pub mod Undeclared
 pub mod Declared
 pub mod Rebuilt
+pub mod AllDeclared

@@ -1,10 +1,11 @@
 -- One index within a change of several.
-use Rattle.index.proofs.Common.{AllByRecursion, AreIndexed, Bool, ChangesIndexes, Database, Declarations, Declared, Documents, List, None, Option, Row, Schema, Some, Trees, [], all_both, all_of, and_from, and_parts, ap, arith, bytes_eq, bytes_eq-Decides, cases_Bool, cond, declaration_at, declared_at, declared_by, decls_tree, design_of, entries_tree, false, fields_of, find, find_found, find_passes, has_number, home_of, if◌then◌else◌, index_name_of, inl, inr, int_eq, is_declaration_of, number_of, option_map, refl, same_int, schema, sees_in, subst, sym, true, ℕ, ℤ, ◌&&◌, ◌∙◌, ◌≡◌, ◌≢◌}
+use Rattle.index.proofs.Common.{AllByRecursion, AreIndexed, Bool, ChangesIndexes, Database, Declarations, Declared, Documents, List, None, Option, Row, Schema, Some, Trees, [], all_both, all_of, and_from, and_parts, ap, arith, bytes_eq, bytes_eq-Decides, cases_Bool, cond, declaration_at, declared_at, declared_by, decls_tree, design_of, entries_tree, false, fields_of, find, find_found, find_passes, has_number, home_of, if◌then◌else◌, index_name_of, inl, inr, int_eq, is_declaration_of, list_any, list_any-append, number_of, option_map, refl, same_int, schema, sees_in, subst, sym, true, ℕ, ℤ, ◌&&◌, ◌++◌, ◌||◌, ◌∙◌, ◌∷◌, ◌≡◌, ◌≢◌}
 use Rattle.index.proofs.Alike.{alike}
 use Rattle.index.proofs.DeclarationStatements.{of_index}
 use Rattle.index.proofs.EntryChanges.{same_bytes, same_number}
 use Rattle.index.proofs.Following.{found_each}
 use Rattle.index.specs.Declaring.{IsDeclared, IsFoundIn, IsRebuildable, IsRebuilt, IsUndeclared, with_index}
+use Rattle.index.specs.Rebuilding.{with_names}
 use Rattle.std.specs.Prelude.{unwrap_or}
 use Rattle.store.specs.Indexes.{queried_document}
 use Rattle.tables.proofs.Rests.{AreSame, store_of}
@@ -131,3 +132,41 @@ module _ (declares : Declarations) (db : ℤ) (design name : List ℕ) where
       let is : the_row (a.trees decls_tree) ≡ at.0 = ap (λ o. unwrap_or o []) at.1 in
       let e = of_index db design name at.0 (find_passes (is_declaration_of db design name) (a.trees decls_tree) at.0 at.1) in
       (ap home_of is ∙ e.0, ap design_of is ∙ e.1, ap index_name_of is ∙ e.2)
+
+-- ---- several names
+
+pub rebuildable : (declares others : Declarations) (sees : Documents) (db : ℤ) (a b : Database) → IsRebuildable declares sees db a → IsRebuilt others sees a b → IsRebuildable others sees db b
+rebuildable declares others sees db a b fit made = record {
+  store = store_rebuilt a b fit.store made.only;
+  indexed = made.indexed;
+  seen = λ id. fit.seen id ∙ sym (seen_rebuilt a b fit.store.schema_is made.only db id);
+}
+
+pub rebuilt_as : (declares others : Declarations) (sees : Documents) (a b : Database) → ((d : ℤ) (o n : List ℕ) → declares d o n ≡ others d o n) → IsRebuilt declares sees a b → IsRebuilt others sees a b
+rebuilt_as declares others sees a b same h = record { indexed = alike declares sees b.trees h.indexed others sees same (λ d id. refl); only = h.only }
+
+pub rebuilt_then : (declares others : Declarations) (sees : Documents) (a b c : Database) → IsRebuilt declares sees a b → IsRebuilt others sees b c → IsRebuilt others sees a c
+rebuilt_then declares others sees a b c h k = record { indexed = k.indexed; only = indexes_then a b c h.only k.only }
+
+module _ (declares : Declarations) (db : ℤ) (design : List ℕ) (fields : List ℕ → Option (List (List ℕ))) where
+  pub with_none : (d : ℤ) (o n : List ℕ) → declares d o n ≡ with_names declares db design fields [] d o n
+  with_none d o n = go (int_eq d db) (bytes_eq o design)
+    where
+      go : (b c : Bool) → declares d o n ≡ (if (b && (c && false)) then fields n else declares d o n)
+      go true true = refl
+      go true false = refl
+      go false c = refl
+
+  -- one name more
+  pub with_more : (names : List (List ℕ)) (name : List ℕ) (d : ℤ) (o n : List ℕ) → with_index (with_names declares db design fields names) db design name (fields name) d o n ≡ with_names declares db design fields (names ++ name ∷ []) d o n
+  with_more names name d o n =
+      go (int_eq d db) (bytes_eq o design) (bytes_eq n name) refl (list_any (bytes_eq n) names)
+      ∙ ap (λ b. if (int_eq d db && (bytes_eq o design && b)) then fields n else declares d o n) (sym (list_any-append (bytes_eq n) names (name ∷ [])))
+    where
+      go : (x y z : Bool) → bytes_eq n name ≡ z → (w : Bool) → (if (x && (y && z)) then fields name else (if (x && (y && w)) then fields n else declares d o n)) ≡ (if (x && (y && (w || (z || false)))) then fields n else declares d o n)
+      go false y z is w = refl
+      go true false z is w = refl
+      go true true true is true = ap fields (sym ((bytes_eq-Decides n name).0 is))
+      go true true true is false = ap fields (sym ((bytes_eq-Decides n name).0 is))
+      go true true false is true = refl
+      go true true false is false = refl

@@ -9,3 +9,4 @@ pub mod Entries
 pub mod Steps
 pub mod Filling
 pub mod Declaring
+pub mod Rebuilding
