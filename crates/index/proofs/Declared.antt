@@ -1,6 +1,6 @@
 -- What one declaration more makes of the index rows.
-use Rattle.index.proofs.Common.{AllByRecursion, AreDeclarationRows, AreEntriesOf, AreEntryRows, AreIndexed, Bool, Changes, ChangesIndexes, Database, Declarations, Declared, Documents, Entries, HasEntries, HasIndexRows, Int, IsDeclarationRow, List, None, Option, Row, Schema, Some, Text, [], all-append, all_both, all_weaker, and_from, and_parts, ap, arith, ascending-append, bytes_eq, bytes_eq-Decides, cases_Bool, cond, declaration_at, declaration_cells, declaration_row, declared_at, declared_by, decls_tree, design_of, entries_tree, false, fields_in_cell, fields_of, fields_text, filter, find, has_entry, has_number, home_of, if◌then◌else◌, index_name_of, inl, inr, int_eq, ints, is_declaration_of, is_due, is_due_by, is_key, key_if_seen, list_any, map, next_number, none_from_any, not, number_of, numbered-with_cells, option_map, refl, same_int, schema, sees_in, subst, sym, true, with_cells, without_numbers, ℕ, ℤ, ◌&&◌, ◌++◌, ◌<ℤ◌, ◌||◌, ◌∙◌, ◌∷◌, ◌≡◌, ◌≢◌}
-use Rattle.couch_json.specs.Value.{Items, Value, array, item, no_items}
+use Rattle.index.proofs.Common.{AllByRecursion, AreDeclarationRows, AreEntriesOf, AreEntryRows, Bool, Changes, Database, Declarations, Declared, Documents, HasEntries, HasIndexRows, Int, IsDeclarationRow, List, None, Option, Row, Schema, Some, Text, [], all-append, all_both, all_weaker, and_from, and_parts, ap, arith, ascending-append, bytes_eq, bytes_eq-Decides, cases_Bool, cond, declaration_at, declaration_cells, declaration_row, declared_at, declared_by, decls_tree, design_of, entries_tree, false, fields_in_cell, fields_of, fields_text, find, has_number, home_of, if◌then◌else◌, index_name_of, inl, inr, int_eq, ints, is_declaration_of, is_due, is_due_by, is_key, key_if_seen, next_number, not, number_of, numbered-with_cells, option_map, refl, same_int, schema, sees_in, subst, sym, true, with_cells, without_numbers, ℕ, ℤ, ◌&&◌, ◌++◌, ◌<ℤ◌, ◌||◌, ◌∙◌, ◌∷◌, ◌≡◌, ◌≢◌}
+use Rattle.couch_json.specs.Value.{Items, array, item, no_items}
 use Rattle.couch_json.specs.FieldPath.{is_field_path}
 use Rattle.couch_json.proofs.ReadingBack.{reading-canonical}
 use Rattle.index.proofs.DeclarationStatements.{numbered_declarations}

@@ -1,6 +1,6 @@
 -- An index that is filled, one document after another.
-use Rattle.index.proofs.Common.{AllByRecursion, AreEntriesOf, Bool, ChangesOnly, Database, Entries, HasEntries, IsAscending, List, None, Option, Ordering, Row, Schema, Some, Trees, [], all-filter, all_weaker, ap, arith, ascending_weaker, bytes_eq, bytes_eq-Decides, cases_Bool, cond, drop, entries_tree, false, filter, find, get_or, if◌then◌else◌, inl, inr, insert_sorted, int_eq, is_eq, is_gt, is_key, key_if_seen, length, list_any, map, nat_tests, not, option_map, passing, refl, same_int, schema, sees_in, sort_by, subst, suc, sym, true, with_key, without_numbers, ℕ, ℤ, ◌&&◌, ◌+◌, ◌<◌, ◌||◌, ◌∙◌, ◌∷◌, ◌≡◌, ◌≢◌}
-use Rattle.index.proofs.EntryChanges.{bytes_eq-sym, same_bytes, same_number, with_same}
+use Rattle.index.proofs.Common.{AllByRecursion, Bool, ChangesOnly, Database, Entries, HasEntries, IsAscending, List, None, Option, Ordering, Row, Some, Trees, [], all-filter, all_weaker, ap, arith, ascending_weaker, bytes_eq, bytes_eq-Decides, cases_Bool, cond, drop, entries_tree, false, filter, find, get_or, if◌then◌else◌, inl, inr, insert_sorted, int_eq, is_gt, is_key, key_if_seen, length, list_any, map, not, passing, refl, same_int, schema, sees_in, sort_by, subst, suc, sym, true, with_key, without_numbers, ℕ, ℤ, ◌&&◌, ◌+◌, ◌<◌, ◌||◌, ◌∙◌, ◌∷◌, ◌≡◌, ◌≢◌}
+use Rattle.index.proofs.EntryChanges.{bytes_eq-sym, same_bytes, same_number}
 use Rattle.index.proofs.Going.{has_after, has_as}
 use Rattle.index.proofs.SeenDocuments.{design_unseen, gone_unseen}
 use Rattle.index.specs.Filling.{AreToFill, IsBare, IsToFill, without_ids}

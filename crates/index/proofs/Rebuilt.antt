@@ -1,5 +1,5 @@
 -- One index within a change of several.
-use Rattle.index.proofs.Common.{AllByRecursion, AreIndexed, Bool, ChangesIndexes, Database, Declarations, Declared, Documents, List, None, Option, Row, Schema, Some, Trees, [], all_both, all_of, and_from, and_parts, ap, arith, bytes_eq, bytes_eq-Decides, cases_Bool, cond, declaration_at, declared_at, declared_by, decls_tree, design_of, entries_tree, false, fields_of, find, find_found, find_passes, has_number, home_of, if◌then◌else◌, index_name_of, inl, inr, int_eq, is_declaration_of, list_any, list_any-append, number_of, option_map, refl, same_int, schema, sees_in, subst, sym, true, ℕ, ℤ, ◌&&◌, ◌++◌, ◌||◌, ◌∙◌, ◌∷◌, ◌≡◌, ◌≢◌}
+use Rattle.index.proofs.Common.{AllByRecursion, Bool, ChangesIndexes, Database, Declarations, Declared, Documents, List, None, Option, Row, Schema, Some, [], all_both, all_of, and_from, and_parts, ap, arith, bytes_eq, bytes_eq-Decides, cases_Bool, declaration_at, declared_at, declared_by, decls_tree, design_of, entries_tree, false, fields_of, find, find_found, find_passes, home_of, if◌then◌else◌, index_name_of, inl, inr, int_eq, is_declaration_of, list_any, list_any-append, number_of, option_map, refl, same_int, schema, sees_in, subst, sym, true, ℕ, ℤ, ◌&&◌, ◌++◌, ◌||◌, ◌∙◌, ◌∷◌, ◌≡◌, ◌≢◌}
 use Rattle.index.proofs.Alike.{alike}
 use Rattle.index.proofs.DeclarationStatements.{of_index}
 use Rattle.index.proofs.EntryChanges.{same_bytes, same_number}
@@ -11,7 +11,6 @@ use Rattle.store.specs.Indexes.{queried_document}
 use Rattle.tables.proofs.Rests.{AreSame, store_of}
 use Rattle.tables.specs.Layout.{IsStore}
 use Rattle.tables.specs.Rows.{history_in}
-use Rattle.tables.specs.Schema.{revs_tree}
 
 -- ---- the tables beside those of indexes
 

@@ -1,5 +1,5 @@
 -- Steps of a change, one after another.
-use Rattle.index.proofs.Common.{Alters, AreEntriesOf, AsksInside, Changes, Database, Entries, Err, Ghosts, GoesOn, HasCleanDisk, HasEntries, Held, List, Ok, OnOk, Option, Proceeds, ReplacesKey, Result, Row, State, arith, entries_tree, inl, is_key, keeps_itself, refl, schema, state, subst, sym, true, with_key, ℕ, ℤ, ⊤, ◌∙◌, ◌≡◌}
+use Rattle.index.proofs.Common.{Alters, AreEntriesOf, AsksInside, Changes, Database, Entries, Err, Ghosts, GoesOn, HasCleanDisk, HasEntries, Held, List, Ok, OnOk, Option, Proceeds, ReplacesKey, Result, Row, State, arith, entries_tree, inl, is_key, keeps_itself, refl, schema, state, subst, sym, with_key, ℕ, ℤ, ⊤, ◌∙◌, ◌≡◌}
 use Rattle.index.proofs.Going.{on_ok, went_on}
 use Rattle.index.specs.Steps.{Steps}
 use Rattle.sqlite.proofs.InsideLemmas.{keeps_then}

@@ -3,9 +3,8 @@ use Rattle.index.proofs.Common.{AllByRecursion, AreDeclarationRows, AreEntriesOf
 use Rattle.index.proofs.Alike.{index_found}
 use Rattle.index.proofs.DeclarationStatements.{of_index}
 use Rattle.index.proofs.Dropped.{clears_one, declarations-filter, find_none}
-use Rattle.index.proofs.EntryChanges.{entries_as, same_bytes, same_number}
+use Rattle.index.proofs.EntryChanges.{same_bytes, same_number}
 use Rattle.index.proofs.Following.{found_each}
-use Rattle.index.proofs.Going.{declarations_stay, has_changed}
 use Rattle.index.specs.Declaring.{IsDeclared, IsRebuilt, with_index}
 use Rattle.std.proofs.lemmas.Bool.{false_from_ne_true}
 use Rattle.tables.proofs.Rests.{leaves}

@@ -1,5 +1,5 @@
-use Rattle.index.proofs.Common.{AreDeclarationRows, Changes, Error, HasCleanDisk, HasEntries, IndexFault, List, Ok, Row, Some, ap, arith, declaration_cells, declared, declared_at, decls_tree, fields_text, is_due, schema, state, subst, sym, with_cells, ℕ, ◌∙◌, ◌≡◌}
-use Rattle.index.proofs.Declared.{bare, declared_done, declared_found, declared_rows, more, new}
+use Rattle.index.proofs.Common.{AreDeclarationRows, Changes, Error, HasCleanDisk, HasEntries, IndexFault, List, Ok, Row, Some, arith, declaration_cells, declared, decls_tree, fields_text, is_due, schema, state, subst, sym, with_cells, ℕ, ◌∙◌, ◌≡◌}
+use Rattle.index.proofs.Declared.{bare, declared_done, declared_found, declared_rows, new}
 use Rattle.index.proofs.StepLemmas.{steps_alter, steps_read, steps_then}
 use Rattle.index.specs.Declaring.{IsRebuilt, IsUndeclared, with_index}
 use Rattle.index.specs.Filling.{IsBare}

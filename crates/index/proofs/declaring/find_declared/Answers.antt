@@ -1,4 +1,4 @@
-use Rattle.index.proofs.Common.{Some, ap, declared, declared_at, declared_shown, decls_tree, filter, find, is_declaration_of, map, option_map, rules, shown_declaration, slice_get, state, sym, ◌∙◌, ◌≡◌}
+use Rattle.index.proofs.Common.{Some, ap, declared, declared_at, declared_shown, decls_tree, filter, is_declaration_of, map, option_map, rules, shown_declaration, slice_get, state, ◌∙◌, ◌≡◌}
 use Rattle.index.proofs.SeenDocuments.{first_of}
 use Rattle.sqlite_keyed.proofs.ListLemmas.{slice_get-filter}
 use Rattle.tree.proofs.Shown.{inside}

@@ -1,4 +1,4 @@
-use Rattle.index.proofs.Common.{List, Option, Some, ap, option_map, rules, subst, sym, ℕ, ◌∙◌, ◌≡◌}
+use Rattle.index.proofs.Common.{List, Option, Some, option_map, rules, subst, sym, ℕ, ◌≡◌}
 use Rattle.index.specs.Declaring.{IsRebuilt, IsUndeclared, with_index}
 use Rattle.index.specs.Steps.{Steps}
 use Rattle.index.proofs.declaring.put_in.Goals as goal

@@ -1,4 +1,4 @@
-use Rattle.index.proofs.Common.{Declared, Err, Error, HasCleanDisk, HasIndexRows, IndexFault, List, None, Ok, Option, Some, declared, option_map, refl, rules, state, subst, sym, ℕ, ⊤, ◌∙◌, ◌≡◌}
+use Rattle.index.proofs.Common.{Declared, Err, Error, HasIndexRows, IndexFault, List, None, Ok, Option, Some, declared, option_map, refl, rules, state, subst, sym, ℕ, ⊤, ◌∙◌, ◌≡◌}
 use Rattle.index.proofs.Rebuilt.{then_put, then_undeclared, unchanged}
 use Rattle.index.proofs.StepLemmas.{steps_none, steps_read, steps_stop, steps_then}
 use Rattle.index.specs.Declaring.{IsFoundIn, IsRebuildable, IsRebuilt, IsUndeclared, with_index}

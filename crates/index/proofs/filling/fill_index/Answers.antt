@@ -1,4 +1,4 @@
-use Rattle.index.proofs.Common.{Error, HasEntries, Ok, declared, filter, map, sort_by, state, subst, sym, ◌∙◌, ◌≡◌}
+use Rattle.index.proofs.Common.{Error, HasEntries, Ok, declared, filter, sort_by, state, subst, sym, ◌∙◌, ◌≡◌}
 use Rattle.index.proofs.Filled.{all_to_fill}
 use Rattle.index.proofs.StepLemmas.{steps_read, steps_then}
 use Rattle.index.specs.Filling.{AreToFill, IsBare}

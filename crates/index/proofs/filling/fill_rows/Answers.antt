@@ -1,4 +1,4 @@
-use Rattle.index.proofs.Common.{Err, HasEntries, IndexFault, List, Ok, Row, [], declared, drop, get_or, length, map, refl, rules, state, ⊤, ◌+◌, ◌≡◌, ℕ, Entries, arith, ap, subst, ◌∙◌}
+use Rattle.index.proofs.Common.{Err, HasEntries, Ok, [], declared, drop, get_or, length, map, refl, rules, state, ⊤, ◌+◌, ◌≡◌, arith, ap, ◌∙◌}
 use Rattle.std.proofs.Common.{◌≤◌}
 use Rattle.std.proofs.lemmas.List.{drop_all, length-map}
 use Rattle.index.proofs.Filled.{next_done, next_row, none_missing}

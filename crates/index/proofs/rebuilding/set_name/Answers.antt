@@ -1,6 +1,4 @@
-use Rattle.index.proofs.Common.{List, Option, option_map, subst, ℕ}
-use Rattle.couch_json.specs.Value.{Value}
-use Rattle.couch_json.specs.View.{view}
+use Rattle.index.proofs.Common.{List, Option, subst, ℕ}
 use Rattle.index.specs.Declaring.{IsRebuildable, IsRebuilt, with_index}
 use Rattle.index.specs.Steps.{Steps}
 use Rattle.index.proofs.rebuilding.set_name.Goals as goal

@@ -1,4 +1,4 @@
-use Rattle.index.proofs.Common.{Err, IndexFault, List, Ok, [], ap, arith, length, map, map-append, option_map, refl, rules, state, subst, sym, take, take_all, take_more, ℕ, ⊤, ◌++◌, ◌+◌, ◌∙◌, ◌∷◌, ◌≡◌}
+use Rattle.index.proofs.Common.{Err, IndexFault, List, Ok, [], ap, arith, length, map, map-append, option_map, refl, rules, state, sym, take, take_all, take_more, ℕ, ⊤, ◌++◌, ◌+◌, ◌∙◌, ◌∷◌, ◌≡◌}
 use Rattle.couch_json.specs.Value.{Value}
 use Rattle.couch_json.specs.View.{view}
 use Rattle.index.proofs.Rebuilt.{indexes_itself, rebuildable, rebuilt_as, rebuilt_then, with_more, with_none}
