@@ -3,6 +3,7 @@ pub mod Sequences
 pub mod HistoryRows
 pub mod Inserting
 pub mod WinningRows
+pub mod OneRevision
 pub mod Following
 pub mod DocumentWriting
 pub mod Committing

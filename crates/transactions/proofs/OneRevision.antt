@@ -1,5 +1,5 @@
 -- What the row of one revision says.
-use Rattle.sqlstore.proofs.Common.{AllByRecursion, Bool, Coded-set, IsLaid, List, Option, Revision, Row, Trees, [], all-filter, all_map, ap, coded_option, filter, history_in, is_of, map, option_map, refl, revs_tree, shown_revision, slice_get, subst, sym, ℕ, ℤ, ◌∙◌, ◌∷◌, ◌≡◌}
+use Rattle.transactions.proofs.Common.{AllByRecursion, Bool, Coded-set, IsLaid, List, Option, Revision, Row, Trees, [], all-filter, all_map, ap, coded_option, filter, history_in, is_of, map, option_map, refl, revs_tree, shown_revision, slice_get, subst, sym, ℕ, ℤ, ◌∙◌, ◌∷◌, ◌≡◌}
 use Rattle.std.specs.FinMap as finite
 use Rattle.std.specs.Ordering.{eq_by_cmp}
 use Rattle.tables.proofs.Laid.{shown_revisions}
@@ -11,7 +11,7 @@ use Rattle.tree.proofs.Revisions.{revision_cmp_exact}
 use Rattle.tree.specs.Revision.{revision_cmp}
 use Rattle.tree.specs.declared.entry.Entry.{Entry}
 use Rattle.tree.specs.HistoryCode.{entry_code}
-use Rattle.sqlstore.specs.Reading.{known_shown}
+use Rattle.transactions.specs.Reading.{known_shown}
 
 pub entry_set : IsSet (Option (Option Entry))
 entry_set = Coded-set (coded_option (coded_option entry_code))
