@@ -1,6 +1,16 @@
--- What the row of one revision says.
-use Rattle.transactions.proofs.Common.{AllByRecursion, Bool, Coded-set, IsLaid, List, Option, Revision, Row, Trees, [], all-filter, all_map, ap, coded_option, filter, history_in, is_of, map, option_map, refl, revs_tree, shown_revision, slice_get, subst, sym, ℕ, ℤ, ◌∙◌, ◌∷◌, ◌≡◌}
+-- What the row of one revision says, and the history of the winner alone.
+use Rattle.transactions.proofs.Common.{None, Some, AllByRecursion, Bool, Coded-set, IsLaid, List, Option, Revision, Row, Trees, [], all-filter, all_map, ap, coded_option, filter, history_in, is_of, map, option_map, refl, revs_tree, shown_revision, slice_get, subst, sym, ℕ, ℤ, ◌∙◌, ◌∷◌, ◌≡◌}
 use Rattle.std.specs.FinMap as finite
+use Rattle.std.specs.Prelude.{option_and_then}
+use Rattle.couch_json.specs.Value.{Value}
+use Rattle.couch_json.specs.View.{view}
+use Rattle.couch_json.specs.declared.value.Json.{Json}
+use Rattle.store.specs.Winning.{single, single_by, winner_alone}
+use Rattle.tree.proofs.Shown.{inside}
+use Rattle.tree.specs.History.{HistoryContent, held_of, row_of, winner, with_new}
+use Rattle.tree.specs.Outline.{marked, marked_winner}
+use Rattle.tree.specs.declared.entry.Held.{Held}
+use Rattle.tree.specs.declared.marked_rev.MarkedRev.{MarkedRev}
 use Rattle.std.specs.Ordering.{eq_by_cmp}
 use Rattle.tables.proofs.Laid.{shown_revisions}
 use Rattle.tables.proofs.RowMaps.{filter_both, get_filtered}
@@ -30,3 +40,22 @@ revision_found trees db id q =
 
 pub revision_intact : (trees : Trees) (p : Row → Bool) (rows : List Row) → IsLaid trees → rows ≡ map shown_revision (filter p (trees revs_tree)) → AllByRecursion IsShownRevision rows
 revision_intact trees p rows l is = subst (AllByRecursion IsShownRevision) (sym is) (all_map IsShownRevision shown_revision _ (all-filter _ p _ (shown_revisions trees l)))
+
+-- ---- the winner alone
+
+-- the winner with what is known of it is the winner alone
+pub alone_is : (h : HistoryContent) (m : MarkedRev) (known : Option Entry) (e : Option (Bool × Value)) → marked_winner h ≡ Some m → known ≡ finite.get h m.rev
+    → option_map (λ d. record { deleted = d.0; body = d.1 }) e ≡ option_and_then (λ (x : Entry). x.held) known → with_new finite.empty m.rev (row_of None e) ≡ winner_alone h
+alone_is h m known e won is held = by (winner h) refl won
+  where
+    by : (w : Option Revision) → winner h ≡ w → option_map (marked h) w ≡ Some m → with_new finite.empty m.rev (row_of None e) ≡ single_by h w
+    by None at up = absurd (cc)
+    by (Some r) at up =
+        let rev : m.rev ≡ r = ap (λ (x : MarkedRev). x.rev) (sym (inside _ _ up)) in
+        ap (λ (d : Option Held). with_new finite.empty m.rev (record { parent = None; held = d })) (held ∙ ap (option_and_then (λ (x : Entry). x.held)) is)
+        ∙ ap (λ (q : Revision). single q (held_of h q)) rev
+
+-- what is held of what was taken out
+pub held_both : (o : Option (Bool × Json)) → option_map {U = Held} (λ (d : Bool × Value). record { deleted = d.0; body = d.1 }) (option_map {U = Bool × Value} (λ (d : Bool × Json). (d.0, view d.1)) o) ≡ option_map {U = Held} (λ (d : Bool × Json). record { deleted = d.0; body = view d.1 }) o
+held_both None = refl
+held_both (Some d) = refl
