@@ -14,7 +14,8 @@ pub use Rattle.sqlite_typed.proofs.TestLemmas.{last_term, then_term}
 pub use Rattle.std.proofs.Math.Seq.{drop-cons}
 pub use Rattle.std.proofs.lemmas.List.{drop-map}
 pub use Rattle.std.proofs.lemmas.List.Folds.{list_any-append}
-pub use Rattle.std.proofs.Common.{drop, get_or}
+pub use Rattle.std.proofs.Common.{drop, get_or, take}
+pub use Rattle.std.proofs.lemmas.List.{map-append, take_all, take_more}
 pub use Rattle.std.specs.Prelude.{⊤, find}
 pub use Rattle.tables.proofs.Cells.{by_db, cast_int, cast_null, compares, int_by, same_blob}
 pub use Rattle.tables.proofs.Common.{AllByRecursion, AreNumbered, AsksInside, Binary, Blob, Bool, Changes, Database, Decides-int_eq, Delete, Equal, Err, Error, Ghosts, HasCleanDisk, Held, IfErr, IfOk, Insert, Int, IsAscending, IsNew, IsTrue, IsUnchanged, Key, Less-from_lt, List, None, Null, Ok, OnOk, Option, Ordering, Proceeds, Result, Row, Schema, Select, Shown, Some, State, Term, Text, Trees, Values, [], all-append, all-filter, all_both, all_map, all_of, all_weaker, and_from, and_parts, ap, ap₂, arith, ascending-append, ascending-filter, ascending_weaker, bytes_eq, bytes_eq-Decides, cases_Bool, cast_row, codes, col, column, cond, decls_table, decls_tree, entries_table, entries_tree, false, filter, filter-filter, has_number, holds, if◌then◌else◌, inl, inr, insert_sorted, int_cmp, int_eq, ints, is_eq, is_gt, length, list_all, list_any, lit, map, map-map, nat_tests, next_number, none_from_any, not, number_of, option_map, pos, refl, rowid, rules, same_int, schema, slice_get, sort_by, state, subst, suc, sym, then-Equal, true, value_cmp, value_cmp-Int, with_cells, ℕ, ℤ, ◌&&◌, ◌++◌, ◌+◌, ◌<ℤ◌, ◌<◌, ◌||◌, ◌∙◌, ◌∷◌, ◌≡◌, ◌≢◌, ◌⊎◌}

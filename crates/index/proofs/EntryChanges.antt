@@ -1,7 +1,6 @@
 -- What the entries are after one is taken out, or one is put in.
-use Rattle.index.proofs.Common.{AllByRecursion, AreEntriesOf, AreEntryRows, Bool, Decides-int_eq, Entries, Int, IsAscending, IsEntryRow, List, None, Option, Row, Some, [], all-append, all-filter, all_weaker, and_from, and_parts, ap, arith, ascending-append, ascending-filter, bytes_eq, bytes_eq-Decides, cases_Bool, cond, declaration_of, entry_cells, entry_id, false, filter, has_entry, inl, inr, int_eq, is_entry_of, is_key, key_of, list_any, list_any-append, nat_tests, none_from_any, not, number_of, numbered-with_cells, refl, same_int, subst, sym, true, with_cells, with_key, ℕ, ℤ, ◌&&◌, ◌++◌, ◌<ℤ◌, ◌||◌, ◌∙◌, ◌∷◌, ◌≡◌, ◌≢◌}
+use Rattle.index.proofs.Common.{AreEntriesOf, AreEntryRows, Bool, Decides-int_eq, Entries, IsEntryRow, List, None, Option, Row, Some, [], all-append, all-filter, all_weaker, and_from, and_parts, ap, ascending-append, ascending-filter, bytes_eq, bytes_eq-Decides, cases_Bool, cond, declaration_of, entry_cells, entry_id, false, filter, has_entry, inl, inr, int_eq, is_entry_of, is_key, key_of, list_any, list_any-append, none_from_any, not, numbered-with_cells, refl, same_int, sym, true, with_cells, with_key, ℕ, ℤ, ◌&&◌, ◌||◌, ◌∙◌, ◌∷◌, ◌≡◌, ◌≢◌}
 use Rattle.index.proofs.EntryStatements.{numbered_entries}
-use Rattle.std.proofs.lemmas.Bool.{false_from_ne_true}
 
 -- ---- tests
 

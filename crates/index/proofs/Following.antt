@@ -1,6 +1,6 @@
 -- The indexes of a database follow one document, one index after another.
-use Rattle.index.proofs.Common.{AllByRecursion, AreDeclarationRows, AreEntriesOf, Bool, Declared, Documents, Entries, IsAscending, List, None, Option, Row, Some, [], all-filter, all_both, all_weaker, and_from, and_parts, ap, arith, ascending-filter, bytes_eq, bytes_eq-Decides, cases_Bool, cond, declaration_at, declared_at, false, fields_of, filter, find, has_number, home_of, inl, inr, int_eq, ints, is_at_home, is_due, is_due_by, is_due_while, is_key, key_if_seen, list_any, map, number_of, passing, refl, same_int, subst, sym, true, with_key, with_seen, find_found, none_from_any, ℕ, ℤ, ◌&&◌, ◌<ℤ◌, ◌||◌, ◌∙◌, ◌∷◌, ◌≡◌}
-use Rattle.index.proofs.EntryChanges.{same_bytes, same_number, int_eq-sym}
+use Rattle.index.proofs.Common.{AllByRecursion, AreDeclarationRows, AreEntriesOf, Bool, Declared, Documents, Entries, IsAscending, List, None, Option, Row, Some, [], all-filter, all_both, and_from, ap, arith, ascending-filter, bytes_eq, cases_Bool, cond, declaration_at, declared_at, false, fields_of, filter, find, has_number, home_of, inl, inr, int_eq, ints, is_at_home, is_due, is_due_by, is_due_while, is_key, key_if_seen, list_any, map, number_of, passing, refl, same_int, subst, sym, true, with_key, with_seen, find_found, none_from_any, ℕ, ℤ, ◌&&◌, ◌<ℤ◌, ◌||◌, ◌∙◌, ◌∷◌, ◌≡◌}
+use Rattle.index.proofs.EntryChanges.{same_number, int_eq-sym}
 use Rattle.couch_json.specs.Value.{Value}
 use Rattle.std.proofs.lemmas.Bool.{false_from_ne_true}
 use Rattle.tables.proofs.Common.{all_kept}
@@ -8,7 +8,7 @@ use Rattle.tables.proofs.Common.{all_kept}
 -- ---- rows whose numbers rise
 
 -- each row is the one that is found by its number
-found_each : (rows : List Row) → IsAscending (λ a b. number_of a <ℤ number_of b) rows → AllByRecursion (λ r. declaration_at rows (number_of r) ≡ Some r) rows
+pub found_each : (rows : List Row) → IsAscending (λ a b. number_of a <ℤ number_of b) rows → AllByRecursion (λ r. declaration_at rows (number_of r) ≡ Some r) rows
 found_each [] up = tt
 found_each (r ∷ rows) up = (
   ap (λ b. cond b (Some r) (find (has_number (number_of r)) rows)) (same_number (number_of r) (number_of r) refl),

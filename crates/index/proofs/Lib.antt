@@ -6,4 +6,8 @@ pub mod Following
 pub mod Going
 pub mod ShownDeclarations
 pub mod NewIndexes
-pub mod Dropping
+pub mod Dropped
+pub mod Alike
+pub mod SeenDocuments
+pub mod Pages
+pub mod RangeStatements

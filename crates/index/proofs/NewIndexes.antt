@@ -1,5 +1,5 @@
 -- New tables have the index rows that they are to have, which are none.
-use Rattle.index.proofs.Common.{AreDeclarationRows, AreEntriesOf, AreEntryRows, Bool, Database, HasIndexRows, IsIndexed, IsNew, List, None, Option, Row, [], ap, declared_by, declares_in, decls_tree, entries_tree, has_entry, if◌then◌else◌, is_due, option_map, pos, refl, sees_in, subst, sym, true, false, ℕ, ◌∙◌, ◌≡◌}
+use Rattle.index.proofs.Common.{AreDeclarationRows, AreEntryRows, Bool, Database, HasIndexRows, IsIndexed, IsNew, List, None, Option, [], ap, declared_by, has_entry, if◌then◌else◌, is_due, option_map, refl, sees_in, subst, sym, true, false, ℕ, ◌∙◌, ◌≡◌}
 use Rattle.std.specs.FinMap.{empty}
 use Rattle.std.specs.Prelude.{option_and_then}
 use Rattle.store.proofs.Winnings.{no_winner}

@@ -1,10 +1,9 @@
 -- A row of a declaration is shown as what a reader takes, and fields read back from their text.
-use Rattle.index.proofs.Common.{AllByRecursion, AreDeclarationRows, IfErr, IndexFault, IsDeclarationRow, IsRefused, IsShownDeclaration, List, [], all_weaker, ap, arith, fields_in_cell, fields_of, fields_text, number_of, refl, rowid, shown_declaration, column, true, Row, ℕ, ◌∙◌, ◌∷◌, ◌≡◌, and_from}
+use Rattle.index.proofs.Common.{AllByRecursion, IndexFault, IsDeclarationRow, IsRefused, IsShownDeclaration, List, [], all_weaker, ap, arith, fields_of, fields_text, number_of, refl, rowid, shown_declaration, column, true, Row, ℕ, ◌∷◌, ◌≡◌, and_from}
 use Rattle.couch_json.proofs.ReadingBack.{reading-canonical}
 use Rattle.couch_json.specs.FieldPath.{is_field_path}
 use Rattle.couch_json.specs.Lawful.{AreLawfulItems}
-use Rattle.couch_json.specs.Nesting.{max_open}
-use Rattle.couch_json.specs.Value.{array, depth, items_depth}
+use Rattle.couch_json.specs.Value.{array, items_depth}
 use Rattle.index.specs.Rows.{path_items}
 use Rattle.index.specs.declared.fault.IndexFault.TheVariants as fault
 use Rattle.policy.specs.DesignDocuments.{are_paths}

@@ -1,18 +1,25 @@
 -- The words of the contracts, at a connection.
 -- This server's own: what a statement leaves is said by `tables`.
-use Rattle.std.specs.Prelude.{◌≡◌, ◌≢◌, ⊤, true, ℕ, ℤ, IsTrue, List, filter, map, Option, Result, OnOk}
+use Rattle.std.specs.Prelude.{◌≡◌, ◌≢◌, ⊤, true, false, ℕ, ℤ, IsTrue, List, filter, map, Option, option_map, Result, IfOk, OnOk}
 use Rattle.std.specs.List.{AllByRecursion}
 use Rattle.couch_json.specs.Value.{Value}
+use Rattle.couch_json.specs.View.{view}
+use Rattle.couch_json.specs.declared.value.Json.{Json}
 use Rattle.sqlite.specs.Effect.{Database}
 use Rattle.sqlite.specs.Held.{Held, state}
 use Rattle.sqlite.specs.State.{HasCleanDisk}
 use Rattle.sqlite_trees.specs.declared.store.Store.{Ghosts}
+use Rattle.tables.specs.Layout.{IsDocumentRow, IsStore}
+use Rattle.tables.specs.Rows.{db_of, id_of, is_gone}
+use Rattle.tree.specs.DocumentId.{is_design_id}
 use Rattle.tables.specs.Schema.{schema, decls_tree, entries_tree}
+use Rattle.tables.specs.declared.decode.ListedDocument.{ListedDocument}
 use Rattle.sqlite_value.specs.Order.{Row}
 use Rattle.index.specs.Indexed.{AreEntriesOf, AreIndexed, Entries, is_due, with_key, without_numbers}
 use Rattle.index.specs.Layout.{AreDeclarationRows, HasIndexRows}
-use Rattle.index.specs.Meaning.{Declarations, Documents, is_key, with_seen, without_declared}
+use Rattle.index.specs.Meaning.{Declarations, Documents, is_key, sees_in, with_seen, without_declared}
 use Rattle.index.specs.Rows.{is_at_home}
+use Rattle.index.specs.Seen.{IsListedAs}
 use Rattle.index.specs.Shown.{Declared, declared_at}
 use Rattle.index.specs.declared.fault.IndexFault.{IndexFault}
 use Rattle.index.specs.declared.fault.IndexFault.TheVariants as fault
@@ -26,6 +33,10 @@ IsRefused intact fault.Damaged = ¬ intact
 -- the disk returned what was written, and the rows of indexes of an open connection were laid out
 abbrev pub IsSound : {S : Type 0} → Ghosts S → Held S → Held S → Type 0
 IsSound g old new = HasCleanDisk (state g new) × (IsTrue (state g old).is_open → HasIndexRows (state g old).now)
+
+-- the same of the whole store
+abbrev pub IsSoundStore : {S : Type 0} → Ghosts S → Held S → Held S → Type 0
+IsSoundStore g old new = HasCleanDisk (state g new) × (IsTrue (state g old).is_open → IsStore (state g old).now)
 
 -- an open transaction goes on
 abbrev pub GoesOn : {S X E : Type 0} → Ghosts S → Held S → Held S → Result X E → Type 0
@@ -89,3 +100,9 @@ abbrev pub Drops : {S X E : Type 0} → Ghosts S → ℤ → Held S → Held S �
 Drops g db old new r =
     HasCleanDisk (state g new) → old.schema ≡ schema → (declares : Declarations) (sees : Documents) → AreIndexed declares sees (state g old).now.trees
     → OnOk r (IsDropped declares sees db (state g old).now (state g new).now)
+
+-- What is found of a document that is neither deleted nor a design document is what queries see of it.
+abbrev pub FindsLive : {S E : Type 0} → Ghosts S → ℤ → ListedDocument → Held S → Held S → Result (Option Json) E → Type 0
+FindsLive g db listed old new r =
+    HasCleanDisk (state g new) → IsStore (state g old).now → (d : Row) → IsDocumentRow (state g old).now.trees d → db_of d ≡ db → IsListedAs d listed
+    → is_gone d ≡ false → is_design_id (id_of d) ≡ false → IfOk r (λ seen. option_map view seen ≡ sees_in (state g old).now.trees db (id_of d))

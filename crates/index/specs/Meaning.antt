@@ -3,7 +3,7 @@
 use Rattle.std.specs.Prelude.{ℕ, ℤ, Bool, false, ◌&&◌, bytes_eq, if◌then◌else◌, List, Option, Some, None, option_map, option_and_then}
 use Rattle.std.specs.Ordering.{int_eq}
 use Rattle.couch_json.specs.Key.{key}
-use Rattle.couch_json.specs.Value.{Value, Items, array}
+use Rattle.couch_json.specs.Value.{Value, array}
 use Rattle.sqlite_trees.specs.Tree.{Trees}
 use Rattle.store.specs.Indexes.{declared_fields, field_values, index_fields_of, queried_document}
 use Rattle.tables.specs.Rows.{history_in}

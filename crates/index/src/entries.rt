@@ -1,14 +1,14 @@
 //! The rows of the entries.
 
-ghost use Rattle.std.specs.Prelude.{◌≡◌, not, filter};
-ghost use Rattle.index.specs.Layout.{AreEntryRows};
-ghost use Rattle.index.specs.Rows.{entry_cells, is_entry_in, is_entry_of};
-ghost use Rattle.tables.specs.Calls.{Alters};
+ghost use Rattle.std.specs.Prelude.{◌≡◌, false, filter, not, true};
+ghost use Rattle.index.specs.Layout.{AreEntryRows, HasIndexRows};
+ghost use Rattle.index.specs.Rows.{entry_cells, is_entry_in, is_entry_of, range_of};
+ghost use Rattle.tables.specs.Calls.{Alters, Reads};
 ghost use Rattle.tables.specs.Rows.{with_cells};
 ghost use Rattle.tables.specs.Schema.{entries_tree};
 
-use sqlite::{Alter, Error, Transaction, params};
-use tables::statement::change;
+use sqlite::{Alter, Connection, Error, Row, Transaction, params};
+use tables::statement::{change, query};
 
 /// Puts in an entry of an index, behind those that are there.
 pub fn insert_entry<S: Alter>(
@@ -53,5 +53,43 @@ pub fn clear_entries<S: Alter>(tx: &mut Transaction<'_, S>, declaration: &i64) -
         tx,
         "DELETE FROM entries WHERE decl = ?1",
         params![declaration],
+    )
+}
+
+/// Returns the entries of an index whose keys are not below the low bound and below the high one, by
+/// their keys and then by their ids: the key and the id. It leaves out the first of them, as many as
+/// `skip`, and goes on up to `most`, or to the end where that is negative.
+pub fn rows_up<S: Alter>(
+    conn: &mut Connection<S>,
+    declaration: &i64,
+    low: &[u8],
+    high: &[u8],
+    most: &i64,
+    skip: &i64,
+) -> Result<Vec<Row>, Error>
+    ensures { Reads S.Store HasIndexRows conn.old conn.new (λ trees rows. rows.items ≡ range_of false declaration.now low.now high.now most.now skip.now (trees entries_tree)) result }
+{
+    query(
+        conn,
+        "SELECT k, id FROM entries WHERE decl = ?1 AND k >= ?2 AND k < ?3 ORDER BY k, id LIMIT ?4 OFFSET ?5",
+        params![declaration, low, high, most, skip],
+    )
+}
+
+/// Returns the same entries as `rows_up`, from the last to the first.
+pub fn rows_down<S: Alter>(
+    conn: &mut Connection<S>,
+    declaration: &i64,
+    low: &[u8],
+    high: &[u8],
+    most: &i64,
+    skip: &i64,
+) -> Result<Vec<Row>, Error>
+    ensures { Reads S.Store HasIndexRows conn.old conn.new (λ trees rows. rows.items ≡ range_of true declaration.now low.now high.now most.now skip.now (trees entries_tree)) result }
+{
+    query(
+        conn,
+        "SELECT k, id FROM entries WHERE decl = ?1 AND k >= ?2 AND k < ?3 ORDER BY k DESC, id DESC LIMIT ?4 OFFSET ?5",
+        params![declaration, low, high, most, skip],
     )
 }

@@ -3,13 +3,16 @@
 
 mod declaration;
 pub mod declarations;
+mod dropping;
 pub mod entries;
 mod fault;
 mod keys;
 pub mod laws;
 mod reading;
 mod refreshing;
+mod seen;
 
 pub use declaration::Declaration;
+pub use dropping::drop_db;
 pub use fault::IndexFault;
 pub use refreshing::{list_declarations, refresh, refresh_indexes};

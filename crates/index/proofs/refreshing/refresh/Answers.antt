@@ -1,4 +1,4 @@
-use Rattle.index.proofs.Common.{AreEntriesOf, Database, HasCleanDisk, HasEntries, HasIndexRows, OnOk, arith, declared, declared_at, decls_tree, entries_tree, filter, is_at_home, is_due, map, option_map, refl, schema, state, subst, sym, with_seen, ◌∙◌, ◌≡◌, ap}
+use Rattle.index.proofs.Common.{AreEntriesOf, Database, HasCleanDisk, HasEntries, HasIndexRows, OnOk, arith, declared, declared_at, decls_tree, entries_tree, filter, is_at_home, is_due, map, option_map, schema, state, subst, with_seen, ◌∙◌, ◌≡◌, ap}
 use Rattle.couch_json.specs.Value.{Value}
 use Rattle.couch_json.specs.View.{view}
 use Rattle.index.proofs.Going.{on_ok, refreshed}

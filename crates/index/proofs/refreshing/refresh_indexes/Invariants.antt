@@ -1,4 +1,4 @@
-use Rattle.index.proofs.Common.{AreDeclarationRows, AreEntriesOf, ChangesOnly, Documents, HasCleanDisk, IsTrue, List, Proceeds, Row, declared, declared_at, decls_tree, drop, entries_tree, filter, is_at_home, is_due, map, option_map, schema, state, true, ◌≡◌}
+use Rattle.index.proofs.Common.{AreDeclarationRows, AreEntriesOf, ChangesOnly, Documents, HasCleanDisk, IsTrue, List, Proceeds, Row, declared, declared_at, drop, entries_tree, filter, is_at_home, is_due, map, option_map, schema, state, true, ◌≡◌}
 use Rattle.couch_json.specs.View.{view}
 use Rattle.index.proofs.Following.{IsOnTheWay}
 use Rattle.index.proofs.refreshing.refresh_indexes.Given as goal

@@ -1,9 +1,9 @@
 -- What is left of the index rows when the indexes of a database are taken out.
-use Rattle.index.proofs.Common.{AllByRecursion, AreDeclarationRows, AreEntriesOf, AreIndexed, Bool, Changes, ChangesIndexes, ChangesOnly, Database, Declarations, Declared, Documents, Entries, HasEntries, IsAscending, IsDeclarationRow, IsDropped, List, None, Option, Row, Schema, Some, Trees, [], all-filter, all_both, all_of, all_weaker, ap, arith, ascending-filter, bytes_eq, cases_Bool, cond, declaration_at, declared_at, declared_by, decls_tree, entries_tree, false, fields_of, filter, find, has_entry, has_number, home_of, if◌then◌else◌, inl, inr, int_eq, ints, is_at_home, is_declaration_of, is_due, is_due_by, is_entry_in, is_entry_of, list_any, list_any-append, map, not, number_of, option_map, passing, refl, same_int, schema, subst, sym, true, without_declared, without_numbers, ℕ, ℤ, ◌&&◌, ◌++◌, ◌<ℤ◌, ◌||◌, ◌∙◌, ◌∷◌, ◌≡◌, ◌≢◌}
+use Rattle.index.proofs.Common.{AllByRecursion, AreDeclarationRows, AreEntriesOf, AreIndexed, Bool, Changes, Database, Declarations, Declared, Documents, Entries, HasEntries, IsAscending, IsDeclarationRow, IsDropped, List, None, Option, Row, Schema, Some, [], all-filter, all_both, all_weaker, ap, arith, ascending-filter, cases_Bool, cond, declared_at, declared_by, decls_tree, entries_tree, false, fields_of, filter, find, has_entry, has_number, if◌then◌else◌, inl, inr, int_eq, ints, is_at_home, is_declaration_of, is_due, is_due_by, is_entry_in, is_entry_of, list_any, list_any-append, map, not, number_of, option_map, passing, refl, same_int, schema, subst, sym, true, without_declared, without_numbers, ℕ, ℤ, ◌&&◌, ◌++◌, ◌<ℤ◌, ◌||◌, ◌∙◌, ◌∷◌, ◌≡◌, ◌≢◌}
 use Rattle.index.proofs.DeclarationStatements.{of_index}
 use Rattle.index.proofs.Going.{declarations_stay}
-use Rattle.index.proofs.EntryChanges.{any_without, entries-filter, int_eq-sym, of_entry, same_number}
-use Rattle.std.proofs.lemmas.Bool.{false_from_ne_true, not-true}
+use Rattle.index.proofs.EntryChanges.{any_without, entries-filter, int_eq-sym, of_entry}
+use Rattle.std.proofs.lemmas.Bool.{false_from_ne_true}
 use Rattle.sqlite_keyed.proofs.ListLemmas.{any_from_none}
 use Rattle.tables.proofs.Rests.{leaves}
 use Rattle.tables.proofs.RowMaps.{find_apart}

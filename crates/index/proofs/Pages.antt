@@ -1,0 +1,71 @@
+-- What a query with an order, a limit and an offset answers, where no two rows tie.
+use Rattle.index.proofs.Common.{AllByRecursion, Bool, Err, IfOk, IsAscending, IsCommand, Key, List, Null, Ok, Ordering, Result, Row, Select, Shown, State, Term, [], ap, cond, false, filter, holds, is_eq, list_all, map, map-map, sort_by, subst, true, ℕ, ◌∙◌, ◌∷◌, ◌≡◌, all-filter}
+use Rattle.sqlite.specs.Effect.{Answers}
+use Rattle.sqlite_schema.specs.declared.program.Program.{Program}
+use Rattle.sqlite_sql.proofs.QueryLemmas.{output_cmp_total}
+use Rattle.sqlite_sql.specs.Program.{overlay}
+use Rattle.sqlite_sql.specs.Query.{IsAnswer, Output, Query, as_count, end, inner, limited, output, output_cmp}
+use Rattle.sqlite_sql.specs.Term.{eval, eval_all}
+use Rattle.std.proofs.Common.{IsPermutation, drop, flat_map}
+use Rattle.std.specs.Prelude.{None, unwrap_or}
+use Rattle.tables.proofs.Common.{all_both, ascending-filter, ascending-map, map_same, reads_as, sort_by-map, sorted_is-sort_by}
+use Rattle.tables.proofs.Queries.{passed}
+use Rattle.tables.proofs.RowMaps.{passing}
+use Rattle.tables.proofs.Sorted.{sorted_alike}
+use Rattle.tables.specs.Schema as tables
+
+-- the rows of one table that pass all tests, in some order, a page of them
+abbrev pub page_on : ℕ → List Term → List Term → List (Term × Key) → Term → Term → Query
+page_on tree tests shown order limit offset =
+    record {
+      from = inner tree end;
+      filter = tests;
+      group = None;
+      project = shown;
+      distinct = false;
+      collations = [];
+      order = order;
+      limit = limit;
+      offset = offset;
+    }
+
+abbrev pub page_program : ℕ → List Term → List Term → List (Term × Key) → Term → Term → Program
+page_program tree tests shown order limit offset = record { lets = []; body = page_on tree tests shown order limit offset }
+
+both_in : (P : Row → Type 0) (R S : Row → Row → Type 0) → ((a b : Row) → P a → P b → R a b → S a b) → (rows : List Row) → AllByRecursion P rows → IsAscending R rows → IsAscending S rows
+both_in P R S weaker [] all up = tt
+both_in P R S weaker (r ∷ rows) all up = (all_both P (R r) (S r) (λ x own over. weaker r x all.0 own over) rows all.1 up.0, both_in P R S weaker rows all.1 up.1)
+
+module _ (old new : State) (has : old.now.schema ≡ tables.schema) {text : List ℕ} {tree : ℕ} {tests shown : List Term} {order : List (Term × Key)} {most skip : Term} {names : List (List ℕ)}
+    (command : IsCommand tables.schema text (Select (page_program tree tests shown order most skip) names)) (params : Row) (p : Row → Bool) (show : Row → Row)
+    (P : Row → Type 0) (by : Row → Row → Ordering) (R : Row → Row → Type 0)
+    (agree : (a b : Row) → P a → P b → output_cmp (page_on tree tests shown order most skip) (output (page_on tree tests shown order most skip) (params ∷ a ∷ [])) (output (page_on tree tests shown order most skip) (params ∷ b ∷ [])) ≡ by a b)
+    (apart : (a b : Row) → P a → P b → p a ≡ true → p b ≡ true → R a b → is_eq (by a b) ≡ false) where
+  pub lists_page : {X E : Type 0} (bare : overlay old.now.trees [] tree ≡ old.now.trees tree) → ((r : Row) → eval_all shown (params ∷ r ∷ []) ≡ show r)
+      → AllByRecursion (λ r. list_all (holds (params ∷ r ∷ [])) tests ≡ p r) (old.now.trees tree) → AllByRecursion P (old.now.trees tree) → IsAscending R (old.now.trees tree)
+      → (r : Result X E) (items : X → List Row) → IfOk r (λ x. Shown text params old new (items x))
+      → IfOk r (λ x. items x ≡ limited (as_count (eval most (params ∷ []))) (drop (unwrap_or (as_count (eval skip (params ∷ []))) 0) (map show (sort_by by (filter p (old.now.trees tree))))))
+  lists_page bare shows passes all up (Err e) items h = tt
+  lists_page bare shows passes all up (Ok x) items h =
+      let q : Query = page_on tree tests shown order most skip in
+      let out : Row → Output = λ r. output (page_on tree tests shown order most skip) (params ∷ r ∷ []) in
+      let rows : List Row = old.now.trees tree in
+      let found : List Row = filter p rows in
+      let answers : Answers old.now (page_program tree tests shown order most skip) params (items x) =
+      reads_as text params old new tables.schema has (Select (page_program tree tests shown order most skip) names) command.is command.plain command.unlisted (items x) h in
+      let a : IsAnswer q (overlay old.now.trees []) params (items x) = answers.answer Null in
+      let staged : a.staged ≡ map (λ r. params ∷ r ∷ []) found =
+      a.grouped ∙ ap (flat_map (λ r. cond (list_all (holds (params ∷ r ∷ [])) tests) ((params ∷ r ∷ []) ∷ []) [])) bare ∙ passed tests params p rows passes in
+      let kept : a.kept ≡ map out found = a.distinct ∙ ap (map (output q)) staged ∙ map-map (output q) (λ r. params ∷ r ∷ []) found in
+      let own : AllByRecursion (λ r. P r × (p r ≡ true)) found = all_both P (λ r. p r ≡ true) (λ r. P r × (p r ≡ true)) (λ r k passes. (k, passes)) found (all-filter P p rows all) (passing p rows) in
+      let untied : IsAscending (λ a b. is_eq (output_cmp q (out a) (out b)) ≡ false) found =
+      both_in (λ r. P r × (p r ≡ true)) R (λ a b. is_eq (output_cmp q (out a) (out b)) ≡ false)
+      (λ a b k l r. ap is_eq (agree a b k.0 l.0) ∙ apart a b k.0 l.0 k.1 l.1 r) found own (ascending-filter R p rows up) in
+      let ordered : a.ordered ≡ sort_by (output_cmp q) (map out found) =
+      sorted_is-sort_by (output_cmp q) (output_cmp_total q) (map out found) a.ordered (ascending-map (λ x y. is_eq (output_cmp q x y) ≡ false) out found untied)
+      (subst (λ l. IsPermutation l a.ordered) kept a.same) a.sorted in
+      let mine : sort_by (λ a b. output_cmp q (out a) (out b)) found ≡ sort_by by found = sorted_alike P (λ a b. output_cmp q (out a) (out b)) by agree found (all-filter P p rows all) in
+      a.shown
+      ∙ ap (λ l. limited (as_count (eval most (params ∷ []))) (drop (unwrap_or (as_count (eval skip (params ∷ []))) 0) l))
+      (ap (map (λ (o : Output). o.1)) (ordered ∙ sort_by-map (output_cmp q) out found ∙ ap (map out) mine)
+      ∙ map-map (λ (o : Output). o.1) out (sort_by by found) ∙ map_same _ show shows (sort_by by found))

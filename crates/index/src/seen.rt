@@ -1,0 +1,127 @@
+//! What queries see of a document, read in a transaction.
+
+ghost use Rattle.std.specs.Prelude.{◌≡◌, IfErr, IfOk, filter, map, option_map};
+ghost use Rattle.std.specs.List.{AllByRecursion};
+ghost use Rattle.couch_json.specs.View.{view};
+ghost use Rattle.sqlite_keyed.specs.Lists.{sort_by};
+ghost use Rattle.tables.specs.Calls.{AsksInside, LooksInside, ReadsInside, Stands};
+ghost use Rattle.tables.specs.Layout.{IsStore};
+ghost use Rattle.tables.specs.Listings.{IsListedDocument};
+ghost use Rattle.tables.specs.Rows.{by_id, is_in, is_revision_of, listed_document, shown_revision};
+ghost use Rattle.tables.specs.Schema.{docs_tree, revs_tree};
+ghost use Rattle.tables.specs.Shown.{IsShownRevision, held_shown};
+ghost use Rattle.index.specs.Calls.{FindsLive, IsRefused, IsSoundStore};
+ghost use Rattle.index.specs.Seen.{IsListedFrom, shown_by_row, shown_by_rows};
+
+use crate::fault::IndexFault;
+use couch_json::Json;
+use sqlite::{Alter, Error, Row, Transaction, params};
+use std::alloc::Global;
+use tables::statement::query_in;
+use tables::{FoundRevision, ListedDocument, RowFault, read_listed_document, read_revision};
+use tree::{DocId, Rev, show};
+
+/// Returns the rows of all documents of a database, by the bytes of their ids: the id, the sequence, the
+/// winner and whether that is deleted.
+pub(crate) fn rows_of_documents<S: Alter>(
+    tx: &mut Transaction<'_, S>,
+    db: &i64,
+) -> Result<Vec<Row>, Error>
+    ensures same_reference { tx.new.conn.ghost_name ≡ tx.old.conn.ghost_name }
+    ensures reads { ReadsInside S.Store IsStore tx.old.conn.now tx.new.conn.now (λ trees rows. rows.items ≡ map listed_document (sort_by by_id (filter (is_in db.now) (trees docs_tree)))) result }
+{
+    query_in(
+        tx,
+        "SELECT id, seq, winner, del FROM docs WHERE db = ?1 ORDER BY id",
+        params![db],
+    )
+}
+
+/// Returns the row of one revision of a document, if it is known.
+fn rows_of_revision<S: Alter>(
+    tx: &mut Transaction<'_, S>,
+    db: &i64,
+    id: &[u8],
+    number: u32,
+    hash: &str,
+) -> Result<Vec<Row>, Error>
+    ensures same_reference { tx.new.conn.ghost_name ≡ tx.old.conn.ghost_name }
+    ensures reads { ReadsInside S.Store IsStore tx.old.conn.now tx.new.conn.now (λ trees rows. rows.items ≡ map shown_revision (filter (is_revision_of db.now id.now (record { number = number; hash = hash.now })) (trees revs_tree))) result }
+{
+    query_in(
+        tx,
+        "SELECT n, hash, parent, held, del, body FROM revs WHERE db = ?1 AND id = ?2 AND n = ?3 AND hash = ?4",
+        params![db, id, number, hash],
+    )
+}
+
+/// Reads what the row of a document says in a list.
+pub(crate) fn read_listed(alloc: Global, row: &Row) -> Result<ListedDocument, IndexFault>
+    ensures ok { IfOk result (IsListedFrom row.now) }
+    ensures err { IfErr result (IsRefused (IsListedDocument row.now)) }
+{
+    match read_listed_document(alloc, row) {
+        Ok(listed) => Ok(listed),
+        Err(RowFault::Memory) => Err(IndexFault::Memory),
+        Err(RowFault::Damaged) => Err(IndexFault::Damaged),
+    }
+}
+
+/// Finds what queries see of a document of a list that is neither deleted nor a design document.
+pub(crate) fn find_live<S: Alter>(
+    alloc: Global,
+    tx: &mut Transaction<'_, S>,
+    db: &i64,
+    listed: &ListedDocument,
+) -> Result<Option<Json>, IndexFault>
+    ensures same_reference { tx.new.conn.ghost_name ≡ tx.old.conn.ghost_name }
+    ensures finds { FindsLive S.Store db.now listed.now tx.old.conn.now tx.new.conn.now result }
+    ensures err { IfErr result (IsRefused (IsSoundStore S.Store tx.old.conn.now tx.new.conn.now)) }
+    ensures stands { Stands S.Store tx.old.conn.now tx.new.conn.now result }
+    ensures looks { LooksInside S.Store tx.old.conn.now tx.new.conn.now }
+    ensures asks { AsksInside S.Store tx.old.conn.now tx.new.conn.now }
+{
+    let id = listed.id.as_str().as_bytes();
+    let rows = rows_of_revision(tx, db, id, listed.winner.number(), listed.winner.hash())?;
+    show_first(alloc, &listed.id, &listed.winner, &rows)
+}
+
+/// Shows the revision of the first row as its document, where it is held.
+fn show_first(
+    alloc: Global,
+    id: &DocId,
+    rev: &Rev,
+    rows: &[Row],
+) -> Result<Option<Json>, IndexFault>
+    ensures ok { IfOk result (λ shown. option_map view shown ≡ shown_by_rows id.now rev.now rows.now) }
+    ensures err { IfErr result (IsRefused (AllByRecursion IsShownRevision rows.now)) }
+{
+    match rows.first() {
+        Some(row) => show_row(alloc, id, rev, row),
+        None => Ok(None),
+    }
+}
+
+/// Shows the revision of a row as its document, where it is held.
+fn show_row(alloc: Global, id: &DocId, rev: &Rev, row: &Row) -> Result<Option<Json>, IndexFault>
+    ensures ok { IfOk result (λ shown. option_map view shown ≡ shown_by_row id.now rev.now row.now) }
+    ensures err { IfErr result (IsRefused (IsShownRevision row.now)) }
+{
+    let found = read_found(alloc, row)?;
+    match &found.held {
+        Some((deleted, body)) => Ok(Some(show(alloc, id, rev, *deleted, body)?)),
+        None => Ok(None),
+    }
+}
+
+/// Reads what the row of a revision says.
+fn read_found(alloc: Global, row: &Row) -> Result<FoundRevision, IndexFault>
+    ensures held { IfOk result (λ d. option_map (λ h. (h.0, view h.1)) d.held ≡ held_shown row.now) }
+    ensures err { IfErr result (IsRefused (IsShownRevision row.now)) }
+{
+    match read_revision(alloc, row) {
+        Ok(found) => Ok(found),
+        Err(RowFault::Memory) => Err(IndexFault::Memory),
+        Err(RowFault::Damaged) => Err(IndexFault::Damaged),
+    }
+}
