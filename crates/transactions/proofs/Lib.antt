@@ -4,6 +4,7 @@ pub mod HistoryRows
 pub mod Inserting
 pub mod WinningRows
 pub mod OneRevision
+pub mod IndexSteps
 pub mod Following
 pub mod DocumentWriting
 pub mod Committing
