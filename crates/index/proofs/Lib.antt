@@ -11,3 +11,4 @@ pub mod Alike
 pub mod SeenDocuments
 pub mod Pages
 pub mod RangeStatements
+pub mod Counts

@@ -21,13 +21,13 @@ use Rattle.tables.proofs.Cells.{blobs_agree}
 use Rattle.tables.proofs.RowMaps.{text_exact}
 use Rattle.tables.specs.Listings.{first_rows}
 
-abbrev by_bounds : List Term
+abbrev pub by_bounds : List Term
 by_bounds = compares Eq 1 0 ∷ compares Ge 2 1 ∷ compares Lt 2 2 ∷ []
 
 blob_by : (op : CompareOp) (v : Value) (a b : List ℕ) → v ≡ Blob a → is_true (binary (Compare op Binary) v (Blob b)) ≡ by_order bytes_cmp op a b
 blob_by op v a b is = ap (λ x. is_true (binary (Compare op Binary) x (Blob b))) is ∙ at_blobs false op a b
 
-tests_bounds : (declaration : ℤ) (low high : List ℕ) (rest : Row) (rows : List Row) → AreEntryRows rows
+pub tests_bounds : (declaration : ℤ) (low high : List ℕ) (rest : Row) (rows : List Row) → AreEntryRows rows
     → AllByRecursion (λ r. list_all (holds ((Int declaration ∷ Blob low ∷ Blob high ∷ rest) ∷ r ∷ [])) by_bounds ≡ is_entry_between declaration low high r) rows
 tests_bounds declaration low high rest rows h =
     all_weaker IsEntryRow (λ r. list_all (holds ((Int declaration ∷ Blob low ∷ Blob high ∷ rest) ∷ r ∷ [])) by_bounds ≡ is_entry_between declaration low high r)

@@ -29,7 +29,7 @@ use Rattle.tree.specs.declared.entry.Held.{Held}
 abbrev known_by_row : Row → Entry
 known_by_row s = row_of (parent_shown s) (held_shown s)
 
-first_of : {A : Type 0} (show : Row → Row) (value : Row → A) (rows : List Row) → option_map value (slice_get (map show rows) 0) ≡ option_map (λ r. value (show r)) (slice_get rows 0)
+pub first_of : {A : Type 0} (show : Row → Row) (value : Row → A) (rows : List Row) → option_map value (slice_get (map show rows) 0) ≡ option_map (λ r. value (show r)) (slice_get rows 0)
 first_of show value [] = refl
 first_of show value (r ∷ rows) = refl
 

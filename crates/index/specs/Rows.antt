@@ -1,6 +1,6 @@
 -- What the rows of `decls` and `entries` say: which indexes are declared, and which keys their documents have.
 -- This server's own layout: the fields of an index are the canonical text of the list of their paths, and a key is the bytes of `couch_json`.
-use Rattle.std.specs.Prelude.{ℕ, ℤ, pos, negsuc, Bool, ◌&&◌, bytes_eq, if◌then◌else◌, List, [], ◌∷◌, drop, filter, find, map, Option, option_map}
+use Rattle.std.specs.Prelude.{ℕ, ℤ, pos, negsuc, Bool, ◌&&◌, bytes_eq, if◌then◌else◌, List, [], ◌∷◌, drop, filter, find, length, map, min, Option, option_map}
 use Rattle.std.specs.Cmp.Lexicographic.{slice_cmp}
 use Rattle.std.specs.List.{list_any}
 use Rattle.std.specs.Ordering.{int_eq, is_le, is_lt, nat_cmp, ordering_then}
@@ -127,3 +127,10 @@ skipped (negsuc n) rows = rows
 abbrev pub range_of : Bool → ℤ → List ℕ → List ℕ → ℤ → ℤ → List Row → List Row
 range_of descending declaration low high most skip rows =
     first_rows most (skipped skip (map shown_entry (sort_by (in_direction descending) (filter (is_entry_between declaration low high) rows))))
+
+-- how many there are, as a query shows it: at most the greatest number that SQLite holds
+abbrev pub count_of : ℤ → List ℕ → List ℕ → List Row → ℕ
+count_of declaration low high rows = length (filter (is_entry_between declaration low high) rows)
+
+abbrev pub shown_count : ℕ → Row
+shown_count n = Int (pos (min n 9223372036854775807)) ∷ []

@@ -1,8 +1,8 @@
 //! The rows of the entries.
 
-ghost use Rattle.std.specs.Prelude.{◌≡◌, false, filter, not, true};
+ghost use Rattle.std.specs.Prelude.{◌≡◌, ◌∷◌, [], false, filter, not, true};
 ghost use Rattle.index.specs.Layout.{AreEntryRows, HasIndexRows};
-ghost use Rattle.index.specs.Rows.{entry_cells, is_entry_in, is_entry_of, range_of};
+ghost use Rattle.index.specs.Rows.{count_of, entry_cells, is_entry_in, is_entry_of, range_of, shown_count};
 ghost use Rattle.tables.specs.Calls.{Alters, Reads};
 ghost use Rattle.tables.specs.Rows.{with_cells};
 ghost use Rattle.tables.specs.Schema.{entries_tree};
@@ -91,5 +91,22 @@ pub fn rows_down<S: Alter>(
         conn,
         "SELECT k, id FROM entries WHERE decl = ?1 AND k >= ?2 AND k < ?3 ORDER BY k DESC, id DESC LIMIT ?4 OFFSET ?5",
         params![declaration, low, high, most, skip],
+    )
+}
+
+/// Returns one row, which tells how many entries of an index have keys that are not below the low bound
+/// and below the high one.
+pub fn count_rows<S: Alter>(
+    conn: &mut Connection<S>,
+    declaration: &i64,
+    low: &[u8],
+    high: &[u8],
+) -> Result<Vec<Row>, Error>
+    ensures { Reads S.Store HasIndexRows conn.old conn.new (λ trees rows. rows.items ≡ shown_count (count_of declaration.now low.now high.now (trees entries_tree)) ∷ []) result }
+{
+    query(
+        conn,
+        "SELECT COUNT(*) FROM entries WHERE decl = ?1 AND k >= ?2 AND k < ?3",
+        params![declaration, low, high],
     )
 }
