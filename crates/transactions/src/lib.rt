@@ -7,6 +7,7 @@ mod commits;
 mod document_write;
 mod histories;
 mod history_fault;
+mod indexing;
 mod seeing;
 mod winners;
 
