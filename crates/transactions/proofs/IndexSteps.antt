@@ -6,13 +6,21 @@ use Rattle.couch_json.specs.Value.{Value}
 use Rattle.sqlite.specs.Effect as sqlite
 use Rattle.sqlite_schema.specs.declared.schema.Schema.{Schema}
 use Rattle.store.specs.Database.{Database, DocumentWrite, with_all}
-use Rattle.std.proofs.Common.{ap₂}
+use Rattle.std.proofs.Common.{Bor, ap₂}
 use Rattle.tree.specs.DocumentId.{is_design_id}
 use Rattle.store.specs.Indexes.{index_fields_of, queried_document}
-use Rattle.index.specs.Calls.{ChangesIndexes}
-use Rattle.index.specs.Indexed.{AreIndexed, IsIndexed, is_due}
+use Rattle.index.specs.Calls.{ChangesIndexes, ChangesOnly, HasEntries}
+use Rattle.index.specs.Indexed.{AreEntriesOf, AreIndexed, IsIndexed, is_due}
 use Rattle.index.specs.Layout.{AreDeclarationRows, AreEntryRows}
-use Rattle.index.specs.Rows.{declared_by, has_entry}
+use Rattle.index.specs.Rows.{declared_by, has_entry, is_at_home}
+use Rattle.index.specs.Shown.{Declared, declared_at}
+use Rattle.index.proofs.Going.{refreshed}
+use Rattle.sqlite_keyed.proofs.ListLemmas.{all_weaker}
+use Rattle.store.specs.Writing.{Addition}
+use Rattle.transactions.specs.Indexing.{AreAllIndexes, IsFollowed, IsIndexedStore, write_in}
+use Rattle.std.specs.Prelude.{map, option_copied, option_map}
+use Rattle.couch_json.specs.View.{view}
+use Rattle.couch_json.specs.declared.value.Json.{Json}
 use Rattle.index.specs.Meaning.{Declarations, Documents, declares_in, sees_in, with_declared, with_seen}
 use Rattle.index.proofs.Alike.{alike, unseen}
 use Rattle.tables.proofs.Common.{Decides-int_eq, and_parts, same_int}
@@ -180,3 +188,38 @@ nothing_followed db id old written plain was left none =
         by : (b : Bool) → int_eq n db ≡ b → (if (b && bytes_eq other id) then sees_in written db id else sees_in old n other) ≡ sees_in old n other
         by true is = absurd (apart (same_int n db is))
         by false is = refl
+
+-- ---- the indexes of a database follow a document
+
+indexes_alone : (a b : sqlite.Database) → ChangesOnly entries_tree a b → ChangesIndexes a b
+indexes_alone a b h = record {
+  schema = h.schema;
+  others = all_weaker (λ t. t.tree ≢ entries_tree → b.trees t.tree ≡ a.trees t.tree) (λ t. t.tree ≢ decls_tree → t.tree ≢ entries_tree → b.trees t.tree ≡ a.trees t.tree) (λ t only declared entered. only entered) a.schema.tables h.others;
+}
+
+-- a document that is no design document was written, and all indexes of its database followed it
+pub seen_followed : (r : Row) (a : Addition) (db : ℤ) (all : List Declared) (before after : Option Value) (old written new : sqlite.Database) → IsIndexedStore old → AreAllIndexes all db old.trees → is_design_id a.id ≡ false
+    → db ≡ number_of r → IsWrite r (write_in old.trees r a) old written → IsStore written → before ≡ sees_in old.trees db a.id → after ≡ sees_in written.trees db a.id
+    → ((decls : List Row) (sees : Documents) → AreDeclarationRows decls → all ≡ map declared_at (filter (is_at_home db) decls) → AreEntriesOf (is_due sees decls) (written.trees entries_tree) → sees db a.id ≡ before
+      → HasEntries (is_due (with_seen sees db a.id after) decls) written new)
+    → IsFollowed r (write_in old.trees r a) old new
+seen_followed r a db all before after old written new was every plain numbered write store first seen_is follows =
+    let declares = declares_in old.trees in
+    let sees = sees_in old.trees in
+    let left : Leaving db a.id old.trees written.trees = subst (λ n. Leaving n a.id old.trees written.trees) (sym numbered) (write_leaves r (write_in old.trees r a) old written was.store.schema_is write) in
+    let still = indexed_still declares sees old.trees written.trees left.decls left.entries was.indexed in
+    let made = follows (written.trees decls_tree) sees still.decls (every ∙ ap (λ rows. map declared_at (filter (is_at_home db) rows)) (sym left.decls)) still.entries (sym first) in
+    let both = refreshed declares sees (with_seen sees db a.id after) written new store.schema_is still made in
+    let only = indexes_alone written new both.1 in
+    record {
+      written = written;
+      write = write;
+      only = only;
+      indexed = document_followed db a.id old.trees written.trees new.trees plain was.indexed left (same_tables written new store.schema_is only).revs
+          (subst (λ seen. AreIndexed declares (with_seen sees db a.id seen) new.trees) seen_is both.0);
+    }
+
+-- the value that is behind a reference, which may be none
+pub seen_copied : (r : Option (Bor Json)) → option_map (λ v. view v.now) r ≡ option_map view (option_copied r)
+seen_copied None = refl
+seen_copied (Some v) = refl

@@ -21,6 +21,7 @@ use Rattle.index.specs.declared.fault.IndexFault.{IndexFault}
 use Rattle.index.specs.declared.fault.IndexFault.TheVariants as index
 use Rattle.store.specs.declared.fault.StoreFault.TheVariants.{Memory, Damaged}
 use Rattle.transactions.specs.Following.{HasPlaceFor}
+use Rattle.transactions.specs.Inserting.{IsLawfulAddition}
 use Rattle.transactions.specs.declared.commit_fault.CommitFault.{CommitFault}
 use Rattle.transactions.specs.declared.commit_fault.CommitFault.TheVariants as fault
 
@@ -44,13 +45,14 @@ pub record IsFollowed (r : Row) (w : DocumentWrite) (old new : Database) : Type 
   pub only : ChangesIndexes written new
   pub indexed : IsIndexed new.trees
 
--- The write may be done under this sequence: its database has this row, the path of the write has its place, and what it leaves is a store.
+-- The write may be done under this sequence: its database has this row, the path of the write has its place, and what it leaves is a store
+-- if rows can say what it says.
 pub record MayBeWritten (db sequence : ℤ) (a : Addition) (old : Database) : Type 0 where
   pub row : Row
   pub numbered : db ≡ number_of row
   pub at : sequence ≡ pos (length_of row + 1)
   pub placed : HasPlaceFor (history_in (old.trees revs_tree) (number_of row) a.id) a
-  pub store : (written : Database) → IsWrite row (write_in old.trees row a) old written → IsStore written
+  pub store : IsLawfulAddition a → (written : Database) → IsWrite row (write_in old.trees row a) old written → IsStore written
 
 -- the disk returned what was written, and an open connection had tables and index rows that were sound, of which this held
 abbrev pub IsSoundIndexed : {S : Type 0} → Ghosts S → (Database → Type 0) → Held S → Held S → Type 0

@@ -2,10 +2,10 @@
 
 ghost use Rattle.std.specs.Prelude.{◌≡◌, IfErr, IsTrue, OnOk, false, map, true};
 ghost use Rattle.sqlite.specs.Held.{state};
-ghost use Rattle.sqlite.specs.State.{HasCleanDisk};
+ghost use Rattle.sqlite.specs.State.{HasCleanDisk, KeepsCommit};
 ghost use Rattle.store.specs.Plain.{with_addition};
 ghost use Rattle.store.specs.Writing.{addition_of};
-ghost use Rattle.tables.specs.Calls.{AsksInside, LooksInside};
+ghost use Rattle.tables.specs.Calls.{AsksInside, IsServed};
 ghost use Rattle.tables.specs.Layout.{IsStore};
 ghost use Rattle.tables.specs.Rows.{history_in};
 ghost use Rattle.tables.specs.Schema.{revs_tree};
@@ -49,11 +49,18 @@ pub(crate) fn write_seen<S: Alter>(
         → OnOk result (IsWithin histories.old (addition_of write.now).id
         (with_addition (history_in ((state S.Store tx.old.conn.now).now.trees revs_tree) db.now (addition_of write.now).id) (addition_of write.now)) histories.new) }
     ensures lawful { OnOk result (IsLawfulAddition (addition_of write.now)) }
-    ensures inside { HasCleanDisk (state S.Store tx.new.conn.now) → OnOk result (IsTrue (state S.Store tx.new.conn.now).is_open × ((state S.Store tx.new.conn.now).in_transaction ≡ true)) }
+    ensures inside { HasCleanDisk (state S.Store tx.new.conn.now) → IsStore (state S.Store tx.old.conn.now).now
+        → AreStored histories.old (history_in ((state S.Store tx.old.conn.now).now.trees revs_tree) db.now)
+        → MayBeWritten db.now sequence.now (addition_of write.now) (state S.Store tx.old.conn.now).now
+        → OnOk result (IsTrue (state S.Store tx.new.conn.now).is_open × ((state S.Store tx.new.conn.now).in_transaction ≡ true)) }
+    ensures served { IsServed S.Store tx.old.conn.now tx.new.conn.now result }
     ensures err { IfErr result (IsUnwritten (IsHeldOpen histories.old (state S.Store tx.old.conn.now)
         × IsSoundIndexed S.Store (λ db'. AreStored histories.old (history_in (db'.trees revs_tree) db.now) × HasBest (history_with db'.trees db.now (addition_of write.now))
         × MayBeWritten db.now sequence.now (addition_of write.now) db') tx.old.conn.now tx.new.conn.now)) }
-    ensures looks { LooksInside S.Store tx.old.conn.now tx.new.conn.now }
+    ensures kept { HasCleanDisk (state S.Store tx.new.conn.now) → IsStore (state S.Store tx.old.conn.now).now
+        → AreStored histories.old (history_in ((state S.Store tx.old.conn.now).now.trees revs_tree) db.now)
+        → MayBeWritten db.now sequence.now (addition_of write.now) (state S.Store tx.old.conn.now).now
+        → KeepsCommit (state S.Store tx.old.conn.now) (state S.Store tx.new.conn.now) }
     ensures asks { AsksInside S.Store tx.old.conn.now tx.new.conn.now }
 {
     let before = see_document(alloc, tx, db, &write.id)?;
