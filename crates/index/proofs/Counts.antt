@@ -1,5 +1,5 @@
 -- What a query that counts rows answers.
-use Rattle.index.proofs.Common.{AllByRecursion, Bool, Err, HasIndexRows, IfOk, Int, Blob, IsCommand, List, None, Null, Ok, Result, Row, Select, Shown, Some, State, Term, [], ap, codes, col, cond, entries_tree, everything, false, filter, holds, length, list_all, lit, map, pos, refl, schema, subst, sym, true, understood, ℕ, ℤ, ◌∙◌, ◌∷◌, ◌≡◌}
+use Rattle.index.proofs.Common.{AllByRecursion, Bool, Err, HasIndexRows, IfOk, Int, Blob, IsCommand, List, Null, Ok, Result, Row, Select, Shown, Some, State, Term, [], ap, codes, col, cond, entries_tree, everything, false, filter, holds, length, list_all, lit, map, pos, refl, schema, subst, sym, understood, ℕ, ℤ, ◌∙◌, ◌∷◌, ◌≡◌}
 use Rattle.index.proofs.RangeStatements.{by_bounds, tests_bounds}
 use Rattle.index.specs.Rows.{count_of, is_entry_between, shown_count}
 use Rattle.sqlite.specs.Effect.{Answers}

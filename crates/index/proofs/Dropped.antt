@@ -43,7 +43,7 @@ clears_none due rows h = record { laid = h.laid; exact = λ m l i. h.exact m l i
 
 -- ---- the declarations
 
-find_none : {A : Type 0} (p : A → Bool) (xs : List A) → AllByRecursion (λ x. p x ≡ false) xs → find p xs ≡ None
+pub find_none : {A : Type 0} (p : A → Bool) (xs : List A) → AllByRecursion (λ x. p x ≡ false) xs → find p xs ≡ None
 find_none p [] all = refl
 find_none p (x ∷ xs) all = ap (λ b. cond b (Some x) (find p xs)) all.0 ∙ find_none p xs all.1
 

@@ -12,3 +12,9 @@ pub mod SeenDocuments
 pub mod Pages
 pub mod RangeStatements
 pub mod Counts
+pub mod StepLemmas
+pub mod Filled
+pub mod Undeclared
+pub mod Declared
+pub mod Rebuilt
+pub mod AllDeclared

@@ -9,7 +9,7 @@ use Rattle.index.specs.declared.fault.IndexFault.TheVariants as fault
 use Rattle.policy.specs.DesignDocuments.{are_paths}
 use Rattle.std.specs.Prelude.{IsUtf8}
 
-lawful_paths : (fields : List (List ℕ)) → AllByRecursion (λ path. (is_field_path path ≡ true) × IsUtf8 path) fields → AreLawfulItems (path_items fields)
+pub lawful_paths : (fields : List (List ℕ)) → AllByRecursion (λ path. (is_field_path path ≡ true) × IsUtf8 path) fields → AreLawfulItems (path_items fields)
 lawful_paths [] all = tt
 lawful_paths (path ∷ fields) all = (all.0.1, lawful_paths fields all.1)
 
@@ -17,7 +17,7 @@ path_list : (fields : List (List ℕ)) → AllByRecursion (λ path. (is_field_pa
 path_list [] all = refl
 path_list (path ∷ fields) all = and_from (is_field_path path) (are_paths (path_items fields)) all.0.0 (path_list fields all.1)
 
-flat : (fields : List (List ℕ)) → items_depth (path_items fields) ≡ 0
+pub flat : (fields : List (List ℕ)) → items_depth (path_items fields) ≡ 0
 flat [] = refl
 flat (path ∷ fields) = ap (Rattle.std.specs.Prelude.max 0) (flat fields)
 

@@ -6,3 +6,7 @@ pub mod Indexed
 pub mod Seen
 pub mod Calls
 pub mod Entries
+pub mod Steps
+pub mod Filling
+pub mod Declaring
+pub mod Rebuilding

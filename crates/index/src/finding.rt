@@ -39,7 +39,10 @@ pub fn find_decl<S: Alter>(
 }
 
 /// Reads the declaration of the first row, if there is one.
-fn first_declaration(alloc: Global, rows: &[Row]) -> Result<Option<Declaration>, IndexFault>
+pub(crate) fn first_declaration(
+    alloc: Global,
+    rows: &[Row],
+) -> Result<Option<Declaration>, IndexFault>
     ensures ok { IfOk result (λ found. option_map declared found ≡ option_map declared_shown (slice_get rows.now 0)) }
     ensures err { IfErr result (IsRefused (AllByRecursion IsShownDeclaration rows.now)) }
 {

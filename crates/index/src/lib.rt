@@ -3,13 +3,16 @@
 
 mod declaration;
 pub mod declarations;
+mod declaring;
 mod dropping;
 pub mod entries;
 mod fault;
+mod filling;
 mod finding;
 mod keys;
 pub mod laws;
 mod reading;
+mod rebuilding;
 mod refreshing;
 mod seen;
 
@@ -17,4 +20,5 @@ pub use declaration::Declaration;
 pub use dropping::drop_db;
 pub use fault::IndexFault;
 pub use finding::find_decl;
+pub use rebuilding::rebuild;
 pub use refreshing::{list_declarations, refresh, refresh_indexes};

@@ -64,7 +64,7 @@ fn read_list(alloc: Global, list: &Json) -> Result<Vec<FieldPath>, IndexFault>
     }
 }
 
-fn read_paths(alloc: Global, items: &[Json]) -> Result<Vec<FieldPath>, IndexFault>
+pub(crate) fn read_paths(alloc: Global, items: &[Json]) -> Result<Vec<FieldPath>, IndexFault>
     ensures ok { IfOk result (λ paths. paths.items ≡ paths_in (items_view items.now)) }
     ensures err { IfErr result (IsRefused (are_paths (items_view items.now) ≡ true)) }
 {

@@ -97,7 +97,7 @@ pub fn refresh_indexes<S: Alter>(
 }
 
 /// Lets one index follow a document of which another is seen, or none.
-fn refresh_index<S: Alter>(
+pub(crate) fn refresh_index<S: Alter>(
     alloc: Global,
     tx: &mut Transaction<'_, S>,
     declaration: &Declaration,

@@ -1,4 +1,4 @@
-use Rattle.index.proofs.Common.{AllByRecursion, IsDeclarationRow, IsShownDeclaration, List, Option, Row, all-filter, all_map, ap, declared_at, declared_shown, decls_tree, filter, find, is_declaration_of, map, option_map, shown_declaration, slice_get, state, subst, sym, ◌∙◌, ◌≡◌}
+use Rattle.index.proofs.Common.{AllByRecursion, IsDeclarationRow, IsShownDeclaration, all-filter, all_map, ap, declared_at, declared_shown, decls_tree, filter, find, is_declaration_of, map, option_map, shown_declaration, slice_get, state, subst, sym, ◌∙◌, ◌≡◌}
 use Rattle.index.proofs.Going.{if_err, if_ok}
 use Rattle.index.proofs.SeenDocuments.{first_of}
 use Rattle.index.proofs.ShownDeclarations.{refused_of, shown_rows}

@@ -1,0 +1,72 @@
+-- The names that the rows have and those that the body declares are all that matter.
+use Rattle.index.proofs.Common.{Bool, Declarations, List, None, Option, Row, Some, [], ap, bytes_eq, cond, declared_by, false, fields_of, filter, find, if◌then◌else◌, int_eq, is_at_home, is_declaration_of, list_any, map, option_map, refl, same_int, shown_declaration, sym, true, ℕ, ℤ, ◌&&◌, ◌||◌, ◌∙◌, ◌∷◌, ◌≡◌, with_declared, index_name_of}
+use Rattle.couch_json.specs.Value.{Members, Value, member, member_at, member_of, no_members, object}
+use Rattle.index.proofs.DeclarationStatements.{of_index}
+use Rattle.index.proofs.EntryChanges.{same_bytes}
+use Rattle.index.specs.Meaning.{declared_if}
+use Rattle.index.specs.Rebuilding.{declared_names, names_of, shown_name, with_names}
+use Rattle.policy.specs.DesignDocuments.{is_index_object}
+use Rattle.std.proofs.Common.{Equal, Greater, Less, Ordering, codes, is_eq}
+use Rattle.std.proofs.lemmas.Map.Text.{is_eq-slice_cmp}
+use Rattle.std.specs.Cmp.Lexicographic.{slice_cmp}
+use Rattle.std.specs.Ordering.{match_ordering, nat_cmp}
+use Rattle.store.specs.Indexes.{fields_in, indexes_if}
+use Rattle.tree.specs.ShownDocument.{members_in}
+
+-- what is not among the names is no member
+not_member : (n : List ℕ) (ms : Members) → list_any (bytes_eq n) (names_of ms) ≡ false → member_at n ms ≡ None
+not_member n no_members out = refl
+not_member n (member name v ms) out = go (slice_cmp nat_cmp n name) (is_eq-slice_cmp n name) (bytes_eq n name) refl out (not_member n ms)
+  where
+    go : (o : Ordering) → is_eq o ≡ bytes_eq n name → (b : Bool) → bytes_eq n name ≡ b → (b || list_any (bytes_eq n) (names_of ms)) ≡ false → (list_any (bytes_eq n) (names_of ms) ≡ false → member_at n ms ≡ None)
+        → match_ordering o (member_at n ms) (Some v) (member_at n ms) ≡ None
+    go o same true is out more = absurd (cc)
+    go Less same false is out more = more out
+    go Greater same false is out more = more out
+    go Equal same false is out more = absurd (let e = same ∙ is in cc)
+
+not_in_object : (n : List ℕ) (w : Value) (b : Bool) → list_any (bytes_eq n) (names_of (members_in w)) ≡ false → member_of (object (if b then members_in w else no_members)) n ≡ None
+not_in_object n w true out = not_member n (members_in w) out
+not_in_object n w false out = refl
+
+-- a body declares no index of another name
+pub undeclared_name : (body : Option Value) (n : List ℕ) → list_any (bytes_eq n) (declared_names body) ≡ false → declared_if body n ≡ None
+undeclared_name None n out = refl
+undeclared_name (Some v) n out = go (member_of v (codes "indexes")) refl out
+  where
+    go : (o : Option Value) → member_of v (codes "indexes") ≡ o → list_any (bytes_eq n) (Rattle.index.specs.Rebuilding.names_in o) ≡ false → option_map fields_in (member_of (object (indexes_if (member_of v (codes "indexes")))) n) ≡ None
+    go None is out = ap (λ m. option_map fields_in (member_of (object (indexes_if m)) n)) is
+    go (Some w) is out = ap (λ m. option_map fields_in (member_of (object (indexes_if m)) n)) is ∙ ap (option_map fields_in) (not_in_object n w (is_index_object w) out)
+
+-- an index whose name no row of the database has has no row
+none_stored : (d db : ℤ) (o n : List ℕ) (rows : List Row) → d ≡ db → list_any (bytes_eq n) (map shown_name (map shown_declaration (filter (is_at_home db) rows))) ≡ false → find (is_declaration_of d o n) rows ≡ None
+none_stored d db o n [] same out = refl
+none_stored d db o n (r ∷ rows) same out = go (is_at_home db r) refl out (none_stored d db o n rows same)
+  where
+    go : (h : Bool) → is_at_home db r ≡ h → list_any (bytes_eq n) (map shown_name (map shown_declaration (cond h (r ∷ filter (is_at_home db) rows) (filter (is_at_home db) rows)))) ≡ false
+        → (list_any (bytes_eq n) (map shown_name (map shown_declaration (filter (is_at_home db) rows))) ≡ false → find (is_declaration_of d o n) rows ≡ None) → cond (is_declaration_of d o n r) (Some r) (find (is_declaration_of d o n) rows) ≡ None
+    go false home out more = at (is_declaration_of d o n r) refl
+      where
+        at : (b : Bool) → is_declaration_of d o n r ≡ b → cond b (Some r) (find (is_declaration_of d o n) rows) ≡ None
+        at true is = absurd (let own = ap (λ x. int_eq x db) ((of_index d o n r is).0 ∙ same) in let here = Rattle.index.proofs.EntryChanges.same_number db db refl in cc)
+        at false is = more out
+    go true home out more = at (is_declaration_of d o n r) refl (bytes_eq n (index_name_of r)) refl out
+      where
+        at : (b : Bool) → is_declaration_of d o n r ≡ b → (e : Bool) → bytes_eq n (index_name_of r) ≡ e → (e || list_any (bytes_eq n) (map shown_name (map shown_declaration (filter (is_at_home db) rows)))) ≡ false
+            → cond b (Some r) (find (is_declaration_of d o n) rows) ≡ None
+        at true is e named out = absurd (let own = same_bytes n (index_name_of r) (sym (of_index d o n r is).2) in cc)
+        at false is true named out = absurd (cc)
+        at false is false named out = more out
+
+pub all_declared : (declares : Declarations) (db : ℤ) (design : List ℕ) (body : Option Value) (rows : List Row) → ((d : ℤ) (o n : List ℕ) → declared_by rows d o n ≡ declares d o n) → (d : ℤ) (o n : List ℕ)
+    → with_names (with_names declares db design (declared_if body) (map shown_name (map shown_declaration (filter (is_at_home db) rows)))) db design (declared_if body) (declared_names body) d o n ≡ with_declared declares db design (declared_if body) d o n
+all_declared declares db design body rows said d o n =
+    go (int_eq d db) refl (bytes_eq o design) (list_any (bytes_eq n) (declared_names body)) refl (list_any (bytes_eq n) (map shown_name (map shown_declaration (filter (is_at_home db) rows)))) refl
+  where
+    go : (x : Bool) → int_eq d db ≡ x → (y z : Bool) → list_any (bytes_eq n) (declared_names body) ≡ z → (w : Bool) → list_any (bytes_eq n) (map shown_name (map shown_declaration (filter (is_at_home db) rows))) ≡ w
+        → (if (x && (y && z)) then declared_if body n else (if (x && (y && w)) then declared_if body n else declares d o n)) ≡ (if (x && y) then declared_if body n else declares d o n)
+    go false at y z is w was = refl
+    go true at false z is w was = refl
+    go true at true true is w was = refl
+    go true at true false is true was = refl
+    go true at true false is false was = sym (said d o n) ∙ ap (option_map fields_of) (none_stored d db o n rows (same_int d db at) was) ∙ sym (undeclared_name body n is)

@@ -1,0 +1,82 @@
+use Rattle.index.proofs.Common.{Declared, Err, Error, HasIndexRows, IndexFault, List, None, Ok, Option, Some, declared, option_map, refl, rules, state, subst, sym, ℕ, ⊤, ◌∙◌, ◌≡◌}
+use Rattle.index.proofs.Rebuilt.{then_put, then_undeclared, unchanged}
+use Rattle.index.proofs.StepLemmas.{steps_none, steps_read, steps_stop, steps_then}
+use Rattle.index.specs.Declaring.{IsFoundIn, IsRebuildable, IsRebuilt, IsUndeclared, with_index}
+use Rattle.index.specs.declared.declaration.Declaration.{Declaration}
+use Rattle.index.specs.declared.fault.IndexFault.TheVariants as fault
+use Rattle.index.proofs.declaring.set_index.Goals as goal
+
+fields_alike : (o : Option Declaration) → option_map (λ (x : Declared). x.fields) (option_map declared o) ≡ option_map {U = List (List ℕ)} (λ d. (declared d).fields) o
+fields_alike None = refl
+fields_alike (Some d) = refl
+
+pub returns-then-is_declared_so-clause-sets : goal.returns-then-is_declared_so-clause-sets
+returns-then-is_declared_so-clause-sets g c declares sees =
+    let a = c.args.tx.now.conn.now in
+    let b = c.find_stored.new.tx.conn.now in
+    let db = c.args.db.now in
+    let design = c.args.design.now in
+    let name = c.args.name.now in
+    let fields = option_map {U = List (List ℕ)} (λ paths. paths.items) c.args.fields.now in
+    let found = option_map declared c.in_ok-found.found in
+    let told : option_map {U = List (List ℕ)} (λ d. (declared d).fields) c.in_ok-found.found ≡ fields = search rules in
+    let same = fields_alike c.in_ok-found.found ∙ told in
+    let e = c.in_ok-found.ensures in
+    steps_then g.S.Store {E = IndexFault} (IsRebuildable declares sees db) (IsFoundIn declares sees db design name found) (λ p q. q ≡ p) (IsRebuilt (with_index declares db design name fields) sees) (IsRebuilt (with_index declares db design name fields) sees)
+    a b b c.in_ok-found.found (Ok tt)
+    (steps_read g.S.Store (IsRebuildable declares sees db) a b (Ok c.in_ok-found.found) e.stands e.looks e.asks (λ fit. fit.store.schema_is))
+    (steps_none g.S.Store (IsFoundIn declares sees db design name found) (IsRebuilt (with_index declares db design name fields) sees) b (Ok tt)
+    (λ fit. unchanged declares db design name sees fields found (state g.S.Store b).now fit same) tt)
+    (λ was fit is.
+    let rows : HasIndexRows (state g.S.Store a).now = record { schema_is = fit.store.schema_is; decls = fit.indexed.decls; entries = fit.indexed.entries.laid } in
+    subst (IsFoundIn declares sees db design name found) (sym is) (record { fit = fit; found_is = e.finds was rows }))
+    (λ was fit is got. subst (λ z. IsRebuilt (with_index declares db design name fields) sees z (state g.S.Store b).now) is got)
+
+pub returns-in_err-take_out-clause-sets : goal.returns-in_err-take_out-clause-sets
+returns-in_err-take_out-clause-sets g c declares sees =
+    let a = c.args.tx.now.conn.now in
+    let b = c.find_stored.new.tx.conn.now in
+    let m = c.take_out.new.tx.conn.now in
+    let db = c.args.db.now in
+    let design = c.args.design.now in
+    let name = c.args.name.now in
+    let fields = option_map {U = List (List ℕ)} (λ paths. paths.items) c.args.fields.now in
+    let found = option_map declared c.in_ok-found.found in
+    let e = c.in_ok-found.ensures in
+    let why = c.in_err-take_out.field-0.0 in
+    let is : c.from_residual-in_err-take_out.result ≡ Err (fault.Sqlite why) = search rules in
+    steps_stop g.S.Store {X = Unit {0}} (IsRebuildable declares sees db) (λ p q. ⊤) (IsRebuilt (with_index declares db design name fields) sees) a m why (fault.Sqlite why) c.from_residual-in_err-take_out.result is
+    (steps_then g.S.Store {E = IndexFault} (IsRebuildable declares sees db) (IsFoundIn declares sees db design name found) (λ p q. q ≡ p) (IsRebuilt (with_index declares db design name None) sees) (λ p q. ⊤) a b m c.in_ok-found.found (Err why)
+    (steps_read g.S.Store (IsRebuildable declares sees db) a b (Ok c.in_ok-found.found) e.stands e.looks e.asks (λ fit. fit.store.schema_is))
+    (c.in_err-take_out.ensures.takes declares sees)
+    (λ was fit same.
+    let rows : HasIndexRows (state g.S.Store a).now = record { schema_is = fit.store.schema_is; decls = fit.indexed.decls; entries = fit.indexed.entries.laid } in
+    subst (IsFoundIn declares sees db design name found) (sym same) (record { fit = fit; found_is = e.finds was rows }))
+    (λ was fit same got. tt))
+
+pub returns-clause-sets : goal.returns-clause-sets
+returns-clause-sets g c declares sees =
+    let a = c.args.tx.now.conn.now in
+    let b = c.find_stored.new.tx.conn.now in
+    let m = c.take_out.new.tx.conn.now in
+    let z = c.put_in.new.tx.conn.now in
+    let db = c.args.db.now in
+    let design = c.args.design.now in
+    let name = c.args.name.now in
+    let fields = option_map {U = List (List ℕ)} (λ paths. paths.items) c.args.fields.now in
+    let found = option_map declared c.in_ok-found.found in
+    let e = c.in_ok-found.ensures in
+    let none = with_index declares db design name None in
+    let both =
+    steps_then g.S.Store {E = IndexFault} (IsRebuildable declares sees db) (IsFoundIn declares sees db design name found) (λ p q. q ≡ p) (IsRebuilt (with_index declares db design name None) sees) (IsRebuilt (with_index declares db design name None) sees)
+    a b m c.in_ok-found.found (Ok c.in_ok-take_out.field-0)
+    (steps_read g.S.Store (IsRebuildable declares sees db) a b (Ok c.in_ok-found.found) e.stands e.looks e.asks (λ fit. fit.store.schema_is))
+    (c.in_ok-take_out.ensures.takes declares sees)
+    (λ was fit same.
+    let rows : HasIndexRows (state g.S.Store a).now = record { schema_is = fit.store.schema_is; decls = fit.indexed.decls; entries = fit.indexed.entries.laid } in
+    subst (IsFoundIn declares sees db design name found) (sym same) (record { fit = fit; found_is = e.finds was rows }))
+    (λ was fit same got. subst (λ p. IsRebuilt (with_index declares db design name None) sees p (state g.S.Store m).now) same got) in
+    steps_then g.S.Store {E = Error} (IsRebuildable declares sees db) (IsUndeclared none sees db design name) (IsRebuilt none sees) (IsRebuilt (with_index none db design name fields) sees) (IsRebuilt (with_index declares db design name fields) sees)
+    a m z c.in_ok-take_out.field-0 c.put_in.result both (c.put_in.ensures.puts none sees)
+    (λ was fit out. then_undeclared declares db design name sees (state g.S.Store a).now (state g.S.Store m).now fit out)
+    (λ was fit out put. then_put declares db design name sees fields (state g.S.Store a).now (state g.S.Store m).now (state g.S.Store z).now out put)

@@ -1,0 +1,7 @@
+use Rattle.index.proofs.Common.{drop, map, ◌++◌, ◌≡◌}
+use Rattle.index.specs.Rebuilding.{shown_name}
+use Rattle.index.proofs.rebuilding.list_stored.Given as goal
+
+-- the names so far and those of what is left are all
+abbrev pub invariant-loop-row : goal.invariant-loop-row
+invariant-loop-row l = map (λ name. name.items) l.names.items ++ map shown_name (drop l.row-index l.rows) ≡ map shown_name l.rows

@@ -1,0 +1,61 @@
+use Rattle.index.proofs.Common.{Err, Error, HasCleanDisk, HasIndexRows, IndexFault, List, Ok, ap, arith, decls_tree, filter, is_at_home, map, option_map, rules, shown_declaration, state, subst, sym, with_declared, ℕ, ⊤, ◌∙◌, ◌≡◌}
+use Rattle.couch_json.specs.Value.{Value}
+use Rattle.couch_json.specs.View.{view}
+use Rattle.index.proofs.AllDeclared.{all_declared}
+use Rattle.index.proofs.Rebuilt.{rebuildable, rebuilt_as, rebuilt_then}
+use Rattle.index.proofs.StepLemmas.{steps_read, steps_stop, steps_then}
+use Rattle.index.specs.Declaring.{IsRebuildable, IsRebuilt}
+use Rattle.index.specs.Meaning.{declared_if}
+use Rattle.index.specs.Rebuilding.{declared_names, shown_name, with_names}
+use Rattle.index.proofs.rebuilding.rebuild.Goals as goal
+
+pub returns-in_err-set_names-clause-rebuilds : goal.returns-in_err-set_names-clause-rebuilds
+returns-in_err-set_names-clause-rebuilds g c declares sees =
+    let a = c.args.tx.now.conn.now in
+    let b = c.rows_of_database.new.tx.conn.now in
+    let m = c.set_names.new.tx.conn.now in
+    let db = c.args.db.now in
+    let design = c.args.design.now in
+    let f = declared_if (option_map {U = Value} (λ v. view v.now) c.args.body) in
+    let one = map {B = List ℕ} (λ name. name.items) c.deref-2.result.now in
+    let reads = c.in_ok-rows.ensures.reads in
+    let fault = c.in_err-set_names.field-0.0 in
+    let is : c.from_residual-in_err-set_names.result ≡ Err fault = search rules in
+    steps_stop g.S.Store {X = Unit {0}} (IsRebuildable declares sees db) (λ p q. ⊤) (IsRebuilt (with_declared declares db design f) sees) a m fault fault c.from_residual-in_err-set_names.result is
+    (steps_then g.S.Store {E = Error} (IsRebuildable declares sees db) (IsRebuildable declares sees db) (λ p q. q ≡ p) (IsRebuilt (with_names declares db design f one) sees) (λ p q. ⊤) a b m c.in_ok-rows.rows (Err fault)
+    (steps_read g.S.Store (IsRebuildable declares sees db) a b (Ok c.in_ok-rows.rows) reads.stands reads.looks reads.asks (λ fit. fit.store.schema_is)) (c.in_err-set_names.ensures.sets declares sees)
+    (λ was fit same. subst (IsRebuildable declares sees db) (sym same) fit) (λ was fit same got. tt))
+
+pub returns-clause-rebuilds : goal.returns-clause-rebuilds
+returns-clause-rebuilds g c declares sees =
+    let a = c.args.tx.now.conn.now in
+    let b = c.rows_of_database.new.tx.conn.now in
+    let m = c.set_names.new.tx.conn.now in
+    let e = c.set_names-2.new.tx.conn.now in
+    let db = c.args.db.now in
+    let design = c.args.design.now in
+    let body = option_map {U = Value} (λ v. view v.now) c.args.body in
+    let f = declared_if (option_map {U = Value} (λ v. view v.now) c.args.body) in
+    let one = map {B = List ℕ} (λ name. name.items) c.deref-2.result.now in
+    let two = map {B = List ℕ} (λ name. name.items) c.deref-3.result.now in
+    let reads = c.in_ok-rows.ensures.reads in
+    let first = with_names declares db design f one in
+    let second = with_names first db design f two in
+    let sets = c.in_ok-set_names.ensures.sets declares sees in
+    let decls = (state g.S.Store a).now.trees decls_tree in
+    let both =
+    steps_then g.S.Store {E = Error} (IsRebuildable declares sees db) (IsRebuildable declares sees db) (λ p q. q ≡ p) (IsRebuilt first sees) (IsRebuilt first sees) a b m c.in_ok-rows.rows (Ok c.in_ok-set_names.field-0)
+    (steps_read g.S.Store (IsRebuildable declares sees db) a b (Ok c.in_ok-rows.rows) reads.stands reads.looks reads.asks (λ fit. fit.store.schema_is)) sets
+    (λ was fit same. subst (IsRebuildable declares sees db) (sym same) fit) (λ was fit same got. subst (λ p. IsRebuilt first sees p (state g.S.Store m).now) same got) in
+    steps_then g.S.Store {E = IndexFault} (IsRebuildable declares sees db) (IsRebuildable first sees db) (IsRebuilt first sees) (IsRebuilt second sees) (IsRebuilt (with_declared declares db design f) sees) a m e c.in_ok-set_names.field-0 c.set_names-2.result
+    both (c.set_names-2.ensures.sets first sees)
+    (λ was fit made. rebuildable declares first sees db (state g.S.Store a).now (state g.S.Store m).now fit made)
+    (λ was fit made got.
+    let clean : HasCleanDisk (state g.S.Store b) = omega (arith, sets.asks.survives.clean, was) in
+    let rows : HasIndexRows (state g.S.Store a).now = record { schema_is = fit.store.schema_is; decls = fit.indexed.decls; entries = fit.indexed.entries.laid } in
+    let one_is : one ≡ map shown_name (map shown_declaration (filter (is_at_home db) decls)) =
+    ap (map {B = List ℕ} (λ name. name.items)) c.deref-2.ensures.value ∙ c.in_ok-stored.ensures ∙ ap (map shown_name) (c.deref.ensures.value ∙ reads.found clean rows) in
+    let two_is : two ≡ declared_names body = ap (map {B = List ℕ} (λ name. name.items)) c.deref-3.ensures.value ∙ c.in_ok-declared.ensures in
+    rebuilt_as second (with_declared declares db design f) sees (state g.S.Store a).now (state g.S.Store e).now
+    (λ d o n. (λ j. with_names (with_names declares db design f (one_is j)) db design f (two_is j) d o n) ∙ all_declared declares db design body decls fit.indexed.declared d o n)
+    (rebuilt_then first second sees (state g.S.Store a).now (state g.S.Store m).now (state g.S.Store e).now made got))

@@ -1,0 +1,48 @@
+-- What a design document's declarations make of index rows.
+-- This server's own: each name is set apart, those that the rows have and those that the body declares.
+use Rattle.std.specs.Prelude.{ℕ, ℤ, ◌&&◌, bytes_eq, codes, if◌then◌else◌, List, [], ◌∷◌, Option, None, Some, Result}
+use Rattle.std.specs.List.{list_any}
+use Rattle.std.specs.Ordering.{int_eq}
+use Rattle.couch_json.specs.Value.{Value, Members, no_members, member, member_of}
+use Rattle.sqlite.specs.Held.{Held}
+use Rattle.sqlite_trees.specs.declared.store.Store.{Ghosts}
+use Rattle.index.specs.Declaring.{IsRebuildable, IsRebuilt}
+use Rattle.index.specs.Meaning.{Declarations, Documents, declared_if, with_declared}
+use Rattle.index.specs.Steps.{Steps}
+use Rattle.sqlite_value.specs.Order.{Row, bytes, column}
+use Rattle.tree.specs.ShownDocument.{members_in}
+
+-- the indexes of these names are as the body declares them
+abbrev pub with_names : Declarations → ℤ → List ℕ → (List ℕ → Option (List (List ℕ))) → List (List ℕ) → Declarations
+with_names declares db design fields names d other n = if int_eq d db && (bytes_eq other design && list_any (bytes_eq n) names) then fields n else declares d other n
+
+-- The indexes of these names of a design document are as its body declares them.
+abbrev pub SetsNames : {S X E : Type 0} → Ghosts S → ℤ → List ℕ → Option Value → List (List ℕ) → Held S → Held S → Result X E → Type 0
+SetsNames g db design body names old new r =
+    (declares : Declarations) (sees : Documents)
+    → Steps g (IsRebuildable declares sees db) (IsRebuilt (with_names declares db design (declared_if body) names) sees) old new r
+
+-- The indexes of a design document are those that its body declares, where it has one.
+abbrev pub Rebuilds : {S X E : Type 0} → Ghosts S → ℤ → List ℕ → Option Value → Held S → Held S → Result X E → Type 0
+Rebuilds g db design body old new r =
+    (declares : Declarations) (sees : Documents)
+    → Steps g (IsRebuildable declares sees db) (IsRebuilt (with_declared declares db design (declared_if body)) sees) old new r
+
+-- ---- names
+
+abbrev pub names_of : Members → List (List ℕ)
+names_of no_members = []
+names_of (member name v ms) = name ∷ names_of ms
+
+abbrev pub names_in : Option Value → List (List ℕ)
+names_in None = []
+names_in (Some v) = names_of (members_in v)
+
+-- the names under which a body may declare indexes
+abbrev pub declared_names : Option Value → List (List ℕ)
+declared_names None = []
+declared_names (Some body) = names_in (member_of body (codes "indexes"))
+
+-- the name of an index, as a query shows it
+abbrev pub shown_name : Row → List ℕ
+shown_name s = bytes (column s 1)

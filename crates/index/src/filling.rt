@@ -1,0 +1,73 @@
+//! The entries of an index that has none, one of each document.
+
+ghost use Rattle.std.specs.Prelude.{◌≡◌, ◌||◌};
+ghost use Rattle.index.specs.Filling.{Fills, FillsRow, FillsRows};
+ghost use Rattle.index.specs.Shown.{declared};
+ghost use Rattle.tree.specs.DocumentId.{is_design_id};
+
+use crate::declaration::Declaration;
+use crate::fault::IndexFault;
+use crate::refreshing::refresh_index;
+use crate::seen::{find_live, read_listed, rows_of_documents};
+use sqlite::{Alter, Row, Transaction};
+use std::alloc::Global;
+use tables::ListedDocument;
+
+/// Fills an index that has no entries: each document of the database that queries see and that has a key
+/// in it gets its entry.
+pub(crate) fn fill_index<S: Alter>(
+    alloc: Global,
+    tx: &mut Transaction<'_, S>,
+    db: &i64,
+    declaration: &Declaration,
+) -> Result<(), IndexFault>
+    ensures same_reference { tx.new.conn.ghost_name ≡ tx.old.conn.ghost_name }
+    ensures fills { Fills S.Store db.now (declared declaration.now) tx.old.conn.now tx.new.conn.now result }
+{
+    let rows = rows_of_documents(tx, db)?;
+    fill_rows(alloc, tx, db, declaration, &rows)
+}
+
+/// Puts the entries of the documents of these rows into an index.
+fn fill_rows<S: Alter>(
+    alloc: Global,
+    tx: &mut Transaction<'_, S>,
+    db: &i64,
+    declaration: &Declaration,
+    rows: &[Row],
+) -> Result<(), IndexFault>
+    ensures same_reference { tx.new.conn.ghost_name ≡ tx.old.conn.ghost_name }
+    ensures fills { FillsRows S.Store db.now (declared declaration.now) rows.now tx.old.conn.now tx.new.conn.now result }
+{
+    for row in rows {
+        fill_row(alloc, tx, db, declaration, row)?;
+    }
+    Ok(())
+}
+
+/// Puts the entry of the document of a row into an index, where it has a key in it.
+fn fill_row<S: Alter>(
+    alloc: Global,
+    tx: &mut Transaction<'_, S>,
+    db: &i64,
+    declaration: &Declaration,
+    row: &Row,
+) -> Result<(), IndexFault>
+    ensures same_reference { tx.new.conn.ghost_name ≡ tx.old.conn.ghost_name }
+    ensures fills { FillsRow S.Store db.now (declared declaration.now) row.now tx.old.conn.now tx.new.conn.now result }
+{
+    let listed = read_listed(alloc, row)?;
+    if is_unseen(&listed) {
+        return Ok(());
+    }
+    let seen = find_live(alloc, tx, db, &listed)?;
+    let id = listed.id.as_str().as_bytes();
+    refresh_index(alloc, tx, declaration, id, None, seen.as_ref())
+}
+
+/// Tells whether queries don't see the document: it is deleted, or a design document.
+fn is_unseen(listed: &ListedDocument) -> bool
+    ensures { result ≡ (listed.now.deleted || is_design_id listed.now.id) }
+{
+    listed.deleted || listed.id.is_design()
+}

@@ -1,0 +1,159 @@
+//! The indexes of a design document, after another body of it is the winner's.
+
+ghost use Rattle.std.specs.Prelude.{◌≡◌, IfOk, map, option_map};
+ghost use Rattle.couch_json.specs.View.{members_view, view};
+ghost use Rattle.store.specs.Indexes.{fields_in};
+ghost use Rattle.index.specs.Declaring.{SetsIndex};
+ghost use Rattle.index.specs.Meaning.{declared_if};
+ghost use Rattle.index.specs.Rebuilding.{Rebuilds, SetsNames, declared_names, names_of, shown_name};
+
+use crate::declarations::rows_of_database;
+use crate::declaring::set_index;
+use crate::fault::IndexFault;
+use crate::reading::read_paths;
+use couch_json::{FieldPath, Got, Json};
+use sqlite::{Alter, Row, Transaction};
+use sqlite_value::value::ValueRef;
+use std::alloc::Global;
+use std::collections::BTreeMap;
+use std::str;
+use store::find_index;
+
+/// Lets the indexes of a design document be those that its body declares, or none where it has no body:
+/// what is not declared any more is taken out, and what is declared anew is filled.
+pub fn rebuild<S: Alter>(
+    alloc: Global,
+    tx: &mut Transaction<'_, S>,
+    db: &i64,
+    design: &[u8],
+    body: Option<&Json>,
+) -> Result<(), IndexFault>
+    ensures same_reference { tx.new.conn.ghost_name ≡ tx.old.conn.ghost_name }
+    ensures rebuilds { Rebuilds S.Store db.now design.now (option_map (λ v. view v.now) body.entry) tx.old.conn.now tx.new.conn.now result }
+{
+    let rows = rows_of_database(tx, db)?;
+    let stored = list_stored(alloc, &rows)?;
+    let declared = list_declared(alloc, body)?;
+    set_names(alloc, tx, db, design, body, &stored)?;
+    set_names(alloc, tx, db, design, body, &declared)
+}
+
+/// Lists the names of the indexes of these rows.
+fn list_stored(alloc: Global, rows: &[Row]) -> Result<Vec<Vec<u8>>, IndexFault>
+    ensures { IfOk result (λ names. map (λ name. name.items) names.items ≡ map shown_name rows.now) }
+{
+    let mut names = Vec::with_capacity(alloc, rows.len())?;
+    for row in rows {
+        names.push(read_name(alloc, row)?)?;
+    }
+    Ok(names)
+}
+
+/// Reads the name of the index of a row.
+fn read_name(alloc: Global, row: &Row) -> Result<Vec<u8>, IndexFault>
+    ensures { IfOk result (λ name. name.items ≡ shown_name row.now) }
+{
+    match row.get_ref(1) {
+        Ok(ValueRef::Blob(bytes)) => Ok(copy_bytes(alloc, bytes)?),
+        _ => Err(IndexFault::Damaged),
+    }
+}
+
+fn copy_bytes(alloc: Global, bytes: &[u8]) -> Got<Vec<u8>>
+    ensures { IfOk result (λ copy. copy.items ≡ bytes.now) }
+{
+    let mut copy = Vec::new(alloc);
+    copy.extend_from_slice(bytes)?;
+    Ok(copy)
+}
+
+/// Lists the names under which a body may declare indexes.
+fn list_declared(alloc: Global, body: Option<&Json>) -> Got<Vec<Vec<u8>>>
+    ensures { IfOk result (λ names. map (λ name. name.items) names.items ≡ declared_names (option_map (λ v. view v.now) body.entry)) }
+{
+    let Some(body) = body else {
+        return Ok(Vec::new(alloc));
+    };
+    let Some(indexes) = body.member("indexes") else {
+        return Ok(Vec::new(alloc));
+    };
+    match indexes {
+        Json::Object(members) => list_names(alloc, members),
+        _ => Ok(Vec::new(alloc)),
+    }
+}
+
+/// Lists the names of members.
+fn list_names(alloc: Global, members: &BTreeMap<String, Json>) -> Got<Vec<Vec<u8>>>
+    ensures { IfOk result (λ names. map (λ name. name.items) names.items ≡ names_of (members_view members.now.entries)) }
+{
+    let mut names = Vec::new(alloc);
+    for (name, _index) in members.iter() {
+        names.push(copy_bytes(alloc, name.as_bytes())?)?;
+    }
+    Ok(names)
+}
+
+/// Sets the indexes of these names of a design document as its body declares them.
+fn set_names<S: Alter>(
+    alloc: Global,
+    tx: &mut Transaction<'_, S>,
+    db: &i64,
+    design: &[u8],
+    body: Option<&Json>,
+    names: &[Vec<u8>],
+) -> Result<(), IndexFault>
+    ensures same_reference { tx.new.conn.ghost_name ≡ tx.old.conn.ghost_name }
+    ensures sets { SetsNames S.Store db.now design.now (option_map (λ v. view v.now) body.entry) (map (λ name. name.items) names.now) tx.old.conn.now tx.new.conn.now result }
+{
+    for name in names {
+        set_name(alloc, tx, db, design, body, name)?;
+    }
+    Ok(())
+}
+
+/// Sets the index of this name of a design document as its body declares it.
+fn set_name<S: Alter>(
+    alloc: Global,
+    tx: &mut Transaction<'_, S>,
+    db: &i64,
+    design: &[u8],
+    body: Option<&Json>,
+    name: &[u8],
+) -> Result<(), IndexFault>
+    ensures same_reference { tx.new.conn.ghost_name ≡ tx.old.conn.ghost_name }
+    ensures sets { SetsIndex S.Store db.now design.now name.now (declared_if (option_map (λ v. view v.now) body.entry) name.now) tx.old.conn.now tx.new.conn.now result }
+{
+    let fields = read_declared(alloc, body, name)?;
+    set_index(alloc, tx, db, design, name, &fields)
+}
+
+/// Reads the fields of the index that a body declares under this name, where there is a body.
+fn read_declared(
+    alloc: Global,
+    body: Option<&Json>,
+    name: &[u8],
+) -> Result<Option<Vec<FieldPath>>, IndexFault>
+    ensures { IfOk result (λ fields. option_map (λ paths. paths.items) fields ≡ declared_if (option_map (λ v. view v.now) body.entry) name.now) }
+{
+    let Some(body) = body else {
+        return Ok(None);
+    };
+    let Ok(text) = str::from_utf8(name) else {
+        return Err(IndexFault::Damaged);
+    };
+    match find_index(alloc, body, text)? {
+        Some(index) => Ok(Some(read_index(alloc, index)?)),
+        None => Ok(None),
+    }
+}
+
+/// Reads the fields of an index.
+fn read_index(alloc: Global, index: &Json) -> Result<Vec<FieldPath>, IndexFault>
+    ensures { IfOk result (λ paths. paths.items ≡ fields_in (view index.now)) }
+{
+    match index.member("fields") {
+        Some(Json::Array(fields)) => read_paths(alloc, fields),
+        _ => Ok(Vec::new(alloc)),
+    }
+}
