@@ -1,11 +1,11 @@
 -- Tables of which the index rows alone have changed; and what one write leaves of what is declared and of what queries see.
-use Rattle.transactions.proofs.Common.{AllByRecursion, Bool, HasWritten, HistoryContent, IsStore, List, None, Option, Row, Some, Trees, ap, arith, bytes_eq-Decides, contents_in, database_of, dbs_tree, docs_tree, false, filter, history_in, length, locals_tree, number_of, refl, revs_tree, schema, slice_get, subst, sym, true, ℕ, ℤ, ◌∙◌, ◌≡◌, ◌≢◌}
+use Rattle.transactions.proofs.Common.{AllByRecursion, Bool, HasWritten, IsStore, List, None, Option, Row, Some, Trees, ap, arith, bytes_eq-Decides, database_of, dbs_tree, docs_tree, false, filter, history_in, length, number_of, refl, revs_tree, schema, slice_get, subst, sym, true, ℕ, ℤ, ◌∙◌, ◌≡◌, ◌≢◌}
 use Rattle.std.specs.Prelude.{◌&&◌, bytes_eq, if◌then◌else◌}
 use Rattle.std.specs.Ordering.{int_eq}
 use Rattle.couch_json.specs.Value.{Value}
 use Rattle.sqlite.specs.Effect as sqlite
 use Rattle.sqlite_schema.specs.declared.schema.Schema.{Schema}
-use Rattle.store.specs.Database.{Database, DocumentWrite, with_all}
+use Rattle.store.specs.Database.{DocumentWrite}
 use Rattle.std.proofs.Common.{Bor, ap₂}
 use Rattle.tree.specs.DocumentId.{is_design_id}
 use Rattle.store.specs.Indexes.{index_fields_of, queried_document}
@@ -201,7 +201,7 @@ indexes_alone a b h = record {
 pub seen_followed : (r : Row) (a : Addition) (db : ℤ) (all : List Declared) (before after : Option Value) (old written new : sqlite.Database) → IsIndexedStore old → AreAllIndexes all db old.trees → is_design_id a.id ≡ false
     → db ≡ number_of r → IsWrite r (write_in old.trees r a) old written → IsStore written → before ≡ sees_in old.trees db a.id → after ≡ sees_in written.trees db a.id
     → ((decls : List Row) (sees : Documents) → AreDeclarationRows decls → all ≡ map declared_at (filter (is_at_home db) decls) → AreEntriesOf (is_due sees decls) (written.trees entries_tree) → sees db a.id ≡ before
-      → HasEntries (is_due (with_seen sees db a.id after) decls) written new)
+    → HasEntries (is_due (with_seen sees db a.id after) decls) written new)
     → IsFollowed r (write_in old.trees r a) old new
 seen_followed r a db all before after old written new was every plain numbered write store first seen_is follows =
     let declares = declares_in old.trees in

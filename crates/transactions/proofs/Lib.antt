@@ -5,6 +5,7 @@ pub mod Inserting
 pub mod WinningRows
 pub mod OneRevision
 pub mod IndexSteps
+pub mod IndexRests
 pub mod Following
 pub mod DocumentWriting
 pub mod Committing

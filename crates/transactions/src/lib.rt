@@ -8,6 +8,7 @@ mod document_write;
 mod histories;
 mod history_fault;
 mod indexing;
+pub mod laws;
 mod seeing;
 mod winners;
 

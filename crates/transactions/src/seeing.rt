@@ -129,7 +129,7 @@ pub(crate) fn find_winning<S: Alter>(
 }
 
 /// Shows what queries see of a document as it is stored.
-#[tactic(auto, using(store::proofs::Winnings::queried_alone, crate::proofs::IndexSteps::sees_after))]
+#[tactic(auto, using(store::proofs::Winnings::queried_alone))]
 pub(crate) fn see_document<S: Alter>(
     alloc: Global,
     tx: &mut Transaction<'_, S>,

@@ -1,4 +1,4 @@
-use Rattle.transactions.proofs.Lemmas.{AreStored, CommitFault, Database, Err, HasBest, HasCleanDisk, Held, HistoryContent, IfErr, IsHeldOpen, IsSound, IsStore, IsTrue, IsUnwritten, Result, addition_of, ap, arith, history_in, history_with, keeps_then, number_of, revs_tree, rules, state, subst, sym, unwritten_of, with_addition, ⊤, ◌∙◌, ◌≡◌}
+use Rattle.transactions.proofs.Lemmas.{AreStored, CommitFault, Database, Err, HasBest, HasCleanDisk, IfErr, IsHeldOpen, IsSound, IsStore, IsUnwritten, Result, addition_of, ap, arith, history_in, history_with, keeps_then, number_of, revs_tree, rules, state, subst, sym, unwritten_of, with_addition, ⊤, ◌∙◌, ◌≡◌}
 use Rattle.transactions.proofs.Common.{IsWithin, IsWrite, List, Trees, option_map, ℕ}
 use Rattle.transactions.proofs.IndexSteps.{seen_copied, seen_followed}
 use Rattle.transactions.specs.Following.{HasPlaceFor}
@@ -89,8 +89,8 @@ returns-clause-ok g c clean was every plain stored due =
     seen_followed due.row a db _ _ _ old.now look.now end.now was every plain due.numbered (subst (IsWrite due.row (write_in old.now.trees due.row a) old.now) (sym seen) write) (subst IsStore (sym seen) left)
     before after
     (subst (λ (i : List ℕ). (decls : List Row) (sees : Documents) → AreDeclarationRows decls → map declared c.args.indexes.now ≡ map declared_at (filter (is_at_home db) decls)
-      → AreEntriesOf (is_due sees decls) (look.now.trees entries_tree) → sees db i ≡ option_map (λ v. view v.now) c.as_ref.result
-      → HasEntries (is_due (with_seen sees db i (option_map (λ v. view v.now) c.as_ref-2.result)) decls) look.now end.now) id
+    → AreEntriesOf (is_due sees decls) (look.now.trees entries_tree) → sees db i ≡ option_map (λ v. view v.now) c.as_ref.result
+    → HasEntries (is_due (with_seen sees db i (option_map (λ v. view v.now) c.as_ref-2.result)) decls) look.now end.now) id
     (e.follows clean (ap (λ (d : Database). d.schema) seen ∙ left.schema_is)))
 
 pub returns-clause-after : goal.returns-clause-after

@@ -1,4 +1,4 @@
-use Rattle.transactions.proofs.Lemmas.{CommitFault, Err, IfErr, IsSound, IsUnwritten, Result, ap, documents_intact, filter, history_in, inside, is_of, lost, map, revs_tree, rules, slice_get, state, subst, sym, winner_found, ⊤, ◌∙◌, ◌≡◌}
+use Rattle.transactions.proofs.Lemmas.{CommitFault, Err, IfErr, IsSound, IsUnwritten, Result, ap, documents_intact, filter, inside, is_of, lost, map, rules, slice_get, state, subst, sym, winner_found, ⊤, ◌∙◌, ◌≡◌}
 use Rattle.transactions.proofs.Common.{List, Option, ℕ}
 use Rattle.std.specs.Prelude.{option_and_then}
 use Rattle.sqlite_value.specs.Order.{Row}

@@ -1,4 +1,4 @@
-use Rattle.transactions.proofs.Lemmas.{CommitFault, Err, HasCleanDisk, HistoryContent, IfErr, IsSound, IsStore, IsUnwritten, Result, Some, alone_is, ap, arith, held_both, history_in, inside, revs_tree, rules, state, subst, sym, unwritten_of, ⊤, ◌∙◌, ◌≡◌}
+use Rattle.transactions.proofs.Lemmas.{CommitFault, Err, HasCleanDisk, HistoryContent, IfErr, IsSound, IsStore, IsUnwritten, Result, alone_is, ap, arith, held_both, history_in, revs_tree, rules, state, subst, sym, unwritten_of, ⊤, ◌∙◌, ◌≡◌}
 use Rattle.std.specs.FinMap as finite
 use Rattle.transactions.proofs.Common.{Bool, None, option_map, row_of}
 use Rattle.couch_json.specs.View.{view}
