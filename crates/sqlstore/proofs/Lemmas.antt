@@ -14,5 +14,5 @@ pub use Rattle.sqlstore.proofs.Standing.{dropped, finds, finds_rows, same_trees,
 pub use Rattle.tables.proofs.Laid.{nothing}
 pub use Rattle.transactions.proofs.HistoryRows.{history_intact, history_made, history_set, outline_intact, outline_made}
 pub use Rattle.sqlstore.proofs.LeafRows.{hashes_intact, leaf_rows_lost, path_end_alone, revs_set}
-pub use Rattle.sqlstore.proofs.OneDocument.{entry_set, revision_found, revision_intact}
+pub use Rattle.transactions.proofs.OneRevision.{entry_set, revision_found, revision_intact}
 pub use Rattle.transactions.proofs.WinningRows.{documents_intact, winner_found, winner_set}

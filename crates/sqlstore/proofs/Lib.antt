@@ -10,7 +10,6 @@ pub mod Enough
 pub mod FoundPages
 pub mod Afterwards
 pub mod Indexing
-pub mod OneDocument
 pub mod LeafRows
 mod OpenedAgain
 pub mod Making

@@ -10,9 +10,7 @@ use Rattle.tables.specs.Rows.{count_in, is_named, json_in, length_of, number_of,
 use Rattle.sqlite_trees.specs.Tree.{Trees}
 use Rattle.tables.specs.Schema.{dbs_tree}
 use Rattle.tables.specs.Shown.{revision_shown}
-use Rattle.transactions.specs.Reading.{entry_shown}
 use Rattle.tree.specs.Revision.{Revision}
-use Rattle.tree.specs.declared.entry.Entry.{Entry}
 use Rattle.sqlstore.specs.declared.known_database.KnownDatabase.{KnownDatabase}
 
 -- the number, the security object and the sequence of a database
@@ -50,10 +48,6 @@ pub record IsShownName (s : Row) : Type 0 where
   pub width : length s ≡ 1
   pub name : column s 0 ≡ Blob (name_shown s)
   pub lawful : IsTrue (is_database_name (name_shown s))
-
--- what is known of a revision, of what a query shows of its row
-abbrev pub known_shown : Row → Entry
-known_shown s = (entry_shown s).1
 
 -- the database of this name has this number
 pub record HasNumber (trees : Trees) (name : List ℕ) (number : ℤ) : Type 0 where

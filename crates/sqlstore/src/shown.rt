@@ -4,19 +4,17 @@ ghost use Rattle.std.specs.Prelude.{◌≡◌, IfErr, IfOk, IfSome, IsTrue, Some
 ghost use Rattle.std.specs.List.{AllByRecursion};
 ghost use Rattle.couch_json.specs.View.{view};
 ghost use Rattle.policy.specs.Security.{is_security};
-ghost use Rattle.tables.specs.Shown.{IsShownDatabase, IsShownHash, IsShownLocal, IsShownRevision, local_shown};
+ghost use Rattle.tables.specs.Shown.{IsShownDatabase, IsShownHash, IsShownLocal, local_shown};
 ghost use Rattle.transactions.specs.Reading.{IsLost, IsRead};
-ghost use Rattle.sqlstore.specs.Reading.{EndsPath, found_shown, known_shown};
+ghost use Rattle.sqlstore.specs.Reading.{EndsPath, found_shown};
 
 use couch_json::Json;
 use policy::{Security, SecurityFault};
 use sqlite::Row;
 use std::alloc::Global;
 use store::{LocalDocument, StoreFault};
-use tables::{
-    FoundDatabase, FoundRevision, RowFault, read_database, read_hash, read_local, read_revision,
-};
-use tree::{Body, Entry, Held, Rev};
+use tables::{FoundDatabase, RowFault, read_database, read_hash, read_local};
+use tree::Rev;
 
 /// Reads the database of the first row, if there is one.
 pub(crate) fn first_database(alloc: Global, rows: &[Row]) -> Result<FoundDatabase, StoreFault>
@@ -44,40 +42,6 @@ pub(crate) fn first_local(alloc: Global, rows: &[Row]) -> Result<Option<LocalDoc
         Err(RowFault::Memory) => Err(StoreFault::Memory),
         Err(RowFault::Damaged) => Err(StoreFault::Damaged),
     }
-}
-
-/// Reads what is known of the revision of the first row, if there is one.
-pub(crate) fn first_revision(alloc: Global, rows: &[Row]) -> Result<Option<Entry>, StoreFault>
-    ensures { IsRead (λ found. found) (Some (option_map known_shown (slice_get rows.now 0))) (AllByRecursion IsShownRevision rows.now) result }
-{
-    let Some(row) = rows.first() else {
-        return Ok(None);
-    };
-    match read_revision(alloc, row) {
-        Ok(
-            FoundRevision {
-                rev: _,
-                parent,
-                held,
-            },
-        ) => Ok(Some(Entry {
-            parent,
-            held: hold(held),
-        })),
-        Err(RowFault::Memory) => Err(StoreFault::Memory),
-        Err(RowFault::Damaged) => Err(StoreFault::Damaged),
-    }
-}
-
-/// Makes what is held of a mark and a body, if they are there.
-fn hold(held: Option<(bool, Json)>) -> Option<Held>
-    ensures { result ≡ option_map (λ h. record { deleted = h.0; body = view h.1 }) held }
-{
-    let (deleted, body) = held?;
-    Some(Held {
-        deleted,
-        body: Body::new(body),
-    })
 }
 
 /// Reads the security object that a value is.

@@ -3,7 +3,7 @@
 ghost use Rattle.std.specs.Prelude.{◌≡◌, filter, map, IsPermutation};
 ghost use Rattle.tables.specs.Calls.{ReadsInside};
 ghost use Rattle.tables.specs.Layout.{IsStore};
-ghost use Rattle.tables.specs.Rows.{is_of, listed_document, shown_revision};
+ghost use Rattle.tables.specs.Rows.{is_of, is_revision_of, listed_document, shown_revision};
 ghost use Rattle.tables.specs.Schema.{docs_tree, revs_tree};
 
 use crate::statement::query_in;
@@ -39,5 +39,23 @@ pub fn document_rows_in<S: Alter>(
         tx,
         "SELECT id, seq, winner, del FROM docs WHERE db = ?1 AND id = ?2",
         params![db, id],
+    )
+}
+
+/// Returns the row of one revision of a document, if it is known.
+pub fn one_revision_rows_in<S: Alter>(
+    tx: &mut Transaction<'_, S>,
+    db: &i64,
+    id: &[u8],
+    number: u32,
+    hash: &str,
+) -> Result<Vec<Row>, Error>
+    ensures same_reference { tx.new.conn.ghost_name ≡ tx.old.conn.ghost_name }
+    ensures reads { ReadsInside S.Store IsStore tx.old.conn.now tx.new.conn.now (λ trees rows. rows.items ≡ map shown_revision (filter (is_revision_of db.now id.now (record { number = number; hash = hash.now })) (trees revs_tree))) result }
+{
+    query_in(
+        tx,
+        "SELECT n, hash, parent, held, del, body FROM revs WHERE db = ?1 AND id = ?2 AND n = ?3 AND hash = ?4",
+        params![db, id, number, hash],
     )
 }

@@ -3,6 +3,9 @@ pub mod Sequences
 pub mod HistoryRows
 pub mod Inserting
 pub mod WinningRows
+pub mod OneRevision
+pub mod IndexSteps
+pub mod IndexRests
 pub mod Following
 pub mod DocumentWriting
 pub mod Committing

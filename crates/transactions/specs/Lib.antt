@@ -5,3 +5,4 @@ pub mod Inserting
 pub mod Following
 pub mod Commits
 pub mod Histories
+pub mod Indexing

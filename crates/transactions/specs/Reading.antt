@@ -52,6 +52,10 @@ store_fault_of history.Damaged = Damaged
 abbrev pub entry_shown : Row → Revision × Entry
 entry_shown s = (revision_shown s, row_of (parent_shown s) (held_shown s))
 
+-- what is known of a revision, of what a query shows of its row
+abbrev pub known_shown : Row → Entry
+known_shown s = (entry_shown s).1
+
 -- the history that the rows make, one after the other
 abbrev pub history_shown : List Row → HistoryContent
 history_shown rows = with_entries finite.empty (map entry_shown rows)

@@ -3,10 +3,12 @@
 ghost use Rattle.std.specs.Prelude.{◌≡◌};
 ghost use Rattle.store.specs.declared.fault.StoreFault.TheVariants.{Memory};
 ghost use Rattle.transactions.specs.Reading.{store_fault_of};
+ghost use Rattle.transactions.specs.Indexing.{of_index_fault};
 ghost use Rattle.transactions.specs.declared.commit_fault.CommitFault.TheVariants as fault;
 
 use crate::history_fault::HistoryFault;
 use couch_json::NoMemory;
+use index::IndexFault;
 use sqlite::Error;
 use store::StoreFault;
 
@@ -50,6 +52,18 @@ impl From<HistoryFault> for CommitFault {
         match fault {
             HistoryFault::Memory => CommitFault::Store(StoreFault::Memory),
             HistoryFault::Damaged => CommitFault::Store(StoreFault::Damaged),
+        }
+    }
+}
+
+impl From<IndexFault> for CommitFault {
+    ghost from_gives = { λ e made. made ≡ of_index_fault e };
+
+    fn from(fault: IndexFault) -> CommitFault {
+        match fault {
+            IndexFault::Sqlite(error) => CommitFault::Sqlite(error),
+            IndexFault::Memory => CommitFault::Store(StoreFault::Memory),
+            IndexFault::Damaged => CommitFault::Store(StoreFault::Damaged),
         }
     }
 }

@@ -177,7 +177,7 @@ fn put_history(
 /// Writes a document under this sequence, in a transaction. Its history is taken from those that were
 /// read, or else read as far as the write asks; where it is there as a whole it is put back as it is after
 /// the write.
-fn write_document<S: Alter>(
+pub(crate) fn write_document<S: Alter>(
     alloc: Global,
     tx: &mut Transaction<'_, S>,
     db: &i64,

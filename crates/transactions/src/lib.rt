@@ -7,10 +7,14 @@ mod commits;
 mod document_write;
 mod histories;
 mod history_fault;
+mod indexing;
+pub mod laws;
+mod seeing;
 mod winners;
 
 pub use changes::{add_database, begin_tables, change_security, remove_database, write_local};
 pub use commit_fault::CommitFault;
 pub use commits::{commit_writes, integer_of};
 pub use histories::{read_history, read_outline};
+pub use seeing::first_revision;
 pub use winners::first_winner;

@@ -1,10 +1,9 @@
 //! What the rows of the database of a number say of one document.
 
-use crate::shown::first_revision;
 use crate::sql_store::SqlStore;
 use sqlite::Alter;
 use store::{StoreFault, take_held};
-use transactions::{first_winner, read_history, read_outline};
+use transactions::{first_revision, first_winner, read_history, read_outline};
 use tree::{DocId, Entry, History, MarkedRev, Outline, Rev};
 
 impl<S: Alter> SqlStore<S> {

@@ -1,6 +1,6 @@
 use Rattle.sqlstore.proofs.Lemmas.{List, Some, answered, ap, filter, laid, map, revision_found, revision_intact, revs_tree, rules, shown_revision, sym, trees_of, was_honest, ℕ, ∥∥₁_elim, ◌∙◌, ◌≡◌}
 use Rattle.std.specs.Prelude.{option_map, slice_get}
-use Rattle.sqlstore.specs.Reading.{known_shown}
+use Rattle.transactions.specs.Reading.{known_shown}
 use Rattle.tables.specs.Rows.{is_revision_of}
 use Rattle.tree.specs.Revision.{Revision}
 use Rattle.sqlstore.proofs.sql_store.SqlStore.find_revision.Goals as goal

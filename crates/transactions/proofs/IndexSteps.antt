@@ -1,0 +1,225 @@
+-- Tables of which the index rows alone have changed; and what one write leaves of what is declared and of what queries see.
+use Rattle.transactions.proofs.Common.{AllByRecursion, Bool, HasWritten, IsStore, List, None, Option, Row, Some, Trees, ap, arith, bytes_eq-Decides, database_of, dbs_tree, docs_tree, false, filter, history_in, length, number_of, refl, revs_tree, schema, slice_get, subst, sym, true, ℕ, ℤ, ◌∙◌, ◌≡◌, ◌≢◌}
+use Rattle.std.specs.Prelude.{◌&&◌, bytes_eq, if◌then◌else◌}
+use Rattle.std.specs.Ordering.{int_eq}
+use Rattle.couch_json.specs.Value.{Value}
+use Rattle.sqlite.specs.Effect as sqlite
+use Rattle.sqlite_schema.specs.declared.schema.Schema.{Schema}
+use Rattle.store.specs.Database.{DocumentWrite}
+use Rattle.std.proofs.Common.{Bor, ap₂}
+use Rattle.tree.specs.DocumentId.{is_design_id}
+use Rattle.store.specs.Indexes.{index_fields_of, queried_document}
+use Rattle.index.specs.Calls.{ChangesIndexes, ChangesOnly, HasEntries}
+use Rattle.index.specs.Indexed.{AreEntriesOf, AreIndexed, IsIndexed, is_due}
+use Rattle.index.specs.Layout.{AreDeclarationRows, AreEntryRows}
+use Rattle.index.specs.Rows.{declared_by, has_entry, is_at_home}
+use Rattle.index.specs.Shown.{Declared, declared_at}
+use Rattle.index.proofs.Going.{refreshed}
+use Rattle.sqlite_keyed.proofs.ListLemmas.{all_weaker}
+use Rattle.store.specs.Writing.{Addition}
+use Rattle.transactions.specs.Indexing.{AreAllIndexes, IsFollowed, IsIndexedStore, write_in}
+use Rattle.std.specs.Prelude.{map, option_copied, option_map}
+use Rattle.couch_json.specs.View.{view}
+use Rattle.couch_json.specs.declared.value.Json.{Json}
+use Rattle.index.specs.Meaning.{Declarations, Documents, declares_in, sees_in, with_declared, with_seen}
+use Rattle.index.proofs.Alike.{alike, unseen}
+use Rattle.tables.proofs.Common.{Decides-int_eq, and_parts, same_int}
+use Rattle.tables.proofs.DocumentWriteHistories.{history_others}
+use Rattle.tables.proofs.DocumentWriteSteps.{revisions_changed}
+use Rattle.tables.proofs.Rests.{AreSame, contents_same, leaves, store_of}
+use Rattle.tables.specs.Edits.{IsWrite, history_before, new_entries}
+use Rattle.tables.specs.Rows.{documents_in, is_named, length_of, locals_in, security_of}
+use Rattle.tables.specs.Edits.{row_after}
+use Rattle.tables.specs.Schema.{decls_tree, entries_tree}
+
+-- ---- tables of which the index rows alone have changed
+
+pub same_tables : (old new : sqlite.Database) → old.schema ≡ schema → ChangesIndexes old new → AreSame old.trees new.trees
+same_tables old new is h =
+    let others = subst (λ (s : Schema). AllByRecursion (λ t. t.tree ≢ decls_tree → t.tree ≢ entries_tree → new.trees t.tree ≡ old.trees t.tree) s.tables) is h.others in
+    record {
+      meta = others.0 (omega arith) (omega arith);
+      dbs = others.1.0 (omega arith) (omega arith);
+      docs = others.1.1.0 (omega arith) (omega arith);
+      revs = others.1.1.1.0 (omega arith) (omega arith);
+      locals = others.1.1.1.1.0 (omega arith) (omega arith);
+    }
+
+pub store_still : (old new : sqlite.Database) → IsStore old → ChangesIndexes old new → IsStore new
+store_still old new is h = store_of old.trees new (h.schema ∙ is.schema_is) (same_tables old new is.schema_is h) is.laid
+
+database_still : (a b : Trees) (r : Row) → AreSame a b → database_of b r ≡ database_of a r
+database_still a b r same =
+    λ i. record { length = length_of r; security = security_of r; locals = locals_in (same.locals i) (number_of r); documents = documents_in (same.docs i) (same.revs i) (number_of r) }
+
+pub written_still : (ws : List DocumentWrite) (name : List ℕ) (r : Row) (a b c : sqlite.Database) → HasWritten ws name r a b → ChangesIndexes b c → HasWritten ws name r a c
+written_still ws name r a b c h only =
+    let same = same_tables b c h.store.schema_is only in
+    record {
+      store = store_still b c h.store only;
+      row = ap (λ rows. slice_get (filter (is_named name) rows) 0) same.dbs ∙ h.row;
+      database = database_still b.trees c.trees (row_after r (length ws)) same ∙ h.database;
+      contents = contents_same b.trees c.trees same ∙ h.contents;
+    }
+
+-- ---- one write
+
+-- what a write leaves of the index rows, and of the histories of other documents
+pub record Leaving (db : ℤ) (id : List ℕ) (old new : Trees) : Type 0 where
+  pub decls : new decls_tree ≡ old decls_tree
+  pub entries : new entries_tree ≡ old entries_tree
+  pub others : (n : ℤ) (other : List ℕ) → (int_eq db n && bytes_eq id other) ≡ false → history_in (new revs_tree) n other ≡ history_in (old revs_tree) n other
+
+pub write_leaves : (r : Row) (w : DocumentWrite) (a e : sqlite.Database) → a.schema ≡ schema → IsWrite r w a e → Leaving (number_of r) w.id a.trees e.trees
+write_leaves r w a e is h =
+    let one = revisions_changed (new_entries (history_before a.trees r w) w.write) (number_of r) w.id a h.inserted h.revisions in
+    let schema_b = one.schema ∙ is in
+    let schema_c = h.removes.schema ∙ schema_b in
+    let b = leaves revs_tree _ a h.inserted is one in
+    let c = leaves docs_tree _ h.inserted h.removed schema_b h.removes in
+    let d = leaves docs_tree _ h.removed h.placed schema_c h.places in
+    let f = leaves dbs_tree _ h.placed e (h.places.schema ∙ schema_c) h.advances in
+    let revs : e.trees revs_tree ≡ h.inserted.trees revs_tree = f.revs (omega arith) ∙ d.revs (omega arith) ∙ c.revs (omega arith) in
+    record {
+      decls = f.decls (omega arith) ∙ d.decls (omega arith) ∙ c.decls (omega arith) ∙ b.decls (omega arith);
+      entries = f.entries (omega arith) ∙ d.entries (omega arith) ∙ c.entries (omega arith) ∙ b.entries (omega arith);
+      others = λ n other apart.
+          ap (λ rows. history_in rows n other) (revs ∙ one.rows)
+          ∙ history_others (new_entries (history_before a.trees r w) w.write) (a.trees revs_tree) (number_of r) w.id n other apart;
+    }
+
+-- index rows are those of the same over other tables with these rows
+pub indexed_still : (declares : Declarations) (sees : Documents) (a b : Trees) → b decls_tree ≡ a decls_tree → b entries_tree ≡ a entries_tree → AreIndexed declares sees a → AreIndexed declares sees b
+indexed_still declares sees a b decls entries h =
+    record {
+      decls = subst AreDeclarationRows (sym decls) h.decls;
+      declared = λ db design name. ap (λ rows. declared_by rows db design name) decls ∙ h.declared db design name;
+      entries = record {
+        laid = subst AreEntryRows (sym entries) h.entries.laid;
+        exact = λ n k id. ap (λ rows. has_entry rows n k id) entries ∙ h.entries.exact n k id ∙ ap (λ rows. is_due sees rows n k id) (sym decls);
+      };
+    }
+
+-- the document and the database are those, or not
+same_place : (db : ℤ) (id : List ℕ) (n : ℤ) (other : List ℕ) → (int_eq n db && bytes_eq other id) ≡ true → (n ≡ db) × (other ≡ id)
+same_place db id n other is = let parts = and_parts (int_eq n db) (bytes_eq other id) is in (same_int n db parts.0, (bytes_eq-Decides other id).0 parts.1)
+
+-- the test of one place, either way
+other_place : (db : ℤ) (id : List ℕ) (n : ℤ) (other : List ℕ) → (int_eq n db && bytes_eq other id) ≡ false → (int_eq db n && bytes_eq id other) ≡ false
+other_place db id n other apart = by (int_eq db n && bytes_eq id other) refl
+  where
+    by : (b : Bool) → (int_eq db n && bytes_eq id other) ≡ b → b ≡ false
+    by true is =
+        let place = same_place n other db id is in
+        let here : (int_eq n db && bytes_eq other id) ≡ true = rw ((Decides-int_eq n db).1 (sym place.0), (bytes_eq-Decides other id).1 (sym place.1)) refl in
+        sym here ∙ apart
+    by false is = refl
+
+module _ (db : ℤ) (id : List ℕ) (old new : Trees) (left : Leaving db id old new) where
+  -- what is seen is what was seen, but for this document
+  pub sees_after : (n : ℤ) (other : List ℕ) → with_seen (sees_in old) db id (sees_in new db id) n other ≡ sees_in new n other
+  sees_after n other = by (int_eq n db && bytes_eq other id) refl
+    where
+      by : (b : Bool) → (int_eq n db && bytes_eq other id) ≡ b → (if b then sees_in new db id else sees_in old n other) ≡ sees_in new n other
+      by true is = let place = same_place db id n other is in ap₂ (sees_in new) (sym place.0) (sym place.1)
+      by false is = ap (queried_document other) (sym (left.others n other (other_place db id n other is)))
+
+  -- and so of what is declared
+  pub declares_after : (n : ℤ) (design name : List ℕ) → with_declared (declares_in old) db id (λ x. declares_in new db id x) n design name ≡ declares_in new n design name
+  declares_after n design name = by (int_eq n db && bytes_eq design id) refl
+    where
+      by : (b : Bool) → (int_eq n db && bytes_eq design id) ≡ b → (if b then declares_in new db id name else declares_in old n design name) ≡ declares_in new n design name
+      by true is = let place = same_place db id n design is in ap₂ (λ m i. declares_in new m i name) (sym place.0) (sym place.1)
+      by false is = ap (λ h. index_fields_of design h name) (sym (left.others n design (other_place db id n design is)))
+
+-- ---- the index rows after a write
+
+-- A document that is no design document was written, and the index rows follow it.
+pub document_followed : (db : ℤ) (id : List ℕ) (old written new : Trees) → is_design_id id ≡ false → IsIndexed old → Leaving db id old written → new revs_tree ≡ written revs_tree
+    → AreIndexed (declares_in old) (with_seen (sees_in old) db id (sees_in written db id)) new → IsIndexed new
+document_followed db id old written new plain was left same h =
+    alike (declares_in old) (with_seen (sees_in old) db id (sees_in written db id)) new h (declares_in new) (sees_in new)
+    (λ n design name. declares n design name ∙ ap (λ rows. index_fields_of design (history_in rows n design) name) (sym same))
+    (λ n other. sees_after db id old written left n other ∙ ap (λ rows. queried_document other (history_in rows n other)) (sym same))
+  where
+    none : (trees : Trees) (name : List ℕ) → declares_in trees db id name ≡ None
+    none trees name = rw (plain) refl
+
+    declares : (n : ℤ) (design name : List ℕ) → declares_in old n design name ≡ declares_in written n design name
+    declares n design name = by (int_eq n db && bytes_eq design id) refl
+      where
+        by : (b : Bool) → (int_eq n db && bytes_eq design id) ≡ b → declares_in old n design name ≡ declares_in written n design name
+        by true is =
+            let place = same_place db id n design is in
+            ap₂ (λ m i. declares_in old m i name) place.0 place.1 ∙ none old name ∙ sym (none written name) ∙ ap₂ (λ m i. declares_in written m i name) (sym place.0) (sym place.1)
+        by false is = ap (λ h. index_fields_of design h name) (sym (left.others n design (other_place db id n design is)))
+
+-- A design document was written, and what it declares.
+pub design_followed : (db : ℤ) (id : List ℕ) (old written new : Trees) → is_design_id id ≡ true → Leaving db id old written → new revs_tree ≡ written revs_tree
+    → AreIndexed (with_declared (declares_in old) db id (λ x. declares_in written db id x)) (sees_in old) new → IsIndexed new
+design_followed db id old written new design left same h =
+    alike (with_declared (declares_in old) db id (λ x. declares_in written db id x)) (sees_in old) new h (declares_in new) (sees_in new)
+    (λ n other name. declares_after db id old written left n other name ∙ ap (λ rows. index_fields_of other (history_in rows n other) name) (sym same))
+    (λ n other. sees n other ∙ ap (λ rows. queried_document other (history_in rows n other)) (sym same))
+  where
+    none : (trees : Trees) → sees_in trees db id ≡ None
+    none trees = rw (design) refl
+
+    sees : (n : ℤ) (other : List ℕ) → sees_in old n other ≡ sees_in written n other
+    sees n other = by (int_eq n db && bytes_eq other id) refl
+      where
+        by : (b : Bool) → (int_eq n db && bytes_eq other id) ≡ b → sees_in old n other ≡ sees_in written n other
+        by true is =
+            let place = same_place db id n other is in
+            ap₂ (sees_in old) place.0 place.1 ∙ none old ∙ sym (none written) ∙ ap₂ (sees_in written) (sym place.0) (sym place.1)
+        by false is = ap (queried_document other) (sym (left.others n other (other_place db id n other is)))
+
+-- A document was written where nothing is declared.
+pub nothing_followed : (db : ℤ) (id : List ℕ) (old written : Trees) → is_design_id id ≡ false → IsIndexed old → Leaving db id old written → ((design name : List ℕ) → declares_in old db design name ≡ None)
+    → IsIndexed written
+nothing_followed db id old written plain was left none =
+    document_followed db id old written written plain was left refl
+    (unseen (declares_in old) (sees_in old) written (indexed_still (declares_in old) (sees_in old) old written left.decls left.entries was) (with_seen (sees_in old) db id (sees_in written db id)) db none
+    (λ n other apart. sym (away n other apart)))
+  where
+    away : (n : ℤ) (other : List ℕ) → n ≢ db → with_seen (sees_in old) db id (sees_in written db id) n other ≡ sees_in old n other
+    away n other apart = by (int_eq n db) refl
+      where
+        by : (b : Bool) → int_eq n db ≡ b → (if (b && bytes_eq other id) then sees_in written db id else sees_in old n other) ≡ sees_in old n other
+        by true is = absurd (apart (same_int n db is))
+        by false is = refl
+
+-- ---- the indexes of a database follow a document
+
+indexes_alone : (a b : sqlite.Database) → ChangesOnly entries_tree a b → ChangesIndexes a b
+indexes_alone a b h = record {
+  schema = h.schema;
+  others = all_weaker (λ t. t.tree ≢ entries_tree → b.trees t.tree ≡ a.trees t.tree) (λ t. t.tree ≢ decls_tree → t.tree ≢ entries_tree → b.trees t.tree ≡ a.trees t.tree) (λ t only declared entered. only entered) a.schema.tables h.others;
+}
+
+-- a document that is no design document was written, and all indexes of its database followed it
+pub seen_followed : (r : Row) (a : Addition) (db : ℤ) (all : List Declared) (before after : Option Value) (old written new : sqlite.Database) → IsIndexedStore old → AreAllIndexes all db old.trees → is_design_id a.id ≡ false
+    → db ≡ number_of r → IsWrite r (write_in old.trees r a) old written → IsStore written → before ≡ sees_in old.trees db a.id → after ≡ sees_in written.trees db a.id
+    → ((decls : List Row) (sees : Documents) → AreDeclarationRows decls → all ≡ map declared_at (filter (is_at_home db) decls) → AreEntriesOf (is_due sees decls) (written.trees entries_tree) → sees db a.id ≡ before
+    → HasEntries (is_due (with_seen sees db a.id after) decls) written new)
+    → IsFollowed r (write_in old.trees r a) old new
+seen_followed r a db all before after old written new was every plain numbered write store first seen_is follows =
+    let declares = declares_in old.trees in
+    let sees = sees_in old.trees in
+    let left : Leaving db a.id old.trees written.trees = subst (λ n. Leaving n a.id old.trees written.trees) (sym numbered) (write_leaves r (write_in old.trees r a) old written was.store.schema_is write) in
+    let still = indexed_still declares sees old.trees written.trees left.decls left.entries was.indexed in
+    let made = follows (written.trees decls_tree) sees still.decls (every ∙ ap (λ rows. map declared_at (filter (is_at_home db) rows)) (sym left.decls)) still.entries (sym first) in
+    let both = refreshed declares sees (with_seen sees db a.id after) written new store.schema_is still made in
+    let only = indexes_alone written new both.1 in
+    record {
+      written = written;
+      write = write;
+      only = only;
+      indexed = document_followed db a.id old.trees written.trees new.trees plain was.indexed left (same_tables written new store.schema_is only).revs
+          (subst (λ seen. AreIndexed declares (with_seen sees db a.id seen) new.trees) seen_is both.0);
+    }
+
+-- the value that is behind a reference, which may be none
+pub seen_copied : (r : Option (Bor Json)) → option_map (λ v. view v.now) r ≡ option_map view (option_copied r)
+seen_copied None = refl
+seen_copied (Some v) = refl

@@ -1,0 +1,65 @@
+-- A write that the index rows follow: when it is done, and what it leaves.
+-- This server's own: what index rows are to be is said by `index`, and what a write leaves of the other tables by `tables`.
+use Rattle.std.specs.Prelude.{◌≡◌, ◌+◌, ℤ, pos, IsTrue, List, filter, map}
+use Rattle.sqlite.specs.Effect.{Database}
+use Rattle.sqlite.specs.Held.{Held, state}
+use Rattle.sqlite.specs.State.{HasCleanDisk}
+use Rattle.sqlite_trees.specs.declared.store.Store.{Ghosts}
+use Rattle.sqlite_trees.specs.Tree.{Trees}
+use Rattle.sqlite_value.specs.Order.{Row}
+use Rattle.store.specs.Database.{DocumentWrite}
+use Rattle.store.specs.Writing.{Addition, written_in}
+use Rattle.tables.specs.Edits.{IsWrite}
+use Rattle.tables.specs.Layout.{IsStore}
+use Rattle.tables.specs.Rows.{history_in, length_of, number_of}
+use Rattle.tables.specs.Schema.{decls_tree, revs_tree}
+use Rattle.index.specs.Calls.{ChangesIndexes}
+use Rattle.index.specs.Indexed.{IsIndexed}
+use Rattle.index.specs.Rows.{is_at_home}
+use Rattle.index.specs.Shown.{Declared, declared_at}
+use Rattle.index.specs.declared.fault.IndexFault.{IndexFault}
+use Rattle.index.specs.declared.fault.IndexFault.TheVariants as index
+use Rattle.store.specs.declared.fault.StoreFault.TheVariants.{Memory, Damaged}
+use Rattle.transactions.specs.Following.{HasPlaceFor}
+use Rattle.transactions.specs.Inserting.{IsLawfulAddition}
+use Rattle.transactions.specs.declared.commit_fault.CommitFault.{CommitFault}
+use Rattle.transactions.specs.declared.commit_fault.CommitFault.TheVariants as fault
+
+-- the tables are laid out, and the rows of indexes are those of what is stored beside them
+pub record IsIndexedStore (db : Database) : Type 0 where
+  pub store : IsStore db
+  pub indexed : IsIndexed db.trees
+
+-- these are all indexes of the database of this number
+abbrev pub AreAllIndexes : List Declared → ℤ → Trees → Type 0
+AreAllIndexes all db trees = all ≡ map declared_at (filter (is_at_home db) (trees decls_tree))
+
+-- the write of a document in the database that has this row
+abbrev pub write_in : Trees → Row → Addition → DocumentWrite
+write_in trees r a = written_in (history_in (trees revs_tree) (number_of r) a.id) a
+
+-- the statements of the write, and after them the rows of indexes alone have changed: they are those of what is stored now
+pub record IsFollowed (r : Row) (w : DocumentWrite) (old new : Database) : Type 0 where
+  pub written : Database
+  pub write : IsWrite r w old written
+  pub only : ChangesIndexes written new
+  pub indexed : IsIndexed new.trees
+
+-- The write may be done under this sequence: its database has this row, the path of the write has its place, and what it leaves is a store
+-- if rows can say what it says.
+pub record MayBeWritten (db sequence : ℤ) (a : Addition) (old : Database) : Type 0 where
+  pub row : Row
+  pub numbered : db ≡ number_of row
+  pub at : sequence ≡ pos (length_of row + 1)
+  pub placed : HasPlaceFor (history_in (old.trees revs_tree) (number_of row) a.id) a
+  pub store : IsLawfulAddition a → (written : Database) → IsWrite row (write_in old.trees row a) old written → IsStore written
+
+-- the disk returned what was written, and an open connection had tables and index rows that were sound, of which this held
+abbrev pub IsSoundIndexed : {S : Type 0} → Ghosts S → (Database → Type 0) → Held S → Held S → Type 0
+IsSoundIndexed g Holds old new = HasCleanDisk (state g new) × (IsTrue (state g old).is_open → IsIndexedStore (state g old).now × Holds (state g old).now)
+
+-- a fault of indexes, as one of a commit
+abbrev pub of_index_fault : IndexFault → CommitFault
+of_index_fault (index.Sqlite e) = fault.Sqlite e
+of_index_fault index.Memory = fault.Store Memory
+of_index_fault index.Damaged = fault.Store Damaged
