@@ -7,8 +7,8 @@ ghost use Rattle.sqlite_keyed.specs.Lists.{sort_by};
 ghost use Rattle.tables.specs.Calls.{AsksInside, LooksInside, ReadsInside, Stands};
 ghost use Rattle.tables.specs.Layout.{IsStore};
 ghost use Rattle.tables.specs.Listings.{IsListedDocument};
-ghost use Rattle.tables.specs.Rows.{by_id, is_in, is_revision_of, listed_document, shown_revision};
-ghost use Rattle.tables.specs.Schema.{docs_tree, revs_tree};
+ghost use Rattle.tables.specs.Rows.{by_id, is_in, listed_document};
+ghost use Rattle.tables.specs.Schema.{docs_tree};
 ghost use Rattle.tables.specs.Shown.{IsShownRevision, held_shown};
 ghost use Rattle.index.specs.Calls.{FindsLive, IsRefused, IsSoundStore};
 ghost use Rattle.index.specs.Seen.{IsListedFrom, shown_by_row, shown_by_rows};
@@ -17,6 +17,7 @@ use crate::fault::IndexFault;
 use couch_json::Json;
 use sqlite::{Alter, Error, Row, Transaction, params};
 use std::alloc::Global;
+use tables::reads_in::one_revision_rows_in;
 use tables::statement::query_in;
 use tables::{FoundRevision, ListedDocument, RowFault, read_listed_document, read_revision};
 use tree::{DocId, Rev, show};
@@ -34,24 +35,6 @@ pub(crate) fn rows_of_documents<S: Alter>(
         tx,
         "SELECT id, seq, winner, del FROM docs WHERE db = ?1 ORDER BY id",
         params![db],
-    )
-}
-
-/// Returns the row of one revision of a document, if it is known.
-fn rows_of_revision<S: Alter>(
-    tx: &mut Transaction<'_, S>,
-    db: &i64,
-    id: &[u8],
-    number: u32,
-    hash: &str,
-) -> Result<Vec<Row>, Error>
-    ensures same_reference { tx.new.conn.ghost_name ≡ tx.old.conn.ghost_name }
-    ensures reads { ReadsInside S.Store IsStore tx.old.conn.now tx.new.conn.now (λ trees rows. rows.items ≡ map shown_revision (filter (is_revision_of db.now id.now (record { number = number; hash = hash.now })) (trees revs_tree))) result }
-{
-    query_in(
-        tx,
-        "SELECT n, hash, parent, held, del, body FROM revs WHERE db = ?1 AND id = ?2 AND n = ?3 AND hash = ?4",
-        params![db, id, number, hash],
     )
 }
 
@@ -82,7 +65,7 @@ pub(crate) fn find_live<S: Alter>(
     ensures asks { AsksInside S.Store tx.old.conn.now tx.new.conn.now }
 {
     let id = listed.id.as_str().as_bytes();
-    let rows = rows_of_revision(tx, db, id, listed.winner.number(), listed.winner.hash())?;
+    let rows = one_revision_rows_in(tx, db, id, listed.winner.number(), listed.winner.hash())?;
     show_first(alloc, &listed.id, &listed.winner, &rows)
 }
 

@@ -1,5 +1,5 @@
 -- Each revision that a database of laid tables knows is a revision.
-use Rattle.tables.proofs.Common.{IsLaid, List, None, Option, Revision, Row, Some, Trees, ap, contents_in, database_of, dbs_tree, filter, history_in, inside, is_known, is_named, is_revision, number_of, option_map, refl, revs_tree, slice_get, sym, true, ℕ, ◌∙◌, ◌≡◌}
+use Rattle.tables.proofs.Common.{IsLaid, List, None, Option, Revision, Row, Some, Trees, ap, contents_in, database_of, dbs_tree, filter, inside, is_known, is_named, is_revision, number_of, option_map, refl, revs_tree, slice_get, sym, true, ℕ, ◌∙◌, ◌≡◌}
 use Rattle.std.specs.FinMap as finite
 use Rattle.store.specs.Database.{Database, history_at}
 use Rattle.tables.proofs.Laid.{known_lawful}
