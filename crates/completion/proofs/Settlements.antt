@@ -21,6 +21,7 @@ use Rattle.repl.specs.declared.why.Why.{Why}
 use Rattle.repl.proofs.LossLemmas.{lost_by}
 use Rattle.repl.proofs.ReportLemmas.{all_told}
 use Rattle.repl.proofs.StartLemmas.{start_is}
+use Rattle.passes.proofs.Missing.{or_left, or_parts, or_right}
 use Rattle.passes.specs.Owed.{Covers, Went, has_covered}
 use Rattle.passes.specs.Settled.{is_entry_of, is_reported, is_settled}
 use Rattle.passes.proofs.Rounds.{owes_nothing, rounds_cover}
@@ -40,17 +41,6 @@ use Rattle.completion.proofs.Standings.{IsStopped, Stands, StandsAfter, begins_s
 use Rattle.completion.proofs.Turned.{event_takes, one_pass, pass_arranged, passes_along, passes_go, turns_join}
 
 -- ---- settled stays settled
-
-or_left : (a b : Bool) → a ≡ true → (a || b) ≡ true
-or_left a b e = ap (λ x. x || b) e
-
-or_right : (a b : Bool) → b ≡ true → (a || b) ≡ true
-or_right true b e = refl
-or_right false b e = e
-
-or_parts : (a b : Bool) → (a || b) ≡ true → (a ≡ true) ⊎ (b ≡ true)
-or_parts true b e = inl refl
-or_parts false b e = inr e
 
 settled_more : (target now : Database) (refused more : List Value) (id : List ℕ) (r : Revision) → IsLater target now → is_settled target refused id r ≡ true
     → is_settled now (refused ++ more) id r ≡ true

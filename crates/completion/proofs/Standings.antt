@@ -7,16 +7,16 @@ use Rattle.store.specs.Contents.{Contents}
 use Rattle.store.specs.Database.{Database, IsLater}
 use Rattle.node.specs.Runs.{Steps}
 use Rattle.repl.specs.Configuration.{Configuration}
-use Rattle.repl.specs.Passes.{Asked, Pass, answered_in, asked_of, done, first_pass, lost_in, pass_after, stopped_by, to_source, to_target, with_changes, with_differences, with_failures, with_opened, with_source, with_source_reread, with_source_written, with_target, with_target_reread, with_target_written}
-use Rattle.repl.specs.Replies.{Changes, changes_listed, checkpoint_read, checkpoint_written, differences_read, documents_pushed, revisions_opened}
+use Rattle.repl.specs.Passes.{Asked, Pass, answered_in, asked_of, done, first_pass, lost_in, pass_after, stopped_by, to_source, to_target, with_changes}
+use Rattle.repl.specs.Replies.{Changes, changes_listed}
 use Rattle.repl.specs.Turns.{Turn, after_turn, after_turns, answered, has_listed, lists_at, lists_in, lost}
 use Rattle.repl.specs.declared.phase.Phase.{Phase}
 use Rattle.repl.specs.declared.phase.Phase.TheVariants.{ReadSource, ReadTarget, ListChanges, Compare, Open, Push, WriteSource, WriteTarget, RereadSource, RereadTarget, Done, Stopped}
 use Rattle.repl.specs.declared.why.Why.{Why}
-use Rattle.repl.proofs.LossLemmas.{lost_by}
 use Rattle.passes.specs.Owed.{Event, Follows, Goes, IsTruth, Scene, Went, listed_after, others, turn}
 use Rattle.world.specs.Exchanging.{IsAskedBy, IsMadeBy}
 use Rattle.world.specs.Happening.{Happening, Sight, comes, exchanges}
+use Rattle.passes.proofs.Rounds.{turn_configured}
 use Rattle.world.specs.Keeping.{Keeping}
 use Rattle.world.specs.Network.{Network, Transfer, transfer_at}
 use Rattle.world.specs.Playing.{HappensBy, PlaysBy}
@@ -30,30 +30,6 @@ use Rattle.completion.proofs.Places.{one_transfer}
 use Rattle.completion.proofs.Sound.{IsSound, first_sound, lost_sound}
 use Rattle.completion.proofs.Truths.{IsHandledFor, taken_rightly}
 use Rattle.completion.proofs.Turned.{event_takes, turns_join}
-
--- ---- the configuration stays
-
-same_configuration : {A : Type 0} (take : Pass → A → Pass) (p : Pass) (r : Result A Why) → ((a : A) → (take p a).configuration ≡ p.configuration) → (pass_after take p r).configuration ≡ p.configuration
-same_configuration take p (Ok a) same = same a
-same_configuration take p (Err why) same = refl
-
-answered_configured : (f : Phase) (p : Pass) (status : ℕ) (body : List ℕ) → (answered_in f p status body).configuration ≡ p.configuration
-answered_configured ReadSource p status body = same_configuration with_source p (checkpoint_read status body) (λ a. refl)
-answered_configured ReadTarget p status body = same_configuration with_target p (checkpoint_read status body) (λ a. refl)
-answered_configured ListChanges p status body = same_configuration with_changes p (changes_listed status body) (λ a. refl)
-answered_configured Compare p status body = same_configuration with_differences p (differences_read p.leaves status body) (λ a. refl)
-answered_configured Open p status body = same_configuration with_opened p (revisions_opened status body) (λ a. refl)
-answered_configured Push p status body = same_configuration with_failures p (documents_pushed status body) (λ a. refl)
-answered_configured WriteSource p status body = same_configuration with_source_written p (checkpoint_written status body) (λ a. refl)
-answered_configured WriteTarget p status body = same_configuration with_target_written p (checkpoint_written status body) (λ a. refl)
-answered_configured RereadSource p status body = same_configuration with_source_reread p (checkpoint_read status body) (λ a. refl)
-answered_configured RereadTarget p status body = same_configuration with_target_reread p (checkpoint_read status body) (λ a. refl)
-answered_configured Done p status body = refl
-answered_configured (Stopped why) p status body = refl
-
-turn_configured : (p : Pass) (x : Turn) → (after_turn p x).configuration ≡ p.configuration
-turn_configured p (answered status body) = answered_configured p.phase p status body
-turn_configured p lost = lost_by (λ (q : Pass). q.configuration ≡ p.configuration) p.phase p refl refl refl
 
 -- ---- the source that was listed last
 

@@ -78,30 +78,6 @@ pushed_shown db RereadTarget p h = tt
 pushed_shown db Done p h = tt
 pushed_shown db (Stopped why) p h = tt
 
--- ---- the configuration stays
-
-same_configuration : {A : Type 0} (take : Pass → A → Pass) (p : Pass) (r : Result A Why) → ((a : A) → (take p a).configuration ≡ p.configuration) → (pass_after take p r).configuration ≡ p.configuration
-same_configuration take p (Ok a) same = same a
-same_configuration take p (Err why) same = refl
-
-answered_configured : (f : Phase) (p : Pass) (status : ℕ) (body : List ℕ) → (answered_in f p status body).configuration ≡ p.configuration
-answered_configured ReadSource p status body = same_configuration with_source p (checkpoint_read status body) (λ a. refl)
-answered_configured ReadTarget p status body = same_configuration with_target p (checkpoint_read status body) (λ a. refl)
-answered_configured ListChanges p status body = same_configuration with_changes p (changes_listed status body) (λ a. refl)
-answered_configured Compare p status body = same_configuration with_differences p (differences_read p.leaves status body) (λ a. refl)
-answered_configured Open p status body = same_configuration with_opened p (revisions_opened status body) (λ a. refl)
-answered_configured Push p status body = same_configuration with_failures p (documents_pushed status body) (λ a. refl)
-answered_configured WriteSource p status body = same_configuration with_source_written p (checkpoint_written status body) (λ a. refl)
-answered_configured WriteTarget p status body = same_configuration with_target_written p (checkpoint_written status body) (λ a. refl)
-answered_configured RereadSource p status body = same_configuration with_source_reread p (checkpoint_read status body) (λ a. refl)
-answered_configured RereadTarget p status body = same_configuration with_target_reread p (checkpoint_read status body) (λ a. refl)
-answered_configured Done p status body = refl
-answered_configured (Stopped why) p status body = refl
-
-pub turn_configured : (p : Pass) (t : Turn) → (after_turn p t).configuration ≡ p.configuration
-turn_configured p (answered status body) = answered_configured p.phase p status body
-turn_configured p lost = lost_by (λ (q : Pass). q.configuration ≡ p.configuration) p.phase p refl refl refl
-
 -- ---- the documents after a turn
 
 keeps_carried : {A : Type 0} (db : Database) (take : Pass → A → Pass) (p : Pass) (r : Result A Why) → ((a : A) → (take p a).documents ≡ p.documents) → AreShown db p.documents

@@ -25,26 +25,11 @@ use Rattle.repl.specs.Calls.{Revisions, request_of}
 use Rattle.repl.specs.Replies.{Opened, document, documents_of, missing, opened_in}
 use Rattle.repl.specs.Shapes.{before, each_in, list_in}
 use Rattle.repl.specs.declared.side.Side.TheVariants.{Source}
+use Rattle.passes.proofs.Elements.{all_read, read_by, shown}
 use Rattle.passes.proofs.Opening.{opened_by}
-use Rattle.passes.proofs.Told.{said}
+use Rattle.passes.proofs.Told.{said, was_answered}
 use Rattle.convergence.specs.Appended.{IsShownBy}
 use Rattle.convergence.specs.Written.{OpenedAreShown}
-
-abbrev shown : List ℕ → HistoryContent → Revision → Held → Value
-shown id h r held = object (with_revisions true h r (shown_members id r held))
-
--- what is read of one revision
-abbrev read_by : List ℕ → HistoryContent → Revision → Option Held → Opened
-read_by id h r None = missing (text_of r)
-read_by id h r (Some held) = document (shown id h r held)
-
-one_read : (id : List ℕ) (h : HistoryContent) (r : Revision) (o : Option Held) → opened_in (element r (option_map (λ held. shown id h r held) o)) ≡ Some (read_by id h r o)
-one_read id h r None = refl
-one_read id h r (Some held) = refl
-
-all_read : (id : List ℕ) (h : HistoryContent) (rs : List Revision) → each_in opened_in (items_of (map (open_revision id h true) rs)) ≡ Some (map (λ r. read_by id h r (held_of h r)) rs)
-all_read id h [] = refl
-all_read id h (r ∷ rs) = (λ i. before (one_read id h r (held_of h r) i) (all_read id h rs i))
 
 more_shown : (db : Database) (id : List ℕ) (r : Revision) (o : Option Held) (rest : List Opened) → held_of (history_at db id) r ≡ o → AllByRecursion (IsShownBy db id) (documents_of rest)
     → AllByRecursion (IsShownBy db id) (documents_of (read_by id (history_at db id) r o ∷ rest))
@@ -54,17 +39,6 @@ more_shown db id r (Some held) rest is h = (record { rev = r; is = ap (λ (o : O
 all_shown : (db : Database) (id : List ℕ) (rs : List Revision) → AllByRecursion (IsShownBy db id) (documents_of (map (λ r. read_by id (history_at db id) r (held_of (history_at db id) r)) rs))
 all_shown db id [] = tt
 all_shown db id (r ∷ rs) = more_shown db id r (held_of (history_at db id) r) _ refl (all_shown db id rs)
-
--- a step whose reply has a status below 500 is the answer
-record Answered (c : auth.Configuration) (a : Contents) (m : Message) (r : Reply) (after : Contents) : Type 0 where
-  left : after ≡ with_change (answer c a m).change a
-  reply : r ≡ reply_to (answer c a m) m.last
-  lawful : IsLawful (answer c a m).value
-
-was_answered : (c : auth.Configuration) (a : Contents) (m : Message) (r : Reply) (after : Contents) → r.status ≤ 499 → Steps c a m r after → Answered c a m r after
-was_answered c a m r after low (inl done) = record { left = done.1; reply = done.0; lawful = done.2 }
-was_answered c a m r after low (inr (inl none)) = absurd (omega (arith, low, ap (λ (x : Reply). x.status) none.0))
-was_answered c a m r after low (inr (inr failed)) = absurd (omega (arith, low, ap (λ (x : Reply). x.status) failed.0))
 
 pub opened_shown : OpenedAreShown
 opened_shown c a k row opened r after small id_small list_small lawful step e =

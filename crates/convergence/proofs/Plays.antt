@@ -40,7 +40,8 @@ use Rattle.convergence.specs.Networks.{AreAhead, AreEnds, AreOpposite, AreTheirs
 use Rattle.convergence.specs.Sound.{IsReplicable, IsSound}
 use Rattle.convergence.proofs.Handlings.{Nodes, lawful_after, one_at}
 use Rattle.convergence.proofs.Quiet.{same_documents}
-use Rattle.convergence.proofs.Crossings.{keep_pair, turn_configured, two_converge}
+use Rattle.convergence.proofs.Crossings.{keep_pair, two_converge}
+use Rattle.passes.proofs.Rounds.{turn_configured}
 use Rattle.convergence.proofs.Turnings.{HasTurned, has_turned, turned}
 
 -- ---- a request of the two passes, or of others

@@ -52,6 +52,7 @@ use Rattle.repl.specs.Spelling.{segment}
 use Rattle.repl.specs.declared.side.Side.{Side}
 use Rattle.passes.proofs.Comparing.{HasBody, value_was}
 use Rattle.passes.proofs.Judged.{never, there_never}
+use Rattle.passes.proofs.Opening.{id_by_parts, id_of_parts}
 use Rattle.passes.proofs.Spellings.{parts-path, slashless}
 use Rattle.convergence.specs.Appended.{KeepsDocuments}
 use Rattle.convergence.specs.Written.{AsksLawfully, Becomes, OtherCallsWriteNothing, WritesNowhere, is_push}
@@ -260,17 +261,6 @@ quiet_put LocalDocumentPage caller m task none e = quiet_work Read m (λ name. l
 local_literal : percent_decode (codes "_local") ≡ codes "_local"
 unfolding percent_encoding_on_literals
 local_literal = refl
-
-abbrev decoded_part : List (List ℕ) → ℕ → Option (List ℕ)
-decoded_part ps k = option_and_then (λ part. decoded_text part) (slice_get ps k)
-
-abbrev id_by_parts : Option (List ℕ) → List (List ℕ) → Option (List ℕ)
-id_by_parts None ps = decoded_part ps 2
-id_by_parts (Some part) ps = joined_by_slash (decoded_part ps 2) (decoded_part ps 3)
-
-id_of_parts : (o : Option (List ℕ)) (path : List ℕ) → id_text_by o path ≡ id_by_parts o (parts_of path)
-id_of_parts None path = refl
-id_of_parts (Some part) path = refl
 
 -- behind `_local/` stands no id, or that of a local document
 never_document : (rest : List ℕ) → option_and_then (λ id. text_if (not (is_local_id id)) id) (id_if (codes "_local/" ++ rest)) ≡ None

@@ -22,11 +22,11 @@ use Rattle.passes.specs.Owed.{Opens}
 use Rattle.passes.specs.Settled.{is_document_of, is_entry_of, is_reported, is_sent, is_text}
 
 -- the document that a revision is shown as
-abbrev shown : List ℕ → HistoryContent → Revision → Held → Value
+abbrev pub shown : List ℕ → HistoryContent → Revision → Held → Value
 shown id h r held = object (with_revisions true h r (shown_members id r held))
 
 -- what is read of one revision
-abbrev read_by : List ℕ → HistoryContent → Revision → Option Held → Opened
+abbrev pub read_by : List ℕ → HistoryContent → Revision → Option Held → Opened
 read_by id h r None = missing (text_of r)
 read_by id h r (Some held) = document (shown id h r held)
 
@@ -34,7 +34,7 @@ one_read : (id : List ℕ) (h : HistoryContent) (r : Revision) (o : Option Held)
 one_read id h r None = refl
 one_read id h r (Some held) = refl
 
-all_read : (id : List ℕ) (h : HistoryContent) (rs : List Revision) → each_in opened_in (items_of (map (open_revision id h true) rs)) ≡ Some (map (λ r. read_by id h r (held_of h r)) rs)
+pub all_read : (id : List ℕ) (h : HistoryContent) (rs : List Revision) → each_in opened_in (items_of (map (open_revision id h true) rs)) ≡ Some (map (λ r. read_by id h r (held_of h r)) rs)
 all_read id h [] = refl
 all_read id h (r ∷ rs) = (λ i. before (one_read id h r (held_of h r) i) (all_read id h rs i))
 

@@ -130,14 +130,14 @@ behind (p ∷ prefix) (t ∷ rest) h =
     let first : t ≡ p = sym (eqb-true p t (first_so (nat_eq p t) _ h)) in
     (more.0, λ i. first i ∷ more.1 i)
 
-abbrev decoded_part : List (List ℕ) → ℕ → Option (List ℕ)
+abbrev pub decoded_part : List (List ℕ) → ℕ → Option (List ℕ)
 decoded_part ps k = option_and_then (λ part. decoded_text part) (slice_get ps k)
 
-abbrev id_by_parts : Option (List ℕ) → List (List ℕ) → Option (List ℕ)
+abbrev pub id_by_parts : Option (List ℕ) → List (List ℕ) → Option (List ℕ)
 id_by_parts None ps = decoded_part ps 2
 id_by_parts (Some part) ps = joined_by_slash (decoded_part ps 2) (decoded_part ps 3)
 
-id_of_parts : (o : Option (List ℕ)) (path : List ℕ) → id_text_by o path ≡ id_by_parts o (parts_of path)
+pub id_of_parts : (o : Option (List ℕ)) (path : List ℕ) → id_text_by o path ≡ id_by_parts o (parts_of path)
 id_of_parts None path = refl
 id_of_parts (Some part) path = refl
 

@@ -17,21 +17,11 @@ use Rattle.repl.specs.declared.phase.Phase.{Phase}
 use Rattle.repl.specs.declared.phase.Phase.TheVariants.{ReadSource, ReadTarget, ListChanges, Compare, Open, Push, WriteSource, WriteTarget, RereadSource, RereadTarget, Done, Stopped}
 use Rattle.repl.specs.declared.why.Why.{Why}
 use Rattle.repl.proofs.LossLemmas.{lost_by}
+use Rattle.passes.proofs.Missing.{or_left, or_parts, or_right}
 use Rattle.passes.specs.Owed.{Covers, DoneOwesNothing, Event, Follows, Goes, IsTruth, Names, RoundsCover, Scene, Went, has_covered, listed_after, others, turn}
 use Rattle.passes.specs.Settled.{is_among, is_document_of, is_entry_of, is_reported, is_sent, is_settled}
 
 -- ---- truth values
-
-or_left : (a b : Bool) → a ≡ true → (a || b) ≡ true
-or_left a b e = ap (λ x. x || b) e
-
-or_right : (a b : Bool) → b ≡ true → (a || b) ≡ true
-or_right true b e = refl
-or_right false b e = e
-
-or_parts : (a b : Bool) → (a || b) ≡ true → (a ≡ true) ⊎ (b ≡ true)
-or_parts true b e = inl refl
-or_parts false b e = inr e
 
 true_of : (b : Bool) → IsTrue b → b ≡ true
 true_of b h = h
@@ -410,7 +400,7 @@ answered_configured RereadTarget p status body = same_configuration with_target_
 answered_configured Done p status body = refl
 answered_configured (Stopped why) p status body = refl
 
-turn_configured : (p : Pass) (t : Turn) → (after_turn p t).configuration ≡ p.configuration
+pub turn_configured : (p : Pass) (t : Turn) → (after_turn p t).configuration ≡ p.configuration
 turn_configured p (answered status body) = answered_configured p.phase p status body
 turn_configured p lost = lost_by (λ (q : Pass). q.configuration ≡ p.configuration) p.phase p refl refl refl
 

@@ -70,12 +70,12 @@ said {A} expected shape status body a e = by (status == expected) refl e
     by false is k = absurd cc
 
 -- a step whose reply has this status is the answer
-record Answered (c : auth.Configuration) (a : Contents) (m : Message) (r : Reply) (after : Contents) : Type 0 where
-  left : after ≡ with_change (answer c a m).change a
-  reply : r ≡ reply_to (answer c a m) m.last
-  lawful : IsLawful (answer c a m).value
+pub record Answered (c : auth.Configuration) (a : Contents) (m : Message) (r : Reply) (after : Contents) : Type 0 where
+  pub left : after ≡ with_change (answer c a m).change a
+  pub reply : r ≡ reply_to (answer c a m) m.last
+  pub lawful : IsLawful (answer c a m).value
 
-was_answered : (c : auth.Configuration) (a : Contents) (m : Message) (r : Reply) (after : Contents) → r.status ≤ 499 → Steps c a m r after → Answered c a m r after
+pub was_answered : (c : auth.Configuration) (a : Contents) (m : Message) (r : Reply) (after : Contents) → r.status ≤ 499 → Steps c a m r after → Answered c a m r after
 was_answered c a m r after low (inl done) = record { left = done.1; reply = done.0; lawful = done.2 }
 was_answered c a m r after low (inr (inl none)) = absurd (omega (arith, low, ap (λ (x : Reply). x.status) none.0))
 was_answered c a m r after low (inr (inr failed)) = absurd (omega (arith, low, ap (λ (x : Reply). x.status) failed.0))
