@@ -1,0 +1,4 @@
+pub mod BacklogLemmas
+pub mod Deeds
+pub mod Keeping
+pub mod Steps

@@ -1,0 +1,5 @@
+pub mod Flows
+pub mod Acts
+pub mod Standing
+pub mod Desks
+pub mod Moves
