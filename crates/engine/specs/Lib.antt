@@ -3,3 +3,4 @@ pub mod Acts
 pub mod Standing
 pub mod Desks
 pub mod Moves
+pub mod Taking

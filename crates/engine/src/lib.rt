@@ -5,6 +5,7 @@ mod backlog;
 mod conversation;
 mod fault;
 mod flow;
+pub mod laws;
 mod limits;
 mod serving;
 mod sockets;

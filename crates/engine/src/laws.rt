@@ -1,0 +1,11 @@
+//! Laws of the definitions alone: each function has an empty body, and its contract is the law.
+
+ghost use Rattle.engine.specs.Taking.{TakesInOrder};
+
+use store::Store;
+
+/// Makes sure that all that a connection took is a first part of the bytes of the replies to what it
+/// brought, and of the farewell.
+pub fn takes_in_order<S: Store>()
+    ensures { TakesInOrder S.Store }
+{}
