@@ -26,7 +26,7 @@ module _ {S : Type 0} (g : Ghosts S) where
   piece_keeps conn old new (ending (b ∷ bs)) now piece words t = absurd t
   piece_keeps conn old new given_up now piece words t = absurd t
 
-  does_keep : (old new : Desk S) (a : Act) (words : List ℕ) → Does g old a words new → Keeps old.hub new.hub
+  pub does_keep : (old new : Desk S) (a : Act) (words : List ℕ) → Does g old a words new → Keeps old.hub new.hub
   does_keep old new (opened c) words (said, next, is) = same_keeps old.hub new.hub (ap (λ d. d.hub.node) is)
   does_keep old new (closed c) words (said, is) = same_keeps old.hub new.hub (ap (λ d. d.hub.node) is)
   does_keep old new (brought c piece) words (was, now, at, takes, is) = piece_keeps c old.hub new.hub was now piece words takes

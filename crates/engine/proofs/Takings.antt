@@ -22,10 +22,10 @@ use Rattle.engine.proofs.Steps.{none_stands}
 
 -- ---- bytes of one connection
 
-own : (c conn : ℕ) (bytes : List ℕ) → c ≡ conn → cond (c == conn) bytes [] ≡ bytes
+pub own : (c conn : ℕ) (bytes : List ℕ) → c ≡ conn → cond (c == conn) bytes [] ≡ bytes
 own c conn bytes same = grind (arith, nat_tests)
 
-other : (c conn : ℕ) (bytes : List ℕ) → conn ≢ c → cond (c == conn) bytes [] ≡ []
+pub other : (c conn : ℕ) (bytes : List ℕ) → conn ≢ c → cond (c == conn) bytes [] ≡ []
 other c conn bytes apart = grind (arith, nat_tests)
 
 nothing : (b : Bool) (bytes : List ℕ) → bytes ≡ [] → cond b bytes [] ≡ []
@@ -48,7 +48,7 @@ took_first (closed c) acts conn = refl
 
 -- ---- standings
 
-set_other : (m n : FinMap nat_cmp Standing) (c conn : ℕ) (s : Option Standing) → IsSet m c s n → conn ≢ c → get n conn ≡ get m conn
+pub set_other : (m n : FinMap nat_cmp Standing) (c conn : ℕ) (s : Option Standing) → IsSet m c s n → conn ≢ c → get n conn ≡ get m conn
 set_other m n c conn s is apart = is conn ∙ by (is_at (nat_cmp c) conn) refl
   where
     by : (b : Bool) → is_at (nat_cmp c) conn ≡ b → cond b s (get m conn) ≡ get m conn
@@ -78,14 +78,14 @@ left_owed given_up (b ∷ bs) left e = absurd cc
 
 -- ---- how many were opened
 
-without_opened : (t : ConnectionTable) (c : ℕ) → (without t c).opened ≡ t.opened
+pub without_opened : (t : ConnectionTable) (c : ℕ) → (without t c).opened ≡ t.opened
 without_opened t c = by (was_opened t c)
   where
     by : (b : Bool) → (cond b (with_rest t c None) t).opened ≡ t.opened
     by true = refl
     by false = refl
 
-rest_opened : (t : ConnectionTable) (c : ℕ) (r : Option (List ℕ)) → (with_rest t c r).opened ≡ t.opened
+pub rest_opened : (t : ConnectionTable) (c : ℕ) (r : Option (List ℕ)) → (with_rest t c r).opened ≡ t.opened
 rest_opened t c (Some rest) = refl
 rest_opened t c None = refl
 

@@ -4,3 +4,4 @@ pub mod Standing
 pub mod Desks
 pub mod Moves
 pub mod Taking
+pub mod Order

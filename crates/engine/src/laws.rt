@@ -1,5 +1,6 @@
 //! Laws of the definitions alone: each function has an empty body, and its contract is the law.
 
+ghost use Rattle.engine.specs.Order.{HandlesInOrder};
 ghost use Rattle.engine.specs.Taking.{TakesInOrder};
 
 use store::Store;
@@ -8,4 +9,10 @@ use store::Store;
 /// brought, and of the farewell.
 pub fn takes_in_order<S: Store>()
     ensures { TakesInOrder S.Store }
+{}
+
+/// Makes sure that the requests of all connections are handled in one run, in the order in which they
+/// arrive.
+pub fn handles_in_order<S: Store>()
+    ensures { HandlesInOrder S.Store }
 {}
