@@ -45,7 +45,7 @@ pub struct Conversation {
     pub stage: ConversationStage,
     /// The second at which something last went through.
     pub since: u64,
-    /// The second at which a request began that is not whole.
+    /// The second at which a request began that is not whole, or at which the end began.
     pub begun: Option<u64>,
     /// It has a turn in this round or the next.
     pub queued: bool,
@@ -128,7 +128,7 @@ impl Conversation {
         if self.owed.len() > 0 {
             return Turn::Again;
         }
-        self.finish(sockets, conn);
+        self.finish(sockets, conn, now);
         self.take_next(hub, sockets, conn, room, now)
     }
 
@@ -152,7 +152,7 @@ impl Conversation {
     }
 
     /// Tells the peer that nothing more comes, where the last reply was taken.
-    fn finish<W: Sockets>(&mut self, sockets: &mut W, conn: u64)
+    fn finish<W: Sockets>(&mut self, sockets: &mut W, conn: u64, now: u64)
         ensures log { Logs (W.log sockets.old) (W.log sockets.new) [] }
         ensures owed { self.new.owed ≡ self.old.owed }
         ensures stage { self.new.stage ≡ stage_after_finish self.old.stage }
@@ -161,6 +161,7 @@ impl Conversation {
             ConversationStage::Last => {
                 sockets.finish(conn);
                 self.stage = ConversationStage::Ending;
+                self.begun = Some(now);
             }
             ConversationStage::Open | ConversationStage::Ending | ConversationStage::Lost => {}
         }
