@@ -1,0 +1,6 @@
+pub mod BacklogLemmas
+pub mod Deeds
+pub mod Handlings
+pub mod Keeping
+pub mod Steps
+pub mod Takings

@@ -1,0 +1,11 @@
+use Rattle.engine.proofs.Steps.{turns_more, turns_same}
+use Rattle.engine.proofs.serving.Conversations.take_rounds.Goals as goal
+
+pub loop-number-init : goal.loop-number-init
+loop-number-init g c = record { turns = turns_same g.S.Store c.args.hub.now c.args.self.now.conversations.entries (g.W.Sockets.log c.args.sockets.now) }
+
+pub loop-number-preserved : goal.loop-number-preserved
+loop-number-preserved g c = record { turns = turns_more g.S.Store c.args.hub.now c.loop-number.hub c.take_round.new.hub c.args.self.now.conversations.entries c.loop-number.self.conversations.entries c.take_round.new.self.conversations.entries (g.W.Sockets.log c.args.sockets.now) (g.W.Sockets.log c.loop-number.sockets) (g.W.Sockets.log c.take_round.new.sockets) (c.loop-number.invariant.turns) (c.take_round.ensures) }
+
+pub returns-in_err-take_round : goal.returns-in_err-take_round
+returns-in_err-take_round g c = turns_more g.S.Store c.args.hub.now c.loop-number.hub c.take_round.new.hub c.args.self.now.conversations.entries c.loop-number.self.conversations.entries c.take_round.new.self.conversations.entries (g.W.Sockets.log c.args.sockets.now) (g.W.Sockets.log c.loop-number.sockets) (g.W.Sockets.log c.take_round.new.sockets) (c.loop-number.invariant.turns) (c.take_round.ensures)

@@ -1,0 +1,7 @@
+use Rattle.engine.specs.Moves.{Turns}
+use Rattle.engine.proofs.serving.Conversations.take_rounds.Given as goal
+
+abbrev pub invariant-loop-number : goal.invariant-loop-number
+invariant-loop-number g l = record {
+  turns : Turns g.S.Store l.initial.hub l.initial.self.conversations.entries (g.W.Sockets.log l.initial.sockets) l.hub l.self.conversations.entries (g.W.Sockets.log l.sockets);
+}

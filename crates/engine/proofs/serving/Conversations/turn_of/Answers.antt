@@ -1,0 +1,14 @@
+use Rattle.std.proofs.Common.{refl, sym, subst}
+use Rattle.engine.specs.Moves.{Turns, standing_of}
+use Rattle.engine.proofs.Steps.{turns_moves, turns_same}
+use Rattle.engine.proofs.serving.Conversations.turn_of.Goals as goal
+
+pub returns-in_default : goal.returns-in_default
+returns-in_default g c =
+    subst (λ m. Turns g.S.Store c.args.hub.now c.args.self.now.conversations.entries (g.W.Sockets.log c.args.sockets.now) c.args.hub.now m.entries (g.W.Sockets.log c.args.sockets.now)) (sym c.get_mut.follows.holds-at-none) (turns_same g.S.Store c.args.hub.now c.args.self.now.conversations.entries (g.W.Sockets.log c.args.sockets.now))
+
+pub returns : goal.returns
+returns g c =
+    turns_moves g.S.Store c.args.hub.now c.take_turn.new.hub c.args.self.now.conversations.entries (c.get_mut.follows.lender c.take_turn.new.self).entries c.args.conn c.in-Some.conversation.now c.take_turn.new.self
+    (standing_of c.in-Some.conversation.now) (g.W.Sockets.log c.args.sockets.now) (g.W.Sockets.log c.take_turn.new.sockets) (sym c.in-Some.ensures.value)
+    (c.get_mut.follows.holds c.take_turn.new.self).0 refl c.take_turn.ensures

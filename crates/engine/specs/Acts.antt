@@ -1,0 +1,40 @@
+-- What goes through the connections of a server.
+-- This project's own.
+use Rattle.std.specs.Prelude.{◌≡◌, ⊤, ℕ, List, [], ◌∷◌, ◌++◌, take, Option, Some, None}
+use Rattle.engine.specs.declared.flow.Flow.{Flow}
+use Rattle.engine.specs.declared.flow.Flow.TheVariants.{Bytes, Later, Never}
+
+pub data Act : Type 0 where
+  -- a connection was accepted under this number
+  opened : ℕ → Act
+  -- it brought bytes
+  brought : ℕ → List ℕ → Act
+  -- it took bytes
+  took : ℕ → List ℕ → Act
+  -- it was closed
+  closed : ℕ → Act
+
+-- the connection of an act
+abbrev pub conn_of : Act → ℕ
+conn_of (opened conn) = conn
+conn_of (brought conn bytes) = conn
+conn_of (took conn bytes) = conn
+conn_of (closed conn) = conn
+
+-- a known log grows by these
+abbrev pub Logs : Option (List Act) → Option (List Act) → List Act → Type 0
+Logs None new acts = ⊤
+Logs (Some xs) None acts = ⊥
+Logs (Some xs) (Some ys) acts = ys ≡ xs ++ acts
+
+-- what a read logs
+abbrev pub read_acts : ℕ → Flow → List ℕ → List Act
+read_acts conn (Bytes count more) room = brought conn (take count room) ∷ []
+read_acts conn Later room = []
+read_acts conn Never room = []
+
+-- what a write logs
+abbrev pub write_acts : ℕ → Flow → List ℕ → List Act
+write_acts conn (Bytes count more) bytes = took conn (take count bytes) ∷ []
+write_acts conn Later bytes = []
+write_acts conn Never bytes = []

@@ -1,0 +1,7 @@
+pub mod Flows
+pub mod Acts
+pub mod Standing
+pub mod Desks
+pub mod Moves
+pub mod Taking
+pub mod Order

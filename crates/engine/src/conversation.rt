@@ -1,0 +1,288 @@
+//! One connection among many.
+
+use crate::backlog::Backlog;
+use crate::flow::Flow;
+use crate::limits::Limits;
+use crate::sockets::Sockets;
+use couch_http::{Fixed, Response};
+use hub::{Hub, Replies};
+use std::alloc::Global;
+use store::Store;
+
+/// How many seconds a client that gets no more replies may be silent.
+const LAST_SILENCE: u64 = 2;
+
+/// How far a conversation is.
+#[derive(Clone, Copy, Debug, PartialEq, Eq)]
+pub enum ConversationStage {
+    /// Requests come.
+    Open,
+    /// The last reply is owed.
+    Last,
+    /// Nothing more is written. What still comes is passed over.
+    Ending,
+    /// Memory ran out, and nothing more is written.
+    Lost,
+}
+
+/// What came of a turn of a conversation.
+#[derive(Clone, Copy, Debug, PartialEq, Eq)]
+pub enum Turn {
+    /// It may have another at once.
+    Again,
+    /// It waits until it is reported.
+    Later,
+    /// It is over.
+    Over,
+}
+
+/// A connection: what it is owed, and how far it is.
+#[derive(Drop)]
+pub struct Conversation {
+    /// What it is still to take.
+    pub owed: Backlog,
+    /// How far it is.
+    pub stage: ConversationStage,
+    /// The second at which something last went through.
+    pub since: u64,
+    /// The second at which a request began that is not whole, or at which the end began.
+    pub begun: Option<u64>,
+    /// It has a turn in this round or the next.
+    pub queued: bool,
+}
+
+impl Conversation {
+    ghost use Rattle.std.specs.Prelude.{◌≡◌, ◌≢◌, ℕ, List, [], true};
+    ghost use Rattle.hub.specs.Service.{bytes_of, farewell};
+    ghost use Rattle.engine.specs.Acts.{Logs};
+    ghost use Rattle.engine.specs.Moves.{Moves, Sends, stage_after_finish, standing_at};
+    ghost use Rattle.engine.specs.Standing.{Answers, Owes, TakesPiece};
+
+    /// Makes a conversation to which nothing is owed. Takes no memory.
+    pub fn new(alloc: Global, now: u64) -> Conversation
+        ensures owed { result.owed ≡ [] }
+        ensures stage { result.stage ≡ ConversationStage.Open }
+    {
+        Conversation {
+            owed: Backlog::new(alloc),
+            stage: ConversationStage::Open,
+            since: now,
+            begun: None,
+            queued: false,
+        }
+    }
+
+    /// Tells whether nothing has gone through for too long, or a request is not whole for too long.
+    pub fn is_late(&self, now: u64, limits: &Limits) -> bool {
+        let silence = match self.stage {
+            ConversationStage::Open | ConversationStage::Last => limits.idle,
+            ConversationStage::Ending | ConversationStage::Lost => LAST_SILENCE,
+        };
+        let silent = now.saturating_sub(self.since) >= silence;
+        let slow = match self.begun {
+            Some(begun) => now.saturating_sub(begun) >= limits.request,
+            None => false,
+        };
+        silent || slow
+    }
+
+    /// Takes a turn: writes what is owed; where nothing is left, reads a piece, feeds it, and writes the
+    /// replies.
+    pub fn take_turn<S: Store + Drop, W: Sockets>(
+        &mut self,
+        hub: &mut Hub<S>,
+        sockets: &mut W,
+        conn: u64,
+        room: &mut [u8],
+        now: u64,
+    ) -> Turn
+        ensures { Moves S.Store conn hub.old (standing_at self.old.stage self.old.owed) (W.log sockets.old)
+            hub.new (standing_at self.new.stage self.new.owed) (W.log sockets.new) }
+    {
+        match self.stage {
+            ConversationStage::Lost => Turn::Over,
+            ConversationStage::Open | ConversationStage::Last | ConversationStage::Ending => {
+                self.go_on(hub, sockets, conn, room, now)
+            }
+        }
+    }
+
+    /// Takes a turn that is not lost.
+    fn go_on<S: Store + Drop, W: Sockets>(
+        &mut self,
+        hub: &mut Hub<S>,
+        sockets: &mut W,
+        conn: u64,
+        room: &mut [u8],
+        now: u64,
+    ) -> Turn
+        requires { self.old.stage ≢ ConversationStage.Lost }
+        ensures { Moves S.Store conn hub.old (standing_at self.old.stage self.old.owed) (W.log sockets.old)
+            hub.new (standing_at self.new.stage self.new.owed) (W.log sockets.new) }
+    {
+        match self.send(sockets, conn, now) {
+            Turn::Again => {}
+            Turn::Later => return Turn::Later,
+            Turn::Over => return Turn::Over,
+        }
+        if self.owed.len() > 0 {
+            return Turn::Again;
+        }
+        self.finish(sockets, conn, now);
+        self.take_next(hub, sockets, conn, room, now)
+    }
+
+    /// Writes what is owed. The answer is `Again` where it was taken, all or a part.
+    fn send<W: Sockets>(&mut self, sockets: &mut W, conn: u64, now: u64) -> Turn
+        ensures sent { Sends conn (W.log sockets.old) (W.log sockets.new) self.old.owed self.new.owed }
+        ensures stage { self.new.stage ≡ self.old.stage }
+    {
+        if self.owed.len() == 0 {
+            return Turn::Again;
+        }
+        match sockets.write(conn, self.owed.bytes()) {
+            Flow::Bytes(count, _) => {
+                self.since = now;
+                self.owed.take(count);
+                Turn::Again
+            }
+            Flow::Later => Turn::Later,
+            Flow::Never => Turn::Over,
+        }
+    }
+
+    /// Tells the peer that nothing more comes, where the last reply was taken.
+    fn finish<W: Sockets>(&mut self, sockets: &mut W, conn: u64, now: u64)
+        ensures log { Logs (W.log sockets.old) (W.log sockets.new) [] }
+        ensures owed { self.new.owed ≡ self.old.owed }
+        ensures stage { self.new.stage ≡ stage_after_finish self.old.stage }
+    {
+        match self.stage {
+            ConversationStage::Last => {
+                sockets.finish(conn);
+                self.stage = ConversationStage::Ending;
+                self.begun = Some(now);
+            }
+            ConversationStage::Open | ConversationStage::Ending | ConversationStage::Lost => {}
+        }
+    }
+
+    /// Reads a piece, feeds it, and writes the replies.
+    fn take_next<S: Store + Drop, W: Sockets>(
+        &mut self,
+        hub: &mut Hub<S>,
+        sockets: &mut W,
+        conn: u64,
+        room: &mut [u8],
+        now: u64,
+    ) -> Turn
+        requires stage { self.old.stage ≢ ConversationStage.Lost }
+        requires owed { self.old.owed ≡ [] }
+        ensures { Moves S.Store conn hub.old (standing_at self.old.stage self.old.owed) (W.log sockets.old)
+            hub.new (standing_at self.new.stage self.new.owed) (W.log sockets.new) }
+    {
+        match sockets.read(conn, room) {
+            Flow::Bytes(count, more) => {
+                self.since = now;
+                self.take_piece(hub, conn, &room[..count], now);
+                self.send_replies(sockets, conn, now, more)
+            }
+            Flow::Later => Turn::Later,
+            Flow::Never => Turn::Over,
+        }
+    }
+
+    /// Writes the replies to a piece. The answer is `Later` where nothing can go through at once.
+    fn send_replies<W: Sockets>(&mut self, sockets: &mut W, conn: u64, now: u64, more: bool) -> Turn
+        ensures stage { self.new.stage ≡ self.old.stage }
+        ensures lost { self.old.stage ≡ ConversationStage.Lost → W.log sockets.new ≡ W.log sockets.old }
+        ensures sent { self.old.stage ≢ ConversationStage.Lost → Sends conn (W.log sockets.old) (W.log sockets.new) self.old.owed self.new.owed }
+    {
+        match self.stage {
+            ConversationStage::Lost => return Turn::Over,
+            ConversationStage::Open | ConversationStage::Last | ConversationStage::Ending => {}
+        }
+        let sent = self.send(sockets, conn, now);
+        if sent == Turn::Again
+            && !more
+            && self.stage == ConversationStage::Open
+            && self.owed.len() == 0
+        {
+            Turn::Later
+        } else {
+            sent
+        }
+    }
+
+    /// Takes a piece: feeds it to the hub and owes the replies, or passes it over.
+    fn take_piece<S: Store + Drop>(&mut self, hub: &mut Hub<S>, conn: u64, piece: &[u8], now: u64)
+        requires stage { self.old.stage ≢ ConversationStage.Lost }
+        requires owed { self.old.owed ≡ [] }
+        ensures { (words : List ℕ) × TakesPiece S.Store conn hub.old (standing_at self.old.stage self.old.owed) piece.now words
+            hub.new (standing_at self.new.stage self.new.owed) }
+    {
+        match self.stage {
+            ConversationStage::Open => self.feed(hub, conn, piece, now),
+            ConversationStage::Last | ConversationStage::Ending | ConversationStage::Lost => {}
+        }
+    }
+
+    /// Feeds a piece to the hub, and owes the replies.
+    fn feed<S: Store + Drop>(&mut self, hub: &mut Hub<S>, conn: u64, piece: &[u8], now: u64)
+        requires stage { self.old.stage ≡ ConversationStage.Open }
+        requires owed { self.old.owed ≡ [] }
+        ensures { (words : List ℕ) × Answers S.Store conn hub.old piece.now words hub.new (standing_at self.new.stage self.new.owed) }
+    {
+        match hub.feed(conn, piece) {
+            Ok(replies) => {
+                self.note_request(replies.list.len() > 0, now);
+                self.owe_replies(&replies);
+            }
+            Err(_) => {
+                hub.close(conn);
+                self.owe_farewell();
+            }
+        }
+    }
+
+    /// Notes when a request began that is not whole.
+    ///
+    /// Where a piece completes a request, what follows in the same piece is not seen: the next request
+    /// then counts from the next piece.
+    fn note_request(&mut self, whole: bool, now: u64)
+        ensures owed { self.new.owed ≡ self.old.owed }
+        ensures stage { self.new.stage ≡ self.old.stage }
+    {
+        if whole {
+            self.begun = None;
+        } else if self.begun.is_none() {
+            self.begun = Some(now);
+        }
+    }
+
+    /// Owes replies.
+    fn owe_replies(&mut self, replies: &Replies)
+        requires stage { self.old.stage ≡ ConversationStage.Open }
+        requires owed { self.old.owed ≡ [] }
+        ensures { Owes (standing_at self.new.stage self.new.owed) replies.now.last (bytes_of replies.now.list.items) }
+    {
+        if !self.owed.add_all(&replies.list) {
+            self.stage = ConversationStage::Lost;
+        } else if replies.last {
+            self.stage = ConversationStage::Last;
+        }
+    }
+
+    /// Owes the reply where memory ran out, as the last one.
+    fn owe_farewell(&mut self)
+        requires owed { self.old.owed ≡ [] }
+        ensures { Owes (standing_at self.new.stage self.new.owed) true farewell }
+    {
+        let farewell = Response::fixed(Fixed::NoRoom { last: true });
+        self.stage = if self.owed.add(farewell.bytes()) {
+            ConversationStage::Last
+        } else {
+            ConversationStage::Lost
+        };
+    }
+}

@@ -1,0 +1,18 @@
+//! Laws of the definitions alone: each function has an empty body, and its contract is the law.
+
+ghost use Rattle.engine.specs.Order.{HandlesInOrder};
+ghost use Rattle.engine.specs.Taking.{TakesInOrder};
+
+use store::Store;
+
+/// Makes sure that all that a connection took is a first part of the bytes of the replies to what it
+/// brought, and of the farewell.
+pub fn takes_in_order<S: Store>()
+    ensures { TakesInOrder S.Store }
+{}
+
+/// Makes sure that the requests of all connections are handled in one run, in the order in which they
+/// arrive.
+pub fn handles_in_order<S: Store>()
+    ensures { HandlesInOrder S.Store }
+{}

@@ -1,0 +1,19 @@
+//! Many connections of one hub at once.
+#![tactic(auto)]
+
+mod backlog;
+mod conversation;
+mod fault;
+mod flow;
+pub mod laws;
+mod limits;
+mod serving;
+mod sockets;
+
+pub use backlog::Backlog;
+pub use conversation::{Conversation, ConversationStage, Turn};
+pub use fault::EngineFault;
+pub use flow::{Accepted, Flow};
+pub use limits::Limits;
+pub use serving::serve_all;
+pub use sockets::Sockets;

@@ -1,0 +1,305 @@
+//! The rounds of a server of many connections.
+
+ghost use Rattle.std.specs.Prelude.{◌≡◌, [], ◌∷◌, true, false};
+ghost use Rattle.store.specs.Calls.{GoesOn};
+ghost use Rattle.engine.specs.Desks.{ServesAll};
+ghost use Rattle.hub.specs.Service.{hub_without};
+ghost use Rattle.engine.specs.Acts.{Logs, closed, opened};
+ghost use Rattle.engine.specs.Moves.{Begins, Ends, StandAlike, Turns};
+
+use crate::conversation::{Conversation, Turn};
+use crate::fault::EngineFault;
+use crate::flow::Accepted;
+use crate::limits::Limits;
+use crate::sockets::Sockets;
+use hub::Hub;
+use std::alloc::Global;
+use std::collections::{BTreeMap, VecDeque};
+use store::Store;
+
+/// How many bytes a piece has at most.
+const PIECE: usize = 8_192;
+
+/// How many connections one wait reports at most.
+const REPORTS: usize = 1_024;
+
+/// The connections of a server.
+#[derive(Drop)]
+struct Conversations {
+    alloc: Global,
+    conversations: BTreeMap<u64, Conversation>,
+    // those that have a turn in this round or the next
+    queue: VecDeque<u64>,
+    // more connections may wait to be accepted
+    waiting: bool,
+    accepted: u64,
+    now: u64,
+}
+
+/// Serves many connections of a hub at once, until as many were served as the limits say.
+///
+/// Each whole request is handled one after the other, in the order in which their last bytes come. A
+/// connection is read only where nothing is owed to it, and closed where it is silent for too long, or
+/// a request of it is not whole for too long. Where memory runs out, its connection has the fixed reply
+/// with status 503, and ends; the others go on.
+///
+/// `Socket`: nothing can be waited for, or a connection not be accepted. `Waits`: it waited 2^64 - 1
+/// times.
+pub fn serve_all<S: Store + Drop, W: Sockets>(
+    alloc: Global,
+    hub: &mut Hub<S>,
+    sockets: &mut W,
+    limits: &Limits,
+) -> Result<(), EngineFault>
+    // All that was done is told by the acts that were logged.
+    ensures served { ServesAll S.Store hub.old (W.log sockets.old) hub.new (W.log sockets.new) }
+    ensures configuration { hub.new.node.configuration ≡ hub.old.node.configuration }
+    ensures onward { GoesOn S.Store hub.old.node.store hub.new.node.store }
+{
+    let mut conversations = Conversations::new(alloc);
+    conversations.take_rounds(hub, sockets, limits)
+}
+
+impl Conversations {
+    /// Makes a server without connections.
+    fn new(alloc: Global) -> Conversations
+        ensures { result.conversations.entries ≡ [] }
+    {
+        Conversations {
+            alloc,
+            conversations: BTreeMap::new(alloc),
+            queue: VecDeque::new(alloc),
+            waiting: true,
+            accepted: 0,
+            now: 0,
+        }
+    }
+
+    /// Goes round until as many connections were served as the limits say.
+    fn take_rounds<S: Store + Drop, W: Sockets>(
+        &mut self,
+        hub: &mut Hub<S>,
+        sockets: &mut W,
+        limits: &Limits,
+    ) -> Result<(), EngineFault>
+        ensures { Turns S.Store hub.old self.old.conversations.entries (W.log sockets.old) hub.new self.new.conversations.entries (W.log sockets.new) }
+    {
+        let mut room = [0; PIECE];
+        for _number in 0..u64::MAX {
+            if self.accepted >= limits.conns && self.conversations.is_empty() {
+                return Ok(());
+            }
+            self.take_round(hub, sockets, &mut room, limits)?;
+        }
+        Err(EngineFault::Waits)
+    }
+
+    /// Waits once, accepts what waits, and gives each connection that may be ready a turn.
+    fn take_round<S: Store + Drop, W: Sockets>(
+        &mut self,
+        hub: &mut Hub<S>,
+        sockets: &mut W,
+        room: &mut [u8],
+        limits: &Limits,
+    ) -> Result<(), EngineFault>
+        ensures { Turns S.Store hub.old self.old.conversations.entries (W.log sockets.old) hub.new self.new.conversations.entries (W.log sockets.new) }
+    {
+        let wait = self.queue.is_empty() && !self.can_accept(limits);
+        let Ok(now) = sockets.wait(wait) else {
+            return Err(EngineFault::Socket);
+        };
+        let ticked = now != self.now;
+        self.now = now;
+        self.note_ready(sockets);
+        self.accept_all(hub, sockets, limits)?;
+        self.take_turns(hub, sockets, room);
+        if ticked {
+            self.close_late(hub, sockets, limits);
+        }
+        Ok(())
+    }
+
+    /// Tells whether one more connection may be accepted, and one may wait.
+    fn can_accept(&self, limits: &Limits) -> bool {
+        self.waiting && self.accepted < limits.conns && self.conversations.len() < limits.at_once
+    }
+
+    /// Notes what the last wait reported.
+    fn note_ready<W: Sockets>(&mut self, sockets: &W)
+        ensures { StandAlike self.old.conversations.entries self.new.conversations.entries }
+    {
+        for at in 0..REPORTS {
+            match sockets.ready(at) {
+                None => return,
+                Some(0) => self.waiting = true,
+                Some(conn) => self.note(conn),
+            }
+        }
+    }
+
+    /// Gives a connection a turn in this round, if it has none yet.
+    fn note(&mut self, conn: u64)
+        ensures { StandAlike self.old.conversations.entries self.new.conversations.entries }
+    {
+        let Some(conversation) = self.conversations.get_mut(&conn) else {
+            return;
+        };
+        if !conversation.queued && self.queue.push_back(conn).is_ok() {
+            conversation.queued = true;
+        }
+    }
+
+    /// Accepts connections that wait, as many as may be.
+    fn accept_all<S: Store + Drop, W: Sockets>(
+        &mut self,
+        hub: &mut Hub<S>,
+        sockets: &mut W,
+        limits: &Limits,
+    ) -> Result<(), EngineFault>
+        ensures { Turns S.Store hub.old self.old.conversations.entries (W.log sockets.old) hub.new self.new.conversations.entries (W.log sockets.new) }
+    {
+        for _number in 0..REPORTS {
+            if !self.can_accept(limits) {
+                return Ok(());
+            }
+            self.accept_next(hub, sockets)?;
+        }
+        Ok(())
+    }
+
+    /// Accepts a connection, if one waits.
+    fn accept_next<S: Store + Drop, W: Sockets>(
+        &mut self,
+        hub: &mut Hub<S>,
+        sockets: &mut W,
+    ) -> Result<(), EngineFault>
+        ensures { Turns S.Store hub.old self.old.conversations.entries (W.log sockets.old) hub.new self.new.conversations.entries (W.log sockets.new) }
+    {
+        match sockets.accept() {
+            Accepted::One => {
+                self.accepted = self.accepted.saturating_add(1);
+                self.add(hub, sockets);
+            }
+            Accepted::Reset => self.accepted = self.accepted.saturating_add(1),
+            Accepted::Later => self.waiting = false,
+            Accepted::Never => return Err(EngineFault::Socket),
+        }
+        Ok(())
+    }
+
+    /// Adds the connection that was accepted.
+    fn add<S: Store + Drop, W: Sockets>(&mut self, hub: &mut Hub<S>, sockets: &mut W)
+        ensures { Turns S.Store hub.old self.old.conversations.entries (W.log sockets.old) hub.new self.new.conversations.entries (W.log sockets.new) }
+    {
+        let Ok(conn) = hub.open() else {
+            return;
+        };
+        if self.begin(sockets, conn) {
+            self.note(conn);
+        } else {
+            self.end(hub, sockets, conn);
+        }
+    }
+
+    /// Gives a number to the connection that was accepted, and begins its conversation. The answer is
+    /// false where it can't be served, or memory ran out.
+    fn begin<W: Sockets>(&mut self, sockets: &mut W, conn: u64) -> bool
+        ensures log { Logs (W.log sockets.old) (W.log sockets.new) (opened conn ∷ []) }
+        ensures begins { result ≡ true → Begins self.old.conversations.entries conn self.new.conversations.entries }
+        ensures refused { result ≡ false → self.new.conversations.entries ≡ self.old.conversations.entries }
+    {
+        if !sockets.name(conn) {
+            return false;
+        }
+        let conversation = Conversation::new(self.alloc, self.now);
+        self.conversations.insert(conn, conversation).is_ok()
+    }
+
+    /// Gives each connection of the queue a turn.
+    fn take_turns<S: Store + Drop, W: Sockets>(
+        &mut self,
+        hub: &mut Hub<S>,
+        sockets: &mut W,
+        room: &mut [u8],
+    )
+        ensures { Turns S.Store hub.old self.old.conversations.entries (W.log sockets.old) hub.new self.new.conversations.entries (W.log sockets.new) }
+    {
+        for _number in 0..self.queue.len() {
+            let Some(conn) = self.queue.pop_front() else {
+                return;
+            };
+            self.take_turn(hub, sockets, conn, room);
+        }
+    }
+
+    /// Gives a connection a turn.
+    fn take_turn<S: Store + Drop, W: Sockets>(
+        &mut self,
+        hub: &mut Hub<S>,
+        sockets: &mut W,
+        conn: u64,
+        room: &mut [u8],
+    )
+        ensures { Turns S.Store hub.old self.old.conversations.entries (W.log sockets.old) hub.new self.new.conversations.entries (W.log sockets.new) }
+    {
+        match self.turn_of(hub, sockets, conn, room) {
+            Turn::Over => self.end(hub, sockets, conn),
+            Turn::Again => self.note(conn),
+            Turn::Later => {}
+        }
+    }
+
+    /// Gives a connection a turn, if it is still there.
+    fn turn_of<S: Store + Drop, W: Sockets>(
+        &mut self,
+        hub: &mut Hub<S>,
+        sockets: &mut W,
+        conn: u64,
+        room: &mut [u8],
+    ) -> Turn
+        ensures { Turns S.Store hub.old self.old.conversations.entries (W.log sockets.old) hub.new self.new.conversations.entries (W.log sockets.new) }
+    {
+        let Some(conversation) = self.conversations.get_mut(&conn) else {
+            return Turn::Later;
+        };
+        conversation.queued = false;
+        conversation.take_turn(hub, sockets, conn, room, self.now)
+    }
+
+    /// Ends a connection.
+    fn end<S: Store + Drop, W: Sockets>(&mut self, hub: &mut Hub<S>, sockets: &mut W, conn: u64)
+        ensures ends { Ends self.old.conversations.entries conn self.new.conversations.entries }
+        ensures hub { hub.new ≡ hub_without conn hub.old }
+        ensures log { Logs (W.log sockets.old) (W.log sockets.new) (closed conn ∷ []) }
+    {
+        self.conversations.remove(&conn);
+        hub.close(conn);
+        sockets.close(conn);
+    }
+
+    /// Ends the connections that are silent, or slow, for too long.
+    fn close_late<S: Store + Drop, W: Sockets>(
+        &mut self,
+        hub: &mut Hub<S>,
+        sockets: &mut W,
+        limits: &Limits,
+    )
+        ensures { Turns S.Store hub.old self.old.conversations.entries (W.log sockets.old) hub.new self.new.conversations.entries (W.log sockets.new) }
+    {
+        let late = self.late(limits);
+        for conn in &late {
+            self.end(hub, sockets, *conn);
+        }
+    }
+
+    /// Returns the connections that are silent, or slow, for too long.
+    fn late(&self, limits: &Limits) -> Vec<u64> {
+        let mut late = Vec::new(self.alloc);
+        for (conn, conversation) in &self.conversations {
+            if conversation.is_late(self.now, limits) && late.push(*conn).is_err() {
+                break;
+            }
+        }
+        late
+    }
+}

@@ -1,0 +1,169 @@
+//! The connections of a port, which are told when they are ready.
+
+use engine::{Accepted, Flow, Sockets};
+use mio::net::{TcpListener, TcpStream};
+use mio::{Events, Interest, Poll, Token};
+use std::alloc::Global;
+use std::collections::BTreeMap;
+use std::io;
+use std::io::{ErrorKind, Read, Write};
+use std::net::{Ipv4Addr, Net, Shutdown, SocketAddr};
+use std::time::{Clock, Duration};
+
+/// How many connections one wait reports at most.
+const REPORTS: usize = 1_024;
+
+/// A connection. Where its peer has ended, reads go on to the end of what came.
+#[derive(Drop)]
+struct Socket {
+    stream: TcpStream,
+    ended: bool,
+}
+
+/// A port of 127.0.0.1 and its connections.
+pub struct Port<'a, R: Clock> {
+    rt: &'a R,
+    poll: Poll,
+    events: Events<Global>,
+    listener: TcpListener,
+    ready: Vec<u64>,
+    sockets: BTreeMap<u64, Socket>,
+    newest: Option<TcpStream>,
+}
+
+// Written out, so that callers do not prove again how each part is dropped.
+impl<R: Clock> Drop for Port<'_, R> {
+    fn drop(self) {
+        let Port {
+            rt: _,
+            poll: _,
+            events: _,
+            listener: _,
+            ready: _,
+            sockets: _,
+            newest: _,
+        } = self;
+    }
+}
+
+impl<'a, R: Clock + Net> Port<'a, R> {
+    /// Binds a port of 127.0.0.1, or a free one where the port is 0.
+    pub fn open(rt: &'a R, alloc: Global, port: u16) -> io::Result<Port<'a, R>> {
+        let poll = Poll::new(rt)?;
+        let mut listener = TcpListener::bind(rt, SocketAddr::from((Ipv4Addr::LOCALHOST, port)))?;
+        poll.registry()
+            .register(&mut listener, Token(0), Interest::READABLE)?;
+        Ok(Port {
+            rt,
+            poll,
+            events: Events::with_capacity(alloc, REPORTS)?,
+            listener,
+            ready: Vec::new(alloc),
+            sockets: BTreeMap::new(alloc),
+            newest: None,
+        })
+    }
+
+    /// Returns where it listens.
+    pub fn address(&self) -> io::Result<SocketAddr> {
+        self.listener.local_addr()
+    }
+}
+
+impl<R: Clock> Sockets for Port<'_, R> {
+    fn wait(&mut self, wait: bool) -> io::Result<u64> {
+        let timeout = if wait {
+            Duration::from_secs(1)
+        } else {
+            Duration::from_secs(0)
+        };
+        // one that was accepted and had no number is let go
+        self.newest = None;
+        self.ready.clear();
+        self.poll.poll(&mut self.events, Some(timeout))?;
+        for event in &self.events {
+            let conn = event.token().0 as u64;
+            if event.is_read_closed()
+                && let Some(socket) = self.sockets.get_mut(&conn)
+            {
+                socket.ended = true;
+            }
+            self.ready.push(conn)?;
+        }
+        Ok(self.rt.monotonic()?.as_secs())
+    }
+
+    fn ready(&self, at: usize) -> Option<u64> {
+        self.ready.get(at).copied()
+    }
+
+    fn accept(&mut self) -> Accepted {
+        match self.listener.accept() {
+            Ok((stream, _peer)) => {
+                let _ = stream.set_nodelay(true);
+                self.newest = Some(stream);
+                Accepted::One
+            }
+            Err(error) => match error.kind() {
+                ErrorKind::WouldBlock => Accepted::Later,
+                ErrorKind::ConnectionAborted => Accepted::Reset,
+                _ => Accepted::Never,
+            },
+        }
+    }
+
+    fn name(&mut self, conn: u64) -> bool {
+        let Some(mut stream) = self.newest.take() else {
+            return false;
+        };
+        let both = Interest::READABLE | Interest::WRITABLE;
+        let token = Token(conn as usize);
+        if self
+            .poll
+            .registry()
+            .register(&mut stream, token, both)
+            .is_err()
+        {
+            return false;
+        }
+        let socket = Socket {
+            stream,
+            ended: false,
+        };
+        self.sockets.insert(conn, socket).is_ok()
+    }
+
+    fn read(&mut self, conn: u64, room: &mut [u8]) -> Flow {
+        let Some(socket) = self.sockets.get_mut(&conn) else {
+            return Flow::Never;
+        };
+        match socket.stream.read(room) {
+            Ok(0) => Flow::Never,
+            Ok(count) => Flow::Bytes(count, socket.ended || count == room.len()),
+            Err(error) if error.kind() == ErrorKind::WouldBlock => Flow::Later,
+            Err(_) => Flow::Never,
+        }
+    }
+
+    fn write(&mut self, conn: u64, bytes: &[u8]) -> Flow {
+        let Some(socket) = self.sockets.get_mut(&conn) else {
+            return Flow::Never;
+        };
+        match socket.stream.write(bytes) {
+            Ok(0) => Flow::Never,
+            Ok(count) => Flow::Bytes(count, true),
+            Err(error) if error.kind() == ErrorKind::WouldBlock => Flow::Later,
+            Err(_) => Flow::Never,
+        }
+    }
+
+    fn finish(&mut self, conn: u64) {
+        if let Some(socket) = self.sockets.get_mut(&conn) {
+            let _ = socket.stream.shutdown(Shutdown::Write);
+        }
+    }
+
+    fn close(&mut self, conn: u64) {
+        self.sockets.remove(&conn);
+    }
+}
