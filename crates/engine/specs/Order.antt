@@ -12,7 +12,7 @@ use Rattle.engine.specs.Acts.{Act, opened, brought, took, closed}
 use Rattle.engine.specs.Desks.{Desk, Runs, new_desk}
 use Rattle.engine.specs.Standing.{Standing, TakesPiece, ending, given_up, serving}
 
--- a piece that was fed; not one that was refused for want of memory, nor one that was passed over
+-- a piece that was fed; not one that the hub refused, nor one that was passed over
 abbrev pub fed_by : {S : Type 0} (g : Ghosts S) (conn : ℕ) (old new : HubState S) (was now : Standing) (piece words : List ℕ) → TakesPiece g conn old was piece words new now → List Piece
 fed_by g conn old new (serving []) now piece words (inl fed) = record { conn = conn; bytes = piece } ∷ []
 fed_by g conn old new (serving []) now piece words (inr lost) = []

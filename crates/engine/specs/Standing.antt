@@ -40,16 +40,16 @@ pub record Feeds {S : Type 0} (g : Ghosts S) (old : HubState S) (conn : ℕ) (pi
   pub onward : GoesOn g old.node.store new.node.store
 
 -- A piece came on a connection that is served, and to which nothing was owed. It was fed, and the bytes of the replies are
--- owed; or the hub refused it, for want of memory, the connection has ended, and the farewell is owed.
-abbrev pub Answers : {S : Type 0} → Ghosts S → ℕ → HubState S → List ℕ → List ℕ → HubState S → Standing → Type 0
-Answers g conn old piece words new standing =
+-- owed; or the hub refused it, the connection has ended, and the farewell is owed.
+abbrev pub TakesServed : {S : Type 0} → Ghosts S → ℕ → HubState S → List ℕ → List ℕ → HubState S → Standing → Type 0
+TakesServed g conn old piece words new standing =
     ((list : List Reply) × (last : Bool) × Feeds g old conn piece list last new × (words ≡ bytes_of list) × Owes standing last words)
     ⊎ ((new ≡ hub_without conn old) × (words ≡ farewell) × Owes standing true words)
 
 -- A piece came on a connection, and these words are to be said. It is read only where nothing is owed to it. What comes after
 -- its last request is passed over.
 abbrev pub TakesPiece : {S : Type 0} → Ghosts S → ℕ → HubState S → Standing → List ℕ → List ℕ → HubState S → Standing → Type 0
-TakesPiece g conn old (serving []) piece words new standing = Answers g conn old piece words new standing
+TakesPiece g conn old (serving []) piece words new standing = TakesServed g conn old piece words new standing
 TakesPiece g conn old (serving (b ∷ bs)) piece words new standing = ⊥
 TakesPiece g conn old (ending []) piece words new standing = (words ≡ []) × (new ≡ old) × (standing ≡ ending [])
 TakesPiece g conn old (ending (b ∷ bs)) piece words new standing = ⊥

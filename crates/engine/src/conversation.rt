@@ -56,7 +56,7 @@ impl Conversation {
     ghost use Rattle.hub.specs.Service.{bytes_of, farewell};
     ghost use Rattle.engine.specs.Acts.{Logs};
     ghost use Rattle.engine.specs.Moves.{Moves, Sends, stage_after_finish, standing_at};
-    ghost use Rattle.engine.specs.Standing.{Answers, Owes, TakesPiece};
+    ghost use Rattle.engine.specs.Standing.{TakesServed, Owes, TakesPiece};
 
     /// Makes a conversation to which nothing is owed. Takes no memory.
     pub fn new(alloc: Global, now: u64) -> Conversation
@@ -231,7 +231,7 @@ impl Conversation {
     fn feed<S: Store + Drop>(&mut self, hub: &mut Hub<S>, conn: u64, piece: &[u8], now: u64)
         requires stage { self.old.stage ≡ ConversationStage.Open }
         requires owed { self.old.owed ≡ [] }
-        ensures { (words : List ℕ) × Answers S.Store conn hub.old piece.now words hub.new (standing_at self.new.stage self.new.owed) }
+        ensures { (words : List ℕ) × TakesServed S.Store conn hub.old piece.now words hub.new (standing_at self.new.stage self.new.owed) }
     {
         match hub.feed(conn, piece) {
             Ok(replies) => {

@@ -58,7 +58,7 @@ impl<'a, R: Clock + Net> Port<'a, R> {
             poll,
             events: Events::with_capacity(alloc, REPORTS)?,
             listener,
-            ready: Vec::new(alloc),
+            ready: Vec::with_capacity(alloc, REPORTS)?,
             sockets: BTreeMap::new(alloc),
             newest: None,
         })
