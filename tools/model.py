@@ -1,20 +1,22 @@
-"""Answers requests as docs/PROFILE.md says, in plain python: what tools/fuzz_passes and tools/disk_check compare with.
+"""Answers requests as docs/PROFILE.md says, in plain python: what tools/fuzz_passes, disk_check and index_check compare with.
 
 It was written from the page, and has nothing of the program. What it doesn't know it isn't asked: requests
-have lawful names and ids, bodies that are JSON, and the parameters that a client or a pass sends; keys of
-indexes are whole numbers. A body and a reply are bytes, so no value is held by two.
+have lawful names and ids, bodies that are JSON, and the parameters that a client or a pass sends. A body and
+a reply are bytes, so no value is held by two.
 """
 import hashlib
 import json
 import re
 from urllib.parse import parse_qs, unquote
 
+from keys import is_path, order_of, values_at
 from server import ADMIN, text_of
 
 MISSING = (404, "not_found", "missing")
 CONFLICT = (409, "conflict", "Document update conflict.")
 BAD_DOCUMENT = (400, "doc_validation", "Bad document.")
 BAD_HISTORY = (400, "bad_history", "Bad revision history.")
+BAD_BODY = (400, "bad_request", "body")
 
 # The update rules that a design document may have here, as selectors, and what they say of the new document, the
 # old one or None, and the caller's name.
@@ -110,6 +112,35 @@ class Document:
         return value
 
 
+# ---- indexes that are declared
+
+
+def has_form(name, index, is_field):
+    """Tells whether a name and a value declare an index, whose fields are as is told of each."""
+    is_named = isinstance(name, str) and 1 <= len(name.encode()) <= 64
+    fields = index["fields"] if isinstance(index, dict) and set(index) == {"fields"} else None
+    return is_named and isinstance(fields, list) and 1 <= len(fields) <= 8 and all(map(is_field, fields))
+
+
+def are_indexes(value):
+    return isinstance(value, dict) and all(has_form(name, index, is_path) for name, index in value.items())
+
+
+def path_in(field):
+    """Returns the path text of a field of `_index`."""
+    return next(iter(field)) if isinstance(field, dict) and list(field.values()) == ["asc"] else field
+
+
+def index_asked(value):
+    """Returns what a body of `_index` asks for: the design document, the name, and the fields."""
+    is_whole = isinstance(value, dict) and set(value) - {"type"} == {"ddoc", "index", "name"} and value.get("type", "json") == "json"
+    design = value["ddoc"] if is_whole else None
+    is_lawful = isinstance(design, str) and 1 <= len(design.encode()) <= 248
+    if not is_lawful or not has_form(value["name"], value["index"], lambda field: is_path(path_in(field))):
+        raise Refusal(*BAD_BODY)
+    return f"_design/{design}", value["name"], [path_in(field) for field in value["index"]["fields"]]
+
+
 # ---- documents that are sent
 
 
@@ -119,7 +150,9 @@ def sent_by(identifier, document):
     revision, deleted = document.get("_rev"), document.get("_deleted", False)
     is_bad = document.get("_id", identifier) != identifier or "_rev" in document and not is_revision(revision)
     is_bad = is_bad or not isinstance(deleted, bool) or set(document) - set(body) - {"_id", "_rev", "_deleted", "_revisions"}
-    is_bad = is_bad or identifier.startswith("_design/") and "validate_doc_update" in body and text_of(body["validate_doc_update"]) not in HOLDS
+    is_design = identifier.startswith("_design/")
+    is_bad = is_bad or is_design and "validate_doc_update" in body and text_of(body["validate_doc_update"]) not in HOLDS
+    is_bad = is_bad or is_design and not are_indexes(body.get("indexes", {}))
     if is_bad:
         raise Refusal(*BAD_DOCUMENT)
     return revision, deleted, body
@@ -273,19 +306,53 @@ class Database:
         results = results[: int(query.get("limit", len(results)))]
         return 200, {"last_seq": results[-1]["seq"] if results else min(since, self.sequence), "results": results}
 
-    def view(self, identifier, name):
-        """Returns the rows of an index, made from the documents."""
-        design = self.documents.get(identifier, Document())
-        declared = design.held[design.winner()][1].get("indexes", {}) if design.parents and not design.is_deleted() else {}
-        if name not in declared:
+    def declared(self, identifier):
+        """Returns the indexes that a design document declares."""
+        design = self.documents.get(identifier)
+        return {} if design is None or design.is_deleted() else design.held[design.winner()][1].get("indexes", {})
+
+    def places(self, fields):
+        """Returns the keys and the ids of an index over these fields, in order, made from the documents."""
+        found = []
+        for identifier, document in self.documents.items():
+            if not document.is_deleted() and not identifier.startswith("_design/"):
+                values = values_at(fields, document.shown(identifier, document.winner()))
+                found += [] if values is None else [(values, identifier)]
+        return sorted(found, key=lambda place: (order_of(place[0]), place[1].encode()))
+
+    def view(self, identifier, name, query):
+        """Returns the rows of an index."""
+        if name not in self.declared(identifier):
             raise Refusal(*MISSING)
-        rows = []
-        for one, document in self.documents.items():
-            body = document.held[document.winner()][1]
-            if not document.is_deleted() and not one.startswith("_design/") and all(field in body for field in declared[name]["fields"]):
-                rows.append({"id": one, "key": [body[field] for field in declared[name]["fields"]], "value": None})
-        rows.sort(key=lambda row: (row["key"], row["id"].encode()))
-        return 200, {"offset": 0, "rows": rows, "total_rows": len(rows)}
+        places = self.places(self.declared(identifier)[name]["fields"])
+        is_down = query.get("descending") == "true"
+        rows = [{"id": one, "key": key, "value": None} for key, one in (reversed(places) if is_down else places)]
+
+        def distance(row, bound):
+            """Tells whether a row stands before a bound, at it or behind it, in the direction asked for: -1, 0 or 1."""
+            key, other = order_of(row["key"]), order_of(json.loads(query[bound]))
+            return ((key > other) - (key < other)) * (-1 if is_down else 1)
+
+        started = [row for row in rows if "startkey" not in query or distance(row, "startkey") >= 0]
+        last = -1 if query.get("inclusive_end") == "false" else 0
+        within = [row for row in started if "endkey" not in query or distance(row, "endkey") <= last]
+        skip = min(int(query.get("skip", 0)), len(within))
+        shown = within[skip:][: int(query.get("limit", len(rows)))]
+        return 200, {"offset": len(rows) - len(started) + skip, "rows": shown, "total_rows": len(rows)}
+
+    def put_index(self, user, value):
+        """Declares an index, by an edit of the winner of its design document."""
+        identifier, name, fields = index_asked(value)
+        self.deny_design(user, identifier)
+        told = {"id": identifier, "name": name, "result": "exists"}
+        if self.declared(identifier).get(name) != {"fields": fields}:
+            design = self.documents.get(identifier)
+            winner = design.winner() if design else None
+            body = {} if design is None or design.is_deleted() else design.held[winner][1]
+            body = {**body, "indexes": {**self.declared(identifier), name: {"fields": fields}}}
+            self.edit(self.rules(), user, identifier, (winner, False, body))
+            told["result"] = "created"
+        return 200, told
 
     def differences(self, value):
         lacking = {}
@@ -384,10 +451,12 @@ class Node:
             return database.all_docs()
         if parts[1] == "_changes":
             return database.changes(query)
+        if parts[1] == "_index":
+            return database.put_index(user, value)
         if parts[1] == "_revs_diff":
             return database.differences(value)
         if parts[3:4] == ["_view"]:
-            return database.view("/".join(parts[1:3]), parts[4])
+            return database.view("/".join(parts[1:3]), parts[4], query)
         identifier = "/".join(parts[1:])
         if method == "GET":
             return database.read(identifier, query)
