@@ -1,5 +1,5 @@
 -- The names of a body's members are in UTF-8: so a body declares no index of another name.
-use Rattle.index.proofs.Common.{Bool, List, None, Option, Ordering, Some, [], ap, bytes_eq, bytes_eq-Decides, false, if◌then◌else◌, is_eq, option_map, refl, rules, subst, sym, true, ℕ, ◌∙◌, ◌∷◌, ◌≡◌}
+use Rattle.index.proofs.Common.{Bool, List, None, Ordering, Some, [], ap, bytes_eq, bytes_eq-Decides, false, if◌then◌else◌, is_eq, option_map, refl, rules, subst, sym, true, ℕ, ◌∙◌, ◌∷◌, ◌≡◌}
 use Rattle.couch_json.proofs.Objects.{Entry}
 use Rattle.couch_json.specs.Value.{Value, array, member_at, member_of, no_members, null, object, text, truth, whole}
 use Rattle.couch_json.specs.View.{items_view, members_view, view}
@@ -13,7 +13,6 @@ use Rattle.std.specs.Cmp.Lexicographic.{slice_cmp}
 use Rattle.std.specs.Ordering.{match_ordering, nat_cmp}
 use Rattle.std.specs.Prelude.{IsUtf8}
 use Rattle.store.specs.Indexes.{declared_fields, fields_in, indexes_if}
-use Rattle.tree.specs.ShownDocument.{members_in}
 
 -- what one level is
 abbrev layer : Json-F Json → Value
