@@ -18,3 +18,5 @@ pub mod Undeclared
 pub mod Declared
 pub mod Rebuilt
 pub mod AllDeclared
+pub mod Refusals
+pub mod TextNames
