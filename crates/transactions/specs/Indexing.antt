@@ -22,6 +22,7 @@ use Rattle.index.specs.declared.fault.IndexFault.TheVariants as index
 use Rattle.store.specs.declared.fault.StoreFault.TheVariants.{Memory, Damaged}
 use Rattle.transactions.specs.Following.{HasPlaceFor}
 use Rattle.transactions.specs.Inserting.{IsLawfulAddition}
+use Rattle.transactions.specs.Sequences.{Clears}
 use Rattle.transactions.specs.declared.commit_fault.CommitFault.{CommitFault}
 use Rattle.transactions.specs.declared.commit_fault.CommitFault.TheVariants as fault
 
@@ -63,3 +64,10 @@ abbrev pub of_index_fault : IndexFault → CommitFault
 of_index_fault (index.Sqlite e) = fault.Sqlite e
 of_index_fault index.Memory = fault.Store Memory
 of_index_fault index.Damaged = fault.Store Damaged
+
+-- the rows of the database are taken out, and then those of its indexes alone have changed: they are those of what is left
+pub record IsRemoved (db : ℤ) (old new : Database) : Type 0 where
+  pub cleared : Database
+  pub clears : Clears db old cleared
+  pub only : ChangesIndexes cleared new
+  pub indexed : IsIndexed new.trees

@@ -106,7 +106,10 @@ pub fn write_local<S: Alter>(
 }
 
 /// Takes out the rows of a database, and its own.
-fn clear_database<S: Alter>(tx: &mut Transaction<'_, S>, number: &i64) -> Result<(), Error>
+pub(crate) fn clear_database<S: Alter>(
+    tx: &mut Transaction<'_, S>,
+    number: &i64,
+) -> Result<(), Error>
     ensures same_reference { tx.new.conn.ghost_name ≡ tx.old.conn.ghost_name }
     ensures ok { HasCleanDisk (state S.Store tx.new.conn.now) → IsStore (state S.Store tx.old.conn.now).now
         → OnOk result (Clears number.now (state S.Store tx.old.conn.now).now (state S.Store tx.new.conn.now).now) }

@@ -13,14 +13,16 @@ ghost use Rattle.tree.specs.DocumentId.{is_design_id};
 ghost use Rattle.index.specs.Shown.{declared};
 ghost use Rattle.transactions.specs.Commits.{IsUnwritten, history_with};
 ghost use Rattle.transactions.specs.Histories.{AreStored, IsHeldOpen, IsWithin};
-ghost use Rattle.transactions.specs.Indexing.{AreAllIndexes, IsFollowed, IsIndexedStore, IsSoundIndexed, MayBeWritten, write_in};
+ghost use Rattle.std.specs.Prelude.{⊤};
+ghost use Rattle.transactions.specs.Indexing.{AreAllIndexes, IsFollowed, IsIndexedStore, IsRemoved, IsSoundIndexed, MayBeWritten, write_in};
 ghost use Rattle.transactions.specs.Inserting.{IsLawfulAddition};
 ghost use Rattle.transactions.specs.Reading.{HasBest};
 
+use crate::changes::clear_database;
 use crate::commit_fault::CommitFault;
 use crate::commits::write_document;
 use crate::seeing::see_document;
-use index::{Declaration, refresh_indexes};
+use index::{Declaration, drop_db, refresh_indexes};
 use sqlite::{Alter, Transaction};
 use std::alloc::Global;
 use std::collections::BTreeMap;
@@ -68,5 +70,26 @@ pub(crate) fn write_seen<S: Alter>(
     let after = see_document(alloc, tx, db, &write.id)?;
     let id = write.id.as_str().as_bytes();
     refresh_indexes(alloc, tx, db, indexes, id, before.as_ref(), after.as_ref())?;
+    Ok(())
+}
+
+/// Takes out the rows of a database, its own, and those of its indexes.
+pub(crate) fn clear_indexed<S: Alter>(
+    alloc: Global,
+    tx: &mut Transaction<'_, S>,
+    number: &i64,
+) -> Result<(), CommitFault>
+    ensures same_reference { tx.new.conn.ghost_name ≡ tx.old.conn.ghost_name }
+    ensures ok { HasCleanDisk (state S.Store tx.new.conn.now) → IsIndexedStore (state S.Store tx.old.conn.now).now
+        → OnOk result (IsRemoved number.now (state S.Store tx.old.conn.now).now (state S.Store tx.new.conn.now).now) }
+    ensures inside { HasCleanDisk (state S.Store tx.new.conn.now) → IsIndexedStore (state S.Store tx.old.conn.now).now
+        → OnOk result (IsTrue (state S.Store tx.new.conn.now).is_open × ((state S.Store tx.new.conn.now).in_transaction ≡ true)) }
+    ensures err { IfErr result (IsUnwritten (IsSoundIndexed S.Store (λ _. ⊤) tx.old.conn.now tx.new.conn.now)) }
+    ensures kept { HasCleanDisk (state S.Store tx.new.conn.now) → IsIndexedStore (state S.Store tx.old.conn.now).now
+        → KeepsCommit (state S.Store tx.old.conn.now) (state S.Store tx.new.conn.now) }
+    ensures asks { AsksInside S.Store tx.old.conn.now tx.new.conn.now }
+{
+    clear_database(tx, number)?;
+    drop_db(alloc, tx, number)?;
     Ok(())
 }
