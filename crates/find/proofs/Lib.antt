@@ -6,3 +6,5 @@ mod Indexed
 mod Ordered
 mod Parts
 pub mod Indexing
+mod Covered
+mod Candidates
