@@ -8,3 +8,5 @@ mod Parts
 pub mod Indexing
 mod Covered
 mod Candidates
+mod Ranges
+mod Serving
