@@ -27,6 +27,7 @@ const REQUEST: u64 = 30;
 ///
 /// `Socket`: the port can't be bound, nothing be waited for, or a connection not be accepted. `File`:
 /// the line can't be printed. `Memory`: memory ran out before it listened.
+#[tactic(auto, using(crate::proofs::ServingLemmas::serves_none))]
 pub fn serve_many<R: Net + Clock + Print + AllocGlobal, S: Store + Drop>(
     rt: &R,
     hub: &mut Hub<S>,
@@ -45,10 +46,7 @@ pub fn serve_many<R: Net + Clock + Print + AllocGlobal, S: Store + Drop>(
 }
 
 /// Binds a port of 127.0.0.1.
-fn open_port<R: Net + Clock + AllocGlobal>(
-    rt: &R,
-    port: u16,
-) -> Result<Port<'_, R>, ProgramFault> {
+fn open_port<R: Net + Clock + AllocGlobal>(rt: &R, port: u16) -> Result<Port<'_, R>, ProgramFault> {
     match Port::open(rt, rt.alloc(), port) {
         Ok(sockets) => Ok(sockets),
         Err(error) => Err(socket_fault(&error)),
