@@ -30,7 +30,7 @@ index_found (r ∷ rows) h = (
       (index_found rows (record { each = h.each.1; rising = h.rising.1; apart = h.apart.1 })),
 )
 
-key_is : (key : Option (List ℕ)) (k : List ℕ) → is_key key k ≡ true → key ≡ Some k
+pub key_is : (key : Option (List ℕ)) (k : List ℕ) → is_key key k ≡ true → key ≡ Some k
 key_is None k is = absurd (cc)
 key_is (Some found) k is = ap Some ((bytes_eq-Decides found k).0 is)
 

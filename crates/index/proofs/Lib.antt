@@ -18,3 +18,9 @@ pub mod Undeclared
 pub mod Declared
 pub mod Rebuilt
 pub mod AllDeclared
+pub mod Refusals
+pub mod TextNames
+pub mod Spots
+pub mod LawfulParts
+pub mod IndexPlaces
+pub mod PagePlaces

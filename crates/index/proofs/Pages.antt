@@ -32,7 +32,7 @@ page_on tree tests shown order limit offset =
 abbrev pub page_program : ℕ → List Term → List Term → List (Term × Key) → Term → Term → Program
 page_program tree tests shown order limit offset = record { lets = []; body = page_on tree tests shown order limit offset }
 
-both_in : (P : Row → Type 0) (R S : Row → Row → Type 0) → ((a b : Row) → P a → P b → R a b → S a b) → (rows : List Row) → AllByRecursion P rows → IsAscending R rows → IsAscending S rows
+pub both_in : (P : Row → Type 0) (R S : Row → Row → Type 0) → ((a b : Row) → P a → P b → R a b → S a b) → (rows : List Row) → AllByRecursion P rows → IsAscending R rows → IsAscending S rows
 both_in P R S weaker [] all up = tt
 both_in P R S weaker (r ∷ rows) all up = (all_both P (R r) (S r) (λ x own over. weaker r x all.0 own over) rows all.1 up.0, both_in P R S weaker rows all.1 up.1)
 

@@ -47,7 +47,7 @@ both_tie Greater y is = absurd (cc)
 both_tie Equal y is = (refl, is)
 
 -- two entries of a declaration don't tie
-untied : (declaration : ℤ) (low high : List ℕ) (a b : Row) → is_entry_between declaration low high a ≡ true → is_entry_between declaration low high b ≡ true
+pub untied : (declaration : ℤ) (low high : List ℕ) (a b : Row) → is_entry_between declaration low high a ≡ true → is_entry_between declaration low high b ≡ true
     → (declaration_of a ≡ declaration_of b → key_of a ≡ key_of b → entry_id a ≢ entry_id b) → is_eq (by_place a b) ≡ false
 untied declaration low high a b x y apart =
     let p = and_parts (is_entry_in declaration a) _ x in

@@ -57,6 +57,11 @@ abbrev pub FindsDeclared : {S E : Type 0} → Ghosts S → ℤ → List ℕ → 
 FindsDeclared g db design name old new r =
     HasCleanDisk (state g new) → HasIndexRows (state g old).now → (d : Row) → find (is_declaration_of db design name) ((state g old).now.trees decls_tree) ≡ Some d → IfOk r (λ x. declared x ≡ declared_at d)
 
+-- the rows are laid out, and this is that of the index
+pub record HasDeclared (db : ℤ) (design name : List ℕ) (d : Row) (b : Database) : Type 0 where
+  pub rows : HasIndexRows b
+  pub found : find (is_declaration_of db design name) (b.trees decls_tree) ≡ Some d
+
 -- the index rows are those of declarations over what is stored in this database
 pub record IsRebuildable (declares : Declarations) (sees : Documents) (db : ℤ) (b : Database) : Type 0 where
   pub store : IsStore b

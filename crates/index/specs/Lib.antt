@@ -10,3 +10,4 @@ pub mod Steps
 pub mod Filling
 pub mod Declaring
 pub mod Rebuilding
+pub mod Places

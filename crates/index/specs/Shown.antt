@@ -7,7 +7,7 @@ use Rattle.couch_json.specs.Value as json
 use Rattle.policy.specs.DesignDocuments.{are_paths}
 use Rattle.sqlite_value.specs.Order.{Row, column}
 use Rattle.sqlite_value.specs.declared.value.Value.{Value}
-use Rattle.sqlite_value.specs.declared.value.Value.TheVariants.{Text}
+use Rattle.sqlite_value.specs.declared.value.Value.TheVariants.{Blob, Text}
 use Rattle.tables.specs.Rows.{number_of, whole_in}
 use Rattle.tables.specs.Shown.{IsWhole}
 use Rattle.index.specs.Rows.{fields_in_cell, fields_of}
@@ -38,7 +38,12 @@ IsPathList v = (vs : Items) × (v ≡ array vs) × (are_paths vs ≡ true)
 abbrev pub SpellsPaths : Value → Type 0
 SpellsPaths v = (text : List ℕ) × (value : json.Value) × (v ≡ Text text) × (reading text ≡ Ok value) × IsPathList value
 
+-- the name of an index
+abbrev pub IsName : Value → Type 0
+IsName v = (name : List ℕ) × (v ≡ Blob name)
+
 pub record IsShownDeclaration (s : Row) : Type 0 where
   pub width : length s ≡ 3
   pub number : IsWhole (column s 0)
+  pub name : IsName (column s 1)
   pub fields : SpellsPaths (column s 2)

@@ -17,3 +17,7 @@ pub record Steps {S X E : Type 0} (g : Ghosts S) (IsFit : Database → Type 0) (
 -- the disk returned what was written, and the tables of an open connection were fit
 abbrev pub WasFit : {S : Type 0} → Ghosts S → (Database → Type 0) → Held S → Held S → Type 0
 WasFit g IsFit old new = HasCleanDisk (state g new) × (IsTrue (state g old).is_open → IsFit (state g old).now)
+
+-- the disk returned what was written, and the tables were fit
+abbrev pub AreFit : {S : Type 0} → Ghosts S → (Database → Type 0) → Held S → Held S → Type 0
+AreFit g IsFit old new = HasCleanDisk (state g new) × IsFit (state g old).now

@@ -1,13 +1,17 @@
 //! One index more, and one fewer.
 
-ghost use Rattle.std.specs.Prelude.{◌≡◌, IfOk, IsUtf8, filter, map, option_map, string_bytes, true};
+ghost use Rattle.std.specs.Prelude.{◌≡◌, IfErr, IfOk, IsUtf8, filter, map, option_map, string_bytes, true};
 ghost use Rattle.std.specs.List.{AllByRecursion};
 ghost use Rattle.couch_json.specs.FieldPath.{is_field_path};
 ghost use Rattle.couch_json.specs.Value.{array, text};
 ghost use Rattle.couch_json.specs.View.{items_view, view};
 ghost use Rattle.tables.specs.Calls.{AsksInside, LooksInside, ReadsInside, Stands};
-ghost use Rattle.index.specs.Declaring.{Declares, FindsDeclared, FindsStored, PutsIn, SetsIndex, TakesOut, Undeclares};
+ghost use Rattle.sqlite_value.specs.Order as order;
+ghost use Rattle.index.specs.Calls.{IsRefused};
+ghost use Rattle.index.specs.Declaring.{Declares, FindsDeclared, FindsStored, HasDeclared, IsRebuildable, IsUndeclared, PutsIn, SetsIndex, TakesOut, Undeclares};
 ghost use Rattle.index.specs.Layout.{HasIndexRows};
+ghost use Rattle.index.specs.Meaning.{Declarations, Documents};
+ghost use Rattle.index.specs.Steps.{AreFit};
 ghost use Rattle.index.specs.Shown.{declared};
 ghost use Rattle.index.specs.Rows.{fields_text, is_declaration_of, path_items, shown_declaration};
 ghost use Rattle.tables.specs.Schema.{decls_tree};
@@ -43,6 +47,7 @@ pub(crate) fn declare<S: Alter>(
 ) -> Result<(), IndexFault>
     ensures same_reference { tx.new.conn.ghost_name ≡ tx.old.conn.ghost_name }
     ensures declares { Declares S.Store db.now design.now name.now fields.now tx.old.conn.now tx.new.conn.now result }
+    ensures err { (declares : Declarations) (sees : Documents) → IfErr result (IsRefused (AreFit S.Store (IsUndeclared declares sees db.now design.now name.now) tx.old.conn.now tx.new.conn.now)) }
 {
     walk_fields(fields);
     let text = spell_fields(alloc, fields)?;
@@ -80,6 +85,7 @@ pub(crate) fn set_index<S: Alter>(
 ) -> Result<(), IndexFault>
     ensures same_reference { tx.new.conn.ghost_name ≡ tx.old.conn.ghost_name }
     ensures sets { SetsIndex S.Store db.now design.now name.now (option_map (λ paths. paths.items) fields.now) tx.old.conn.now tx.new.conn.now result }
+    ensures err { (declares : Declarations) (sees : Documents) → IfErr result (IsRefused (AreFit S.Store (IsRebuildable declares sees db.now) tx.old.conn.now tx.new.conn.now)) }
 {
     let found = find_stored(alloc, tx, db, design, name)?;
     if is_declared_so(&found, fields) {
@@ -143,6 +149,7 @@ fn put_in<S: Alter>(
 ) -> Result<(), IndexFault>
     ensures same_reference { tx.new.conn.ghost_name ≡ tx.old.conn.ghost_name }
     ensures puts { PutsIn S.Store db.now design.now name.now (option_map (λ paths. paths.items) fields.now) tx.old.conn.now tx.new.conn.now result }
+    ensures err { (declares : Declarations) (sees : Documents) → IfErr result (IsRefused (AreFit S.Store (IsUndeclared declares sees db.now design.now name.now) tx.old.conn.now tx.new.conn.now)) }
 {
     match fields {
         Some(fields) => declare(alloc, tx, db, design, name, fields),
@@ -160,6 +167,7 @@ fn find_stored<S: Alter>(
 ) -> Result<Option<Declaration>, IndexFault>
     ensures same_reference { tx.new.conn.ghost_name ≡ tx.old.conn.ghost_name }
     ensures finds { FindsStored S.Store db.now design.now name.now tx.old.conn.now tx.new.conn.now result }
+    ensures err { IfErr result (IsRefused (AreFit S.Store HasIndexRows tx.old.conn.now tx.new.conn.now)) }
     ensures stands { Stands S.Store tx.old.conn.now tx.new.conn.now result }
     ensures looks { LooksInside S.Store tx.old.conn.now tx.new.conn.now }
     ensures asks { AsksInside S.Store tx.old.conn.now tx.new.conn.now }
@@ -178,6 +186,7 @@ fn find_declared<S: Alter>(
 ) -> Result<Declaration, IndexFault>
     ensures same_reference { tx.new.conn.ghost_name ≡ tx.old.conn.ghost_name }
     ensures finds { FindsDeclared S.Store db.now design.now name.now tx.old.conn.now tx.new.conn.now result }
+    ensures err { (d : order.Row) → IfErr result (IsRefused (AreFit S.Store (HasDeclared db.now design.now name.now d) tx.old.conn.now tx.new.conn.now)) }
     ensures stands { Stands S.Store tx.old.conn.now tx.new.conn.now result }
     ensures looks { LooksInside S.Store tx.old.conn.now tx.new.conn.now }
     ensures asks { AsksInside S.Store tx.old.conn.now tx.new.conn.now }

@@ -1,8 +1,12 @@
 //! The entries of an index that has none, one of each document.
 
-ghost use Rattle.std.specs.Prelude.{◌≡◌, ◌||◌};
-ghost use Rattle.index.specs.Filling.{Fills, FillsRow, FillsRows};
+ghost use Rattle.std.specs.Prelude.{◌≡◌, ◌||◌, IfErr, List};
+ghost use Rattle.sqlite_value.specs.Order as order;
+ghost use Rattle.index.specs.Calls.{IsRefused};
+ghost use Rattle.index.specs.Filling.{AreToFill, Fills, FillsRow, FillsRows, IsBare, IsToFill};
+ghost use Rattle.index.specs.Indexed.{Entries};
 ghost use Rattle.index.specs.Shown.{declared};
+ghost use Rattle.index.specs.Steps.{AreFit};
 ghost use Rattle.tree.specs.DocumentId.{is_design_id};
 
 use crate::declaration::Declaration;
@@ -23,6 +27,7 @@ pub(crate) fn fill_index<S: Alter>(
 ) -> Result<(), IndexFault>
     ensures same_reference { tx.new.conn.ghost_name ≡ tx.old.conn.ghost_name }
     ensures fills { Fills S.Store db.now (declared declaration.now) tx.old.conn.now tx.new.conn.now result }
+    ensures err { (due : Entries) → IfErr result (IsRefused (AreFit S.Store (IsBare db.now (declared declaration.now) due) tx.old.conn.now tx.new.conn.now)) }
 {
     let rows = rows_of_documents(tx, db)?;
     fill_rows(alloc, tx, db, declaration, &rows)
@@ -38,6 +43,7 @@ fn fill_rows<S: Alter>(
 ) -> Result<(), IndexFault>
     ensures same_reference { tx.new.conn.ghost_name ≡ tx.old.conn.ghost_name }
     ensures fills { FillsRows S.Store db.now (declared declaration.now) rows.now tx.old.conn.now tx.new.conn.now result }
+    ensures err { (docs : List order.Row) (due : Entries) → IfErr result (IsRefused (AreFit S.Store (AreToFill db.now (declared declaration.now) rows.now docs due) tx.old.conn.now tx.new.conn.now)) }
 {
     for row in rows {
         fill_row(alloc, tx, db, declaration, row)?;
@@ -55,6 +61,7 @@ fn fill_row<S: Alter>(
 ) -> Result<(), IndexFault>
     ensures same_reference { tx.new.conn.ghost_name ≡ tx.old.conn.ghost_name }
     ensures fills { FillsRow S.Store db.now (declared declaration.now) row.now tx.old.conn.now tx.new.conn.now result }
+    ensures err { (d : order.Row) (due : Entries) → IfErr result (IsRefused (AreFit S.Store (IsToFill db.now (declared declaration.now) row.now d due) tx.old.conn.now tx.new.conn.now)) }
 {
     let listed = read_listed(alloc, row)?;
     if is_unseen(&listed) {

@@ -1,11 +1,16 @@
 //! The indexes of a design document, after another body of it is the winner's.
 
-ghost use Rattle.std.specs.Prelude.{◌≡◌, IfOk, map, option_map};
+ghost use Rattle.std.specs.Prelude.{◌≡◌, IfErr, IfOk, map, option_map, true, ⊤};
+ghost use Rattle.std.specs.List.{AllByRecursion};
 ghost use Rattle.couch_json.specs.View.{members_view, view};
+ghost use Rattle.policy.specs.DesignDocuments.{is_index};
 ghost use Rattle.store.specs.Indexes.{fields_in};
-ghost use Rattle.index.specs.Declaring.{SetsIndex};
-ghost use Rattle.index.specs.Meaning.{declared_if};
+ghost use Rattle.index.specs.Calls.{IsRefused};
+ghost use Rattle.index.specs.Declaring.{IsRebuildable, SetsIndex};
+ghost use Rattle.index.specs.Meaning.{Declarations, Documents, declared_if};
 ghost use Rattle.index.specs.Rebuilding.{Rebuilds, SetsNames, declared_names, names_of, shown_name};
+ghost use Rattle.index.specs.Shown.{IsShownDeclaration};
+ghost use Rattle.index.specs.Steps.{AreFit, WasFit};
 
 use crate::declarations::rows_of_database;
 use crate::declaring::set_index;
@@ -30,6 +35,7 @@ pub fn rebuild<S: Alter>(
 ) -> Result<(), IndexFault>
     ensures same_reference { tx.new.conn.ghost_name ≡ tx.old.conn.ghost_name }
     ensures rebuilds { Rebuilds S.Store db.now design.now (option_map (λ v. view v.now) body.entry) tx.old.conn.now tx.new.conn.now result }
+    ensures err { (declares : Declarations) (sees : Documents) → IfErr result (IsRefused (WasFit S.Store (IsRebuildable declares sees db.now) tx.old.conn.now tx.new.conn.now)) }
 {
     let rows = rows_of_database(tx, db)?;
     let stored = list_stored(alloc, &rows)?;
@@ -40,7 +46,8 @@ pub fn rebuild<S: Alter>(
 
 /// Lists the names of the indexes of these rows.
 fn list_stored(alloc: Global, rows: &[Row]) -> Result<Vec<Vec<u8>>, IndexFault>
-    ensures { IfOk result (λ names. map (λ name. name.items) names.items ≡ map shown_name rows.now) }
+    ensures ok { IfOk result (λ names. map (λ name. name.items) names.items ≡ map shown_name rows.now) }
+    ensures err { IfErr result (IsRefused (AllByRecursion IsShownDeclaration rows.now)) }
 {
     let mut names = Vec::with_capacity(alloc, rows.len())?;
     for row in rows {
@@ -51,7 +58,8 @@ fn list_stored(alloc: Global, rows: &[Row]) -> Result<Vec<Vec<u8>>, IndexFault>
 
 /// Reads the name of the index of a row.
 fn read_name(alloc: Global, row: &Row) -> Result<Vec<u8>, IndexFault>
-    ensures { IfOk result (λ name. name.items ≡ shown_name row.now) }
+    ensures ok { IfOk result (λ name. name.items ≡ shown_name row.now) }
+    ensures err { IfErr result (IsRefused (IsShownDeclaration row.now)) }
 {
     match row.get_ref(1) {
         Ok(ValueRef::Blob(bytes)) => Ok(copy_bytes(alloc, bytes)?),
@@ -105,6 +113,7 @@ fn set_names<S: Alter>(
 ) -> Result<(), IndexFault>
     ensures same_reference { tx.new.conn.ghost_name ≡ tx.old.conn.ghost_name }
     ensures sets { SetsNames S.Store db.now design.now (option_map (λ v. view v.now) body.entry) (map (λ name. name.items) names.now) tx.old.conn.now tx.new.conn.now result }
+    ensures err { (declares : Declarations) (sees : Documents) → IfErr result (IsRefused (AreFit S.Store (IsRebuildable declares sees db.now) tx.old.conn.now tx.new.conn.now)) }
 {
     for name in names {
         set_name(alloc, tx, db, design, body, name)?;
@@ -123,24 +132,27 @@ fn set_name<S: Alter>(
 ) -> Result<(), IndexFault>
     ensures same_reference { tx.new.conn.ghost_name ≡ tx.old.conn.ghost_name }
     ensures sets { SetsIndex S.Store db.now design.now name.now (declared_if (option_map (λ v. view v.now) body.entry) name.now) tx.old.conn.now tx.new.conn.now result }
+    ensures err { (declares : Declarations) (sees : Documents) → IfErr result (IsRefused (AreFit S.Store (IsRebuildable declares sees db.now) tx.old.conn.now tx.new.conn.now)) }
 {
     let fields = read_declared(alloc, body, name)?;
     set_index(alloc, tx, db, design, name, &fields)
 }
 
-/// Reads the fields of the index that a body declares under this name, where there is a body.
+/// Reads the fields of the index that a body declares under this name, where there is a body. No body
+/// has a name that is not UTF-8.
 fn read_declared(
     alloc: Global,
     body: Option<&Json>,
     name: &[u8],
 ) -> Result<Option<Vec<FieldPath>>, IndexFault>
-    ensures { IfOk result (λ fields. option_map (λ paths. paths.items) fields ≡ declared_if (option_map (λ v. view v.now) body.entry) name.now) }
+    ensures ok { IfOk result (λ fields. option_map (λ paths. paths.items) fields ≡ declared_if (option_map (λ v. view v.now) body.entry) name.now) }
+    ensures err { IfErr result (IsRefused ⊤) }
 {
     let Some(body) = body else {
         return Ok(None);
     };
     let Ok(text) = str::from_utf8(name) else {
-        return Err(IndexFault::Damaged);
+        return Ok(None);
     };
     match find_index(alloc, body, text)? {
         Some(index) => Ok(Some(read_index(alloc, index)?)),
@@ -150,7 +162,8 @@ fn read_declared(
 
 /// Reads the fields of an index.
 fn read_index(alloc: Global, index: &Json) -> Result<Vec<FieldPath>, IndexFault>
-    ensures { IfOk result (λ paths. paths.items ≡ fields_in (view index.now)) }
+    ensures ok { IfOk result (λ paths. paths.items ≡ fields_in (view index.now)) }
+    ensures err { IfErr result (IsRefused (is_index (view index.now) ≡ true)) }
 {
     match index.member("fields") {
         Some(Json::Array(fields)) => read_paths(alloc, fields),

@@ -2,19 +2,23 @@
 use Rattle.sqlstore.proofs.Common.{Bool, ChangesWhole, Database, Err, Ghosts, HasCleanDisk, Held, Holds, IsStanding, IsStore, IsTrue, KnownDatabase, Moves, None, Ok, OnErr, OnOk, Option, Result, Some, SqlStore, Stands, WasStore, ap, arith, contents_in, contents_of, false, is_honest, is_some, refl, state, subst, sym, ∥∥₁_elim, ∥∥₁_map, ◌∙◌, ◌≡◌}
 use Rattle.transactions.proofs.Committing.{on_err}
 use Rattle.transactions.specs.Endings.{Turns}
+use Rattle.sqlstore.proofs.Standing.{indexed_store}
+use Rattle.transactions.specs.Indexing.{IsIndexedStore}
+use Rattle.index.specs.Indexed.{IsIndexed}
 
 module _ {S : Type 0} (g : Ghosts S) (old new origin last : Held S) (turns : Turns g old new) {known : Option KnownDatabase} (s : IsStanding g old origin last known) where
   -- a transaction that was undone leaves a store standing
-  pub undone : (IsStore (state g old).now → (state g old).now.trees ≡ (state g last).now.trees → HasCleanDisk (state g new) → WasStore g origin → IsTrue (state g new).is_open
+  pub undone : (IsIndexedStore (state g old).now → (state g old).now.trees ≡ (state g last).now.trees → HasCleanDisk (state g new) → WasStore g origin → IsTrue (state g new).is_open
       → ((state g new).now ≡ (state g old).committed) × ((state g new).committed ≡ (state g old).committed)) → IsStanding g new origin last known
   undone left = record {
     idle = turns.idle;
     unlimited = turns.limit ∙ s.unlimited;
     held = λ clean is. ∥∥₁_map (s.held (turns.clean clean) is) (λ h.
         let same = λ (up : IsTrue (state g new).is_open). h.now (turns.was_open clean up) in
-        let settled = λ (up : IsTrue (state g new).is_open). left (subst IsStore (sym (same up)) h.store) (ap (λ (d : Database). d.trees) (same up)) clean is up in
+        let settled = λ (up : IsTrue (state g new).is_open). left (subst IsIndexedStore (sym (same up)) (indexed_store h)) (ap (λ (d : Database). d.trees) (same up)) clean is up in
         record {
           store = h.store;
+          indexed = h.indexed;
           now = λ up. (settled up).0 ∙ h.committed (turns.was_open clean up);
           committed = λ up. (settled up).1 ∙ h.committed (turns.was_open clean up);
         });
@@ -23,12 +27,12 @@ module _ {S : Type 0} (g : Ghosts S) (old new origin last : Held S) (turns : Tur
 
   -- One that was committed makes a store of one, and this of its rows. So the store stands on the new ones, and it is so of those that the last change left.
   module _ (done : HasCleanDisk (state g new) → IsTrue (state g old).is_open × IsTrue (state g new).is_open × ((state g new).now ≡ (state g new).committed)) (P : Database → Type 0)
-      (makes : HasCleanDisk (state g new) → HasCleanDisk (state g old) → WasStore g origin → IsStore (state g old).now → (state g old).now.trees ≡ (state g last).now.trees
-      → IsStore (state g new).now × P (state g old).now) where
-    made : HasCleanDisk (state g new) → WasStore g origin → Holds g old last → IsStore (state g new).now × P (state g last).now
+      (makes : HasCleanDisk (state g new) → HasCleanDisk (state g old) → WasStore g origin → IsIndexedStore (state g old).now → (state g old).now.trees ≡ (state g last).now.trees
+      → IsIndexedStore (state g new).now × P (state g old).now) where
+    made : HasCleanDisk (state g new) → WasStore g origin → Holds g old last → IsIndexedStore (state g new).now × P (state g last).now
     made clean is h =
         let same = h.now (done clean).0 in
-        let m = makes clean (turns.clean clean) is (subst IsStore (sym same) h.store) (ap (λ (d : Database). d.trees) same) in
+        let m = makes clean (turns.clean clean) is (subst IsIndexedStore (sym same) (indexed_store h)) (ap (λ (d : Database). d.trees) same) in
         (m.0, subst P same m.1)
 
     pub stands : (next : Held S) → next ≡ new → IsStanding g new origin next None
@@ -36,7 +40,8 @@ module _ {S : Type 0} (g : Ghosts S) (old new origin last : Held S) (turns : Tur
       idle = turns.idle;
       unlimited = turns.limit ∙ s.unlimited;
       held = λ clean is. ∥∥₁_map (s.held (turns.clean clean) is) (λ h. record {
-        store = subst (λ x. IsStore (state g x).now) (sym is_new) (made clean is h).0;
+        store = subst (λ x. IsStore (state g x).now) (sym is_new) (made clean is h).0.store;
+        indexed = subst (λ x. IsIndexed (state g x).now.trees) (sym is_new) (made clean is h).0.indexed;
         now = λ up. ap (λ x. (state g x).now) (sym is_new);
         committed = λ up. sym (done clean).2 ∙ ap (λ x. (state g x).now) (sym is_new);
       });

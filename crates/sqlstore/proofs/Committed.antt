@@ -1,5 +1,5 @@
 -- What a store makes of writes that are committed together.
-use Rattle.sqlstore.proofs.Common.{Addition, AreAcceptable, AreDue, CommitFault, Damaged, Database, Failed, Ghosts, HasCleanDisk, Held, IfThere, IsHeld, IsSound, IsStore, IsUnwritten, List, Memory, NumberValues, Some, StoreFault, Trees, WasStore, ap, arith, contents_in, database_of, length, numbers_in, state, subst, sym, writings_in, ℕ, ℤ, ∥∥₁_elim, ◌+◌, ◌<◌, ◌^◌, ◌≡◌}
+use Rattle.sqlstore.proofs.Common.{Addition, AreAcceptable, AreDue, CommitFault, Damaged, Database, Failed, Ghosts, HasCleanDisk, Held, IfThere, IsHeld, IsUnwritten, List, Memory, NumberValues, Some, StoreFault, Trees, WasStore, ap, arith, contents_in, database_of, length, numbers_in, state, subst, sym, writings_in, ℕ, ℤ, ∥∥₁_elim, ◌+◌, ◌<◌, ◌^◌, ◌≡◌}
 use Rattle.std.specs.FinMap as finite
 use Rattle.store.specs.Database as store
 use Rattle.sqlstore.specs.Causes.{IsJudged}
@@ -7,6 +7,8 @@ use Rattle.sqlstore.specs.Commits.{IsToldAs, IsUncommitted}
 use Rattle.transactions.specs.declared.commit_fault.CommitFault.TheVariants as write
 use Rattle.sqlstore.proofs.Answering.{IsThere}
 use Rattle.transactions.proofs.Committing.{length-writings_in}
+use Rattle.sqlstore.proofs.Standing.{indexed_store}
+use Rattle.transactions.specs.Indexing.{IsIndexedStore, IsSoundIndexed}
 
 -- the same writes are due in the same rows
 pub due_at : (all : List Addition) (name : List ℕ) (number : ℤ) (sequence : ℕ) (trees others : Trees) → trees ≡ others → AreDue all name number sequence others → AreDue all name number sequence trees
@@ -46,9 +48,9 @@ told old new sound honest (write.Store fault) said h same is = subst (IsUncommit
     read_as Damaged j = λ now. is now j
     read_as f j = absurd j
 
-module _ {S : Type 0} (g : Ghosts S) (Fits : Trees → Type 0) (old new origin last : Held S) where
+module _ {S : Type 0} (g : Ghosts S) (Fits : Database → Type 0) (old new origin last : Held S) where
   -- a connection that is honest is sound, where the rows that the last change left are fit
-  pub sound : (HasCleanDisk (state g new) → HasCleanDisk (state g old)) → IsHeld g old origin last → HasCleanDisk (state g new) → WasStore g origin → Fits (state g last).now.trees → ¬ ¬ IsSound g Fits old new
+  pub sound : (HasCleanDisk (state g new) → HasCleanDisk (state g old)) → IsHeld g old origin last → HasCleanDisk (state g new) → WasStore g origin → Fits (state g last).now → ¬ ¬ IsSoundIndexed g Fits old new
   sound was held clean is fits none =
       ∥∥₁_elim (held (was clean) is) (λ p q. absurd p)
-      (λ h. none (clean, λ up. (subst IsStore (sym (h.now up)) h.store, subst (λ (d : Database). Fits d.trees) (sym (h.now up)) fits)))
+      (λ h. none (clean, λ up. (subst IsIndexedStore (sym (h.now up)) (indexed_store h), subst Fits (sym (h.now up)) fits)))

@@ -90,39 +90,10 @@ module _ (trees : Trees) (name : List ℕ) (k : NumberValues) (lay : ∥ IsLaid 
       ∙ ap Some (page_kept (history_in (trees revs_tree) n) range (length_of t.row) (if_counted range.counted (listed_counts (listed_by_sequence trees n))) (map sequence_row (listed_by_sequence trees n)))
       ∙ ap (λ (v : NumberValues). Some (page_with_leaves (history_in (trees revs_tree) v.0) (winners_page range v.1 (listed_by_sequence trees v.0)))) t.values
 
--- the documents of the rows in an index
-indexed : (trees : Trees) (db : ℤ) (fields : List (List ℕ)) (rows : List Row) → AllByRecursion (λ r. is_in db r ≡ true) rows
-    → index_over fields (map (λ r. (id_of r, document_of (trees revs_tree) r)) rows) ≡ with_documents fields (history_in (trees revs_tree) db) (map listed_id (map listed_document rows)) []
-indexed trees db fields [] all = refl
-indexed trees db fields (r ∷ rows) all =
-    ap₂ (λ n es. put_in_index fields (id_of r) (queried_document (id_of r) (history_in (trees revs_tree) n (id_of r))) es) (same_int (db_of r) db all.0) (indexed trees db fields rows all.1)
-
-module _ (trees : Trees) (name : List ℕ) (k : NumberValues) (lay : ∥ IsLaid trees ∥₁) (t : IsThere numbers_in trees name k) where
   -- ---- by key
 
-  places_found : (fields : List (List ℕ)) → index_rows fields (database_of trees t.row) ≡ places_of fields (history_in (trees revs_tree) k.0) (map listed_id (listed_by_id trees k.0))
-  places_found fields =
-      let n = number_of t.row in
-      let own = all_sorted (λ r. is_in n r ≡ true) by_id (filter (is_in n) (trees docs_tree)) (passing (is_in n) (trees docs_tree)) in
-      ∥∥₁_elim lay (places_set _ _) (λ l. ap (λ es. map (λ e. e.0) (index_over fields es)) (documents_by_id trees t.row l) ∙ ap (map (λ e. e.0)) (indexed trees n fields (sort_by by_id (filter (is_in n) (trees docs_tree))) own))
-      ∙ ap (λ (v : NumberValues). places_of fields (history_in (trees revs_tree) v.0) (map listed_id (listed_by_id trees v.0))) t.values
-
-  key_page_by : (range : KeyRange) (design index : List ℕ) → option_map (λ (db : Database). page_of_keys range design index db) (finite.get (contents_in trees) name)
+  pub key_page_by : (range : KeyRange) (design index : List ℕ) → option_map (λ (db : Database). page_of_keys range design index db) (finite.get (contents_in trees) name)
       ≡ Some (option_map (λ fields. key_page range (index_rows fields (database_of trees t.row))) (index_fields_of design (history_in (trees revs_tree) k.0 design) index))
   key_page_by range design index =
       ap (option_map (λ (db : Database). page_of_keys range design index db)) t.database
-      ∙ ap (λ h. Some (option_map (λ fields. key_page range (index_rows fields (database_of trees t.row))) (index_fields_of design h index))) (history_of trees name k lay t design)
-
-  pub key_page_there : (range : KeyRange) (design index : List ℕ) (fields : List (List ℕ)) → Some fields ≡ index_fields_of design (history_in (trees revs_tree) k.0 design) index
-      → option_map (λ (db : Database). page_of_keys range design index db) (finite.get (contents_in trees) name)
-      ≡ Some (Some (key_page range (places_of fields (history_in (trees revs_tree) k.0) (map listed_id (listed_by_id trees k.0)))))
-  key_page_there range design index fields is =
-      key_page_by range design index
-      ∙ ap (λ o. Some (option_map (λ fields. key_page range (index_rows fields (database_of trees t.row))) o)) (sym is)
-      ∙ ap (λ rs. Some (Some (key_page range rs))) (places_found fields)
-
-  pub no_index_there : (range : KeyRange) (design index : List ℕ) → None ≡ index_fields_of design (history_in (trees revs_tree) k.0 design) index
-      → option_map (λ (db : Database). page_of_keys range design index db) (finite.get (contents_in trees) name) ≡ Some None
-  no_index_there range design index is =
-      key_page_by range design index
-      ∙ ap (λ o. Some (option_map (λ fields. key_page range (index_rows fields (database_of trees t.row))) o)) (sym is)
+      ∙ ap (λ h. Some (option_map (λ fields. key_page range (index_rows fields (database_of trees t.row))) (index_fields_of design h index))) (history_of design)

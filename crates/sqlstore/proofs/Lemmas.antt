@@ -10,7 +10,7 @@ pub use Rattle.sqlstore.proofs.Indexing.{one_indexed, places_listed}
 pub use Rattle.sqlstore.proofs.ListedRows.{all_done, below_again, counts_read, listed_intact, one_more, sequences_intact}
 pub use Rattle.sqlstore.proofs.Making.{HasLocal, IsAdded, IsRemoved, IsSecured, IsWritten, adds, advances, appends, clears, known_after, puts, secures}
 pub use Rattle.sqlstore.proofs.NameBytes.{name_is_text, names_intact, names_set, names_there}
-pub use Rattle.sqlstore.proofs.Standing.{dropped, finds, finds_rows, same_trees, still}
+pub use Rattle.sqlstore.proofs.Standing.{dropped, finds, finds_fit, finds_index_rows, finds_rows, found, indexed_store, same_trees, still}
 pub use Rattle.tables.proofs.Laid.{nothing}
 pub use Rattle.transactions.proofs.HistoryRows.{history_intact, history_made, history_set, outline_intact, outline_made}
 pub use Rattle.sqlstore.proofs.LeafRows.{hashes_intact, leaf_rows_lost, path_end_alone, revs_set}

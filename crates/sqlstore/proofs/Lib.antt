@@ -8,8 +8,8 @@ pub mod Committed
 pub mod ListedRows
 pub mod Enough
 pub mod FoundPages
+pub mod KeyEntries
 pub mod Afterwards
-pub mod Indexing
 pub mod LeafRows
 mod OpenedAgain
 pub mod Making

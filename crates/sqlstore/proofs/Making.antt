@@ -6,7 +6,12 @@ use Rattle.tables.proofs.LocalChanges.{written_store}
 use Rattle.tables.proofs.NewDatabases.{new_store}
 use Rattle.tables.proofs.Removed.{removed_store}
 use Rattle.tables.proofs.Secured.{secured_store}
+use Rattle.tables.proofs.Rests.{contents_same}
+use Rattle.index.specs.Indexed.{IsIndexed}
 use Rattle.transactions.proofs.Committing.{length-writings_in}
+use Rattle.transactions.proofs.IndexRests.{database_indexed, replaced_indexed}
+use Rattle.transactions.proofs.IndexSteps.{same_tables, store_still}
+use Rattle.transactions.specs.Indexing.{IsIndexedStore, IsRemoved as Removes}
 
 module _ (new : Database) (name : List ℕ) where
   -- a new database was put in
@@ -29,55 +34,60 @@ module _ (new : Database) (name : List ℕ) where
   abbrev pub IsWritten : List Addition → Database → Type 0
   IsWritten all old = option_map (λ db. insert (contents_in old.trees) name (with_all db (writings_in db all))) (get (contents_in old.trees) name) ≡ Some (contents_in new.trees)
 
-  module _ (old : Database) (last : Trees) (is : IsStore old) (same : old.trees ≡ last) where
+  module _ (old : Database) (last : Trees) (was : IsIndexedStore old) (same : old.trees ≡ last) where
     pub adds : (given text : List ℕ) → IsTrue (is_database_name name) → get (contents_in last) name ≡ None → given ≡ name → text ≡ canonical closed_security
-        → Changes dbs_tree (with_cells (old.trees dbs_tree) (database_cells given text (pos 0))) old new → IsStore new × IsAdded old
+        → Changes dbs_tree (with_cells (old.trees dbs_tree) (database_cells given text (pos 0))) old new → IsIndexedStore new × IsAdded old
     adds given text lawful none named spelled change =
         let free = ap (λ trees. get (contents_in trees) name) same ∙ none in
         let row = subst (λ t. Changes dbs_tree (with_cells (old.trees dbs_tree) (database_cells name t (pos 0))) old new) spelled
         (subst (λ n. Changes dbs_tree (with_cells (old.trees dbs_tree) (database_cells n text (pos 0))) old new) named change) in
-        new_store old new name is lawful free row
+        let made = new_store old new name was.store lawful free row in
+        (record { store = made.0; indexed = database_indexed _ old new was.store.schema_is row was.indexed }, made.1)
 
     module _ (number : ℤ) (has : HasNumber last name number) where
       there : HasNumber old.trees name number
       there = subst (λ trees. HasNumber trees name number) (sym same) has
 
       pub secures : (v : Value) (text : List ℕ) → IsTrue (is_security v) → IsLawful v → text ≡ canonical v → Changes dbs_tree (rows_with_security number text (old.trees dbs_tree)) old new
-          → IsStore new × IsSecured v old
+          → IsIndexedStore new × IsSecured v old
       secures v text security lawful spelled change =
           let row = subst (λ k. Changes dbs_tree (rows_with_security k (canonical v) (old.trees dbs_tree)) old new) (sym there.numbered)
           (subst (λ t. Changes dbs_tree (rows_with_security number t (old.trees dbs_tree)) old new) spelled change) in
-          secured_store old new name there.row v is there.first security lawful row
+          let made = secured_store old new name there.row v was.store there.first security lawful row in
+          (record { store = made.0; indexed = database_indexed _ old new was.store.schema_is row was.indexed }, made.1)
 
-      pub clears : Clears number old new → IsStore new × IsRemoved old
+      pub clears : Removes number old new → IsIndexedStore new × IsRemoved old
       clears change =
-          let c = subst (λ n. Clears n old new) (sym there.numbered) change in
-          removed_store old c.undocumented c.unwritten c.bare new name there.row is there.first c.documents c.revisions c.locals c.row
+          let c = subst (λ n. Clears n old change.cleared) (sym there.numbered) change.clears in
+          let made = removed_store old c.undocumented c.unwritten c.bare change.cleared name there.row was.store there.first c.documents c.revisions c.locals c.row in
+          let same = same_tables change.cleared new made.0.schema_is change.only in
+          (record { store = store_still change.cleared new made.0 change.only; indexed = change.indexed }, contents_same change.cleared.trees new.trees same ∙ made.1)
 
       pub puts : (id given text : List ℕ) (document : LocalDocument) → IsTrue (is_document_id id) → IsBody document.body → IsLawful document.body → document.number < 2 ^ 32 → given ≡ id → text ≡ canonical document.body
-          → Replaces number given document.number text old new → IsStore new × HasLocal id document old
+          → Replaces number given document.number text old new → IsIndexedStore new × HasLocal id document old
       puts id given text document named body lawful small same_id spelled change =
           let c = subst (λ k. Replaces k id document.number (canonical document.body) old new) (sym there.numbered)
           (subst (λ x. Replaces number x document.number (canonical document.body) old new) same_id (subst (λ x. Replaces number given document.number x old new) spelled change)) in
-          written_store old c.mid new name there.row id document is there.first named body lawful small c.out c.put
+          let made = written_store old c.mid new name there.row id document was.store there.first named body lawful small c.out c.put in
+          (record { store = made.0; indexed = replaced_indexed _ _ _ _ old new was.store.schema_is c was.indexed }, made.1)
 
     pub appends : (all : List Addition) (number : ℤ) (sequence : ℕ) → AreDue all name number sequence last
-        → ((due : AreDue all name number sequence old.trees) → HasWritten (writings_in (database_of old.trees due.row) all) name due.row old new) → IsStore new × IsWritten all old
+        → ((due : AreDue all name number sequence old.trees) → HasWritten (writings_in (database_of old.trees due.row) all) name due.row old new × IsIndexed new.trees) → IsIndexedStore new × IsWritten all old
     appends all number sequence due writes =
         let here = subst (AreDue all name number sequence) (sym same) due in
-        let w = writes here in
-        (w.store, ap (option_map (λ db. insert (contents_in old.trees) name (with_all db (writings_in db all)))) (database_there old.trees is.laid name here.row here.first) ∙ ap Some (sym w.contents))
+        let w = (writes here).0 in
+        (record { store = w.store; indexed = (writes here).1 }, ap (option_map (λ db. insert (contents_in old.trees) name (with_all db (writings_in db all)))) (database_there old.trees was.store.laid name here.row here.first) ∙ ap Some (sym w.contents))
 
     -- what was known of the database is known of it at its new sequence
     pub advances : (all : List Addition) (number : ℤ) (sequence : ℕ) → AreDue all name number sequence last
-        → ((due : AreDue all name number sequence old.trees) → HasWritten (writings_in (database_of old.trees due.row) all) name due.row old new)
+        → ((due : AreDue all name number sequence old.trees) → HasWritten (writings_in (database_of old.trees due.row) all) name due.row old new × IsIndexed new.trees)
         → (k : KnownDatabase) → k.name ≡ name → IsKnown last (Some k) → IsKnown new.trees (Some (at_sequence (sequence + length all) k))
     advances all number sequence due writes k named known =
         let here = subst (AreDue all name number sequence) (sym same) due in
-        let w = writes here in
-        let was : Some (found_in here.row) ≡ Some (known_values k) =
+        let w = (writes here).0 in
+        let known_row : Some (found_in here.row) ≡ Some (known_values k) =
         ap (option_map found_in) (sym here.first) ∙ ap₂ (λ (t : Trees) n. option_map found_in (slice_get (filter (is_named n) (t dbs_tree)) 0)) same (sym named) ∙ known in
-        let values : found_in here.row ≡ known_values k = inside _ _ was in
+        let values : found_in here.row ≡ known_values k = inside _ _ known_row in
         let count : length_of here.row + length (writings_in (database_of old.trees here.row) all) ≡ sequence + length all = ap₂ ◌+◌ here.counted (length-writings_in (database_of old.trees here.row) all) in
         ap (λ n. option_map found_in (slice_get (filter (is_named n) (new.trees dbs_tree)) 0)) named ∙ ap (option_map found_in) w.row
         ∙ (λ i. Some ((values i).0, (values i).1, count i))

@@ -1,6 +1,13 @@
 -- What calls of a store leave, one after the other.
 use Rattle.sqlstore.proofs.Common.{Asks, Database, Err, Error, Finds, Ghosts, HasCleanDisk, Held, Holds, IfErr, IfOk, IsHeld, IsStanding, IsStore, IsTrue, KnownDatabase, List, None, Ok, OnlyLooks, Option, Reads, Result, Row, SqlStore, StoreFault, Trees, Trees-set, WasStore, ap, inl, inr, rows_set, schema, state, subst, sym, ∥∥₁_elim, ∥∥₁_map, ◌∙◌, ◌≡◌, ◌≤◌, ◌⊎◌}
+use Rattle.index.specs.Layout.{HasIndexRows}
+use Rattle.transactions.proofs.IndexSteps.{rows_of}
+use Rattle.transactions.specs.Indexing.{IsIndexedStore}
 use Rattle.sqlstore.specs.Causes.{IsJudged}
+
+-- the tables as the last change left them, with the rows of indexes
+pub indexed_store : {S : Type 0} {g : Ghosts S} {conn last : Held S} → Holds g conn last → IsIndexedStore (state g last).now
+indexed_store h = record { store = h.store; indexed = h.indexed }
 
 module _ {S : Type 0} (g : Ghosts S) (old new origin last : Held S) where
   -- the rows are as they were, whichever way a query ended
@@ -15,6 +22,7 @@ module _ {S : Type 0} (g : Ghosts S) (old new origin last : Held S) where
   holds_on : Asks (state g old) (state g new) → (old.schema ≡ schema → OnlyLooks (state g old) (state g new)) → HasCleanDisk (state g new) → Holds g old last → Holds g new last
   holds_on asks looks clean h = record {
     store = h.store;
+    indexed = h.indexed;
     now = λ up. let was = asks.was_open clean up in same_rows h was ((looks (same_schema h was)).rows clean up);
     committed = λ up. let was = asks.was_open clean up in ((looks (same_schema h was)).kept clean).committed up ∙ h.committed was;
   }
@@ -29,15 +37,15 @@ module _ {S : Type 0} (g : Ghosts S) (old new origin last : Held S) where
     known_so = λ clean is. s.known_so (reads.asks.clean clean) is;
   }
 
-  -- what a query answers is so in the rows that the last change left
-  pub found : {X E F : Type 0} {Is : Trees → X → Type 0} (P : Trees → X → Type 0) → ((trees : Trees) (x : X) → IsProp (P trees x)) → ((trees : Trees) (x : X) → Is trees x → P trees x)
-      → (answer : Result X E) (r : Result X F) → IfOk r (λ x. answer ≡ Ok x) → Reads g IsStore old new Is answer → IsHeld g old origin last → HasCleanDisk (state g new) → WasStore g origin
+  -- what a query answers is so in the rows that the last change left, which are fit for it
+  pub found : {X E F : Type 0} {IsFit : Database → Type 0} (fit : (d : Database) → IsIndexedStore d → IsFit d) {Is : Trees → X → Type 0} (P : Trees → X → Type 0) → ((trees : Trees) (x : X) → IsProp (P trees x)) → ((trees : Trees) (x : X) → Is trees x → P trees x)
+      → (answer : Result X E) (r : Result X F) → IfOk r (λ x. answer ≡ Ok x) → Reads g IsFit old new Is answer → IsHeld g old origin last → HasCleanDisk (state g new) → WasStore g origin
       → IfOk r (P (state g last).now.trees)
-  found P prop so answer (Err e) is reads held clean was = tt
-  found {Is = Is} P prop so answer (Ok x) is reads held clean was =
-      let read = subst (Reads g IsStore old new Is) is reads in
+  found fit P prop so answer (Err e) is reads held clean was = tt
+  found {IsFit = IsFit} fit {Is = Is} P prop so answer (Ok x) is reads held clean was =
+      let read = subst (Reads g IsFit old new Is) is reads in
       let up = read.served clean in
-      ∥∥₁_elim (held (read.asks.clean clean) was) (prop _ x) (λ h. subst (λ (d : Database). P d.trees x) (h.now up) (so _ x (read.found clean (subst IsStore (sym (h.now up)) h.store))))
+      ∥∥₁_elim (held (read.asks.clean clean) was) (prop _ x) (λ h. subst (λ (d : Database). P d.trees x) (h.now up) (so _ x (read.found clean (fit _ (subst IsIndexedStore (sym (h.now up)) (indexed_store h))))))
 
   -- an open connection has the rows that the last change left
   pub same_trees : IsHeld g old origin last → HasCleanDisk (state g old) → WasStore g origin → IsTrue (state g old).is_open → (state g old).now.trees ≡ (state g last).now.trees
@@ -49,16 +57,26 @@ dropped g s = record { idle = s.idle; unlimited = s.unlimited; held = s.held; kn
 
 -- what a statement reads and its answer told are what a store finds
 module _ {S : Type 0} (g : Ghosts S) (old new : SqlStore S g) {X : Type 0} where
-  pub finds : {Is : Trees → X → Type 0} (P : Trees → X → Type 0) → ((trees : Trees) (x : X) → IsProp (P trees x)) → ((trees : Trees) (x : X) → Is trees x → P trees x) → (answer : Result X Error) (r : Result X StoreFault)
+  pub finds_fit : {IsFit : Database → Type 0} (fit : (d : Database) → IsIndexedStore d → IsFit d) {Is : Trees → X → Type 0} (P : Trees → X → Type 0) → ((trees : Trees) (x : X) → IsProp (P trees x)) → ((trees : Trees) (x : X) → Is trees x → P trees x) → (answer : Result X Error) (r : Result X StoreFault)
       → new.origin.value ≡ old.origin.value → new.last.value ≡ old.last.value → old.faults ≤ new.faults → IfOk r (λ x. answer ≡ Ok x) → IfErr r (IsJudged old.faults new.faults)
-      → Reads g IsStore old.conn new.conn Is answer → Finds g P old new r
-  finds P prop so answer r origin last counted told judged reads = record {
-    found = λ honest. found g old.conn new.conn old.origin.value old.last.value P prop so answer r told reads old.standing.held honest.0 (subst (WasStore g) origin honest.1);
+      → Reads g IsFit old.conn new.conn Is answer → Finds g P old new r
+  finds_fit fit P prop so answer r origin last counted told judged reads = record {
+    found = λ honest. found g old.conn new.conn old.origin.value old.last.value fit P prop so answer r told reads old.standing.held honest.0 (subst (WasStore g) origin honest.1);
     judged = judged;
     stands = record { origin = origin; last = last; counted = counted; clean = reads.asks.clean };
   }
 
+  pub finds : {Is : Trees → X → Type 0} (P : Trees → X → Type 0) → ((trees : Trees) (x : X) → IsProp (P trees x)) → ((trees : Trees) (x : X) → Is trees x → P trees x) → (answer : Result X Error) (r : Result X StoreFault)
+      → new.origin.value ≡ old.origin.value → new.last.value ≡ old.last.value → old.faults ≤ new.faults → IfOk r (λ x. answer ≡ Ok x) → IfErr r (IsJudged old.faults new.faults)
+      → Reads g IsStore old.conn new.conn Is answer → Finds g P old new r
+  finds = finds_fit (λ d it. it.store)
+
   -- the same of rows that are those that the tables say
   pub finds_rows : {items : X → List Row} {said : Trees → List Row} → (answer : Result X Error) (r : Result X StoreFault) → new.origin.value ≡ old.origin.value → new.last.value ≡ old.last.value → old.faults ≤ new.faults
       → IfOk r (λ x. answer ≡ Ok x) → IfErr r (IsJudged old.faults new.faults) → Reads g IsStore old.conn new.conn (λ trees x. items x ≡ said trees) answer → Finds g (λ trees x. items x ≡ said trees) old new r
-  finds_rows {items} {said} = finds (λ trees x. items x ≡ said trees) (λ _ _. rows_set _ _) (λ _ _ is. is)
+  finds_rows {items} {said} = finds_fit (λ d it. it.store) (λ trees x. items x ≡ said trees) (λ _ _. rows_set _ _) (λ _ _ is. is)
+
+  -- the same of the rows of indexes
+  pub finds_index_rows : {items : X → List Row} {said : Trees → List Row} → (answer : Result X Error) (r : Result X StoreFault) → new.origin.value ≡ old.origin.value → new.last.value ≡ old.last.value → old.faults ≤ new.faults
+      → IfOk r (λ x. answer ≡ Ok x) → IfErr r (IsJudged old.faults new.faults) → Reads g HasIndexRows old.conn new.conn (λ trees x. items x ≡ said trees) answer → Finds g (λ trees x. items x ≡ said trees) old new r
+  finds_index_rows {items} {said} = finds_fit rows_of (λ trees x. items x ≡ said trees) (λ _ _. rows_set _ _) (λ _ _ is. is)

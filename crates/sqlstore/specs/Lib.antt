@@ -4,3 +4,4 @@ pub mod Standing
 pub mod Model
 pub mod Commits
 pub mod Listing
+pub mod ByKey

@@ -67,13 +67,3 @@ with_leaves history r = record r { revs = leaves (history r.id) }
 -- a page of such rows
 abbrev pub page_with_leaves : (List ℕ → HistoryContent) → SequencePage → SequencePage
 page_with_leaves history p = record p { rows = map (with_leaves history) p.rows }
-
--- an index of these fields, and the documents of these ids put in, the last first
-abbrev pub with_documents : List (List ℕ) → (List ℕ → HistoryContent) → List (List ℕ) → List (IndexPlace × Value) → List (IndexPlace × Value)
-with_documents fields history [] among = among
-with_documents fields history (id ∷ ids) among =
-    put_in_index fields id (queried_document id (history id)) (with_documents fields history ids among)
-
--- the rows of that index
-abbrev pub places_of : List (List ℕ) → (List ℕ → HistoryContent) → List (List ℕ) → List IndexPlace
-places_of fields history ids = map (λ e. e.0) (with_documents fields history ids [])

@@ -29,7 +29,7 @@ module _ {S : Type 0} (g : Ghosts S) where
   abbrev pub is_clean : SqlStore S g → Type 0
   is_clean s = HasCleanDisk (state g s.conn)
 
-  -- and the tables were laid out when the store was opened
+  -- and the tables were laid out, with sound rows of indexes, when the store was opened
   abbrev pub is_honest : SqlStore S g → Type 0
   is_honest s = is_clean s × WasStore g s.origin.value
 

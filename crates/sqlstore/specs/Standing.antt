@@ -1,5 +1,5 @@
 -- What a store keeps true of its connection: as the store opened it, as the last change left it, and as it is.
--- This server's own: facts hold where the disk returned what was written and the tables were laid out when they were opened.
+-- This server's own: facts hold where the disk returned what was written, and where the tables were laid out and the rows of indexes sound when they were opened.
 use Rattle.std.specs.Prelude.{◌≡◌, false, filter, None, Option, option_map, slice_get, Some, IsTrue, ⊤}
 use Rattle.sqlite_trees.specs.declared.store.Store.{Ghosts}
 use Rattle.sqlite.specs.Held.{Held, state}
@@ -8,6 +8,8 @@ use Rattle.sqlite_trees.specs.Tree.{Trees}
 use Rattle.tables.specs.Layout.{IsStore}
 use Rattle.tables.specs.Rows.{is_named}
 use Rattle.tables.specs.Schema.{dbs_tree}
+use Rattle.index.specs.Indexed.{IsIndexed}
+use Rattle.transactions.specs.Indexing.{IsIndexedStore}
 use Rattle.sqlstore.specs.Reading.{found_in, known_values}
 use Rattle.sqlstore.specs.declared.known_database.KnownDatabase.{KnownDatabase}
 
@@ -17,15 +19,17 @@ IsKnown trees None = ⊤
 IsKnown trees (Some k) = option_map found_in (slice_get (filter (is_named k.name) (trees dbs_tree)) 0) ≡ Some (known_values k)
 
 module _ {S : Type 0} (g : Ghosts S) where
-  -- the tables are laid out as the last change left them, and an open connection has those rows, with nothing that waits for a commit
+  -- The tables are laid out as the last change left them, and the rows of indexes are those of what is stored. An open connection has
+  -- those rows, with nothing that waits for a commit.
   pub record Holds (conn last : Held S) : Type 0 where
     pub store : IsStore (state g last).now
+    pub indexed : IsIndexed (state g last).now.trees
     pub now : IsTrue (state g conn).is_open → (state g conn).now ≡ (state g last).now
     pub committed : IsTrue (state g conn).is_open → (state g conn).committed ≡ (state g last).now
 
-  -- the tables were laid out when the store was opened
+  -- the tables were laid out, and the rows of indexes were those of what was stored, when the store was opened
   abbrev pub WasStore : Held S → Type 0
-  WasStore origin = ∥ IsStore (state g origin).now ∥₁
+  WasStore origin = ∥ IsIndexedStore (state g origin).now ∥₁
 
   -- where the connection is honest, it is so
   abbrev pub IsHeld : Held S → Held S → Held S → Type 0

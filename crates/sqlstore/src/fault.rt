@@ -2,8 +2,10 @@
 
 ghost use Rattle.std.specs.Prelude.{◌≡◌, ◌≤◌, IfErr, IfOk, Ok};
 ghost use Rattle.sqlstore.specs.Causes.{IsJudged};
-ghost use Rattle.sqlstore.specs.Commits.{IsToldAs};
+ghost use Rattle.index.specs.Calls.{IsRefused};
+ghost use Rattle.sqlstore.specs.Commits.{IsToldAs, IsUncommitted};
 
+use index::IndexFault;
 use sqlite::{Error, ErrorCode};
 use store::StoreFault;
 use transactions::CommitFault;
@@ -40,5 +42,23 @@ pub(crate) fn judge_write(faults: &mut u64, fault: CommitFault) -> StoreFault
     match fault {
         CommitFault::Sqlite(error) => judge(faults, error),
         CommitFault::Store(fault) => fault,
+    }
+}
+
+/// Returns what was read of an index, or tells what fault of a store it is that it was not, and counts an
+/// error of SQLite, but for want of memory.
+pub(crate) fn judge_index<T>(
+    faults: &mut u64,
+    answer: Result<T, IndexFault>,
+) -> Result<T, StoreFault>
+    ensures ok { IfOk result (λ told. answer ≡ Ok told) }
+    ensures told { (intact : Type 0) → IfErr answer (IsRefused intact) → IfErr result (IsUncommitted faults.old faults.new intact) }
+    ensures counted { faults.old ≤ faults.new }
+{
+    match answer {
+        Ok(told) => Ok(told),
+        Err(IndexFault::Sqlite(error)) => Err(judge(faults, error)),
+        Err(IndexFault::Memory) => Err(StoreFault::Memory),
+        Err(IndexFault::Damaged) => Err(StoreFault::Damaged),
     }
 }

@@ -4,6 +4,7 @@
 mod fault;
 mod in_memory;
 mod known_database;
+pub mod laws;
 mod listings;
 mod names;
 mod open_fault;

@@ -4,7 +4,7 @@ ghost use Rattle.std.specs.Prelude.{◌≡◌, ◌≤◌, ◌<◌, ◌^◌, All,
 ghost use Rattle.std.specs.List.{AllByRecursion, count_by};
 ghost use Rattle.store.specs.Pages.{id_page, if_counted};
 ghost use Rattle.store.specs.Paging.{IsBounded, IsCounted, id_page_of, sequence_page_of, sequence_row_of, sequence_rows};
-ghost use Rattle.tables.specs.Listings.{IsListedDocument, listed_id, listed_mark, listed_sequence, listed_winner, live_row, live_rows, sequence_row};
+ghost use Rattle.tables.specs.Listings.{IsListedDocument, listed_mark, listed_sequence, listed_winner, live_row, live_rows, sequence_row};
 ghost use Rattle.sqlstore.specs.Listing.{IsSequenceRow, row_counts, winners_page};
 ghost use Rattle.transactions.specs.Reading.{IsLost, IsRead};
 
@@ -13,7 +13,6 @@ use std::alloc::Global;
 use store::paging::{cut_by_id, cut_by_sequence};
 use store::{DocumentCounts, IdRange, IdRow, PageById, PageBySeq, SeqRange, SeqRow, StoreFault};
 use tables::{ListedDocument, RowFault, read_listed_document};
-use tree::DocId;
 
 /// Reads the document of a row.
 fn read_row(alloc: Global, row: &Row) -> Result<ListedDocument, StoreFault>
@@ -71,17 +70,6 @@ pub(crate) fn read_page_by_id(
 {
     let live = read_live_rows(alloc, rows)?;
     Ok(cut_by_id(live, range)?)
-}
-
-/// Reads the ids of the rows.
-pub(crate) fn read_ids(alloc: Global, rows: &[Row]) -> Result<Vec<DocId>, StoreFault>
-    ensures { IsRead (λ ids. ids.items) (Some (map listed_id rows.now)) (AllByRecursion IsListedDocument rows.now) result }
-{
-    let mut ids = Vec::with_capacity(alloc, rows.len())?;
-    for row in rows {
-        ids.push(read_row(alloc, row)?.id)?;
-    }
-    Ok(ids)
 }
 
 // ---- by sequence

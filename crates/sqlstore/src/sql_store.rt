@@ -1,5 +1,6 @@
 ghost use Rattle.sqlstore.specs.Standing.{IsStanding};
 
+mod by_key;
 mod calls;
 mod changing;
 mod committing;
@@ -58,6 +59,7 @@ impl<S: Alter + Drop> SqlStore<S> {
     ghost use Rattle.tables.specs.Presence.{has_all, has_any, is_first};
     ghost use Rattle.tables.specs.Rows.{contents_in};
     ghost use Rattle.tables.specs.Schema.{meta_tree, no_schema, schema};
+    ghost use Rattle.transactions.specs.Indexing.{IsIndexedStore};
     ghost use Rattle.sqlstore.specs.Model.{contents_of, fault_count, is_clean, is_honest};
 
     /// Opens the store that the tables of a connection hold, and makes the tables where there is none of them.
@@ -68,8 +70,8 @@ impl<S: Alter + Drop> SqlStore<S> {
         alloc: Global,
         mut conn: Connection<S>,
     ) -> Result<SqlStore<S>, (OpenFault, Connection<S>)>
-        // Where there was a store it is opened as it was, and where there was nothing it has no database.
-        ensures found { IfOk result (λ s. is_clean S.Store s → IsStore (state S.Store conn).now → is_honest S.Store s × (contents_of S.Store s ≡ contents_in (state S.Store conn).now.trees)) }
+        // Where there was a store, with the rows of its indexes, it is opened as it was; and where there was nothing it has no database.
+        ensures found { IfOk result (λ s. is_clean S.Store s → IsIndexedStore (state S.Store conn).now → is_honest S.Store s × (contents_of S.Store s ≡ contents_in (state S.Store conn).now.trees)) }
         ensures made { IfOk result (λ s. is_clean S.Store s → conn.schema ≡ no_schema → is_honest S.Store s × (contents_of S.Store s ≡ empty)) }
         ensures no_faults { IfOk result (λ s. fault_count S.Store s ≡ 0) }
         ensures clean { IfOk result (λ s. is_clean S.Store s → HasCleanDisk (state S.Store conn)) }
@@ -109,11 +111,11 @@ impl<S: Alter + Drop> SqlStore<S> {
     }
 
     /// Closes the store, and gives back its connection, which is in no transaction and has the rows that
-    /// hold the contents, laid out as a store's.
+    /// hold the contents, laid out as a store's; the rows of its indexes are those of what it holds.
     pub fn close(self) -> Connection<S>
         ensures idle { result.in_transaction ≡ false }
         ensures contents { is_honest S.Store self → IsTrue (state S.Store result).is_open → contents_in (state S.Store result).now.trees ≡ contents_of S.Store self }
-        ensures laid { is_honest S.Store self → IsTrue (state S.Store result).is_open → ∥ IsStore (state S.Store result).now ∥₁ }
+        ensures laid { is_honest S.Store self → IsTrue (state S.Store result).is_open → ∥ IsIndexedStore (state S.Store result).now ∥₁ }
         ensures clean { HasCleanDisk (state S.Store result) → is_clean S.Store self }
     {
         let SqlStore {
@@ -137,7 +139,7 @@ impl<S: Alter + Drop> SqlStore<S> {
         // Where it is refused the tables are those of a store nevertheless, with the same contents.
         ensures ours { is_honest S.Store self → IfErr result (λ e. HasCleanDisk (state S.Store e.1) → IsTrue (state S.Store e.1).is_open → e.0 ≢ OpenFault.NotOurs) }
         ensures refused { is_honest S.Store self → IfErr result (λ e. HasCleanDisk (state S.Store e.1) → IsTrue (state S.Store e.1).is_open
-            → ∥ IsStore (state S.Store e.1).now ∥₁ × (contents_in (state S.Store e.1).now.trees ≡ contents_of S.Store self)) }
+            → ∥ IsIndexedStore (state S.Store e.1).now ∥₁ × (contents_in (state S.Store e.1).now.trees ≡ contents_of S.Store self)) }
     {
         let alloc = self.alloc;
         SqlStore::open(alloc, self.close())

@@ -134,6 +134,7 @@ module _ (a e : sqlite.Database) (name : List ℕ) (r : Row) (w : DocumentWrite)
     first = k.first;
     follows = λ p up. known_still x p (k.follows p up);
     body = k.body;
+    spelled = k.spelled;
   }
 
   new_revision : (x : Revision × Entry) → IsPathEntry w.write.path x → (k : ℤ) → IsRevisionRow u (revision_row k db w.id x.0 x.1)
@@ -146,6 +147,7 @@ module _ (a e : sqlite.Database) (name : List ℕ) (r : Row) (w : DocumentWrite)
         first = subst (λ (y : Entry). (y.parent ≡ None) ↔ (x.0.number ≡ 1)) (sym again) own.first;
         follows = λ p up. path_known p (own.follows p (sym (ap (λ (y : Entry). y.parent) again) ∙ up));
         body = λ held up. (own.kept held (sym (ap (λ (y : Entry). y.held) again) ∙ up)).body;
+        spelled = λ held up. (own.kept held (sym (ap (λ (y : Entry). y.held) again) ∙ up)).lawful;
       }
 
   revisions : AllByRecursion (IsRevisionRow u) (u revs_tree)

@@ -64,6 +64,7 @@ module _ (old new : Trees) where
     first = k.first;
     follows = λ p up. ap (λ (h : HistoryContent). is_known h p) history ∙ k.follows p up;
     body = k.body;
+    spelled = k.spelled;
   }
 
   pub local_kept : (r : Row) → length_at (new dbs_tree) (db_of r) ≡ length_at (old dbs_tree) (db_of r) → IsLocalRow old r → IsLocalRow new r

@@ -9,7 +9,7 @@ use Rattle.tables.specs.Schema as tables
 
 -- ---- two orders that agree on the rows sort them alike
 
-all_inserted : (P : Row → Type 0) (cmp : Row → Row → Ordering) (new : Row) (rows : List Row) → P new → AllByRecursion P rows → AllByRecursion P (insert_sorted cmp new rows)
+pub all_inserted : (P : Row → Type 0) (cmp : Row → Row → Ordering) (new : Row) (rows : List Row) → P new → AllByRecursion P rows → AllByRecursion P (insert_sorted cmp new rows)
 all_inserted P cmp new [] own all = (own, tt)
 all_inserted P cmp new (r ∷ rows) own all =
     elim (is_gt (cmp new r)) as (λ b. AllByRecursion P (cond b (r ∷ insert_sorted cmp new rows) (new ∷ r ∷ rows))) [ true ↦ (all.0, all_inserted P cmp new rows own all.1) | false ↦ (own, all) ]
@@ -36,7 +36,7 @@ both_in P R S weaker (r ∷ rows) all up = (all_both P (R r) (S r) (λ x own ove
 -- ---- the rows of a kind, of sorted rows, are those of a kind, sorted
 
 module _ (cmp : Row → Row → Ordering) (total : IsTotalOrder cmp) where
-  abbrev AtMost : Row → Row → Type 0
+  abbrev pub AtMost : Row → Row → Type 0
   AtMost a b = is_gt (cmp a b) ≡ false
 
   risen : (new : Row) (rows : List Row) → IsAscending AtMost rows → IsAscending AtMost (insert_sorted cmp new rows)
@@ -48,7 +48,7 @@ module _ (cmp : Row → Row → Ordering) (total : IsTotalOrder cmp) where
       go Less e more = ((ap is_gt e, all_weaker (AtMost r) (AtMost new) (λ z. upto total new r z (ap is_gt e)) rows up.0), up)
       go Equal e more = ((ap is_gt e, all_weaker (AtMost r) (AtMost new) (λ z. upto total new r z (ap is_gt e)) rows up.0), up)
 
-  rises : (rows : List Row) → IsAscending AtMost (sort_by cmp rows)
+  pub rises : (rows : List Row) → IsAscending AtMost (sort_by cmp rows)
   rises [] = tt
   rises (r ∷ rows) = risen r (sort_by cmp rows) (rises rows)
 

@@ -4,6 +4,7 @@ use Rattle.std.specs.Prelude.{◌≡◌, ◌≢◌, ◌≤◌, ◌<◌, ◌^◌,
 use Rattle.std.specs.List.{AllByRecursion, list_any}
 use Rattle.std.specs.Ordering.{int_eq}
 use Rattle.couch_json.specs.Canonical.{canonical}
+use Rattle.couch_json.specs.Lawful as json
 use Rattle.policy.specs.Security.{is_security}
 use Rattle.tree.specs.DocumentId.{is_document_id}
 use Rattle.tree.specs.History.{is_known, held_of, is_deleted, winner}
@@ -77,6 +78,7 @@ pub record IsRevisionRow (trees : Trees) (r : Row) : Type 0 where
   pub first : ((entry_of r).parent ≡ None) ↔ ((revision_of r).number ≡ 1)
   pub follows : (p : Revision) → (entry_of r).parent ≡ Some p → IsTrue (is_known (history_in (trees revs_tree) (db_of r) (id_of r)) p)
   pub body : (held : Held) → (entry_of r).held ≡ Some held → IsBody held.body
+  pub spelled : (held : Held) → (entry_of r).held ≡ Some held → json.IsLawful held.body
 
 -- the row of a local document of a known database
 pub record IsLocalRow (trees : Trees) (r : Row) : Type 0 where

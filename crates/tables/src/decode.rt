@@ -112,7 +112,8 @@ fn revision_at(row: &Row, at: usize) -> Result<Rev, RowFault>
     }
 }
 
-fn id_at(alloc: Global, row: &Row, at: usize) -> Result<DocId, RowFault>
+/// Reads the id of a document in a cell.
+pub fn id_at(alloc: Global, row: &Row, at: usize) -> Result<DocId, RowFault>
     ensures ok { IfOk result (λ id. id ≡ bytes (column row.now at)) }
     ensures damaged { result ≡ Err RowFault.Damaged → at < length row.now → ¬ (SpellsId (column row.now at)) }
 {

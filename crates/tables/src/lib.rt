@@ -17,7 +17,7 @@ pub mod statement;
 
 pub use create::create_tables;
 pub use decode::{
-    FoundDatabase, FoundNode, FoundRevision, ListedDocument, RowFault, json_at, read_database,
-    read_hash, read_listed_document, read_local, read_node, read_revision, whole_at,
+    FoundDatabase, FoundNode, FoundRevision, ListedDocument, RowFault, id_at, json_at,
+    read_database, read_hash, read_listed_document, read_local, read_node, read_revision, whole_at,
 };
 pub use meta::{FoundTables, is_first_version, tables_in};

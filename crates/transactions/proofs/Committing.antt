@@ -13,6 +13,8 @@ use Rattle.tables.proofs.DocumentWriteNews.{storable_addition}
 use Rattle.tables.proofs.DocumentWrites.{acceptable_in_turn, one_more_written}
 use Rattle.tables.proofs.Lookups.{database_there}
 use Rattle.transactions.specs.Following.{HasPlaceFor, Serves}
+use Rattle.transactions.specs.Indexing.{IsFollowed, MayBeWritten, write_in}
+use Rattle.transactions.proofs.IndexSteps.{written_still}
 use Rattle.transactions.specs.declared.commit_fault.CommitFault.TheVariants as write
 use Rattle.transactions.proofs.Following.{serves_itself}
 use Rattle.transactions.proofs.HeldHistories.{known}
@@ -109,11 +111,11 @@ one_more all before more a name r old mid new cut acceptable room h lawful write
     subst (λ vs. HasWritten vs name r old new) (sym (writings_in-append db before (a ∷ [])))
     (one_more_written ws w name r old mid new h turn storable (omega (arith, count, size, length-append before (a ∷ more), room)) done)
 
-pub further : (ws : List Write) (i : ℕ) (w : Write) (name : List ℕ) (db : ℤ) (sequence : ℕ) (next : ℤ) (old mid new : Database) → i < length ws → w ≡ get_or ws i w → sequence + length ws < 2 ^ 63 → next ≡ pos (sequence + i + 1)
+pub further : (ws : List Write) (i : ℕ) (w : Write) (name : List ℕ) (db : ℤ) (sequence : ℕ) (old mid new : Database) → i < length ws → w ≡ get_or ws i w → sequence + length ws < 2 ^ 63
     → (due : AreDue (additions ws) name db sequence old.trees) → HasWritten (writings_in (database_of old.trees due.row) (additions (take i ws))) name due.row old mid → IsLawfulAddition (addition_of w)
-    → ((r : Row) → HasPlaceFor (history_in (mid.trees revs_tree) (number_of r) (addition_of w).id) (addition_of w) → db ≡ number_of r → next ≡ pos (length_of r + 1) → IsWrite r (written_in (history_in (mid.trees revs_tree) (number_of r) (addition_of w).id) (addition_of w)) mid new)
+    → IsWrite (row_after due.row (length (additions (take i ws)))) (written_in (history_in (mid.trees revs_tree) (number_of due.row) (addition_of w).id) (addition_of w)) mid new
     → HasWritten (writings_in (database_of old.trees due.row) (additions (take (i + 1) ws))) name due.row old new
-further ws i w name db sequence next old mid new lt is room at due h lawful writes =
+further ws i w name db sequence old mid new lt is room due h lawful write =
     let r = due.row in
     let a = addition_of w in
     let before = additions (take i ws) in
@@ -121,12 +123,43 @@ further ws i w name db sequence next old mid new lt is room at due h lawful writ
     let cut : ws ≡ take i ws ++ w ∷ drop (suc i) ws = sym (take-append-drop i ws) ∙ ap (λ l. take i ws ++ l) (drop-cons ws i w lt ∙ ap (λ x. x ∷ drop (suc i) ws) (sym is)) in
     let all : additions ws ≡ before ++ a ∷ more = ap additions cut ∙ map-append addition_of (take i ws) (w ∷ drop (suc i) ws) in
     let grown : additions (take (i + 1) ws) ≡ before ++ a ∷ [] = ap additions (take_more ws i w lt ∙ ap (λ x. take i ws ++ x ∷ []) (sym is)) ∙ map-append addition_of (take i ws) (w ∷ []) in
-    let count : length before ≡ i = omega (arith, length-map (take i ws) addition_of, length-take i ws, lt) in
     let size : length (additions ws) ≡ length ws = length-map ws addition_of in
-    let number : sequence + i + 1 ≡ length_of r + length before + 1 = omega (arith, due.counted, count) in
     subst (λ all. HasWritten (writings_in (database_of old.trees r) all) name r old new) (sym grown)
-    (one_more (additions ws) before more a name r old mid new all due.acceptable (omega (arith, due.counted, size, room)) h lawful
-    (λ place. writes (row_after r (length before)) place (sym due.numbered) (at ∙ ap pos number)))
+    (one_more (additions ws) before more a name r old mid new all due.acceptable (omega (arith, due.counted, size, room)) h lawful (λ place. write))
+
+-- the write may be done when its turn comes
+pub may_in_turn : (ws : List Write) (i : ℕ) (w : Write) (name : List ℕ) (db : ℤ) (sequence : ℕ) (next : ℤ) (old mid : Database) → i < length ws → w ≡ get_or ws i w → sequence + length ws < 2 ^ 63 → next ≡ pos (sequence + i + 1)
+    → (due : AreDue (additions ws) name db sequence old.trees) → HasWritten (writings_in (database_of old.trees due.row) (additions (take i ws))) name due.row old mid → MayBeWritten db next (addition_of w) mid
+may_in_turn ws i w name db sequence next old mid lt is room at due h =
+    let r = due.row in
+    let a = addition_of w in
+    let before = additions (take i ws) in
+    let more = additions (drop (suc i) ws) in
+    let cut : ws ≡ take i ws ++ w ∷ drop (suc i) ws = sym (take-append-drop i ws) ∙ ap (λ l. take i ws ++ l) (drop-cons ws i w lt ∙ ap (λ x. x ∷ drop (suc i) ws) (sym is)) in
+    let all : additions ws ≡ before ++ a ∷ more = ap additions cut ∙ map-append addition_of (take i ws) (w ∷ drop (suc i) ws) in
+    let count : length before ≡ i = omega (arith, length-map (take i ws) addition_of, length-take i ws, lt) in
+    let number : sequence + i + 1 ≡ length_of r + length before + 1 = omega (arith, due.counted, count) in
+    let first = database_of old.trees r in
+    let done = writings_in first before in
+    let same = known done name r old mid a.id h in
+    let own = written_at (with_all first done) a in
+    let turn = acceptable_in_turn done first own (writings_in (with_one (with_all first done) own) more) (subst (AreAcceptable first) (ap (writings_in first) all ∙ writings_in-append first before (a ∷ more)) due.acceptable) in
+    record {
+      row = row_after r (length before);
+      numbered = sym due.numbered;
+      at = at ∙ ap pos number;
+      placed = subst (λ (k : HistoryContent). HasPlaceFor k a) (sym same) turn.placed;
+      store = λ lawful written write. (further ws i w name db sequence old mid written lt is room due h lawful write).store;
+    }
+
+-- and when it was done and the index rows followed it, it is one of those that are done
+pub further_followed : (ws : List Write) (i : ℕ) (w : Write) (name : List ℕ) (db : ℤ) (sequence : ℕ) (next : ℤ) (old mid new : Database) (lt : i < length ws) (is : w ≡ get_or ws i w) (room : sequence + length ws < 2 ^ 63) (at : next ≡ pos (sequence + i + 1))
+    → (due : AreDue (additions ws) name db sequence old.trees) (h : HasWritten (writings_in (database_of old.trees due.row) (additions (take i ws))) name due.row old mid) → IsLawfulAddition (addition_of w)
+    → IsFollowed (may_in_turn ws i w name db sequence next old mid lt is room at due h).row (write_in mid.trees (may_in_turn ws i w name db sequence next old mid lt is room at due h).row (addition_of w)) mid new
+    → HasWritten (writings_in (database_of old.trees due.row) (additions (take (i + 1) ws))) name due.row old new
+unfolding may_in_turn
+further_followed ws i w name db sequence next old mid new lt is room at due h lawful followed =
+    written_still _ name due.row old followed.written new (further ws i w name db sequence old mid followed.written lt is room due h lawful followed.write) followed.only
 
 -- ---- the history of a write that may be done has a best revision
 

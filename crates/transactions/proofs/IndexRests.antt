@@ -8,7 +8,12 @@ use Rattle.store.proofs.Winnings.{no_winner}
 use Rattle.store.specs.Indexes.{declared_fields, held_by, index_fields_of, queried_document}
 use Rattle.store.specs.Pages.{live_rev_by}
 use Rattle.tree.specs.DocumentId.{is_design_id}
-use Rattle.index.specs.Calls.{IsDropped}
+use Rattle.index.specs.Calls.{IsDropped, IsRefused}
+use Rattle.index.specs.Layout.{HasIndexRows}
+use Rattle.index.specs.declared.fault.IndexFault.{IndexFault}
+use Rattle.index.specs.declared.fault.IndexFault.TheVariants as index
+use Rattle.transactions.specs.Commits.{IsUnwritten}
+use Rattle.transactions.specs.Indexing.{of_index_fault}
 use Rattle.index.specs.Indexed.{AreIndexed, IsIndexed}
 use Rattle.index.specs.Meaning.{declares_in, sees_in, without_declared}
 use Rattle.index.proofs.Alike.{alike, same_rows, unseen}
@@ -119,3 +124,15 @@ removed_indexed db a b c left dropped =
             ∙ ap (λ rows. index_fields_of design (history_in rows db design) name) revs ∙ ap (λ h. index_fields_of design h name) (history_gone db (a.trees revs_tree) design)
             ∙ nothing_there design name)
         by false is = ap (λ h. index_fields_of design h name) (sym (away n design (λ same. let yes = (Decides-int_eq n db).1 same in cc)))
+
+-- ---- answers
+
+-- a fault of indexes tells the same as one of a commit
+pub refused_of : (sound other : Type 0) (fault : IndexFault) → (other → sound) → IsRefused sound fault → IsUnwritten other (of_index_fault fault)
+refused_of sound other (index.Sqlite e) f h = tt
+refused_of sound other index.Memory f h = tt
+refused_of sound other index.Damaged f h = λ o. h (f o)
+
+-- the rows of indexes of what is left are laid out
+pub remaining_rows : (db : ℤ) (a b : Database) → Remaining db a b → IsIndexed a.trees → HasIndexRows b
+remaining_rows db a b h was = let still = remaining_indexed db a b h was in record { schema_is = h.schema_is; decls = still.decls; entries = still.entries.laid }

@@ -1,27 +1,36 @@
 -- Tables of which the index rows alone have changed; and what one write leaves of what is declared and of what queries see.
-use Rattle.transactions.proofs.Common.{AllByRecursion, Bool, HasWritten, IsStore, List, None, Option, Row, Some, Trees, ap, arith, bytes_eq-Decides, database_of, dbs_tree, docs_tree, false, filter, history_in, length, number_of, refl, revs_tree, schema, slice_get, subst, sym, true, ℕ, ℤ, ◌∙◌, ◌≡◌, ◌≢◌}
+use Rattle.transactions.proofs.Common.{AllByRecursion, Bool, HasWritten, HistoryContent, IsStore, List, None, Option, Row, Some, Trees, ap, arith, bytes_eq-Decides, contents_in, database_of, dbs_tree, docs_tree, false, filter, history_in, length, locals_tree, number_of, refl, revs_tree, schema, slice_get, subst, sym, true, ℕ, ℤ, ◌∙◌, ◌≡◌, ◌≢◌}
 use Rattle.std.specs.Prelude.{◌&&◌, bytes_eq, if◌then◌else◌}
 use Rattle.std.specs.Ordering.{int_eq}
 use Rattle.couch_json.specs.Value.{Value}
 use Rattle.sqlite.specs.Effect as sqlite
 use Rattle.sqlite_schema.specs.declared.schema.Schema.{Schema}
-use Rattle.store.specs.Database.{DocumentWrite}
+use Rattle.store.specs.Database.{Database, DocumentWrite, with_all}
 use Rattle.std.proofs.Common.{Bor, ap₂}
 use Rattle.tree.specs.DocumentId.{is_design_id}
-use Rattle.store.specs.Indexes.{index_fields_of, queried_document}
-use Rattle.index.specs.Calls.{ChangesIndexes, ChangesOnly, HasEntries}
+use Rattle.store.specs.Indexes.{index_fields_of, queried_document, winning_body}
+use Rattle.index.specs.Calls.{ChangesIndexes, ChangesOnly, HasEntries, IsRefused}
 use Rattle.index.specs.Indexed.{AreEntriesOf, AreIndexed, IsIndexed, is_due}
-use Rattle.index.specs.Layout.{AreDeclarationRows, AreEntryRows}
-use Rattle.index.specs.Rows.{declared_by, has_entry, is_at_home}
+use Rattle.index.specs.Layout.{AreDeclarationRows, AreEntryRows, HasIndexRows}
+use Rattle.std.proofs.lemmas.List.{nil_from_length}
+use Rattle.std.proofs.lemmas.Bool.Decides.{nat_tests}
+use Rattle.index.specs.Rows.{declared_by, design_of, fields_of, has_entry, index_name_of, is_at_home, is_declaration_of}
 use Rattle.index.specs.Shown.{Declared, declared_at}
-use Rattle.index.proofs.Going.{refreshed}
+use Rattle.index.proofs.Going.{declarations_stay, refreshed}
 use Rattle.sqlite_keyed.proofs.ListLemmas.{all_weaker}
 use Rattle.store.specs.Writing.{Addition}
-use Rattle.transactions.specs.Indexing.{AreAllIndexes, IsFollowed, IsIndexedStore, write_in}
+use Rattle.transactions.specs.Indexing.{AreAllIndexes, IsFollowed, IsIndexedStore, IsRedeclared, of_index_fault, write_in}
+use Rattle.transactions.specs.Commits.{IsUnwritten}
+use Rattle.index.specs.Declaring.{IsRebuildable}
+use Rattle.index.specs.declared.fault.IndexFault.{IndexFault}
+use Rattle.index.specs.declared.fault.IndexFault.TheVariants as index
+use Rattle.transactions.proofs.Common.{Err, Ok, OnOk, Result, [], cond, ◌∷◌}
+use Rattle.std.specs.Prelude.{◌==◌, find}
+use Rattle.index.proofs.Common.{all_of}
 use Rattle.std.specs.Prelude.{map, option_copied, option_map}
 use Rattle.couch_json.specs.View.{view}
 use Rattle.couch_json.specs.declared.value.Json.{Json}
-use Rattle.index.specs.Meaning.{Declarations, Documents, declares_in, sees_in, with_declared, with_seen}
+use Rattle.index.specs.Meaning.{Declarations, Documents, declared_if, declares_in, sees_in, with_declared, with_seen}
 use Rattle.index.proofs.Alike.{alike, unseen}
 use Rattle.tables.proofs.Common.{Decides-int_eq, and_parts, same_int}
 use Rattle.tables.proofs.DocumentWriteHistories.{history_others}
@@ -154,25 +163,26 @@ document_followed db id old written new plain was left same h =
             ap₂ (λ m i. declares_in old m i name) place.0 place.1 ∙ none old name ∙ sym (none written name) ∙ ap₂ (λ m i. declares_in written m i name) (sym place.0) (sym place.1)
         by false is = ap (λ h. index_fields_of design h name) (sym (left.others n design (other_place db id n design is)))
 
+-- queries see the same after a design document was written
+pub design_unseen : (db : ℤ) (id : List ℕ) (old written : Trees) → is_design_id id ≡ true → Leaving db id old written → (n : ℤ) (other : List ℕ) → sees_in old n other ≡ sees_in written n other
+design_unseen db id old written design left n other = by (int_eq n db && bytes_eq other id) refl
+  where
+    none : (trees : Trees) → sees_in trees db id ≡ None
+    none trees = rw (design) refl
+
+    by : (b : Bool) → (int_eq n db && bytes_eq other id) ≡ b → sees_in old n other ≡ sees_in written n other
+    by true is =
+        let place = same_place db id n other is in
+        ap₂ (sees_in old) place.0 place.1 ∙ none old ∙ sym (none written) ∙ ap₂ (sees_in written) (sym place.0) (sym place.1)
+    by false is = ap (queried_document other) (sym (left.others n other (other_place db id n other is)))
+
 -- A design document was written, and what it declares.
 pub design_followed : (db : ℤ) (id : List ℕ) (old written new : Trees) → is_design_id id ≡ true → Leaving db id old written → new revs_tree ≡ written revs_tree
     → AreIndexed (with_declared (declares_in old) db id (λ x. declares_in written db id x)) (sees_in old) new → IsIndexed new
 design_followed db id old written new design left same h =
     alike (with_declared (declares_in old) db id (λ x. declares_in written db id x)) (sees_in old) new h (declares_in new) (sees_in new)
     (λ n other name. declares_after db id old written left n other name ∙ ap (λ rows. index_fields_of other (history_in rows n other) name) (sym same))
-    (λ n other. sees n other ∙ ap (λ rows. queried_document other (history_in rows n other)) (sym same))
-  where
-    none : (trees : Trees) → sees_in trees db id ≡ None
-    none trees = rw (design) refl
-
-    sees : (n : ℤ) (other : List ℕ) → sees_in old n other ≡ sees_in written n other
-    sees n other = by (int_eq n db && bytes_eq other id) refl
-      where
-        by : (b : Bool) → (int_eq n db && bytes_eq other id) ≡ b → sees_in old n other ≡ sees_in written n other
-        by true is =
-            let place = same_place db id n other is in
-            ap₂ (sees_in old) place.0 place.1 ∙ none old ∙ sym (none written) ∙ ap₂ (sees_in written) (sym place.0) (sym place.1)
-        by false is = ap (queried_document other) (sym (left.others n other (other_place db id n other is)))
+    (λ n other. design_unseen db id old written design left n other ∙ ap (λ rows. queried_document other (history_in rows n other)) (sym same))
 
 -- A document was written where nothing is declared.
 pub nothing_followed : (db : ℤ) (id : List ℕ) (old written : Trees) → is_design_id id ≡ false → IsIndexed old → Leaving db id old written → ((design name : List ℕ) → declares_in old db design name ≡ None)
@@ -202,7 +212,7 @@ pub seen_followed : (r : Row) (a : Addition) (db : ℤ) (all : List Declared) (b
     → db ≡ number_of r → IsWrite r (write_in old.trees r a) old written → IsStore written → before ≡ sees_in old.trees db a.id → after ≡ sees_in written.trees db a.id
     → ((decls : List Row) (sees : Documents) → AreDeclarationRows decls → all ≡ map declared_at (filter (is_at_home db) decls) → AreEntriesOf (is_due sees decls) (written.trees entries_tree) → sees db a.id ≡ before
     → HasEntries (is_due (with_seen sees db a.id after) decls) written new)
-    → IsFollowed r (write_in old.trees r a) old new
+    → IsFollowed r (write_in old.trees r a) old new × AreAllIndexes all db new.trees
 seen_followed r a db all before after old written new was every plain numbered write store first seen_is follows =
     let declares = declares_in old.trees in
     let sees = sees_in old.trees in
@@ -211,15 +221,115 @@ seen_followed r a db all before after old written new was every plain numbered w
     let made = follows (written.trees decls_tree) sees still.decls (every ∙ ap (λ rows. map declared_at (filter (is_at_home db) rows)) (sym left.decls)) still.entries (sym first) in
     let both = refreshed declares sees (with_seen sees db a.id after) written new store.schema_is still made in
     let only = indexes_alone written new both.1 in
-    record {
-      written = written;
-      write = write;
-      only = only;
-      indexed = document_followed db a.id old.trees written.trees new.trees plain was.indexed left (same_tables written new store.schema_is only).revs
-          (subst (λ seen. AreIndexed declares (with_seen sees db a.id seen) new.trees) seen_is both.0);
-    }
+    let at_home : List Row → List Declared = λ rows. map declared_at (filter (is_at_home db) rows) in (
+      record {
+        written = written;
+        write = write;
+        only = only;
+        indexed = document_followed db a.id old.trees written.trees new.trees plain was.indexed left (same_tables written new store.schema_is only).revs
+            (subst (λ seen. AreIndexed declares (with_seen sees db a.id seen) new.trees) seen_is both.0);
+      },
+      every ∙ ap at_home (sym (declarations_stay written new store.schema_is made.only ∙ left.decls)),
+    )
 
 -- the value that is behind a reference, which may be none
 pub seen_copied : (r : Option (Bor Json)) → option_map (λ v. view v.now) r ≡ option_map view (option_copied r)
 seen_copied None = refl
 seen_copied (Some v) = refl
+
+-- what the body of the winner declares is what the history says
+pub declared_by_winner : (id name : List ℕ) (h : HistoryContent) (body : Option Value) → is_design_id id ≡ true → body ≡ winning_body h → declared_if body name ≡ index_fields_of id h name
+declared_by_winner id name h body design is = rw design (ap (λ b. declared_if b name) is)
+
+-- the same of what is declared with it
+pub with_winner : (declares : Declarations) (sees : Documents) (db : ℤ) (id bytes : List ℕ) (h : HistoryContent) (body : Option Value) (trees : Trees) → is_design_id id ≡ true → bytes ≡ id → body ≡ winning_body h
+    → AreIndexed (with_declared declares db bytes (λ name. declared_if body name)) sees trees → AreIndexed (with_declared declares db id (λ name. index_fields_of id h name)) sees trees
+with_winner declares sees db id bytes h body trees design named is indexed =
+    alike (with_declared declares db bytes (λ name. declared_if body name)) sees trees indexed (with_declared declares db id (λ name. index_fields_of id h name)) sees
+    (λ n other name.
+    ap (λ i. with_declared declares db i (λ x. declared_if body x) n other name) named
+    ∙ ap (λ (fields : Option (List (List ℕ))). if (int_eq n db && bytes_eq other id) then fields else declares n other name) (declared_by_winner id name h body design is))
+    (λ n other. refl)
+
+-- a design document was written, and the index rows are still those of before
+pub design_fit : (r : Row) (a : Addition) (db : ℤ) (old written : sqlite.Database) → IsIndexedStore old → is_design_id a.id ≡ true → db ≡ number_of r → IsWrite r (write_in old.trees r a) old written → IsStore written
+    → IsRebuildable (declares_in old.trees) (sees_in old.trees) db written
+design_fit r a db old written was design numbered write store =
+    let left : Leaving db a.id old.trees written.trees = subst (λ n. Leaving n a.id old.trees written.trees) (sym numbered) (write_leaves r (write_in old.trees r a) old written was.store.schema_is write) in
+    record {
+      store = store;
+      indexed = indexed_still (declares_in old.trees) (sees_in old.trees) old.trees written.trees left.decls left.entries was.indexed;
+      seen = λ id. design_unseen db a.id old.trees written.trees design left db id;
+    }
+
+-- and then what it declares was rebuilt
+pub design_written : (r : Row) (a : Addition) (db : ℤ) (old written new : sqlite.Database) → IsIndexedStore old → is_design_id a.id ≡ true → db ≡ number_of r → IsWrite r (write_in old.trees r a) old written → IsStore written
+    → IsRedeclared (declares_in old.trees) (sees_in old.trees) db a.id written new → IsFollowed r (write_in old.trees r a) old new
+design_written r a db old written new was design numbered write store made =
+    let left : Leaving db a.id old.trees written.trees = subst (λ n. Leaving n a.id old.trees written.trees) (sym numbered) (write_leaves r (write_in old.trees r a) old written was.store.schema_is write) in
+    record {
+      written = written;
+      write = write;
+      only = made.only;
+      indexed = design_followed db a.id old.trees written.trees new.trees design left (same_tables written new store.schema_is made.only).revs made.indexed;
+    }
+
+-- ---- answers
+
+pub on_done : {X E P : Type 0} (r : Result X E) → P → OnOk r P
+on_done (Ok x) p = p
+on_done (Err e) p = tt
+
+-- ---- a database that declares nothing
+
+none_home : (db : ℤ) (design name : List ℕ) (rows : List Row) → filter (is_at_home db) rows ≡ [] → find (is_declaration_of db design name) rows ≡ None
+none_home db design name [] is = refl
+none_home db design name (r ∷ rows) is = by (is_at_home db r) refl is (none_home db design name rows)
+  where
+    by : (b : Bool) → is_at_home db r ≡ b → cond b (r ∷ filter (is_at_home db) rows) (filter (is_at_home db) rows) ≡ []
+        → (filter (is_at_home db) rows ≡ [] → find (is_declaration_of db design name) rows ≡ None) → find (is_declaration_of db design name) (r ∷ rows) ≡ None
+    by true home none more = absurd (cc)
+    by false away none more =
+        ap (λ b. cond (b && (bytes_eq (design_of r) design && bytes_eq (index_name_of r) name)) (Some r) (find (is_declaration_of db design name) rows)) away ∙ more none
+
+map_none : {A B : Type 0} (f : A → B) (xs : List A) → map f xs ≡ [] → xs ≡ []
+map_none f [] is = refl
+map_none f (x ∷ xs) is = absurd (cc)
+
+-- where all indexes of a database are none, it declares nothing
+pub none_declared : (db : ℤ) (all : List Declared) (trees : Trees) → IsIndexed trees → AreAllIndexes all db trees → all ≡ [] → (design name : List ℕ) → declares_in trees db design name ≡ None
+none_declared db all trees was every none design name =
+    sym (was.declared db design name)
+    ∙ ap (option_map fields_of) (none_home db design name (trees decls_tree) (map_none declared_at (filter (is_at_home db) (trees decls_tree)) (sym every ∙ none)))
+
+indexes_itself : (a : sqlite.Database) → ChangesIndexes a a
+indexes_itself a = record { schema = refl; others = all_of (λ t. t.tree ≢ decls_tree → t.tree ≢ entries_tree → a.trees t.tree ≡ a.trees t.tree) (λ t declared entered. refl) a.schema.tables }
+
+-- a document that is no design document was written in a database that declares nothing
+pub plain_followed : (r : Row) (a : Addition) (db : ℤ) (all : List Declared) (old new : sqlite.Database) → IsIndexedStore old → AreAllIndexes all db old.trees → all ≡ [] → is_design_id a.id ≡ false
+    → db ≡ number_of r → IsWrite r (write_in old.trees r a) old new → IsFollowed r (write_in old.trees r a) old new × AreAllIndexes all db new.trees
+plain_followed r a db all old new was every none plain numbered write =
+    let left : Leaving db a.id old.trees new.trees = subst (λ n. Leaving n a.id old.trees new.trees) (sym numbered) (write_leaves r (write_in old.trees r a) old new was.store.schema_is write) in (
+      record {
+        written = new;
+        write = write;
+        only = indexes_itself new;
+        indexed = nothing_followed db a.id old.trees new.trees plain was.indexed left (none_declared db all old.trees was.indexed every none);
+      },
+      every ∙ ap (λ rows. map declared_at (filter (is_at_home db) rows)) (sym left.decls),
+    )
+
+-- no declarations
+pub no_items : {A B : Type 0} (f : A → B) (xs : List A) → (length xs == 0) ≡ true → map f xs ≡ []
+no_items f xs is = ap (map f) (nil_from_length xs (count is))
+  where
+    count : (length xs == 0) ≡ true → length xs ≡ 0
+    count e = grind (arith, nat_tests)
+
+-- the index rows are laid out after a write that they followed
+pub rows_after : (r : Row) (w : DocumentWrite) (old new : sqlite.Database) → (h : IsFollowed r w old new) → IsStore h.written → HasIndexRows new
+rows_after r w old new h store = record { schema_is = h.only.schema ∙ store.schema_is; decls = h.indexed.decls; entries = h.indexed.entries.laid }
+
+-- the tables that index rows are read of
+pub rows_of : (d : sqlite.Database) → IsIndexedStore d → HasIndexRows d
+rows_of d h = record { schema_is = h.store.schema_is; decls = h.indexed.decls; entries = h.indexed.entries.laid }

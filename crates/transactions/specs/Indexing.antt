@@ -1,6 +1,6 @@
 -- A write that the index rows follow: when it is done, and what it leaves.
 -- This server's own: what index rows are to be is said by `index`, and what a write leaves of the other tables by `tables`.
-use Rattle.std.specs.Prelude.{◌≡◌, ◌+◌, ℤ, pos, IsTrue, List, filter, map}
+use Rattle.std.specs.Prelude.{◌≡◌, ◌+◌, ℕ, ℤ, pos, IsTrue, List, filter, map}
 use Rattle.sqlite.specs.Effect.{Database}
 use Rattle.sqlite.specs.Held.{Held, state}
 use Rattle.sqlite.specs.State.{HasCleanDisk}
@@ -14,7 +14,8 @@ use Rattle.tables.specs.Layout.{IsStore}
 use Rattle.tables.specs.Rows.{history_in, length_of, number_of}
 use Rattle.tables.specs.Schema.{decls_tree, revs_tree}
 use Rattle.index.specs.Calls.{ChangesIndexes}
-use Rattle.index.specs.Indexed.{IsIndexed}
+use Rattle.index.specs.Indexed.{AreIndexed, IsIndexed}
+use Rattle.index.specs.Meaning.{Declarations, Documents, declares_in, with_declared}
 use Rattle.index.specs.Rows.{is_at_home}
 use Rattle.index.specs.Shown.{Declared, declared_at}
 use Rattle.index.specs.declared.fault.IndexFault.{IndexFault}
@@ -22,6 +23,7 @@ use Rattle.index.specs.declared.fault.IndexFault.TheVariants as index
 use Rattle.store.specs.declared.fault.StoreFault.TheVariants.{Memory, Damaged}
 use Rattle.transactions.specs.Following.{HasPlaceFor}
 use Rattle.transactions.specs.Inserting.{IsLawfulAddition}
+use Rattle.transactions.specs.Sequences.{Clears}
 use Rattle.transactions.specs.declared.commit_fault.CommitFault.{CommitFault}
 use Rattle.transactions.specs.declared.commit_fault.CommitFault.TheVariants as fault
 
@@ -63,3 +65,15 @@ abbrev pub of_index_fault : IndexFault → CommitFault
 of_index_fault (index.Sqlite e) = fault.Sqlite e
 of_index_fault index.Memory = fault.Store Memory
 of_index_fault index.Damaged = fault.Store Damaged
+
+-- the rows of the database are taken out, and then those of its indexes alone have changed: they are those of what is left
+pub record IsRemoved (db : ℤ) (old new : Database) : Type 0 where
+  pub cleared : Database
+  pub clears : Clears db old cleared
+  pub only : ChangesIndexes cleared new
+  pub indexed : IsIndexed new.trees
+
+-- the indexes that this design document declares are those that its winner says now, and no table but theirs has changed
+pub record IsRedeclared (declares : Declarations) (sees : Documents) (db : ℤ) (design : List ℕ) (old new : Database) : Type 0 where
+  pub indexed : AreIndexed (with_declared declares db design (λ name. declares_in old.trees db design name)) sees new.trees
+  pub only : ChangesIndexes old new

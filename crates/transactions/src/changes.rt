@@ -1,6 +1,6 @@
 //! Changes of a connection, each in a transaction of its own.
 
-ghost use Rattle.std.specs.Prelude.{◌≡◌, false, pos, OnOk};
+ghost use Rattle.std.specs.Prelude.{◌≡◌, false, pos, IfErr, OnOk, ⊤};
 ghost use Rattle.sqlite.specs.Held.{state};
 ghost use Rattle.sqlite.specs.State.{HasCleanDisk};
 ghost use Rattle.tables.specs.Calls.{Proceeds, Stays};
@@ -9,9 +9,14 @@ ghost use Rattle.tables.specs.Rows.{database_cells, rows_with_security, with_cel
 ghost use Rattle.tables.specs.Schema.{dbs_tree, no_schema};
 ghost use Rattle.tables.specs.Steps.{Changes};
 ghost use Rattle.transactions.specs.Sequences.{Clears, Replaces};
+ghost use Rattle.transactions.specs.Commits.{IsUnwritten};
 ghost use Rattle.transactions.specs.Endings.{IsDone, IsUndone, Turns};
+ghost use Rattle.transactions.specs.Indexing.{IsIndexedStore, IsRemoved, IsSoundIndexed};
 
+use crate::commit_fault::CommitFault;
+use crate::indexing::clear_indexed;
 use sqlite::{Alter, Connection, Error, Transaction};
+use std::alloc::Global;
 use tables::create_tables;
 use tables::databases::{delete_database, insert_database, secure_database};
 use tables::documents::clear_documents;
@@ -106,7 +111,10 @@ pub fn write_local<S: Alter>(
 }
 
 /// Takes out the rows of a database, and its own.
-fn clear_database<S: Alter>(tx: &mut Transaction<'_, S>, number: &i64) -> Result<(), Error>
+pub(crate) fn clear_database<S: Alter>(
+    tx: &mut Transaction<'_, S>,
+    number: &i64,
+) -> Result<(), Error>
     ensures same_reference { tx.new.conn.ghost_name ≡ tx.old.conn.ghost_name }
     ensures ok { HasCleanDisk (state S.Store tx.new.conn.now) → IsStore (state S.Store tx.old.conn.now).now
         → OnOk result (Clears number.now (state S.Store tx.old.conn.now).now (state S.Store tx.new.conn.now).now) }
@@ -119,16 +127,22 @@ fn clear_database<S: Alter>(tx: &mut Transaction<'_, S>, number: &i64) -> Result
     delete_database(tx, number)
 }
 
-/// Removes the database of this number, with all that it holds.
-pub fn remove_database<S: Alter>(conn: &mut Connection<S>, number: &i64) -> Result<(), Error>
+/// Removes the database of this number, with all that it holds and with the rows of its indexes.
+pub fn remove_database<S: Alter>(
+    alloc: Global,
+    conn: &mut Connection<S>,
+    number: &i64,
+) -> Result<(), CommitFault>
     requires { conn.old.in_transaction ≡ false }
-    ensures ok { HasCleanDisk (state S.Store conn.new) → IsStore (state S.Store conn.old).now
-        → OnOk result (Clears number.now (state S.Store conn.old).now (state S.Store conn.new).now) }
+    ensures ok { HasCleanDisk (state S.Store conn.new) → IsIndexedStore (state S.Store conn.old).now
+        → OnOk result (IsRemoved number.now (state S.Store conn.old).now (state S.Store conn.new).now) }
+    ensures err { IfErr result (IsUnwritten (IsSoundIndexed S.Store (λ _. ⊤) conn.old conn.new)) }
     ensures turns { Turns S.Store conn.old conn.new }
     ensures done { IsDone S.Store conn.old conn.new result }
-    ensures undone { IsUndone S.Store conn.old conn.new result }
+    ensures undone { IsIndexedStore (state S.Store conn.old).now → IsUndone S.Store conn.old conn.new result }
 {
     let mut tx = conn.transaction();
-    clear_database(&mut tx, number)?;
-    tx.commit()
+    clear_indexed(alloc, &mut tx, number)?;
+    tx.commit()?;
+    Ok(())
 }

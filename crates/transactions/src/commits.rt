@@ -17,12 +17,18 @@ ghost use Rattle.transactions.specs.Following.{HasPlaceFor, Serves};
 ghost use Rattle.transactions.specs.Inserting.{IsLawfulAddition};
 ghost use Rattle.transactions.specs.Endings.{IsDone, IsUndone, Turns};
 ghost use Rattle.transactions.specs.Reading.{HasBest};
+ghost use Rattle.transactions.specs.Indexing.{AreAllIndexes, IsIndexedStore, IsSoundIndexed};
+ghost use Rattle.index.specs.Indexed.{IsIndexed};
+ghost use Rattle.index.specs.Shown.{declared};
+ghost use Rattle.std.specs.Prelude.{map};
 
 use crate::commit_fault::CommitFault;
 use crate::document_write::add_write;
 use crate::histories::read_history;
+use crate::indexing::write_indexed;
 use crate::winners::{first_winner, history_for};
 use couch_json::Got;
+use index::{Declaration, list_declarations};
 use sqlite::{Alter, Connection, Transaction};
 use std::alloc::Global;
 use std::collections::BTreeMap;
@@ -222,7 +228,44 @@ pub fn integer_of(count: u64) -> i64
     count as i64
 }
 
-/// Does the writes of a database in turn, each under the next sequence.
+/// Does the writes of a database in turn, each under the next sequence, and has the indexes of the
+/// database, which these are, follow each of them.
+fn write_each<S: Alter>(
+    alloc: Global,
+    tx: &mut Transaction<'_, S>,
+    db: &i64,
+    sequence: u64,
+    indexes: &mut Vec<Declaration>,
+    writes: &[Write],
+) -> Result<(), CommitFault>
+    requires { sequence + length writes.now < 2 ^ 63 }
+    ensures same_reference { tx.new.conn.ghost_name ≡ tx.old.conn.ghost_name }
+    ensures ok { (name : List ℕ) → HasCleanDisk (state S.Store tx.new.conn.now) → IsIndexedStore (state S.Store tx.old.conn.now).now
+        → AreAllIndexes (map declared indexes.old.items) db.now (state S.Store tx.old.conn.now).now.trees
+        → (due : AreDue (additions writes.now) name db.now sequence (state S.Store tx.old.conn.now).now.trees)
+        → OnOk result (HasWritten (writings_in (database_of (state S.Store tx.old.conn.now).now.trees due.row) (additions writes.now)) name due.row
+        (state S.Store tx.old.conn.now).now (state S.Store tx.new.conn.now).now × IsIndexed (state S.Store tx.new.conn.now).now.trees) }
+    ensures err { (name : List ℕ) → IfErr result (IsUnwritten (IsSoundIndexed S.Store
+        (λ d. AreAllIndexes (map declared indexes.old.items) db.now d.trees × AreDue (additions writes.now) name db.now sequence d.trees) tx.old.conn.now tx.new.conn.now)) }
+    ensures kept { (name : List ℕ) → HasCleanDisk (state S.Store tx.new.conn.now) → IsIndexedStore (state S.Store tx.old.conn.now).now
+        → AreAllIndexes (map declared indexes.old.items) db.now (state S.Store tx.old.conn.now).now.trees
+        → AreDue (additions writes.now) name db.now sequence (state S.Store tx.old.conn.now).now.trees
+        → KeepsCommit (state S.Store tx.old.conn.now) (state S.Store tx.new.conn.now) }
+    ensures inside { (name : List ℕ) → HasCleanDisk (state S.Store tx.new.conn.now) → IsIndexedStore (state S.Store tx.old.conn.now).now
+        → AreAllIndexes (map declared indexes.old.items) db.now (state S.Store tx.old.conn.now).now.trees
+        → AreDue (additions writes.now) name db.now sequence (state S.Store tx.old.conn.now).now.trees
+        → (state S.Store tx.old.conn.now).in_transaction ≡ true → OnOk result ((state S.Store tx.new.conn.now).in_transaction ≡ true) }
+    ensures asks { AsksInside S.Store tx.old.conn.now tx.new.conn.now }
+{
+    let mut histories = BTreeMap::new(alloc);
+    for (i, write) in writes.iter().enumerate() {
+        let next = integer_of(sequence + i as u64 + 1);
+        write_indexed(alloc, tx, db, &next, &mut histories, indexes, write)?;
+    }
+    Ok(())
+}
+
+/// Does the writes of a database in turn, each under the next sequence, and has its indexes follow.
 fn write_all<S: Alter>(
     alloc: Global,
     tx: &mut Transaction<'_, S>,
@@ -232,23 +275,21 @@ fn write_all<S: Alter>(
 ) -> Result<(), CommitFault>
     requires { sequence + length writes.now < 2 ^ 63 }
     ensures same_reference { tx.new.conn.ghost_name ≡ tx.old.conn.ghost_name }
-    ensures ok { (name : List ℕ) → HasCleanDisk (state S.Store tx.new.conn.now) → IsStore (state S.Store tx.old.conn.now).now
+    ensures ok { (name : List ℕ) → HasCleanDisk (state S.Store tx.new.conn.now) → IsIndexedStore (state S.Store tx.old.conn.now).now
         → (due : AreDue (additions writes.now) name db.now sequence (state S.Store tx.old.conn.now).now.trees)
         → OnOk result (HasWritten (writings_in (database_of (state S.Store tx.old.conn.now).now.trees due.row) (additions writes.now)) name due.row
-        (state S.Store tx.old.conn.now).now (state S.Store tx.new.conn.now).now) }
-    ensures err { (name : List ℕ) → IfErr result (IsUnwritten (IsSound S.Store (AreDue (additions writes.now) name db.now sequence) tx.old.conn.now tx.new.conn.now)) }
-    ensures kept { (name : List ℕ) → HasCleanDisk (state S.Store tx.new.conn.now) → IsStore (state S.Store tx.old.conn.now).now
+        (state S.Store tx.old.conn.now).now (state S.Store tx.new.conn.now).now × IsIndexed (state S.Store tx.new.conn.now).now.trees) }
+    ensures err { (name : List ℕ) → IfErr result (IsUnwritten (IsSoundIndexed S.Store (λ d. AreDue (additions writes.now) name db.now sequence d.trees) tx.old.conn.now tx.new.conn.now)) }
+    ensures kept { (name : List ℕ) → HasCleanDisk (state S.Store tx.new.conn.now) → IsIndexedStore (state S.Store tx.old.conn.now).now
         → AreDue (additions writes.now) name db.now sequence (state S.Store tx.old.conn.now).now.trees
         → KeepsCommit (state S.Store tx.old.conn.now) (state S.Store tx.new.conn.now) }
-    ensures inside { HasCleanDisk (state S.Store tx.new.conn.now) → (state S.Store tx.old.conn.now).in_transaction ≡ true → OnOk result ((state S.Store tx.new.conn.now).in_transaction ≡ true) }
+    ensures inside { (name : List ℕ) → HasCleanDisk (state S.Store tx.new.conn.now) → IsIndexedStore (state S.Store tx.old.conn.now).now
+        → AreDue (additions writes.now) name db.now sequence (state S.Store tx.old.conn.now).now.trees
+        → (state S.Store tx.old.conn.now).in_transaction ≡ true → OnOk result ((state S.Store tx.new.conn.now).in_transaction ≡ true) }
     ensures asks { AsksInside S.Store tx.old.conn.now tx.new.conn.now }
 {
-    let mut histories = BTreeMap::new(alloc);
-    for (i, write) in writes.iter().enumerate() {
-        let next = integer_of(sequence + i as u64 + 1);
-        write_document(alloc, tx, db, &next, &mut histories, write)?;
-    }
-    Ok(())
+    let mut indexes = list_declarations(alloc, tx, db)?;
+    write_each(alloc, tx, db, sequence, &mut indexes, writes)
 }
 
 /// Does the writes of a database, all of them or none.
@@ -261,14 +302,14 @@ pub fn commit_writes<S: Alter>(
 ) -> Result<(), CommitFault>
     requires idle { conn.old.in_transaction ≡ false }
     requires room { sequence + length writes.now < 2 ^ 63 }
-    ensures ok { (name : List ℕ) → HasCleanDisk (state S.Store conn.new) → IsStore (state S.Store conn.old).now
+    ensures ok { (name : List ℕ) → HasCleanDisk (state S.Store conn.new) → IsIndexedStore (state S.Store conn.old).now
         → (due : AreDue (additions writes.now) name db.now sequence (state S.Store conn.old).now.trees)
         → OnOk result (HasWritten (writings_in (database_of (state S.Store conn.old).now.trees due.row) (additions writes.now)) name due.row
-        (state S.Store conn.old).now (state S.Store conn.new).now) }
-    ensures err { (name : List ℕ) → IfErr result (IsUnwritten (IsSound S.Store (AreDue (additions writes.now) name db.now sequence) conn.old conn.new)) }
+        (state S.Store conn.old).now (state S.Store conn.new).now × IsIndexed (state S.Store conn.new).now.trees) }
+    ensures err { (name : List ℕ) → IfErr result (IsUnwritten (IsSoundIndexed S.Store (λ d. AreDue (additions writes.now) name db.now sequence d.trees) conn.old conn.new)) }
     ensures turns { Turns S.Store conn.old conn.new }
     ensures done { IsDone S.Store conn.old conn.new result }
-    ensures undone { (name : List ℕ) → IsStore (state S.Store conn.old).now → AreDue (additions writes.now) name db.now sequence (state S.Store conn.old).now.trees
+    ensures undone { (name : List ℕ) → IsIndexedStore (state S.Store conn.old).now → AreDue (additions writes.now) name db.now sequence (state S.Store conn.old).now.trees
         → IsUndone S.Store conn.old conn.new result }
 {
     let mut tx = conn.transaction();

@@ -1,6 +1,6 @@
 //! Writes of documents that the rows of indexes follow.
 
-ghost use Rattle.std.specs.Prelude.{◌≡◌, IfErr, IsTrue, OnOk, false, map, true};
+ghost use Rattle.std.specs.Prelude.{◌==◌, ◌≡◌, length, IfErr, IsTrue, OnOk, false, map, true};
 ghost use Rattle.sqlite.specs.Held.{state};
 ghost use Rattle.sqlite.specs.State.{HasCleanDisk, KeepsCommit};
 ghost use Rattle.store.specs.Plain.{with_addition};
@@ -13,18 +13,24 @@ ghost use Rattle.tree.specs.DocumentId.{is_design_id};
 ghost use Rattle.index.specs.Shown.{declared};
 ghost use Rattle.transactions.specs.Commits.{IsUnwritten, history_with};
 ghost use Rattle.transactions.specs.Histories.{AreStored, IsHeldOpen, IsWithin};
-ghost use Rattle.transactions.specs.Indexing.{AreAllIndexes, IsFollowed, IsIndexedStore, IsSoundIndexed, MayBeWritten, write_in};
+ghost use Rattle.std.specs.Prelude.{⊤};
+ghost use Rattle.transactions.specs.Indexing.{IsRemoved, AreAllIndexes, IsFollowed, IsIndexedStore, IsSoundIndexed, MayBeWritten, write_in};
 ghost use Rattle.transactions.specs.Inserting.{IsLawfulAddition};
 ghost use Rattle.transactions.specs.Reading.{HasBest};
+ghost use Rattle.index.specs.Declaring.{IsRebuildable};
+ghost use Rattle.index.specs.Steps.{Steps, WasFit};
+ghost use Rattle.index.specs.Meaning.{Declarations, Documents};
+ghost use Rattle.transactions.specs.Indexing.{IsRedeclared};
 
+use crate::changes::clear_database;
 use crate::commit_fault::CommitFault;
 use crate::commits::write_document;
-use crate::seeing::see_document;
-use index::{Declaration, refresh_indexes};
+use crate::seeing::{find_winning, see_document};
+use index::{Declaration, drop_db, list_declarations, rebuild, refresh_indexes};
 use sqlite::{Alter, Transaction};
 use std::alloc::Global;
 use std::collections::BTreeMap;
-use store::Write;
+use store::{Write, find_winning_body};
 use tree::{DocId, History};
 
 /// Writes a document that is no design document, and has each of these indexes, which are all of its
@@ -43,7 +49,8 @@ pub(crate) fn write_seen<S: Alter>(
         → AreAllIndexes (map declared indexes.now) db.now (state S.Store tx.old.conn.now).now.trees → is_design_id (addition_of write.now).id ≡ false
         → AreStored histories.old (history_in ((state S.Store tx.old.conn.now).now.trees revs_tree) db.now)
         → (due : MayBeWritten db.now sequence.now (addition_of write.now) (state S.Store tx.old.conn.now).now)
-        → OnOk result (IsFollowed due.row (write_in (state S.Store tx.old.conn.now).now.trees due.row (addition_of write.now)) (state S.Store tx.old.conn.now).now (state S.Store tx.new.conn.now).now) }
+        → OnOk result (IsFollowed due.row (write_in (state S.Store tx.old.conn.now).now.trees due.row (addition_of write.now)) (state S.Store tx.old.conn.now).now (state S.Store tx.new.conn.now).now
+        × AreAllIndexes (map declared indexes.now) db.now (state S.Store tx.new.conn.now).now.trees) }
     ensures after { HasCleanDisk (state S.Store tx.new.conn.now) → IsStore (state S.Store tx.old.conn.now).now
         → AreStored histories.old (history_in ((state S.Store tx.old.conn.now).now.trees revs_tree) db.now)
         → OnOk result (IsWithin histories.old (addition_of write.now).id
@@ -68,5 +75,137 @@ pub(crate) fn write_seen<S: Alter>(
     let after = see_document(alloc, tx, db, &write.id)?;
     let id = write.id.as_str().as_bytes();
     refresh_indexes(alloc, tx, db, indexes, id, before.as_ref(), after.as_ref())?;
+    Ok(())
+}
+
+/// Has the indexes of a database follow a design document as it is stored.
+fn redeclare<S: Alter>(
+    alloc: Global,
+    tx: &mut Transaction<'_, S>,
+    db: &i64,
+    id: &DocId,
+) -> Result<(), CommitFault>
+    ensures same_reference { tx.new.conn.ghost_name ≡ tx.old.conn.ghost_name }
+    ensures steps { (declares : Declarations) (sees : Documents) → is_design_id id.now ≡ true → Steps S.Store (IsRebuildable declares sees db.now) (IsRedeclared declares sees db.now id.now) tx.old.conn.now tx.new.conn.now result }
+    ensures err { (declares : Declarations) (sees : Documents) → IfErr result (IsUnwritten (WasFit S.Store (IsRebuildable declares sees db.now) tx.old.conn.now tx.new.conn.now)) }
+    ensures asks { AsksInside S.Store tx.old.conn.now tx.new.conn.now }
+{
+    let history = find_winning(alloc, tx, db, id)?;
+    let body = find_winning_body(&history);
+    rebuild(alloc, tx, db, id.as_str().as_bytes(), body)?;
+    Ok(())
+}
+
+/// Writes a design document, and has the indexes of its database follow it.
+pub(crate) fn write_design<S: Alter>(
+    alloc: Global,
+    tx: &mut Transaction<'_, S>,
+    db: &i64,
+    sequence: &i64,
+    histories: &mut BTreeMap<DocId, History>,
+    write: &Write,
+) -> Result<(), CommitFault>
+    ensures same_reference { tx.new.conn.ghost_name ≡ tx.old.conn.ghost_name }
+    ensures ok { HasCleanDisk (state S.Store tx.new.conn.now) → IsIndexedStore (state S.Store tx.old.conn.now).now
+        → is_design_id (addition_of write.now).id ≡ true
+        → AreStored histories.old (history_in ((state S.Store tx.old.conn.now).now.trees revs_tree) db.now)
+        → (due : MayBeWritten db.now sequence.now (addition_of write.now) (state S.Store tx.old.conn.now).now)
+        → OnOk result (IsFollowed due.row (write_in (state S.Store tx.old.conn.now).now.trees due.row (addition_of write.now)) (state S.Store tx.old.conn.now).now (state S.Store tx.new.conn.now).now) }
+    ensures after { HasCleanDisk (state S.Store tx.new.conn.now) → IsStore (state S.Store tx.old.conn.now).now
+        → AreStored histories.old (history_in ((state S.Store tx.old.conn.now).now.trees revs_tree) db.now)
+        → OnOk result (IsWithin histories.old (addition_of write.now).id
+        (with_addition (history_in ((state S.Store tx.old.conn.now).now.trees revs_tree) db.now (addition_of write.now).id) (addition_of write.now)) histories.new) }
+    ensures lawful { OnOk result (IsLawfulAddition (addition_of write.now)) }
+    ensures inside { HasCleanDisk (state S.Store tx.new.conn.now) → IsIndexedStore (state S.Store tx.old.conn.now).now
+        → is_design_id (addition_of write.now).id ≡ true
+        → AreStored histories.old (history_in ((state S.Store tx.old.conn.now).now.trees revs_tree) db.now)
+        → MayBeWritten db.now sequence.now (addition_of write.now) (state S.Store tx.old.conn.now).now
+        → OnOk result (IsTrue (state S.Store tx.new.conn.now).is_open × ((state S.Store tx.new.conn.now).in_transaction ≡ true)) }
+    ensures served { IsServed S.Store tx.old.conn.now tx.new.conn.now result }
+    ensures err { is_design_id (addition_of write.now).id ≡ true → IfErr result (IsUnwritten (IsHeldOpen histories.old (state S.Store tx.old.conn.now)
+        × IsSoundIndexed S.Store (λ db'. AreStored histories.old (history_in (db'.trees revs_tree) db.now) × HasBest (history_with db'.trees db.now (addition_of write.now))
+        × MayBeWritten db.now sequence.now (addition_of write.now) db') tx.old.conn.now tx.new.conn.now)) }
+    ensures kept { HasCleanDisk (state S.Store tx.new.conn.now) → IsIndexedStore (state S.Store tx.old.conn.now).now
+        → is_design_id (addition_of write.now).id ≡ true
+        → AreStored histories.old (history_in ((state S.Store tx.old.conn.now).now.trees revs_tree) db.now)
+        → MayBeWritten db.now sequence.now (addition_of write.now) (state S.Store tx.old.conn.now).now
+        → KeepsCommit (state S.Store tx.old.conn.now) (state S.Store tx.new.conn.now) }
+    ensures asks { AsksInside S.Store tx.old.conn.now tx.new.conn.now }
+{
+    write_document(alloc, tx, db, sequence, histories, write)?;
+    redeclare(alloc, tx, db, &write.id)
+}
+
+/// Writes a document, and has the indexes of its database, which these are, follow it.
+pub(crate) fn write_indexed<S: Alter>(
+    alloc: Global,
+    tx: &mut Transaction<'_, S>,
+    db: &i64,
+    sequence: &i64,
+    histories: &mut BTreeMap<DocId, History>,
+    indexes: &mut Vec<Declaration>,
+    write: &Write,
+) -> Result<(), CommitFault>
+    ensures same_reference { tx.new.conn.ghost_name ≡ tx.old.conn.ghost_name }
+    ensures ok { HasCleanDisk (state S.Store tx.new.conn.now) → IsIndexedStore (state S.Store tx.old.conn.now).now
+        → AreAllIndexes (map declared indexes.old.items) db.now (state S.Store tx.old.conn.now).now.trees
+        → AreStored histories.old (history_in ((state S.Store tx.old.conn.now).now.trees revs_tree) db.now)
+        → (due : MayBeWritten db.now sequence.now (addition_of write.now) (state S.Store tx.old.conn.now).now)
+        → OnOk result (IsFollowed due.row (write_in (state S.Store tx.old.conn.now).now.trees due.row (addition_of write.now)) (state S.Store tx.old.conn.now).now (state S.Store tx.new.conn.now).now
+        × AreAllIndexes (map declared indexes.new.items) db.now (state S.Store tx.new.conn.now).now.trees) }
+    ensures after { HasCleanDisk (state S.Store tx.new.conn.now) → IsStore (state S.Store tx.old.conn.now).now
+        → AreStored histories.old (history_in ((state S.Store tx.old.conn.now).now.trees revs_tree) db.now)
+        → OnOk result (IsWithin histories.old (addition_of write.now).id
+        (with_addition (history_in ((state S.Store tx.old.conn.now).now.trees revs_tree) db.now (addition_of write.now).id) (addition_of write.now)) histories.new) }
+    ensures lawful { OnOk result (IsLawfulAddition (addition_of write.now)) }
+    ensures inside { HasCleanDisk (state S.Store tx.new.conn.now) → IsIndexedStore (state S.Store tx.old.conn.now).now
+        → AreStored histories.old (history_in ((state S.Store tx.old.conn.now).now.trees revs_tree) db.now)
+        → MayBeWritten db.now sequence.now (addition_of write.now) (state S.Store tx.old.conn.now).now
+        → OnOk result (IsTrue (state S.Store tx.new.conn.now).is_open × ((state S.Store tx.new.conn.now).in_transaction ≡ true)) }
+    ensures served { IsServed S.Store tx.old.conn.now tx.new.conn.now result }
+    ensures err { IfErr result (IsUnwritten (IsHeldOpen histories.old (state S.Store tx.old.conn.now)
+        × IsSoundIndexed S.Store (λ db'. AreStored histories.old (history_in (db'.trees revs_tree) db.now) × HasBest (history_with db'.trees db.now (addition_of write.now))
+        × MayBeWritten db.now sequence.now (addition_of write.now) db') tx.old.conn.now tx.new.conn.now)) }
+    ensures kept { HasCleanDisk (state S.Store tx.new.conn.now) → IsIndexedStore (state S.Store tx.old.conn.now).now
+        → AreStored histories.old (history_in ((state S.Store tx.old.conn.now).now.trees revs_tree) db.now)
+        → MayBeWritten db.now sequence.now (addition_of write.now) (state S.Store tx.old.conn.now).now
+        → KeepsCommit (state S.Store tx.old.conn.now) (state S.Store tx.new.conn.now) }
+    ensures asks { AsksInside S.Store tx.old.conn.now tx.new.conn.now }
+{
+    if write.id.is_design() {
+        write_design(alloc, tx, db, sequence, histories, write)?;
+        *indexes = list_declarations(alloc, tx, db)?;
+        return Ok(());
+    }
+    if are_none(indexes) {
+        return write_document(alloc, tx, db, sequence, histories, write);
+    }
+    write_seen(alloc, tx, db, sequence, histories, indexes, write)
+}
+
+fn are_none(indexes: &[Declaration]) -> bool
+    ensures { result ≡ (length indexes.now == 0) }
+{
+    indexes.is_empty()
+}
+
+/// Takes out the rows of a database, its own, and those of its indexes.
+pub(crate) fn clear_indexed<S: Alter>(
+    alloc: Global,
+    tx: &mut Transaction<'_, S>,
+    number: &i64,
+) -> Result<(), CommitFault>
+    ensures same_reference { tx.new.conn.ghost_name ≡ tx.old.conn.ghost_name }
+    ensures ok { HasCleanDisk (state S.Store tx.new.conn.now) → IsIndexedStore (state S.Store tx.old.conn.now).now
+        → OnOk result (IsRemoved number.now (state S.Store tx.old.conn.now).now (state S.Store tx.new.conn.now).now) }
+    ensures inside { HasCleanDisk (state S.Store tx.new.conn.now) → IsIndexedStore (state S.Store tx.old.conn.now).now
+        → OnOk result (IsTrue (state S.Store tx.new.conn.now).is_open × ((state S.Store tx.new.conn.now).in_transaction ≡ true)) }
+    ensures err { IfErr result (IsUnwritten (IsSoundIndexed S.Store (λ _. ⊤) tx.old.conn.now tx.new.conn.now)) }
+    ensures kept { HasCleanDisk (state S.Store tx.new.conn.now) → IsIndexedStore (state S.Store tx.old.conn.now).now
+        → KeepsCommit (state S.Store tx.old.conn.now) (state S.Store tx.new.conn.now) }
+    ensures asks { AsksInside S.Store tx.old.conn.now tx.new.conn.now }
+{
+    clear_database(tx, number)?;
+    drop_db(alloc, tx, number)?;
     Ok(())
 }

@@ -6,7 +6,6 @@ use crate::sql_store::SqlStore;
 use crate::sql_store::committing::has_room;
 use policy::Security;
 use sqlite::Alter;
-use store::paging::read_index_fields;
 use store::{
     DbName, IdRange, KeyRange, LocalDocument, PageById, PageByKey, PageBySeq, SeqRange, Store,
     StoreFault, Write,
@@ -117,9 +116,8 @@ impl<S: Alter + Drop> Store for SqlStore<S> {
         range: &KeyRange,
     ) -> Result<Option<PageByKey>, StoreFault> {
         let found = self.find(name)?;
-        let history = self.find_winning(&found.number, design)?;
-        match read_index_fields(self.alloc, design, &history, index)? {
-            Some(fields) => Ok(Some(self.find_page_by_key(&found.number, &fields, range)?)),
+        match self.find_declaration(&found.number, design, index)? {
+            Some(declaration) => Ok(Some(self.find_page_by_key(&declaration.number, range)?)),
             None => Ok(None),
         }
     }

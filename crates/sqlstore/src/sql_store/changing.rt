@@ -1,6 +1,6 @@
 //! What a store changes, each in one transaction.
 
-use crate::fault::judge;
+use crate::fault::{judge, judge_write};
 use crate::sql_store::SqlStore;
 use couch_json::canon;
 use policy::Security;
@@ -16,6 +16,7 @@ impl<S: Alter> SqlStore<S> {
     ghost use Rattle.store.specs.Contents.{new_database, with_local, with_security};
     ghost use Rattle.store.specs.Lawful.{IsBody};
     ghost use Rattle.sqlstore.specs.Causes.{IsJudged};
+    ghost use Rattle.sqlstore.specs.Commits.{IsUncommitted};
     ghost use Rattle.sqlstore.specs.Reading.{HasNumber};
     ghost use Rattle.sqlstore.specs.Model.{Answers, Moves, Stands, contents_of, is_honest, trees_of};
 
@@ -81,17 +82,17 @@ impl<S: Alter> SqlStore<S> {
     pub(crate) fn clear(&mut self, name: &DbName, number: &i64) -> Result<(), StoreFault>
         requires { is_honest S.Store self.old → HasNumber (trees_of S.Store self.old) name.now number.now }
         ensures ok { is_honest S.Store self.new → OnOk result (contents_of S.Store self.new ≡ map.remove (contents_of S.Store self.old) name.now) }
-        ensures judged { IfErr result (IsJudged self.old.faults self.new.faults) }
+        ensures told { IfErr result (IsUncommitted self.old.faults self.new.faults (is_honest S.Store self.new)) }
         ensures kept { OnErr result (self.new.last.value ≡ self.old.last.value) }
         ensures moves { Moves S.Store self.old self.new }
     {
         self.known = None;
-        match remove_database(&mut self.conn, number) {
+        match remove_database(self.alloc, &mut self.conn, number) {
             Ok(()) => {
                 self.last = Snapshot::of(&self.conn);
                 Ok(())
             }
-            Err(error) => Err(judge(&mut self.faults, error)),
+            Err(fault) => Err(judge_write(&mut self.faults, fault)),
         }
     }
 

@@ -1,30 +1,21 @@
 //! The pages of the database of a number.
 
-use crate::listings::{read_ids, read_page_by_id, read_page_by_sequence};
+use crate::listings::{read_page_by_id, read_page_by_sequence};
 use crate::shown::last_of_path;
 use crate::sql_store::SqlStore;
-use couch_json::{FieldPath, Json};
 use sqlite::Alter;
-use std::collections::BTreeMap;
-use store::paging::{cut_by_key, list_index_rows, put_in_index};
-use store::{
-    IdRange, KeyRange, KeyRow, PageById, PageByKey, PageBySeq, SeqRange, SeqRow, StoreFault,
-};
+use store::{IdRange, PageById, PageBySeq, SeqRange, SeqRow, StoreFault};
 use tree::{DocId, Rev};
 
 impl<S: Alter> SqlStore<S> {
-    ghost use Rattle.std.specs.Prelude.{◌≡◌, ◌<◌, ◌^◌, [], IfOk, Some, map};
-    ghost use Rattle.store.specs.Indexes.{put_in_index, queried_document};
-    ghost use Rattle.store.specs.KeyPages.{key_page};
-    ghost use Rattle.store.specs.KeyPaging.{HasKeyCounts, key_page_of};
+    ghost use Rattle.std.specs.Prelude.{◌≡◌, ◌<◌, ◌^◌, IfOk, Some, map};
     ghost use Rattle.store.specs.Pages.{id_page};
     ghost use Rattle.store.specs.Paging.{IsBounded, IsCounted, id_page_of, sequence_page_of, sequence_row_of, sequence_rows};
-    ghost use Rattle.store.specs.Plain.{place_views};
-    ghost use Rattle.tables.specs.Listings.{listed_id, live_rows};
+    ghost use Rattle.tables.specs.Listings.{live_rows};
     ghost use Rattle.tables.specs.Rows.{history_in};
     ghost use Rattle.tables.specs.Schema.{revs_tree};
     ghost use Rattle.tree.specs.History.{leaves};
-    ghost use Rattle.sqlstore.specs.Listing.{listed_by_id, listed_by_sequence, page_with_leaves, places_of, winners_page, with_documents, with_leaves};
+    ghost use Rattle.sqlstore.specs.Listing.{listed_by_id, listed_by_sequence, page_with_leaves, winners_page, with_leaves};
     ghost use Rattle.sqlstore.specs.Model.{Answers, Stands, trees_of};
 
     // ---- by id
@@ -127,71 +118,5 @@ impl<S: Alter> SqlStore<S> {
             sequence: page.sequence,
             counts: page.counts,
         })
-    }
-
-    // ---- by key
-
-    /// Finds the ids of all documents, by their bytes.
-    fn find_ids(&mut self, number: &i64) -> Result<Vec<DocId>, StoreFault>
-        ensures answer { Answers S.Store self.old self.new (λ ids. ids.items) (Some (map listed_id (listed_by_id (trees_of S.Store self.old) number.now))) result }
-        ensures stands { Stands S.Store self.old self.new }
-    {
-        let rows = self.rows_by_id(number)?;
-        read_ids(self.alloc, &rows)
-    }
-
-    /// Puts a document at its place in an index.
-    #[tactic(auto, using(store::proofs::Winnings::queried_alone))]
-    fn index_document(
-        &mut self,
-        number: &i64,
-        fields: &[FieldPath],
-        id: DocId,
-        index: &mut BTreeMap<KeyRow, Json>,
-    ) -> Result<(), StoreFault>
-        ensures answer { Answers S.Store self.old self.new (λ _. place_views index.new.entries)
-            (Some (put_in_index fields.now id (queried_document id (history_in (trees_of S.Store self.old revs_tree) number.now id)) (place_views index.old.entries))) result }
-        ensures stands { Stands S.Store self.old self.new }
-    {
-        let history = self.find_winning(number, &id)?;
-        put_in_index(self.alloc, index, fields, id, &history)?;
-        Ok(())
-    }
-
-    /// Makes the index of these fields over the documents of these ids.
-    fn index_documents(
-        &mut self,
-        number: &i64,
-        fields: &[FieldPath],
-        ids: Vec<DocId>,
-    ) -> Result<BTreeMap<KeyRow, Json>, StoreFault>
-        ensures answer { Answers S.Store self.old self.new (λ index. place_views index.entries)
-            (Some (with_documents fields.now (history_in (trees_of S.Store self.old revs_tree) number.now) ids.items [])) result }
-        ensures stands { Stands S.Store self.old self.new }
-    {
-        let mut ids = ids;
-        let mut index = BTreeMap::new(self.alloc);
-        while let Some(id) = ids.pop() {
-            self.index_document(number, fields, id, &mut index)?;
-        }
-        Ok(index)
-    }
-
-    /// Finds the rows of the index of these fields, by key and cut by a range.
-    pub(crate) fn find_page_by_key(
-        &mut self,
-        number: &i64,
-        fields: &[FieldPath],
-        range: &KeyRange,
-    ) -> Result<PageByKey, StoreFault>
-        ensures answer { Answers S.Store self.old self.new key_page_of
-            (Some (key_page range.now (places_of fields.now (history_in (trees_of S.Store self.old revs_tree) number.now) (map listed_id (listed_by_id (trees_of S.Store self.old) number.now))))) result }
-        ensures counted { IfOk result (HasKeyCounts range.now) }
-        ensures stands { Stands S.Store self.old self.new }
-    {
-        let ids = self.find_ids(number)?;
-        let index = self.index_documents(number, fields, ids)?;
-        let rows = list_index_rows(self.alloc, index)?;
-        Ok(cut_by_key(rows, range)?)
     }
 }

@@ -2,14 +2,13 @@
 
 use crate::sql_store::SqlStore;
 use sqlite::Alter;
-use store::{StoreFault, take_held};
+use store::StoreFault;
 use transactions::{first_revision, first_winner, read_history, read_outline};
 use tree::{DocId, Entry, History, MarkedRev, Outline, Rev};
 
 impl<S: Alter> SqlStore<S> {
     ghost use Rattle.std.specs.Prelude.{Some};
     ghost use Rattle.std.specs.FinMap as map;
-    ghost use Rattle.store.specs.Winning.{winner_alone};
     ghost use Rattle.tables.specs.Rows.{history_in};
     ghost use Rattle.tables.specs.Schema.{revs_tree};
     ghost use Rattle.tree.specs.Outline.{marked_winner, outline_of};
@@ -59,19 +58,5 @@ impl<S: Alter> SqlStore<S> {
         let id = id.as_str().as_bytes();
         let rows = self.one_revision_rows(number, id, rev.number(), rev.hash())?;
         first_revision(self.alloc, &rows)
-    }
-
-    /// Finds the winner of a document as a history of its own, empty where the document was never written.
-    pub(crate) fn find_winning(&mut self, number: &i64, id: &DocId) -> Result<History, StoreFault>
-        ensures answer { Answers S.Store self.old self.new (λ history. history) (Some (winner_alone (history_in (trees_of S.Store self.old revs_tree) number.now id.now))) result }
-        ensures stands { Stands S.Store self.old self.new }
-    {
-        let mut history = History::new(self.alloc);
-        let Some(winner) = self.find_winner(number, id)? else {
-            return Ok(history);
-        };
-        let known = self.find_revision(number, id, &winner.rev)?;
-        history.put_revision(winner.rev, None, take_held(known))?;
-        Ok(history)
     }
 }

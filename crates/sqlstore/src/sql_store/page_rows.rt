@@ -9,7 +9,7 @@ use transactions::integer_of;
 
 /// Returns the limit of a statement by which no row of a page is lost: the page's own, where it has one
 /// that SQLite can hold, and else -1, which is none.
-fn limit_of(limit: Option<u64>) -> i64
+pub(crate) fn limit_of(limit: Option<u64>) -> i64
     ensures { IsLimitFor limit result }
 {
     match limit {

@@ -1,4 +1,8 @@
 use Rattle.index.proofs.Common.{Declared, Err, Error, HasIndexRows, IndexFault, List, None, Ok, Option, Some, declared, option_map, refl, rules, state, subst, sym, ℕ, ⊤, ◌∙◌, ◌≡◌}
+use Rattle.index.proofs.Going.{if_err}
+use Rattle.index.proofs.Refusals.{refused_as, refused_then}
+use Rattle.index.proofs.ShownDeclarations.{refused_of}
+use Rattle.index.specs.Steps.{AreFit}
 use Rattle.index.proofs.Rebuilt.{then_put, then_undeclared, unchanged}
 use Rattle.index.proofs.StepLemmas.{steps_none, steps_read, steps_stop, steps_then}
 use Rattle.index.specs.Declaring.{IsFoundIn, IsRebuildable, IsRebuilt, IsUndeclared, with_index}
@@ -80,3 +84,38 @@ returns-clause-sets g c declares sees =
     a m z c.in_ok-take_out.field-0 c.put_in.result both (c.put_in.ensures.puts none sees)
     (λ was fit out. then_undeclared declares db design name sees (state g.S.Store a).now (state g.S.Store m).now fit out)
     (λ was fit out put. then_put declares db design name sees fields (state g.S.Store a).now (state g.S.Store m).now (state g.S.Store z).now out put)
+
+pub returns-in_err-found-clause-err : goal.returns-in_err-found-clause-err
+returns-in_err-found-clause-err g c declares sees =
+    let fit = AreFit g.S.Store (IsRebuildable declares sees c.args.db.now) c.args.tx.now.conn.now c.find_stored.new.tx.conn.now in
+    let why = c.in_err-found.field-0.0 in
+    let is : c.from_residual.result ≡ Err why = search rules in
+    refused_as fit c.from_residual.result why is
+    (refused_of (AreFit g.S.Store HasIndexRows c.args.tx.now.conn.now c.find_stored.new.tx.conn.now) fit why
+    (λ it. (it.0, record { schema_is = it.1.store.schema_is; decls = it.1.indexed.decls; entries = it.1.indexed.entries.laid })) c.in_err-found.ensures.err)
+
+pub returns-clause-err : goal.returns-clause-err
+returns-clause-err g c declares sees =
+    let a = c.args.tx.now.conn.now in
+    let b = c.find_stored.new.tx.conn.now in
+    let m = c.take_out.new.tx.conn.now in
+    let z = c.put_in.new.tx.conn.now in
+    let db = c.args.db.now in
+    let design = c.args.design.now in
+    let name = c.args.name.now in
+    let found = option_map declared c.in_ok-found.found in
+    let e = c.in_ok-found.ensures in
+    let none = with_index declares db design name None in
+    let both =
+    steps_then g.S.Store {E = IndexFault} (IsRebuildable declares sees db) (IsFoundIn declares sees db design name found) (λ p q. q ≡ p) (IsRebuilt (with_index declares db design name None) sees) (IsRebuilt (with_index declares db design name None) sees)
+    a b m c.in_ok-found.found (Ok c.in_ok-take_out.field-0)
+    (steps_read g.S.Store (IsRebuildable declares sees db) a b (Ok c.in_ok-found.found) e.stands e.looks e.asks (λ fit. fit.store.schema_is))
+    (c.in_ok-take_out.ensures.takes declares sees)
+    (λ was fit same.
+    let rows : HasIndexRows (state g.S.Store a).now = record { schema_is = fit.store.schema_is; decls = fit.indexed.decls; entries = fit.indexed.entries.laid } in
+    subst (IsFoundIn declares sees db design name found) (sym same) (record { fit = fit; found_is = e.finds was rows }))
+    (λ was fit same got. subst (λ p. IsRebuilt (with_index declares db design name None) sees p (state g.S.Store m).now) same got) in
+    if_err c.put_in.result
+    (λ why. refused_then g.S.Store {E = Error} (IsRebuildable declares sees db) (IsUndeclared none sees db design name) (IsRebuilt none sees) a m z c.in_ok-take_out.field-0 why both (c.put_in.ensures.puts none sees).asks
+    (λ was fit out. then_undeclared declares db design name sees (state g.S.Store a).now (state g.S.Store m).now fit out))
+    (c.put_in.ensures.err none sees)

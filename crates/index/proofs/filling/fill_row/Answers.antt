@@ -1,4 +1,4 @@
-use Rattle.index.proofs.Common.{AreEntriesOf, Bool, Database, HasEntries, IndexFault, List, None, Ok, Option, Some, ap, declared, entries_tree, false, is_key, key_if_seen, option_map, refl, rules, schema, sees_in, state, subst, sym, true, with_key, ℕ, ◌∙◌, ◌≡◌}
+use Rattle.index.proofs.Common.{AreEntriesOf, Bool, Database, Err, HasEntries, IndexFault, List, None, Ok, Option, Some, ap, declared, entries_tree, false, is_key, key_if_seen, option_map, refl, rules, schema, sees_in, state, subst, sym, true, with_key, ℕ, ⊤, ◌∙◌, ◌≡◌}
 use Rattle.couch_json.specs.declared.value.Json.{Json}
 use Rattle.std.proofs.Common.{Bor}
 use Rattle.std.specs.Option.{option_copied}
@@ -6,7 +6,12 @@ use Rattle.couch_json.specs.Value.{Value}
 use Rattle.couch_json.specs.View.{view}
 use Rattle.index.proofs.EntryChanges.{entries_as, with_same}
 use Rattle.index.proofs.Filled.{unseen_of}
-use Rattle.index.proofs.Going.{has_itself}
+use Rattle.index.proofs.Going.{has_itself, if_err}
+use Rattle.index.proofs.Refusals.{listed_one, refused_as}
+use Rattle.index.proofs.ShownDeclarations.{refused_of}
+use Rattle.index.specs.Calls.{IsSoundStore}
+use Rattle.index.specs.Steps.{AreFit}
+use Rattle.tables.specs.Listings.{IsListedDocument}
 use Rattle.index.proofs.StepLemmas.{steps_key, steps_none, steps_read, steps_then}
 use Rattle.index.specs.Filling.{IsToFill}
 use Rattle.std.specs.Prelude.{◌||◌}
@@ -63,3 +68,28 @@ returns-clause-fills g c d due =
     let seen : option_map {U = Value} (λ v. view v.now) c.as_ref.result ≡ sees_in a.trees db (id_of d) = sym (copied_view c.as_ref.result) ∙ ap (option_map {U = Value} view) c.as_ref.ensures.value ∙ told in
     subst (λ i. HasEntries (with_key due x.number i (key_if_seen x.fields (sees_in a.trees db (id_of d)))) a e) (read ∙ as_listed.id)
     (subst (λ o. HasEntries (with_key due x.number id (key_if_seen x.fields o)) a e) seen (subst (λ z. HasEntries (with_key due x.number id after) z e) same got)))
+
+pub returns-in_err-listed-clause-err : goal.returns-in_err-listed-clause-err
+returns-in_err-listed-clause-err g c d due =
+    let a = c.args.tx.now.conn.now in
+    let db = c.args.db.now in
+    let x = declared c.args.declaration.now in
+    let fault = c.in_err-listed.field-0.0 in
+    let is : c.from_residual.result ≡ Err fault = search rules in
+    refused_as (AreFit g.S.Store (IsToFill db x c.args.row.now d due) a a) c.from_residual.result fault is
+    (refused_of (IsListedDocument c.args.row.now) (AreFit g.S.Store (IsToFill db x c.args.row.now d due) a a) fault
+    (λ it. subst IsListedDocument (sym it.1.shown_is) (listed_one (state g.S.Store a).now.trees it.1.store.laid d it.1.row)) c.in_err-listed.ensures.err)
+
+pub returns-in_err-seen-clause-err : goal.returns-in_err-seen-clause-err
+returns-in_err-seen-clause-err g c d due =
+    let a = c.args.tx.now.conn.now in
+    let b = c.find_live.new.tx.conn.now in
+    let db = c.args.db.now in
+    let x = declared c.args.declaration.now in
+    let fault = c.in_err-seen.field-0.0 in
+    let is : c.from_residual-in_err-seen.result ≡ Err fault = search rules in
+    refused_as (AreFit g.S.Store (IsToFill db x c.args.row.now d due) a b) c.from_residual-in_err-seen.result fault is
+    (refused_of (IsSoundStore g.S.Store a b) (AreFit g.S.Store (IsToFill db x c.args.row.now d due) a b) fault (λ it. (it.0, λ up. it.1.store)) c.in_err-seen.ensures.err)
+
+pub returns-clause-err : goal.returns-clause-err
+returns-clause-err g c d due = if_err c.refresh_index.result (λ e. refused_of ⊤ _ e (λ it. tt)) c.refresh_index.ensures.err

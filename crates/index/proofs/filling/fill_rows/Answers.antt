@@ -2,9 +2,11 @@ use Rattle.index.proofs.Common.{Err, HasEntries, Ok, [], declared, drop, get_or,
 use Rattle.std.proofs.Common.{◌≤◌}
 use Rattle.std.proofs.lemmas.List.{drop_all, length-map}
 use Rattle.index.proofs.Filled.{next_done, next_row, none_missing}
+use Rattle.index.proofs.Refusals.{refused_as, refused_then}
+use Rattle.index.specs.Steps.{AreFit}
 use Rattle.index.proofs.Going.{has_as, has_itself}
 use Rattle.index.proofs.StepLemmas.{steps_none, steps_so, steps_stop, steps_then}
-use Rattle.index.specs.Filling.{AreToFill, without_ids}
+use Rattle.index.specs.Filling.{AreToFill, IsToFill, without_ids}
 use Rattle.tables.specs.Rows.{id_of, listed_document}
 use Rattle.index.proofs.filling.fill_rows.Goals as goal
 
@@ -67,3 +69,24 @@ returns-clause-fills g c docs due =
     let size : length rows ≡ length docs = ap length fit.shown_is ∙ length-map docs listed_document in
     let end : length docs ≤ i = omega (arith, none, size) in
     has_as (without_ids due x.number (map id_of (drop i docs))) due a b (λ m k j. ap (λ l. without_ids due x.number (map id_of l) m k j) (drop_all i docs end) ∙ none_missing due x.number m k j) made)
+
+pub returns-in_err-fill_row-clause-err : goal.returns-in_err-fill_row-clause-err
+returns-in_err-fill_row-clause-err g c docs due =
+    let inv = c.loop-row.invariant in
+    let first = c.args.tx.now.conn.now in
+    let between = c.loop-row.tx.conn.now in
+    let last = c.fill_row.new.tx.conn.now in
+    let a = (state g.S.Store first).now in
+    let b = (state g.S.Store between).now in
+    let x = declared c.args.declaration.now in
+    let db = c.args.db.now in
+    let rows = c.args.rows.now in
+    let i = c.loop-row.row-index in
+    let s = c.row-item.result in
+    let left = without_ids due x.number (map id_of (drop i docs)) in
+    let fault = c.in_err-fill_row.field-0.0 in
+    let is : c.from_residual.result ≡ Err fault = search rules in
+    refused_as (AreFit g.S.Store (AreToFill db x rows docs due) first last) c.from_residual.result fault is
+    (refused_then g.S.Store (AreToFill db x rows docs due) (IsToFill db x s (get_or docs i []) left) (HasEntries left) first between last tt fault
+    (inv.so_far docs due) (c.in_err-fill_row.ensures.fills (get_or docs i []) left).asks
+    (λ was fit made. next_row db x rows docs due i s c.loop-row-test.true c.row-item.is a b fit made) (c.in_err-fill_row.ensures.err (get_or docs i []) left))

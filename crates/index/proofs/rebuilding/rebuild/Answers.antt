@@ -1,7 +1,11 @@
-use Rattle.index.proofs.Common.{Err, Error, HasCleanDisk, HasIndexRows, IndexFault, List, Ok, ap, arith, decls_tree, filter, is_at_home, map, option_map, rules, shown_declaration, state, subst, sym, with_declared, ℕ, ⊤, ◌∙◌, ◌≡◌}
+use Rattle.index.proofs.Common.{AllByRecursion, Err, Error, HasCleanDisk, HasIndexRows, IndexFault, IsShownDeclaration, List, Ok, ap, arith, decls_tree, filter, is_at_home, map, option_map, rules, shown_declaration, state, subst, sym, with_declared, ℕ, ⊤, ◌∙◌, ◌≡◌}
 use Rattle.couch_json.specs.Value.{Value}
 use Rattle.couch_json.specs.View.{view}
 use Rattle.index.proofs.AllDeclared.{all_declared}
+use Rattle.index.proofs.Going.{if_err}
+use Rattle.index.proofs.Refusals.{refused_as, refused_then, shown_some}
+use Rattle.index.proofs.ShownDeclarations.{refused_of}
+use Rattle.index.specs.Steps.{AreFit, WasFit}
 use Rattle.index.proofs.Rebuilt.{rebuildable, rebuilt_as, rebuilt_then}
 use Rattle.index.proofs.StepLemmas.{steps_read, steps_stop, steps_then}
 use Rattle.index.specs.Declaring.{IsRebuildable, IsRebuilt}
@@ -54,8 +58,72 @@ returns-clause-rebuilds g c declares sees =
     let clean : HasCleanDisk (state g.S.Store b) = omega (arith, sets.asks.survives.clean, was) in
     let rows : HasIndexRows (state g.S.Store a).now = record { schema_is = fit.store.schema_is; decls = fit.indexed.decls; entries = fit.indexed.entries.laid } in
     let one_is : one ≡ map shown_name (map shown_declaration (filter (is_at_home db) decls)) =
-    ap (map {B = List ℕ} (λ name. name.items)) c.deref-2.ensures.value ∙ c.in_ok-stored.ensures ∙ ap (map shown_name) (c.deref.ensures.value ∙ reads.found clean rows) in
+    ap (map {B = List ℕ} (λ name. name.items)) c.deref-2.ensures.value ∙ c.in_ok-stored.ensures.ok ∙ ap (map shown_name) (c.deref.ensures.value ∙ reads.found clean rows) in
     let two_is : two ≡ declared_names body = ap (map {B = List ℕ} (λ name. name.items)) c.deref-3.ensures.value ∙ c.in_ok-declared.ensures in
     rebuilt_as second (with_declared declares db design f) sees (state g.S.Store a).now (state g.S.Store e).now
     (λ d o n. (λ j. with_names (with_names declares db design f (one_is j)) db design f (two_is j) d o n) ∙ all_declared declares db design body decls fit.indexed.declared d o n)
     (rebuilt_then first second sees (state g.S.Store a).now (state g.S.Store m).now (state g.S.Store e).now made got))
+
+pub returns-in_err-stored-clause-err : goal.returns-in_err-stored-clause-err
+returns-in_err-stored-clause-err g c declares sees =
+    let a = c.args.tx.now.conn.now in
+    let b = c.rows_of_database.new.tx.conn.now in
+    let db = c.args.db.now in
+    let reads = c.in_ok-rows.ensures.reads in
+    let sound = WasFit g.S.Store (IsRebuildable declares sees db) a b in
+    let why = c.in_err-stored.field-0.0 in
+    let is : c.from_residual-in_err-stored.result ≡ Err why = search rules in
+    refused_as sound c.from_residual-in_err-stored.result why is
+    (refused_of (AllByRecursion IsShownDeclaration c.deref.result.now) sound why
+    (λ it.
+    let fit = it.1 (reads.served it.0) in
+    let rows : HasIndexRows (state g.S.Store a).now = record { schema_is = fit.store.schema_is; decls = fit.indexed.decls; entries = fit.indexed.entries.laid } in
+    shown_some (state g.S.Store a).now rows (is_at_home db) c.deref.result.now (c.deref.ensures.value ∙ reads.found it.0 rows)) c.in_err-stored.ensures.err)
+
+pub returns-in_err-set_names-clause-err : goal.returns-in_err-set_names-clause-err
+returns-in_err-set_names-clause-err g c declares sees =
+    let a = c.args.tx.now.conn.now in
+    let b = c.rows_of_database.new.tx.conn.now in
+    let m = c.set_names.new.tx.conn.now in
+    let db = c.args.db.now in
+    let reads = c.in_ok-rows.ensures.reads in
+    let sets = c.in_err-set_names.ensures.sets declares sees in
+    let sound = WasFit g.S.Store (IsRebuildable declares sees db) a m in
+    let why = c.in_err-set_names.field-0.0 in
+    let is : c.from_residual-in_err-set_names.result ≡ Err why = search rules in
+    refused_as sound c.from_residual-in_err-set_names.result why is
+    (refused_of (AreFit g.S.Store (IsRebuildable declares sees db) a m) sound why
+    (λ it. let was : HasCleanDisk (state g.S.Store b) = omega (arith, sets.asks.survives.clean, it.0) in (it.0, it.1 (reads.served was)))
+    (refused_then g.S.Store {E = Error} (IsRebuildable declares sees db) (IsRebuildable declares sees db) (λ p q. q ≡ p) a b m c.in_ok-rows.rows why
+    (steps_read g.S.Store (IsRebuildable declares sees db) a b (Ok c.in_ok-rows.rows) reads.stands reads.looks reads.asks (λ fit. fit.store.schema_is)) sets.asks
+    (λ was fit same. subst (IsRebuildable declares sees db) (sym same) fit) (c.in_err-set_names.ensures.err declares sees)))
+
+pub returns-clause-err : goal.returns-clause-err
+returns-clause-err g c declares sees =
+    let a = c.args.tx.now.conn.now in
+    let b = c.rows_of_database.new.tx.conn.now in
+    let m = c.set_names.new.tx.conn.now in
+    let e = c.set_names-2.new.tx.conn.now in
+    let db = c.args.db.now in
+    let design = c.args.design.now in
+    let f = declared_if (option_map {U = Value} (λ v. view v.now) c.args.body) in
+    let one = map {B = List ℕ} (λ name. name.items) c.deref-2.result.now in
+    let reads = c.in_ok-rows.ensures.reads in
+    let first = with_names declares db design f one in
+    let sets = c.in_ok-set_names.ensures.sets declares sees in
+    let later = c.set_names-2.ensures.sets first sees in
+    let sound = WasFit g.S.Store (IsRebuildable declares sees db) a e in
+    let both =
+    steps_then g.S.Store {E = Error} (IsRebuildable declares sees db) (IsRebuildable declares sees db) (λ p q. q ≡ p) (IsRebuilt first sees) (IsRebuilt first sees) a b m c.in_ok-rows.rows (Ok c.in_ok-set_names.field-0)
+    (steps_read g.S.Store (IsRebuildable declares sees db) a b (Ok c.in_ok-rows.rows) reads.stands reads.looks reads.asks (λ fit. fit.store.schema_is)) sets
+    (λ was fit same. subst (IsRebuildable declares sees db) (sym same) fit) (λ was fit same got. subst (λ p. IsRebuilt first sees p (state g.S.Store m).now) same got) in
+    if_err c.set_names-2.result
+    (λ why h.
+    refused_of (AreFit g.S.Store (IsRebuildable declares sees db) a e) sound why
+    (λ it.
+    let mid : HasCleanDisk (state g.S.Store m) = omega (arith, later.asks.survives.clean, it.0) in
+    let was : HasCleanDisk (state g.S.Store b) = omega (arith, sets.asks.survives.clean, mid) in
+    (it.0, it.1 (reads.served was)))
+    (refused_then g.S.Store {E = IndexFault} (IsRebuildable declares sees db) (IsRebuildable first sees db) (IsRebuilt first sees) a m e c.in_ok-set_names.field-0 why both later.asks
+    (λ was fit made. rebuildable declares first sees db (state g.S.Store a).now (state g.S.Store m).now fit made) h))
+    (c.set_names-2.ensures.err first sees)

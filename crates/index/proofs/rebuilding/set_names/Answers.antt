@@ -2,7 +2,9 @@ use Rattle.index.proofs.Common.{Err, IndexFault, List, Ok, [], ap, arith, length
 use Rattle.couch_json.specs.Value.{Value}
 use Rattle.couch_json.specs.View.{view}
 use Rattle.index.proofs.Rebuilt.{indexes_itself, rebuildable, rebuilt_as, rebuilt_then, with_more, with_none}
+use Rattle.index.proofs.Refusals.{refused_as, refused_then}
 use Rattle.index.proofs.StepLemmas.{steps_none, steps_so, steps_stop, steps_then}
+use Rattle.index.specs.Steps.{AreFit}
 use Rattle.index.specs.Declaring.{IsRebuildable, IsRebuilt, with_index}
 use Rattle.index.specs.Meaning.{declared_if}
 use Rattle.index.specs.Rebuilding.{with_names}
@@ -81,3 +83,17 @@ returns-clause-sets g c declares sees =
     let all = with_names declares db design f (map {B = List ℕ} (λ name. name.items) c.args.names.now) in
     steps_so g.S.Store (IsRebuildable declares sees db) (IsRebuilt before sees) (IsRebuilt all sees) a b (Ok tt) (c.loop-name.invariant.so_far declares sees)
     (λ fit made. rebuilt_as before all sees (state g.S.Store a).now (state g.S.Store b).now (λ d o n. ap (λ l. with_names declares db design f (map {B = List ℕ} (λ name. name.items) l) d o n) (take_all i c.args.names.now none)) made)
+
+pub returns-in_err-set_name-clause-err : goal.returns-in_err-set_name-clause-err
+returns-in_err-set_name-clause-err g c declares sees =
+    let a = c.args.tx.now.conn.now in
+    let b = c.loop-name.tx.conn.now in
+    let e = c.set_name.new.tx.conn.now in
+    let db = c.args.db.now in
+    let f = declared_if (option_map {U = Value} (λ v. view v.now) c.args.body) in
+    let before = with_names declares db c.args.design.now f (map {B = List ℕ} (λ name. name.items) (take c.loop-name.name-index c.args.names.now)) in
+    let why = c.in_err-set_name.field-0.0 in
+    let is : c.from_residual.result ≡ Err why = search rules in
+    refused_as (AreFit g.S.Store (IsRebuildable declares sees db) a e) c.from_residual.result why is
+    (refused_then g.S.Store {E = IndexFault} (IsRebuildable declares sees db) (IsRebuildable before sees db) (IsRebuilt before sees) a b e tt why (c.loop-name.invariant.so_far declares sees) (c.in_err-set_name.ensures.sets before sees).asks
+    (λ was fit made. rebuildable declares before sees db (state g.S.Store a).now (state g.S.Store b).now fit made) (c.in_err-set_name.ensures.err before sees))

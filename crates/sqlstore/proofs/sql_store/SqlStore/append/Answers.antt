@@ -56,5 +56,5 @@ returns-in-Err-clause-told g c =
     let name = c.args.name.now in
     let e = c.in-Err.ensures in
     told_of _ _ _ _ c.in-Err.fault _ (e.err name) c.judge_write.ensures.told
-    (λ honest. sound g.S.Store (AreDue (additions c.args.writes.now) name c.args.number.now c.args.sequence) s.conn c.commit_writes.new.conn s.origin.value s.last.value e.turns.clean s.standing.held honest.0 honest.1
+    (λ honest. sound g.S.Store (λ d. AreDue (additions c.args.writes.now) name c.args.number.now c.args.sequence d.trees) s.conn c.commit_writes.new.conn s.origin.value s.last.value e.turns.clean s.standing.held honest.0 honest.1
     (c.requires.due (e.turns.clean honest.0, honest.1)))

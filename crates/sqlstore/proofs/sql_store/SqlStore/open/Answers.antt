@@ -1,5 +1,8 @@
 use Rattle.sqlstore.proofs.Lemmas.{Database, Err, Held, IsStore, IsTrue, ap, contents_in, has_all, has_any, inr, is_first, meta_tree, not, nothing, state, subst, sym, true, ∥∥₁_map, ◌∙◌, ◌≡◌}
 use Rattle.tables.proofs.Laid.{holds}
+use Rattle.index.proofs.NewIndexes.{new_indexed}
+use Rattle.index.specs.Indexed.{IsIndexed}
+use Rattle.transactions.specs.Indexing.{IsIndexedStore}
 use Rattle.sqlstore.proofs.sql_store.SqlStore.open.Goals as goal
 
 pub returns-in-Err-clause-not_ours : goal.returns-in-Err-clause-not_ours
@@ -17,7 +20,8 @@ invariant_of-result g c =
         idle = turns.idle;
         unlimited = turns.limit ∙ ap (λ (h : Held g.row.S.Denot). h.step_limit) c.set_step_limit.ensures;
         held = λ clean was. ∥∥₁_map was (λ store. record {
-          store = subst (λ h. IsStore (now h)) (c.of-origin.ensures ∙ sym c.of-last.ensures) store;
+          store = subst (λ h. IsStore (now h)) (c.of-origin.ensures ∙ sym c.of-last.ensures) store.store;
+          indexed = subst (λ h. IsIndexed (now h).trees) (c.of-origin.ensures ∙ sym c.of-last.ensures) store.indexed;
           now = λ up. ap now (sym c.of-last.ensures);
           committed = λ up. sym (c.is_autocommit-2.ensures.settled settled up) ∙ ap now (sym c.of-last.ensures);
         });
@@ -29,14 +33,14 @@ pub returns-clause-found : goal.returns-clause-found
 returns-clause-found g c clean store =
     let now : Held g.row.S.Denot → Database = λ h. (state g.S.Store h).now in
     let began = ap now c.set_step_limit.ensures in
-    let same : now c.find_tables.new.conn ≡ now c.args.conn = c.in_default.ensures.found clean (subst IsStore (sym began) store) ∙ began in
-    ((clean, ∣ subst IsStore (sym (ap now c.of-origin.ensures ∙ same)) store ∣₁), ap (λ (d : Database). contents_in d.trees) (ap now c.of-last.ensures ∙ same))
+    let same : now c.find_tables.new.conn ≡ now c.args.conn = c.in_default.ensures.found clean (subst IsStore (sym began) store.store) ∙ began in
+    ((clean, ∣ subst IsIndexedStore (sym (ap now c.of-origin.ensures ∙ same)) store ∣₁), ap (λ (d : Database). contents_in d.trees) (ap now c.of-last.ensures ∙ same))
 
 pub returns-clause-made : goal.returns-clause-made
 returns-clause-made g c clean none =
     let now : Held g.row.S.Denot → Database = λ h. (state g.S.Store h).now in
     let made = c.in_default.ensures.made clean (ap (λ (h : Held g.row.S.Denot). h.schema) c.set_step_limit.ensures ∙ none) in
-    ((clean, ∣ subst IsStore (sym (ap now c.of-origin.ensures)) (holds (now c.find_tables.new.conn) made) ∣₁), ap (λ h. contents_in (now h).trees) c.of-last.ensures ∙ nothing (now c.find_tables.new.conn) made)
+    ((clean, ∣ subst IsIndexedStore (sym (ap now c.of-origin.ensures)) (record { store = holds (now c.find_tables.new.conn) made; indexed = new_indexed (now c.find_tables.new.conn) made }) ∣₁), ap (λ h. contents_in (now h).trees) c.of-last.ensures ∙ nothing (now c.find_tables.new.conn) made)
 
 pub returns-clause-all : goal.returns-clause-all
 returns-clause-all g c = subst (λ (h : Held g.row.S.Denot). has_any h.schema ≡ true → has_all h.schema ≡ true) c.set_step_limit.ensures c.in_default.ensures.all

@@ -1,0 +1,171 @@
+-- The parts of a lawful value are lawful, and what is shown of a lawful body.
+use Rattle.std.proofs.Common.{◌≡◌, ◌≤◌, ◌⊎◌, inl, inr, ⊎_elim, ℕ, ◌+◌, Bool, true, false, cond, List, [], ◌∷◌, ◌++◌, Option, Some, None, max, refl, ap, ◌∙◌, subst, sym, arith}
+use Rattle.std.specs.Prelude.{IsUtf8, codes, option_and_then, option_map}
+use Rattle.std.specs.declared.cmp.Ordering.{Ordering}
+use Rattle.std.specs.declared.cmp.Ordering.TheVariants.{Less, Equal, Greater}
+use Rattle.std.specs.Ordering.{nat_cmp, match_ordering, ordering_reverse}
+use Rattle.std.specs.Cmp.Lexicographic.{slice_cmp}
+use Rattle.std.specs.Fmt.{decimal}
+use Rattle.std.proofs.lemmas.Cmp.{nat_list_cmp_total}
+use Rattle.std.proofs.lemmas.Fmt.{IsAscii-decimal}
+use Rattle.std.proofs.lemmas.Str.{IsUtf8-append, IsUtf8-from_ascii, IsUtf8-from_is_utf8}
+use Rattle.std.proofs.lemmas.Bool.Decides.{nat_tests}
+use Rattle.std.specs.Cmp.{first_so, second_so}
+use Rattle.std.specs.Prelude.{nat_le}
+use Rattle.couch_json.specs.FieldPath.{names_in, value_along, value_at}
+use Rattle.couch_json.specs.Lawful.{AreLawfulItems, AreLawfulMembers, HasAscendingNames, IsBefore, IsLawful}
+use Rattle.couch_json.specs.Value.{Items, Members, Value, array, depth, item, items_depth, member, member_at, member_of, members_depth, no_items, no_members, null, object, put, text, truth, whole}
+use Rattle.store.specs.Indexes.{field_values, values_with}
+use Rattle.tree.proofs.RevisionText.{IsUtf8-revision}
+use Rattle.tree.specs.Revision.{Revision, greatest_number, is_revision, text_of}
+use Rattle.tree.specs.ShownDocument.{members_in, shown_document, shown_members, with_mark}
+use Rattle.tree.specs.declared.entry.Held.{Held}
+
+one_of : (o : Ordering) (found here : Option Value) (v : Value) → match_ordering o found here found ≡ Some v → (found ≡ Some v) ⊎ (here ≡ Some v)
+one_of Less found here v e = inl e
+one_of Equal found here v e = inr e
+one_of Greater found here v e = inl e
+
+member_lawful : (name : List ℕ) (ms : Members) (v : Value) → AreLawfulMembers ms → member_at name ms ≡ Some v → IsLawful v
+member_lawful name no_members v h e = absurd cc
+member_lawful name (member other w ms) v h e =
+    ⊎_elim (λ k. member_lawful name ms v h.2 k) (λ k. let same : w ≡ v = cc in subst IsLawful same h.1)
+    (one_of (slice_cmp nat_cmp name other) (member_at name ms) (Some w) v e)
+
+-- a member of a lawful value is lawful
+pub member_part : (v w : Value) (name : List ℕ) → IsLawful v → member_of v name ≡ Some w → IsLawful w
+member_part null w name h e = absurd cc
+member_part (truth b) w name h e = absurd cc
+member_part (whole n) w name h e = absurd cc
+member_part (text t) w name h e = absurd cc
+member_part (array vs) w name h e = absurd cc
+member_part (object ms) w name h e = member_lawful name ms w h.1 e
+
+-- ---- members that are put
+
+before_put : (a name : List ℕ) (v : Value) (ms : Members) → slice_cmp nat_cmp a name ≡ Less → IsBefore a ms → IsBefore a (put name v ms)
+before_put a name v no_members lt h = (lt, tt)
+before_put a name v (member other w ms) lt h = by (slice_cmp nat_cmp name other) (before_put a name v ms lt h.1)
+  where
+    by : (o : Ordering) → IsBefore a (put name v ms) → IsBefore a (match_ordering o (member name v (member other w ms)) (member other v ms) (member other w (put name v ms)))
+    by Less rest = (lt, h)
+    by Equal rest = h
+    by Greater rest = (h.0, rest)
+
+before_all : (a b : List ℕ) (ms : Members) → slice_cmp nat_cmp a b ≡ Less → IsBefore b ms → IsBefore a ms
+before_all a b no_members lt h = tt
+before_all a b (member other w ms) lt h = (nat_list_cmp_total.trans a b other lt h.0, before_all a b ms lt h.1)
+
+put_ascends : (name : List ℕ) (v : Value) (ms : Members) → HasAscendingNames ms → HasAscendingNames (put name v ms)
+put_ascends name v no_members h = (tt, tt)
+put_ascends name v (member other w ms) h = by (slice_cmp nat_cmp name other) refl (put_ascends name v ms h.1)
+  where
+    by : (o : Ordering) → slice_cmp nat_cmp name other ≡ o → HasAscendingNames (put name v ms) → HasAscendingNames (match_ordering o (member name v (member other w ms)) (member other v ms) (member other w (put name v ms)))
+    by Less is rest = ((is, before_all name other ms is h.0), h)
+    by Equal is rest = h
+    by Greater is rest = (before_put other name v ms (nat_list_cmp_total.antisymm other name ∙ ap ordering_reverse is) h.0, rest)
+
+put_each : (name : List ℕ) (v : Value) (ms : Members) → IsUtf8 name → IsLawful v → AreLawfulMembers ms → AreLawfulMembers (put name v ms)
+put_each name v no_members u k h = (u, k, tt)
+put_each name v (member other w ms) u k h = by (slice_cmp nat_cmp name other) (put_each name v ms u k h.2)
+  where
+    by : (o : Ordering) → AreLawfulMembers (put name v ms) → AreLawfulMembers (match_ordering o (member name v (member other w ms)) (member other v ms) (member other w (put name v ms)))
+    by Less rest = (u, k, h)
+    by Equal rest = (h.0, k, h.2)
+    by Greater rest = (h.0, h.1, rest)
+
+-- a lawful object with a lawful member more is lawful
+pub put_lawful : (name : List ℕ) (v : Value) (ms : Members) → IsUtf8 name → IsLawful v → IsLawful (object ms) → IsLawful (object (put name v ms))
+put_lawful name v ms u k h = (put_ascends name v ms h.0, put_each name v ms u k h.1)
+
+-- ---- how deep the parts nest
+
+member_shallow : (name : List ℕ) (ms : Members) (v : Value) → member_at name ms ≡ Some v → depth v ≤ members_depth ms
+member_shallow name no_members v e = absurd cc
+member_shallow name (member other w ms) v e =
+    ⊎_elim (λ k. omega (arith, member_shallow name ms v k, max_right (depth w) (members_depth ms))) (λ k. let same : w ≡ v = cc in omega (arith, ap depth same, max_left (depth w) (members_depth ms)))
+    (one_of (slice_cmp nat_cmp name other) (member_at name ms) (Some w) v e)
+  where
+    max_left : (a b : ℕ) → a ≤ max a b
+    max_left a b = omega arith
+
+    max_right : (a b : ℕ) → b ≤ max a b
+    max_right a b = omega arith
+
+part_shallow : (v w : Value) (name : List ℕ) → member_of v name ≡ Some w → depth w ≤ depth v
+part_shallow null w name e = absurd cc
+part_shallow (truth b) w name e = absurd cc
+part_shallow (whole n) w name e = absurd cc
+part_shallow (text t) w name e = absurd cc
+part_shallow (array vs) w name e = absurd cc
+part_shallow (object ms) w name e = omega (arith, member_shallow name ms w e)
+
+put_shallow : (name : List ℕ) (v : Value) (ms : Members) (n : ℕ) → depth v ≤ n → members_depth ms ≤ n → members_depth (put name v ms) ≤ n
+put_shallow name v no_members n p q = omega (arith, p)
+put_shallow name v (member other w ms) n p q = by (slice_cmp nat_cmp name other) (put_shallow name v ms n p (omega (arith, q)))
+  where
+    by : (o : Ordering) → members_depth (put name v ms) ≤ n → members_depth (match_ordering o (member name v (member other w ms)) (member other v ms) (member other w (put name v ms))) ≤ n
+    by Less rest = omega (arith, p, q)
+    by Equal rest = omega (arith, p, q)
+    by Greater rest = omega (arith, q, rest)
+
+-- ---- what is found along a path
+
+-- a lawful value that nests at most so deep
+pub record IsSound (n : ℕ) (v : Value) : Type 0 where
+  pub lawful : IsLawful v
+  pub shallow : depth v ≤ n
+
+along : (n : ℕ) (names : List (List ℕ)) (v w : Value) → IsSound n v → value_along names v ≡ Some w → IsSound n w
+along n [] v w h e = let same : v ≡ w = cc in subst (IsSound n) same h
+along n (name ∷ names) v w h e = by (member_of v name) refl e
+  where
+    by : (o : Option Value) → member_of v name ≡ o → option_and_then (value_along names) o ≡ Some w → IsSound n w
+    by None is k = absurd cc
+    by (Some u) is k = along n names u w (record { lawful = member_part v u name h.lawful is; shallow = omega (arith, part_shallow v u name is, h.shallow) }) k
+
+-- the values at fields are lawful, and nest no deeper
+pub values_sound : (n : ℕ) (fields : List (List ℕ)) (v : Value) (vs : Items) → IsSound n v → field_values fields v ≡ Some vs → AreLawfulItems vs × (items_depth vs ≤ n)
+values_sound n [] v vs h e = let same : no_items ≡ vs = cc in (subst AreLawfulItems same tt, subst (λ us. items_depth us ≤ n) same (omega arith))
+values_sound n (path ∷ fields) v vs h e = by (value_at path v) (field_values fields v) refl refl e
+  where
+    by : (o : Option Value) (rest : Option Items) → value_at path v ≡ o → field_values fields v ≡ rest → values_with o rest ≡ Some vs → AreLawfulItems vs × (items_depth vs ≤ n)
+    by None rest is are k = absurd cc
+    by (Some w) None is are k = absurd cc
+    by (Some w) (Some ws) is are k =
+        let one = along n (names_in path) v w h is in
+        let more = values_sound n fields v ws h are in
+        let same : item w ws ≡ vs = cc in
+        (subst AreLawfulItems same (one.lawful, more.0), subst (λ us. items_depth us ≤ n) same (omega (arith, one.shallow, more.1)))
+
+-- ---- what is shown of a lawful body
+
+small : (n : ℕ) → nat_le n greatest_number ≡ true → n < 2 ^ 64
+small n h = grind (arith, nat_tests, h)
+
+revision_text : (r : Revision) → is_revision r ≡ true → IsUtf8 (text_of r)
+revision_text r h =
+    let bounded : nat_le r.number greatest_number ≡ true = first_so _ _ (second_so _ _ h) in
+    IsUtf8-append (decimal r.number) _ (IsUtf8-from_ascii (decimal r.number) (IsAscii-decimal r.number (small r.number bounded)))
+    (IsUtf8-append (codes "-") r.hash (IsUtf8-from_is_utf8 (codes "-") refl) (IsUtf8-revision r h))
+
+members_sound : (body : Value) (n : ℕ) → IsLawful body → depth body ≤ n → IsLawful (object (members_in body)) × (members_depth (members_in body) ≤ n)
+members_sound null n h d = ((tt, tt), omega arith)
+members_sound (truth b) n h d = ((tt, tt), omega arith)
+members_sound (whole m) n h d = ((tt, tt), omega arith)
+members_sound (text s) n h d = ((tt, tt), omega arith)
+members_sound (array vs) n h d = ((tt, tt), omega arith)
+members_sound (object ms) n h d = (h, omega (arith, d))
+
+mark_sound : (b : Bool) (ms : Members) (n : ℕ) → IsLawful (object ms) → members_depth ms ≤ n → IsLawful (object (with_mark b ms)) × (members_depth (with_mark b ms) ≤ n)
+mark_sound true ms n h d = (put_lawful (codes "_deleted") (truth true) ms (IsUtf8-from_is_utf8 (codes "_deleted") refl) tt h, put_shallow (codes "_deleted") (truth true) ms n (omega arith) d)
+mark_sound false ms n h d = (h, d)
+
+pub shown_sound : (id : List ℕ) (r : Revision) (held : Held) (n : ℕ) → IsUtf8 id → is_revision r ≡ true → IsLawful held.body → depth held.body ≤ n → IsSound (n + 1) (shown_document id r held)
+shown_sound id r held n text_ok known lawful shallow =
+    let body = members_sound held.body n lawful shallow in
+    let named = put_lawful (codes "_id") (text id) (members_in held.body) (IsUtf8-from_is_utf8 (codes "_id") refl) text_ok body.0 in
+    let revised = put_lawful (codes "_rev") (text (text_of r)) (put (codes "_id") (text id) (members_in held.body)) (IsUtf8-from_is_utf8 (codes "_rev") refl) (revision_text r known) named in
+    let low = put_shallow (codes "_rev") (text (text_of r)) (put (codes "_id") (text id) (members_in held.body)) n (omega arith) (put_shallow (codes "_id") (text id) (members_in held.body) n (omega arith) body.1) in
+    let marked = mark_sound held.deleted (put (codes "_rev") (text (text_of r)) (put (codes "_id") (text id) (members_in held.body))) n revised low in
+    record { lawful = marked.0; shallow = omega (arith, marked.1) }

@@ -1,0 +1,160 @@
+-- A page by key is that of the entries of its index.
+use Rattle.sqlstore.proofs.Common.{AllByRecursion, Coded, Coded-set, Damaged, Err, Failed, Ghosts, IfErr, IfOk, IndexPlace, IsLaid, IsLimitFor, IsTrue, KeyPage, List, Memory, NoDatabase, None, NumberValues, Ok, Option, Result, Row, Some, SqlStore, StoreFault, Trees, [], ap, code_by, coded_list, coded_option, coded×, coded_ℕ, coded_ℤ, cond, contents_in, database_of, drop, filter, index_fields_of, index_rows, inl, inr, inside, is_honest, key_page, length, list_any, map, negsuc, numbers_in, option_map, place_code, pos, refl, revs_tree, subst, sym, take, trees_of, ℕ, ℤ, ∥∥₁_elim, ∥∥₁_map, ◌+◌, ◌<◌, ◌^◌, ◌∙◌, ◌∷◌, ◌≡◌, ◌≤◌, ◌⊎◌, arith, reverse, zero, up_to_limit, if_counted, page_of_keys, state}
+use Rattle.std.proofs.Common.{Bool, false, min, suc, true}
+use Rattle.std.proofs.lemmas.List.{take-take}
+use Rattle.std.specs.FinMap as finite
+use Rattle.std.specs.List.{count_by}
+use Rattle.std.specs.Prelude.{find}
+use Rattle.index.proofs.IndexPlaces.{entries_at}
+use Rattle.index.proofs.PagePlaces.{before_down, before_up, entries_read, entries_shown, first_places, total_counted, within_counted}
+use Rattle.index.specs.Indexed.{IsIndexed}
+use Rattle.index.specs.Places.{AreEntriesAt, IsHighBound, IsLowBound, IsShownEntry, spot_of, spot_shown}
+use Rattle.index.specs.Rows.{count_of, fields_of, is_declaration_of, range_of, shown_count}
+use Rattle.index.specs.Shown.{Declared, declared_at}
+use Rattle.couch_json.specs.Lawful as json
+use Rattle.store.proofs.KeyCounts.{counted_key_within}
+use Rattle.store.specs.Causes.{HasFailed}
+use Rattle.store.specs.Database.{Database}
+use Rattle.store.specs.KeyPages.{is_key_before, key_counts, key_rows_within}
+use Rattle.store.specs.Leaving as leaving
+use Rattle.store.specs.declared.key_page.KeyRange.{KeyRange}
+use Rattle.store.specs.declared.page.RowCounts.{RowCounts}
+use Rattle.tables.proofs.RowMaps.{mapped_some}
+use Rattle.tables.specs.Rows.{history_in, number_of}
+use Rattle.tables.specs.Schema.{decls_tree, entries_tree}
+use Rattle.sqlstore.proofs.Answering.{IsThere}
+use Rattle.sqlstore.proofs.FoundPages.{key_page_by}
+use Rattle.sqlstore.specs.ByKey.{AnswersOf, IsRangeOf}
+use Rattle.sqlstore.specs.Commits.{IsUncommitted}
+
+-- ---- answers
+
+-- what is read answers, from what was refused
+pub answers_by : {S X A : Type 0} (H : S → Type 0) (count : S → ℕ) (old new : S) (view : X → A) (defined : Option A) (intact : Type 0) (r : Result X StoreFault) → IfOk r (λ x. H new → defined ≡ Some (view x))
+    → IfErr r (IsUncommitted (count old) (count new) intact) → (H new → ¬ ¬ intact) → leaving.Answers H count old new view defined r
+answers_by H count old new view defined intact (Ok x) ok err so = ok
+answers_by H count old new view defined intact (Err Memory) ok err so = tt
+answers_by H count old new view defined intact (Err Failed) ok err so = err
+answers_by H count old new view defined intact (Err Damaged) ok err so = λ h. so h err
+answers_by H count old new view defined intact (Err fault) ok err so = absurd err
+
+-- a fault is one of a further call too, where something is defined
+pub fault_of : {S X Y A B : Type 0} (H K : S → Type 0) (count : S → ℕ) (old mid new : S) (view : X → A) (other : Y → B) (defined : A) (further : B) (fault : StoreFault) → count old ≤ count mid → (K new → ¬ ¬ H new)
+    → leaving.Answers H count mid new {X = X} view (Some defined) (Err fault) → leaving.Answers K count old new {X = Y} other (Some further) (Err fault)
+fault_of H K count old mid new view other defined further NoDatabase up so h = λ k. absurd (so k (λ x. let never = h x in absurd (cc)))
+fault_of H K count old mid new view other defined further Damaged up so h = λ k. so k h
+fault_of H K count old mid new view other defined further Failed up so h = later (count old) (count mid) (count new) up h
+  where
+    later : (a b c : ℕ) → a ≤ b → HasFailed b c → HasFailed a c
+    later a b c le (inl lt) = inl (omega (arith, le, lt))
+    later a b c le (inr is) = inr is
+fault_of H K count old mid new view other defined further Memory up so h = tt
+fault_of H K count old mid new view other defined further fault up so h = absurd h
+
+-- ---- rows
+
+limited_places : (limit : Option ℕ) (most : ℤ) (ps : List IndexPlace) → IsLimitFor limit most → up_to_limit limit (first_places most ps) ≡ up_to_limit limit ps
+limited_places limit most ps (inl none) = ap (λ n. up_to_limit limit (first_places n ps)) none
+limited_places None most ps (inr own) = absurd (cc)
+limited_places (Some n) most ps (inr own) = let same : pos n ≡ most = inside (pos n) most own in ap (λ m. take n (first_places m ps)) (sym same) ∙ take-take_same n ps
+  where
+    take-take_same : (m : ℕ) (qs : List IndexPlace) → take m (take m qs) ≡ take m qs
+    take-take_same zero qs = refl
+    take-take_same (suc m) [] = refl
+    take-take_same (suc m) (q ∷ qs) = ap (λ l. q ∷ l) (take-take_same m qs)
+
+module _ (declaration : ℤ) (places : List IndexPlace) (rows : List Row) (h : AreEntriesAt declaration places rows) (range : KeyRange) (low high : List ℕ) (lows : IsLowBound range low) (highs : IsHighBound range high) where
+  pub range_shown : (skip : ℕ) (given : ℤ) (shown : List Row) → given ≡ pos skip → IsRangeOf range declaration low high given rows shown → AllByRecursion IsShownEntry shown
+  range_shown skip given shown is r =
+      subst (AllByRecursion IsShownEntry) (ap (λ n. range_of range.descending declaration low high r.0 n rows) (sym is) ∙ sym r.2) (entries_shown declaration places rows h range low high lows highs r.0 skip)
+
+  pub rows_read : (skip : ℕ) (given : ℤ) (shown : List Row) (read cut : List IndexPlace) → given ≡ pos skip → skip ≡ range.skip → IsRangeOf range declaration low high given rows shown → AllByRecursion (λ p. json.IsLawful p.key) read
+      → map spot_of read ≡ map spot_shown shown → cut ≡ up_to_limit range.limit read → up_to_limit range.limit (drop range.skip (key_rows_within range places)) ≡ cut
+  rows_read skip given shown read cut is own r lawful spots made =
+      let same = entries_read declaration places rows h range low high lows highs r.0 skip read lawful (spots ∙ ap (map spot_shown) (r.2 ∙ ap (λ n. range_of range.descending declaration low high r.0 n rows) is)) in
+      ap (λ n. up_to_limit range.limit (drop n (key_rows_within range places))) (sym own)
+      ∙ sym (made ∙ ap (up_to_limit range.limit) same ∙ limited_places range.limit r.0 (drop skip (key_rows_within range places)) r.1)
+
+  nothing_left : (n : ℕ) (ps : List IndexPlace) → length ps ≤ n → drop n ps ≡ []
+  nothing_left n [] le = nothing n
+    where
+      nothing : (m : ℕ) → drop m {A = IndexPlace} [] ≡ []
+      nothing zero = refl
+      nothing (suc m) = refl
+  nothing_left zero (p ∷ ps) le = absurd (omega (arith, le))
+  nothing_left (suc n) (p ∷ ps) le = nothing_left n ps (omega (arith, le))
+
+  none_limited : (limit : Option ℕ) → up_to_limit limit {A = IndexPlace} [] ≡ []
+  none_limited None = refl
+  none_limited (Some zero) = refl
+  none_limited (Some (suc n)) = refl
+
+  pub rows_skipped : (count : ℕ) → count_of declaration low high rows ≡ count → count < 2 ^ 63 → 2 ^ 63 ≤ range.skip → up_to_limit range.limit (drop range.skip (key_rows_within range places)) ≡ []
+  rows_skipped count is lt far =
+      let counted = sym (within_counted declaration places rows h range low high lows highs) ∙ is in
+      ap (up_to_limit range.limit) (nothing_left range.skip (key_rows_within range places) (omega (arith, counted, lt, far))) ∙ none_limited range.limit
+
+  pub counts_made : (before within total : ℕ) (made : RowCounts) → range.counted ≡ true → count_of declaration [] (8 ∷ []) rows ≡ total → count_of declaration low high rows ≡ within
+      → count_by (λ p. is_key_before range p.key) places ≡ before → (before + min range.skip within ≤ total → made.offset ≡ before + min range.skip within) → made.total ≡ total
+      → if_counted range.counted (key_counts range places) ≡ Some made
+  counts_made before within total made asked all inside_range first offset sum =
+      let totals = sym (total_counted declaration places rows h) ∙ all in
+      let withins = sym (within_counted declaration places rows h range low high lows highs) ∙ inside_range in
+      let fits = counted_key_within range places in
+      let least : before + min range.skip within ≤ total = omega (arith, totals, withins, fits, first) in
+      let is_offset = offset least in
+      ap (λ b. if_counted b (key_counts range places)) asked
+      ∙ (λ i. Some (record { offset = (ap (λ n. n + min range.skip (length (key_rows_within range places))) first ∙ ap (λ n. before + min range.skip n) withins ∙ sym is_offset) i; total = (totals ∙ sym sum) i }))
+
+-- ---- the index of a database that is found
+
+-- there is an index, whose entries are those of these places, and the page is theirs
+pub record HasPage (range : KeyRange) (trees : Trees) (name design index : List ℕ) (declaration : ℤ) : Type 0 where
+  pub places : List IndexPlace
+  pub entries : AreEntriesAt declaration places (trees entries_tree)
+  pub page : option_map (λ (db : Database). page_of_keys range design index db) (finite.get (contents_in trees) name) ≡ Some (Some (key_page range places))
+
+module _ (range : KeyRange) (trees : Trees) (name : List ℕ) (k : NumberValues) (l : IsLaid trees) (is : IsIndexed trees) (t : IsThere numbers_in trees name k) (design index : List ℕ) where
+  abbrev stored : Option Row
+  stored = find (is_declaration_of k.0 design index) (trees decls_tree)
+
+  page_of : (o : Option (List (List ℕ))) → option_map fields_of stored ≡ o
+      → option_map (λ (db : Database). page_of_keys range design index db) (finite.get (contents_in trees) name) ≡ Some (option_map (λ fields. key_page range (index_rows fields (database_of trees t.row))) o)
+  page_of o has =
+      key_page_by trees name k ∣ l ∣₁ t range design index
+      ∙ ap (λ x. Some (option_map (λ fields. key_page range (index_rows fields (database_of trees t.row))) x)) (sym (is.declared k.0 design index) ∙ has)
+
+  pub has_page : (x : Declared) → Some x ≡ option_map declared_at stored → HasPage range trees name design index x.number
+  has_page x has =
+      let d = mapped_some declared_at stored x (sym has) in
+      let own : find (is_declaration_of (number_of t.row) design index) (trees decls_tree) ≡ Some d.0 = ap (λ (v : NumberValues). find (is_declaration_of v.0 design index) (trees decls_tree)) t.values ∙ d.1 in
+      record {
+        places = index_rows (fields_of d.0) (database_of trees t.row);
+        entries = subst (λ n. AreEntriesAt n (index_rows (fields_of d.0) (database_of trees t.row)) (trees entries_tree)) (ap (λ (y : Declared). y.number) d.2) (entries_at trees l is t.row d.0 design index own);
+        page = page_of (Some (fields_of d.0)) (ap (option_map fields_of) d.1);
+      }
+
+  pub no_page : None ≡ option_map declared_at stored → option_map (λ (db : Database). page_of_keys range design index db) (finite.get (contents_in trees) name) ≡ Some None
+  no_page none = page_of None (go stored none)
+    where
+      go : (o : Option Row) → None ≡ option_map declared_at o → option_map fields_of o ≡ None
+      go None e = refl
+      go (Some d) e = absurd (cc)
+
+-- ---- what is told of them is one thing
+
+counts_code : Coded RowCounts
+counts_code = code_by (ℕ × ℕ) (coded× coded_ℕ coded_ℕ) (λ c. (c.offset, c.total)) (λ p. record { offset = p.0; total = p.1 }) (λ _. refl)
+
+page_code : Coded KeyPage
+page_code = code_by (List IndexPlace × Option RowCounts) (coded× (coded_list place_code) (coded_option counts_code)) (λ p. (p.rows, p.counts)) (λ p. record { rows = p.0; counts = p.1 }) (λ _. refl)
+
+pub pages_set : (a b : Option (Option KeyPage)) → IsProp (a ≡ b)
+pages_set = Coded-set (coded_option (coded_option page_code))
+
+pub declared_set : (a b : Option Declared) → IsProp (a ≡ b)
+declared_set = Coded-set (coded_option (code_by (ℤ × List (List ℕ)) (coded× coded_ℤ (coded_list (coded_list coded_ℕ))) (λ d. (d.number, d.fields)) (λ p. record { number = p.0; fields = p.1 }) (λ _. refl)))
+
+-- the rows of indexes of an honest store are those of what is stored
+pub indexed : {S : Type 0} (g : Ghosts S) (s : SqlStore S g) → is_honest g s → ∥ IsLaid (trees_of g s) × IsIndexed (trees_of g s) ∥₁
+indexed g s honest = ∥∥₁_map (s.standing.held honest.0 honest.1) (λ holds. (holds.store.laid, holds.indexed))

@@ -1,0 +1,206 @@
+//! The pages by key, which the entries of an index list.
+
+ghost use Rattle.std.specs.Prelude.{◌≡◌, ◌+◌, ◌≤◌, ◌<◌, ◌^◌, ◌-◌, min, if◌then◌else◌};
+
+use crate::fault::{judge_answer, judge_index};
+use crate::sql_store::SqlStore;
+use crate::sql_store::page_rows::limit_of;
+use index::entries;
+use index::{Declaration, above_all, find_decl, high_bound, low_bound, read_count, read_entries};
+use sqlite::{Alter, Row};
+use std::cmp::min;
+use store::paging::cut_to_limit;
+use store::{KeyRange, KeyRow, PageByKey, RowCounts, StoreFault};
+use transactions::integer_of;
+use tree::DocId;
+
+/// Returns the counts of a page: how many rows come before it, of those before its range and those of the
+/// range that it leaves out, and how many there are.
+fn counts_of(before: u64, skip: u64, within: u64, total: u64) -> RowCounts
+    requires { (before < 2 ^ 63) × (within < 2 ^ 63) }
+    ensures offset { before + min skip within ≤ total → result.offset ≡ before + min skip within }
+    ensures total { result.total ≡ total }
+    ensures within { result.offset ≤ total }
+{
+    let offset = min(before + min(skip, within), total);
+    RowCounts { offset, total }
+}
+
+impl<S: Alter> SqlStore<S> {
+    ghost use Rattle.std.specs.Prelude.{◌≡◌, ◌∷◌, ◌<◌, ◌^◌, ◌-◌, ℕ, [], IfOk, IfSome, List, Some, None, drop, find, is_some, option_map};
+    ghost use Rattle.index.specs.Places.{AreEntriesAt, IsHighBound, IsLowBound};
+    ghost use Rattle.index.specs.Rows.{count_of, is_declaration_of, range_of, shown_count};
+    ghost use Rattle.index.specs.Shown.{declared, declared_at};
+    ghost use Rattle.store.specs.Indexes.{IndexPlace};
+    ghost use Rattle.store.specs.KeyPages.{key_counts, key_page, key_rows_within};
+    ghost use Rattle.store.specs.KeyPaging.{HasKeyCounts, key_page_of};
+    ghost use Rattle.store.specs.Pages.{if_counted, up_to_limit};
+    ghost use Rattle.store.specs.declared.page.RowCounts.{RowCounts};
+    ghost use Rattle.tables.specs.Schema.{decls_tree, entries_tree};
+    ghost use Rattle.sqlstore.specs.Model.{Answers, Finds, Stands, trees_of};
+    ghost use Rattle.sqlstore.specs.ByKey.{AnswersOf, IsRangeOf};
+
+    // ---- what is stored of an index
+
+    /// Finds the declaration of an index; `None` where the design document declares none of this name.
+    pub(crate) fn find_declaration(
+        &mut self,
+        number: &i64,
+        design: &DocId,
+        name: &str,
+    ) -> Result<Option<Declaration>, StoreFault>
+        ensures answer { Answers S.Store self.old self.new (option_map declared) (Some (option_map declared_at (find (is_declaration_of number.now design.now name.now) (trees_of S.Store self.old decls_tree)))) result }
+        ensures stands { Stands S.Store self.old self.new }
+    {
+        let design = design.as_str().as_bytes();
+        let found = find_decl(self.alloc, &mut self.conn, number, design, name.as_bytes());
+        judge_index(&mut self.faults, found)
+    }
+
+    /// Returns the entries of an index between two bounds, by their keys and then by their ids.
+    fn entry_rows_up(
+        &mut self,
+        declaration: &i64,
+        low: &[u8],
+        high: &[u8],
+        most: &i64,
+        skip: &i64,
+    ) -> Result<Vec<Row>, StoreFault>
+        ensures { Finds S.Store (λ trees rows. rows.items ≡ range_of false declaration.now low.now high.now most.now skip.now (trees entries_tree)) self.old self.new result }
+    {
+        let rows = entries::rows_up(&mut self.conn, declaration, low, high, most, skip);
+        judge_answer(&mut self.faults, rows)
+    }
+
+    /// Returns the same entries from the last to the first.
+    fn entry_rows_down(
+        &mut self,
+        declaration: &i64,
+        low: &[u8],
+        high: &[u8],
+        most: &i64,
+        skip: &i64,
+    ) -> Result<Vec<Row>, StoreFault>
+        ensures { Finds S.Store (λ trees rows. rows.items ≡ range_of true declaration.now low.now high.now most.now skip.now (trees entries_tree)) self.old self.new result }
+    {
+        let rows = entries::rows_down(&mut self.conn, declaration, low, high, most, skip);
+        judge_answer(&mut self.faults, rows)
+    }
+
+    /// Returns the entries of an index between two bounds, in a direction: behind so many, up to a limit.
+    fn entry_rows(
+        &mut self,
+        declaration: &i64,
+        low: &[u8],
+        high: &[u8],
+        range: &KeyRange,
+        skip: &i64,
+    ) -> Result<Vec<Row>, StoreFault>
+        ensures { Finds S.Store (λ trees rows. IsRangeOf range.now declaration.now low.now high.now skip.now (trees entries_tree) rows.items) self.old self.new result }
+    {
+        let most = limit_of(range.limit);
+        if range.descending {
+            self.entry_rows_down(declaration, low, high, &most, skip)
+        } else {
+            self.entry_rows_up(declaration, low, high, &most, skip)
+        }
+    }
+
+    /// Returns one row, which tells how many entries of an index lie between two bounds.
+    fn count_row(
+        &mut self,
+        declaration: &i64,
+        low: &[u8],
+        high: &[u8],
+    ) -> Result<Vec<Row>, StoreFault>
+        ensures { Finds S.Store (λ trees rows. rows.items ≡ shown_count (count_of declaration.now low.now high.now (trees entries_tree)) ∷ []) self.old self.new result }
+    {
+        let rows = entries::count_rows(&mut self.conn, declaration, low, high);
+        judge_answer(&mut self.faults, rows)
+    }
+
+    /// Counts the entries of an index between two bounds.
+    fn count_between(
+        &mut self,
+        declaration: &i64,
+        low: &[u8],
+        high: &[u8],
+    ) -> Result<u64, StoreFault>
+        ensures answer { Answers S.Store self.old self.new (λ n. n) (Some (count_of declaration.now low.now high.now (trees_of S.Store self.old entries_tree))) result }
+        ensures bounded { IfOk result (λ n. n < 2 ^ 63 - 1) }
+        ensures stands { Stands S.Store self.old self.new }
+    {
+        let rows = self.count_row(declaration, low, high)?;
+        judge_index(&mut self.faults, read_count(&rows))
+    }
+
+    // ---- a page
+
+    /// Lists the rows of a page by key, from the entries of its index between two bounds.
+    fn list_key_rows(
+        &mut self,
+        declaration: &i64,
+        low: &[u8],
+        high: &[u8],
+        range: &KeyRange,
+    ) -> Result<Vec<KeyRow>, StoreFault>
+        ensures answer { (places : List IndexPlace) → IsLowBound range.now low.now → IsHighBound range.now high.now
+            → AnswersOf S.Store declaration.now places self.old self.new (λ rows. rows.items) (up_to_limit range.now.limit (drop range.now.skip (key_rows_within range.now places))) result }
+        ensures stands { Stands S.Store self.old self.new }
+    {
+        if range.skip >= 1 << 63 {
+            // There are fewer entries than that, as many as SQLite counts.
+            self.count_between(declaration, low, high)?;
+            return Ok(Vec::new(self.alloc));
+        }
+        let rows = self.entry_rows(declaration, low, high, range, &integer_of(range.skip))?;
+        let read = judge_index(&mut self.faults, read_entries(self.alloc, &rows))?;
+        Ok(cut_to_limit(read, range.limit))
+    }
+
+    /// Counts the rows outside of a page by key, where that is asked for.
+    fn count_key_rows(
+        &mut self,
+        declaration: &i64,
+        low: &[u8],
+        high: &[u8],
+        range: &KeyRange,
+    ) -> Result<Option<RowCounts>, StoreFault>
+        ensures answer { (places : List IndexPlace) → IsLowBound range.now low.now → IsHighBound range.now high.now
+            → AnswersOf S.Store declaration.now places self.old self.new (λ counts. counts) (if_counted range.now.counted (key_counts range.now places)) result }
+        ensures counted { IfOk result (λ counts. is_some counts ≡ range.now.counted) }
+        ensures bounded { IfOk result (λ counts. IfSome counts (λ c. (c.offset ≤ c.total) × (c.total < 2 ^ 63))) }
+        ensures stands { Stands S.Store self.old self.new }
+    {
+        if !range.counted {
+            return Ok(None);
+        }
+        let end = above_all(self.alloc)?;
+        let start = Vec::new(self.alloc);
+        let total = self.count_between(declaration, &start, &end)?;
+        let within = self.count_between(declaration, low, high)?;
+        let before = if range.descending {
+            self.count_between(declaration, high, &end)?
+        } else {
+            self.count_between(declaration, &start, low)?
+        };
+        Ok(Some(counts_of(before, range.skip, within, total)))
+    }
+
+    /// Finds the rows of an index, by key and cut by a range.
+    pub(crate) fn find_page_by_key(
+        &mut self,
+        declaration: &i64,
+        range: &KeyRange,
+    ) -> Result<PageByKey, StoreFault>
+        ensures answer { (places : List IndexPlace) → AnswersOf S.Store declaration.now places self.old self.new key_page_of (key_page range.now places) result }
+        ensures counted { IfOk result (HasKeyCounts range.now) }
+        ensures stands { Stands S.Store self.old self.new }
+    {
+        let low = low_bound(self.alloc, range)?;
+        let high = high_bound(self.alloc, range)?;
+        let rows = self.list_key_rows(declaration, &low, &high, range)?;
+        let counts = self.count_key_rows(declaration, &low, &high, range)?;
+        Ok(PageByKey { rows, counts })
+    }
+}

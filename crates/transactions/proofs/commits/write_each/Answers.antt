@@ -1,0 +1,116 @@
+use Rattle.transactions.proofs.Lemmas.{AreDue, AreStored, CommitFault, Err, HasBest, HasCleanDisk, HasWritten, IfErr, IsHeldOpen, IsUnwritten, Result, addition_of, additions, arith, asks_itself, asks_then, best_in_turn, database_of, further_followed, history_in, history_with, keeps_itself, keeps_then, map, may_in_turn, none_held, none_written, refl, revs_tree, rules, state, stored_further, subst, sym, take_all, to_z-of_z, unwritten_of, w64, writings_in, ◌∙◌, ◌≡◌}
+use Rattle.std.proofs.Common.{of_z, to_z}
+use Rattle.index.specs.Indexed.{IsIndexed}
+use Rattle.index.specs.Shown.{declared}
+use Rattle.transactions.specs.Indexing.{AreAllIndexes, IsSoundIndexed, MayBeWritten}
+use Rattle.transactions.proofs.commits.write_each.Goals as goal
+
+pub loop-i-init : goal.loop-i-init
+loop-i-init g c =
+    let old = state g.S.Store c.args.tx.now.conn.now in
+    record {
+      same = refl;
+      asks = asks_itself old;
+      held = λ clean. none_held _ c.new-histories.result c.new-histories.ensures.empty;
+      so_far = λ name clean was every due.
+          (none_written old.now name due.row was.store due.first, was.indexed, every, keeps_itself old, none_held _ c.new-histories.result c.new-histories.ensures.empty, (λ up. up), (λ within. within));
+    }
+
+pub loop-i-preserved : goal.loop-i-preserved
+loop-i-preserved g c =
+    let inv = c.loop-i.invariant in
+    let old = state g.S.Store c.args.tx.now.conn.now in
+    let mid = state g.S.Store c.loop-i.tx.conn.now in
+    let new = state g.S.Store c.write_indexed.new.tx.conn.now in
+    let e = c.in_ok-write_indexed.ensures in
+    record {
+      same = e.same_reference ∙ inv.same;
+      asks = asks_then old mid new inv.asks e.asks;
+      held = λ clean id h is.
+          let mid-clean : HasCleanDisk mid = omega (arith, e.asks.survives.clean, clean) in
+          inv.asks.was_open mid-clean (e.served clean);
+      so_far = λ name clean was every due.
+          let mid-clean : HasCleanDisk mid = omega (arith, e.asks.survives.clean, clean) in
+          let before = inv.so_far name mid-clean was every due in
+          let may = may_in_turn c.args.writes.now c.loop-i.i c.index-writes-i.result name c.args.db.now c.args.sequence _ old.now mid.now c.loop-i-test.true c.index-writes-i.is c.requires (to_z-of_z {w = w64} {z = c.integer_of-next.result} (record { sfits = c.integer_of-next.type_inv }) ∙ c.integer_of-next.ensures) due before.0 in
+          let both = e.ok clean (record { store = before.0.store; indexed = before.1 }) before.2 before.4 may in
+          let followed = both.0 in
+          let inside = e.inside clean (record { store = before.0.store; indexed = before.1 }) before.4 may in
+          let done = further_followed c.args.writes.now c.loop-i.i c.index-writes-i.result name c.args.db.now c.args.sequence _ old.now mid.now new.now c.loop-i-test.true c.index-writes-i.is c.requires
+          (to_z-of_z {w = w64} {z = c.integer_of-next.result} (record { sfits = c.integer_of-next.type_inv }) ∙ c.integer_of-next.ensures) due before.0 e.lawful followed in (
+            done,
+            followed.indexed,
+            both.1,
+            keeps_then old mid new before.3 (e.kept clean (record { store = before.0.store; indexed = before.1 }) before.4 may),
+            stored_further c.args.writes.now c.loop-i.i c.index-writes-i.result name c.args.db.now due.row old.now mid.now new.now c.loop-i.histories c.write_indexed.new.histories c.loop-i-test.true c.index-writes-i.is due.numbered
+                before.0 done before.4 (e.after clean before.0.store before.4),
+            (λ up. inside.0),
+            (λ within. inside.1),
+          );
+    }
+
+pub returns-in_err-write_indexed-clause-err : goal.returns-in_err-write_indexed-clause-err
+returns-in_err-write_indexed-clause-err g c name =
+    let inv = c.loop-i.invariant in
+    let first = c.args.tx.now.conn.now in
+    let last = c.loop-i.tx.conn.now in
+    let now = c.write_indexed.new.tx.conn.now in
+    let old = state g.S.Store first in
+    let mid = state g.S.Store last in
+    let e = c.in_err-write_indexed.ensures in
+    let fault = c.in_err-write_indexed.field-0.0 in
+    let a = addition_of c.index-writes-i.result in
+    let db = c.args.db.now in
+    let Given : Type 0 = IsSoundIndexed g.S.Store (λ d. AreAllIndexes (map declared c.args.indexes.now.items) db d.trees × AreDue (additions c.args.writes.now) name db c.args.sequence d.trees) first now in
+    let is : c.from_residual.result ≡ Err fault = search rules in
+    subst (λ (r : Result (Unit {0}) CommitFault). IfErr r (IsUnwritten Given)) (sym is)
+    (unwritten_of
+    (IsHeldOpen c.loop-i.histories mid
+    × IsSoundIndexed g.S.Store (λ db'. AreStored c.loop-i.histories (history_in (db'.trees revs_tree) db) × HasBest (history_with db'.trees db a) × MayBeWritten db (to_z w64 (of_z w64 c.integer_of-next.result)) a db') last now)
+    Given fault
+    (λ it.
+    let mid-clean : HasCleanDisk mid = omega (arith, e.asks.survives.clean, it.0) in (
+      (λ id h is.
+          let up = inv.held mid-clean id h is in
+          let had = it.1 up in
+          (inv.so_far name mid-clean had.0 had.1.0 had.1.1).5 up),
+      (
+        it.0,
+        λ up.
+            let had = it.1 (inv.asks.was_open mid-clean up) in
+            let far = inv.so_far name mid-clean had.0 had.1.0 had.1.1 in (
+              record { store = far.0.store; indexed = far.1 },
+              (
+                far.4,
+                best_in_turn c.args.writes.now c.loop-i.i c.index-writes-i.result name db c.args.sequence old.now mid.now c.loop-i-test.true c.index-writes-i.is had.1.1 far.0,
+                may_in_turn c.args.writes.now c.loop-i.i c.index-writes-i.result name c.args.db.now c.args.sequence _ old.now mid.now c.loop-i-test.true c.index-writes-i.is c.requires (to_z-of_z {w = w64} {z = c.integer_of-next.result} (record { sfits = c.integer_of-next.type_inv }) ∙ c.integer_of-next.ensures) had.1.1 far.0,
+              ),
+            ),
+      ),
+    )) e.err)
+
+pub returns-in_err-write_indexed-clause-kept : goal.returns-in_err-write_indexed-clause-kept
+returns-in_err-write_indexed-clause-kept g c name clean was every due =
+    let inv = c.loop-i.invariant in
+    let old = state g.S.Store c.args.tx.now.conn.now in
+    let mid = state g.S.Store c.loop-i.tx.conn.now in
+    let new = state g.S.Store c.write_indexed.new.tx.conn.now in
+    let e = c.in_err-write_indexed.ensures in
+    let mid-clean : HasCleanDisk mid = omega (arith, e.asks.survives.clean, clean) in
+    let before = inv.so_far name mid-clean was every due in
+    keeps_then old mid new before.3 (e.kept clean (record { store = before.0.store; indexed = before.1 }) before.4 (may_in_turn c.args.writes.now c.loop-i.i c.index-writes-i.result name c.args.db.now c.args.sequence _ old.now mid.now c.loop-i-test.true c.index-writes-i.is c.requires (to_z-of_z {w = w64} {z = c.integer_of-next.result} (record { sfits = c.integer_of-next.type_inv }) ∙ c.integer_of-next.ensures) due before.0))
+
+pub returns-clause-ok : goal.returns-clause-ok
+returns-clause-ok g c name clean was every due =
+    let old = state g.S.Store c.args.tx.now.conn.now in
+    let new = state g.S.Store c.loop-i.tx.conn.now in
+    let far = c.loop-i.invariant.so_far name clean was every due in (
+      subst (λ ws. HasWritten (writings_in (database_of old.now.trees due.row) (additions ws)) name due.row old.now new.now) (take_all c.loop-i.i c.args.writes.now (omega (arith, c.loop-i-test.false))) far.0,
+      far.1,
+    )
+
+pub returns-clause-kept : goal.returns-clause-kept
+returns-clause-kept g c name clean was every due = (c.loop-i.invariant.so_far name clean was every due).3
+
+pub returns-clause-inside : goal.returns-clause-inside
+returns-clause-inside g c name clean was every due within = (c.loop-i.invariant.so_far name clean was every due).6 within
