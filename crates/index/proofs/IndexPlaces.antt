@@ -1,5 +1,6 @@
 -- The entries of a declaration are those of the rows of its index.
-use Rattle.index.proofs.Common.{AllByRecursion, Bool, IsIndexed, List, None, Option, Row, Some, Trees, [], all-filter, all_both, ap, arith, cond, declaration_at, decls_tree, entries_tree, false, fields_of, filter, find, find_found, find_passes, has_entry, home_of, index_name_of, is_declaration_of, is_due_by, is_key, key_at, key_if_seen, map, number_of, option_map, refl, sees_in, subst, sym, true, ℕ, ℤ, ◌+◌, ◌∙◌, ◌∷◌, ◌≡◌, ◌≤◌}
+use Rattle.index.proofs.Common.{AllByRecursion, Bool, IsIndexed, List, None, Option, Row, Some, Trees, [], all-filter, all_both, ap, arith, cond, declaration_at, decls_tree, entries_tree, false, fields_of, filter, find, find_found, find_passes, has_entry, home_of, index_name_of, is_declaration_of, is_due_by, is_key, key_at, key_if_seen, map, number_of, option_map, refl, sees_in, subst, sym, true, ℕ, ℤ, ◌+◌, ◌∙◌, ◌∷◌, ◌≡◌}
+use Rattle.std.proofs.Common.{◌≤◌}
 use Rattle.std.specs.FinMap as finite
 use Rattle.std.specs.Prelude.{Contains, IsTrue, IsUtf8, if◌then◌else◌, option_and_then}
 use Rattle.std.specs.Ordering.{eq_by_cmp}
@@ -44,12 +45,13 @@ module _ (Q : Row → Type 0) where
   found_row : (rows : List Row) (q : Revision) (e : Entry) → AllByRecursion Q rows → finite.find revision_cmp q (map (λ r. (revision_of r, entry_of r)) rows) ≡ Some e
       → (r : Row) × Q r × (revision_of r ≡ q) × (entry_of r ≡ e)
   found_row [] q e all is = absurd (cc)
-  found_row (r ∷ rows) q e all is = go (eq_by_cmp revision_cmp q (revision_of r)) refl is
+  found_row (r ∷ rows) q e all is = go (eq_by_cmp revision_cmp q (revision_of r)) refl (found_row rows q e all.1) is
     where
-      go : (b : Bool) → eq_by_cmp revision_cmp q (revision_of r) ≡ b → cond b (Some (entry_of r)) (finite.find revision_cmp q (map (λ s. (revision_of s, entry_of s)) rows)) ≡ Some e
-          → (s : Row) × Q s × (revision_of s ≡ q) × (entry_of s ≡ e)
-      go true tied more = (r, all.0, sym (same q (revision_of r) tied), inside (entry_of r) e more)
-      go false tied more = found_row rows q e all.1 more
+      go : (b : Bool) → eq_by_cmp revision_cmp q (revision_of r) ≡ b
+          → (finite.find revision_cmp q (map (λ s. (revision_of s, entry_of s)) rows) ≡ Some e → (s : Row) × Q s × (revision_of s ≡ q) × (entry_of s ≡ e))
+          → cond b (Some (entry_of r)) (finite.find revision_cmp q (map (λ s. (revision_of s, entry_of s)) rows)) ≡ Some e → (s : Row) × Q s × (revision_of s ≡ q) × (entry_of s ≡ e)
+      go true tied rest more = (r, all.0, sym (same q (revision_of r) tied), inside (entry_of r) e more)
+      go false tied rest more = rest more
 
 -- what queries see of a document of laid tables
 pub record IsSeenWell (id : List ℕ) (v : Value) : Type 0 where

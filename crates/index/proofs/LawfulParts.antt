@@ -1,5 +1,5 @@
 -- The parts of a lawful value are lawful, and what is shown of a lawful body.
-use Rattle.std.proofs.Common.{◌≡◌, ◌≤◌, ◌⊎◌, inl, inr, ⊎_elim, ℕ, ◌+◌, Bool, true, false, cond, List, [], ◌∷◌, ◌++◌, Option, Some, None, max, refl, ap, ◌∙◌, subst, sym, arith}
+use Rattle.std.proofs.Common.{◌≡◌, ◌≤◌, ◌<◌, ◌^◌, ◌⊎◌, inl, inr, ⊎_elim, ℕ, ◌+◌, Bool, true, false, cond, ltb-true, nat_lt, List, [], ◌∷◌, ◌++◌, Option, Some, None, max, refl, ap, ◌∙◌, subst, sym, arith}
 use Rattle.std.specs.Prelude.{IsUtf8, codes, option_and_then, option_map}
 use Rattle.std.specs.declared.cmp.Ordering.{Ordering}
 use Rattle.std.specs.declared.cmp.Ordering.TheVariants.{Less, Equal, Greater}
@@ -8,7 +8,11 @@ use Rattle.std.specs.Cmp.Lexicographic.{slice_cmp}
 use Rattle.std.specs.Fmt.{decimal}
 use Rattle.std.proofs.lemmas.Cmp.{nat_list_cmp_total}
 use Rattle.std.proofs.lemmas.Fmt.{IsAscii-decimal}
-use Rattle.std.proofs.lemmas.Str.{IsUtf8-append, IsUtf8-from_ascii, IsUtf8-from_is_utf8}
+use Rattle.std.proofs.lemmas.List.Elements.{All-weaker}
+use Rattle.std.proofs.lemmas.List.Sums.{AllPass-from_list_all}
+use Rattle.std.proofs.lemmas.Str.{IsUtf8-append, IsUtf8-from_ascii}
+use Rattle.std.proofs.lemmas.Str.Ascii.{IsAscii-from_all}
+use Rattle.std.specs.List.{list_all}
 use Rattle.std.proofs.lemmas.Bool.Decides.{nat_tests}
 use Rattle.std.specs.Cmp.{first_so, second_so}
 use Rattle.std.specs.Prelude.{nat_le}
@@ -118,36 +122,42 @@ pub record IsSound (n : ℕ) (v : Value) : Type 0 where
 
 along : (n : ℕ) (names : List (List ℕ)) (v w : Value) → IsSound n v → value_along names v ≡ Some w → IsSound n w
 along n [] v w h e = let same : v ≡ w = cc in subst (IsSound n) same h
-along n (name ∷ names) v w h e = by (member_of v name) refl e
+along n (name ∷ names) v w h e = by (member_of v name) refl (λ u. along n names u w) e
   where
-    by : (o : Option Value) → member_of v name ≡ o → option_and_then (value_along names) o ≡ Some w → IsSound n w
-    by None is k = absurd cc
-    by (Some u) is k = along n names u w (record { lawful = member_part v u name h.lawful is; shallow = omega (arith, part_shallow v u name is, h.shallow) }) k
+    by : (o : Option Value) → member_of v name ≡ o → ((u : Value) → IsSound n u → value_along names u ≡ Some w → IsSound n w) → option_and_then (value_along names) o ≡ Some w → IsSound n w
+    by None is rest k = absurd cc
+    by (Some u) is rest k = rest u (record { lawful = member_part v u name h.lawful is; shallow = omega (arith, part_shallow v u name is, h.shallow) }) k
 
 -- the values at fields are lawful, and nest no deeper
 pub values_sound : (n : ℕ) (fields : List (List ℕ)) (v : Value) (vs : Items) → IsSound n v → field_values fields v ≡ Some vs → AreLawfulItems vs × (items_depth vs ≤ n)
 values_sound n [] v vs h e = let same : no_items ≡ vs = cc in (subst AreLawfulItems same tt, subst (λ us. items_depth us ≤ n) same (omega arith))
-values_sound n (path ∷ fields) v vs h e = by (value_at path v) (field_values fields v) refl refl e
+values_sound n (path ∷ fields) v vs h e = by (value_at path v) (field_values fields v) refl (λ ws. values_sound n fields v ws h) e
   where
-    by : (o : Option Value) (rest : Option Items) → value_at path v ≡ o → field_values fields v ≡ rest → values_with o rest ≡ Some vs → AreLawfulItems vs × (items_depth vs ≤ n)
-    by None rest is are k = absurd cc
-    by (Some w) None is are k = absurd cc
-    by (Some w) (Some ws) is are k =
+    by : (o : Option Value) (rest : Option Items) → value_at path v ≡ o → ((ws : Items) → rest ≡ Some ws → AreLawfulItems ws × (items_depth ws ≤ n)) → values_with o rest ≡ Some vs → AreLawfulItems vs × (items_depth vs ≤ n)
+    by None rest is later k = absurd cc
+    by (Some w) None is later k = absurd cc
+    by (Some w) (Some ws) is later k =
         let one = along n (names_in path) v w h is in
-        let more = values_sound n fields v ws h are in
+        let more = later ws refl in
         let same : item w ws ≡ vs = cc in
         (subst AreLawfulItems same (one.lawful, more.0), subst (λ us. items_depth us ≤ n) same (omega (arith, one.shallow, more.1)))
 
 -- ---- what is shown of a lawful body
 
+ascii_text : (bs : List ℕ) → list_all (λ b. nat_lt b 128) bs ≡ true → IsUtf8 bs
+ascii_text bs e =
+    IsUtf8-from_ascii bs (IsAscii-from_all bs (All-weaker (λ b. nat_lt b 128 ≡ true) (λ b. b < 128) (λ b h. ltb-true b 128 h) bs (AllPass-from_list_all (λ b. nat_lt b 128) bs e)))
+
 small : (n : ℕ) → nat_le n greatest_number ≡ true → n < 2 ^ 64
 small n h = grind (arith, nat_tests, h)
 
+three_texts : (a b d : List ℕ) → IsUtf8 a → IsUtf8 b → IsUtf8 d → IsUtf8 (a ++ b ++ d)
+three_texts a b d p q r = IsUtf8-append (a ++ b) d (IsUtf8-append a b p q) r
+
 revision_text : (r : Revision) → is_revision r ≡ true → IsUtf8 (text_of r)
 revision_text r h =
-    let bounded : nat_le r.number greatest_number ≡ true = first_so _ _ (second_so _ _ h) in
-    IsUtf8-append (decimal r.number) _ (IsUtf8-from_ascii (decimal r.number) (IsAscii-decimal r.number (small r.number bounded)))
-    (IsUtf8-append (codes "-") r.hash (IsUtf8-from_is_utf8 (codes "-") refl) (IsUtf8-revision r h))
+    let bounded : nat_le r.number greatest_number ≡ true = second_so _ _ (first_so _ _ h) in
+    three_texts (decimal r.number) (codes "-") r.hash (IsUtf8-from_ascii (decimal r.number) (IsAscii-decimal r.number (small r.number bounded))) (ascii_text (codes "-") refl) (IsUtf8-revision r h)
 
 members_sound : (body : Value) (n : ℕ) → IsLawful body → depth body ≤ n → IsLawful (object (members_in body)) × (members_depth (members_in body) ≤ n)
 members_sound null n h d = ((tt, tt), omega arith)
@@ -158,14 +168,14 @@ members_sound (array vs) n h d = ((tt, tt), omega arith)
 members_sound (object ms) n h d = (h, omega (arith, d))
 
 mark_sound : (b : Bool) (ms : Members) (n : ℕ) → IsLawful (object ms) → members_depth ms ≤ n → IsLawful (object (with_mark b ms)) × (members_depth (with_mark b ms) ≤ n)
-mark_sound true ms n h d = (put_lawful (codes "_deleted") (truth true) ms (IsUtf8-from_is_utf8 (codes "_deleted") refl) tt h, put_shallow (codes "_deleted") (truth true) ms n (omega arith) d)
+mark_sound true ms n h d = (put_lawful (codes "_deleted") (truth true) ms (ascii_text (codes "_deleted") refl) tt h, put_shallow (codes "_deleted") (truth true) ms n (omega arith) d)
 mark_sound false ms n h d = (h, d)
 
 pub shown_sound : (id : List ℕ) (r : Revision) (held : Held) (n : ℕ) → IsUtf8 id → is_revision r ≡ true → IsLawful held.body → depth held.body ≤ n → IsSound (n + 1) (shown_document id r held)
 shown_sound id r held n text_ok known lawful shallow =
     let body = members_sound held.body n lawful shallow in
-    let named = put_lawful (codes "_id") (text id) (members_in held.body) (IsUtf8-from_is_utf8 (codes "_id") refl) text_ok body.0 in
-    let revised = put_lawful (codes "_rev") (text (text_of r)) (put (codes "_id") (text id) (members_in held.body)) (IsUtf8-from_is_utf8 (codes "_rev") refl) (revision_text r known) named in
+    let named = put_lawful (codes "_id") (text id) (members_in held.body) (ascii_text (codes "_id") refl) text_ok body.0 in
+    let revised = put_lawful (codes "_rev") (text (text_of r)) (put (codes "_id") (text id) (members_in held.body)) (ascii_text (codes "_rev") refl) (revision_text r known) named in
     let low = put_shallow (codes "_rev") (text (text_of r)) (put (codes "_id") (text id) (members_in held.body)) n (omega arith) (put_shallow (codes "_id") (text id) (members_in held.body) n (omega arith) body.1) in
     let marked = mark_sound held.deleted (put (codes "_rev") (text (text_of r)) (put (codes "_id") (text id) (members_in held.body))) n revised low in
     record { lawful = marked.0; shallow = omega (arith, marked.1) }

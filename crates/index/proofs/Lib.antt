@@ -20,6 +20,7 @@ pub mod Rebuilt
 pub mod AllDeclared
 pub mod Refusals
 pub mod TextNames
+pub mod KeyBounds
 pub mod Spots
 pub mod LawfulParts
 pub mod IndexPlaces

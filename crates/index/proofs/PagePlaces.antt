@@ -44,11 +44,11 @@ length_map f (x ∷ xs) = ap suc (length_map f xs)
 
 inserted_length : (cmp : Row → Row → Ordering) (new : Row) (rows : List Row) → length (insert_sorted cmp new rows) ≡ suc (length rows)
 inserted_length cmp new [] = refl
-inserted_length cmp new (r ∷ rows) = go (is_gt (cmp new r))
+inserted_length cmp new (r ∷ rows) = go (is_gt (cmp new r)) (inserted_length cmp new rows)
   where
-    go : (b : Bool) → length (cond b (r ∷ insert_sorted cmp new rows) (new ∷ r ∷ rows)) ≡ suc (length (r ∷ rows))
-    go true = ap suc (inserted_length cmp new rows)
-    go false = refl
+    go : (b : Bool) → length (insert_sorted cmp new rows) ≡ suc (length rows) → length (cond b (r ∷ insert_sorted cmp new rows) (new ∷ r ∷ rows)) ≡ suc (length (r ∷ rows))
+    go true rest = ap suc rest
+    go false rest = refl
 
 sorted_length : (cmp : Row → Row → Ordering) (rows : List Row) → length (sort_by cmp rows) ≡ length rows
 sorted_length cmp [] = refl

@@ -1,5 +1,6 @@
 -- The places of an index and its entries, in the same order: they are the same.
-use Rattle.index.proofs.Common.{AllByRecursion, AreEntryRows, Bool, Equal, IsAscending, List, Ordering, Row, [], all-append, all-filter, all_both, all_weaker, and_from, and_parts, ap, ap₂, arith, ascending-append, ascending-filter, ascending-map, cond, entry_id, false, filter, get_or, has_entry, insert_sorted, is_entry_of, is_eq, is_gt, key_of, length, list_any, map, refl, same_int, sort_by, subst, suc, sym, true, ℕ, ℤ, ◌++◌, ◌<◌, ◌∙◌, ◌∷◌, ◌≡◌, ◌||◌, ◌⊎◌, inl, inr}
+use Rattle.index.proofs.Common.{AllByRecursion, AreEntryRows, Bool, Equal, IsAscending, List, Ordering, Row, [], all-append, all-filter, all_both, and_from, and_parts, ap, ap₂, arith, ascending-append, ascending-filter, cond, entry_id, false, filter, get_or, has_entry, insert_sorted, is_entry_of, is_eq, is_gt, key_of, length, list_any, map, refl, same_int, sort_by, subst, suc, sym, true, ℕ, ℤ, ◌++◌, ◌<◌, ◌∙◌, ◌∷◌, ◌≡◌, ◌||◌, ◌⊎◌, inl, inr}
+use Rattle.sqlite_keyed.proofs.ListLemmas.{ascending-map}
 use Rattle.std.proofs.Common.{AllPairs, Greater, Less, reverse, zero}
 use Rattle.std.proofs.lemmas.List.Elements.{recursion_from_All}
 use Rattle.std.specs.Cmp.{IsTotalOrder, back_total, on_total, then_flip, then_total}
@@ -35,11 +36,11 @@ each_in P (x ∷ xs) h = (h x (inl refl), each_in P xs (λ y i. h y (inr i)))
 
 pub any_in : {X : Type 0} (p : X → Bool) (xs : List X) → list_any p xs ≡ true → (x : X) × In xs x × (p x ≡ true)
 any_in p [] h = absurd (cc)
-any_in {X} p (x ∷ xs) h = go (p x) refl h
+any_in {X} p (x ∷ xs) h = go (p x) refl (any_in p xs) h
   where
-    go : (b : Bool) → p x ≡ b → (b || list_any p xs) ≡ true → (y : X) × In (x ∷ xs) y × (p y ≡ true)
-    go true is more = (x, inl refl, is)
-    go false is more = let found = any_in p xs more in (found.0, inr found.1, found.2)
+    go : (b : Bool) → p x ≡ b → (list_any p xs ≡ true → (y : X) × In xs y × (p y ≡ true)) → (b || list_any p xs) ≡ true → (y : X) × In (x ∷ xs) y × (p y ≡ true)
+    go true is rest more = (x, inl refl, is)
+    go false is rest more = let found = rest more in (found.0, inr found.1, found.2)
 
 or_left : (a b : Bool) → a ≡ true → (a || b) ≡ true
 or_left true b h = refl
@@ -114,12 +115,12 @@ in_reverse (y ∷ ys) x (inr i) = subst (λ l. In l x) (sym (reverse-cons y ys))
 
 from_reverse : {X : Type 0} (xs : List X) (x : X) → In (reverse xs) x → In xs x
 from_reverse [] x i = absurd i
-from_reverse {X} (y ∷ ys) x i = go (from_both (reverse ys) (y ∷ []) x (subst (λ l. In l x) (reverse-cons y ys) i))
+from_reverse {X} (y ∷ ys) x i = go (from_reverse ys x) (from_both (reverse ys) (y ∷ []) x (subst (λ l. In l x) (reverse-cons y ys) i))
   where
-    go : In (reverse ys) x ⊎ In (y ∷ []) x → In (y ∷ ys) x
-    go (inl j) = inr (from_reverse ys x j)
-    go (inr (inl e)) = inl e
-    go (inr (inr j)) = absurd j
+    go : (In (reverse ys) x → In ys x) → In (reverse ys) x ⊎ In (y ∷ []) x → In (y ∷ ys) x
+    go rest (inl j) = inr (rest j)
+    go rest (inr (inl e)) = inl e
+    go rest (inr (inr j)) = absurd j
 
 -- ---- two ascending lists of the same elements are one
 
@@ -130,16 +131,16 @@ module _ {X : Type 0} (R : X → X → Type 0) (strict : (x y : X) → R x y →
   one_list (x ∷ xs) [] p q f g = absurd (f x (inl refl))
   one_list (x ∷ xs) (y ∷ ys) p q f g =
       let head : x ≡ y = heads (f x (inl refl)) (g y (inl refl)) in
-      ap₂ (λ z zs. z ∷ zs) head (one_list xs ys p.1 q.1 (λ z i. left (at_in (R x) xs z p.0 i) (sym head) (f z (inr i))) (λ z i. left (at_in (R y) ys z q.0 i) head (g z (inr i))))
+      ap₂ (λ z zs. z ∷ zs) head (one_list xs ys p.1 q.1 (λ z i. left x y z ys (at_in (R x) xs z p.0 i) (sym head) (f z (inr i))) (λ z i. left y x z xs (at_in (R y) ys z q.0 i) head (g z (inr i))))
     where
       heads : In (y ∷ ys) x → In (x ∷ xs) y → x ≡ y
       heads (inl e) j = sym e
       heads (inr i) (inl e) = e
       heads (inr i) (inr j) = absurd (strict x y (at_in (R x) xs y p.0 j) (at_in (R y) ys x q.0 i))
 
-      left : {a b z : X} {zs : List X} → R a z → b ≡ a → In (b ∷ zs) z → In zs z
-      left {a} {b} {z} r same (inl e) = let here : a ≡ z = sym same ∙ e in let own : R a a = subst (R a) (sym here) r in absurd (strict a a own own)
-      left r same (inr i) = i
+      left : (a b z : X) (zs : List X) → R a z → b ≡ a → In (b ∷ zs) z → In zs z
+      left a b z zs r same (inl e) = let here : a ≡ z = sym same ∙ e in let own : R a a = subst (R a) (sym here) r in absurd (strict a a own own)
+      left a b z zs r same (inr i) = i
 
 -- ---- the order of places and of entries
 
@@ -186,11 +187,11 @@ module _ (descending : Bool) where
 
   untied_inserted : (new : Row) (rows : List Row) → AllByRecursion (Untied new) rows → IsAscending Untied rows → IsAscending Untied (insert_sorted by new rows)
   untied_inserted new [] all up = (tt, tt)
-  untied_inserted new (r ∷ rows) all up = go (is_gt (by new r))
+  untied_inserted new (r ∷ rows) all up = go (is_gt (by new r)) (untied_inserted new rows all.1 up.1)
     where
-      go : (b : Bool) → IsAscending Untied (cond b (r ∷ insert_sorted by new rows) (new ∷ r ∷ rows))
-      go true = (each_in (Untied r) (insert_sorted by new rows) (λ x i. at_in (Untied r) (new ∷ rows) x (turned new r all.0, up.0) (from_inserted by new rows x i)), untied_inserted new rows all.1 up.1)
-      go false = (all, up)
+      go : (b : Bool) → IsAscending Untied (insert_sorted by new rows) → IsAscending Untied (cond b (r ∷ insert_sorted by new rows) (new ∷ r ∷ rows))
+      go true rest = (each_in (Untied r) (insert_sorted by new rows) (λ x i. at_in (Untied r) (new ∷ rows) x (turned new r all.0, up.0) (from_inserted by new rows x i)), rest)
+      go false rest = (all, up)
 
   untied_sorted : (rows : List Row) → IsAscending Untied rows → IsAscending Untied (sort_by by rows)
   untied_sorted [] up = tt
@@ -245,11 +246,11 @@ directed_ascend true ps up = reverse_ascends (λ p q. spot_order (spot_of p) (sp
 directed_ascend false ps up = up
 
 in_directed : {X : Type 0} (descending : Bool) (xs : List X) (x : X) → In xs x → In (store.in_direction descending xs) x
-in_directed true = in_reverse
+in_directed true xs x i = in_reverse xs x i
 in_directed false xs x i = i
 
 pub from_directed : {X : Type 0} (descending : Bool) (xs : List X) (x : X) → In (store.in_direction descending xs) x → In xs x
-from_directed true = from_reverse
+from_directed true xs x i = from_reverse xs x i
 from_directed false xs x i = i
 
 -- ---- the places between two bounds are the entries between them

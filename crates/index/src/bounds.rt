@@ -47,26 +47,31 @@ pub fn above_all(alloc: Global) -> Got<Vec<u8>>
 fn bound_at(alloc: Global, cut: &KeyCut) -> Got<Vec<u8>>
     ensures { IfOk result (λ bound. (v : Value) → IsLawful v → lies_above_cut bound.items (key v) ≡ lies_above cut.now.side cut.now.key v) }
 {
-    let key = cut.key.json();
-    let mut bound = key_bytes(alloc, key)?;
+    let value = cut.key.json();
+    let mut bound = key_bytes(alloc, value)?;
     match cut.side {
-        CutSide::Before => {}
-        CutSide::After => bound.push(0)?,
-        CutSide::AfterPrefix => pass_prefix(&mut bound, key)?,
+        CutSide::Before => Ok(bound),
+        CutSide::After => {
+            bound.push(0)?;
+            Ok(bound)
+        }
+        CutSide::AfterPrefix => {
+            pass_prefix(&mut bound, value)?;
+            Ok(bound)
+        }
     }
-    Ok(bound)
 }
 
 /// Moves the bound at a key behind all arrays that begin with its elements.
-fn pass_prefix(bound: &mut Vec<u8>, key: &Json) -> Got<()>
-    ensures { bound.old.items ≡ key (view key.now) → OnOk result (bound.new.items ≡ bound_after_prefix (view key.now)) }
+fn pass_prefix(bound: &mut Vec<u8>, value: &Json) -> Got<()>
+    ensures { bound.old.items ≡ key (view value.now) → OnOk result (bound.new.items ≡ bound_after_prefix (view value.now)) }
 {
-    if let Json::Array(_items) = key {
-        // The key of an array ends in a byte 0.
-        drop(bound.pop());
-        bound.push(8)?;
-    } else {
+    if value.items().is_none() {
         bound.push(0)?;
+        return Ok(());
     }
+    // The key of an array ends in a byte 0.
+    drop(bound.pop());
+    bound.push(8)?;
     Ok(())
 }

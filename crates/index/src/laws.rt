@@ -1,14 +1,22 @@
 //! What follows from the definitions alone. Each function has an empty body: its contract is the law.
 
-ghost use Rattle.std.specs.Prelude.{◌≡◌, ◌≢◌, ℕ, ℤ, List, None, Some, true};
+ghost use Rattle.std.specs.Prelude.{◌≡◌, ◌≢◌, ℕ, ℤ, List, None, Some, drop, find, length, map, pos, take, true};
+ghost use Rattle.std.specs.List.{AllByRecursion};
+ghost use Rattle.couch_json.specs.Lawful.{IsLawful};
 ghost use Rattle.sqlite.specs.Effect.{Database};
 ghost use Rattle.sqlite_trees.specs.Tree.{Trees};
-ghost use Rattle.tables.specs.Layout.{IsNew};
+ghost use Rattle.sqlite_value.specs.Order.{Row};
+ghost use Rattle.store.specs.Indexes.{IndexPlace, index_rows};
+ghost use Rattle.store.specs.KeyPages.{key_rows_within};
+ghost use Rattle.store.specs.declared.key_page.KeyRange.{KeyRange};
+ghost use Rattle.tables.specs.Layout.{IsNew, IsStore};
+ghost use Rattle.tables.specs.Rows.{database_of, number_of};
 ghost use Rattle.tables.specs.Schema.{decls_tree, entries_tree, revs_tree};
 ghost use Rattle.index.specs.Indexed.{AreIndexed, IsIndexed};
 ghost use Rattle.index.specs.Layout.{HasIndexRows};
 ghost use Rattle.index.specs.Meaning.{Declarations, Documents, key_if_seen};
-ghost use Rattle.index.specs.Rows.{has_entry};
+ghost use Rattle.index.specs.Places.{AreEntriesAt, IsHighBound, IsLowBound, spot_of, spot_shown};
+ghost use Rattle.index.specs.Rows.{count_of, fields_of, has_entry, is_declaration_of, range_of};
 ghost use Rattle.index.specs.Entries.{IsDeclaredAs, IsEntryOf};
 
 /// New tables have the rows of their indexes, which are none.
@@ -43,4 +51,20 @@ pub fn the_same_rows()
 pub fn nothing_declared()
     ensures { (declares : Declarations) (sees seen : Documents) (db : ℤ) (trees : Trees) → AreIndexed declares sees trees
         → ((design name : List ℕ) → declares db design name ≡ None) → ((d : ℤ) (id : List ℕ) → d ≢ db → sees d id ≡ seen d id) → AreIndexed declares seen trees }
+{}
+
+/// The entries of an index that is declared are those of its rows, as a page lists them.
+pub fn entries_are_the_rows_of_an_index()
+    ensures { (db : Database) (r d : Row) (design name : List ℕ) → IsStore db → IsIndexed db.trees → find (is_declaration_of (number_of r) design name) (db.trees decls_tree) ≡ Some d
+        → AreEntriesAt (number_of d) (index_rows (fields_of d) (database_of db.trees r)) (db.trees entries_tree) }
+{}
+
+/// What is read of the entries between the bounds of a range is what a page has of them: behind as many
+/// as are left out, the first, as many as are asked for. There are as many as the range has rows.
+pub fn entries_between_bounds_are_the_rows_of_a_range()
+    ensures read { (n : ℤ) (places : List IndexPlace) (rows : List Row) → AreEntriesAt n places rows → (range : KeyRange) (low high : List ℕ) → IsLowBound range low → IsHighBound range high
+        → (most skip : ℕ) (read : List IndexPlace) → AllByRecursion (λ p. IsLawful p.key) read → map spot_of read ≡ map spot_shown (range_of range.descending n low high (pos most) (pos skip) rows)
+        → read ≡ take most (drop skip (key_rows_within range places)) }
+    ensures count { (n : ℤ) (places : List IndexPlace) (rows : List Row) → AreEntriesAt n places rows → (range : KeyRange) (low high : List ℕ) → IsLowBound range low → IsHighBound range high
+        → count_of n low high rows ≡ length (key_rows_within range places) }
 {}
