@@ -1,7 +1,7 @@
 -- The names that most proofs of this crate cite, passed on from one place. Declares nothing.
 pub use Rattle.sqlite.proofs.Callers.{memory_is_clean}
 pub use Rattle.sqlite_trees.specs.Props.{Trees-set, rows_set}
-pub use Rattle.sqlstore.specs.Listing.{AreEnoughById, AreEnoughBySequence, IsLimitFor, IsSequenceRow, least_of, listed_by_id, listed_by_sequence, page_with_leaves, places_of, winners_page, with_documents, with_leaves}
+pub use Rattle.sqlstore.specs.Listing.{AreEnoughById, AreEnoughBySequence, IsLimitFor, IsSequenceRow, least_of, listed_by_id, listed_by_sequence, page_with_leaves, winners_page, with_leaves}
 pub use Rattle.sqlstore.specs.Model.{Answers, ChangesWhole, Finds, Moves, OnlyReads, Stands, contents_of, is_clean, is_honest, trees_of}
 pub use Rattle.sqlstore.specs.Reading.{FoundValues, HasNumber, IsShownName, NumberValues, at_sequence, found_in, found_shown, known_values, name_shown, numbers_in}
 pub use Rattle.sqlstore.specs.Standing.{Holds, IsHeld, IsKnown, IsStanding, WasStore}

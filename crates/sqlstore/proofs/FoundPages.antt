@@ -1,5 +1,5 @@
 -- The pages of a database that is found by its name are those of the rows of its number.
-use Rattle.sqlstore.proofs.Common.{AllByRecursion, Coded-set, Document, Ghosts, IsDatabaseRow, IsLaid, List, None, NumberValues, Row, SeqRange, Some, SqlStore, Stands, Trees, [], all-filter, all-slice_get, ap, ap₂, by_id, content_code, contents_in, database_of, db_of, dbs_tree, docs_tree, document_counts, document_of, false, filter, history_at, history_in, id_of, id_page, if_counted, in_sequence, index_fields_of, index_over, index_rows, is_honest, is_in, is_named, key_page, leaves_row, length_of, listed_by_id, listed_by_sequence, listed_counts, listed_document, listed_id, live_rows, map, number_of, numbers_in, option_map, page_by_sequence, page_of_ids, page_of_keys, page_with_leaves, places_of, put_in_index, queried_document, refl, revs_tree, rows_of, same_int, sequence_page, sequence_row, slice_get, sort_by, subst, sym, trees_of, true, winners_page, with_documents, ℕ, ℤ, ∥∥₁_elim, ◌<◌, ◌^◌, ◌∙◌, ◌∷◌, ◌≡◌}
+use Rattle.sqlstore.proofs.Common.{AllByRecursion, Coded-set, Document, Ghosts, IsDatabaseRow, IsLaid, List, None, NumberValues, Row, SeqRange, Some, SqlStore, Stands, Trees, [], all-filter, all-slice_get, ap, ap₂, by_id, content_code, contents_in, database_of, db_of, dbs_tree, docs_tree, document_counts, document_of, false, filter, history_at, history_in, id_of, id_page, if_counted, in_sequence, index_fields_of, index_over, index_rows, is_honest, is_in, is_named, key_page, leaves_row, length_of, listed_by_id, listed_by_sequence, listed_counts, listed_document, listed_id, live_rows, map, number_of, numbers_in, option_map, page_by_sequence, page_of_ids, page_of_keys, page_with_leaves, put_in_index, queried_document, refl, revs_tree, rows_of, same_int, sequence_page, sequence_row, slice_get, sort_by, subst, sym, trees_of, true, winners_page, ℕ, ℤ, ∥∥₁_elim, ◌<◌, ◌^◌, ◌∙◌, ◌∷◌, ◌≡◌}
 use Rattle.std.specs.FinMap as finite
 use Rattle.store.specs.Database.{Database}
 use Rattle.store.specs.declared.key_page.KeyRange.{KeyRange}

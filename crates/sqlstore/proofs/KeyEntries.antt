@@ -1,5 +1,5 @@
 -- A page by key is that of the entries of its index.
-use Rattle.sqlstore.proofs.Common.{AllByRecursion, Coded, Coded-set, Damaged, Err, Failed, Ghosts, IfErr, IfOk, IndexPlace, IsLaid, IsLimitFor, IsTrue, KeyPage, List, Memory, NoDatabase, None, NumberValues, Ok, Option, Result, Row, Some, SqlStore, StoreFault, Trees, [], ap, code_by, coded_list, coded_option, coded×, coded_ℕ, coded_ℤ, cond, contents_in, database_of, drop, filter, index_fields_of, index_rows, inl, inr, inside, is_honest, key_page, length, list_any, map, negsuc, numbers_in, option_map, place_code, pos, refl, revs_tree, subst, sym, take, trees_of, ℕ, ℤ, ∥∥₁_elim, ∥∥₁_map, ◌+◌, ◌<◌, ◌^◌, ◌∙◌, ◌∷◌, ◌≡◌, ◌≤◌, ◌⊎◌, arith, reverse, zero, up_to_limit, if_counted, page_of_keys, state}
+use Rattle.sqlstore.proofs.Common.{AllByRecursion, Coded, Coded-set, Damaged, Err, Failed, Ghosts, IfErr, IfOk, IndexPlace, IsLaid, IsLimitFor, IsTrue, KeyPage, List, Memory, NoDatabase, None, NumberValues, Ok, Option, Result, Row, Some, SqlStore, Stands, StoreFault, Trees, [], ap, code_by, coded_list, coded_option, coded×, coded_ℕ, coded_ℤ, cond, contents_in, database_of, dbs_tree, drop, filter, index_fields_of, index_rows, inl, inr, inside, is_honest, key_page, length, list_any, map, negsuc, numbers_in, is_named, option_map, place_code, pos, refl, revs_tree, slice_get, subst, sym, take, trees_of, ℕ, ℤ, ∥∥₁_elim, ∥∥₁_map, ◌+◌, ◌<◌, ◌^◌, ◌∙◌, ◌∷◌, ◌≡◌, ◌≤◌, ◌⊎◌, arith, reverse, zero, up_to_limit, if_counted, page_of_keys, state}
 use Rattle.std.proofs.Common.{Bool, false, min, suc, true}
 use Rattle.std.proofs.lemmas.List.{take-take}
 use Rattle.std.specs.FinMap as finite
@@ -22,10 +22,15 @@ use Rattle.store.specs.declared.page.RowCounts.{RowCounts}
 use Rattle.tables.proofs.RowMaps.{mapped_some}
 use Rattle.tables.specs.Rows.{history_in, number_of}
 use Rattle.tables.specs.Schema.{decls_tree, entries_tree}
-use Rattle.sqlstore.proofs.Answering.{IsThere}
+use Rattle.sqlstore.proofs.Afterwards.{stands_same}
+use Rattle.sqlstore.proofs.Answering.{IsThere, there, was_honest}
 use Rattle.sqlstore.proofs.FoundPages.{key_page_by}
 use Rattle.sqlstore.specs.ByKey.{AnswersOf, IsRangeOf}
-use Rattle.sqlstore.specs.Commits.{IsUncommitted}
+use Rattle.index.specs.Calls.{IsRefused}
+use Rattle.index.specs.declared.fault.IndexFault.{IndexFault}
+use Rattle.index.specs.declared.fault.IndexFault.TheVariants as index
+use Rattle.sqlstore.specs.Causes.{IsJudged}
+use Rattle.sqlstore.specs.Commits.{IsIndexToldAs, IsUncommitted}
 
 -- ---- answers
 
@@ -39,8 +44,8 @@ answers_by H count old new view defined intact (Err Damaged) ok err so = λ h. s
 answers_by H count old new view defined intact (Err fault) ok err so = absurd err
 
 -- a fault is one of a further call too, where something is defined
-pub fault_of : {S X Y A B : Type 0} (H K : S → Type 0) (count : S → ℕ) (old mid new : S) (view : X → A) (other : Y → B) (defined : A) (further : B) (fault : StoreFault) → count old ≤ count mid → (K new → ¬ ¬ H new)
-    → leaving.Answers H count mid new {X = X} view (Some defined) (Err fault) → leaving.Answers K count old new {X = Y} other (Some further) (Err fault)
+pub fault_of : {S X Y A B : Type 0} (H K : S → Type 0) (count : S → ℕ) (old mid new : S) (view : X → A) (other : Y → B) (defined : A) (further : Option B) (fault : StoreFault) → count old ≤ count mid → (K new → ¬ ¬ H new)
+    → leaving.Answers {X = X} H count mid new view (Some defined) (Err fault) → leaving.Answers {X = Y} K count old new other further (Err fault)
 fault_of H K count old mid new view other defined further NoDatabase up so h = λ k. absurd (so k (λ x. let never = h x in absurd (cc)))
 fault_of H K count old mid new view other defined further Damaged up so h = λ k. so k h
 fault_of H K count old mid new view other defined further Failed up so h = later (count old) (count mid) (count new) up h
@@ -50,6 +55,63 @@ fault_of H K count old mid new view other defined further Failed up so h = later
     later a b c le (inr is) = inr is
 fault_of H K count old mid new view other defined further Memory up so h = tt
 fault_of H K count old mid new view other defined further fault up so h = absurd h
+
+-- what is told of an index that was refused
+pub index_refused : {X Y : Type 0} (old new : ℕ) (intact : Type 0) (answer : Result X IndexFault) (r : Result Y StoreFault) → IfErr answer (IsRefused intact)
+    → IfErr r (λ told. (fault : IndexFault) × (answer ≡ Err fault) × IsIndexToldAs old new fault told) → IfErr r (IsUncommitted old new intact)
+index_refused old new intact answer (Ok y) h told = tt
+index_refused {X} old new intact answer (Err said) h told = by told.0 said (subst (λ (a : Result X IndexFault). IfErr a (IsRefused intact)) told.1 h) told.2
+  where
+    judged : (f : StoreFault) → IsJudged old new f → IsUncommitted old new intact f
+    judged Memory j = tt
+    judged Failed j = j
+    judged f j = absurd j
+
+    by : (fault : IndexFault) (f : StoreFault) → IsRefused intact fault → IsIndexToldAs old new fault f → IsUncommitted old new intact f
+    by (index.Sqlite e) f k is = judged f is
+    by index.Memory f k is = subst (IsUncommitted old new intact) (sym is) tt
+    by index.Damaged f k is = subst (IsUncommitted old new intact) (sym is) k
+
+-- what an answer says under a premise
+pub when_ok : {X E H : Type 0} (P : X → Type 0) (r : Result X E) → (H → IfOk r P) → IfOk r (λ x. H → P x)
+when_ok P (Ok x) f = f
+when_ok P (Err e) f = tt
+
+pub also_ok : {X E : Type 0} {P Q : X → Type 0} (r : Result X E) → ((x : X) → P x → Q x) → IfOk r P → IfOk r Q
+also_ok (Ok x) f p = f x p
+also_ok (Err e) f p = tt
+
+-- what was read is what was answered
+pub read_ok : {X E F : Type 0} (P : X → Type 0) (answer : Result X E) (r : Result X F) → IfOk r (λ x. answer ≡ Ok x) → IfOk answer P → IfOk r P
+read_ok P answer (Err e) is p = tt
+read_ok {X} {E} P answer (Ok x) is p = subst (λ (a : Result X E). IfOk a P) is p
+
+-- the same where what is defined hangs on what is so
+pub fault_any : {S X Y A B P : Type 0} (H : P → S → Type 0) (K : S → Type 0) (count : S → ℕ) (old mid new : S) (view : X → A) (other : Y → B) (defined : P → A) (further : Option B) (fault : StoreFault) (p : P) → count old ≤ count mid
+    → (K new → ¬ ¬ ((q : P) × H q new)) → ((q : P) → leaving.Answers {X = X} (H q) count mid new view (Some (defined q)) (Err fault)) → leaving.Answers {X = Y} K count old new other further (Err fault)
+fault_any H K count old mid new view other defined further NoDatabase p up so h = λ k. absurd (so k (λ x. let never = h x.0 x.1 in absurd (cc)))
+fault_any H K count old mid new view other defined further Damaged p up so h = λ k. so k (λ x. h x.0 x.1)
+fault_any H K count old mid new view other defined further Failed p up so h = later (count old) (count mid) (count new) up (h p)
+  where
+    later : (a b c : ℕ) → a ≤ b → HasFailed b c → HasFailed a c
+    later a b c le (inl lt) = inl (omega (arith, le, lt))
+    later a b c le (inr is) = inr is
+fault_any H K count old mid new view other defined further Memory p up so h = tt
+fault_any H K count old mid new view other defined further fault p up so h = absurd (h p)
+
+-- what is answered is so of what is told of it
+pub answers_as : {S X A : Type 0} (H K : S → Type 0) (count : S → ℕ) (old new : S) (view : X → A) (defined further : A) (r : Result X StoreFault) → (K new → H new) → (K new → defined ≡ further)
+    → leaving.Answers H count old new view (Some defined) r → leaving.Answers K count old new view (Some further) r
+answers_as H K count old new view defined further (Ok x) so same h = λ k. ap Some (sym (same k)) ∙ h (so k)
+answers_as H K count old new view defined further (Err NoDatabase) so same h = λ k. absurd (let never = h (so k) in cc)
+answers_as H K count old new view defined further (Err Damaged) so same h = λ k. h (so k)
+answers_as H K count old new view defined further (Err Failed) so same h = h
+answers_as H K count old new view defined further (Err Memory) so same h = tt
+answers_as H K count old new view defined further (Err fault) so same h = absurd h
+
+-- the entries of a store that stands are those of before
+pub entries_before : {S : Type 0} (g : Ghosts S) (old new : SqlStore S g) (declaration : ℤ) (places : List IndexPlace) → Stands g old new → AreEntriesAt declaration places (trees_of g new entries_tree) → AreEntriesAt declaration places (trees_of g old entries_tree)
+entries_before g old new declaration places s h = subst (λ (t : Trees). AreEntriesAt declaration places (t entries_tree)) (stands_same g old new s) h
 
 -- ---- rows
 
@@ -64,27 +126,25 @@ limited_places (Some n) most ps (inr own) = let same : pos n ≡ most = inside (
     take-take_same (suc m) (q ∷ qs) = ap (λ l. q ∷ l) (take-take_same m qs)
 
 module _ (declaration : ℤ) (places : List IndexPlace) (rows : List Row) (h : AreEntriesAt declaration places rows) (range : KeyRange) (low high : List ℕ) (lows : IsLowBound range low) (highs : IsHighBound range high) where
-  pub range_shown : (skip : ℕ) (given : ℤ) (shown : List Row) → given ≡ pos skip → IsRangeOf range declaration low high given rows shown → AllByRecursion IsShownEntry shown
-  range_shown skip given shown is r =
-      subst (AllByRecursion IsShownEntry) (ap (λ n. range_of range.descending declaration low high r.0 n rows) (sym is) ∙ sym r.2) (entries_shown declaration places rows h range low high lows highs r.0 skip)
+  pub range_shown : (shown : List Row) → IsRangeOf range declaration low high rows shown → AllByRecursion IsShownEntry shown
+  range_shown shown r = subst (AllByRecursion IsShownEntry) (sym r.2) (entries_shown declaration places rows h range low high lows highs r.0 range.skip)
 
-  pub rows_read : (skip : ℕ) (given : ℤ) (shown : List Row) (read cut : List IndexPlace) → given ≡ pos skip → skip ≡ range.skip → IsRangeOf range declaration low high given rows shown → AllByRecursion (λ p. json.IsLawful p.key) read
+  pub rows_read : (shown : List Row) (read cut : List IndexPlace) → IsRangeOf range declaration low high rows shown → AllByRecursion (λ p. json.IsLawful p.key) read
       → map spot_of read ≡ map spot_shown shown → cut ≡ up_to_limit range.limit read → up_to_limit range.limit (drop range.skip (key_rows_within range places)) ≡ cut
-  rows_read skip given shown read cut is own r lawful spots made =
-      let same = entries_read declaration places rows h range low high lows highs r.0 skip read lawful (spots ∙ ap (map spot_shown) (r.2 ∙ ap (λ n. range_of range.descending declaration low high r.0 n rows) is)) in
-      ap (λ n. up_to_limit range.limit (drop n (key_rows_within range places))) (sym own)
-      ∙ sym (made ∙ ap (up_to_limit range.limit) same ∙ limited_places range.limit r.0 (drop skip (key_rows_within range places)) r.1)
+  rows_read shown read cut r lawful spots made =
+      let same = entries_read declaration places rows h range low high lows highs r.0 range.skip read lawful (spots ∙ ap (map spot_shown) r.2) in
+      sym (made ∙ ap (up_to_limit range.limit) same ∙ limited_places range.limit r.0 (drop range.skip (key_rows_within range places)) r.1)
 
   nothing_left : (n : ℕ) (ps : List IndexPlace) → length ps ≤ n → drop n ps ≡ []
   nothing_left n [] le = nothing n
     where
-      nothing : (m : ℕ) → drop m {A = IndexPlace} [] ≡ []
+      nothing : (m : ℕ) → drop {A = IndexPlace} m [] ≡ []
       nothing zero = refl
       nothing (suc m) = refl
   nothing_left zero (p ∷ ps) le = absurd (omega (arith, le))
   nothing_left (suc n) (p ∷ ps) le = nothing_left n ps (omega (arith, le))
 
-  none_limited : (limit : Option ℕ) → up_to_limit limit {A = IndexPlace} [] ≡ []
+  none_limited : (limit : Option ℕ) → up_to_limit {A = IndexPlace} limit [] ≡ []
   none_limited None = refl
   none_limited (Some zero) = refl
   none_limited (Some (suc n)) = refl
@@ -158,3 +218,24 @@ declared_set = Coded-set (coded_option (code_by (ℤ × List (List ℕ)) (coded�
 -- the rows of indexes of an honest store are those of what is stored
 pub indexed : {S : Type 0} (g : Ghosts S) (s : SqlStore S g) → is_honest g s → ∥ IsLaid (trees_of g s) × IsIndexed (trees_of g s) ∥₁
 indexed g s honest = ∥∥₁_map (s.standing.held honest.0 honest.1) (λ holds. (holds.store.laid, holds.indexed))
+
+-- ---- what is found of an index of a store
+
+module _ {S : Type 0} (g : Ghosts S) (s first second : SqlStore S g) (range : KeyRange) (name design index : List ℕ) (k : NumberValues) (one : Stands g s first) (two : Stands g first second) (honest : is_honest g second)
+    (found : option_map numbers_in (slice_get (filter (is_named name) (trees_of g s dbs_tree)) 0) ≡ Some k) where
+  at_first : is_honest g first
+  at_first = was_honest g first second two honest
+
+  stored_at : (o : Option Declared) → option_map declared_at (find (is_declaration_of k.0 design index) (trees_of g first decls_tree)) ≡ o → o ≡ option_map declared_at (find (is_declaration_of k.0 design index) (trees_of g s decls_tree))
+  stored_at o is = sym is ∙ ap (λ (t : Trees). option_map declared_at (find (is_declaration_of k.0 design index) (t decls_tree))) (stands_same g s first one)
+
+  pub page_found : (x : Declared) → option_map declared_at (find (is_declaration_of k.0 design index) (trees_of g first decls_tree)) ≡ Some x → ∥ HasPage range (trees_of g s) name design index x.number ∥₁
+  page_found x is =
+      ∥∥₁_map (indexed g s (was_honest g s first one at_first))
+      (λ both. has_page range (trees_of g s) name k both.0 both.1 (there numbers_in (trees_of g s) name k found) design index x (stored_at (Some x) is))
+
+  pub no_page_found : option_map declared_at (find (is_declaration_of k.0 design index) (trees_of g first decls_tree)) ≡ None
+      → option_map (λ (db : Database). page_of_keys range design index db) (finite.get (contents_in (trees_of g s)) name) ≡ Some None
+  no_page_found is =
+      ∥∥₁_elim (indexed g s (was_honest g s first one at_first)) (pages_set _ _)
+      (λ both. no_page range (trees_of g s) name k both.0 both.1 (there numbers_in (trees_of g s) name k found) design index (stored_at None is))

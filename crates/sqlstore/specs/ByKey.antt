@@ -1,6 +1,6 @@
 -- What a page by key is read from: the entries of an index, which are those of places.
 -- This server's own: what entries say is said by `index`, and what a page is by `store`.
-use Rattle.std.specs.Prelude.{◌≡◌, ℕ, ℤ, List, Option, Some, Result}
+use Rattle.std.specs.Prelude.{◌≡◌, ℕ, ℤ, pos, List, Some, Result}
 use Rattle.sqlite_trees.specs.declared.store.Store.{Ghosts}
 use Rattle.sqlite_value.specs.Order.{Row}
 use Rattle.store.specs.Indexes.{IndexPlace}
@@ -20,5 +20,5 @@ AnswersOf g declaration places old new shown defined r =
     leaving.Answers (λ s. is_honest g s × AreEntriesAt declaration places (trees_of g s entries_tree)) (fault_count g) old new shown (Some defined) r
 
 -- the rows of a range, as a statement shows them whose limit loses none of them
-abbrev pub IsRangeOf : KeyRange → ℤ → List ℕ → List ℕ → ℤ → List Row → List Row → Type 0
-IsRangeOf range declaration low high skip rows shown = (most : ℤ) × IsLimitFor range.limit most × (shown ≡ range_of range.descending declaration low high most skip rows)
+abbrev pub IsRangeOf : KeyRange → ℤ → List ℕ → List ℕ → List Row → List Row → Type 0
+IsRangeOf range declaration low high rows shown = (most : ℤ) × IsLimitFor range.limit most × (shown ≡ range_of range.descending declaration low high most (pos range.skip) rows)

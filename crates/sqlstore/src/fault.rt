@@ -1,9 +1,9 @@
 //! What a store makes of an error of SQLite, and of writes that were not done.
 
-ghost use Rattle.std.specs.Prelude.{◌≡◌, ◌≤◌, IfErr, IfOk, Ok};
+ghost use Rattle.std.specs.Prelude.{◌≡◌, ◌≤◌, Err, IfErr, IfOk, Ok};
 ghost use Rattle.sqlstore.specs.Causes.{IsJudged};
-ghost use Rattle.index.specs.Calls.{IsRefused};
-ghost use Rattle.sqlstore.specs.Commits.{IsToldAs, IsUncommitted};
+ghost use Rattle.index.specs.declared.fault.IndexFault.{IndexFault as TheFault};
+ghost use Rattle.sqlstore.specs.Commits.{IsIndexToldAs, IsToldAs};
 
 use index::IndexFault;
 use sqlite::{Error, ErrorCode};
@@ -52,7 +52,7 @@ pub(crate) fn judge_index<T>(
     answer: Result<T, IndexFault>,
 ) -> Result<T, StoreFault>
     ensures ok { IfOk result (λ told. answer ≡ Ok told) }
-    ensures told { (intact : Type 0) → IfErr answer (IsRefused intact) → IfErr result (IsUncommitted faults.old faults.new intact) }
+    ensures told { IfErr result (λ told. (fault : TheFault) × (answer ≡ Err fault) × IsIndexToldAs faults.old faults.new fault told) }
     ensures counted { faults.old ≤ faults.new }
 {
     match answer {

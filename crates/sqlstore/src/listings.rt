@@ -4,7 +4,7 @@ ghost use Rattle.std.specs.Prelude.{◌≡◌, ◌≤◌, ◌<◌, ◌^◌, All,
 ghost use Rattle.std.specs.List.{AllByRecursion, count_by};
 ghost use Rattle.store.specs.Pages.{id_page, if_counted};
 ghost use Rattle.store.specs.Paging.{IsBounded, IsCounted, id_page_of, sequence_page_of, sequence_row_of, sequence_rows};
-ghost use Rattle.tables.specs.Listings.{IsListedDocument, listed_mark, listed_sequence, listed_winner, live_row, live_rows, sequence_row};
+ghost use Rattle.tables.specs.Listings.{IsListedDocument, listed_id, listed_mark, listed_sequence, listed_winner, live_row, live_rows, sequence_row};
 ghost use Rattle.sqlstore.specs.Listing.{IsSequenceRow, row_counts, winners_page};
 ghost use Rattle.transactions.specs.Reading.{IsLost, IsRead};
 

@@ -1,6 +1,7 @@
 //! The pages by key, which the entries of an index list.
 
-ghost use Rattle.std.specs.Prelude.{◌≡◌, ◌+◌, ◌≤◌, ◌<◌, ◌^◌, ◌-◌, min, if◌then◌else◌};
+ghost use Rattle.std.specs.Prelude.{◌≡◌, ◌+◌, ◌≤◌, ◌<◌, ◌^◌, min};
+ghost use Rattle.store.specs.Pages.{up_to_limit};
 
 use crate::fault::{judge_answer, judge_index};
 use crate::sql_store::SqlStore;
@@ -9,7 +10,6 @@ use index::entries;
 use index::{Declaration, above_all, find_decl, high_bound, low_bound, read_count, read_entries};
 use sqlite::{Alter, Row};
 use std::cmp::min;
-use store::paging::cut_to_limit;
 use store::{KeyRange, KeyRow, PageByKey, RowCounts, StoreFault};
 use transactions::integer_of;
 use tree::DocId;
@@ -26,19 +26,33 @@ fn counts_of(before: u64, skip: u64, within: u64, total: u64) -> RowCounts
     RowCounts { offset, total }
 }
 
+/// Cuts the rows to the limit of a page.
+fn cut_rows(rows: Vec<KeyRow>, limit: Option<u64>) -> Vec<KeyRow>
+    ensures { result.items ≡ up_to_limit limit rows.items }
+{
+    let mut rows = rows;
+    if let Some(limit) = limit {
+        rows.truncate(limit as usize);
+    }
+    rows
+}
+
 impl<S: Alter> SqlStore<S> {
-    ghost use Rattle.std.specs.Prelude.{◌≡◌, ◌∷◌, ◌<◌, ◌^◌, ◌-◌, ℕ, [], IfOk, IfSome, List, Some, None, drop, find, is_some, option_map};
-    ghost use Rattle.index.specs.Places.{AreEntriesAt, IsHighBound, IsLowBound};
+    ghost use Rattle.std.specs.Prelude.{◌≡◌, ◌∷◌, ◌<◌, ◌≤◌, ◌^◌, ◌-◌, [], IfErr, IfOk, IfSome, List, Some, drop, false, find, is_some, map, option_map, true};
+    ghost use Rattle.couch_json.specs.Lawful.{IsLawful};
+    ghost use Rattle.index.specs.Places.{IsHighBound, IsLowBound, IsShownEntry, spot_of, spot_shown};
     ghost use Rattle.index.specs.Rows.{count_of, is_declaration_of, range_of, shown_count};
     ghost use Rattle.index.specs.Shown.{declared, declared_at};
     ghost use Rattle.store.specs.Indexes.{IndexPlace};
-    ghost use Rattle.store.specs.KeyPages.{key_counts, key_page, key_rows_within};
+    ghost use Rattle.std.specs.List.{AllByRecursion, count_by};
+    ghost use Rattle.store.specs.KeyPages.{is_key_before, key_counts, key_page, key_rows_within};
     ghost use Rattle.store.specs.KeyPaging.{HasKeyCounts, key_page_of};
     ghost use Rattle.store.specs.Pages.{if_counted, up_to_limit};
     ghost use Rattle.store.specs.declared.page.RowCounts.{RowCounts};
     ghost use Rattle.tables.specs.Schema.{decls_tree, entries_tree};
     ghost use Rattle.sqlstore.specs.Model.{Answers, Finds, Stands, trees_of};
     ghost use Rattle.sqlstore.specs.ByKey.{AnswersOf, IsRangeOf};
+    ghost use Rattle.sqlstore.specs.Commits.{IsUncommitted};
 
     // ---- what is stored of an index
 
@@ -87,22 +101,24 @@ impl<S: Alter> SqlStore<S> {
         judge_answer(&mut self.faults, rows)
     }
 
-    /// Returns the entries of an index between two bounds, in a direction: behind so many, up to a limit.
+    /// Returns the entries of an index between two bounds that a page by key asks for: in its direction, behind
+    /// as many as it skips, and up to its limit.
     fn entry_rows(
         &mut self,
         declaration: &i64,
         low: &[u8],
         high: &[u8],
         range: &KeyRange,
-        skip: &i64,
     ) -> Result<Vec<Row>, StoreFault>
-        ensures { Finds S.Store (λ trees rows. IsRangeOf range.now declaration.now low.now high.now skip.now (trees entries_tree) rows.items) self.old self.new result }
+        requires { range.now.skip < 2 ^ 63 }
+        ensures { Finds S.Store (λ trees rows. IsRangeOf range.now declaration.now low.now high.now (trees entries_tree) rows.items) self.old self.new result }
     {
         let most = limit_of(range.limit);
+        let skip = integer_of(range.skip);
         if range.descending {
-            self.entry_rows_down(declaration, low, high, &most, skip)
+            self.entry_rows_down(declaration, low, high, &most, &skip)
         } else {
-            self.entry_rows_up(declaration, low, high, &most, skip)
+            self.entry_rows_up(declaration, low, high, &most, &skip)
         }
     }
 
@@ -134,6 +150,17 @@ impl<S: Alter> SqlStore<S> {
         judge_index(&mut self.faults, read_count(&rows))
     }
 
+    /// Reads the rows of an index that its entries show.
+    fn read_key_rows(&mut self, rows: &[Row]) -> Result<Vec<KeyRow>, StoreFault>
+        ensures spots { IfOk result (λ read. map spot_of read.items ≡ map spot_shown rows.now) }
+        ensures lawful { IfOk result (λ read. AllByRecursion (λ p. IsLawful p.key) read.items) }
+        ensures told { IfErr result (IsUncommitted self.old.faults self.new.faults (AllByRecursion IsShownEntry rows.now)) }
+        ensures stands { Stands S.Store self.old self.new }
+    {
+        let read = read_entries(self.alloc, rows);
+        judge_index(&mut self.faults, read)
+    }
+
     // ---- a page
 
     /// Lists the rows of a page by key, from the entries of its index between two bounds.
@@ -153,9 +180,30 @@ impl<S: Alter> SqlStore<S> {
             self.count_between(declaration, low, high)?;
             return Ok(Vec::new(self.alloc));
         }
-        let rows = self.entry_rows(declaration, low, high, range, &integer_of(range.skip))?;
-        let read = judge_index(&mut self.faults, read_entries(self.alloc, &rows))?;
-        Ok(cut_to_limit(read, range.limit))
+        let rows = self.entry_rows(declaration, low, high, range)?;
+        let read = self.read_key_rows(&rows)?;
+        Ok(cut_rows(read, range.limit))
+    }
+
+    /// Counts the entries of an index that come before a range, in its direction.
+    fn count_before(
+        &mut self,
+        declaration: &i64,
+        low: &[u8],
+        high: &[u8],
+        range: &KeyRange,
+    ) -> Result<u64, StoreFault>
+        ensures answer { (places : List IndexPlace) → IsLowBound range.now low.now → IsHighBound range.now high.now
+            → AnswersOf S.Store declaration.now places self.old self.new (λ n. n) (count_by (λ p. is_key_before range.now p.key) places) result }
+        ensures bounded { IfOk result (λ n. n < 2 ^ 63 - 1) }
+        ensures stands { Stands S.Store self.old self.new }
+    {
+        if range.descending {
+            let end = above_all(self.alloc)?;
+            return self.count_between(declaration, high, &end);
+        }
+        let start = Vec::new(self.alloc);
+        self.count_between(declaration, &start, low)
     }
 
     /// Counts the rows outside of a page by key, where that is asked for.
@@ -179,11 +227,7 @@ impl<S: Alter> SqlStore<S> {
         let start = Vec::new(self.alloc);
         let total = self.count_between(declaration, &start, &end)?;
         let within = self.count_between(declaration, low, high)?;
-        let before = if range.descending {
-            self.count_between(declaration, high, &end)?
-        } else {
-            self.count_between(declaration, &start, low)?
-        };
+        let before = self.count_before(declaration, low, high, range)?;
         Ok(Some(counts_of(before, range.skip, within, total)))
     }
 

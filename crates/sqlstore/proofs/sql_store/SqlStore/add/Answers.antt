@@ -10,7 +10,7 @@ invariant_of-self g c =
     let text = c.as_str-2.ensures.value ∙ c.in_ok-text.ensures.text ∙ ap canonical (c.value.ensures.value ∙ c.in_ok-security.ensures) in
     record {
       standing = stands g.S.Store s.conn c.add_database.new.conn s.origin.value s.last.value e.turns (dropped g.S.Store s.standing) e.done (IsAdded new.now c.args.name.now)
-          (λ clean was is store same. adds new.now c.args.name.now _ _ store same _ _ c.as_str.ensures.lawful (c.requires (was, is)) name text (e.ok clean store)) c.of.result.value c.of.ensures;
+          (λ clean was is store same. adds new.now c.args.name.now _ _ store same _ _ c.as_str.ensures.lawful (c.requires (was, is)) name text (e.ok clean store.store)) c.of.result.value c.of.ensures;
     }
 
 pub returns-in-Ok-clause-ok : goal.returns-in-Ok-clause-ok
@@ -21,7 +21,7 @@ returns-in-Ok-clause-ok g c honest =
     let name = c.as_bytes.ensures.value ∙ c.as_str.ensures.text in
     let text = c.as_str-2.ensures.value ∙ c.in_ok-text.ensures.text ∙ ap canonical (c.value.ensures.value ∙ c.in_ok-security.ensures) in
     ap (λ h. contents_in (state g.S.Store h).now.trees) c.of.ensures ∙ told g.S.Store s.conn c.add_database.new.conn s.origin.value s.last.value e.turns (dropped g.S.Store s.standing) e.done (IsAdded new.now c.args.name.now)
-    (λ clean was is store same. adds new.now c.args.name.now _ _ store same _ _ c.as_str.ensures.lawful (c.requires (was, is)) name text (e.ok clean store)) (contents_set _ _) honest.0 honest.1
+    (λ clean was is store same. adds new.now c.args.name.now _ _ store same _ _ c.as_str.ensures.lawful (c.requires (was, is)) name text (e.ok clean store.store)) (contents_set _ _) honest.0 honest.1
 
 pub invariant_of-self-in-Err : goal.invariant_of-self-in-Err
 invariant_of-self-in-Err g c = record { standing = undone g.S.Store _ _ _ _ c.in-Err.ensures.turns (dropped g.S.Store c.args.self.now.standing) (λ store same clean is up. c.in-Err.ensures.undone clean up) }

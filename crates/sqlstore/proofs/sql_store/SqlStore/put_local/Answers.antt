@@ -12,7 +12,7 @@ invariant_of-self g c =
     let lawful = subst IsLawful c.json.ensures c.in_ok-text.ensures.lawful in
     record {
       standing = stands g.S.Store s.conn c.write_local.new.conn s.origin.value s.last.value e.turns (dropped g.S.Store s.standing) e.done (HasLocal new.now c.args.name.now c.args.id.now c.args.document.now)
-          (λ clean was is store same. puts new.now c.args.name.now _ _ store same c.args.number.now (c.requires.there (was, is)) c.args.id.now _ _ c.args.document.now c.as_str.ensures.lawful (c.requires.body (was, is)) lawful small named text (e.ok clean store)) c.of.result.value c.of.ensures;
+          (λ clean was is store same. puts new.now c.args.name.now _ _ store same c.args.number.now (c.requires.there (was, is)) c.args.id.now _ _ c.args.document.now c.as_str.ensures.lawful (c.requires.body (was, is)) lawful small named text (e.ok clean store.store)) c.of.result.value c.of.ensures;
     }
 
 pub returns-in-Ok-clause-ok : goal.returns-in-Ok-clause-ok
@@ -25,7 +25,7 @@ returns-in-Ok-clause-ok g c honest =
     let small : c.args.document.now.number < 2 ^ 32 = search rules in
     let lawful = subst IsLawful c.json.ensures c.in_ok-text.ensures.lawful in
     told g.S.Store s.conn c.write_local.new.conn s.origin.value s.last.value e.turns (dropped g.S.Store s.standing) e.done (HasLocal new.now c.args.name.now c.args.id.now c.args.document.now)
-    (λ clean was is store same. puts new.now c.args.name.now _ _ store same c.args.number.now (c.requires.there (was, is)) c.args.id.now _ _ c.args.document.now c.as_str.ensures.lawful (c.requires.body (was, is)) lawful small named text (e.ok clean store)) (some_contents_set _ _) honest.0 honest.1
+    (λ clean was is store same. puts new.now c.args.name.now _ _ store same c.args.number.now (c.requires.there (was, is)) c.args.id.now _ _ c.args.document.now c.as_str.ensures.lawful (c.requires.body (was, is)) lawful small named text (e.ok clean store.store)) (some_contents_set _ _) honest.0 honest.1
     ∙ ap (λ (h : Held g.row.S.Denot). Some (contents_in (state g.S.Store h).now.trees)) (sym c.of.ensures)
 
 pub invariant_of-self-in-Err : goal.invariant_of-self-in-Err

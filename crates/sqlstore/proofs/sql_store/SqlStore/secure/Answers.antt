@@ -10,7 +10,7 @@ invariant_of-self g c =
     let lawful = subst IsLawful c.value.ensures.value c.in_ok-text.ensures.lawful in
     record {
       standing = stands g.S.Store s.conn c.change_security.new.conn s.origin.value s.last.value e.turns (dropped g.S.Store s.standing) e.done (IsSecured new.now c.args.name.now c.args.security.now)
-          (λ clean was is store same. secures new.now c.args.name.now _ _ store same c.args.number.now (c.requires (was, is)) c.args.security.now _ c.value.ensures.lawful lawful text (e.ok clean store)) c.of.result.value c.of.ensures;
+          (λ clean was is store same. secures new.now c.args.name.now _ _ store same c.args.number.now (c.requires (was, is)) c.args.security.now _ c.value.ensures.lawful lawful text (e.ok clean store.store)) c.of.result.value c.of.ensures;
     }
 
 pub returns-in-Ok-clause-ok : goal.returns-in-Ok-clause-ok
@@ -21,7 +21,7 @@ returns-in-Ok-clause-ok g c honest =
     let text = c.as_str.ensures.value ∙ c.in_ok-text.ensures.text ∙ ap canonical c.value.ensures.value in
     let lawful = subst IsLawful c.value.ensures.value c.in_ok-text.ensures.lawful in
     told g.S.Store s.conn c.change_security.new.conn s.origin.value s.last.value e.turns (dropped g.S.Store s.standing) e.done (IsSecured new.now c.args.name.now c.args.security.now)
-    (λ clean was is store same. secures new.now c.args.name.now _ _ store same c.args.number.now (c.requires (was, is)) c.args.security.now _ c.value.ensures.lawful lawful text (e.ok clean store)) (some_contents_set _ _) honest.0 honest.1
+    (λ clean was is store same. secures new.now c.args.name.now _ _ store same c.args.number.now (c.requires (was, is)) c.args.security.now _ c.value.ensures.lawful lawful text (e.ok clean store.store)) (some_contents_set _ _) honest.0 honest.1
     ∙ ap (λ (h : Held g.row.S.Denot). Some (contents_in (state g.S.Store h).now.trees)) (sym c.of.ensures)
 
 pub invariant_of-self-in-Err : goal.invariant_of-self-in-Err

@@ -1,42 +1,72 @@
-use Rattle.store.proofs.Winnings.{fields_alone}
-use Rattle.store.specs.Winning.{winner_alone}
-use Rattle.sqlstore.proofs.Lemmas.{DatabaseNumbers, None, Some, Trees, ap, found_at, history_in, index_fields_of, inside, key_page, key_page_there, listed_by_id, listed_id, map, no_index_there, not_found, numbers_in, places_of, revs_tree, rules, stands_same, stands_then, sym, trees_of, was_honest, ◌∙◌, ◌≡◌}
+use Rattle.index.specs.Places.{AreEntriesAt}
+use Rattle.index.specs.Rows.{is_declaration_of}
+use Rattle.index.specs.Shown.{Declared, declared, declared_at}
+use Rattle.std.specs.Prelude.{find}
+use Rattle.store.specs.Database.{Database}
+use Rattle.store.specs.KeyPaging.{key_page_in, key_page_of}
+use Rattle.store.specs.declared.key_page.PageByKey.{PageByKey}
+use Rattle.sqlstore.proofs.Common.{Err, IndexPlace, None, NumberValues, Option, Result, Some, SqlStore, StoreFault, Trees, [], contents_of, get, key_page, option_map, page_of_keys}
+use Rattle.sqlstore.proofs.KeyEntries.{fault_any, no_page_found, page_found, pages_set}
+use Rattle.sqlstore.proofs.Lemmas.{DatabaseNumbers, List, ap, inside, not_found, numbers_in, rules, stands_same, stands_then, subst, sym, trees_of, was_honest, ∥∥₁_elim, ◌∙◌, ◌≡◌}
+use Rattle.sqlstore.specs.Model.{Answers, fault_count, is_honest}
+use Rattle.tables.specs.Schema.{decls_tree, entries_tree}
 use Rattle.sqlstore.proofs.sql_store.calls.SqlStoreStore.page_by_key.Goals as goal
 
 pub returns-in_err-found-clause-answer : goal.returns-in_err-found-clause-answer
 returns-in_err-found-clause-answer g c = not_found {X = DatabaseNumbers} g.S.Store c.args.self.now c.find.new.self c.args.name.now numbers_in (λ d. (d.number, d.sequence)) _ _ _ _ c.in_err-found.ensures.answer (search rules)
 
-pub returns-in-Some-clause-answer : goal.returns-in-Some-clause-answer
-returns-in-Some-clause-answer g c honest =
+pub returns-in_ok-find_page_by_key-in-Some-clause-answer : goal.returns-in_ok-find_page_by_key-in-Some-clause-answer
+returns-in_ok-find_page_by_key-in-Some-clause-answer g c honest =
     let s = c.args.self.now in
     let first = c.find.new.self in
-    let second = c.find_winning.new.self in
-    let design = c.args.design.now in
-    let index = c.args.index.now in
-    let range = c.args.range.now in
-    let n = c.in_ok-found.found.number in
-    let fields = c.in-Some.fields.items in
-    let stood = c.find.ensures.stands in
-    let both = stands_then g.S.Store s first second stood c.find_winning.ensures.stands in
-    let then = was_honest g.S.Store second c.find_page_by_key.new.self c.find_page_by_key.ensures.stands honest in
-    let was = was_honest g.S.Store first second c.find_winning.ensures.stands then in
-    let history = sym (inside _ _ (c.in_ok-history.ensures.answer then)) ∙ ap (λ (t : Trees). winner_alone (history_in (t revs_tree) n design)) (stands_same g.S.Store s first stood) in
-    let declared : Some c.in-Some.fields.items ≡ index_fields_of c.args.design.now c.in_ok-history.history c.args.index.now = search rules in
-    found_at g.S.Store s second c.args.name.now _ both then (c.in_ok-found.ensures.answer was) (λ t. Some (Some (key_page range (places_of fields (history_in (t revs_tree) n) (map listed_id (listed_by_id t n))))))
-    (λ lay t. key_page_there _ _ _ lay t range design index fields (declared ∙ ap (λ h. index_fields_of design h index) history ∙ fields_alone (history_in (trees_of g.S.Store s revs_tree) n design) design index))
-    ∙ ap (λ fs. Some (Some (key_page range (places_of fs (history_in (trees_of g.S.Store second revs_tree) n) (map listed_id (listed_by_id (trees_of g.S.Store second) n)))))) (sym c.deref.ensures.value)
-    ∙ ap Some (c.in_ok-find_page_by_key-in-Some.ensures.answer honest)
+    let second = c.find_declaration.new.self in
+    let end = c.find_page_by_key.new.self in
+    let k : NumberValues = (c.in_ok-found.found.number, c.in_ok-found.found.sequence) in
+    let then = was_honest g.S.Store second end c.find_page_by_key.ensures.stands honest in
+    let was = was_honest g.S.Store first second c.find_declaration.ensures.stands then in
+    let to_end = stands_then g.S.Store s first end c.find.ensures.stands (stands_then g.S.Store first second end c.find_declaration.ensures.stands c.find_page_by_key.ensures.stands) in
+    let told = inside _ _ (c.in_ok-declaration.ensures.answer then) ∙ ap (option_map declared) c.in-Some.is in
+    ∥∥₁_elim
+    (page_found g.S.Store s first second c.args.range.now c.args.name.now c.args.design.now c.args.index.now k c.find.ensures.stands c.find_declaration.ensures.stands then (c.in_ok-found.ensures.answer was) (declared c.in-Some.declaration) told)
+    (pages_set _ _)
+    (λ p.
+    p.page
+    ∙ ap Some
+    (c.in_ok-find_page_by_key-in-Some.ensures.answer p.places
+    (honest, subst (λ (t : Trees). AreEntriesAt c.in-Some.declaration.number p.places (t entries_tree)) (sym (stands_same g.S.Store s end to_end)) p.entries)))
 
-pub returns-clause-answer : goal.returns-clause-answer
-returns-clause-answer g c honest =
+pub returns-in-None-clause-answer : goal.returns-in-None-clause-answer
+returns-in-None-clause-answer g c honest =
     let s = c.args.self.now in
     let first = c.find.new.self in
-    let design = c.args.design.now in
-    let index = c.args.index.now in
-    let n = c.in_ok-found.found.number in
-    let stood = c.find.ensures.stands in
-    let was = was_honest g.S.Store first c.find_winning.new.self c.find_winning.ensures.stands honest in
-    let history = sym (inside _ _ (c.in_ok-history.ensures.answer honest)) ∙ ap (λ (t : Trees). winner_alone (history_in (t revs_tree) n design)) (stands_same g.S.Store s first stood) in
-    let declared : None ≡ index_fields_of c.args.design.now c.in_ok-history.history c.args.index.now = search rules in
-    found_at g.S.Store s first c.args.name.now _ stood was (c.in_ok-found.ensures.answer was) (λ t. Some None)
-    (λ lay t. no_index_there _ _ _ lay t c.args.range.now design index (declared ∙ ap (λ h. index_fields_of design h index) history ∙ fields_alone (history_in (trees_of g.S.Store s revs_tree) n design) design index))
+    let second = c.find_declaration.new.self in
+    let k : NumberValues = (c.in_ok-found.found.number, c.in_ok-found.found.sequence) in
+    let was = was_honest g.S.Store first second c.find_declaration.ensures.stands honest in
+    no_page_found g.S.Store s first second c.args.range.now c.args.name.now c.args.design.now c.args.index.now k c.find.ensures.stands c.find_declaration.ensures.stands honest (c.in_ok-found.ensures.answer was)
+    (inside _ _ (c.in_ok-declaration.ensures.answer honest) ∙ ap (option_map declared) c.in-None.is)
+
+pub returns-in_err-find_page_by_key-in-Some-clause-answer : goal.returns-in_err-find_page_by_key-in-Some-clause-answer
+returns-in_err-find_page_by_key-in-Some-clause-answer g c =
+    let s = c.args.self.now in
+    let first = c.find.new.self in
+    let second = c.find_declaration.new.self in
+    let end = c.find_page_by_key.new.self in
+    let n = c.in-Some.declaration.number in
+    let k : NumberValues = (c.in_ok-found.found.number, c.in_ok-found.found.sequence) in
+    let Is : List IndexPlace → SqlStore g.row.S.Denot g.S.Store → Type 0 = λ places x. is_honest g.S.Store x × AreEntriesAt n places (trees_of g.S.Store x entries_tree) in
+    let defined = option_map (λ (db : Database). page_of_keys c.args.range.now c.args.design.now c.args.index.now db) (get (contents_of g.S.Store s) c.args.name.now) in
+    let to_second = stands_then g.S.Store s first second c.find.ensures.stands c.find_declaration.ensures.stands in
+    let to_end = stands_then g.S.Store s second end to_second c.find_page_by_key.ensures.stands in
+    let fault = c.in_err-find_page_by_key-in-Some.field-0.0 in
+    let is : c.from_residual-in_err-find_page_by_key-in-Some.result ≡ Err fault = search rules in
+    subst (λ (r : Result (Option PageByKey) StoreFault). Answers g.S.Store s end key_page_in defined r) (sym is)
+    (fault_any Is (is_honest g.S.Store) (fault_count g.S.Store) s second end key_page_of key_page_in (λ places. key_page c.args.range.now places) defined fault [] to_second.counted
+    (λ honest none.
+    let then = was_honest g.S.Store second end c.find_page_by_key.ensures.stands honest in
+    let was = was_honest g.S.Store first second c.find_declaration.ensures.stands then in
+    let told = inside _ _ (c.in_ok-declaration.ensures.answer then) ∙ ap (option_map declared) c.in-Some.is in
+    ∥∥₁_elim
+    (page_found g.S.Store s first second c.args.range.now c.args.name.now c.args.design.now c.args.index.now k c.find.ensures.stands c.find_declaration.ensures.stands then (c.in_ok-found.ensures.answer was) (declared c.in-Some.declaration) told)
+    (λ p q. absurd p)
+    (λ p. none (p.places, (honest, subst (λ (t : Trees). AreEntriesAt n p.places (t entries_tree)) (sym (stands_same g.S.Store s end to_end)) p.entries))))
+    (λ places. c.in_err-find_page_by_key-in-Some.ensures.answer places))
