@@ -1,11 +1,9 @@
 -- The entries of a declaration are those of the rows of its index.
-use Rattle.index.proofs.Common.{AllByRecursion, Bool, IsIndexed, List, None, Option, Row, Some, Trees, [], all-filter, all_both, ap, arith, cond, declaration_at, decls_tree, entries_tree, false, fields_of, filter, find, find_found, find_passes, has_entry, home_of, index_name_of, is_declaration_of, is_due_by, is_key, key_at, key_if_seen, map, number_of, option_map, refl, sees_in, subst, sym, true, ℕ, ℤ, ◌+◌, ◌∙◌, ◌∷◌, ◌≡◌}
-use Rattle.std.proofs.Common.{◌≤◌}
+use Rattle.index.proofs.Common.{AllByRecursion, Bool, IsIndexed, List, None, Option, Row, Some, Trees, [], all-filter, all_both, ap, arith, cond, declaration_at, decls_tree, entries_tree, false, fields_of, filter, find, find_found, find_passes, has_entry, is_declaration_of, is_due_by, is_key, key_if_seen, map, number_of, option_map, refl, sees_in, subst, sym, true, ℕ, ℤ, ◌∙◌, ◌∷◌, ◌≡◌}
 use Rattle.std.specs.FinMap as finite
 use Rattle.std.specs.Prelude.{Contains, IsTrue, IsUtf8, if◌then◌else◌, option_and_then}
 use Rattle.std.specs.Ordering.{eq_by_cmp}
 use Rattle.couch_json.specs.Key.{key}
-use Rattle.couch_json.specs.Nesting.{max_open}
 use Rattle.couch_json.specs.Value.{Items, Value, array, depth}
 use Rattle.store.proofs.Among.{contained, in_contained}
 use Rattle.store.proofs.IndexRows.{place_from, place_there, rows_ascend}

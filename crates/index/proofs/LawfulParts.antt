@@ -1,6 +1,6 @@
 -- The parts of a lawful value are lawful, and what is shown of a lawful body.
-use Rattle.std.proofs.Common.{◌≡◌, ◌≤◌, ◌<◌, ◌^◌, ◌⊎◌, inl, inr, ⊎_elim, ℕ, ◌+◌, Bool, true, false, cond, ltb-true, nat_lt, List, [], ◌∷◌, ◌++◌, Option, Some, None, max, refl, ap, ◌∙◌, subst, sym, arith}
-use Rattle.std.specs.Prelude.{IsUtf8, codes, option_and_then, option_map}
+use Rattle.std.proofs.Common.{◌≡◌, ◌≤◌, ◌<◌, ◌^◌, ◌⊎◌, inl, inr, ⊎_elim, ℕ, ◌+◌, Bool, true, false, ltb-true, nat_lt, List, [], ◌∷◌, ◌++◌, Option, Some, None, max, refl, ap, ◌∙◌, subst, arith}
+use Rattle.std.specs.Prelude.{IsUtf8, codes, option_and_then}
 use Rattle.std.specs.declared.cmp.Ordering.{Ordering}
 use Rattle.std.specs.declared.cmp.Ordering.TheVariants.{Less, Equal, Greater}
 use Rattle.std.specs.Ordering.{nat_cmp, match_ordering, ordering_reverse}
@@ -22,7 +22,7 @@ use Rattle.couch_json.specs.Value.{Items, Members, Value, array, depth, item, it
 use Rattle.store.specs.Indexes.{field_values, values_with}
 use Rattle.tree.proofs.RevisionText.{IsUtf8-revision}
 use Rattle.tree.specs.Revision.{Revision, greatest_number, is_revision, text_of}
-use Rattle.tree.specs.ShownDocument.{members_in, shown_document, shown_members, with_mark}
+use Rattle.tree.specs.ShownDocument.{members_in, shown_document, with_mark}
 use Rattle.tree.specs.declared.entry.Held.{Held}
 
 one_of : (o : Ordering) (found here : Option Value) (v : Value) → match_ordering o found here found ≡ Some v → (found ≡ Some v) ⊎ (here ≡ Some v)

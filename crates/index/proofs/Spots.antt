@@ -1,14 +1,12 @@
 -- The places of an index and its entries, in the same order: they are the same.
-use Rattle.index.proofs.Common.{AllByRecursion, AreEntryRows, Bool, Equal, IsAscending, List, Ordering, Row, [], all-append, all-filter, all_both, and_from, and_parts, ap, ap₂, arith, ascending-append, ascending-filter, cond, entry_id, false, filter, get_or, has_entry, insert_sorted, is_entry_of, is_eq, is_gt, key_of, length, list_any, map, refl, same_int, sort_by, subst, suc, sym, true, ℕ, ℤ, ◌++◌, ◌<◌, ◌∙◌, ◌∷◌, ◌≡◌, ◌||◌, ◌⊎◌, inl, inr}
+use Rattle.index.proofs.Common.{AllByRecursion, Bool, Equal, IsAscending, List, Ordering, Row, [], all_both, and_from, and_parts, ap, ap₂, arith, ascending-append, ascending-filter, cond, entry_id, false, filter, insert_sorted, is_entry_of, is_eq, is_gt, key_of, list_any, map, refl, same_int, sort_by, subst, suc, sym, true, ℕ, ℤ, ◌++◌, ◌∙◌, ◌∷◌, ◌≡◌, ◌||◌, ◌⊎◌, inl, inr}
 use Rattle.sqlite_keyed.proofs.ListLemmas.{ascending-map}
 use Rattle.std.proofs.Common.{AllPairs, Greater, Less, reverse, zero}
 use Rattle.std.proofs.lemmas.List.Elements.{recursion_from_All}
-use Rattle.std.specs.Cmp.{IsTotalOrder, back_total, on_total, then_flip, then_total}
+use Rattle.std.specs.Cmp.{IsTotalOrder, back_total, on_total, then_total}
 use Rattle.std.specs.Cmp.Lexicographic.{nat_list_cmp_total, slice_cmp}
-use Rattle.std.specs.Ordering.{is_ge, is_le, is_lt, nat_cmp, ordering_reverse, ordering_then}
-use Rattle.std.specs.Prelude.{Contains}
+use Rattle.std.specs.Ordering.{nat_cmp, ordering_reverse, ordering_then}
 use Rattle.couch_json.specs.Key.{key}
-use Rattle.couch_json.specs.Collation.{collation}
 use Rattle.couch_json.proofs.KeyOrder.{keys_in_order}
 use Rattle.store.specs.Indexes.{IndexPlace, place_order}
 use Rattle.store.specs.Pages as store
@@ -21,7 +19,7 @@ use Rattle.index.proofs.EntryChanges.{entry_from, of_entry, same_number}
 use Rattle.index.proofs.Pages.{both_in}
 use Rattle.index.proofs.RangeStatements.{untied}
 use Rattle.index.specs.Places.{AreEntriesAt, IsReadable, Spot, spot_at, spot_of}
-use Rattle.index.specs.Rows.{by_place, declaration_of, in_direction, is_entry_between, is_entry_in, is_key_between}
+use Rattle.index.specs.Rows.{by_place, declaration_of, is_entry_between, is_entry_in, is_key_between}
 
 -- ---- what is among the elements of a list
 

@@ -13,7 +13,6 @@ use couch_json::{Got, Json, key_bytes};
 use std::alloc::Global;
 use store::{CutSide, KeyCut, KeyRange};
 
-
 /// Makes the bound of the low end of a range: the keys of the range are not less.
 pub fn low_bound(alloc: Global, range: &KeyRange) -> Got<Vec<u8>>
     ensures { IfOk result (λ bound. IsLowBound range.now bound.items) }

@@ -1,15 +1,15 @@
 -- Tables of which the index rows alone have changed; and what one write leaves of what is declared and of what queries see.
-use Rattle.transactions.proofs.Common.{AllByRecursion, Bool, HasWritten, HistoryContent, IsStore, List, None, Option, Row, Some, Trees, ap, arith, bytes_eq-Decides, contents_in, database_of, dbs_tree, docs_tree, false, filter, history_in, length, locals_tree, number_of, refl, revs_tree, schema, slice_get, subst, sym, true, ℕ, ℤ, ◌∙◌, ◌≡◌, ◌≢◌}
+use Rattle.transactions.proofs.Common.{AllByRecursion, Bool, HasWritten, HistoryContent, IsStore, List, None, Option, Row, Some, Trees, ap, arith, bytes_eq-Decides, database_of, dbs_tree, docs_tree, false, filter, history_in, length, number_of, refl, revs_tree, schema, slice_get, subst, sym, true, ℕ, ℤ, ◌∙◌, ◌≡◌, ◌≢◌}
 use Rattle.std.specs.Prelude.{◌&&◌, bytes_eq, if◌then◌else◌}
 use Rattle.std.specs.Ordering.{int_eq}
 use Rattle.couch_json.specs.Value.{Value}
 use Rattle.sqlite.specs.Effect as sqlite
 use Rattle.sqlite_schema.specs.declared.schema.Schema.{Schema}
-use Rattle.store.specs.Database.{Database, DocumentWrite, with_all}
+use Rattle.store.specs.Database.{DocumentWrite}
 use Rattle.std.proofs.Common.{Bor, ap₂}
 use Rattle.tree.specs.DocumentId.{is_design_id}
 use Rattle.store.specs.Indexes.{index_fields_of, queried_document, winning_body}
-use Rattle.index.specs.Calls.{ChangesIndexes, ChangesOnly, HasEntries, IsRefused}
+use Rattle.index.specs.Calls.{ChangesIndexes, ChangesOnly, HasEntries}
 use Rattle.index.specs.Indexed.{AreEntriesOf, AreIndexed, IsIndexed, is_due}
 use Rattle.index.specs.Layout.{AreDeclarationRows, AreEntryRows, HasIndexRows}
 use Rattle.std.proofs.lemmas.List.{nil_from_length}
@@ -19,11 +19,8 @@ use Rattle.index.specs.Shown.{Declared, declared_at}
 use Rattle.index.proofs.Going.{declarations_stay, refreshed}
 use Rattle.sqlite_keyed.proofs.ListLemmas.{all_weaker}
 use Rattle.store.specs.Writing.{Addition}
-use Rattle.transactions.specs.Indexing.{AreAllIndexes, IsFollowed, IsIndexedStore, IsRedeclared, of_index_fault, write_in}
-use Rattle.transactions.specs.Commits.{IsUnwritten}
+use Rattle.transactions.specs.Indexing.{AreAllIndexes, IsFollowed, IsIndexedStore, IsRedeclared, write_in}
 use Rattle.index.specs.Declaring.{IsRebuildable}
-use Rattle.index.specs.declared.fault.IndexFault.{IndexFault}
-use Rattle.index.specs.declared.fault.IndexFault.TheVariants as index
 use Rattle.transactions.proofs.Common.{Err, Ok, OnOk, Result, [], cond, ◌∷◌}
 use Rattle.std.specs.Prelude.{◌==◌, find}
 use Rattle.index.proofs.Common.{all_of}

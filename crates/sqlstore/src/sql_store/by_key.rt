@@ -6,8 +6,9 @@ ghost use Rattle.store.specs.Pages.{up_to_limit};
 use crate::fault::{judge_answer, judge_index};
 use crate::sql_store::SqlStore;
 use crate::sql_store::page_rows::limit_of;
-use index::entries;
-use index::{Declaration, above_all, find_decl, high_bound, low_bound, read_count, read_entries};
+use index::{
+    Declaration, above_all, entries, find_decl, high_bound, low_bound, read_count, read_entries,
+};
 use sqlite::{Alter, Row};
 use std::cmp::min;
 use store::{KeyRange, KeyRow, PageByKey, RowCounts, StoreFault};

@@ -1,4 +1,4 @@
-use Rattle.index.proofs.Common.{ap, subst, sym, ◌++◌, ◌∙◌, ◌∷◌, [], ◌≡◌}
+use Rattle.index.proofs.Common.{ap, subst, sym, ◌++◌, ◌∙◌, ◌∷◌, []}
 use Rattle.couch_json.specs.Key.{key}
 use Rattle.couch_json.specs.KeyCuts.{bound_after_prefix}
 use Rattle.couch_json.specs.Lawful.{IsLawful}

@@ -1,4 +1,4 @@
-use Rattle.index.proofs.Common.{ap, length, sym, take, ◌∙◌, ◌≡◌}
+use Rattle.index.proofs.Common.{ap, sym, take, ◌∙◌}
 use Rattle.std.proofs.Common.{not, ◌-◌}
 use Rattle.couch_json.specs.View.{view}
 use Rattle.index.proofs.KeyBounds.{behind_array, some_of}

@@ -1,4 +1,4 @@
-use Rattle.index.proofs.Common.{Err, List, Row, Some, ap, arith, column, length, pos, slice_get, subst, sym, ℕ, ◌<◌, ◌∙◌, ◌≡◌}
+use Rattle.index.proofs.Common.{Err, List, Row, Some, ap, arith, column, length, pos, slice_get, subst, sym, ◌<◌, ◌∙◌, ◌≡◌}
 use Rattle.std.proofs.Common.{min}
 use Rattle.index.specs.Rows.{shown_count}
 use Rattle.tables.proofs.Common.{inside}

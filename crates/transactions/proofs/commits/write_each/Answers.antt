@@ -1,6 +1,5 @@
 use Rattle.transactions.proofs.Lemmas.{AreDue, AreStored, CommitFault, Err, HasBest, HasCleanDisk, HasWritten, IfErr, IsHeldOpen, IsUnwritten, Result, addition_of, additions, arith, asks_itself, asks_then, best_in_turn, database_of, further_followed, history_in, history_with, keeps_itself, keeps_then, map, may_in_turn, none_held, none_written, refl, revs_tree, rules, state, stored_further, subst, sym, take_all, to_z-of_z, unwritten_of, w64, writings_in, ◌∙◌, ◌≡◌}
 use Rattle.std.proofs.Common.{of_z, to_z}
-use Rattle.index.specs.Indexed.{IsIndexed}
 use Rattle.index.specs.Shown.{declared}
 use Rattle.transactions.specs.Indexing.{AreAllIndexes, IsSoundIndexed, MayBeWritten}
 use Rattle.transactions.proofs.commits.write_each.Goals as goal

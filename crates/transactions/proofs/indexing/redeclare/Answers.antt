@@ -1,5 +1,5 @@
-use Rattle.transactions.proofs.Lemmas.{CommitFault, Database, Err, HasCleanDisk, HistoryContent, IfErr, IsTrue, IsUnwritten, Result, ap, arith, asks_then, history_in, keeps_then, revs_tree, rules, state, subst, sym, ◌∙◌, ◌≡◌}
-use Rattle.transactions.proofs.Common.{List, None, Option, true, ℕ, ℤ}
+use Rattle.transactions.proofs.Lemmas.{CommitFault, Database, Err, HasCleanDisk, HistoryContent, IfErr, IsUnwritten, Result, ap, arith, asks_then, history_in, keeps_then, revs_tree, rules, state, subst, sym, ◌∙◌, ◌≡◌}
+use Rattle.transactions.proofs.Common.{None}
 use Rattle.transactions.proofs.IndexSteps.{with_winner}
 use Rattle.transactions.proofs.IndexRests.{refused_of}
 use Rattle.transactions.specs.Indexing.{IsRedeclared, of_index_fault}

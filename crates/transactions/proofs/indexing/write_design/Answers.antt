@@ -1,4 +1,4 @@
-use Rattle.transactions.proofs.Lemmas.{AreStored, CommitFault, Database, HasBest, HasCleanDisk, IsHeldOpen, IsUnwritten, addition_of, arith, asks_then, history_in, history_with, keeps_then, revs_tree, state, unwritten_of, ◌≡◌}
+use Rattle.transactions.proofs.Lemmas.{AreStored, CommitFault, Database, HasBest, HasCleanDisk, IsHeldOpen, IsUnwritten, addition_of, arith, asks_then, history_in, history_with, keeps_then, revs_tree, state, unwritten_of}
 use Rattle.transactions.proofs.IndexSteps.{design_fit, design_written, on_done}
 use Rattle.transactions.specs.Indexing.{IsSoundIndexed, MayBeWritten}
 use Rattle.index.specs.Declaring.{IsRebuildable}
