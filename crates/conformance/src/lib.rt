@@ -1,5 +1,5 @@
-//! Tests of what has to fail: a refused allocation, a store, a reader and a writer that fail. One more
-//! compares a socket with memory. All that a reply can show stands in rows of data, in the crates
+//! Tests of what has to fail: a refused allocation, a store, a reader and a writer that fail, also among
+//! many connections. One more compares a socket with memory. All that a reply can show stands in rows of data, in the crates
 //! `values` and `requests`.
 #![tactic(auto)]
 
@@ -11,6 +11,8 @@ mod broken_streams;
 mod exchanges;
 #[cfg(test)]
 mod local_client;
+#[cfg(test)]
+mod many;
 #[cfg(test)]
 mod passes;
 #[cfg(test)]

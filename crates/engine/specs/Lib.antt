@@ -5,3 +5,4 @@ pub mod Desks
 pub mod Moves
 pub mod Taking
 pub mod Order
+pub mod Memory
