@@ -28,7 +28,9 @@ impl Kind for CommandLines {
                     admins,
                 },
             ) => {
-                let front = format!(in self.alloc; "serve {file} at {port}, {conns} connections, {at_once} at once")?;
+                let front = format!(in self.alloc;
+                    "serve {file} at {port}, {conns} connections, {at_once} at once"
+                )?;
                 show_asked(front, secret.as_str(), &admins)
             }
             Ok(Plan::Sync(plan)) => show_sync(self.alloc, &plan),
