@@ -6,3 +6,7 @@ mod Indexed
 mod Ordered
 mod Parts
 pub mod Indexing
+mod Covered
+mod Candidates
+mod Ranges
+mod Serving

@@ -11,12 +11,14 @@
 
 mod by_fields;
 mod by_id;
+mod by_index;
 mod documents;
 mod fault;
 mod index;
 pub mod laws;
 mod matching;
 mod part;
+mod planning;
 mod query;
 mod sort;
 mod sort_fields;
