@@ -10,42 +10,57 @@ ghost use Rattle.store.specs.Plain.{place_views};
 ghost use Rattle.read.specs.Answers.{Stops};
 ghost use Rattle.find.specs.Candidates.{put_candidates};
 ghost use Rattle.find.specs.IndexRead.{index_asked};
-ghost use Rattle.find.specs.Planning.{IsFoundBy};
+ghost use Rattle.find.specs.Planning.{IsFound, MayServe};
 
 use crate::by_fields::{documents_of, put_match, take_part};
-use crate::index::Index;
+use crate::choosing::choose_index;
+use crate::plan::Plan;
+use crate::planning::plan_by;
 use crate::query::Query;
 use couch_json::Json;
 use read::ReadFault;
 use std::alloc::Global;
 use std::collections::BTreeMap;
-use store::{DbName, KeyRange, KeyRow, Store, reverse_if};
+use store::{DbName, KeyRow, Store, reverse_if};
 
-/// Finds the documents that match among those of an index's rows in a range, whatever part of the range
-/// is asked for; `None` where the design document declares no index of this name.
-///
-/// Where it declares the index with these fields, and the range covers the query, these are the
-/// documents that the query finds.
+/// Finds the documents of a query by an index; `None` where none is chosen that may serve.
 pub(crate) fn find_by_index<S: Store>(
     alloc: Global,
     store: &mut S,
     db: &DbName,
     query: &Query,
-    index: &Index,
-    range: KeyRange,
 ) -> Result<Option<Vec<Json>>, ReadFault>
-    ensures ok { S.is_honest store.new → IfOk result (λ found. (d : Database) → map.get (S.contents store.old) db.now ≡ Some d
-        → IsFoundBy (index_asked index.now) range query.now d (option_map (λ documents. each view documents.items) found)) }
+    ensures ok { S.is_honest store.new → IfOk result (λ found.
+        IsFound query.now (map.get (S.contents store.old) db.now) (option_map (λ documents. each view documents.items) found)) }
     ensures stops { IfErr result (Stops S.Store store.old store.new (map.get (S.contents store.old) db.now ≡ None)) }
     ensures reads { OnlyReads S.Store store.old store.new }
 {
-    let whole = KeyRange {
-        skip: 0,
-        limit: None,
-        counted: false,
-        ..range
+    let Some(name) = choose_index(alloc, store, db, query)? else {
+        return Ok(None);
     };
-    let Some(page) = store.page_by_key(db, &index.design, index.name.as_str(), &whole)? else {
+    let Some(plan) = plan_by(alloc, store, db, name, query)? else {
+        return Ok(None);
+    };
+    find_planned(alloc, store, db, query, &plan)
+}
+
+/// Finds the documents of a query among those of the rows that a plan names; `None` where the index is
+/// not declared.
+fn find_planned<S: Store>(
+    alloc: Global,
+    store: &mut S,
+    db: &DbName,
+    query: &Query,
+    plan: &Plan,
+) -> Result<Option<Vec<Json>>, ReadFault>
+    ensures ok { S.is_honest store.new → IfOk result (λ found.
+        ((d : Database) → map.get (S.contents store.old) db.now ≡ Some d → MayServe (index_asked plan.now.index) plan.now.range query.now d)
+        → IsFound query.now (map.get (S.contents store.old) db.now) (option_map (λ documents. each view documents.items) found)) }
+    ensures stops { IfErr result (Stops S.Store store.old store.new (map.get (S.contents store.old) db.now ≡ None)) }
+    ensures reads { OnlyReads S.Store store.old store.new }
+{
+    let index = &plan.index;
+    let Some(page) = store.page_by_key(db, &index.design, index.name.as_str(), &plan.range)? else {
         return Ok(None);
     };
     Ok(Some(find_among(alloc, store, db, &page.rows, query)?))

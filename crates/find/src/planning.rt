@@ -1,140 +1,61 @@
-//! Which part of an index a find may read in place of all documents.
+//! Whether an index may serve a find, and by which of its rows.
 
-ghost use Rattle.std.specs.Prelude.{◌≡◌, IfOk, IfSome, None, Some, bytes_eq, false, if◌then◌else◌, true};
-ghost use Rattle.std.specs.List.{list_any};
-ghost use Rattle.couch_json.specs.Value.{Items, Value, array, item, no_items};
-ghost use Rattle.couch_json.specs.View.{view};
-ghost use Rattle.selector.specs.Bounds.{contain, is_above as is_over, is_below};
-ghost use Rattle.store.specs.KeyPages.{is_above, is_key_within};
-ghost use Rattle.store.specs.declared.key_page.CutSide.TheVariants.{AfterPrefix, Before};
-ghost use Rattle.find.specs.Planning.{AreThere, Covers, IsThere};
+ghost use Rattle.std.specs.Prelude.{◌≡◌, IfOk, IfErr, IfSome, None, Some};
+ghost use Rattle.std.specs.FinMap as map;
+ghost use Rattle.store.specs.Calls.{OnlyReads};
+ghost use Rattle.store.specs.Database.{Database};
+ghost use Rattle.read.specs.Answers.{Stops};
+ghost use Rattle.find.specs.IndexRead.{index_asked};
+ghost use Rattle.find.specs.Planning.{MayServe, MayServeBy};
 
+use crate::choosing::IndexName;
+use crate::index::Index;
+use crate::plan::Plan;
 use crate::query::Query;
-use couch_json::{FieldPath, Got, Json};
-use selector::{Bounds, Edge};
+use crate::ranges::range_of;
+use couch_json::Got;
+use read::ReadFault;
 use std::alloc::Global;
-use store::{CutSide, IndexKey, KeyCut, KeyRange};
+use store::paging::read_index_fields;
+use store::{DbName, Store, read_winning};
+use tree::History;
 
-/// Returns a range that has the key, in an index of these fields, of each document that the query finds;
-/// `None` where such a document may lack one of them.
-///
-/// None lacks a field that the query sorts by, or that its selector bounds. The range goes up, and is
-/// bounded by what the selector says of the first field.
-pub(crate) fn range_of(
+/// Plans a find by the index of this name; `None` where it may not serve.
+pub(crate) fn plan_by<S: Store>(
     alloc: Global,
-    fields: &[FieldPath],
+    store: &mut S,
+    db: &DbName,
+    name: IndexName,
     query: &Query,
-) -> Got<Option<KeyRange>>
-    ensures { IfOk result (λ range. IfSome range (λ r. Covers fields.now r query.now)) }
+) -> Result<Option<Plan>, ReadFault>
+    ensures ok { S.is_honest store.new → IfOk result (λ plan. (d : Database) → map.get (S.contents store.old) db.now ≡ Some d
+        → IfSome plan (λ p. MayServe (index_asked p.index) p.range query.now d)) }
+    ensures stops { IfErr result (Stops S.Store store.old store.new (map.get (S.contents store.old) db.now ≡ None)) }
+    ensures reads { OnlyReads S.Store store.old store.new }
 {
-    if !are_there(fields, query) {
+    let history = read_winning(alloc, store, db, &name.design)?;
+    Ok(plan_declared(alloc, &history, name, query)?)
+}
+
+/// Plans a find by the index of this name, where a design document with this history declares it.
+fn plan_declared(
+    alloc: Global,
+    history: &History,
+    name: IndexName,
+    query: &Query,
+) -> Got<Option<Plan>>
+    ensures { IfOk result (λ plan. IfSome plan (λ p. MayServeBy (index_asked p.index) p.range query.now history.now)) }
+{
+    let Some(fields) = read_index_fields(alloc, &name.design, history, name.name.as_str())? else {
         return Ok(None);
-    }
-    match fields.first() {
-        Some(field) => Ok(Some(range_within(alloc, query.selector.bounds(field))?)),
-        None => Ok(Some(range_between(None, None))),
-    }
-}
-
-/// Tells whether each document that the query finds surely has these fields.
-fn are_there(fields: &[FieldPath], query: &Query) -> bool
-    ensures { result ≡ true → AreThere fields.now query.now }
-{
-    for field in fields {
-        if !is_there(field, query) {
-            return false;
-        }
-    }
-    true
-}
-
-fn is_there(field: &FieldPath, query: &Query) -> bool
-    ensures { result ≡ true → IsThere field.now query.now }
-{
-    match query.selector.bounds(field) {
-        Bounds::Range(_, _) => true,
-        Bounds::Any => is_among(field, query.sort.as_slice()),
-    }
-}
-
-fn is_among(field: &FieldPath, fields: &[FieldPath]) -> bool
-    ensures { result ≡ list_any (λ f. bytes_eq field.now f) fields.now }
-{
-    for other in fields {
-        if field.as_str() == other.as_str() {
-            return true;
-        }
-    }
-    false
-}
-
-/// Returns the range of the keys whose first value lies within bounds.
-fn range_within(alloc: Global, bounds: Bounds<'_>) -> Got<KeyRange>
-    ensures { IfOk result (λ range. (v : Value) (vs : Items) → contain bounds.entry (Some v) ≡ true
-        → is_key_within range (array (item v vs)) ≡ true) }
-{
-    match bounds {
-        Bounds::Range(low, high) => {
-            let low = low_cut(alloc, low)?;
-            Ok(range_between(low, high_cut(alloc, high)?))
-        }
-        Bounds::Any => Ok(range_between(None, None)),
-    }
-}
-
-/// Makes the cut below the keys whose first value lies above an edge.
-fn low_cut(alloc: Global, edge: Option<Edge<'_>>) -> Got<Option<KeyCut>>
-    ensures { IfOk result (λ cut. (v : Value) (vs : Items) → is_over edge.entry v ≡ true
-        → is_above true cut (array (item v vs)) ≡ true) }
-{
-    match edge {
-        Some(edge) => Ok(Some(cut_at(alloc, edge.value, side_of(edge.inclusive))?)),
-        None => Ok(None),
-    }
-}
-
-/// Makes the cut above the keys whose first value lies below an edge.
-fn high_cut(alloc: Global, edge: Option<Edge<'_>>) -> Got<Option<KeyCut>>
-    ensures { IfOk result (λ cut. (v : Value) (vs : Items) → is_below edge.entry v ≡ true
-        → is_above false cut (array (item v vs)) ≡ false) }
-{
-    match edge {
-        Some(edge) => Ok(Some(cut_at(alloc, edge.value, side_of(!edge.inclusive))?)),
-        None => Ok(None),
-    }
-}
-
-/// Returns the side of the cut that has, or has not, the keys that begin with its value above it.
-fn side_of(above: bool) -> CutSide
-    ensures { result ≡ if above then Before else AfterPrefix }
-{
-    if above {
-        CutSide::Before
-    } else {
-        CutSide::AfterPrefix
-    }
-}
-
-/// Makes the cut at the key of this value alone.
-fn cut_at(alloc: Global, value: &Json, side: CutSide) -> Got<KeyCut>
-    ensures { IfOk result (λ cut. cut ≡ record { key = array (item (view value.now) no_items); side = side }) }
-{
-    let mut values = Vec::with_capacity(alloc, 1)?;
-    values.push(value.copy(alloc)?)?;
-    let key = IndexKey::new(Json::Array(values));
-    Ok(KeyCut { key, side })
-}
-
-/// Makes the range between two cuts, which goes up.
-fn range_between(low: Option<KeyCut>, high: Option<KeyCut>) -> KeyRange
-    ensures { result ≡ record { low = low; high = high; descending = false; skip = 0; limit = None; counted = false } }
-{
-    KeyRange {
-        low,
-        high,
-        descending: false,
-        skip: 0,
-        limit: None,
-        counted: false,
-    }
+    };
+    let Some(range) = range_of(alloc, &fields, query)? else {
+        return Ok(None);
+    };
+    let index = Index {
+        design: name.design,
+        name: name.name,
+        fields,
+    };
+    Ok(Some(Plan { index, range }))
 }

@@ -1,6 +1,6 @@
 use Rattle.std.proofs.Common.{drop}
 use Rattle.find.specs.Planning.{AreThere}
-use Rattle.find.proofs.planning.are_there.Given as goal
+use Rattle.find.proofs.ranges.are_there.Given as goal
 
 -- where the fields to come are there too, all are
 abbrev pub invariant-loop-field : goal.invariant-loop-field
