@@ -22,7 +22,7 @@ use Rattle.store.specs.declared.key_page.CutSide.{CutSide}
 use Rattle.store.specs.declared.key_page.CutSide.TheVariants.{AfterPrefix, Before}
 use Rattle.store.specs.declared.key_page.KeyCut.{KeyCut}
 use Rattle.store.specs.declared.key_page.KeyRange.{KeyRange}
-use Rattle.find.specs.Planning.{AreThere, Covers, IsThere, has_key_within}
+use Rattle.find.specs.Planning.{AreThere, Covers, IsThere, IsWhole, has_key_within}
 use Rattle.find.specs.declared.query.Query.{Query}
 
 -- ---- cuts at one value
@@ -146,3 +146,7 @@ pub first_covers : (query : Query) (field : List ℕ) (fields : List (List ℕ))
     → ((v : Value) (vs : Items) → contain bounds (Some v) ≡ true → is_key_within range (array (item v vs)) ≡ true) → Covers (field ∷ fields) range query
 first_covers query field fields bounds range there inside ranged = λ v keys m s.
     within_values bounds range (value_at field v) (field_values fields v) ranged (there v keys m s) (inside v m)
+
+-- a range that is made between two cuts leaves no row out
+pub whole_between : (low high : Option KeyCut) (range : KeyRange) → range ≡ record { low = low; high = high; descending = false; skip = 0; limit = None; counted = false } → IsWhole range
+whole_between low high range e = record { unlimited = ap (λ (r : KeyRange). r.limit) e; from_the_first = ap (λ (r : KeyRange). r.skip) e }

@@ -17,18 +17,12 @@ use store::{DbName, IdRow, Store, design_range, find_winning_body, read_winning}
 use tree::{DocId, History};
 
 /// The name of an index.
+#[derive(Drop)]
 pub(crate) struct IndexName {
     /// The id of the design document that declares it.
     pub(crate) design: DocId,
     /// Its name there.
     pub(crate) name: String,
-}
-
-// Written out, so that callers do not prove again how each part is dropped.
-impl Drop for IndexName {
-    fn drop(self) {
-        let IndexName { design: _, name: _ } = self;
-    }
 }
 
 /// Chooses an index of a database for a query; `None` where a scan of all documents serves as well.

@@ -20,11 +20,7 @@ use store::{CutSide, IndexKey, KeyCut, KeyRange};
 ///
 /// None lacks a field that the query sorts by, or that its selector bounds. The range goes up, and is
 /// bounded by what the selector says of the first field.
-pub(crate) fn range_of(
-    alloc: Global,
-    fields: &[FieldPath],
-    query: &Query,
-) -> Got<Option<KeyRange>>
+pub(crate) fn range_of(alloc: Global, fields: &[FieldPath], query: &Query) -> Got<Option<KeyRange>>
     ensures covers { IfOk result (λ range. IfSome range (λ r. Covers fields.now r query.now)) }
     ensures whole { IfOk result (λ range. IfSome range IsWhole) }
 {
