@@ -8,5 +8,5 @@ mod Parts
 pub mod Indexing
 mod Covered
 mod Candidates
-mod Ranges
+mod KeyRanges
 mod Serving
