@@ -13,7 +13,7 @@ use read::ReadFault;
 use selector::Bounds;
 use std::alloc::Global;
 use std::collections::BTreeMap;
-use store::{DbName, IdRow, Store, design_range, find_winning_body, read_winning};
+use store::{DbName, IdRange, IdRow, RangeKey, Store, find_winning_body, read_winning};
 use tree::{DocId, History};
 
 /// The name of an index.
@@ -38,6 +38,21 @@ pub(crate) fn choose_index<S: Store>(
     let range = design_range(alloc)?;
     let page = store.page_by_id(db, &range)?;
     choose_among(alloc, store, db, &page.rows, query)
+}
+
+/// Builds a range by id in which all design documents are.
+fn design_range(alloc: Global) -> Got<IdRange> {
+    let start = String::from_str(alloc, "_design/")?;
+    let end = String::from_str(alloc, "_design0")?;
+    Ok(IdRange {
+        start: Some(RangeKey::new(start)),
+        end: Some(RangeKey::new(end)),
+        inclusive_end: false,
+        descending: false,
+        skip: 0,
+        limit: None,
+        counted: false,
+    })
 }
 
 /// Chooses an index that one of these design documents declares.

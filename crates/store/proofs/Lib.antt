@@ -22,4 +22,3 @@ pub mod DeclaredFields
 pub mod KeyCounts
 pub mod IndexRows
 pub mod Winnings
-pub mod DesignIds

@@ -14,4 +14,3 @@ pub mod Leaving
 pub mod Calls
 pub mod Plain
 pub mod Winning
-pub mod DesignRows

@@ -10,7 +10,6 @@
 
 mod database_name;
 mod databases;
-mod design_rows;
 mod failing_store;
 mod fault;
 mod id_pages;
@@ -33,7 +32,6 @@ mod winning;
 mod write;
 
 pub use database_name::{DbName, NameFault};
-pub use design_rows::design_range;
 pub use failing_store::FailingStore;
 pub use fault::StoreFault;
 pub use id_pages::reverse_if;
