@@ -1,5 +1,7 @@
 -- Keys whose first value lies within bounds lie within a range of keys.
-use Rattle.std.proofs.Common.{◌≡◌, ℕ, Bool, true, false, not, ◌&&◌, cond, List, [], ◌∷◌, Option, Some, None, Ordering, bytes_eq, refl, sym, ap, subst, ◌∙◌}
+use Rattle.std.proofs.Common.{◌≡◌, ◌≤◌, ◌<◌, ◌+◌, ℕ, suc, arith, Bool, true, false, not, ◌&&◌, cond, List, [], ◌∷◌, Option, Some, None, Ordering, bytes_eq, drop, get_or, length, refl, sym, ap, subst, ◌∙◌}
+use Rattle.std.proofs.Math.Seq.{drop-cons}
+use Rattle.std.proofs.lemmas.List.{drop_all}
 use Rattle.std.proofs.lemmas.Slice.Eq.{bytes_eq-Decides}
 use Rattle.std.specs.Prelude.{is_some}
 use Rattle.std.specs.List.{list_any}
@@ -150,3 +152,27 @@ first_covers query field fields bounds range there inside ranged = λ v keys m s
 -- a range that is made between two cuts leaves no row out
 pub whole_between : (low high : Option KeyCut) (range : KeyRange) → range ≡ record { low = low; high = high; descending = false; skip = 0; limit = None; counted = false } → IsWhole range
 whole_between low high range e = record { unlimited = ap (λ (r : KeyRange). r.limit) e; from_the_first = ap (λ (r : KeyRange). r.skip) e }
+
+-- ---- what the code tells of a field
+
+-- a field that the selector bounds is there
+pub field_bounded : (query : Query) (field : List ℕ) (bounds : Bounds) (low high : Option Edge) → bounds ≡ Range low high
+    → ((v : Value) → selector_matches query.selector v ≡ true → contain bounds (value_at field v) ≡ true) → IsThere field query
+field_bounded query field bounds low high is inside = λ v keys m s.
+    bounded_there low high (value_at field v) (ap (λ b. contain b (value_at field v)) (sym is) ∙ inside v m)
+
+-- a field that the query sorts by is there
+pub field_sorted : (query : Query) (field : List ℕ) → list_any (λ f. bytes_eq field f) query.sort ≡ true → IsThere field query
+field_sorted query field h = λ v keys m s. among_there field query.sort v keys h s
+
+-- the next field is there too
+pub next_there : (query : Query) (fields : List (List ℕ)) (i : ℕ) (field : List ℕ) → i < length fields → field ≡ get_or fields i field → IsThere field query
+    → AreThere (drop (i + 1) fields) query → AreThere (drop i fields) query
+next_there query fields i field lt is h rest =
+    let next : i + 1 ≡ suc i = omega arith in
+    let left : drop i fields ≡ field ∷ drop (i + 1) fields = drop-cons fields i field lt ∙ (λ j. sym is j ∷ drop (sym next j) fields) in
+    subst (λ fs. AreThere fs query) (sym left) (one_there query field (drop (i + 1) fields) h rest)
+
+-- there are no more fields
+pub no_more_there : (query : Query) (fields : List (List ℕ)) (i : ℕ) → length fields ≤ i → AreThere (drop i fields) query
+no_more_there query fields i le = subst (λ fs. AreThere fs query) (sym (drop_all i fields le)) (none_there query)

@@ -10,3 +10,4 @@ mod Covered
 mod Candidates
 mod KeyRanges
 mod Serving
+mod Planned

@@ -44,7 +44,8 @@ fn plan_declared(
     name: IndexName,
     query: &Query,
 ) -> Got<Option<Plan>>
-    ensures { IfOk result (λ plan. IfSome plan (λ p. MayServeBy (index_asked p.index) p.range query.now history.now)) }
+    ensures serves { IfOk result (λ plan. IfSome plan (λ p. MayServeBy (index_asked p.index) p.range query.now history.now)) }
+    ensures design { IfOk result (λ plan. IfSome plan (λ p. p.index.design ≡ name.design)) }
 {
     let Some(fields) = read_index_fields(alloc, &name.design, history, name.name.as_str())? else {
         return Ok(None);
