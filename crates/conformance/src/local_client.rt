@@ -21,20 +21,33 @@ pub fn store(alloc: Global) -> Result<PlainStore, Fail> {
     Ok(store)
 }
 
-/// Returns a node over a store, with the secret `Jefe` and no admins.
+/// The header lines of the admin `root`. The token is python's hmac.
+const ROOT: &str = "X-Auth-CouchDB-UserName: root\r\nX-Auth-CouchDB-Token: \
+160a499b3e61e4772a8874ed075f1ae84e9c342ac24d75151e0bd3cd76e1b6fb\r\n";
+
+/// Returns a node over a store, with the secret `Jefe` and the admin `root`.
 pub fn node<S: Store + Drop>(alloc: Global, store: S) -> Result<Node<S>, Fail> {
-    let auth = Auth::new(alloc, b"Jefe", &[])?;
+    let auth = Auth::new(alloc, b"Jefe", &[String::from_str(alloc, "root")?])?;
     Ok(Node::new(alloc, store, auth, Routes::new(alloc)?))
 }
 
-/// Returns the reply to one request: its status, a space, and its body.
+/// Returns the reply to one request of nobody: its status, a space, and its body.
 pub fn reply<S: Store + Drop>(
     alloc: Global,
     node: &mut Node<S>,
     line: &str,
     body: &str,
 ) -> Result<String, Fail> {
-    let reply = node.handle(&request(alloc, line, body)?);
+    reply_to(alloc, node, &request(alloc, line, body)?)
+}
+
+/// Returns the reply to one request: its status, a space, and its body.
+pub fn reply_to<S: Store + Drop>(
+    alloc: Global,
+    node: &mut Node<S>,
+    request: &Request,
+) -> Result<String, Fail> {
+    let reply = node.handle(request);
     let status = reply.status();
     let mut text = format!(in alloc; "{status} ")?;
     let body = String::from_utf8(Vec::from_slice(alloc, reply.body())?)?;
@@ -42,10 +55,21 @@ pub fn reply<S: Store + Drop>(
     Ok(text)
 }
 
-/// Returns a request as it is cut from its bytes.
+/// Returns a request of nobody, as it is cut from its bytes.
 pub fn request(alloc: Global, line: &str, body: &str) -> Result<Request, Fail> {
+    request_with(alloc, line, "", body)
+}
+
+/// Returns a request of the admin `root`.
+pub fn root_request(alloc: Global, line: &str, body: &str) -> Result<Request, Fail> {
+    request_with(alloc, line, ROOT, body)
+}
+
+fn request_with(alloc: Global, line: &str, headers: &str, body: &str) -> Result<Request, Fail> {
     let length = body.len();
-    let bytes = format!(in alloc; "{line} HTTP/1.1\r\nContent-Length: {length}\r\n\r\n{body}")?;
+    let bytes = format!(in alloc;
+        "{line} HTTP/1.1\r\n{headers}Content-Length: {length}\r\n\r\n{body}"
+    )?;
     let mut cutter = Cutter::new(alloc);
     let mut cut = cutter.feed(bytes.as_bytes())?;
     Ok(cut.requests.pop().ok_or("no request")?)

@@ -14,3 +14,4 @@ pub mod Leaving
 pub mod Calls
 pub mod Plain
 pub mod Winning
+pub mod Failing
