@@ -22,3 +22,4 @@ pub mod DeclaredFields
 pub mod KeyCounts
 pub mod IndexRows
 pub mod Winnings
+pub mod FailingCalls

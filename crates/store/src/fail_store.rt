@@ -1,4 +1,4 @@
-ghost use Rattle.std.specs.Prelude.{◌≡◌, ◌≢◌, ◌+◌, ◌-◌, ◌^◌, IfErr, IfOk, IfSome, OnOk, Err, Some, None, is_some, min, option_map, true};
+ghost use Rattle.std.specs.Prelude.{◌≡◌, ◌≢◌, ◌+◌, ◌-◌, ◌^◌, IfErr, IfOk, IfSome, OnErr, OnOk, Err, Some, None, is_some, min, option_map, true};
 ghost use Rattle.std.specs.FinMap as map;
 ghost use Rattle.store.specs.Calls.{Answers, ChangesWhole, OnlyReads};
 ghost use Rattle.store.specs.Causes.{IsCaused};
@@ -109,7 +109,7 @@ impl<S: Store + Drop> Store for FailStore<S> {
         ensures caused { IfErr result (λ fault. IsCaused (⟦<FailStore<S> as Store>⟧.fault_count self.old) (⟦<FailStore<S> as Store>⟧.fault_count self.new) (S.is_honest self.new.store)
             (S.is_honest self.new.store → S.lacks_number self.old.store) fault) }
         ensures changes { ChangesWhole ⟦<FailStore<S> as Store>⟧ self.old self.new result }
-        ensures turn { TakesTurn self.old self.new result }
+        ensures turn { TakesTurn S.Store self.old self.new result }
     {
         take_turn(&mut self.failing)?;
         self.store.create(name)
@@ -122,7 +122,7 @@ impl<S: Store + Drop> Store for FailStore<S> {
         ensures others { result ≢ Err StoreFault.Exists }
         ensures caused { IfErr result (λ fault. IsCaused (⟦<FailStore<S> as Store>⟧.fault_count self.old) (⟦<FailStore<S> as Store>⟧.fault_count self.new) (S.is_honest self.new.store) ⊥ fault) }
         ensures changes { ChangesWhole ⟦<FailStore<S> as Store>⟧ self.old self.new result }
-        ensures turn { TakesTurn self.old self.new result }
+        ensures turn { TakesTurn S.Store self.old self.new result }
     {
         take_turn(&mut self.failing)?;
         self.store.remove(name)
@@ -132,7 +132,7 @@ impl<S: Store + Drop> Store for FailStore<S> {
         ensures answer { Answers ⟦<FailStore<S> as Store>⟧ self.old self.new (λ names. names.items) (Some (map.keys (S.contents self.old.store))) result }
         ensures others { result ≢ Err StoreFault.NoDatabase }
         ensures reads { OnlyReads ⟦<FailStore<S> as Store>⟧ self.old self.new }
-        ensures turn { TakesTurn self.old self.new result }
+        ensures turn { TakesTurn S.Store self.old self.new result }
     {
         take_turn(&mut self.failing)?;
         self.store.names()
@@ -142,7 +142,7 @@ impl<S: Store + Drop> Store for FailStore<S> {
         ensures answer { Answers ⟦<FailStore<S> as Store>⟧ self.old self.new (λ security. security)
             (option_map (λ db. db.security) (map.get (S.contents self.old.store) name.now)) result }
         ensures reads { OnlyReads ⟦<FailStore<S> as Store>⟧ self.old self.new }
-        ensures turn { TakesTurn self.old self.new result }
+        ensures turn { TakesTurn S.Store self.old self.new result }
     {
         take_turn(&mut self.failing)?;
         self.store.security(name)
@@ -154,7 +154,7 @@ impl<S: Store + Drop> Store for FailStore<S> {
         ensures others { result ≢ Err StoreFault.Exists }
         ensures caused { IfErr result (λ fault. IsCaused (⟦<FailStore<S> as Store>⟧.fault_count self.old) (⟦<FailStore<S> as Store>⟧.fault_count self.new) (S.is_honest self.new.store) ⊥ fault) }
         ensures changes { ChangesWhole ⟦<FailStore<S> as Store>⟧ self.old self.new result }
-        ensures turn { TakesTurn self.old self.new result }
+        ensures turn { TakesTurn S.Store self.old self.new result }
     {
         take_turn(&mut self.failing)?;
         self.store.set_security(name, security)
@@ -164,7 +164,7 @@ impl<S: Store + Drop> Store for FailStore<S> {
         ensures answer { Answers ⟦<FailStore<S> as Store>⟧ self.old self.new (λ history. history)
             (option_map (λ db. history_at db id.now) (map.get (S.contents self.old.store) name.now)) result }
         ensures reads { OnlyReads ⟦<FailStore<S> as Store>⟧ self.old self.new }
-        ensures turn { TakesTurn self.old self.new result }
+        ensures turn { TakesTurn S.Store self.old self.new result }
     {
         take_turn(&mut self.failing)?;
         self.store.history(name, id)
@@ -174,7 +174,7 @@ impl<S: Store + Drop> Store for FailStore<S> {
         ensures answer { Answers ⟦<FailStore<S> as Store>⟧ self.old self.new (λ outline. outline)
             (option_map (λ db. outline_of (history_at db id.now)) (map.get (S.contents self.old.store) name.now)) result }
         ensures reads { OnlyReads ⟦<FailStore<S> as Store>⟧ self.old self.new }
-        ensures turn { TakesTurn self.old self.new result }
+        ensures turn { TakesTurn S.Store self.old self.new result }
     {
         take_turn(&mut self.failing)?;
         self.store.outline(name, id)
@@ -184,7 +184,7 @@ impl<S: Store + Drop> Store for FailStore<S> {
         ensures answer { Answers ⟦<FailStore<S> as Store>⟧ self.old self.new (λ found. found)
             (option_map (λ db. marked_winner (history_at db id.now)) (map.get (S.contents self.old.store) name.now)) result }
         ensures reads { OnlyReads ⟦<FailStore<S> as Store>⟧ self.old self.new }
-        ensures turn { TakesTurn self.old self.new result }
+        ensures turn { TakesTurn S.Store self.old self.new result }
     {
         take_turn(&mut self.failing)?;
         self.store.winner(name, id)
@@ -199,7 +199,7 @@ impl<S: Store + Drop> Store for FailStore<S> {
         ensures answer { Answers ⟦<FailStore<S> as Store>⟧ self.old self.new (λ found. found)
             (option_map (λ db. map.get (history_at db id.now) rev.now) (map.get (S.contents self.old.store) name.now)) result }
         ensures reads { OnlyReads ⟦<FailStore<S> as Store>⟧ self.old self.new }
-        ensures turn { TakesTurn self.old self.new result }
+        ensures turn { TakesTurn S.Store self.old self.new result }
     {
         take_turn(&mut self.failing)?;
         self.store.revision(name, id, rev)
@@ -210,7 +210,7 @@ impl<S: Store + Drop> Store for FailStore<S> {
             (option_map (λ db. page_of_ids range.now db) (map.get (S.contents self.old.store) name.now)) result }
         ensures counted { IfOk result (IsCounted range.now) }
         ensures reads { OnlyReads ⟦<FailStore<S> as Store>⟧ self.old self.new }
-        ensures turn { TakesTurn self.old self.new result }
+        ensures turn { TakesTurn S.Store self.old self.new result }
     {
         take_turn(&mut self.failing)?;
         self.store.page_by_id(name, range)
@@ -221,7 +221,7 @@ impl<S: Store + Drop> Store for FailStore<S> {
             (option_map (λ db. page_by_sequence range.now db) (map.get (S.contents self.old.store) name.now)) result }
         ensures bounded { IfOk result (IsBounded range.now) }
         ensures reads { OnlyReads ⟦<FailStore<S> as Store>⟧ self.old self.new }
-        ensures turn { TakesTurn self.old self.new result }
+        ensures turn { TakesTurn S.Store self.old self.new result }
     {
         take_turn(&mut self.failing)?;
         self.store.page_by_seq(name, range)
@@ -238,7 +238,7 @@ impl<S: Store + Drop> Store for FailStore<S> {
             (option_map (λ db. page_of_keys range.now design.now index.now db) (map.get (S.contents self.old.store) name.now)) result }
         ensures counted { IfOk result (λ page. IfSome page (HasKeyCounts range.now)) }
         ensures reads { OnlyReads ⟦<FailStore<S> as Store>⟧ self.old self.new }
-        ensures turn { TakesTurn self.old self.new result }
+        ensures turn { TakesTurn S.Store self.old self.new result }
     {
         take_turn(&mut self.failing)?;
         self.store.page_by_key(name, design, index, range)
@@ -254,7 +254,7 @@ impl<S: Store + Drop> Store for FailStore<S> {
         ensures caused { IfErr result (λ fault. IsCaused (⟦<FailStore<S> as Store>⟧.fault_count self.old) (⟦<FailStore<S> as Store>⟧.fault_count self.new) (S.is_honest self.new.store)
             (S.is_honest self.new.store → IfThere (map.get (S.contents self.old.store) name.now) (λ db. S.lacks_room self.old.store name.now (writings_in db (additions writes.now)))) fault) }
         ensures changes { ChangesWhole ⟦<FailStore<S> as Store>⟧ self.old self.new result }
-        ensures turn { TakesTurn self.old self.new result }
+        ensures turn { TakesTurn S.Store self.old self.new result }
     {
         take_turn(&mut self.failing)?;
         self.store.commit(name, writes)
@@ -264,7 +264,7 @@ impl<S: Store + Drop> Store for FailStore<S> {
         ensures answer { Answers ⟦<FailStore<S> as Store>⟧ self.old self.new (λ found. found)
             (option_map (λ db. local_at db id.now) (map.get (S.contents self.old.store) name.now)) result }
         ensures reads { OnlyReads ⟦<FailStore<S> as Store>⟧ self.old self.new }
-        ensures turn { TakesTurn self.old self.new result }
+        ensures turn { TakesTurn S.Store self.old self.new result }
     {
         take_turn(&mut self.failing)?;
         self.store.local(name, id)
@@ -282,7 +282,7 @@ impl<S: Store + Drop> Store for FailStore<S> {
         ensures others { result ≢ Err StoreFault.Exists }
         ensures caused { IfErr result (λ fault. IsCaused (⟦<FailStore<S> as Store>⟧.fault_count self.old) (⟦<FailStore<S> as Store>⟧.fault_count self.new) (S.is_honest self.new.store) ⊥ fault) }
         ensures changes { ChangesWhole ⟦<FailStore<S> as Store>⟧ self.old self.new result }
-        ensures turn { TakesTurn self.old self.new result }
+        ensures turn { TakesTurn S.Store self.old self.new result }
     {
         take_turn(&mut self.failing)?;
         self.store.set_local(name, id, document)
