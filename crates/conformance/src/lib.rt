@@ -8,6 +8,8 @@ mod allocations;
 #[cfg(test)]
 mod broken_streams;
 #[cfg(test)]
+mod disk_stops;
+#[cfg(test)]
 mod exchanges;
 #[cfg(test)]
 mod local_client;

@@ -21,6 +21,9 @@ pub fn store(alloc: Global) -> Result<PlainStore, Fail> {
     Ok(store)
 }
 
+/// The reply where the store failed.
+pub const FAILED: &str = r#"500 {"error":"internal_server_error","reason":"store"}"#;
+
 /// The header lines of the admin `root`. The token is python's hmac.
 const ROOT: &str = "X-Auth-CouchDB-UserName: root\r\nX-Auth-CouchDB-Token: \
 160a499b3e61e4772a8874ed075f1ae84e9c342ac24d75151e0bd3cd76e1b6fb\r\n";
@@ -53,6 +56,25 @@ pub fn reply_to<S: Store + Drop>(
     let body = String::from_utf8(Vec::from_slice(alloc, reply.body())?)?;
     text.push_str(body.as_str())?;
     Ok(text)
+}
+
+/// Returns all that requests of the admin show: the names of databases, and the information, the
+/// changes, the security object, a local document and the rows of an index of `db`.
+pub fn shown<S: Store + Drop>(alloc: Global, node: &mut Node<S>) -> Result<String, Fail> {
+    let mut all = String::new(alloc);
+    for line in [
+        "GET /_all_dbs",
+        "GET /db",
+        "GET /db/_changes?style=all_docs&include_docs=true",
+        "GET /db/_security",
+        "GET /db/_local/l",
+        "GET /db/_design/d/_view/v",
+    ] {
+        let text = reply_to(alloc, node, &root_request(alloc, line, "")?)?;
+        all.push_str(text.as_str())?;
+        all.push('\n')?;
+    }
+    Ok(all)
 }
 
 /// Returns a request of nobody, as it is cut from its bytes.

@@ -1,10 +1,7 @@
-use crate::local_client::{node, reply, reply_to, root_request, store};
-use node::Node;
+use crate::local_client::{FAILED, node, reply, reply_to, root_request, shown, store};
 use std::alloc::Global;
 use std::test::Fail;
 use store::{DbName, FailStore, FullStore, PlainStore, Store};
-
-const FAILED: &str = r#"500 {"error":"internal_server_error","reason":"store"}"#;
 
 /// A design document that takes no document with a member `bad`, and declares an index.
 const DESIGN: &str = r#"{"validate_doc_update":{"newDoc.bad":{"$exists":false}},"indexes":{"v":{"fields":["v"]}}}"#;
@@ -51,24 +48,6 @@ fn filled(alloc: Global) -> Result<PlainStore, Fail> {
         }
     }
     Ok(node.into_store())
-}
-
-/// Returns all that requests of the admin show: the names of databases, and the information, the
-/// changes, the security object and a local document of `db`.
-fn shown<S: Store + Drop>(alloc: Global, node: &mut Node<S>) -> Result<String, Fail> {
-    let mut all = String::new(alloc);
-    for line in [
-        "GET /_all_dbs",
-        "GET /db",
-        "GET /db/_changes?style=all_docs&include_docs=true",
-        "GET /db/_security",
-        "GET /db/_local/l",
-    ] {
-        let text = reply_to(alloc, node, &root_request(alloc, line, "")?)?;
-        all.push_str(text.as_str())?;
-        all.push('\n')?;
-    }
-    Ok(all)
 }
 
 /// Whichever call of the store fails: the reply is the one without a failure, or 500. After a 500

@@ -1,0 +1,196 @@
+//! A store in files, one of which stops at some call.
+
+use crate::local_client::{FAILED, node, reply_to, root_request, shown};
+use couch_http::Request;
+use sqlite::{Connection, FileStore, Files, Options};
+use sqlite_disk::{Crash, Disk, Fuse, Memory};
+use sqlstore::SqlStore;
+use std::alloc::Global;
+use std::test::Fail;
+
+/// A file in memory that takes so many calls, and fails each one after.
+type Stopping = Fuse<Memory>;
+
+/// Small limits, so that a request writes its pages in parts, and copies the log into the file.
+const OPTIONS: Options = Options {
+    cache_pages: 20,
+    spill_pages: 2,
+    checkpoint_frames: 3,
+    seed: 7,
+};
+
+/// What the admin `root` writes before: a declared index, and a document that has a row in it.
+const FILLING: [(&str, &str); 4] = [
+    ("PUT /db", ""),
+    ("PUT /other", ""),
+    (
+        "POST /db/_bulk_docs",
+        r#"{"docs":[{"_id":"_design/d","_rev":"1-d","indexes":{"v":{"fields":["v"]}}}],"new_edits":false}"#,
+    ),
+    ("PUT /db/m", r#"{"v":5,"w":6}"#),
+];
+
+/// What is asked of files that stop: a bulk of two documents, another declaration of the index, a local
+/// document, a security object, and a database that is made or removed.
+const REQUESTS: [(&str, &str); 6] = [
+    (
+        "POST /db/_bulk_docs",
+        r#"{"docs":[{"_id":"a","v":1},{"_id":"b","v":2}]}"#,
+    ),
+    (
+        "POST /db/_bulk_docs",
+        r#"{"docs":[{"_id":"_design/d","_rev":"2-e","_revisions":{"start":2,"ids":["e","d"]},"indexes":{"v":{"fields":["w","v"]}}}],"new_edits":false}"#,
+    ),
+    ("PUT /db/_local/l", r#"{"at":1}"#),
+    ("PUT /db/_security", r#"{"members":{"names":["bob"]}}"#),
+    ("PUT /new", ""),
+    ("DELETE /other", ""),
+];
+
+/// The bytes of a log and of its file.
+#[derive(Drop)]
+struct Image {
+    log: Vec<u8>,
+    db: Vec<u8>,
+}
+
+/// Copies what the files hold now.
+fn image_of(alloc: Global, files: &Files<Stopping>) -> Result<Image, Fail> {
+    Ok(Image {
+        log: Vec::from_slice(alloc, files.log.inner().bytes())?,
+        db: Vec::from_slice(alloc, files.db.inner().bytes())?,
+    })
+}
+
+/// Makes a file with these bytes that takes so many calls.
+fn file_with(alloc: Global, bytes: &[u8], calls: u64) -> Result<Stopping, Fail> {
+    let mut file = Memory::new(alloc);
+    file.write_at(0, bytes)?;
+    file.sync()?;
+    Ok(Fuse::new(file, calls))
+}
+
+/// Makes files with these bytes, of which the log and the other take so many calls.
+fn files_with(
+    alloc: Global,
+    image: &Image,
+    log_calls: u64,
+    db_calls: u64,
+) -> Result<Files<Stopping>, Fail> {
+    Ok(Files {
+        log: file_with(alloc, &image.log, log_calls)?,
+        db: file_with(alloc, &image.db, db_calls)?,
+    })
+}
+
+/// Opens the store in files, or gives them back.
+fn open_store(
+    alloc: Global,
+    files: Files<Stopping>,
+) -> Result<SqlStore<FileStore<Stopping>>, Files<Stopping>> {
+    if !files.log.may_be_used() || !files.db.may_be_used() {
+        return Err(files);
+    }
+    match Connection::open_files(alloc, files, OPTIONS) {
+        Ok(conn) => match SqlStore::open(alloc, conn) {
+            Ok(store) => Ok(store),
+            Err((_fault, conn)) => Err(conn.into_store().close()),
+        },
+        Err((_error, left)) => Err(left.into_files()),
+    }
+}
+
+/// Asks for something of the store in files. Returns the reply, or `None` where the store isn't opened,
+/// and the files.
+fn ask(
+    alloc: Global,
+    files: Files<Stopping>,
+    request: &Request,
+) -> Result<(Option<String>, Files<Stopping>), Fail> {
+    match open_store(alloc, files) {
+        Ok(store) => {
+            let mut node = node(alloc, store)?;
+            let told = reply_to(alloc, &mut node, request)?;
+            Ok((Some(told), node.into_store().close().into_store().close()))
+        }
+        Err(files) => Ok((None, files)),
+    }
+}
+
+/// Returns all that a store with these bytes shows, whose files don't stop.
+fn shown_by(alloc: Global, image: &Image) -> Result<String, Fail> {
+    match open_store(alloc, files_with(alloc, image, u64::MAX, u64::MAX)?) {
+        Ok(store) => shown(alloc, &mut node(alloc, store)?),
+        Err(_files) => Err(Fail::from("it does not open")),
+    }
+}
+
+/// Returns files in which the filling stands.
+fn filled(alloc: Global) -> Result<Image, Fail> {
+    let mut image = Image {
+        log: Vec::new(alloc),
+        db: Vec::new(alloc),
+    };
+    for (line, body) in FILLING {
+        let files = files_with(alloc, &image, u64::MAX, u64::MAX)?;
+        let (told, files) = ask(alloc, files, &root_request(alloc, line, body)?)?;
+        if !told.ok_or("it does not open")?.as_str().starts_with("201") {
+            return Err(Fail::from("not written"));
+        }
+        image = image_of(alloc, &files)?;
+    }
+    Ok(image)
+}
+
+/// Tells whether a file takes a further call.
+fn goes_on(file: &mut Stopping) -> bool {
+    file.may_be_used() && file.len().is_ok()
+}
+
+/// At whichever call the log or the file stops: opened again, also where all that was not synced is
+/// lost, the store is that of before or that of after, and the latter where the request was answered.
+#[test]
+fn each_disk_stop(rt: HostRuntime) -> Result<(), Fail> {
+    let alloc = rt.alloc();
+    let image = filled(alloc)?;
+    let before = shown_by(alloc, &image)?;
+    for (line, body) in REQUESTS {
+        let request = root_request(alloc, line, body)?;
+        let files = files_with(alloc, &image, u64::MAX, u64::MAX)?;
+        let (wanted, files) = ask(alloc, files, &request)?;
+        let wanted = wanted.ok_or("it does not open")?;
+        let after = shown_by(alloc, &image_of(alloc, &files)?)?;
+        assert!(rt; wanted.as_str().starts_with("20"), "{line}: {wanted}");
+        assert!(rt; after != before, "{line}");
+        for is_log in [true, false] {
+            let mut stops = 0;
+            for calls in 0..1_000 {
+                let (log_calls, db_calls) = if is_log {
+                    (calls, u64::MAX)
+                } else {
+                    (u64::MAX, calls)
+                };
+                let files = files_with(alloc, &image, log_calls, db_calls)?;
+                let (told, mut files) = ask(alloc, files, &request)?;
+                let is_answered = told.as_ref() == Some(&wanted);
+                if let Some(told) = &told {
+                    assert!(rt; is_answered || told.as_str() == FAILED, "{line}: {told}");
+                }
+                let killed = shown_by(alloc, &image_of(alloc, &files)?)?;
+                assert!(rt; killed == after || killed == before && !is_answered, "{line}: {killed}");
+                assert!(rt; killed == before || told.is_some(), "{line}: {killed}");
+                let goes_on = goes_on(&mut files.log) && goes_on(&mut files.db);
+                files.log.crash();
+                files.db.crash();
+                let lost = shown_by(alloc, &image_of(alloc, &files)?)?;
+                assert!(rt; lost == after || lost == before && !is_answered, "{line}: {lost}");
+                if goes_on {
+                    break;
+                }
+                stops += 1;
+            }
+            assert!(rt; stops > 0 && stops < 1_000, "{line}: {stops} stops");
+        }
+    }
+    Ok(())
+}
