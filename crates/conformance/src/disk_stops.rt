@@ -177,13 +177,19 @@ fn each_disk_stop(rt: HostRuntime) -> Result<(), Fail> {
                     assert!(rt; is_answered || told.as_str() == FAILED, "{line}: {told}");
                 }
                 let killed = shown_by(alloc, &image_of(alloc, &files)?)?;
-                assert!(rt; killed == after || killed == before && !is_answered, "{line}: {killed}");
+                assert!(rt;
+                    killed == after || killed == before && !is_answered,
+                    "{line}: {killed}"
+                );
                 assert!(rt; killed == before || told.is_some(), "{line}: {killed}");
                 let goes_on = goes_on(&mut files.log) && goes_on(&mut files.db);
                 files.log.crash();
                 files.db.crash();
                 let lost = shown_by(alloc, &image_of(alloc, &files)?)?;
-                assert!(rt; lost == after || lost == before && !is_answered, "{line}: {lost}");
+                assert!(rt;
+                    lost == after || lost == before && !is_answered,
+                    "{line}: {lost}"
+                );
                 if goes_on {
                     break;
                 }

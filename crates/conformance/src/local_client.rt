@@ -5,6 +5,7 @@ use couch_http::{Cutter, Request};
 use couch_json::read;
 use node::{Node, Routes};
 use policy::Security;
+use sqlstore::MemoryStore;
 use std::alloc::Global;
 use std::test::Fail;
 use store::{DbName, PlainStore, Store};
@@ -12,14 +13,30 @@ use store::{DbName, PlainStore, Store};
 /// Returns a store with the databases `db` and `other`, whose security objects are `{}`.
 pub fn store(alloc: Global) -> Result<PlainStore, Fail> {
     let mut store = PlainStore::new(alloc);
+    add_databases(alloc, &mut store)?;
+    Ok(store)
+}
+
+/// Returns the same over tables in memory.
+pub fn store_in_tables(alloc: Global) -> Result<MemoryStore, Fail> {
+    let mut store = MemoryStore::new(alloc)?;
+    add_databases(alloc, &mut store)?;
+    Ok(store)
+}
+
+fn add_databases<S: Store>(alloc: Global, store: &mut S) -> Result<(), Fail> {
     let public = Security::read(alloc, &read(alloc, b"{}")?)?;
     for name in ["db", "other"] {
         let name = DbName::new(alloc, name)?;
         store.create(&name)?;
         store.set_security(&name, &public)?;
     }
-    Ok(store)
+    Ok(())
 }
+
+/// A design document that takes no document with a member `bad`, and declares an index.
+pub const DESIGN: &str =
+    r#"{"validate_doc_update":{"newDoc.bad":{"$exists":false}},"indexes":{"v":{"fields":["v"]}}}"#;
 
 /// The reply where the store failed.
 pub const FAILED: &str = r#"500 {"error":"internal_server_error","reason":"store"}"#;

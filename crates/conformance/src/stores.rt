@@ -1,10 +1,7 @@
-use crate::local_client::{FAILED, node, reply, reply_to, root_request, shown, store};
+use crate::local_client::{DESIGN, FAILED, node, reply, reply_to, root_request, shown, store};
 use std::alloc::Global;
 use std::test::Fail;
 use store::{DbName, FailStore, FullStore, PlainStore, Store};
-
-/// A design document that takes no document with a member `bad`, and declares an index.
-const DESIGN: &str = r#"{"validate_doc_update":{"newDoc.bad":{"$exists":false}},"indexes":{"v":{"fields":["v"]}}}"#;
 
 /// Requests of the admin `root`. The first is a bulk with a refusal, a conflict, and two documents that are
 /// written.
@@ -18,10 +15,7 @@ const REQUESTS: [(&str, &str); 16] = [
         r#"{"docs":[{"_id":"a","_rev":"1-x","v":7},{"_id":"e","_rev":"1-y","bad":1}],"new_edits":false}"#,
     ),
     ("PUT /db/c", r#"{"v":1}"#),
-    (
-        "DELETE /db/a?rev=1-16dd5aa7b10d32bc038d45f5c7f9f929",
-        "",
-    ),
+    ("DELETE /db/a?rev=1-16dd5aa7b10d32bc038d45f5c7f9f929", ""),
     ("PUT /db/_design/e", r#"{"indexes":{"w":{"fields":["w"]}}}"#),
     ("PUT /db/_local/l", r#"{"at":1}"#),
     ("PUT /db/_security", r#"{"members":{"names":["bob"]}}"#),
@@ -79,7 +73,10 @@ fn each_store_call(rt: HostRuntime) -> Result<(), Fail> {
             assert_eq!(rt; shown(alloc, &mut failing)?, after, "{line}, call {k}");
             assert_eq!(rt; failing.into_store().faults(), 1);
         }
-        assert!(rt; failures > 0 && failures < 900, "{line}: {failures} failures");
+        assert!(rt;
+            failures > 0 && failures < 900,
+            "{line}: {failures} failures"
+        );
     }
     Ok(())
 }
