@@ -1,7 +1,6 @@
 -- Which call fails, and when it is counted, after any number of calls.
 use Rattle.std.proofs.Common.{◌≡◌, ◌<◌, ℕ, suc, zero, refl, ap, arith, rules}
 use Rattle.store.specs.Failing.{calls_later, failing_call, failures_of}
-use Rattle.store.specs.declared.fail_store.FailingCall.{FailingCall}
 use Rattle.store.specs.declared.fail_store.FailingCall.TheVariants.{After, Never, Past}
 
 past_stays : (n : ℕ) → calls_later n Past ≡ Past
