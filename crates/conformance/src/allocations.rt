@@ -5,6 +5,7 @@ use crate::local_client::{DESIGN, node, request, root_request, store, store_in_t
 use couch_http::{Request, Response};
 use hub::{Hub, HubFault, Replies};
 use std::alloc::Global;
+use std::process::Abort;
 use std::test::Fail;
 use store::Store;
 
@@ -142,7 +143,7 @@ fn feed_request<S: Store + Drop>(
 
 /// Plays all steps and pieces, and compares the replies.
 fn play<S: Store + Drop>(
-    rt: &HostRuntime,
+    rt: &impl Abort,
     hub: &mut Hub<S>,
     requests: &[Request],
 ) -> Result<(), Fail> {
