@@ -5,7 +5,7 @@ use crate::local_client::{DESIGN, node, request, root_request, store, store_in_t
 use couch_http::{Request, Response};
 use hub::{Hub, HubFault, Replies};
 use std::alloc::Global;
-use std::process::Abort;
+use std::process::{Abort, Termination};
 use std::test::Fail;
 use store::Store;
 
@@ -169,18 +169,21 @@ fn play<S: Store + Drop>(
     Ok(())
 }
 
+/// Prints why there is no first step.
+fn tell(rt: &HostRuntime, fail: Fail) -> Result<(), Fail> {
+    let failed: Result<(), Fail> = Err(fail);
+    let _status = failed.report(rt);
+    Ok(())
+}
+
 /// Each reply is the wanted one or the 503, `feed` may answer `Memory`, and the same step again has the
-/// wanted reply.
+/// wanted reply. Where memory runs out before the first step, there is none.
 #[test]
 fn each_allocation(rt: HostRuntime) -> Result<(), Fail> {
     let alloc = rt.alloc();
-    let Ok(store) = store(alloc) else {
-        return Ok(());
-    };
-    match prepare(alloc, store) {
+    match store(alloc).and_then(|store| prepare(alloc, store)) {
         Ok((mut hub, requests)) => play(&rt, &mut hub, &requests),
-        // Memory ran out before the first step.
-        Err(_) => Ok(()),
+        Err(fail) => tell(&rt, fail),
     }
 }
 
@@ -188,12 +191,8 @@ fn each_allocation(rt: HostRuntime) -> Result<(), Fail> {
 #[test]
 fn each_allocation_over_tables(rt: HostRuntime) -> Result<(), Fail> {
     let alloc = rt.alloc();
-    let Ok(store) = store_in_tables(alloc) else {
-        return Ok(());
-    };
-    match prepare(alloc, store) {
+    match store_in_tables(alloc).and_then(|store| prepare(alloc, store)) {
         Ok((mut hub, requests)) => play(&rt, &mut hub, &requests),
-        // Memory ran out before the first step.
-        Err(_) => Ok(()),
+        Err(fail) => tell(&rt, fail),
     }
 }

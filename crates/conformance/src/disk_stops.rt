@@ -6,6 +6,7 @@ use sqlite::{Connection, FileStore, Files, Options};
 use sqlite_disk::{Crash, Disk, Fuse, Memory};
 use sqlstore::SqlStore;
 use std::alloc::Global;
+use std::process::Abort;
 use std::test::Fail;
 
 /// A file in memory that takes so many calls, and fails each one after.
@@ -48,7 +49,7 @@ const REQUESTS: [(&str, &str); 6] = [
 ];
 
 /// The bytes of a log and of its file.
-#[derive(Drop)]
+#[derive(PartialEq, Drop)]
 struct Image {
     log: Vec<u8>,
     db: Vec<u8>,
@@ -147,55 +148,95 @@ fn goes_on(file: &mut Stopping) -> bool {
     file.may_be_used() && file.len().is_ok()
 }
 
-/// At whichever call the log or the file stops: opened again, also where all that was not synced is
-/// lost, the store is that of before or that of after, and the latter where the request was answered.
+/// A request to files that stop, and what comes of it where they don't.
+#[derive(Drop)]
+struct Trial {
+    request: Request,
+    image: Image,
+    before: String,
+    wanted: String,
+    after: String,
+}
+
+/// Asks for something of files that don't stop.
+fn make_trial(alloc: Global, line: &str, body: &str) -> Result<Trial, Fail> {
+    let image = filled(alloc)?;
+    let before = shown_by(alloc, &image)?;
+    let request = root_request(alloc, line, body)?;
+    let files = files_with(alloc, &image, u64::MAX, u64::MAX)?;
+    let (wanted, files) = ask(alloc, files, &request)?;
+    let after = shown_by(alloc, &image_of(alloc, &files)?)?;
+    Ok(Trial {
+        request,
+        image,
+        before,
+        wanted: wanted.ok_or("it does not open")?,
+        after,
+    })
+}
+
+/// Tells whether files with these bytes hold the store of after, and not the one of before.
+fn is_after(rt: &impl Abort, alloc: Global, trial: &Trial, image: &Image) -> Result<bool, Fail> {
+    if *image == trial.image {
+        return Ok(false);
+    }
+    let shown = shown_by(alloc, image)?;
+    let is_after = shown == trial.after;
+    assert!(rt; is_after || shown == trial.before, "{shown}");
+    Ok(is_after)
+}
+
+/// Asks files that stop, and opens what they hold then: as it is, and without all that was not synced.
+/// Tells whether they go on.
+fn try_files(
+    rt: &impl Abort,
+    alloc: Global,
+    trial: &Trial,
+    files: Files<Stopping>,
+) -> Result<bool, Fail> {
+    let (told, mut files) = ask(alloc, files, &trial.request)?;
+    let is_answered = told.as_ref() == Some(&trial.wanted);
+    if let Some(told) = &told {
+        assert!(rt; is_answered || told.as_str() == FAILED, "{told}");
+    }
+    let killed = is_after(rt, alloc, trial, &image_of(alloc, &files)?)?;
+    let goes_on = goes_on(&mut files.log) && goes_on(&mut files.db);
+    files.log.crash();
+    files.db.crash();
+    let lost = is_after(rt, alloc, trial, &image_of(alloc, &files)?)?;
+    assert!(rt; killed && lost || !is_answered);
+    assert!(rt; told.is_some() || !killed && !lost);
+    Ok(goes_on)
+}
+
+/// Has the log or the other file stop at each call, and returns how many calls there are.
+fn try_each_call(rt: &impl Abort, alloc: Global, trial: &Trial, is_log: bool) -> Result<u64, Fail> {
+    for calls in 0..1_000 {
+        let (log_calls, db_calls) = if is_log {
+            (calls, u64::MAX)
+        } else {
+            (u64::MAX, calls)
+        };
+        let files = files_with(alloc, &trial.image, log_calls, db_calls)?;
+        if try_files(rt, alloc, trial, files)? {
+            return Ok(calls);
+        }
+    }
+    Err(Fail::from("it has no end"))
+}
+
+/// At whichever call the log or the file stops: opened again, the store is that of before or that of
+/// after, and the latter where the request was answered.
 #[test]
 fn each_disk_stop(rt: HostRuntime) -> Result<(), Fail> {
     let alloc = rt.alloc();
-    let image = filled(alloc)?;
-    let before = shown_by(alloc, &image)?;
     for (line, body) in REQUESTS {
-        let request = root_request(alloc, line, body)?;
-        let files = files_with(alloc, &image, u64::MAX, u64::MAX)?;
-        let (wanted, files) = ask(alloc, files, &request)?;
-        let wanted = wanted.ok_or("it does not open")?;
-        let after = shown_by(alloc, &image_of(alloc, &files)?)?;
-        assert!(rt; wanted.as_str().starts_with("20"), "{line}: {wanted}");
-        assert!(rt; after != before, "{line}");
+        let trial = make_trial(alloc, line, body)?;
+        assert!(rt; trial.wanted.as_str().starts_with("20"), "{line}");
+        assert!(rt; trial.after != trial.before, "{line}");
         for is_log in [true, false] {
-            let mut stops = 0;
-            for calls in 0..1_000 {
-                let (log_calls, db_calls) = if is_log {
-                    (calls, u64::MAX)
-                } else {
-                    (u64::MAX, calls)
-                };
-                let files = files_with(alloc, &image, log_calls, db_calls)?;
-                let (told, mut files) = ask(alloc, files, &request)?;
-                let is_answered = told.as_ref() == Some(&wanted);
-                if let Some(told) = &told {
-                    assert!(rt; is_answered || told.as_str() == FAILED, "{line}: {told}");
-                }
-                let killed = shown_by(alloc, &image_of(alloc, &files)?)?;
-                assert!(rt;
-                    killed == after || killed == before && !is_answered,
-                    "{line}: {killed}"
-                );
-                assert!(rt; killed == before || told.is_some(), "{line}: {killed}");
-                let goes_on = goes_on(&mut files.log) && goes_on(&mut files.db);
-                files.log.crash();
-                files.db.crash();
-                let lost = shown_by(alloc, &image_of(alloc, &files)?)?;
-                assert!(rt;
-                    lost == after || lost == before && !is_answered,
-                    "{line}: {lost}"
-                );
-                if goes_on {
-                    break;
-                }
-                stops += 1;
-            }
-            assert!(rt; stops > 0 && stops < 1_000, "{line}: {stops} stops");
+            let calls = try_each_call(&rt, alloc, &trial, is_log)?;
+            assert!(rt; calls > 0, "{line}");
         }
     }
     Ok(())
