@@ -22,3 +22,5 @@ pub mod DeclaredFields
 pub mod KeyCounts
 pub mod IndexRows
 pub mod Winnings
+pub mod FailingCalls
+pub mod DesignIds

@@ -14,3 +14,5 @@ pub mod Leaving
 pub mod Calls
 pub mod Plain
 pub mod Winning
+pub mod Failing
+pub mod DesignRows

@@ -1,6 +1,6 @@
 //! What follows from the definitions alone. Each function has an empty body: its contract is the law.
 
-ghost use Rattle.std.specs.Prelude.{◌≡◌, ◌<◌, ◌≤◌, ◌++◌, ℕ, AllPairs, Contains, List, None, Some, IsTrue, is_some, take, true};
+ghost use Rattle.std.specs.Prelude.{◌≡◌, ◌<◌, ◌≤◌, ◌++◌, ℕ, suc, AllPairs, Contains, List, None, Some, IsTrue, is_some, take, true};
 ghost use Rattle.std.specs.FinMap.{get};
 ghost use Rattle.couch_json.specs.Value.{Value};
 ghost use Rattle.tree.specs.Revision.{Revision};
@@ -8,11 +8,13 @@ ghost use Rattle.tree.specs.History.{HistoryContent, held_of, winner};
 ghost use Rattle.tree.specs.declared.entry.Held.{Held};
 ghost use Rattle.store.specs.Contents.{AreAcceptable, IsAcceptable, with_local, with_security};
 ghost use Rattle.store.specs.Database.{Database, Document, DocumentWrite, HasSequences, IsContentOf, IsLater, Log, empty_database, with_all, with_one, with_write_logged};
+ghost use Rattle.store.specs.Failing.{calls_later, failing_call, failures_of};
 ghost use Rattle.store.specs.Indexes.{IndexPlace, IsPlaceOf, index_rows, place_order, queried_document, winning_body};
 ghost use Rattle.store.specs.Lawful.{IsBody, IsLawful};
 ghost use Rattle.store.specs.Pages.{IsIdRowOf, IsRowOf, SequenceRow, comes_before, is_within, live_rev, page_of_ids, page_by_sequence, row_of};
 ghost use Rattle.store.specs.Winning.{winner_alone};
 ghost use Rattle.store.specs.Writing.{Addition, writings_in};
+ghost use Rattle.store.specs.declared.fail_store.FailingCall.TheVariants.{After};
 ghost use Rattle.store.specs.declared.local_document.LocalDocument.{LocalDocument};
 ghost use Rattle.store.specs.declared.page.IdRange.{IdRange};
 ghost use Rattle.store.specs.declared.page.IdRow.{IdRow};
@@ -110,4 +112,15 @@ pub fn rows_by_key()
     ensures ascending { (fields : List (List ℕ)) (db : Database) → AllPairs (λ a b. place_order a b ≡ Ordering.Less) (index_rows fields db) }
     ensures there { (fields : List (List ℕ)) (db : Database) (p : IndexPlace) → Contains (index_rows fields db) p → IsPlaceOf fields db p }
     ensures whole { (fields : List (List ℕ)) (db : Database) (p : IndexPlace) → IsPlaceOf fields db p → Contains (index_rows fields db) p }
+{}
+
+/// Of the calls of a [`FailStore`](crate::FailStore) the one that was named fails, behind n others the
+/// one behind these, and no other; one fault is counted from then on, and none before. Where none was
+/// named, none is counted.
+pub fn one_call_fails()
+    ensures fails { (n : ℕ) → calls_later n (failing_call (suc n)) ≡ After 0 }
+    ensures alone { (k n : ℕ) → calls_later n (failing_call k) ≡ After 0 → k ≡ suc n }
+    ensures counted { (k n : ℕ) → k < n → failures_of (calls_later n (failing_call (suc k))) ≡ 1 }
+    ensures before { (k n : ℕ) → n < k → failures_of (calls_later n (failing_call k)) ≡ 0 }
+    ensures never { (n : ℕ) → failures_of (calls_later n (failing_call 0)) ≡ 0 }
 {}

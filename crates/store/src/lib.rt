@@ -10,8 +10,10 @@
 
 mod database_name;
 mod databases;
-mod failing_store;
+mod design_rows;
+mod fail_store;
 mod fault;
+mod full_store;
 mod id_pages;
 mod indexes;
 mod key_page;
@@ -32,8 +34,10 @@ mod winning;
 mod write;
 
 pub use database_name::{DbName, NameFault};
-pub use failing_store::FailingStore;
+pub use design_rows::design_range;
+pub use fail_store::{FailStore, FailingCall};
 pub use fault::StoreFault;
+pub use full_store::FullStore;
 pub use id_pages::reverse_if;
 pub use indexes::{find_index, find_winning_body, show_queried, values_at};
 pub use key_page::{CutSide, IndexKey, KeyCut, KeyRange, KeyRow, PageByKey};

@@ -19,8 +19,8 @@ pub(crate) fn put_sorted<K: Ord + Drop, V: Drop>(
     Ok(())
 }
 
-/// Cuts the rows to the limit.
-pub(crate) fn cut_to_limit<T: Drop>(rows: Vec<T>, limit: Option<u64>) -> Vec<T>
+/// Cuts rows to a limit; `None` is no limit.
+pub fn cut_to_limit<T: Drop>(rows: Vec<T>, limit: Option<u64>) -> Vec<T>
     ensures { result.items ≡ up_to_limit limit rows.items }
 {
     let mut rows = rows;

@@ -3,4 +3,5 @@
 pub use crate::id_pages::cut_by_id;
 pub use crate::indexes::read_index_fields;
 pub use crate::key_pages::{cut_by_key, list_index_rows, put_in_index};
+pub use crate::order::cut_to_limit;
 pub use crate::pages::cut_by_sequence;

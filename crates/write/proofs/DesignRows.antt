@@ -1,9 +1,7 @@
 -- The rows of the range of design documents give the design documents of the database, and rules are taken in row by row.
-use Rattle.std.proofs.Common.{◌≡◌, ℕ, suc, ◌+◌, ◌<◌, arith, get_or, length, Bool, true, false, not, ◌||◌, cond, drop, nat_eq, List, [], ◌∷◌, ◌++◌, Option, Some, None, option_map, Result, Ok, Err, eqb-true, refl, sym, ap, subst, ◌∙◌, inl, inr}
+use Rattle.std.proofs.Common.{◌≡◌, ℕ, suc, ◌+◌, ◌<◌, arith, get_or, length, Bool, true, false, cond, drop, List, [], ◌∷◌, ◌++◌, Option, Some, None, option_map, Result, Ok, Err, refl, sym, ap, subst, ◌∙◌, inl, inr}
 use Rattle.std.proofs.Math.Seq.{drop-cons}
-use Rattle.std.specs.Prelude.{IfOk, codes, filter, flat_map}
-use Rattle.std.specs.List.{starts_with}
-use Rattle.std.specs.Cmp.{first_so, second_so}
+use Rattle.std.specs.Prelude.{IfOk, filter, flat_map}
 use Rattle.std.specs.FinMap as finite
 use Rattle.std.specs.Option.{option_to_list}
 use Rattle.auth.specs.Callers.{Identity}
@@ -15,33 +13,15 @@ use Rattle.tree.specs.declared.entry.Held.{Held}
 use Rattle.tree.proofs.Kept.{true_from_T}
 use Rattle.store.specs.Contents.{IfThere}
 use Rattle.store.specs.Database.{Database, history_in}
-use Rattle.store.specs.Pages.{IdPage, in_direction, is_after_end_of, is_before_start_of, is_within, live_rev, live_rows, page_of_ids, rows_within, up_to_limit, with_row}
+use Rattle.store.specs.DesignRows.{IsDesignRange}
+use Rattle.store.specs.Pages.{IdPage, in_direction, is_within, live_rev, live_rows, page_of_ids, rows_within, up_to_limit, with_row}
 use Rattle.store.specs.declared.page.IdRange.{IdRange}
 use Rattle.store.specs.declared.page.IdRow.{IdRow}
 use Rattle.store.proofs.Listings.{Entry, In, in_found}
 use Rattle.write.specs.Terms.{Terms, as_design_document, design_document_of, design_documents_in, rules_in, terms_in}
 use Rattle.store.specs.Indexes.{held_by, winning_body}
 use Rattle.write.specs.declared.fault.WriteFault.{WriteFault}
-use Rattle.write.specs.TermsRead.{IsDesignRange, document_at}
-
--- ---- the range
-
-behind : (prefix text : List ℕ) → starts_with nat_eq text prefix ≡ true → (rest : List ℕ) × (text ≡ prefix ++ rest)
-behind [] text h = (text, refl)
-behind (p ∷ prefix) [] h = cc
-behind (p ∷ prefix) (t ∷ text) h =
-    let more = behind prefix text (second_so (nat_eq p t) _ h) in
-    let first : t ≡ p = sym (eqb-true p t (first_so (nat_eq p t) _ h)) in
-    (more.0, λ i. first i ∷ more.1 i)
-
-prefixed_within : (rest : List ℕ) → not (is_before_start_of false (Some (codes "_design/")) (codes "_design/" ++ rest) || is_after_end_of false false (Some (codes "_design0")) (codes "_design/" ++ rest)) ≡ true
-prefixed_within [] = refl
-prefixed_within (b ∷ bs) = refl
-
-pub design_within : (start end : Option (List ℕ)) (id : List ℕ) → start ≡ Some (codes "_design/") → end ≡ Some (codes "_design0") → is_design_id id ≡ true → not (is_before_start_of false start id || is_after_end_of false false end id) ≡ true
-design_within start end id s e h =
-    let b = behind (codes "_design/") id (first_so _ _ h) in
-    (λ i. not (is_before_start_of false (s i) (b.1 i) || is_after_end_of false false (e i) (b.1 i))) ∙ prefixed_within b.0
+use Rattle.write.specs.TermsRead.{document_at}
 
 -- ---- the rows
 

@@ -10,14 +10,14 @@ ghost use Rattle.policy.specs.UpdateRules.{rules_of, with_rules};
 ghost use Rattle.write.specs.Refusing.{IsDecided, IsOfStoreOrMemory, Refuses};
 ghost use Rattle.store.specs.Indexes.{winning_body};
 ghost use Rattle.write.specs.Terms.{as_design_document, rules_in, terms_in};
-ghost use Rattle.write.specs.TermsRead.{IsDesignRange, document_at, terms_of};
+ghost use Rattle.write.specs.TermsRead.{document_at, terms_of};
 
 use crate::fault::WriteFault;
 use auth::Caller;
 use couch_json::Got;
 use policy::{RuleSet, Security};
 use std::alloc::Global;
-use store::{DbName, IdRange, IdRow, RangeKey, Store, find_winning_body, read_winning};
+use store::{DbName, IdRow, Store, design_range, find_winning_body, read_winning};
 use tree::{DocId, History};
 
 /// The terms on which a caller writes into a database, as a request finds it.
@@ -80,23 +80,6 @@ fn read_rules<S: Store>(alloc: Global, store: &mut S, db: &DbName) -> Result<Rul
     let range = design_range(alloc)?;
     let page = store.page_by_id(db, &range)?;
     take_rules(alloc, store, db, &page.rows)
-}
-
-/// Builds a range by id in which all design documents are.
-fn design_range(alloc: Global) -> Got<IdRange>
-    ensures { IfOk result IsDesignRange }
-{
-    let start = String::from_str(alloc, "_design/")?;
-    let end = String::from_str(alloc, "_design0")?;
-    Ok(IdRange {
-        start: Some(RangeKey::new(start)),
-        end: Some(RangeKey::new(end)),
-        inclusive_end: false,
-        descending: false,
-        skip: 0,
-        limit: None,
-        counted: false,
-    })
 }
 
 /// Takes the rules of those of the rows that are design documents.

@@ -1,7 +1,7 @@
 -- The range has all design documents.
 use Rattle.std.proofs.Common.{Some, refl, ap, ◌∙◌}
-use Rattle.write.proofs.DesignRows.{design_within}
-use Rattle.write.proofs.terms.design_range.Goals as goal
+use Rattle.store.proofs.DesignIds.{design_within}
+use Rattle.store.proofs.design_rows.design_range.Goals as goal
 
 pub returns : goal.returns
 returns c = record {
