@@ -174,6 +174,40 @@ def path_sent(document):
 # ---- databases
 
 
+# ---- selectors
+
+COMPARED = {
+    "$eq": lambda value, other: value == other,
+    "$lt": lambda value, other: value < other,
+    "$lte": lambda value, other: value <= other,
+    "$gt": lambda value, other: value > other,
+    "$gte": lambda value, other: value >= other,
+    "$in": lambda value, others: value in others[1],
+}
+
+
+def is_true(selector, current):
+    """Tells whether a selector is true of a value: a list of it alone, or an empty one where it is missing."""
+    if not isinstance(selector, dict):
+        selector = {"$eq": selector}
+    return all(is_met(name, argument, current) for name, argument in selector.items())
+
+
+def is_met(name, argument, current):
+    """Tells whether one member of a selector is true."""
+    if name == "$and":
+        return all(is_true(one, current) for one in argument)
+    if name == "$or":
+        return any(is_true(one, current) for one in argument)
+    if name == "$not":
+        return not is_true(argument, current)
+    if name == "$exists":
+        return bool(current) == argument
+    if name in COMPARED:
+        return bool(current) and COMPARED[name](order_of(current[0]), order_of(argument))
+    return is_true(argument, values_at([name], current[0]) or [] if current else [])
+
+
 class Database:
     """A database, which is closed when it is new."""
 
@@ -340,6 +374,16 @@ class Database:
         shown = within[skip:][: int(query.get("limit", len(rows)))]
         return 200, {"offset": len(rows) - len(started) + skip, "rows": shown, "total_rows": len(rows)}
 
+    def find(self, asked):
+        """Returns the documents that match a selector, in an order, in part: each document is looked at."""
+        sort = [(field, "asc") if isinstance(field, str) else next(iter(field.items())) for field in asked.get("sort", [])]
+        places = self.places([field for field, _ in sort])
+        is_down = bool(sort) and sort[0][1] == "desc"
+        ids = [identifier for _, identifier in (reversed(places) if is_down else places)]
+        documents = [self.documents[identifier].shown(identifier, self.documents[identifier].winner()) for identifier in ids]
+        found = [document for document in documents if is_true(asked["selector"], [document])]
+        return 200, {"bookmark": "nil", "docs": found[asked.get("skip", 0) :][: asked.get("limit", 25)]}
+
     def put_index(self, user, value):
         """Declares an index, by an edit of the winner of its design document."""
         identifier, name, fields = index_asked(value)
@@ -453,6 +497,8 @@ class Node:
             return database.changes(query)
         if parts[1] == "_index":
             return database.put_index(user, value)
+        if parts[1] == "_find":
+            return database.find(value)
         if parts[1] == "_revs_diff":
             return database.differences(value)
         if parts[3:4] == ["_view"]:

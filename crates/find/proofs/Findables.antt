@@ -1,5 +1,5 @@
 -- The documents of an index are those that queries look at and that have all its fields.
-use Rattle.std.proofs.Common.{◌≡◌, ◌⊎◌, ◌≤◌, ℕ, zero, suc, Bool, true, false, List, [], ◌∷◌, ◌++◌, Ordering, Option, Some, None, drop, length, map, reverse, take, refl, sym, ap, subst, ◌∙◌, inl, inr, arith}
+use Rattle.std.proofs.Common.{◌≡◌, ◌⊎◌, ◌≤◌, ℕ, zero, suc, true, List, [], ◌∷◌, Ordering, Option, Some, None, drop, length, map, take, refl, sym, ap, subst, ◌∙◌, inl, inr, arith}
 use Rattle.std.specs.declared.cmp.Ordering.TheVariants.{Less, Equal, Greater}
 use Rattle.std.specs.Cmp.{first_so, second_so}
 use Rattle.std.specs.Cmp.Lexicographic.{slice_cmp}
@@ -18,7 +18,6 @@ use Rattle.store.specs.Indexes.{IndexPlace, field_values, index_entries, index_o
 use Rattle.find.proofs.Filtered.{HasKeys}
 use Rattle.find.proofs.Indexed.{After, after_index, not_tied, seen}
 use Rattle.store.proofs.Directed.{from_directed, from_drop, in_directed}
-use Rattle.store.specs.Pages.{in_direction}
 use Rattle.find.specs.Found.{IsFindable, found_documents, matching_documents, sorted_documents}
 use Rattle.find.specs.declared.query.Query.{Query}
 

@@ -93,7 +93,7 @@ stops_by g old mid new absent missing store.Memory reads so h = h
 stops_by g old mid new absent missing store.Exists reads so h = h
 stops_by g old mid new absent missing store.Full reads so h = h
 
-stops_later : {S : Type 0} (g : Ghosts S) (old mid new : S) (absent missing : Type 0) (fault : ReadFault) → OnlyReads g old mid → (g.is_honest new → absent → missing) → Stops g mid new absent fault → Stops g old new missing fault
+pub stops_later : {S : Type 0} (g : Ghosts S) (old mid new : S) (absent missing : Type 0) (fault : ReadFault) → OnlyReads g old mid → (g.is_honest new → absent → missing) → Stops g mid new absent fault → Stops g old new missing fault
 stops_later g old mid new absent missing Missing reads so h = h
 stops_later g old mid new absent missing Deleted reads so h = h
 stops_later g old mid new absent missing BadQuery reads so h = h

@@ -48,7 +48,7 @@ index_of fields selector (e ∷ es) = put_in_index fields e.0 (if_matches select
 T_from_true : (b : Bool) → b ≡ true → T b
 T_from_true b e = subst T (sym e) tt
 
-sorted_put : (fields : List (List ℕ)) (id : List ℕ) (o : Option Value) (es : List (IndexPlace × Value)) → is_sorted place_order es ≡ true → is_sorted place_order (put_in_index fields id o es) ≡ true
+pub sorted_put : (fields : List (List ℕ)) (id : List ℕ) (o : Option Value) (es : List (IndexPlace × Value)) → is_sorted place_order es ≡ true → is_sorted place_order (put_in_index fields id o es) ≡ true
 sorted_put fields id None es h = h
 sorted_put fields id (Some v) es h = by (field_values fields v)
   where

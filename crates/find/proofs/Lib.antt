@@ -6,3 +6,8 @@ mod Indexed
 mod Ordered
 mod Parts
 pub mod Indexing
+mod Covered
+mod Candidates
+mod KeyRanges
+mod Serving
+mod Planned

@@ -1,6 +1,6 @@
 -- What a find finds: documents that match a selector, in an order, and of these a part.
 -- CouchDB manual, api/database/find; that a document without one of the fields of the sort is not found, and that documents without a sort go by id, are this server's own.
-use Rattle.std.specs.Prelude.{◌≡◌, ℕ, Bool, true, false, List, Option, Some, None, codes, drop, filter, if◌then◌else◌, map, option_and_then, reverse, take}
+use Rattle.std.specs.Prelude.{◌≡◌, ℕ, Bool, true, false, List, Option, Some, None, codes, drop, filter, if◌then◌else◌, map, option_and_then, take}
 use Rattle.std.specs.FinMap.{get}
 use Rattle.std.specs.Ordering.{is_gt, is_lt}
 use Rattle.couch_json.specs.Parts.{text_in}

@@ -5,3 +5,5 @@ pub mod Queries
 pub mod Reading
 pub mod IndexRead
 pub mod Indexes
+pub mod Candidates
+pub mod Planning

@@ -64,7 +64,7 @@ fn sort_matches<S: Store>(
 }
 
 /// Puts a document at its place, if it matches and has one.
-fn put_match<S: Store>(
+pub(crate) fn put_match<S: Store>(
     alloc: Global,
     store: &mut S,
     db: &DbName,
@@ -109,7 +109,7 @@ fn make_key(values: Vec<Json>) -> IndexKey
 }
 
 /// Lists the documents in the order of their places.
-fn documents_of(alloc: Global, sorted: BTreeMap<KeyRow, Json>) -> Got<Vec<Json>>
+pub(crate) fn documents_of(alloc: Global, sorted: BTreeMap<KeyRow, Json>) -> Got<Vec<Json>>
     ensures { IfOk result (λ documents. each view documents.items ≡ each (λ e. e.1) (place_views sorted.entries)) }
 {
     let mut documents = Vec::with_capacity(alloc, sorted.len())?;
@@ -120,7 +120,7 @@ fn documents_of(alloc: Global, sorted: BTreeMap<KeyRow, Json>) -> Got<Vec<Json>>
 }
 
 /// Takes the part of the documents that is asked for.
-fn take_part(alloc: Global, documents: Vec<Json>, query: &Query) -> Got<Vec<Json>>
+pub(crate) fn take_part(alloc: Global, documents: Vec<Json>, query: &Query) -> Got<Vec<Json>>
     ensures { IfOk result (λ part. each view part.items ≡ take query.now.limit (drop query.now.skip (each view documents.items))) }
 {
     let mut part = Part::new(alloc, query);

@@ -1,19 +1,19 @@
 //! The documents of a database that a query finds.
 
-ghost use Rattle.std.specs.Prelude.{◌≡◌, None, false, map as each, option_map};
+ghost use Rattle.std.specs.Prelude.{map as each, option_map};
 ghost use Rattle.std.specs.FinMap as map;
 ghost use Rattle.couch_json.specs.View.{view};
 ghost use Rattle.store.specs.Calls.{OnlyReads};
 ghost use Rattle.find.specs.Answers.{Finds};
 ghost use Rattle.find.specs.Found.{found_documents};
 
-use crate::by_fields::find_sorted;
-use crate::by_id::find_in_rows;
+use crate::by_index::find_by_index;
 use crate::query::Query;
+use crate::scan::find_by_scan;
 use couch_json::Json;
 use read::ReadFault;
 use std::alloc::Global;
-use store::{DbName, IdRange, Store};
+use store::{DbName, Store};
 
 /// Finds the documents of a database that match a query, in its order, and of these the part that it
 /// asks for, as [`get`](read::get) shows their winners.
@@ -32,25 +32,8 @@ pub fn find<S: Store>(
         (option_map (λ d. found_documents query.now d) (map.get (S.contents store.old) db.now)) result }
     ensures reads { OnlyReads S.Store store.old store.new }
 {
-    if query.sort.as_slice().is_empty() {
-        let page = store.page_by_id(db, &every_row(query.descending))?;
-        return find_in_rows(alloc, store, db, &page.rows, query);
-    }
-    let page = store.page_by_id(db, &every_row(true))?;
-    find_sorted(alloc, store, db, &page.rows, query)
-}
-
-/// Makes the range of all rows, in this direction.
-fn every_row(descending: bool) -> IdRange
-    ensures { result ≡ record { start = None; end = None; inclusive_end = false; descending = descending; skip = 0; limit = None; counted = false } }
-{
-    IdRange {
-        start: None,
-        end: None,
-        inclusive_end: false,
-        descending,
-        skip: 0,
-        limit: None,
-        counted: false,
+    match find_by_index(alloc, store, db, query)? {
+        Some(documents) => Ok(documents),
+        None => find_by_scan(alloc, store, db, query),
     }
 }

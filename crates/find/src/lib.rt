@@ -11,13 +11,19 @@
 
 mod by_fields;
 mod by_id;
+mod by_index;
+mod choosing;
 mod documents;
 mod fault;
 mod index;
 pub mod laws;
 mod matching;
 mod part;
+mod plan;
+mod planning;
 mod query;
+mod ranges;
+mod scan;
 mod sort;
 mod sort_fields;
 

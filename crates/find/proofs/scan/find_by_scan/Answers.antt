@@ -10,7 +10,7 @@ use Rattle.store.proofs.Pagings.{no_length}
 use Rattle.find.proofs.Finding.{found_by_id, found_from, found_sorted}
 use Rattle.find.specs.Found.{found_documents}
 use Rattle.find.specs.Matching.{matches_of, put_matches}
-use Rattle.find.proofs.documents.find.Goals as goal
+use Rattle.find.proofs.scan.find_by_scan.Goals as goal
 
 pub returns-then-is_empty-clause-answer : goal.returns-then-is_empty-clause-answer
 returns-then-is_empty-clause-answer g c =
