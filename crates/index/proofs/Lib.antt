@@ -9,7 +9,6 @@ pub mod NewIndexes
 pub mod Dropped
 pub mod Alike
 pub mod SeenDocuments
-pub mod Pages
 pub mod RangeStatements
 pub mod Counts
 pub mod StepLemmas

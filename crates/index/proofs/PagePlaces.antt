@@ -20,20 +20,20 @@ use Rattle.store.specs.Pages as store
 use Rattle.store.specs.declared.key_page.KeyRange.{KeyRange}
 use Rattle.sqlite_trees.proofs.ListLemmas.{filter_same}
 use Rattle.tables.proofs.Sorted.{all_sorted}
-use Rattle.tables.specs.Listings.{first_rows}
+use Rattle.tables.specs.Listings.{first_rows, is_between}
 use Rattle.index.proofs.EntryChanges.{entry_from}
 use Rattle.index.proofs.Spots.{at_in, by, each_in, from_directed, in_any, same_spots}
 use Rattle.index.specs.Places.{AreEntriesAt, IsHighBound, IsLowBound, IsReadable, IsShownEntry, Spot, spot_at, spot_of, spot_shown}
-use Rattle.index.specs.Rows.{count_of, in_direction, is_entry_between, is_key_between, range_of}
+use Rattle.index.specs.Rows.{count_of, in_direction, is_entry_between, range_of}
 
 -- ---- lists
 
-all_taken : {X : Type 0} (P : X → Type 0) (n : ℕ) (xs : List X) → AllByRecursion P xs → AllByRecursion P (take n xs)
+pub all_taken : {X : Type 0} (P : X → Type 0) (n : ℕ) (xs : List X) → AllByRecursion P xs → AllByRecursion P (take n xs)
 all_taken P zero xs all = tt
 all_taken P (suc n) [] all = tt
 all_taken P (suc n) (x ∷ xs) all = (all.0, all_taken P n xs all.1)
 
-all_dropped : {X : Type 0} (P : X → Type 0) (n : ℕ) (xs : List X) → AllByRecursion P xs → AllByRecursion P (drop n xs)
+pub all_dropped : {X : Type 0} (P : X → Type 0) (n : ℕ) (xs : List X) → AllByRecursion P xs → AllByRecursion P (drop n xs)
 all_dropped P zero xs all = all
 all_dropped P (suc n) [] all = tt
 all_dropped P (suc n) (x ∷ xs) all = all_dropped P n xs all.1
@@ -73,21 +73,21 @@ below_of Less = refl
 below_of Equal = refl
 below_of Greater = refl
 
-pub key_between : (low high k : List ℕ) → is_key_between low high k ≡ (lies_above_cut low k && not (lies_above_cut high k))
+pub key_between : (low high k : List ℕ) → is_between low high k ≡ (lies_above_cut low k && not (lies_above_cut high k))
 key_between low high k = ap₂ (λ a b. a && b) (above_of (slice_cmp nat_cmp k low) low k refl) (below_of (slice_cmp nat_cmp k high))
 
 module _ (range : KeyRange) (low high : List ℕ) (lows : IsLowBound range low) (highs : IsHighBound range high) where
-  within : (p : IndexPlace) → IsReadable p → is_key_between low high (key p.key) ≡ is_key_within range p.key
+  within : (p : IndexPlace) → IsReadable p → is_between low high (key p.key) ≡ is_key_within range p.key
   within p h = key_between low high (key p.key) ∙ ap₂ (λ a b. a && not b) (lows p.key h.lawful) (highs p.key h.lawful)
 
   each_directed : (descending : Bool) (ps : List IndexPlace) → AllByRecursion IsReadable ps → AllByRecursion IsReadable (store.in_direction descending ps)
   each_directed descending ps all = each_in IsReadable (store.in_direction descending ps) (λ p i. at_in IsReadable ps p all (from_directed descending ps p i))
 
   -- the places between the bounds are those of the range
-  pub places_within : (ps : List IndexPlace) → AllByRecursion IsReadable ps → filter (λ p. is_key_between low high (key p.key)) (store.in_direction range.descending ps) ≡ key_rows_within range ps
+  pub places_within : (ps : List IndexPlace) → AllByRecursion IsReadable ps → filter (λ p. is_between low high (key p.key)) (store.in_direction range.descending ps) ≡ key_rows_within range ps
   places_within ps all =
-      filter_same (λ p. is_key_between low high (key p.key)) (λ p. is_key_within range p.key) (store.in_direction range.descending ps)
-      (all_weaker IsReadable (λ p. is_key_between low high (key p.key) ≡ is_key_within range p.key) within (store.in_direction range.descending ps) (each_directed range.descending ps all))
+      filter_same (λ p. is_between low high (key p.key)) (λ p. is_key_within range p.key) (store.in_direction range.descending ps)
+      (all_weaker IsReadable (λ p. is_between low high (key p.key) ≡ is_key_within range p.key) within (store.in_direction range.descending ps) (each_directed range.descending ps all))
 
 -- ---- places are told by their spots
 
@@ -102,19 +102,14 @@ one_by_spots (p ∷ ps) (q ∷ qs) k l is =
     let same_id = ap (λ (s : Spot). s.1) head in
     ap₂ (λ x xs. x ∷ xs) (λ i. record { key = same_key i; id = same_id i }) (one_by_spots ps qs k.1 l.1 tail)
 
--- the first of a list, as many as a statement's limit says
-abbrev pub first_places : ℤ → List IndexPlace → List IndexPlace
-first_places (pos n) ps = take n ps
-first_places (negsuc n) ps = ps
-
 shown_spots : (rows : List Row) → map spot_shown (map shown_entry rows) ≡ map spot_at rows
 shown_spots rows = map-map spot_shown shown_entry rows
 
-first_spots : (most : ℤ) (rows : List Row) (ps : List IndexPlace) → map spot_of ps ≡ map spot_shown rows → map spot_of (first_places most ps) ≡ map spot_shown (first_rows most rows)
+first_spots : (most : ℤ) (rows : List Row) (ps : List IndexPlace) → map spot_of ps ≡ map spot_shown rows → map spot_of (first_rows most ps) ≡ map spot_shown (first_rows most rows)
 first_spots (pos n) rows ps is = sym (take-map spot_of n ps) ∙ ap (take n) is ∙ take-map spot_shown n rows
 first_spots (negsuc n) rows ps is = is
 
-all_first : (P : IndexPlace → Type 0) (most : ℤ) (ps : List IndexPlace) → AllByRecursion P ps → AllByRecursion P (first_places most ps)
+all_first : (P : IndexPlace → Type 0) (most : ℤ) (ps : List IndexPlace) → AllByRecursion P ps → AllByRecursion P (first_rows most ps)
 all_first P (pos n) ps all = all_taken P n ps all
 all_first P (negsuc n) ps all = all
 
@@ -142,7 +137,7 @@ module _ (declaration : ℤ) (places : List IndexPlace) (rows : List Row) (h : A
     each_found =
         all_sorted (λ r. IsShownEntry (shown_entry r)) (in_direction range.descending) (filter (is_entry_between declaration low high) rows)
         (each_in (λ r. IsShownEntry (shown_entry r)) (filter (is_entry_between declaration low high) rows)
-        (λ r i. let f = from_filter (is_entry_between declaration low high) rows r i in entry_shown r (and_parts (is_entry_in declaration r) (is_key_between low high (key_of r)) f.1).0 f.0))
+        (λ r i. let f = from_filter (is_entry_between declaration low high) rows r i in entry_shown r (and_parts (is_entry_in declaration r) (is_between low high (key_of r)) f.1).0 f.0))
 
     -- each entry that a statement shows can be read
     pub entries_shown : (most : ℤ) (skip : ℕ) → AllByRecursion IsShownEntry (range_of range.descending declaration low high most (pos skip) rows)
@@ -159,12 +154,12 @@ module _ (declaration : ℤ) (places : List IndexPlace) (rows : List Row) (h : A
 
     -- what is read of them is the part of the page's rows that the statement asks for
     pub entries_read : (most : ℤ) (skip : ℕ) (read : List IndexPlace) → AllByRecursion (λ p. IsLawful p.key) read
-        → map spot_of read ≡ map spot_shown (range_of range.descending declaration low high most (pos skip) rows) → read ≡ first_places most (drop skip (key_rows_within range places))
+        → map spot_of read ≡ map spot_shown (range_of range.descending declaration low high most (pos skip) rows) → read ≡ first_rows most (drop skip (key_rows_within range places))
     entries_read most skip read lawful is =
         let all = key_rows_within range places in
         let spots : map spot_of (drop skip all) ≡ map spot_shown (drop skip (map shown_entry found)) =
         sym (drop-map spot_of skip all) ∙ ap (drop skip) (in_range ∙ sym (shown_spots found)) ∙ drop-map spot_shown skip (map shown_entry found) in
-        one_by_spots read (first_places most (drop skip all)) lawful (all_first (λ p. IsLawful p.key) most (drop skip all) (all_dropped (λ p. IsLawful p.key) skip all lawful_within))
+        one_by_spots read (first_rows most (drop skip all)) lawful (all_first (λ p. IsLawful p.key) most (drop skip all) (all_dropped (λ p. IsLawful p.key) skip all lawful_within))
         (is ∙ sym (first_spots most (drop skip (map shown_entry found)) (drop skip all) spots))
 
     -- as many entries lie between the bounds as the page has places in its range
@@ -175,23 +170,23 @@ module _ (declaration : ℤ) (places : List IndexPlace) (rows : List Row) (h : A
   -- ---- counts
 
   -- as many entries lie between two bounds as keys of places do
-  counted_between : (low high : List ℕ) → count_of declaration low high rows ≡ count_by (λ p. is_key_between low high (key p.key)) places
+  counted_between : (low high : List ℕ) → count_of declaration low high rows ≡ count_by (λ p. is_between low high (key p.key)) places
   counted_between low high =
       let found = filter (is_entry_between declaration low high) rows in
       let spots = ap length (same_spots declaration places rows h false low high) in
-      let left = length_map spot_of (filter (λ p. is_key_between low high (key p.key)) places) in
+      let left = length_map spot_of (filter (λ p. is_between low high (key p.key)) places) in
       let right = length_map spot_at (sort_by (by false) found) in
-      sym (sorted_length (by false) found) ∙ sym right ∙ sym spots ∙ left ∙ length-filter (λ p. is_key_between low high (key p.key)) places
+      sym (sorted_length (by false) found) ∙ sym right ∙ sym spots ∙ left ∙ length-filter (λ p. is_between low high (key p.key)) places
 
   count_same : (f g : IndexPlace → Bool) (ps : List IndexPlace) → AllByRecursion IsReadable ps → ((p : IndexPlace) → IsReadable p → f p ≡ g p) → count_by f ps ≡ count_by g ps
   count_same f g ps all same =
       sym (length-filter f ps) ∙ ap length (filter_same f g ps (all_weaker IsReadable (λ p. f p ≡ g p) same ps all)) ∙ length-filter g ps
 
   -- the bytes of a key are above all that is below all keys, and below what is above all
-  lowest : (p : IndexPlace) (high : List ℕ) → is_key_between [] high (key p.key) ≡ not (lies_above_cut high (key p.key))
+  lowest : (p : IndexPlace) (high : List ℕ) → is_between [] high (key p.key) ≡ not (lies_above_cut high (key p.key))
   lowest p high = key_between [] high (key p.key) ∙ ap (λ b. b && not (lies_above_cut high (key p.key))) (above-bound_below_all p.key)
 
-  highest : (p : IndexPlace) (low : List ℕ) → is_key_between low (8 ∷ []) (key p.key) ≡ lies_above_cut low (key p.key)
+  highest : (p : IndexPlace) (low : List ℕ) → is_between low (8 ∷ []) (key p.key) ≡ lies_above_cut low (key p.key)
   highest p low = key_between low (8 ∷ []) (key p.key) ∙ ap (λ b. lies_above_cut low (key p.key) && not b) (above-bound_above_all p.key) ∙ and_true (lies_above_cut low (key p.key))
     where
       and_true : (b : Bool) → (b && true) ≡ b
@@ -208,18 +203,18 @@ module _ (declaration : ℤ) (places : List IndexPlace) (rows : List Row) (h : A
   pub total_counted : count_of declaration [] (8 ∷ []) rows ≡ length places
   total_counted =
       counted_between [] (8 ∷ [])
-      ∙ count_same (λ p. is_key_between [] (8 ∷ []) (key p.key)) (λ p. true) places h.readable (λ p k. lowest p (8 ∷ []) ∙ ap not (above-bound_above_all p.key))
+      ∙ count_same (λ p. is_between [] (8 ∷ []) (key p.key)) (λ p. true) places h.readable (λ p k. lowest p (8 ∷ []) ∙ ap not (above-bound_above_all p.key))
       ∙ every places
 
   module _ (range : KeyRange) where
     pub before_up : (low : List ℕ) → IsLowBound range low → range.descending ≡ false → count_of declaration [] low rows ≡ count_by (λ p. is_key_before range p.key) places
     before_up low lows up =
         counted_between [] low
-        ∙ count_same (λ p. is_key_between [] low (key p.key)) (λ p. is_key_before range p.key) places h.readable
+        ∙ count_same (λ p. is_between [] low (key p.key)) (λ p. is_key_before range p.key) places h.readable
         (λ p k. lowest p low ∙ ap not (lows p.key k.lawful) ∙ sym (ap (λ b. cond b (is_above false range.high p.key) (not (is_above true range.low p.key))) up))
 
     pub before_down : (high : List ℕ) → IsHighBound range high → range.descending ≡ true → count_of declaration high (8 ∷ []) rows ≡ count_by (λ p. is_key_before range p.key) places
     before_down high highs down =
         counted_between high (8 ∷ [])
-        ∙ count_same (λ p. is_key_between high (8 ∷ []) (key p.key)) (λ p. is_key_before range p.key) places h.readable
+        ∙ count_same (λ p. is_between high (8 ∷ []) (key p.key)) (λ p. is_key_before range p.key) places h.readable
         (λ p k. highest p high ∙ highs p.key k.lawful ∙ sym (ap (λ b. cond b (is_above false range.high p.key) (not (is_above true range.low p.key))) down))

@@ -1,31 +1,19 @@
 -- What the statements on a range of entries mean.
-use Rattle.index.proofs.Common.{AllByRecursion, AreEntryRows, Binary, Blob, Bool, Eq, Equal, HasIndexRows, IfOk, Int, IsCommand, IsEntryRow, Key, List, Ordering, Result, Row, Select, Shown, State, Term, [], all_weaker, and_parts, ap, ap₂, codes, col, column, compares, declaration_of, entries_tree, entry_id, everything, false, holds, int_by, is_entry_in, is_eq, key_of, last_term, list_all, pos, refl, same_int, schema, shown_entry, subst, sym, then_term, true, understood, value_cmp, ℕ, ℤ, ◌∙◌, ◌∷◌, ◌≡◌, ◌≢◌}
-use Rattle.index.proofs.Pages.{lists_page, page_program}
-use Rattle.index.specs.Rows.{by_place, in_direction, is_entry_between, range_of, skipped}
-use Rattle.sqlite_sql.specs.Query.{as_count, limited}
-use Rattle.sqlite_sql.specs.Ops.{binary, is_true}
-use Rattle.sqlite_sql.specs.declared.ops.BinaryOp.TheVariants.{Compare}
-use Rattle.sqlite_sql.specs.declared.ops.CompareOp.{CompareOp}
+use Rattle.index.proofs.Common.{AllByRecursion, AreEntryRows, Binary, Blob, Bool, Eq, Equal, HasIndexRows, IfOk, Int, IsCommand, IsEntryRow, Key, List, Ordering, Result, Row, Select, Shown, State, Term, [], all_weaker, and_parts, ap, ap₂, codes, col, column, compares, declaration_of, entries_tree, entry_id, everything, false, holds, int_by, is_entry_in, is_eq, key_of, last_term, list_all, refl, same_int, schema, shown_entry, subst, sym, then_term, true, understood, value_cmp, ℕ, ℤ, ◌∙◌, ◌∷◌, ◌≡◌, ◌≢◌}
+use Rattle.tables.proofs.Pages.{lists_page, page_of, page_program}
+use Rattle.index.specs.Rows.{by_place, in_direction, is_entry_between, range_of}
 use Rattle.sqlite_sql.specs.declared.ops.CompareOp.TheVariants.{Ge, Lt}
-use Rattle.sqlite_typed.proofs.TestLemmas.{at_blobs, by_order}
-use Rattle.sqlite_typed.specs.Tests.{bytes_cmp}
 use Rattle.sqlite_value.proofs.OrderLemmas.{value_cmp-Blob}
-use Rattle.sqlite_value.specs.declared.value.Value.{Value}
-use Rattle.std.proofs.Common.{Greater, Less, drop}
+use Rattle.std.proofs.Common.{Greater, Less}
 use Rattle.std.proofs.lemmas.Bool.{false_from_ne_true}
 use Rattle.std.specs.Cmp.{Equal-is}
 use Rattle.std.specs.Cmp.Lexicographic.{slice_cmp}
 use Rattle.std.specs.Ordering.{nat_cmp, ordering_then}
-use Rattle.std.specs.Prelude.{negsuc, unwrap_or}
-use Rattle.tables.proofs.Cells.{blobs_agree}
+use Rattle.tables.proofs.Cells.{blob_by, blobs_agree}
 use Rattle.tables.proofs.RowMaps.{text_exact}
-use Rattle.tables.specs.Listings.{first_rows}
 
 abbrev pub by_bounds : List Term
 by_bounds = compares Eq 1 0 ∷ compares Ge 2 1 ∷ compares Lt 2 2 ∷ []
-
-blob_by : (op : CompareOp) (v : Value) (a b : List ℕ) → v ≡ Blob a → is_true (binary (Compare op Binary) v (Blob b)) ≡ by_order bytes_cmp op a b
-blob_by op v a b is = ap (λ x. is_true (binary (Compare op Binary) x (Blob b))) is ∙ at_blobs false op a b
 
 pub tests_bounds : (declaration : ℤ) (low high : List ℕ) (rest : Row) (rows : List Row) → AreEntryRows rows
     → AllByRecursion (λ r. list_all (holds ((Int declaration ∷ Blob low ∷ Blob high ∷ rest) ∷ r ∷ [])) by_bounds ≡ is_entry_between declaration low high r) rows
@@ -83,12 +71,6 @@ up_are = record { is = refl; plain = (refl, refl); unlisted = refl }
 pub down_are : IsCommand schema down_text (Select (page_program entries_tree by_bounds shown (place_order true) (col 0 3) (col 0 4)) headings)
 unfolding understood everything
 down_are = record { is = refl; plain = (refl, refl); unlisted = refl }
-
-page_of : (most skip : ℤ) (rows : List Row) → limited (as_count (Int most)) (drop (unwrap_or (as_count (Int skip)) 0) rows) ≡ first_rows most (skipped skip rows)
-page_of (pos m) (pos n) rows = refl
-page_of (pos m) (negsuc n) rows = refl
-page_of (negsuc m) (pos n) rows = refl
-page_of (negsuc m) (negsuc n) rows = refl
 
 abbrev given : ℤ → List ℕ → List ℕ → ℤ → ℤ → Row
 given declaration low high most skip = Int declaration ∷ Blob low ∷ Blob high ∷ Int most ∷ Int skip ∷ []

@@ -14,12 +14,12 @@ use Rattle.store.proofs.Among.{contained, from_filter, from_map, in_contained, i
 use Rattle.store.proofs.Directed.{reverse-cons}
 use Rattle.store.proofs.Listings.{In}
 use Rattle.tables.proofs.RowMaps.{passing}
-use Rattle.tables.proofs.Sorted.{AtMost, rises}
+use Rattle.tables.proofs.Sorted.{AtMost, both_in, rises}
 use Rattle.index.proofs.EntryChanges.{entry_from, of_entry, same_number}
-use Rattle.index.proofs.Pages.{both_in}
 use Rattle.index.proofs.RangeStatements.{untied}
 use Rattle.index.specs.Places.{AreEntriesAt, IsReadable, Spot, spot_at, spot_of}
-use Rattle.index.specs.Rows.{by_place, declaration_of, is_entry_between, is_entry_in, is_key_between}
+use Rattle.tables.specs.Listings.{is_between}
+use Rattle.index.specs.Rows.{by_place, declaration_of, is_entry_between, is_entry_in}
 
 -- ---- what is among the elements of a list
 
@@ -266,18 +266,18 @@ module _ (declaration : ℤ) (places : List IndexPlace) (rows : List Row) (h : A
   listed = sort_by (by descending) found
 
   abbrev shown : List IndexPlace
-  shown = filter (λ p. is_key_between low high (key p.key)) (store.in_direction descending places)
+  shown = filter (λ p. is_between low high (key p.key)) (store.in_direction descending places)
 
   into : (z : Spot) → In (map spot_of shown) z → In (map spot_at listed) z
   into z i =
       let m = from_map spot_of shown z i in
       let p = m.0 in
-      let f = from_filter (λ q. is_key_between low high (key q.key)) (store.in_direction descending places) p m.1 in
+      let f = from_filter (λ q. is_between low high (key q.key)) (store.in_direction descending places) p m.1 in
       let own = contained places p (from_directed descending places p f.0) in
       let e = any_in (is_entry_of declaration (key p.key) p.id) rows (h.there p own) in
       let r = e.0 in
       let is = of_entry declaration (key p.key) p.id r e.2 in
-      let passes = and_from (is_entry_in declaration r) (is_key_between low high (key_of r)) (same_number (declaration_of r) declaration is.0) (ap (is_key_between low high) is.1 ∙ f.1) in
+      let passes = and_from (is_entry_in declaration r) (is_between low high (key_of r)) (same_number (declaration_of r) declaration is.0) (ap (is_between low high) is.1 ∙ f.1) in
       let there = in_map spot_at listed r (in_sorted (by descending) found r (in_filter (is_entry_between declaration low high) rows r e.1 passes)) in
       let spot : spot_at r ≡ z = (λ j. (is.1 j, is.2 j)) ∙ m.2 in
       subst (In (map spot_at listed)) spot there
@@ -287,12 +287,12 @@ module _ (declaration : ℤ) (places : List IndexPlace) (rows : List Row) (h : A
       let m = from_map spot_at listed z i in
       let r = m.0 in
       let f = from_filter (is_entry_between declaration low high) rows r (from_sorted (by descending) found r m.1) in
-      let parts = and_parts (is_entry_in declaration r) (is_key_between low high (key_of r)) f.1 in
+      let parts = and_parts (is_entry_in declaration r) (is_between low high (key_of r)) f.1 in
       let e = in_any (is_entry_of declaration (key_of r) (entry_id r)) rows r f.0 (entry_from declaration (key_of r) (entry_id r) r (same_int_of r parts.0) refl refl) in
       let o = h.only (key_of r) (entry_id r) e in
       let p = o.0 in
-      let passes : is_key_between low high (key p.key) ≡ true = ap (λ (s : Spot). is_key_between low high s.0) o.2 ∙ parts.1 in
-      let there = in_map spot_of shown p (in_filter (λ q. is_key_between low high (key q.key)) (store.in_direction descending places) p (in_directed descending places p (in_contained places p o.1)) passes) in
+      let passes : is_between low high (key p.key) ≡ true = ap (λ (s : Spot). is_between low high s.0) o.2 ∙ parts.1 in
+      let there = in_map spot_of shown p (in_filter (λ q. is_between low high (key q.key)) (store.in_direction descending places) p (in_directed descending places p (in_contained places p o.1)) passes) in
       subst (In (map spot_of shown)) (o.2 ∙ m.2) there
     where
       same_int_of : (r : Row) → is_entry_in declaration r ≡ true → declaration_of r ≡ declaration
@@ -301,7 +301,7 @@ module _ (declaration : ℤ) (places : List IndexPlace) (rows : List Row) (h : A
   places_ascend : IsAscending (λ a b. directed descending a b ≡ Less) (map spot_of shown)
   places_ascend =
       ascending-map (λ a b. directed descending a b ≡ Less) spot_of shown
-      (ascending-filter (λ p q. directed descending (spot_of p) (spot_of q) ≡ Less) (λ p. is_key_between low high (key p.key)) (store.in_direction descending places)
+      (ascending-filter (λ p q. directed descending (spot_of p) (spot_of q) ≡ Less) (λ p. is_between low high (key p.key)) (store.in_direction descending places)
       (directed_ascend descending places (spots_ascend places h.readable (pairs_ascend (λ p q. place_order p q ≡ Less) places h.ascending))))
 
   entries_ascend : IsAscending (λ a b. directed descending a b ≡ Less) (map spot_at listed)

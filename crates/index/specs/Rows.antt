@@ -1,9 +1,9 @@
 -- What the rows of `decls` and `entries` say: which indexes are declared, and which keys their documents have.
 -- This server's own layout: the fields of an index are the canonical text of the list of their paths, and a key is the bytes of `couch_json`.
-use Rattle.std.specs.Prelude.{ℕ, ℤ, pos, negsuc, Bool, ◌&&◌, bytes_eq, if◌then◌else◌, List, [], ◌∷◌, drop, filter, find, length, map, min, Option, option_map}
+use Rattle.std.specs.Prelude.{ℕ, ℤ, Bool, ◌&&◌, bytes_eq, if◌then◌else◌, List, [], ◌∷◌, filter, find, length, map, Option, option_map}
 use Rattle.std.specs.Cmp.Lexicographic.{slice_cmp}
 use Rattle.std.specs.List.{list_any}
-use Rattle.std.specs.Ordering.{int_eq, is_le, is_lt, nat_cmp, ordering_then}
+use Rattle.std.specs.Ordering.{int_eq, nat_cmp, ordering_then}
 use Rattle.std.specs.declared.cmp.Ordering.{Ordering}
 use Rattle.couch_json.specs.Canonical.{canonical}
 use Rattle.couch_json.specs.Parts.{items_in, items_or_none}
@@ -14,7 +14,7 @@ use Rattle.sqlite_value.specs.Order.{Row, bytes, column}
 use Rattle.sqlite_value.specs.declared.value.Value.{Value}
 use Rattle.sqlite_value.specs.declared.value.Value.TheVariants.{Null, Int, Text, Blob}
 use Rattle.store.specs.Indexes.{paths_in}
-use Rattle.tables.specs.Listings.{first_rows}
+use Rattle.tables.specs.Listings.{first_rows, is_between, rows_behind}
 use Rattle.tables.specs.Rows.{has_number, json_in, whole_in}
 
 -- ---- declarations: the number stands in the place of the rowid
@@ -111,26 +111,14 @@ by_place a b = ordering_then (slice_cmp nat_cmp (key_of a) (key_of b)) (slice_cm
 abbrev pub in_direction : Bool → Row → Row → Ordering
 in_direction descending a b = if descending then by_place b a else by_place a b
 
--- the key is not below the low bound, and below the high one
-abbrev pub is_key_between : List ℕ → List ℕ → List ℕ → Bool
-is_key_between low high k = is_le (slice_cmp nat_cmp low k) && is_lt (slice_cmp nat_cmp k high)
-
 abbrev pub is_entry_between : ℤ → List ℕ → List ℕ → Row → Bool
-is_entry_between declaration low high r = is_entry_in declaration r && is_key_between low high (key_of r)
-
--- the rows behind so many, and all where the number is negative
-abbrev pub skipped : ℤ → List Row → List Row
-skipped (pos n) rows = drop n rows
-skipped (negsuc n) rows = rows
+is_entry_between declaration low high r = is_entry_in declaration r && is_between low high (key_of r)
 
 -- the entries of a range in their order, as a query shows them: behind so many, up to so many or all
 abbrev pub range_of : Bool → ℤ → List ℕ → List ℕ → ℤ → ℤ → List Row → List Row
 range_of descending declaration low high most skip rows =
-    first_rows most (skipped skip (map shown_entry (sort_by (in_direction descending) (filter (is_entry_between declaration low high) rows))))
+    first_rows most (rows_behind skip (map shown_entry (sort_by (in_direction descending) (filter (is_entry_between declaration low high) rows))))
 
--- how many there are, as a query shows it: at most the greatest number that SQLite holds
+-- how many there are
 abbrev pub count_of : ℤ → List ℕ → List ℕ → List Row → ℕ
 count_of declaration low high rows = length (filter (is_entry_between declaration low high) rows)
-
-abbrev pub shown_count : ℕ → Row
-shown_count n = Int (pos (min n 9223372036854775807)) ∷ []

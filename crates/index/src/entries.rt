@@ -2,7 +2,8 @@
 
 ghost use Rattle.std.specs.Prelude.{◌≡◌, ◌∷◌, [], false, filter, not, true};
 ghost use Rattle.index.specs.Layout.{AreEntryRows, HasIndexRows};
-ghost use Rattle.index.specs.Rows.{count_of, entry_cells, is_entry_in, is_entry_of, range_of, shown_count};
+ghost use Rattle.index.specs.Rows.{count_of, entry_cells, is_entry_in, is_entry_of, range_of};
+ghost use Rattle.tables.specs.Listings.{shown_count};
 ghost use Rattle.tables.specs.Calls.{Alters, Reads};
 ghost use Rattle.tables.specs.Rows.{with_cells};
 ghost use Rattle.tables.specs.Schema.{entries_tree};

@@ -5,7 +5,7 @@ ghost use Rattle.std.specs.List.{AllByRecursion};
 ghost use Rattle.couch_json.specs.Lawful.{IsLawful};
 ghost use Rattle.index.specs.Calls.{IsRefused};
 ghost use Rattle.index.specs.Places.{IsShownEntry, spot_of, spot_shown};
-ghost use Rattle.index.specs.Rows.{shown_count};
+ghost use Rattle.tables.specs.Listings.{shown_count};
 ghost use Rattle.couch_json.specs.Key.{key};
 ghost use Rattle.sqlite_value.specs.Order.{bytes, column};
 

@@ -1,18 +1,16 @@
 -- The pages of a database that is found by its name are those of the rows of its number.
-use Rattle.sqlstore.proofs.Common.{AllByRecursion, Coded-set, Document, Ghosts, IsDatabaseRow, IsLaid, List, None, NumberValues, Row, SeqRange, Some, SqlStore, Stands, Trees, [], all-filter, all-slice_get, ap, ap₂, by_id, content_code, contents_in, database_of, db_of, dbs_tree, docs_tree, document_counts, document_of, false, filter, history_at, history_in, id_of, id_page, if_counted, in_sequence, index_fields_of, index_over, index_rows, is_honest, is_in, is_named, key_page, leaves_row, length_of, listed_by_id, listed_by_sequence, listed_counts, listed_document, listed_id, live_rows, map, number_of, numbers_in, option_map, page_by_sequence, page_of_ids, page_of_keys, page_with_leaves, put_in_index, queried_document, refl, revs_tree, rows_of, same_int, sequence_page, sequence_row, slice_get, sort_by, subst, sym, trees_of, true, winners_page, ℕ, ℤ, ∥∥₁_elim, ◌<◌, ◌^◌, ◌∙◌, ◌∷◌, ◌≡◌}
+use Rattle.sqlstore.proofs.Common.{Coded-set, Document, Ghosts, IsDatabaseRow, IsLaid, List, NumberValues, SeqRange, Some, SqlStore, Stands, Trees, all-filter, all-slice_get, ap, content_code, contents_in, database_of, dbs_tree, document_counts, false, filter, history_at, history_in, id_page, if_counted, in_sequence, index_fields_of, index_rows, is_honest, is_named, key_page, leaves_row, length_of, listed_by_id, listed_by_sequence, listed_counts, live_rows, map, number_of, numbers_in, option_map, page_by_sequence, page_of_ids, page_of_keys, page_with_leaves, revs_tree, rows_of, sequence_page, sequence_row, slice_get, subst, sym, trees_of, true, winners_page, ℕ, ∥∥₁_elim, ◌<◌, ◌^◌, ◌∙◌, ◌≡◌}
 use Rattle.std.specs.FinMap as finite
 use Rattle.store.specs.Database.{Database}
 use Rattle.store.specs.declared.key_page.KeyRange.{KeyRange}
 use Rattle.store.specs.declared.page.IdRange.{IdRange}
-use Rattle.tables.proofs.ListingRows.{counts_by_sequence, documents_by_id, leaves_by_sequence, live_by_id, winners_by_sequence}
+use Rattle.tables.proofs.ListingRows.{counts_by_sequence, leaves_by_sequence, live_by_id, winners_by_sequence}
 use Rattle.tables.proofs.Lookups.{document_found}
-use Rattle.tables.proofs.RowMaps.{passing}
-use Rattle.tables.proofs.Sorted.{all_sorted}
 use Rattle.tree.specs.Outline.{marked_winner, outline_of}
 use Rattle.tree.specs.Revision.{Revision}
 use Rattle.sqlstore.proofs.Afterwards.{stands_same}
 use Rattle.sqlstore.proofs.Answering.{IsThere, laid, there, was_honest}
-use Rattle.sqlstore.proofs.ListedRows.{counts_set, id_rows_set, leaves_rows, page_kept, places_set, sequence_rows_set}
+use Rattle.sqlstore.proofs.ListedRows.{counts_set, id_rows_set, leaves_rows, page_kept, sequence_rows_set}
 
 -- the database's own sequence is one that a page may hold
 pub bounded_there : (trees : Trees) (name : List ℕ) (k : NumberValues) → IsLaid trees → IsThere numbers_in trees name k → k.1 < 2 ^ 63

@@ -1,15 +1,14 @@
 -- A page by key is that of the entries of its index.
-use Rattle.sqlstore.proofs.Common.{AllByRecursion, Coded, Coded-set, Damaged, Err, Failed, Ghosts, IfErr, IfOk, IndexPlace, IsLaid, IsLimitFor, IsTrue, KeyPage, List, Memory, NoDatabase, None, NumberValues, Ok, Option, Result, Row, Some, SqlStore, Stands, StoreFault, Trees, [], ap, code_by, coded_list, coded_option, coded×, coded_ℕ, coded_ℤ, cond, contents_in, database_of, dbs_tree, drop, filter, index_fields_of, index_rows, inl, inr, inside, is_honest, key_page, length, list_any, map, negsuc, numbers_in, is_named, option_map, place_code, pos, refl, revs_tree, slice_get, subst, sym, take, trees_of, ℕ, ℤ, ∥∥₁_elim, ∥∥₁_map, ◌+◌, ◌<◌, ◌^◌, ◌∙◌, ◌∷◌, ◌≡◌, ◌≤◌, ◌⊎◌, arith, reverse, zero, up_to_limit, if_counted, page_of_keys, state}
-use Rattle.std.proofs.Common.{Bool, false, min, suc, true}
-use Rattle.std.proofs.lemmas.List.{take-take}
+use Rattle.sqlstore.proofs.Common.{AllByRecursion, Coded, Coded-set, Damaged, Err, Failed, Ghosts, IfErr, IfOk, IndexPlace, IsLaid, KeyPage, List, Memory, NoDatabase, None, NumberValues, Ok, Option, Result, Row, Some, SqlStore, Stands, StoreFault, Trees, [], ap, code_by, coded_list, coded_option, coded×, coded_ℕ, coded_ℤ, contents_in, database_of, dbs_tree, drop, filter, index_rows, inl, inr, is_honest, key_page, length, map, numbers_in, is_named, option_map, place_code, refl, slice_get, subst, sym, trees_of, ℕ, ℤ, ∥∥₁_elim, ∥∥₁_map, ◌+◌, ◌<◌, ◌^◌, ◌∙◌, ◌∷◌, ◌≡◌, ◌≤◌, arith, up_to_limit, if_counted, page_of_keys}
+use Rattle.std.proofs.Common.{min, true}
 use Rattle.std.specs.FinMap as finite
 use Rattle.std.specs.List.{count_by}
 use Rattle.std.specs.Prelude.{find}
 use Rattle.index.proofs.IndexPlaces.{entries_at}
-use Rattle.index.proofs.PagePlaces.{before_down, before_up, entries_read, entries_shown, first_places, total_counted, within_counted}
+use Rattle.index.proofs.PagePlaces.{entries_read, entries_shown, total_counted, within_counted}
 use Rattle.index.specs.Indexed.{IsIndexed}
 use Rattle.index.specs.Places.{AreEntriesAt, IsHighBound, IsLowBound, IsShownEntry, spot_of, spot_shown}
-use Rattle.index.specs.Rows.{count_of, fields_of, is_declaration_of, range_of, shown_count}
+use Rattle.index.specs.Rows.{count_of, fields_of, is_declaration_of}
 use Rattle.index.specs.Shown.{Declared, declared_at}
 use Rattle.couch_json.specs.Lawful as json
 use Rattle.store.proofs.KeyCounts.{counted_key_within}
@@ -20,12 +19,14 @@ use Rattle.store.specs.Leaving as leaving
 use Rattle.store.specs.declared.key_page.KeyRange.{KeyRange}
 use Rattle.store.specs.declared.page.RowCounts.{RowCounts}
 use Rattle.tables.proofs.RowMaps.{mapped_some}
-use Rattle.tables.specs.Rows.{history_in, number_of}
+use Rattle.tables.specs.Rows.{number_of}
 use Rattle.tables.specs.Schema.{decls_tree, entries_tree}
 use Rattle.sqlstore.proofs.Afterwards.{stands_same}
 use Rattle.sqlstore.proofs.Answering.{IsThere, there, was_honest}
+use Rattle.sqlstore.proofs.Cuts.{limited, none_limited, nothing_left}
 use Rattle.sqlstore.proofs.FoundPages.{key_page_by}
-use Rattle.sqlstore.specs.ByKey.{AnswersOf, IsRangeOf}
+use Rattle.sqlstore.proofs.ListedRows.{counts_code}
+use Rattle.sqlstore.specs.ByKey.{IsRangeOf}
 use Rattle.index.specs.Calls.{IsRefused}
 use Rattle.index.specs.declared.fault.IndexFault.{IndexFault}
 use Rattle.index.specs.declared.fault.IndexFault.TheVariants as index
@@ -115,16 +116,6 @@ entries_before g old new declaration places s h = subst (λ (t : Trees). AreEntr
 
 -- ---- rows
 
-limited_places : (limit : Option ℕ) (most : ℤ) (ps : List IndexPlace) → IsLimitFor limit most → up_to_limit limit (first_places most ps) ≡ up_to_limit limit ps
-limited_places limit most ps (inl none) = ap (λ n. up_to_limit limit (first_places n ps)) none
-limited_places None most ps (inr own) = absurd (cc)
-limited_places (Some n) most ps (inr own) = let same : pos n ≡ most = inside (pos n) most own in ap (λ m. take n (first_places m ps)) (sym same) ∙ take-take_same n ps
-  where
-    take-take_same : (m : ℕ) (qs : List IndexPlace) → take m (take m qs) ≡ take m qs
-    take-take_same zero qs = refl
-    take-take_same (suc m) [] = refl
-    take-take_same (suc m) (q ∷ qs) = ap (λ l. q ∷ l) (take-take_same m qs)
-
 module _ (declaration : ℤ) (places : List IndexPlace) (rows : List Row) (h : AreEntriesAt declaration places rows) (range : KeyRange) (low high : List ℕ) (lows : IsLowBound range low) (highs : IsHighBound range high) where
   pub range_shown : (shown : List Row) → IsRangeOf range declaration low high rows shown → AllByRecursion IsShownEntry shown
   range_shown shown r = subst (AllByRecursion IsShownEntry) (sym r.2) (entries_shown declaration places rows h range low high lows highs r.0 range.skip)
@@ -133,21 +124,7 @@ module _ (declaration : ℤ) (places : List IndexPlace) (rows : List Row) (h : A
       → map spot_of read ≡ map spot_shown shown → cut ≡ up_to_limit range.limit read → up_to_limit range.limit (drop range.skip (key_rows_within range places)) ≡ cut
   rows_read shown read cut r lawful spots made =
       let same = entries_read declaration places rows h range low high lows highs r.0 range.skip read lawful (spots ∙ ap (map spot_shown) r.2) in
-      sym (made ∙ ap (up_to_limit range.limit) same ∙ limited_places range.limit r.0 (drop range.skip (key_rows_within range places)) r.1)
-
-  nothing_left : (n : ℕ) (ps : List IndexPlace) → length ps ≤ n → drop n ps ≡ []
-  nothing_left n [] le = nothing n
-    where
-      nothing : (m : ℕ) → drop {A = IndexPlace} m [] ≡ []
-      nothing zero = refl
-      nothing (suc m) = refl
-  nothing_left zero (p ∷ ps) le = absurd (omega (arith, le))
-  nothing_left (suc n) (p ∷ ps) le = nothing_left n ps (omega (arith, le))
-
-  none_limited : (limit : Option ℕ) → up_to_limit {A = IndexPlace} limit [] ≡ []
-  none_limited None = refl
-  none_limited (Some zero) = refl
-  none_limited (Some (suc n)) = refl
+      sym (made ∙ ap (up_to_limit range.limit) same ∙ limited range.limit r.0 (drop range.skip (key_rows_within range places)) r.1)
 
   pub rows_skipped : (count : ℕ) → count_of declaration low high rows ≡ count → count < 2 ^ 63 → 2 ^ 63 ≤ range.skip → up_to_limit range.limit (drop range.skip (key_rows_within range places)) ≡ []
   rows_skipped count is lt far =
@@ -202,9 +179,6 @@ module _ (range : KeyRange) (trees : Trees) (name : List ℕ) (k : NumberValues)
       go (Some d) e = absurd (cc)
 
 -- ---- what is told of them is one thing
-
-counts_code : Coded RowCounts
-counts_code = code_by (ℕ × ℕ) (coded× coded_ℕ coded_ℕ) (λ c. (c.offset, c.total)) (λ p. record { offset = p.0; total = p.1 }) (λ _. refl)
 
 page_code : Coded KeyPage
 page_code = code_by (List IndexPlace × Option RowCounts) (coded× (coded_list place_code) (coded_option counts_code)) (λ p. (p.rows, p.counts)) (λ p. record { rows = p.0; counts = p.1 }) (λ _. refl)

@@ -6,6 +6,9 @@ pub mod NameBytes
 pub mod Answering
 pub mod Committed
 pub mod ListedRows
+pub mod Cuts
+pub mod TextBounds
+pub mod IdRows
 pub mod Enough
 pub mod FoundPages
 pub mod KeyEntries

@@ -1,15 +1,14 @@
 -- The rows of a list of documents: that they are intact, and what pages they make.
-use Rattle.sqlstore.proofs.Common.{All, AllByRecursion, Bool, Coded, Coded-set, HistoryContent, IdRow, IndexPlace, IsDatabaseRow, IsDocumentRow, IsLaid, IsListedDocument, IsSequenceRow, List, None, Option, Ordering, Revision, Row, SeqRange, SeqRow, SequenceRow, Some, Trees, [], all-filter, all_both, all_map, any_is_found, ap, ap₂, arith, by_sequence, code_by, coded_bool, coded_list, coded_ℕ, coded×, cond, count_by, db_of, dbs_tree, docs_tree, drop, drop_all, false, filter, get_or, get_or-map, has_number, is_in, is_some, last_sequence, later_rows, leaves_row, length, length-map, listed_by_sequence, listed_counts, listed_document, listed_mark, map, map-map, nat_lt, not, page_with_leaves, place_code, refl, revision_code, revs_tree, sequence_of, sequence_page, sequence_row, sequence_row_of, sequence_rows, sort_by, sym, true, up_to_limit, with_leaves, ℕ, ℤ, ◌++◌, ◌+◌, ◌-◌, ◌<◌, ◌^◌, ◌∙◌, ◌∷◌, ◌≡◌, ◌≤◌}
+use Rattle.sqlstore.proofs.Common.{All, AllByRecursion, Bool, Coded, Coded-set, HistoryContent, IdRow, IndexPlace, IsDatabaseRow, IsDocumentRow, IsLaid, IsListedDocument, IsSequenceRow, List, None, Option, Ordering, Revision, Row, SeqRange, SeqRow, SequenceRow, Some, Trees, [], all-filter, all_both, all_map, any_is_found, ap, arith, by_sequence, code_by, coded_bool, coded_list, coded_option, coded_ℕ, coded×, cond, db_of, dbs_tree, docs_tree, drop, drop_all, false, filter, get_or, get_or-map, has_number, is_in, is_some, last_sequence, later_rows, leaves_row, length, length-map, listed_by_sequence, listed_document, map, map-map, nat_lt, page_with_leaves, place_code, refl, revision_code, revs_tree, sequence_of, sequence_page, sequence_row, sort_by, sym, true, up_to_limit, with_leaves, ℕ, ℤ, ◌++◌, ◌+◌, ◌<◌, ◌^◌, ◌∙◌, ◌∷◌, ◌≡◌, ◌≤◌}
 use Rattle.std.proofs.lemmas.List.{append_assoc, append-nil, take-map}
-use Rattle.std.proofs.lemmas.List.Sums.{sum_by-cons}
 use Rattle.store.specs.contracts.page.DocumentCounts as document_counts
 use Rattle.store.specs.contracts.page.IdRow as id_row
 use Rattle.store.specs.declared.page.DocumentCounts.{DocumentCounts}
-use Rattle.tables.proofs.ListingRows.{both_counted, rows_of_a_listing}
+use Rattle.store.specs.declared.page.RowCounts.{RowCounts}
+use Rattle.tables.proofs.ListingRows.{rows_of_a_listing}
 use Rattle.tables.proofs.RowMaps.{find_found}
 use Rattle.tables.proofs.Sorted.{all_sorted}
 use Rattle.tables.specs.Layout.{database_at}
-use Rattle.sqlstore.specs.Listing.{row_counts}
 
 -- ---- rows are told apart by numbers
 
@@ -26,6 +25,12 @@ id_rows_set = Coded-set (coded_list id_row.the_row.coded)
 
 pub counts_set : IsSet DocumentCounts
 counts_set = Coded-set document_counts.the_row.coded
+
+pub counts_code : Coded RowCounts
+counts_code = code_by (ℕ × ℕ) (coded× coded_ℕ coded_ℕ) (λ c. (c.offset, c.total)) (λ p. record { offset = p.0; total = p.1 }) (λ _. refl)
+
+pub row_counts_set : IsSet (Option RowCounts)
+row_counts_set = Coded-set (coded_option counts_code)
 
 pub places_set : IsSet (List IndexPlace)
 places_set = Coded-set (coded_list place_code)
@@ -52,26 +57,6 @@ sequences_intact trees db l =
     let each : AllByRecursion (λ r. IsSequenceRow (listed_document r)) (trees docs_tree) =
     all_both (λ r. IsListedDocument (listed_document r)) (IsDocumentRow trees) P (λ r listed k. record { listed = listed; small = small_sequence trees l r k }) (trees docs_tree) (rows_of_a_listing trees l) l.docs in
     all_map IsSequenceRow listed_document _ (all_sorted P by_sequence _ (all-filter P (is_in db) _ each))
-
--- ---- counts
-
-marked : (rows : List Row) (read : List SeqRow) → map sequence_row rows ≡ sequence_rows read → count_by (λ r. r.deleted) read ≡ count_by listed_mark rows
-marked [] [] e = refl
-marked [] (r ∷ read) e = absurd (cc)
-marked (s ∷ rows) [] e = absurd (cc)
-marked (s ∷ rows) (r ∷ read) e =
-    let first : sequence_row s ≡ sequence_row_of r = cc in
-    let rest : map sequence_row rows ≡ sequence_rows read = cc in
-    sum_by-cons (λ (y : SeqRow). cond y.deleted 1 0) r read
-    ∙ ap₂ (λ b n. cond b 1 0 + n) (sym (ap (λ (q : SequenceRow). q.deleted) first)) (marked rows read rest)
-    ∙ sym (sum_by-cons (λ y. cond (listed_mark y) 1 0) s rows)
-
-pub counts_read : (rows : List Row) (read : List SeqRow) → map sequence_row rows ≡ sequence_rows read → row_counts read ≡ listed_counts rows
-counts_read rows read is =
-    let gone = marked rows read is in
-    let long : length read ≡ length rows = sym (length-map read sequence_row_of) ∙ sym (ap length is) ∙ length-map rows sequence_row in
-    let live : length read - count_by (λ r. r.deleted) read ≡ count_by (λ s. not (listed_mark s)) rows = omega (arith, gone, long, both_counted listed_mark rows) in
-    λ i. record { documents = live i; deleted = gone i }
 
 -- ---- leaves in the place of winners
 

@@ -4,4 +4,5 @@ pub mod Standing
 pub mod Model
 pub mod Commits
 pub mod Listing
+pub mod ById
 pub mod ByKey

@@ -1,19 +1,14 @@
 -- The parts of a page that are made of the rows of a list, of histories and of what is counted.
 -- This server's own: pages are those of `store`, rows are read by the words of `tables`.
-use Rattle.std.specs.Prelude.{◌≡◌, ◌<◌, ◌^◌, ◌⊎◌, ℕ, ◌-◌, ℤ, pos, negsuc, Bool, if◌then◌else◌, Option, Some, option_map, List, [], ◌∷◌, length, filter, map}
-use Rattle.std.specs.List.{AllByRecursion, count_by}
-use Rattle.couch_json.specs.Value.{Value}
+use Rattle.std.specs.Prelude.{◌≡◌, ◌<◌, ◌^◌, ◌⊎◌, ℕ, ℤ, pos, negsuc, Option, Some, option_map, List, filter, map}
+use Rattle.std.specs.List.{AllByRecursion}
 use Rattle.tree.specs.History.{HistoryContent, leaves}
-use Rattle.store.specs.Indexes.{IndexPlace, put_in_index, queried_document}
-use Rattle.store.specs.Pages.{SequencePage, SequenceRow, id_page, if_counted, sequence_page}
-use Rattle.store.specs.declared.page.DocumentCounts.{DocumentCounts}
-use Rattle.store.specs.declared.page.IdRange.{IdRange}
+use Rattle.store.specs.Pages.{SequencePage, SequenceRow, if_counted, later_rows, sequence_page}
 use Rattle.store.specs.declared.page.SeqRange.{SeqRange}
-use Rattle.store.specs.declared.page.SeqRow.{SeqRow}
 use Rattle.sqlite_value.specs.Order.{Row}
 use Rattle.sqlite_trees.specs.Tree.{Trees}
 use Rattle.sqlite_keyed.specs.Lists.{sort_by}
-use Rattle.tables.specs.Listings.{IsListedDocument, listed_counts, listed_sequence, live_rows, sequence_row}
+use Rattle.tables.specs.Listings.{IsListedDocument, listed_counts, listed_sequence, sequence_row}
 use Rattle.tables.specs.Rows.{by_id, by_sequence, is_in, listed_document}
 use Rattle.tables.specs.Schema.{docs_tree}
 
@@ -36,29 +31,15 @@ winners_page range sequence rows =
 abbrev pub IsLimitFor : Option ℕ → ℤ → Type 0
 IsLimitFor limit n = (n ≡ negsuc 0) ⊎ (option_map pos limit ≡ Some n)
 
--- the lesser end of a range that goes up from the one to the other, or down
-abbrev pub least_of : Bool → List ℕ → List ℕ → List ℕ
-least_of descending start end = if descending then end else start
-
--- these rows make the page by id that all of them make
-pub record AreEnoughById (range : IdRange) (all rows : List Row) : Type 0 where
-  pub page : id_page range (live_rows rows) ≡ id_page range (live_rows all)
-  pub intact : AllByRecursion IsListedDocument all → AllByRecursion IsListedDocument rows
-
 -- the row of a document at a sequence that a page may hold
 pub record IsSequenceRow (s : Row) : Type 0 where
   pub listed : IsListedDocument s
   pub small : listed_sequence s < 2 ^ 63
 
--- these rows make the page by sequence that all of them make
+-- these rows have those of a page by sequence of all of them
 pub record AreEnoughBySequence (range : SeqRange) (all rows : List Row) : Type 0 where
-  pub page : (sequence : ℕ) → winners_page range sequence rows ≡ winners_page range sequence all
+  pub page : later_rows range (map sequence_row rows) ≡ later_rows range (map sequence_row all)
   pub intact : AllByRecursion IsSequenceRow all → AllByRecursion IsSequenceRow rows
-
--- how many of the rows have a winner that is deleted, and how many have not
-abbrev pub row_counts : List SeqRow → DocumentCounts
-row_counts rows =
-    record { documents = length rows - count_by (λ r. r.deleted) rows; deleted = count_by (λ r. r.deleted) rows }
 
 -- a row with all leaves of its document
 abbrev pub with_leaves : (List ℕ → HistoryContent) → SequenceRow → SequenceRow

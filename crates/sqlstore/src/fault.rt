@@ -6,7 +6,7 @@ ghost use Rattle.index.specs.declared.fault.IndexFault.{IndexFault as TheFault};
 ghost use Rattle.sqlstore.specs.Commits.{IsIndexToldAs, IsToldAs};
 
 use index::IndexFault;
-use sqlite::{Error, ErrorCode};
+use sqlite::{Error, ErrorCode, Row};
 use store::StoreFault;
 use transactions::CommitFault;
 
@@ -22,14 +22,21 @@ pub(crate) fn judge(faults: &mut u64, error: Error) -> StoreFault
     StoreFault::Failed
 }
 
-/// Returns what a statement answered, or tells what fault its error is.
-pub(crate) fn judge_answer<T>(faults: &mut u64, answer: Result<T, Error>) -> Result<T, StoreFault>
+/// Returns the rows that a query answered, and counts them, or tells what fault its error is.
+pub(crate) fn judge_answer(
+    faults: &mut u64,
+    fetched: &mut u64,
+    answer: Result<Vec<Row>, Error>,
+) -> Result<Vec<Row>, StoreFault>
     ensures ok { IfOk result (λ told. answer ≡ Ok told) }
     ensures judged { IfErr result (IsJudged faults.old faults.new) }
     ensures counted { faults.old ≤ faults.new }
 {
     match answer {
-        Ok(told) => Ok(told),
+        Ok(rows) => {
+            *fetched = fetched.saturating_add(rows.len() as u64);
+            Ok(rows)
+        }
         Err(error) => Err(judge(faults, error)),
     }
 }

@@ -53,6 +53,11 @@ impl MemoryStore {
             Err((OpenFault::Failed | OpenFault::NotOurs, _)) => Err(StoreFault::Failed),
         }
     }
+
+    /// Returns how many rows the queries of reading calls have taken since the store was opened.
+    pub fn fetched(&self) -> u64 {
+        self.store.fetched()
+    }
 }
 
 #[tactic(auto, using(sqlite::proofs::Callers::memory_is_clean))]

@@ -2,6 +2,7 @@
 #![tactic(auto)]
 
 mod fault;
+mod id_bounds;
 mod in_memory;
 mod known_database;
 pub mod laws;

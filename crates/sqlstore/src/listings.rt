@@ -1,17 +1,17 @@
 //! What the rows of a list of documents say, as rows of a page.
 
-ghost use Rattle.std.specs.Prelude.{◌≡◌, ◌≤◌, ◌<◌, ◌^◌, All, IfErr, IfOk, IfSome, Some, length, map};
-ghost use Rattle.std.specs.List.{AllByRecursion, count_by};
-ghost use Rattle.store.specs.Pages.{id_page, if_counted};
-ghost use Rattle.store.specs.Paging.{IsBounded, IsCounted, id_page_of, sequence_page_of, sequence_row_of, sequence_rows};
+ghost use Rattle.std.specs.Prelude.{◌≡◌, ◌<◌, ◌^◌, All, IfErr, IfOk, IfSome, Some, is_some, map};
+ghost use Rattle.std.specs.List.{AllByRecursion};
+ghost use Rattle.store.specs.Pages.{sequence_page, up_to_limit};
+ghost use Rattle.store.specs.Paging.{IsBounded, sequence_page_of, sequence_row_of, sequence_rows};
 ghost use Rattle.tables.specs.Listings.{IsListedDocument, listed_id, listed_mark, listed_sequence, listed_winner, live_row, live_rows, sequence_row};
-ghost use Rattle.sqlstore.specs.Listing.{IsSequenceRow, row_counts, winners_page};
+ghost use Rattle.sqlstore.specs.Listing.{IsSequenceRow};
 ghost use Rattle.transactions.specs.Reading.{IsLost, IsRead};
 
 use sqlite::Row;
 use std::alloc::Global;
-use store::paging::{cut_by_id, cut_by_sequence};
-use store::{DocumentCounts, IdRange, IdRow, PageById, PageBySeq, SeqRange, SeqRow, StoreFault};
+use store::paging::{cut_by_sequence, cut_to_limit};
+use store::{DocumentCounts, IdRow, PageBySeq, SeqRange, SeqRow, StoreFault};
 use tables::{ListedDocument, RowFault, read_listed_document};
 
 /// Reads the document of a row.
@@ -59,17 +59,16 @@ fn read_live_rows(alloc: Global, rows: &[Row]) -> Result<Vec<IdRow>, StoreFault>
     Ok(live)
 }
 
-/// Reads the page by id of all rows.
-pub(crate) fn read_page_by_id(
+/// Reads the rows of a page by id, up to its limit.
+pub(crate) fn read_id_rows(
     alloc: Global,
     rows: &[Row],
-    range: &IdRange,
-) -> Result<PageById, StoreFault>
-    ensures page { IsRead id_page_of (Some (id_page range.now (live_rows rows.now))) (AllByRecursion IsListedDocument rows.now) result }
-    ensures counted { IfOk result (IsCounted range.now) }
+    limit: Option<u64>,
+) -> Result<Vec<IdRow>, StoreFault>
+    ensures { IsRead (λ read. read.items) (Some (up_to_limit limit (live_rows rows.now))) (AllByRecursion IsListedDocument rows.now) result }
 {
     let live = read_live_rows(alloc, rows)?;
-    Ok(cut_by_id(live, range)?)
+    Ok(cut_to_limit(live, limit))
 }
 
 // ---- by sequence
@@ -106,47 +105,20 @@ fn read_sequence_rows(alloc: Global, rows: &[Row]) -> Result<Vec<SeqRow>, StoreF
     Ok(read)
 }
 
-/// Counts the rows whose winner is deleted.
-fn count_deleted(rows: &Vec<SeqRow>) -> u64
-    ensures count { result ≡ count_by (λ r. r.deleted) rows.now.items }
-    ensures within { result ≤ length rows.now.items }
-{
-    let mut count = 0;
-    for row in rows {
-        if row.deleted {
-            count += 1;
-        }
-    }
-    count
-}
-
-/// Counts the rows, where that is asked for.
-fn counts_of(rows: &Vec<SeqRow>, counted: bool) -> Option<DocumentCounts>
-    ensures counts { result ≡ if_counted counted (row_counts rows.now.items) }
-    ensures within { IfSome result (λ counts. (counts.documents ≤ length rows.now.items) × (counts.deleted ≤ length rows.now.items)) }
-{
-    if !counted {
-        return None;
-    }
-    let deleted = count_deleted(rows);
-    Some(DocumentCounts {
-        documents: rows.len() as u64 - deleted,
-        deleted,
-    })
-}
-
-/// Reads the page by sequence of all rows, each with its winner alone, in a database at this sequence.
+/// Reads the page by sequence of these rows, each with its winner alone, in a database at this sequence
+/// that has these documents.
 pub(crate) fn read_page_by_sequence(
     alloc: Global,
     rows: &[Row],
     sequence: u64,
+    counts: Option<DocumentCounts>,
     range: &SeqRange,
 ) -> Result<PageBySeq, StoreFault>
-    requires { sequence < 2 ^ 63 }
-    ensures page { IsRead sequence_page_of (Some (winners_page range.now sequence rows.now)) (AllByRecursion IsSequenceRow rows.now) result }
+    requires bounded { (sequence < 2 ^ 63) × IfSome counts (λ c. (c.documents < 2 ^ 63) × (c.deleted < 2 ^ 63)) }
+    requires counted { is_some counts ≡ range.now.counted }
+    ensures page { IsRead sequence_page_of (Some (sequence_page range.now sequence counts (map sequence_row rows.now))) (AllByRecursion IsSequenceRow rows.now) result }
     ensures bounded { IfOk result (IsBounded range.now) }
 {
     let read = read_sequence_rows(alloc, rows)?;
-    let counts = counts_of(&read, range.counted);
     Ok(cut_by_sequence(read, sequence, counts, range))
 }

@@ -1,5 +1,6 @@
 ghost use Rattle.sqlstore.specs.Standing.{IsStanding};
 
+mod by_id;
 mod by_key;
 mod calls;
 mod changing;
@@ -29,6 +30,8 @@ pub struct SqlStore<S: Alter> {
     /// The database that was asked for last. Whatever changes its row changes this or drops it.
     known: Option<KnownDatabase>,
     faults: u64,
+    /// How many rows the queries of reading calls have taken; it stays at the greatest number.
+    fetched: u64,
     ghost standing: { IsStanding S.Store conn origin.value last.value known },
 }
 
@@ -42,6 +45,7 @@ impl<S: Alter + Drop> Drop for SqlStore<S> {
             last: _,
             known: _,
             faults: _,
+            fetched: _,
         } = self;
     }
 }
@@ -107,6 +111,7 @@ impl<S: Alter + Drop> SqlStore<S> {
             last,
             known: None,
             faults: 0,
+            fetched: 0,
         })
     }
 
@@ -125,6 +130,7 @@ impl<S: Alter + Drop> SqlStore<S> {
             last: _,
             known: _,
             faults: _,
+            fetched: _,
         } = self;
         conn
     }
@@ -143,5 +149,11 @@ impl<S: Alter + Drop> SqlStore<S> {
     {
         let alloc = self.alloc;
         SqlStore::open(alloc, self.close())
+    }
+
+    /// Returns how many rows the queries of reading calls have taken since the store was opened; it stays
+    /// at 2^64 - 1. Those that a change takes in its transaction are not counted.
+    pub fn fetched(&self) -> u64 {
+        self.fetched
     }
 }

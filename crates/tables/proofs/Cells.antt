@@ -1,8 +1,8 @@
 -- What the tests of a statement say of the cells of a row.
-use Rattle.tables.proofs.Common.{AllByRecursion, AreKeyed, Binary, Blob, Bool, Equal, Int, IsKeyed, List, Null, Row, Term, Text, Value, [], all_weaker, ap, ap₂, bytes_eq, cast, col, column, comes_after, cond, db_of, false, holds, id_of, is_eq-slice_cmp, is_in, is_of, lies_between, list_all, listed_document, nat_cmp, op2, ordering_then, pos, refl, sequence_of, slice_cmp, then-Equal, true, value_cmp, value_cmp-Blob, ℕ, ℤ, ◌&&◌, ◌∙◌, ◌∷◌, ◌≡◌}
+use Rattle.tables.proofs.Common.{AllByRecursion, AreKeyed, Binary, Blob, Bool, Equal, Int, IsKeyed, List, Null, Row, Term, Text, Value, [], all_weaker, ap, ap₂, bytes_eq, cast, col, column, comes_after, cond, db_of, false, holds, id_of, is_eq-slice_cmp, is_in, is_of, list_all, listed_document, nat_cmp, op2, ordering_then, pos, refl, sequence_of, slice_cmp, then-Equal, true, value_cmp, value_cmp-Blob, ℕ, ℤ, ◌&&◌, ◌∙◌, ◌∷◌, ◌≡◌}
 use Rattle.sqlite_sql.specs.declared.ops.BinaryOp.TheVariants.{Compare}
 use Rattle.sqlite_sql.specs.declared.ops.CompareOp.{CompareOp}
-use Rattle.sqlite_sql.specs.declared.ops.CompareOp.TheVariants.{Eq, Ge, Gt, Le}
+use Rattle.sqlite_sql.specs.declared.ops.CompareOp.TheVariants.{Eq, Gt}
 use Rattle.sqlite_sql.specs.Ops.{binary, unary, is_true}
 use Rattle.sqlite_schema.specs.declared.schema.Kind.TheVariants.{Integer}
 use Rattle.sqlite_typed.proofs.TestLemmas.{at_ints, at_blobs, at_texts, by_order, int_test, then_term, last_term}
@@ -15,7 +15,7 @@ compares op at k = op2 (Compare op Binary) (col 1 at) (col 0 k)
 pub int_by : (op : CompareOp) (v : Value) (m n : ℤ) → v ≡ Int m → is_true (binary (Compare op Binary) v (Int n)) ≡ int_test op m n
 int_by op v m n is = ap (λ x. is_true (binary (Compare op Binary) x (Int n))) is ∙ at_ints false op m n
 
-blob_by : (op : CompareOp) (v : Value) (a b : List ℕ) → v ≡ Blob a → is_true (binary (Compare op Binary) v (Blob b)) ≡ by_order bytes_cmp op a b
+pub blob_by : (op : CompareOp) (v : Value) (a b : List ℕ) → v ≡ Blob a → is_true (binary (Compare op Binary) v (Blob b)) ≡ by_order bytes_cmp op a b
 blob_by op v a b is = ap (λ x. is_true (binary (Compare op Binary) x (Blob b))) is ∙ at_blobs false op a b
 
 pub same_blob : (v : Value) (a b : List ℕ) → v ≡ Blob a → is_true (binary (Compare Eq Binary) v (Blob b)) ≡ bytes_eq a b
@@ -56,19 +56,10 @@ tests_id db id rows h =
     all_weaker IsKeyed (λ r. list_all (holds ((Int db ∷ Blob id ∷ []) ∷ r ∷ [])) by_id ≡ is_of db id r)
     (λ r k. then_term (int_by Eq (column r 1) (db_of r) db k.db) (last_term (same_blob (column r 2) (id_of r) id k.id))) rows h.keyed
 
--- ---- the tests by a range of ids, and by a sequence
-
-abbrev pub by_range : List Term
-by_range = compares Eq 1 0 ∷ compares Ge 2 1 ∷ compares Le 2 2 ∷ []
+-- ---- the tests by a sequence
 
 abbrev pub by_later : List Term
 by_later = compares Eq 1 0 ∷ compares Gt 3 1 ∷ []
-
-pub tests_range : (db : ℤ) (first last : List ℕ) (rows : List Row) → AreKeyed rows
-    → AllByRecursion (λ r. list_all (holds ((Int db ∷ Blob first ∷ Blob last ∷ []) ∷ r ∷ [])) by_range ≡ (is_in db r && lies_between first last (id_of r))) rows
-tests_range db first last rows h =
-    all_weaker IsKeyed (λ r. list_all (holds ((Int db ∷ Blob first ∷ Blob last ∷ []) ∷ r ∷ [])) by_range ≡ (is_in db r && lies_between first last (id_of r)))
-    (λ r k. then_term (int_by Eq (column r 1) (db_of r) db k.db) (then_term (blob_by Ge (column r 2) (id_of r) first k.id) (last_term (blob_by Le (column r 2) (id_of r) last k.id)))) rows h.keyed
 
 pub tests_later : (db since limit : ℤ) (rows : List Row) → AllByRecursion (λ r. (column r 1 ≡ Int (db_of r)) × (column r 3 ≡ Int (pos (sequence_of r)))) rows
     → AllByRecursion (λ r. list_all (holds ((Int db ∷ Int since ∷ Int limit ∷ []) ∷ r ∷ [])) by_later ≡ (is_in db r && comes_after since (listed_document r))) rows

@@ -1,6 +1,6 @@
 -- What the statements on documents mean.
-use Rattle.tables.proofs.Common.{AllByRecursion, Binary, Blob, Bool, Delete, Equal, IfOk, Insert, Int, IsDocumentRow, IsStore, IsTotalOrder, Key, List, Null, Ordering, Result, Row, Select, Shown, State, Term, Text, Values, [], all_weaker, and_parts, ap, ap₂, arith, as_count, cast_row, codes, col, column, comes_after, cond, db_of, docs_table, docs_tree, document_cells, document_row, eval, everything, false, filter, filter-map, first_rows, holds, id_of, int_cmp, ints, is_gone, is_in, is_of, lies_between, limited, list_all, listed_document, listed_id, lit, map, nat_cmp, nat_cmp-IsAntisymmetric, nat_cmp_total, nat_list_cmp_total, nat_tests, negsuc, number_of, on_total, ordering_then, pos, refl, same_int, schema, sequence_of, sort_by, subst, sym, then-Equal, true, understood, value_cmp, value_cmp-Int, winner, winner_text, ℕ, ℤ, ◌&&◌, ◌∙◌, ◌∷◌, ◌≡◌, ◌≢◌}
-use Rattle.tables.proofs.Cells.{blobs_agree, by_db, by_id, by_later, by_range, cast_null, cast_int, tests_db, tests_id, tests_later, tests_range}
+use Rattle.tables.proofs.Common.{AllByRecursion, Binary, Blob, Bool, Delete, Equal, IfOk, Insert, Int, IsDocumentRow, IsStore, IsTotalOrder, Key, List, Null, Ordering, Result, Row, Select, Shown, State, Term, Text, Values, [], all_weaker, and_parts, ap, ap₂, arith, as_count, cast_row, codes, col, column, comes_after, cond, db_of, docs_table, docs_tree, document_cells, document_row, eval, everything, false, filter, filter-map, first_rows, holds, id_of, int_cmp, ints, is_gone, is_in, is_of, limited, list_all, listed_document, lit, map, nat_cmp, nat_cmp-IsAntisymmetric, nat_cmp_total, nat_list_cmp_total, nat_tests, negsuc, number_of, on_total, ordering_then, pos, refl, same_int, schema, sequence_of, sort_by, subst, sym, then-Equal, true, understood, value_cmp, value_cmp-Int, winner, winner_text, ℕ, ℤ, ◌&&◌, ◌∙◌, ◌∷◌, ◌≡◌, ◌≢◌}
+use Rattle.tables.proofs.Cells.{blobs_agree, by_db, by_id, by_later, cast_null, cast_int, tests_db, tests_id, tests_later}
 use Rattle.tables.proofs.RowMaps.{filter_both, text_exact, untied}
 use Rattle.tables.proofs.Sorted.{lists, sorted_left}
 use Rattle.tables.specs.Rows as order
@@ -26,10 +26,10 @@ cast_document db id sequence winner deleted = λ i. cast_null i ∷ cast_int db 
 
 -- ---- all documents of a database, in order
 
-abbrev listed : List Term
+abbrev pub listed : List Term
 listed = col 1 2 ∷ col 1 3 ∷ col 1 4 ∷ col 1 5 ∷ []
 
-abbrev headings : List (List ℕ)
+abbrev pub headings : List (List ℕ)
 headings = codes "id" ∷ codes "seq" ∷ codes "winner" ∷ codes "del" ∷ []
 
 abbrev pub document_text : List ℕ
@@ -64,7 +64,7 @@ pub sequences_are : IsCommand schema sequences_text (Select (program_on docs_tre
 unfolding understood everything
 sequences_are = record { is = refl; plain = (refl, refl); unlisted = refl }
 
-abbrev IsOne : Row → Type 0
+abbrev pub IsOne : Row → Type 0
 IsOne r = r ≡ document_row (number_of r) (db_of r) (id_of r) (pos (sequence_of r)) (winner_text r) (is_gone r)
 
 ints_as_nats : (m n : ℕ) → int_cmp (pos m) (pos n) ≡ nat_cmp m n
@@ -75,16 +75,13 @@ sequences_agree a b k l =
     then-Equal (value_cmp (column a 3) (column b 3)) ∙ ap₂ value_cmp (ap (λ x. column x 3) k) (ap (λ x. column x 3) l) ∙ value_cmp-Int (pos (sequence_of a)) (pos (sequence_of b))
     ∙ ints_as_nats (sequence_of a) (sequence_of b)
 
-same_db : (db : ℤ) (a b : Row) → is_in db a ≡ true → is_in db b ≡ true → db_of a ≡ db_of b
+pub same_db : (db : ℤ) (a b : Row) → is_in db a ≡ true → is_in db b ≡ true → db_of a ≡ db_of b
 same_db db a b p q = same_int (db_of a) db p ∙ sym (same_int (db_of b) db q)
 
-ones : (old : State) → IsStore old.now → AllByRecursion IsOne (old.now.trees docs_tree)
+pub ones : (old : State) → IsStore old.now → AllByRecursion IsOne (old.now.trees docs_tree)
 ones old is = all_weaker (IsDocumentRow old.now.trees) IsOne (λ x k. k.is) (old.now.trees docs_tree) is.laid.docs
 
--- ---- those of a range, and those behind a sequence
-
-abbrev pub range_text : List ℕ
-range_text = codes "SELECT id, seq, winner, del FROM docs WHERE db = ?1 AND id >= ?2 AND id <= ?3 ORDER BY id"
+-- ---- those behind a sequence
 
 abbrev pub later_text : List ℕ
 later_text = codes "SELECT id, seq, winner, del FROM docs WHERE db = ?1 AND seq > ?2 ORDER BY seq LIMIT ?3"
@@ -92,16 +89,12 @@ later_text = codes "SELECT id, seq, winner, del FROM docs WHERE db = ?1 AND seq 
 abbrev most_rows : Term
 most_rows = col 0 2
 
-pub range_are : IsCommand schema range_text (Select (program_on docs_tree by_range listed id_order) headings)
-unfolding understood everything
-range_are = record { is = refl; plain = (refl, refl); unlisted = refl }
-
 pub later_are : IsCommand schema later_text (Select (first_program docs_tree by_later listed sequence_order most_rows) headings)
 unfolding understood everything
 later_are = record { is = refl; plain = (refl, refl); unlisted = refl }
 
 -- rows of a kind among those of a database, in an order
-left_in_order : (by : Row → Row → Ordering) → IsTotalOrder by → (db : ℤ) (q : Row → Bool) (rows : List Row)
+pub left_in_order : (by : Row → Row → Ordering) → IsTotalOrder by → (db : ℤ) (q : Row → Bool) (rows : List Row)
     → map listed_document (sort_by by (filter (λ r. is_in db r && q (listed_document r)) rows)) ≡ filter q (map listed_document (sort_by by (filter (is_in db) rows)))
 left_in_order by total db q rows =
     ap (λ l. map listed_document (sort_by by l)) (sym (filter_both (λ r. q (listed_document r)) (is_in db) rows))
@@ -134,12 +127,6 @@ module _ {X E : Type 0} (old new : State) (is : IsStore old.now) (db : ℤ) (r :
 
   pub lists_by_sequence : IfOk r (λ x. Shown sequences_text (Int db ∷ []) old new (items x)) → IfOk r (λ x. items x ≡ map listed_document (sort_by order.by_sequence (filter (is_in db) (old.now.trees docs_tree))))
   lists_by_sequence = in_sequence_order sequences_are (Int db ∷ []) (is_in db) (λ x own. own) (tests_db db _ (docs_keyed old.now.trees is.laid))
-
-  pub lists_range : (first last : List ℕ) → IfOk r (λ x. Shown range_text (Int db ∷ Blob first ∷ Blob last ∷ []) old new (items x))
-      → IfOk r (λ x. items x ≡ filter (λ s. lies_between first last (listed_id s)) (map listed_document (sort_by order.by_id (filter (is_in db) (old.now.trees docs_tree)))))
-  lists_range first last h =
-      subst (λ l. IfOk r (λ x. items x ≡ l)) (left_in_order order.by_id (on_total id_of nat_list_cmp_total) db (λ s. lies_between first last (listed_id s)) (old.now.trees docs_tree))
-      (in_id_order range_are (Int db ∷ Blob first ∷ Blob last ∷ []) (λ l. is_in db l && lies_between first last (id_of l)) (λ x k. (and_parts (is_in db x) _ k).0) (tests_range db first last _ (docs_keyed old.now.trees is.laid)) h)
 
   pub lists_later : (since limit : ℤ) → IfOk r (λ x. Shown later_text (Int db ∷ Int since ∷ Int limit ∷ []) old new (items x))
       → IfOk r (λ x. items x ≡ first_rows limit (filter (comes_after since) (map listed_document (sort_by order.by_sequence (filter (is_in db) (old.now.trees docs_tree))))))

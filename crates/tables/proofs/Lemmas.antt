@@ -2,12 +2,13 @@
 pub use Rattle.tables.proofs.Common.{Blob, Err, Error, FailsToQuery, IfErr, IfOk, IsRolledBack, IsUnchanged, List, None, Ok, OnOk, Option, Result, Row, Shown, Some, State, Text, ap, as_text, [], dbs_table, docs_table, document_cells, Int, local_cells, given_cells, ◌∷◌, has_all, has_number, inl, locals_table, meta_table, refl, revs_table, rules, shows_first, state, understood, ℕ, ◌∙◌, ◌≡◌, ◌⊎◌}
 pub use Rattle.tables.proofs.DatabaseStatements.{advances_database, cast_database, database_is, deletes_database, finds_database, inserts_database, lists_names, names_are, secures_database, tests_number}
 pub use Rattle.tables.proofs.Deletes.{clears, deletes_id, deletes_where}
-pub use Rattle.tables.proofs.DocumentStatements.{cast_document, clears_documents, deletes_document, document_is, finds_document, ids_are, inserts_document, later_are, lists_by_id, lists_by_sequence, lists_later, lists_range, range_are, sequences_are}
+pub use Rattle.tables.proofs.DocumentStatements.{cast_document, clears_documents, deletes_document, document_is, finds_document, inserts_document, later_are, lists_by_sequence, lists_later, sequences_are}
 pub use Rattle.tables.proofs.DocumentWrites.{acceptable_in_turn, none_written, one_more_written}
 pub use Rattle.tables.proofs.Finds.{alters, reads_inside, reads_nothing, reads_of, reads_so}
 pub use Rattle.tables.proofs.KnownRevisions.{known_are_revisions}
 pub use Rattle.tables.proofs.Laid.{ours_has_all, shown_databases, shown_hashes, shown_locals, shown_outlines, shown_revisions}
 pub use Rattle.tables.proofs.ListingRows.{documents_by_id, leaves_by_sequence, winners_by_sequence}
+pub use Rattle.tables.proofs.LiveStatements.{counts_marked, lists_live_down, lists_live_up, live_down_are, live_up_are, marked_is}
 pub use Rattle.tables.proofs.LocalStatements.{cast_local, clears_locals, deletes_local, finds_local, inserts_local, local_is}
 pub use Rattle.tables.proofs.MetaStatements.{cast_version, finds_version, inserts_version, shows_version, version_is}
 pub use Rattle.tables.proofs.Numbered.{numbered_from_keyed}

@@ -39,4 +39,8 @@ pub mod Secured
 pub mod ReplacedRows
 pub mod LocalChanges
 pub mod Removed
+pub mod Pages
+pub mod Counts
+pub mod LiveStatements
+pub mod Backwards
 pub mod Lemmas

@@ -29,7 +29,7 @@ module _ (P : Row → Type 0) (c d : Row → Row → Ordering) (agree : (a b : R
   sorted_alike (r ∷ rows) all =
       ap (insert_sorted c r) (sorted_alike rows all.1) ∙ inserted_alike r (sort_by d rows) all.0 (all_sorted P d rows all.1)
 
-both_in : (P : Row → Type 0) (R S : Row → Row → Type 0) → ((a b : Row) → P a → P b → R a b → S a b) → (rows : List Row) → AllByRecursion P rows → IsAscending R rows → IsAscending S rows
+pub both_in : (P : Row → Type 0) (R S : Row → Row → Type 0) → ((a b : Row) → P a → P b → R a b → S a b) → (rows : List Row) → AllByRecursion P rows → IsAscending R rows → IsAscending S rows
 both_in P R S weaker [] all up = tt
 both_in P R S weaker (r ∷ rows) all up = (all_both P (R r) (S r) (λ x own over. weaker r x all.0 own over) rows all.1 up.0, both_in P R S weaker rows all.1 up.1)
 

@@ -1,10 +1,11 @@
 -- What the rows that a list of documents shows say, each as a row of a page.
 -- This server's own layout, over `Pages` of `store`.
-use Rattle.std.specs.Prelude.{◌≡◌, ℕ, ℤ, pos, negsuc, int_lt, Bool, not, ◌&&◌, if◌then◌else◌, IsTrue, IsUtf8, List, length, take, flat_map, Option, None, option_map}
+use Rattle.std.specs.Prelude.{◌≡◌, ℕ, ℤ, pos, negsuc, int_lt, min, Bool, false, not, ◌&&◌, if◌then◌else◌, IsTrue, IsUtf8, List, [], ◌∷◌, drop, filter, length, map, take, flat_map, Option, None, option_map}
 use Rattle.std.specs.Cmp.Lexicographic.{slice_cmp}
 use Rattle.std.specs.List.{count_by}
 use Rattle.std.specs.Option.{option_to_list}
-use Rattle.std.specs.Ordering.{is_le, nat_cmp}
+use Rattle.std.specs.Ordering.{is_le, is_lt, nat_cmp}
+use Rattle.std.specs.declared.cmp.Ordering.{Ordering}
 use Rattle.tree.specs.DocumentId.{is_document_id}
 use Rattle.tree.specs.History.{leaves}
 use Rattle.tree.specs.Revision.{Revision, revision_read}
@@ -12,9 +13,10 @@ use Rattle.store.specs.Pages.{SequenceRow}
 use Rattle.store.specs.declared.page.DocumentCounts.{DocumentCounts}
 use Rattle.store.specs.declared.page.IdRow.{IdRow}
 use Rattle.sqlite_value.specs.declared.value.Value.{Value}
-use Rattle.sqlite_value.specs.declared.value.Value.TheVariants.{Blob}
+use Rattle.sqlite_value.specs.declared.value.Value.TheVariants.{Blob, Int}
+use Rattle.sqlite_keyed.specs.Lists.{sort_by}
 use Rattle.sqlite_value.specs.Order.{Row, bytes, column}
-use Rattle.tables.specs.Rows.{count_in, history_in, is_set}
+use Rattle.tables.specs.Rows.{by_id, count_in, history_in, id_of, is_gone, is_in, is_set, listed_document}
 use Rattle.tables.specs.Shown.{IsCount, SpellsRevision}
 
 -- the cells of such a row: the id, the sequence, the winner and whether it is deleted
@@ -30,18 +32,52 @@ listed_winner s = revision_read (bytes (column s 2))
 abbrev pub listed_mark : Row → Bool
 listed_mark s = is_set (column s 3)
 
--- the id lies between two, by their bytes, or is one of them
-abbrev pub lies_between : List ℕ → List ℕ → List ℕ → Bool
-lies_between first last id = is_le (slice_cmp nat_cmp first id) && is_le (slice_cmp nat_cmp id last)
-
 -- the row's sequence is above this one
 abbrev pub comes_after : ℤ → Row → Bool
 comes_after sequence s = int_lt sequence (pos (listed_sequence s))
 
--- so many rows, from the first on, and all of them where the number is negative
-abbrev pub first_rows : ℤ → List Row → List Row
+-- so many, from the first on, and all of them where the number is negative
+abbrev pub first_rows : {A : Type 0} → ℤ → List A → List A
 first_rows (pos n) rows = take n rows
 first_rows (negsuc n) rows = rows
+
+-- those behind so many, and all of them where the number is negative
+abbrev pub rows_behind : {A : Type 0} → ℤ → List A → List A
+rows_behind (pos n) rows = drop n rows
+rows_behind (negsuc n) rows = rows
+
+-- ---- rows between two bounds of bytes
+
+-- the bytes are not below the low bound, and below the high one
+abbrev pub is_between : List ℕ → List ℕ → List ℕ → Bool
+is_between low high bytes = is_le (slice_cmp nat_cmp low bytes) && is_lt (slice_cmp nat_cmp bytes high)
+
+-- the winner is deleted, or is not, as it is asked for
+abbrev pub has_mark : Bool → Bool → Bool
+has_mark deleted gone = if deleted then gone else not gone
+
+-- the row is that of a document of the database, whose winner is marked so and whose id lies between the bounds
+abbrev pub is_marked_between : ℤ → Bool → List ℕ → List ℕ → Row → Bool
+is_marked_between db deleted low high r = is_in db r && (has_mark deleted (is_gone r) && is_between low high (id_of r))
+
+-- documents go by their ids, downwards the other way round
+abbrev pub by_id_in : Bool → Row → Row → Ordering
+by_id_in descending a b = if descending then by_id b a else by_id a b
+
+-- the rows between the bounds whose winner is not deleted, in their order, as a query shows them: behind so many, up to so many or all
+abbrev pub live_range : Bool → ℤ → List ℕ → List ℕ → ℤ → ℤ → List Row → List Row
+live_range descending db low high most skip rows =
+    first_rows most (rows_behind skip (map listed_document (sort_by (by_id_in descending) (filter (is_marked_between db false low high) rows))))
+
+-- how many rows there are between the bounds
+abbrev pub marked_count : ℤ → Bool → List ℕ → List ℕ → List Row → ℕ
+marked_count db deleted low high rows = length (filter (is_marked_between db deleted low high) rows)
+
+-- a number of rows, as a query shows it: at most the greatest number that SQLite holds
+abbrev pub shown_count : ℕ → Row
+shown_count n = Int (pos (min n 9223372036854775807)) ∷ []
+
+-- ---- rows of pages
 
 -- the row of a listing by id, where the winner is not deleted
 abbrev pub live_row : Row → Option IdRow

@@ -259,7 +259,7 @@ pub fn read_local(alloc: Global, row: &Row) -> Result<LocalDocument, RowFault>
     Ok(LocalDocument { number, body })
 }
 
-/// Reads what a row of `rows_by_id` or `rows_by_sequence` shows.
+/// Reads what a row of `rows_by_sequence` shows.
 pub fn read_listed_document(alloc: Global, row: &Row) -> Result<ListedDocument, RowFault>
     ensures id { IfOk result (λ d. d.id ≡ listed_id row.now) }
     ensures sequence { IfOk result (λ d. d.sequence ≡ listed_sequence row.now) }

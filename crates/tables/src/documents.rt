@@ -1,11 +1,11 @@
 //! The rows of the documents.
 
-ghost use Rattle.std.specs.Prelude.{◌≡◌, not, filter, map};
+ghost use Rattle.std.specs.Prelude.{◌≡◌, ◌∷◌, [], false, not, filter, map, true};
 ghost use Rattle.sqlite_keyed.specs.Lists.{sort_by};
 ghost use Rattle.tables.specs.Calls.{Alters, Reads};
 ghost use Rattle.tables.specs.Layout.{AreKeyed, IsStore};
-ghost use Rattle.tables.specs.Listings.{comes_after, first_rows, lies_between, listed_id};
-ghost use Rattle.tables.specs.Rows.{by_id, by_sequence, is_in, is_of, listed_document, document_cells, with_cells};
+ghost use Rattle.tables.specs.Listings.{comes_after, first_rows, live_range, marked_count, shown_count};
+ghost use Rattle.tables.specs.Rows.{by_sequence, is_in, is_of, listed_document, document_cells, with_cells};
 ghost use Rattle.tables.specs.Schema.{docs_tree};
 
 use crate::statement::{change, query};
@@ -54,18 +54,6 @@ pub fn clear_documents<S: Alter>(tx: &mut Transaction<'_, S>, db: &i64) -> Resul
     change(tx, "DELETE FROM docs WHERE db = ?1", params![db])
 }
 
-/// Returns the rows of all documents of a database, by the bytes of their ids: the id, the sequence, the
-/// winner and whether that is deleted.
-pub fn rows_by_id<S: Alter>(conn: &mut Connection<S>, db: &i64) -> Result<Vec<Row>, Error>
-    ensures { Reads S.Store IsStore conn.old conn.new (λ trees rows. rows.items ≡ map listed_document (sort_by by_id (filter (is_in db.now) (trees docs_tree)))) result }
-{
-    query(
-        conn,
-        "SELECT id, seq, winner, del FROM docs WHERE db = ?1 ORDER BY id",
-        params![db],
-    )
-}
-
 /// Returns the rows of all documents of a database, by their sequences: the id, the sequence, the
 /// winner and whether that is deleted.
 pub fn rows_by_sequence<S: Alter>(conn: &mut Connection<S>, db: &i64) -> Result<Vec<Row>, Error>
@@ -78,7 +66,7 @@ pub fn rows_by_sequence<S: Alter>(conn: &mut Connection<S>, db: &i64) -> Result<
     )
 }
 
-/// Returns that row of `rows_by_id` which is the one of this id, if there is one.
+/// Returns that row of `rows_by_sequence` which is the one of this id, if there is one.
 pub fn document_rows<S: Alter>(
     conn: &mut Connection<S>,
     db: &i64,
@@ -93,19 +81,59 @@ pub fn document_rows<S: Alter>(
     )
 }
 
-/// Returns those rows of `rows_by_id` whose ids lie between two, or are one of them.
-pub fn rows_between<S: Alter>(
+/// Returns those rows of `rows_by_sequence` whose winner is not deleted, and whose ids are not below the
+/// low bound and below the high one, by the bytes of their ids. It leaves out the first of them, as many
+/// as `skip`, and goes on up to `most`, or to the end where that is negative.
+pub fn live_rows_up<S: Alter>(
     conn: &mut Connection<S>,
     db: &i64,
-    first: &[u8],
-    last: &[u8],
+    low: &[u8],
+    high: &[u8],
+    most: &i64,
+    skip: &i64,
 ) -> Result<Vec<Row>, Error>
-    ensures { Reads S.Store IsStore conn.old conn.new (λ trees rows. rows.items ≡ filter (λ s. lies_between first.now last.now (listed_id s)) (map listed_document (sort_by by_id (filter (is_in db.now) (trees docs_tree))))) result }
+    ensures { Reads S.Store IsStore conn.old conn.new (λ trees rows. rows.items ≡ live_range false db.now low.now high.now most.now skip.now (trees docs_tree)) result }
 {
     query(
         conn,
-        "SELECT id, seq, winner, del FROM docs WHERE db = ?1 AND id >= ?2 AND id <= ?3 ORDER BY id",
-        params![db, first, last],
+        "SELECT id, seq, winner, del FROM docs WHERE db = ?1 AND del = ?2 AND id >= ?3 AND id < ?4 ORDER BY id LIMIT ?5 OFFSET ?6",
+        params![db, false, low, high, most, skip],
+    )
+}
+
+/// Returns the same rows as `live_rows_up`, from the last to the first.
+pub fn live_rows_down<S: Alter>(
+    conn: &mut Connection<S>,
+    db: &i64,
+    low: &[u8],
+    high: &[u8],
+    most: &i64,
+    skip: &i64,
+) -> Result<Vec<Row>, Error>
+    ensures { Reads S.Store IsStore conn.old conn.new (λ trees rows. rows.items ≡ live_range true db.now low.now high.now most.now skip.now (trees docs_tree)) result }
+{
+    query(
+        conn,
+        "SELECT id, seq, winner, del FROM docs WHERE db = ?1 AND del = ?2 AND id >= ?3 AND id < ?4 ORDER BY id DESC LIMIT ?5 OFFSET ?6",
+        params![db, false, low, high, most, skip],
+    )
+}
+
+/// Returns one row, which tells how many documents of a database have a winner that is deleted, or is
+/// not, and an id that is not below the low bound and below the high one.
+pub fn count_documents<S: Alter>(
+    conn: &mut Connection<S>,
+    db: &i64,
+    deleted: bool,
+    low: &[u8],
+    high: &[u8],
+) -> Result<Vec<Row>, Error>
+    ensures { Reads S.Store IsStore conn.old conn.new (λ trees rows. rows.items ≡ shown_count (marked_count db.now deleted low.now high.now (trees docs_tree)) ∷ []) result }
+{
+    query(
+        conn,
+        "SELECT COUNT(*) FROM docs WHERE db = ?1 AND del = ?2 AND id >= ?3 AND id < ?4",
+        params![db, deleted, low, high],
     )
 }
 

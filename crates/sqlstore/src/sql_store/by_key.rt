@@ -1,7 +1,6 @@
 //! The pages by key, which the entries of an index list.
 
 ghost use Rattle.std.specs.Prelude.{◌≡◌, ◌+◌, ◌≤◌, ◌<◌, ◌^◌, min};
-ghost use Rattle.store.specs.Pages.{up_to_limit};
 
 use crate::fault::{judge_answer, judge_index};
 use crate::sql_store::SqlStore;
@@ -11,13 +10,14 @@ use index::{
 };
 use sqlite::{Alter, Row};
 use std::cmp::min;
+use store::paging::cut_to_limit;
 use store::{KeyRange, KeyRow, PageByKey, RowCounts, StoreFault};
 use transactions::integer_of;
 use tree::DocId;
 
 /// Returns the counts of a page: how many rows come before it, of those before its range and those of the
 /// range that it leaves out, and how many there are.
-fn counts_of(before: u64, skip: u64, within: u64, total: u64) -> RowCounts
+pub(crate) fn counts_of(before: u64, skip: u64, within: u64, total: u64) -> RowCounts
     requires { (before < 2 ^ 63) × (within < 2 ^ 63) }
     ensures offset { before + min skip within ≤ total → result.offset ≡ before + min skip within }
     ensures total { result.total ≡ total }
@@ -27,22 +27,12 @@ fn counts_of(before: u64, skip: u64, within: u64, total: u64) -> RowCounts
     RowCounts { offset, total }
 }
 
-/// Cuts the rows to the limit of a page.
-fn cut_rows(rows: Vec<KeyRow>, limit: Option<u64>) -> Vec<KeyRow>
-    ensures { result.items ≡ up_to_limit limit rows.items }
-{
-    let mut rows = rows;
-    if let Some(limit) = limit {
-        rows.truncate(limit as usize);
-    }
-    rows
-}
-
 impl<S: Alter> SqlStore<S> {
     ghost use Rattle.std.specs.Prelude.{◌≡◌, ◌∷◌, ◌<◌, ◌≤◌, ◌^◌, ◌-◌, [], IfErr, IfOk, IfSome, List, Some, drop, false, find, is_some, map, option_map, true};
     ghost use Rattle.couch_json.specs.Lawful.{IsLawful};
     ghost use Rattle.index.specs.Places.{IsHighBound, IsLowBound, IsShownEntry, spot_of, spot_shown};
-    ghost use Rattle.index.specs.Rows.{count_of, is_declaration_of, range_of, shown_count};
+    ghost use Rattle.index.specs.Rows.{count_of, is_declaration_of, range_of};
+    ghost use Rattle.tables.specs.Listings.{shown_count};
     ghost use Rattle.index.specs.Shown.{declared, declared_at};
     ghost use Rattle.store.specs.Indexes.{IndexPlace};
     ghost use Rattle.std.specs.List.{AllByRecursion, count_by};
@@ -84,7 +74,7 @@ impl<S: Alter> SqlStore<S> {
         ensures { Finds S.Store (λ trees rows. rows.items ≡ range_of false declaration.now low.now high.now most.now skip.now (trees entries_tree)) self.old self.new result }
     {
         let rows = entries::rows_up(&mut self.conn, declaration, low, high, most, skip);
-        judge_answer(&mut self.faults, rows)
+        judge_answer(&mut self.faults, &mut self.fetched, rows)
     }
 
     /// Returns the same entries from the last to the first.
@@ -99,7 +89,7 @@ impl<S: Alter> SqlStore<S> {
         ensures { Finds S.Store (λ trees rows. rows.items ≡ range_of true declaration.now low.now high.now most.now skip.now (trees entries_tree)) self.old self.new result }
     {
         let rows = entries::rows_down(&mut self.conn, declaration, low, high, most, skip);
-        judge_answer(&mut self.faults, rows)
+        judge_answer(&mut self.faults, &mut self.fetched, rows)
     }
 
     /// Returns the entries of an index between two bounds that a page by key asks for: in its direction, behind
@@ -133,7 +123,7 @@ impl<S: Alter> SqlStore<S> {
         ensures { Finds S.Store (λ trees rows. rows.items ≡ shown_count (count_of declaration.now low.now high.now (trees entries_tree)) ∷ []) self.old self.new result }
     {
         let rows = entries::count_rows(&mut self.conn, declaration, low, high);
-        judge_answer(&mut self.faults, rows)
+        judge_answer(&mut self.faults, &mut self.fetched, rows)
     }
 
     /// Counts the entries of an index between two bounds.
@@ -183,7 +173,7 @@ impl<S: Alter> SqlStore<S> {
         }
         let rows = self.entry_rows(declaration, low, high, range)?;
         let read = self.read_key_rows(&rows)?;
-        Ok(cut_rows(read, range.limit))
+        Ok(cut_to_limit(read, range.limit))
     }
 
     /// Counts the entries of an index that come before a range, in its direction.

@@ -8,37 +8,16 @@ use tables::documents;
 
 impl<S: Alter> SqlStore<S> {
     ghost use Rattle.std.specs.Prelude.{◌≡◌, filter};
-    ghost use Rattle.tables.specs.Listings.{comes_after, first_rows, lies_between, listed_id};
-    ghost use Rattle.sqlstore.specs.Listing.{listed_by_id, listed_by_sequence};
+    ghost use Rattle.tables.specs.Listings.{comes_after, first_rows};
+    ghost use Rattle.sqlstore.specs.Listing.{listed_by_sequence};
     ghost use Rattle.sqlstore.specs.Model.{Finds};
-
-    /// Returns the rows of all documents of a database, by the bytes of their ids.
-    pub(crate) fn rows_by_id(&mut self, db: &i64) -> Result<Vec<Row>, StoreFault>
-        ensures { Finds S.Store (λ trees rows. rows.items ≡ listed_by_id trees db.now) self.old self.new result }
-    {
-        let rows = documents::rows_by_id(&mut self.conn, db);
-        judge_answer(&mut self.faults, rows)
-    }
 
     /// Returns the rows of all documents of a database, by their sequences.
     pub(crate) fn rows_by_sequence(&mut self, db: &i64) -> Result<Vec<Row>, StoreFault>
         ensures { Finds S.Store (λ trees rows. rows.items ≡ listed_by_sequence trees db.now) self.old self.new result }
     {
         let rows = documents::rows_by_sequence(&mut self.conn, db);
-        judge_answer(&mut self.faults, rows)
-    }
-
-    /// Returns the rows of the documents whose ids lie between two, or are one of them.
-    pub(crate) fn rows_between(
-        &mut self,
-        db: &i64,
-        first: &[u8],
-        last: &[u8],
-    ) -> Result<Vec<Row>, StoreFault>
-        ensures { Finds S.Store (λ trees rows. rows.items ≡ filter (λ s. lies_between first.now last.now (listed_id s)) (listed_by_id trees db.now)) self.old self.new result }
-    {
-        let rows = documents::rows_between(&mut self.conn, db, first, last);
-        judge_answer(&mut self.faults, rows)
+        judge_answer(&mut self.faults, &mut self.fetched, rows)
     }
 
     /// Returns the rows of the documents whose sequences are above one: the first of them, up to a limit,
@@ -52,6 +31,6 @@ impl<S: Alter> SqlStore<S> {
         ensures { Finds S.Store (λ trees rows. rows.items ≡ first_rows limit.now (filter (comes_after sequence.now) (listed_by_sequence trees db.now))) self.old self.new result }
     {
         let rows = documents::rows_after(&mut self.conn, db, sequence, limit);
-        judge_answer(&mut self.faults, rows)
+        judge_answer(&mut self.faults, &mut self.fetched, rows)
     }
 }

@@ -18,7 +18,7 @@ impl<S: Alter> SqlStore<S> {
         ensures { Finds S.Store (λ trees rows. rows.items ≡ map shown_database (filter (is_named name.now) (trees dbs_tree))) self.old self.new result }
     {
         let rows = databases::database_rows(&mut self.conn, name);
-        judge_answer(&mut self.faults, rows)
+        judge_answer(&mut self.faults, &mut self.fetched, rows)
     }
 
     /// Returns the rows of the names of all databases, in the order of their bytes.
@@ -26,7 +26,7 @@ impl<S: Alter> SqlStore<S> {
         ensures { Finds S.Store (λ trees rows. rows.items ≡ map shown_name (sort_by by_name (trees dbs_tree))) self.old self.new result }
     {
         let rows = databases::name_rows(&mut self.conn);
-        judge_answer(&mut self.faults, rows)
+        judge_answer(&mut self.faults, &mut self.fetched, rows)
     }
 
     /// Returns the rows of the known revisions of a document, in some order.
@@ -34,7 +34,7 @@ impl<S: Alter> SqlStore<S> {
         ensures { Finds S.Store (λ trees rows. ∥ IsPermutation (map shown_revision (filter (is_of db.now id.now) (trees revs_tree))) rows.items ∥₁) self.old self.new result }
     {
         let rows = revisions::revision_rows(&mut self.conn, db, id);
-        judge_answer(&mut self.faults, rows)
+        judge_answer(&mut self.faults, &mut self.fetched, rows)
     }
 
     /// Returns the rows of the known revisions of a document without their bodies, in some order.
@@ -42,7 +42,7 @@ impl<S: Alter> SqlStore<S> {
         ensures { Finds S.Store (λ trees rows. ∥ IsPermutation (map shown_outline (filter (is_of db.now id.now) (trees revs_tree))) rows.items ∥₁) self.old self.new result }
     {
         let rows = revisions::outline_rows(&mut self.conn, db, id);
-        judge_answer(&mut self.faults, rows)
+        judge_answer(&mut self.faults, &mut self.fetched, rows)
     }
 
     /// Returns the rows of the known revisions of a document, each with its number and its hash alone, in
@@ -51,7 +51,7 @@ impl<S: Alter> SqlStore<S> {
         ensures { Finds S.Store (λ trees rows. ∥ IsPermutation (map shown_hash (filter (is_of db.now id.now) (trees revs_tree))) rows.items ∥₁) self.old self.new result }
     {
         let rows = revisions::hash_rows(&mut self.conn, db, id);
-        judge_answer(&mut self.faults, rows)
+        judge_answer(&mut self.faults, &mut self.fetched, rows)
     }
 
     /// Returns the row of one revision of a document, if it is known.
@@ -65,7 +65,7 @@ impl<S: Alter> SqlStore<S> {
         ensures { Finds S.Store (λ trees rows. rows.items ≡ map shown_revision (filter (is_revision_of db.now id.now (record { number = number; hash = hash.now })) (trees revs_tree))) self.old self.new result }
     {
         let rows = revisions::one_revision_rows(&mut self.conn, db, id, number, hash);
-        judge_answer(&mut self.faults, rows)
+        judge_answer(&mut self.faults, &mut self.fetched, rows)
     }
 
     /// Returns the row of a document, if it was ever written.
@@ -73,7 +73,7 @@ impl<S: Alter> SqlStore<S> {
         ensures { Finds S.Store (λ trees rows. rows.items ≡ map listed_document (filter (is_of db.now id.now) (trees docs_tree))) self.old self.new result }
     {
         let rows = documents::document_rows(&mut self.conn, db, id);
-        judge_answer(&mut self.faults, rows)
+        judge_answer(&mut self.faults, &mut self.fetched, rows)
     }
 
     /// Returns the row of a local document, if there is one.
@@ -81,6 +81,6 @@ impl<S: Alter> SqlStore<S> {
         ensures { Finds S.Store (λ trees rows. rows.items ≡ map shown_local (filter (is_of db.now id.now) (trees locals_tree))) self.old self.new result }
     {
         let rows = locals::local_rows(&mut self.conn, db, id);
-        judge_answer(&mut self.faults, rows)
+        judge_answer(&mut self.faults, &mut self.fetched, rows)
     }
 }

@@ -1,6 +1,6 @@
 use Rattle.index.proofs.Common.{Err, List, Row, Some, ap, arith, column, length, pos, slice_get, subst, sym, ◌<◌, ◌∙◌, ◌≡◌}
 use Rattle.std.proofs.Common.{min}
-use Rattle.index.specs.Rows.{shown_count}
+use Rattle.tables.specs.Listings.{shown_count}
 use Rattle.tables.proofs.Common.{inside}
 use Rattle.index.proofs.listing.read_count.Goals as goal
 

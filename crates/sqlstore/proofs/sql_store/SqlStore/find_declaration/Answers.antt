@@ -12,7 +12,7 @@ use Rattle.index.specs.Shown.{Declared}
 use Rattle.index.specs.declared.declaration.Declaration.{Declaration}
 use Rattle.std.proofs.Common.{ap₂}
 use Rattle.sqlstore.proofs.Common.{HasCleanDisk, Option, Some, SqlStore, WasStore, state, trees_of}
-use Rattle.sqlstore.proofs.Lemmas.{List, Trees, ap, found, indexed_store, option_map, refl, still, subst, sym, ∥∥₁_elim, ◌∙◌, ◌≡◌, ℕ}
+use Rattle.sqlstore.proofs.Lemmas.{List, Trees, ap, found, indexed_store, option_map, still, subst, sym, ∥∥₁_elim, ◌∙◌, ◌≡◌, ℕ}
 use Rattle.sqlstore.specs.Model.{fault_count, is_honest}
 use Rattle.sqlstore.proofs.sql_store.SqlStore.find_declaration.Goals as goal
 

@@ -1,4 +1,4 @@
-use Rattle.sqlstore.proofs.Lemmas.{IsPermutation, List, Some, ap, filter, hashes_intact, inside, is_of, laid, leaf_rows_lost, map, path_end_alone, revs_set, revs_tree, rules, subst, sym, trees_of, was_honest, ℕ, ∥∥₁_elim, [], ◌∙◌, ◌∷◌, ◌≡◌}
+use Rattle.sqlstore.proofs.Lemmas.{IsPermutation, List, Some, ap, filter, hashes_intact, is_of, laid, leaf_rows_lost, map, path_end_alone, revs_set, revs_tree, rules, subst, sym, trees_of, was_honest, ℕ, ∥∥₁_elim, [], ◌∙◌, ◌∷◌, ◌≡◌}
 use Rattle.std.specs.Prelude.{IfSome, Option}
 use Rattle.tables.specs.Rows.{shown_hash}
 use Rattle.tree.specs.Revision.{Revision}

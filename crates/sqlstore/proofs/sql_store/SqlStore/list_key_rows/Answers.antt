@@ -1,5 +1,5 @@
 use Rattle.std.specs.List.{AllByRecursion}
-use Rattle.index.specs.Places.{AreEntriesAt, IsShownEntry, spot_of, spot_shown}
+use Rattle.index.specs.Places.{AreEntriesAt, IsShownEntry, spot_shown}
 use Rattle.sqlstore.proofs.KeyEntries.{answers_by, entries_before, fault_of, range_shown, rows_read, rows_skipped}
 use Rattle.sqlstore.proofs.Lemmas.{Err, List, Some, ap, arith, inside, map, rules, stands_then, subst, sym, trees_of, was_honest, ◌<◌, ◌^◌, ◌∙◌, ◌≡◌, ◌≤◌}
 use Rattle.sqlstore.proofs.Common.{Global, IndexPlace, Result, SqlStore, StoreFault, Vec, drop, up_to_limit}
@@ -52,5 +52,5 @@ returns-clause-answer g c places lows highs k =
     let stood = stands_then g.S.Store s mid end c.entry_rows.ensures.stands c.read_key_rows.ensures.stands in
     let h = entries_before g.S.Store s end n places stood k.1 in
     ap Some
-    (rows_read n places (trees_of g.S.Store s entries_tree) h c.args.range.now c.args.low.now c.args.high.now lows highs c.in_ok-rows.rows.items c.in_ok-read.read.items c.cut_rows.result.items
-    (c.in_ok-rows.ensures.found (was_honest g.S.Store mid end c.read_key_rows.ensures.stands k.0)) c.in_ok-read.ensures.lawful (c.in_ok-read.ensures.spots ∙ ap (map spot_shown) c.deref.ensures.value) c.cut_rows.ensures)
+    (rows_read n places (trees_of g.S.Store s entries_tree) h c.args.range.now c.args.low.now c.args.high.now lows highs c.in_ok-rows.rows.items c.in_ok-read.read.items c.cut_to_limit.result.items
+    (c.in_ok-rows.ensures.found (was_honest g.S.Store mid end c.read_key_rows.ensures.stands k.0)) c.in_ok-read.ensures.lawful (c.in_ok-read.ensures.spots ∙ ap (map spot_shown) c.deref.ensures.value) c.cut_to_limit.ensures)

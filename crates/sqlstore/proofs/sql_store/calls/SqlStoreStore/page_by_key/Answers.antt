@@ -1,15 +1,13 @@
 use Rattle.index.specs.Places.{AreEntriesAt}
-use Rattle.index.specs.Rows.{is_declaration_of}
-use Rattle.index.specs.Shown.{Declared, declared, declared_at}
-use Rattle.std.specs.Prelude.{find}
+use Rattle.index.specs.Shown.{declared}
 use Rattle.store.specs.Database.{Database}
 use Rattle.store.specs.KeyPaging.{key_page_in, key_page_of}
 use Rattle.store.specs.declared.key_page.PageByKey.{PageByKey}
-use Rattle.sqlstore.proofs.Common.{Err, IndexPlace, None, NumberValues, Option, Result, Some, SqlStore, StoreFault, Trees, [], contents_of, get, key_page, option_map, page_of_keys}
+use Rattle.sqlstore.proofs.Common.{Err, IndexPlace, NumberValues, Option, Result, Some, SqlStore, StoreFault, Trees, [], contents_of, get, key_page, option_map, page_of_keys}
 use Rattle.sqlstore.proofs.KeyEntries.{fault_any, no_page_found, page_found, pages_set}
 use Rattle.sqlstore.proofs.Lemmas.{DatabaseNumbers, List, ap, inside, not_found, numbers_in, rules, stands_same, stands_then, subst, sym, trees_of, was_honest, ∥∥₁_elim, ◌∙◌, ◌≡◌}
 use Rattle.sqlstore.specs.Model.{Answers, fault_count, is_honest}
-use Rattle.tables.specs.Schema.{decls_tree, entries_tree}
+use Rattle.tables.specs.Schema.{entries_tree}
 use Rattle.sqlstore.proofs.sql_store.calls.SqlStoreStore.page_by_key.Goals as goal
 
 pub returns-in_err-found-clause-answer : goal.returns-in_err-found-clause-answer

@@ -1,17 +1,13 @@
 -- What a query with an order, a limit and an offset answers, where no two rows tie.
-use Rattle.index.proofs.Common.{AllByRecursion, Bool, Err, IfOk, IsAscending, IsCommand, Key, List, Null, Ok, Ordering, Result, Row, Select, Shown, State, Term, [], ap, cond, false, filter, holds, is_eq, list_all, map, map-map, sort_by, subst, true, ℕ, ◌∙◌, ◌∷◌, ◌≡◌, all-filter}
+use Rattle.tables.proofs.Common.{AllByRecursion, Bool, Err, IfOk, Int, IsAnswer, IsAscending, IsPermutation, Key, List, None, Null, Ok, Ordering, Output, Program, Query, Result, Row, Select, Shown, State, Term, [], all-filter, all_both, ap, as_count, ascending-filter, ascending-map, cond, drop, end, eval, eval_all, false, filter, first_rows, flat_map, holds, inner, is_eq, limited, list_all, map, map-map, map_same, negsuc, output, output_cmp, overlay, pos, reads_as, refl, sort_by, sort_by-map, sorted_is-sort_by, subst, true, ℕ, ℤ, ◌∙◌, ◌∷◌, ◌≡◌}
 use Rattle.sqlite.specs.Effect.{Answers}
-use Rattle.sqlite_schema.specs.declared.program.Program.{Program}
 use Rattle.sqlite_sql.proofs.QueryLemmas.{output_cmp_total}
-use Rattle.sqlite_sql.specs.Program.{overlay}
-use Rattle.sqlite_sql.specs.Query.{IsAnswer, Output, Query, as_count, end, inner, limited, output, output_cmp}
-use Rattle.sqlite_sql.specs.Term.{eval, eval_all}
-use Rattle.std.proofs.Common.{IsPermutation, drop, flat_map}
-use Rattle.std.specs.Prelude.{None, unwrap_or}
-use Rattle.tables.proofs.Common.{all_both, ascending-filter, ascending-map, map_same, reads_as, sort_by-map, sorted_is-sort_by}
+use Rattle.std.specs.Prelude.{unwrap_or}
 use Rattle.tables.proofs.Queries.{passed}
 use Rattle.tables.proofs.RowMaps.{passing}
-use Rattle.tables.proofs.Sorted.{sorted_alike}
+use Rattle.tables.proofs.Sorted.{both_in, sorted_alike}
+use Rattle.tables.proofs.Writes.{IsCommand}
+use Rattle.tables.specs.Listings.{rows_behind}
 use Rattle.tables.specs.Schema as tables
 
 -- the rows of one table that pass all tests, in some order, a page of them
@@ -32,9 +28,12 @@ page_on tree tests shown order limit offset =
 abbrev pub page_program : ℕ → List Term → List Term → List (Term × Key) → Term → Term → Program
 page_program tree tests shown order limit offset = record { lets = []; body = page_on tree tests shown order limit offset }
 
-pub both_in : (P : Row → Type 0) (R S : Row → Row → Type 0) → ((a b : Row) → P a → P b → R a b → S a b) → (rows : List Row) → AllByRecursion P rows → IsAscending R rows → IsAscending S rows
-both_in P R S weaker [] all up = tt
-both_in P R S weaker (r ∷ rows) all up = (all_both P (R r) (S r) (λ x own over. weaker r x all.0 own over) rows all.1 up.0, both_in P R S weaker rows all.1 up.1)
+-- what a limit and an offset leave of some rows
+pub page_of : {A : Type 0} (most skip : ℤ) (xs : List A) → limited (as_count (Int most)) (drop (unwrap_or (as_count (Int skip)) 0) xs) ≡ first_rows most (rows_behind skip xs)
+page_of (pos m) (pos n) xs = refl
+page_of (pos m) (negsuc n) xs = refl
+page_of (negsuc m) (pos n) xs = refl
+page_of (negsuc m) (negsuc n) xs = refl
 
 module _ (old new : State) (has : old.now.schema ≡ tables.schema) {text : List ℕ} {tree : ℕ} {tests shown : List Term} {order : List (Term × Key)} {most skip : Term} {names : List (List ℕ)}
     (command : IsCommand tables.schema text (Select (page_program tree tests shown order most skip) names)) (params : Row) (p : Row → Bool) (show : Row → Row)

@@ -1,0 +1,202 @@
+//! The pages by id, which the rows of documents between two bounds list.
+
+use crate::fault::{judge_answer, judge_index};
+use crate::id_bounds::{above_all_ids, high_id_bound, low_id_bound};
+use crate::listings::read_id_rows;
+use crate::sql_store::SqlStore;
+use crate::sql_store::by_key::counts_of;
+use crate::sql_store::page_rows::limit_of;
+use index::read_count;
+use sqlite::{Alter, Row};
+use store::{IdRange, IdRow, PageById, RowCounts, StoreFault};
+use tables::documents;
+use transactions::integer_of;
+
+impl<S: Alter> SqlStore<S> {
+    ghost use Rattle.std.specs.Prelude.{◌≡◌, ◌∷◌, ◌<◌, ◌≤◌, ◌^◌, ◌-◌, [], IfOk, IfSome, Some, drop, false, is_some, length, true};
+    ghost use Rattle.std.specs.List.{count_by};
+    ghost use Rattle.store.specs.Pages.{id_page, if_counted, is_before_start, row_counts, rows_within, up_to_limit};
+    ghost use Rattle.store.specs.Paging.{IsCounted, id_page_of};
+    ghost use Rattle.tables.specs.Listings.{live_range, live_rows, marked_count, shown_count};
+    ghost use Rattle.tables.specs.Schema.{docs_tree};
+    ghost use Rattle.sqlstore.specs.ById.{IsHighIdBound, IsLiveRangeOf, IsLowIdBound};
+    ghost use Rattle.sqlstore.specs.Listing.{listed_by_id};
+    ghost use Rattle.sqlstore.specs.Model.{Answers, Finds, Stands, trees_of};
+
+    // ---- the rows between two bounds
+
+    /// Returns the rows of the documents between two bounds whose winner is not deleted, by their ids.
+    fn live_rows_up(
+        &mut self,
+        db: &i64,
+        low: &[u8],
+        high: &[u8],
+        most: &i64,
+        skip: &i64,
+    ) -> Result<Vec<Row>, StoreFault>
+        ensures { Finds S.Store (λ trees rows. rows.items ≡ live_range false db.now low.now high.now most.now skip.now (trees docs_tree)) self.old self.new result }
+    {
+        let rows = documents::live_rows_up(&mut self.conn, db, low, high, most, skip);
+        judge_answer(&mut self.faults, &mut self.fetched, rows)
+    }
+
+    /// Returns the same rows from the last to the first.
+    fn live_rows_down(
+        &mut self,
+        db: &i64,
+        low: &[u8],
+        high: &[u8],
+        most: &i64,
+        skip: &i64,
+    ) -> Result<Vec<Row>, StoreFault>
+        ensures { Finds S.Store (λ trees rows. rows.items ≡ live_range true db.now low.now high.now most.now skip.now (trees docs_tree)) self.old self.new result }
+    {
+        let rows = documents::live_rows_down(&mut self.conn, db, low, high, most, skip);
+        judge_answer(&mut self.faults, &mut self.fetched, rows)
+    }
+
+    /// Returns the rows between two bounds that a page by id asks for: in its direction, behind as many as it
+    /// skips, and up to its limit.
+    fn live_rows(
+        &mut self,
+        db: &i64,
+        low: &[u8],
+        high: &[u8],
+        range: &IdRange,
+    ) -> Result<Vec<Row>, StoreFault>
+        requires { range.now.skip < 2 ^ 63 }
+        ensures { Finds S.Store (λ trees rows. IsLiveRangeOf range.now db.now low.now high.now (trees docs_tree) rows.items) self.old self.new result }
+    {
+        let most = limit_of(range.limit);
+        let skip = integer_of(range.skip);
+        if range.descending {
+            self.live_rows_down(db, low, high, &most, &skip)
+        } else {
+            self.live_rows_up(db, low, high, &most, &skip)
+        }
+    }
+
+    /// Returns one row, which tells how many documents have a winner that is marked so, and an id between
+    /// two bounds.
+    fn marked_row(
+        &mut self,
+        db: &i64,
+        deleted: bool,
+        low: &[u8],
+        high: &[u8],
+    ) -> Result<Vec<Row>, StoreFault>
+        ensures { Finds S.Store (λ trees rows. rows.items ≡ shown_count (marked_count db.now deleted low.now high.now (trees docs_tree)) ∷ []) self.old self.new result }
+    {
+        let rows = documents::count_documents(&mut self.conn, db, deleted, low, high);
+        judge_answer(&mut self.faults, &mut self.fetched, rows)
+    }
+
+    /// Counts the documents whose winner is marked so, and whose id lies between two bounds.
+    pub(crate) fn count_marked(
+        &mut self,
+        db: &i64,
+        deleted: bool,
+        low: &[u8],
+        high: &[u8],
+    ) -> Result<u64, StoreFault>
+        ensures answer { Answers S.Store self.old self.new (λ n. n) (Some (marked_count db.now deleted low.now high.now (trees_of S.Store self.old docs_tree))) result }
+        ensures bounded { IfOk result (λ n. n < 2 ^ 63 - 1) }
+        ensures stands { Stands S.Store self.old self.new }
+    {
+        let rows = self.marked_row(db, deleted, low, high)?;
+        judge_index(&mut self.faults, read_count(&rows))
+    }
+
+    // ---- a page
+
+    /// Lists the rows of a page by id, between two bounds.
+    fn list_id_rows(
+        &mut self,
+        db: &i64,
+        low: &[u8],
+        high: &[u8],
+        range: &IdRange,
+    ) -> Result<Vec<IdRow>, StoreFault>
+        requires low { IsLowIdBound range.now low.now }
+        requires high { IsHighIdBound range.now high.now }
+        ensures answer { Answers S.Store self.old self.new (λ rows. rows.items)
+            (Some (up_to_limit range.now.limit (drop range.now.skip (rows_within range.now (live_rows (listed_by_id (trees_of S.Store self.old) db.now)))))) result }
+        ensures stands { Stands S.Store self.old self.new }
+    {
+        if range.skip >= 1 << 63 {
+            // There are fewer documents than that, as many as SQLite counts.
+            self.count_marked(db, false, low, high)?;
+            return Ok(Vec::new(self.alloc));
+        }
+        let rows = self.live_rows(db, low, high, range)?;
+        read_id_rows(self.alloc, &rows, range.limit)
+    }
+
+    /// Counts the rows of a list by id that come before a range, in its direction.
+    fn count_ids_before(
+        &mut self,
+        db: &i64,
+        low: &[u8],
+        high: &[u8],
+        range: &IdRange,
+    ) -> Result<u64, StoreFault>
+        requires low { IsLowIdBound range.now low.now }
+        requires high { IsHighIdBound range.now high.now }
+        ensures answer { Answers S.Store self.old self.new (λ n. n)
+            (Some (count_by (λ r. is_before_start range.now r.id) (live_rows (listed_by_id (trees_of S.Store self.old) db.now)))) result }
+        ensures bounded { IfOk result (λ n. n < 2 ^ 63 - 1) }
+        ensures stands { Stands S.Store self.old self.new }
+    {
+        if range.descending {
+            let end = above_all_ids(self.alloc)?;
+            return self.count_marked(db, false, high, &end);
+        }
+        let start = Vec::new(self.alloc);
+        self.count_marked(db, false, &start, low)
+    }
+
+    /// Counts the rows outside of a page by id, where that is asked for.
+    fn count_id_rows(
+        &mut self,
+        db: &i64,
+        low: &[u8],
+        high: &[u8],
+        range: &IdRange,
+    ) -> Result<Option<RowCounts>, StoreFault>
+        requires low { IsLowIdBound range.now low.now }
+        requires high { IsHighIdBound range.now high.now }
+        ensures answer { Answers S.Store self.old self.new (λ counts. counts)
+            (Some (if_counted range.now.counted (row_counts range.now (live_rows (listed_by_id (trees_of S.Store self.old) db.now))))) result }
+        ensures counted { IfOk result (λ counts. is_some counts ≡ range.now.counted) }
+        ensures bounded { IfOk result (λ counts. IfSome counts (λ c. (c.offset ≤ c.total) × (c.total < 2 ^ 63))) }
+        ensures stands { Stands S.Store self.old self.new }
+    {
+        if !range.counted {
+            return Ok(None);
+        }
+        let end = above_all_ids(self.alloc)?;
+        let start = Vec::new(self.alloc);
+        let total = self.count_marked(db, false, &start, &end)?;
+        let within = self.count_marked(db, false, low, high)?;
+        let before = self.count_ids_before(db, low, high, range)?;
+        Ok(Some(counts_of(before, range.skip, within, total)))
+    }
+
+    /// Finds the documents whose winner is not deleted, by id and cut by a range.
+    pub(crate) fn find_page_by_id(
+        &mut self,
+        number: &i64,
+        range: &IdRange,
+    ) -> Result<PageById, StoreFault>
+        ensures answer { Answers S.Store self.old self.new id_page_of
+            (Some (id_page range.now (live_rows (listed_by_id (trees_of S.Store self.old) number.now)))) result }
+        ensures counted { IfOk result (IsCounted range.now) }
+        ensures stands { Stands S.Store self.old self.new }
+    {
+        let low = low_id_bound(self.alloc, range)?;
+        let high = high_id_bound(self.alloc, range)?;
+        let rows = self.list_id_rows(number, &low, &high, range)?;
+        let counts = self.count_id_rows(number, &low, &high, range)?;
+        Ok(PageById { rows, counts })
+    }
+}
