@@ -34,10 +34,10 @@ command_named name = record { top = record ((new_app name).top) { disable_help_f
 abbrev pub lab_command : Shape
 lab_command = (with_rule (with_rule (command_named (codes "lab")) (required_option (codes "secret"))) admin_rule).top
 
--- `serve --secret S --file F --port P --conns N [ADMIN]...`
+-- `serve --secret S --file F --port P --conns N [--at-once K] [ADMIN]...`
 abbrev pub serve_command : Shape
-serve_command = (with_rule (with_rule (with_rule (with_rule (with_rule (command_named (codes "serve"))
-    (required_option (codes "secret"))) (required_option (codes "file"))) (required_option (codes "port"))) (required_option (codes "conns"))) admin_rule).top
+serve_command = (with_rule (with_rule (with_rule (with_rule (with_rule (with_rule (command_named (codes "serve"))
+    (required_option (codes "secret"))) (required_option (codes "file"))) (required_option (codes "port"))) (required_option (codes "conns"))) (optional_option (codes "at-once"))) admin_rule).top
 
 -- the words of `sync` that have to be given
 abbrev pub sync_options : App
@@ -76,14 +76,20 @@ port_in = number_between 0 65535
 abbrev pub conns_in : Text → Option ℕ
 conns_in = number_between 1 1000000
 
+-- how many connections are open at once: one, where that isn't said
+abbrev pub at_once_in : Option Text → Option ℕ
+at_once_in None = Some 1
+at_once_in (Some text) = number_between 1 1000 text
+
 -- ---- what is asked
 
--- what a server is to be: its secret and its admins, the path of its file, its port, and after how many connections it ends
+-- what a server is to be: its secret and its admins, the path of its file, its port, after how many connections it ends, and how many are open at once
 pub record ServerAsked : Type 0 where
   pub secret : List ℕ
   pub file : List ℕ
   pub port : ℕ
   pub conns : ℕ
+  pub at_once : ℕ
   pub admins : List (List ℕ)
 
 -- what a pass copies to: the store in a file, or a server
@@ -122,10 +128,10 @@ lab_asked_by rows = option_map (λ secret. lab_asked secret (admins_in rows)) (f
 -- what the words after `serve` ask for
 abbrev pub serve_asked_by : List Row → Option Asked
 serve_asked_by rows =
-    option_and_then (λ secret. option_and_then (λ file. option_and_then (λ port. option_map (λ conns.
-    serve_asked (record { secret = secret; file = file; port = port; conns = conns; admins = admins_in rows }))
-    (option_and_then conns_in (first_of (codes "conns") rows))) (option_and_then port_in (first_of (codes "port") rows)))
-    (first_of (codes "file") rows)) (first_of (codes "secret") rows)
+    option_and_then (λ secret. option_and_then (λ file. option_and_then (λ port. option_and_then (λ conns. option_map (λ at_once.
+    serve_asked (record { secret = secret; file = file; port = port; conns = conns; at_once = at_once; admins = admins_in rows }))
+    (at_once_in (first_of (codes "at-once") rows))) (option_and_then conns_in (first_of (codes "conns") rows)))
+    (option_and_then port_in (first_of (codes "port") rows))) (first_of (codes "file") rows)) (first_of (codes "secret") rows)
 
 -- a file that isn't the source's own
 abbrev pub file_beside : Text → Text → Option TargetAsked
@@ -201,6 +207,6 @@ sync_of p = record {
 -- the program's plan as the definition's
 abbrev pub asked_of : Plan → Asked
 asked_of (Lab secret admins) = lab_asked (string_bytes secret) (map string_bytes admins.items)
-asked_of (Serve secret file port conns admins) =
-    serve_asked (record { secret = string_bytes secret; file = string_bytes file; port = port; conns = conns; admins = map string_bytes admins.items })
+asked_of (Serve secret file port conns at_once admins) =
+    serve_asked (record { secret = string_bytes secret; file = string_bytes file; port = port; conns = conns; at_once = at_once; admins = map string_bytes admins.items })
 asked_of (Sync plan) = sync_asked (sync_of plan)

@@ -5,7 +5,7 @@ ghost use Rattle.std.specs.Char.{is_ascii_digit};
 ghost use Rattle.std.specs.List.{list_all};
 ghost use Rattle.clap.specs.declared.builder.command.Command.TheViews.{out-Command as fields_of};
 ghost use Rattle.clap.specs.Words.{all_of, app_of, fault_of, first_of, found_of, kind_of, rows_of, rule_of, shape_of, subcommand_of, subcommand_rows_of};
-ghost use Rattle.command_line.specs.Plan.{admin_rule, asked_at, asked_by, asked_of, couchd_command, file_beside, is_header_byte, is_numeral, lab_asked_by, lab_command, number_between, optional_option, port_in, required_option, serve_asked_by, serve_command, sync_asked_by, sync_command, sync_options, target_in, target_of, user_in};
+ghost use Rattle.command_line.specs.Plan.{admin_rule, asked_at, asked_by, asked_of, at_once_in, couchd_command, file_beside, is_header_byte, is_numeral, lab_asked_by, lab_command, number_between, optional_option, port_in, required_option, serve_asked_by, serve_command, sync_asked_by, sync_command, sync_options, target_in, target_of, user_in};
 
 use crate::plans::{Plan, PlanFault, SyncPlan, SyncTarget};
 use clap::error::ErrorKind;
@@ -17,6 +17,9 @@ const GREATEST_PORT: u32 = 65_535;
 
 /// How many connections a server serves at most.
 const GREATEST_CONNS: u32 = 1_000_000;
+
+/// How many connections are open at once at most.
+const GREATEST_AT_ONCE: u32 = 1_000;
 
 /// Reads the words of a command line, of which the first is the program's name, as in `env::args`.
 ///
@@ -75,7 +78,7 @@ fn lab_command<'a>(alloc: Global) -> Result<Command<'a>, AllocError>
     Ok(lab)
 }
 
-/// Returns the command `serve --secret S --file F --port P --conns N [ADMIN]...`.
+/// Returns the command `serve --secret S --file F --port P --conns N [--at-once K] [ADMIN]...`.
 fn serve_command<'a>(alloc: Global) -> Result<Command<'a>, AllocError>
     ensures shape { IfOk result (λ command. shape_of command ≡ serve_command) }
     ensures local { IfOk result (λ command. (fields_of command).has_globals ≡ false) }
@@ -84,6 +87,7 @@ fn serve_command<'a>(alloc: Global) -> Result<Command<'a>, AllocError>
     let file = required_option(alloc, "file");
     let port = required_option(alloc, "port");
     let conns = required_option(alloc, "conns");
+    let at_once = optional_option(alloc, "at-once");
     let admins = admin_words(alloc);
     let serve = Command::new(alloc, "serve")
         .disable_help_flag(true)
@@ -91,6 +95,7 @@ fn serve_command<'a>(alloc: Global) -> Result<Command<'a>, AllocError>
         .arg(file)?
         .arg(port)?
         .arg(conns)?
+        .arg(at_once)?
         .arg(admins)?;
     Ok(serve)
 }
@@ -196,12 +201,14 @@ fn serve_plan(alloc: Global, matches: &ArgMatches<'_>) -> Result<Plan, PlanFault
     let file = text_at(alloc, matches, "file")?;
     let port = port_of(matches)?;
     let conns = number_at(matches, "conns", 1, GREATEST_CONNS)?;
+    let at_once = at_once_of(matches)?;
     let admins = admins_of(alloc, matches)?;
     Ok(Plan::Serve {
         secret,
         file,
         port,
         conns,
+        at_once,
         admins,
     })
 }
@@ -311,6 +318,20 @@ fn port_of(matches: &ArgMatches<'_>) -> Result<u16, PlanFault>
 {
     let port = number_at(matches, "port", 0, GREATEST_PORT)?;
     Ok(port as u16)
+}
+
+/// Returns how many connections are open at once: 1 where the words don't say it.
+fn at_once_of(matches: &ArgMatches<'_>) -> Result<u32, PlanFault>
+    ensures ok { IfOk result (λ at_once. at_once_in (first_of (codes "at-once") (rows_of (found_of matches.now))) ≡ Some at_once) }
+    ensures usage { IfErr result (λ _. at_once_in (first_of (codes "at-once") (rows_of (found_of matches.now))) ≡ None) }
+{
+    let Some(text) = matches.get_str("at-once") else {
+        return Ok(1);
+    };
+    match read_number(text, 1, GREATEST_AT_ONCE) {
+        Some(number) => Ok(number),
+        None => Err(PlanFault::Usage),
+    }
 }
 
 /// Returns the number between two others that is the value of an option.

@@ -11,7 +11,8 @@ pub enum Plan {
         /// The names of the server's admins.
         admins: Vec<String>,
     },
-    /// `serve --secret S --file F --port P --conns N [ADMIN]...`: serve the store in a file.
+    /// `serve --secret S --file F --port P --conns N [--at-once K] [ADMIN]...`: serve the store in a
+    /// file.
     Serve {
         /// The secret of the proxy's tokens.
         secret: String,
@@ -21,6 +22,8 @@ pub enum Plan {
         port: u16,
         /// How many connections are served, 1 to 1,000,000.
         conns: u32,
+        /// How many of them are open at once, 1 to 1,000.
+        at_once: u32,
         /// The names of the server's admins.
         admins: Vec<String>,
     },

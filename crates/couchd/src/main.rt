@@ -33,6 +33,7 @@ fn run(rt: &HostRuntime) -> Result<u8, Refusal> {
             file,
             port,
             conns,
+            at_once,
             admins,
         } => {
             let path = file.as_str();
@@ -44,6 +45,7 @@ fn run(rt: &HostRuntime) -> Result<u8, Refusal> {
                 Unknown,
                 port,
                 conns,
+                at_once,
             )?)
         }
         Plan::Sync(plan) => Ok(sync(rt, &plan, Unknown, Unknown)?),

@@ -1,4 +1,5 @@
 pub mod BacklogLemmas
+pub mod Bounds
 pub mod Deeds
 pub mod Handlings
 pub mod Keeping

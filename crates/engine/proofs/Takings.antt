@@ -70,7 +70,7 @@ no_more : (xs ys : List ℕ) → [] ≡ xs ++ ys → xs ≡ []
 no_more [] ys e = refl
 no_more (x ∷ xs) ys e = absurd cc
 
-left_owed : (s : Standing) (bytes left : List ℕ) → owed_by s ≡ bytes ++ left → owed_by (with_owed s left) ≡ left
+pub left_owed : (s : Standing) (bytes left : List ℕ) → owed_by s ≡ bytes ++ left → owed_by (with_owed s left) ≡ left
 left_owed (serving owed) bytes left e = refl
 left_owed (ending owed) bytes left e = refl
 left_owed given_up [] left e = e
@@ -108,8 +108,8 @@ module _ {S : Type 0} (g : Ghosts S) where
   piece_loud c old new given_up now piece words t s = t
 
   owes_loud : (now : Standing) (last : Bool) (words : List ℕ) → Owes now last words → (words ≡ owed_by now) ⊎ Silent (Some now)
-  owes_loud (serving owed) last words o = inl (sym o.1)
-  owes_loud (ending owed) last words o = inl (sym o.1)
+  owes_loud (serving owed) last words (is, said, bound) = inl (sym said)
+  owes_loud (ending owed) last words (is, said, bound) = inl (sym said)
   owes_loud given_up last words o = inr tt
 
   piece_owed : (c : ℕ) (old new : HubState S) (was now : Standing) (piece words : List ℕ) → TakesPiece g c old was piece words new now

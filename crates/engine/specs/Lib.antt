@@ -4,4 +4,6 @@ pub mod Standing
 pub mod Desks
 pub mod Moves
 pub mod Taking
+pub mod Bound
 pub mod Order
+pub mod Memory

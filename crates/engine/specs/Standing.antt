@@ -1,6 +1,6 @@
 -- How a connection of a server stands, and what a piece does to it.
 -- RFC 9112, section 9.3.2, for the order of replies; that a connection is read where nothing is owed to it is this project's own.
-use Rattle.std.specs.Prelude.{◌≡◌, ◌⊎◌, ⊤, ℕ, Bool, true, false, List, [], ◌∷◌}
+use Rattle.std.specs.Prelude.{◌≡◌, ◌≤◌, ◌⊎◌, ⊤, ℕ, Bool, true, false, List, [], ◌∷◌, length}
 use Rattle.couch_http.specs.Reply.{Reply}
 use Rattle.store.specs.declared.store.Store.{Ghosts}
 use Rattle.store.specs.Calls.{GoesOn}
@@ -27,10 +27,14 @@ with_owed (serving bytes) left = serving left
 with_owed (ending bytes) left = ending left
 with_owed given_up left = given_up
 
--- these bytes are owed, the last ones or not; or the connection is given up
+-- how many bytes may be owed to a connection: 64 MiB
+abbrev pub greatest_owed : ℕ
+greatest_owed = 67108864
+
+-- these bytes are owed, the last ones or not, and not too many; or the connection is given up
 abbrev pub Owes : Standing → Bool → List ℕ → Type 0
-Owes (serving owed) last bytes = (last ≡ false) × (owed ≡ bytes)
-Owes (ending owed) last bytes = (last ≡ true) × (owed ≡ bytes)
+Owes (serving owed) last bytes = (last ≡ false) × (owed ≡ bytes) × (length owed ≤ greatest_owed)
+Owes (ending owed) last bytes = (last ≡ true) × (owed ≡ bytes) × (length owed ≤ greatest_owed)
 Owes given_up last bytes = ⊤
 
 -- a piece was fed to a hub, whose configuration stays, and whose store goes on

@@ -12,6 +12,9 @@ use store::Store;
 /// How many seconds a client that gets no more replies may be silent.
 const LAST_SILENCE: u64 = 2;
 
+/// How many pieces of one request are read in a turn at most.
+const PIECES: usize = 64;
+
 /// How far a conversation is.
 #[derive(Clone, Copy, Debug, PartialEq, Eq)]
 pub enum ConversationStage {
@@ -21,7 +24,7 @@ pub enum ConversationStage {
     Last,
     /// Nothing more is written. What still comes is passed over.
     Ending,
-    /// Memory ran out, and nothing more is written.
+    /// Memory ran out, or too much would be owed, and nothing more is written.
     Lost,
 }
 
@@ -129,7 +132,7 @@ impl Conversation {
             return Turn::Again;
         }
         self.finish(sockets, conn, now);
-        self.take_next(hub, sockets, conn, room, now)
+        self.take_pieces(hub, sockets, conn, room, now)
     }
 
     /// Writes what is owed. The answer is `Again` where it was taken, all or a part.
@@ -165,6 +168,41 @@ impl Conversation {
             }
             ConversationStage::Open | ConversationStage::Ending | ConversationStage::Lost => {}
         }
+    }
+
+    /// Reads a piece, feeds it, and writes the replies. Pieces that only go on with a request, and with
+    /// which no reply comes, are read one after another: a large request has the time that it may take.
+    fn take_pieces<S: Store + Drop, W: Sockets>(
+        &mut self,
+        hub: &mut Hub<S>,
+        sockets: &mut W,
+        conn: u64,
+        room: &mut [u8],
+        now: u64,
+    ) -> Turn
+        requires stage { self.old.stage ≢ ConversationStage.Lost }
+        requires owed { self.old.owed ≡ [] }
+        ensures { Moves S.Store conn hub.old (standing_at self.old.stage self.old.owed) (W.log sockets.old)
+            hub.new (standing_at self.new.stage self.new.owed) (W.log sockets.new) }
+    {
+        for _number in 0..PIECES {
+            let turn = self.take_next(hub, sockets, conn, room, now);
+            if turn != Turn::Again {
+                return turn;
+            }
+            if !self.is_within_request() {
+                return Turn::Again;
+            }
+        }
+        Turn::Again
+    }
+
+    /// Tells whether a request has begun that is not whole, and nothing is owed.
+    fn is_within_request(&self) -> bool
+        ensures stage { result ≡ true → self.now.stage ≢ ConversationStage.Lost }
+        ensures owed { result ≡ true → self.now.owed ≡ [] }
+    {
+        self.stage == ConversationStage::Open && self.begun.is_some() && self.owed.len() == 0
     }
 
     /// Reads a piece, feeds it, and writes the replies.

@@ -14,7 +14,7 @@ pub enum Flow {
 pub enum Accepted {
     /// A connection, which is still to have its number.
     One,
-    /// None waits.
+    /// None waits, or none can be accepted now.
     Later,
     /// One that was reset before.
     Reset,

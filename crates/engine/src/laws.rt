@@ -1,5 +1,6 @@
 //! Laws of the definitions alone: each function has an empty body, and its contract is the law.
 
+ghost use Rattle.engine.specs.Bound.{OwesWithinBound};
 ghost use Rattle.engine.specs.Order.{HandlesInOrder};
 ghost use Rattle.engine.specs.Taking.{TakesInOrder};
 
@@ -9,6 +10,11 @@ use store::Store;
 /// brought, and of the farewell.
 pub fn takes_in_order<S: Store>()
     ensures { TakesInOrder S.Store }
+{}
+
+/// Makes sure that no more bytes are ever owed to a connection than may be.
+pub fn owes_within_bound<S: Store>()
+    ensures { OwesWithinBound S.Store }
 {}
 
 /// Makes sure that the requests of all connections are handled in one run, in the order in which they

@@ -110,6 +110,8 @@ impl Conversations {
         };
         let ticked = now != self.now;
         self.now = now;
+        // one that could not be accepted is tried again each second
+        self.waiting |= ticked;
         self.note_ready(sockets);
         self.accept_all(hub, sockets, limits)?;
         self.take_turns(hub, sockets, room);

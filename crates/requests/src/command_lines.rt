@@ -24,10 +24,13 @@ impl Kind for CommandLines {
                     file,
                     port,
                     conns,
+                    at_once,
                     admins,
                 },
             ) => {
-                let front = format!(in self.alloc; "serve {file} at {port}, {conns} connections")?;
+                let front = format!(in self.alloc;
+                    "serve {file} at {port}, {conns} connections, {at_once} at once"
+                )?;
                 show_asked(front, secret.as_str(), &admins)
             }
             Ok(Plan::Sync(plan)) => show_sync(self.alloc, &plan),

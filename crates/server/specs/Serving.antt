@@ -1,10 +1,12 @@
--- What a server does to its hub: one connection after another.
--- This project's own, over the service of one connection (RFC 9112, section 9.3); which bytes a socket brings and takes no clause can say.
+-- What a server does to its hub: one connection after another, or many at once.
+-- This project's own, over the service of one connection (RFC 9112, section 9.3) and the acts of many; which bytes a socket brings and takes no clause can say.
 use Rattle.std.specs.Prelude.{◌≡◌, ◌⊎◌, ℕ, zero, suc, List, Option}
 use Rattle.store.specs.declared.store.Store.{Ghosts}
 use Rattle.hub.specs.Feeding.{HubState}
 use Rattle.hub.specs.Service.{ServesOrTurnsAway}
 use Rattle.hub.specs.declared.service_end.ServiceEnd.{ServiceEnd}
+use Rattle.engine.specs.Acts.{Act}
+use Rattle.engine.specs.Desks.{ServesAll}
 
 -- some bytes were read and some written
 pub record Passage : Type 0 where
@@ -25,3 +27,7 @@ ServesOne g old new = (new ≡ old) ⊎ WasServed g old new
 abbrev pub ServesEach : {S : Type 0} → Ghosts S → ℕ → HubState S → HubState S → Type 0
 ServesEach g zero old new = new ≡ old
 ServesEach {S} g (suc count) old new = (between : HubState S) × ServesEach g count old between × ServesOne g between new
+
+-- many connections at once, by some acts, whatever of them was known
+abbrev pub ServesMany : {S : Type 0} → Ghosts S → HubState S → HubState S → Type 0
+ServesMany g old new = (before : Option (List Act)) × (after : Option (List Act)) × ServesAll g old before new after

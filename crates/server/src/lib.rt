@@ -1,10 +1,14 @@
-//! The server: a store in a file, behind a port of this machine, for one connection after another.
+//! The server: a store in a file, behind a port of this machine, for one connection after another or for
+//! many at once.
 #![tactic(auto)]
 
+mod address;
+mod many;
 mod port;
 mod serving;
 mod store_file;
 
+pub use many::{serve_many, serve_sockets};
 pub use port::{serve_file, serve_store};
 pub use serving::{open_hub, open_node, serve};
 pub use store_file::open_store;

@@ -2,15 +2,16 @@
 
 ghost use Rattle.std.specs.Prelude.{◌≡◌, IfOk};
 
+use crate::address::{print_address, socket_fault};
+use crate::many::serve_many;
 use crate::serving::{open_hub, serve};
 use crate::store_file::open_store;
 use command_line::ProgramFault;
+use hub::Hub;
 use sqlite::{Alter, Start};
 use sqlstore::SqlStore;
-use std::io;
-use std::io::{ErrorKind, Write};
 use std::net::{Ipv4Addr, Net, OpenListener, SocketAddr, TcpListener, TcpStream};
-use std::time::Duration;
+use std::time::{Clock, Duration};
 use store::Store;
 
 /// How many seconds a read or a write of a connection may wait.
@@ -25,11 +26,12 @@ pub fn serve_file<S: Start>(
     start: S,
     port: u16,
     conns: u32,
+    at_once: u32,
 ) -> Result<u8, ProgramFault>
     ensures { IfOk result (λ status. status ≡ 0) }
 {
     let store = open_store(rt, path, start)?;
-    serve_tables(rt, secret, admins, store, port, conns)
+    serve_tables(rt, secret, admins, store, port, conns, at_once)
 }
 
 /// Serves a store over tables, whatever files these stand on.
@@ -40,32 +42,51 @@ fn serve_tables<S: Alter + Drop>(
     store: SqlStore<S>,
     port: u16,
     conns: u32,
+    at_once: u32,
 ) -> Result<u8, ProgramFault>
     ensures { IfOk result (λ status. status ≡ 0) }
 {
-    serve_store(rt, secret, admins, store, port, conns)
+    serve_store(rt, secret, admins, store, port, conns, at_once)
 }
 
 /// Serves a store at a port of 127.0.0.1, or at a free one where the port is 0: so many connections, one
-/// after another. A connection ends where a read or a write of it waits for 30 seconds. Once it listens
-/// it prints `listening 127.0.0.1:` and the port. The answer is the program's status.
+/// after another where `at_once` is 1, else at most `at_once` at a time. Once it listens it prints
+/// `listening 127.0.0.1:` and the port. The answer is the program's status.
 ///
 /// `Socket`: the port can't be bound, or a connection not be accepted. `File`: the line can't be
 /// printed. `Memory`: memory ran out.
-pub fn serve_store<R: Net<Stream = TcpStream> + Print + AllocGlobal, S: Store + Drop>(
+pub fn serve_store<R: Net<Stream = TcpStream> + Clock + Print + AllocGlobal, S: Store + Drop>(
     rt: &R,
     secret: &str,
     admins: &[String],
     store: S,
     port: u16,
     conns: u32,
+    at_once: u32,
 ) -> Result<u8, ProgramFault>
     ensures { IfOk result (λ status. status ≡ 0) }
 {
     let mut hub = open_hub(rt.alloc(), secret, admins, store)?;
+    if at_once > 1 {
+        serve_many(rt, &mut hub, port, conns, at_once)
+    } else {
+        serve_each(rt, &mut hub, port, conns)
+    }
+}
+
+/// Serves so many connections of a hub at a port of 127.0.0.1, one after another. A connection ends
+/// where a read or a write of it waits for 30 seconds.
+fn serve_each<R: Net<Stream = TcpStream> + Print, S: Store + Drop>(
+    rt: &R,
+    hub: &mut Hub<S>,
+    port: u16,
+    conns: u32,
+) -> Result<u8, ProgramFault>
+    ensures { IfOk result (λ status. status ≡ 0) }
+{
     let listener = listen(rt, port)?;
-    print_address(rt, &listener)?;
-    serve(&mut hub, &listener, conns, Duration::from_secs(PATIENCE))
+    print_address(rt, listener.local_addr())?;
+    serve(hub, &listener, conns, Duration::from_secs(PATIENCE))
 }
 
 /// Binds a port of 127.0.0.1.
@@ -73,24 +94,5 @@ fn listen<R: Net>(rt: &R, port: u16) -> Result<R::Listener, ProgramFault> {
     match TcpListener::bind(rt, SocketAddr::from((Ipv4Addr::LOCALHOST, port))) {
         Ok(listener) => Ok(listener),
         Err(error) => Err(socket_fault(&error)),
-    }
-}
-
-/// Prints where a listener listens, and sees that it is written.
-fn print_address<R: Print, L: OpenListener>(rt: &R, listener: &L) -> Result<(), ProgramFault> {
-    let address = match listener.local_addr() {
-        Ok(address) => address,
-        Err(error) => return Err(socket_fault(&error)),
-    };
-    println!(rt; "listening {address}")?;
-    io::writer(rt).flush()?;
-    Ok(())
-}
-
-/// Tells what fault an error of a socket is.
-fn socket_fault(error: &io::Error) -> ProgramFault {
-    match error.kind() {
-        ErrorKind::OutOfMemory => ProgramFault::Memory,
-        _ => ProgramFault::Socket,
     }
 }

@@ -13,6 +13,15 @@ use std::time::{Clock, Duration};
 /// How many connections one wait reports at most.
 const REPORTS: usize = 1_024;
 
+/// The system's error where no process can have a file more.
+const ENFILE: i32 = 23;
+
+/// The system's error where this process can have no file more.
+const EMFILE: i32 = 24;
+
+/// The system's error where it has no room for a connection.
+const ENOBUFS: i32 = 105;
+
 /// A connection. Where its peer has ended, reads go on to the end of what came.
 #[derive(Drop)]
 struct Socket {
@@ -70,6 +79,19 @@ impl<'a, R: Clock + Net> Port<'a, R> {
     }
 }
 
+/// Tells what came of an accept that failed. Where the system is short of something, others that end make
+/// room.
+fn accept_fault(error: &io::Error) -> Accepted {
+    match error.kind() {
+        ErrorKind::WouldBlock | ErrorKind::OutOfMemory => Accepted::Later,
+        ErrorKind::ConnectionAborted => Accepted::Reset,
+        _ => match error.raw_os_error() {
+            Some(ENFILE | EMFILE | ENOBUFS) => Accepted::Later,
+            _ => Accepted::Never,
+        },
+    }
+}
+
 impl<R: Clock> Sockets for Port<'_, R> {
     fn wait(&mut self, wait: bool) -> io::Result<u64> {
         let timeout = if wait {
@@ -104,11 +126,7 @@ impl<R: Clock> Sockets for Port<'_, R> {
                 self.newest = Some(stream);
                 Accepted::One
             }
-            Err(error) => match error.kind() {
-                ErrorKind::WouldBlock => Accepted::Later,
-                ErrorKind::ConnectionAborted => Accepted::Reset,
-                _ => Accepted::Never,
-            },
+            Err(error) => accept_fault(&error),
         }
     }
 

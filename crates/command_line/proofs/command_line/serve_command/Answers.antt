@@ -12,4 +12,5 @@ returns-clause-shape c =
     let two = c.in_ok-arg-2.ensures.shape c.required_option-file.ensures.local ∙ ap₂ with_rule one c.required_option-file.ensures.rule in
     let three = c.in_ok-arg-3.ensures.shape c.required_option-port.ensures.local ∙ ap₂ with_rule two c.required_option-port.ensures.rule in
     let four = c.in_ok-arg-4.ensures.shape c.required_option-conns.ensures.local ∙ ap₂ with_rule three c.required_option-conns.ensures.rule in
-    ap (λ (a : App). a.top) (c.in_ok-serve.ensures.shape c.admin_words-admins.ensures.local ∙ ap₂ with_rule four c.admin_words-admins.ensures.rule)
+    let five = c.in_ok-arg-5.ensures.shape c.optional_option-at_once.ensures.local ∙ ap₂ with_rule four c.optional_option-at_once.ensures.rule in
+    ap (λ (a : App). a.top) (c.in_ok-serve.ensures.shape c.admin_words-admins.ensures.local ∙ ap₂ with_rule five c.admin_words-admins.ensures.rule)
