@@ -1,25 +1,198 @@
-use crate::local_client::{node, reply, request, store};
+//! A refused allocation, whichever it is. `tools/allocations` runs these tests once for each; where none is
+//! refused, as in the gate, they say that the replies are the wanted ones.
+
+use crate::local_client::{DESIGN, node, request, root_request, store, store_in_tables};
+use couch_http::{Request, Response};
+use hub::{Hub, HubFault, Replies};
+use std::alloc::Global;
+use std::process::{Abort, Termination};
 use std::test::Fail;
+use store::Store;
 
-const THREE: &str =
-    r#"{"docs":[{"_id":"a"},{"_id":"b"},{"_id":"a","_rev":"1-d2422118a02a398f9502ebcbaa7b90bd"}]}"#;
+/// The reply where memory ran out.
+const MEMORY: &[u8] = br#"{"error":"service_unavailable","reason":"memory"}"#;
 
-/// Whichever allocation is refused, once the bulk is asked for.
-#[test]
-fn a_bulk_is_written_whole_or_not_at_all(rt: HostRuntime) -> Result<(), Fail> {
-    let alloc = rt.alloc();
-    let mut node = node(alloc, store(alloc)?)?;
-    let bulk = request(alloc, "POST /db/_bulk_docs", THREE)?;
-    let status = node.handle(&bulk).status();
-    let mut info = reply(alloc, &mut node, "GET /db", "")?;
-    if info.as_str().starts_with("503") {
-        info = reply(alloc, &mut node, "GET /db", "")?;
+/// What is asked of a node with the design document and the document a, and the reply. A document and
+/// its successor; a bulk with a refusal, a conflict, and two documents that are written; a conflict that is
+/// pushed; the index. The revisions are python's hashlib.
+const STEPS: [(&str, &str, u16, &[u8]); 5] = [
+    (
+        "PUT /db/e",
+        r#"{"v":1}"#,
+        201,
+        br#"{"id":"e","ok":true,"rev":"1-16dd5aa7b10d32bc038d45f5c7f9f929"}"#,
+    ),
+    (
+        "PUT /db/e?rev=1-16dd5aa7b10d32bc038d45f5c7f9f929",
+        r#"{"v":2}"#,
+        201,
+        br#"{"id":"e","ok":true,"rev":"2-ee473fb29866c46a0300b68bd4d6a4cc"}"#,
+    ),
+    (
+        "POST /db/_bulk_docs",
+        r#"{"docs":[{"_id":"b","bad":1},{"_id":"a","v":9},{"_id":"c","v":1},{"_id":"f","v":2}]}"#,
+        201,
+        br#"[{"error":"unauthorized","id":"b","reason":"Refused by an update rule.","rule":"_design/d"},{"error":"conflict","id":"a","reason":"Document update conflict."},{"id":"c","ok":true,"rev":"1-16dd5aa7b10d32bc038d45f5c7f9f929"},{"id":"f","ok":true,"rev":"1-d04dee28564c4bc58752cca93ab2ecf9"}]"#,
+    ),
+    (
+        "POST /db/_bulk_docs",
+        r#"{"docs":[{"_id":"a","_rev":"1-x","v":7}],"new_edits":false}"#,
+        201,
+        b"[]",
+    ),
+    (
+        "GET /db/_design/d/_view/v",
+        "",
+        200,
+        br#"{"offset":0,"rows":[{"id":"c","key":[1],"value":null},{"id":"e","key":[2],"value":null},{"id":"f","key":[2],"value":null},{"id":"a","key":[7],"value":null}],"total_rows":4}"#,
+    ),
+];
+
+/// What comes in turn on two connections: the number of the connection, a piece, and the request that
+/// it completes, whole, with the body of the reply.
+const PIECES: [(u64, &[u8], Option<(&[u8], &[u8])>); 7] = [
+    (1, b"PUT /db/g HTTP/1.1\r\nContent-Le", None),
+    (2, b"GET /db/a HT", None),
+    (1, b"ngth: 7\r\n\r\n{\"v\":", None),
+    (
+        2,
+        b"TP/1.1\r\n\r\n",
+        Some((
+            b"GET /db/a HTTP/1.1\r\n\r\n",
+            br#"{"_id":"a","_rev":"1-x","v":7}"#,
+        )),
+    ),
+    (
+        1,
+        b"1}",
+        Some((
+            b"PUT /db/g HTTP/1.1\r\nContent-Length: 7\r\n\r\n{\"v\":1}",
+            br#"{"id":"g","ok":true,"rev":"1-16dd5aa7b10d32bc038d45f5c7f9f929"}"#,
+        )),
+    ),
+    (2, b"GET /db/e HTTP/1.1\r\n\r", None),
+    (
+        2,
+        b"\n",
+        Some((
+            b"GET /db/e HTTP/1.1\r\n\r\n",
+            br#"{"_id":"e","_rev":"2-ee473fb29866c46a0300b68bd4d6a4cc","v":2}"#,
+        )),
+    ),
+];
+
+/// Makes a hub over a store with the design document and the document a, and the requests of the steps.
+fn prepare<S: Store + Drop>(alloc: Global, store: S) -> Result<(Hub<S>, Vec<Request>), Fail> {
+    let mut hub = Hub::new(alloc, node(alloc, store)?);
+    let design = root_request(alloc, "PUT /db/_design/d", DESIGN)?;
+    let document = request(alloc, "PUT /db/a", r#"{"v":1}"#)?;
+    for request in [&design, &document] {
+        if hub.handle(request).status() != 201 {
+            return Err(Fail::from("not written"));
+        }
     }
-    let expected = match status {
-        201 => r#"200 {"db_name":"db","doc_count":2,"doc_del_count":0,"update_seq":3}"#,
-        503 => r#"200 {"db_name":"db","doc_count":0,"doc_del_count":0,"update_seq":0}"#,
-        _ => "another status",
-    };
-    assert_eq!(rt; info.as_str(), expected);
+    let mut requests = Vec::new(alloc);
+    for (line, body, _status, _wanted) in STEPS {
+        requests.push(request(alloc, line, body)?)?;
+    }
+    Ok((hub, requests))
+}
+
+/// Asks for something, and once more where memory ran out.
+fn handle_again<S: Store + Drop>(hub: &mut Hub<S>, request: &Request) -> Response {
+    let reply = hub.handle(request);
+    if reply.status() == 503 && reply.body() == MEMORY {
+        return hub.handle(request);
+    }
+    reply
+}
+
+/// Opens a connection, and once more where memory ran out.
+fn open_again<S: Store + Drop>(hub: &mut Hub<S>) -> Result<u64, HubFault> {
+    match hub.open() {
+        Err(HubFault::Memory) => hub.open(),
+        opened => opened,
+    }
+}
+
+/// Feeds a piece, and once more where memory ran out.
+fn feed_again<S: Store + Drop>(
+    hub: &mut Hub<S>,
+    conn: u64,
+    piece: &[u8],
+) -> Result<Replies, HubFault> {
+    match hub.feed(conn, piece) {
+        Err(HubFault::Memory) => hub.feed(conn, piece),
+        fed => fed,
+    }
+}
+
+/// Feeds a piece that completes a request, and the whole request where that was answered by want of memory.
+fn feed_request<S: Store + Drop>(
+    hub: &mut Hub<S>,
+    conn: u64,
+    piece: &[u8],
+    whole: &[u8],
+) -> Result<Replies, HubFault> {
+    let replies = feed_again(hub, conn, piece)?;
+    match replies.list.first() {
+        Some(reply) if reply.status() == 503 && reply.body() == MEMORY => hub.feed(conn, whole),
+        _ => Ok(replies),
+    }
+}
+
+/// Plays all steps and pieces, and compares the replies.
+fn play<S: Store + Drop>(
+    rt: &impl Abort,
+    hub: &mut Hub<S>,
+    requests: &[Request],
+) -> Result<(), Fail> {
+    for (request, (line, _body, status, wanted)) in requests.iter().zip(STEPS) {
+        let reply = handle_again(hub, request);
+        assert_eq!(rt; reply.status(), status, "{line}");
+        assert_eq!(rt; reply.body(), wanted, "{line}");
+    }
+    for _connection in 0..2 {
+        let _number = open_again(hub)?;
+    }
+    for (conn, piece, completes) in PIECES {
+        let Some((whole, wanted)) = completes else {
+            assert!(rt; feed_again(hub, conn, piece)?.list.is_empty());
+            continue;
+        };
+        let replies = feed_request(hub, conn, piece, whole)?;
+        assert_eq!(rt; replies.list.len(), 1);
+        for reply in &replies.list {
+            assert_eq!(rt; reply.body(), wanted);
+        }
+    }
     Ok(())
+}
+
+/// Prints why there is no first step.
+fn tell(rt: &HostRuntime, fail: Fail) -> Result<(), Fail> {
+    let failed: Result<(), Fail> = Err(fail);
+    let _status = failed.report(rt);
+    Ok(())
+}
+
+/// Each reply is the wanted one or the 503, `feed` may answer `Memory`, and the same step again has the
+/// wanted reply. Where memory runs out before the first step, there is none.
+#[test]
+fn each_allocation(rt: HostRuntime) -> Result<(), Fail> {
+    let alloc = rt.alloc();
+    match store(alloc).and_then(|store| prepare(alloc, store)) {
+        Ok((mut hub, requests)) => play(&rt, &mut hub, &requests),
+        Err(fail) => tell(&rt, fail),
+    }
+}
+
+/// The same over tables in memory.
+#[test]
+fn each_allocation_over_tables(rt: HostRuntime) -> Result<(), Fail> {
+    let alloc = rt.alloc();
+    match store_in_tables(alloc).and_then(|store| prepare(alloc, store)) {
+        Ok((mut hub, requests)) => play(&rt, &mut hub, &requests),
+        Err(fail) => tell(&rt, fail),
+    }
 }

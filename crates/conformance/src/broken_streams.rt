@@ -14,6 +14,23 @@ impl Read for Broken {
     }
 }
 
+/// A reader that gives a byte each time, and fails once these were read.
+#[derive(Drop)]
+pub struct Breaking<'a> {
+    pub bytes: &'a [u8],
+}
+
+impl Read for Breaking<'_> {
+    fn read(&mut self, buf: &mut [u8]) -> io::Result<usize> {
+        let (Some(byte), Some(room)) = (self.bytes.first(), buf.first_mut()) else {
+            return Err(io::Error::from(ErrorKind::BrokenPipe));
+        };
+        *room = *byte;
+        self.bytes = &self.bytes[1..];
+        Ok(1)
+    }
+}
+
 /// A writer that takes a byte each time, and fails once it has taken so many.
 #[derive(Drop)]
 pub struct Slow {

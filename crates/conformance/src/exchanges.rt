@@ -1,6 +1,6 @@
 //! Exchanges whose request isn't taken whole, and whose reply doesn't come whole.
 
-use crate::broken_streams::{Broken, Slow};
+use crate::broken_streams::{Breaking, Broken, Slow};
 use crate::local_client::request;
 use client::exchange;
 use couch_http::Request;
@@ -56,6 +56,23 @@ fn nothing_is_read_behind_a_write_that_fails(rt: HostRuntime) -> Result<(), Fail
         assert!(rt; reply.is_none());
         assert_eq!(rt; writer.bytes.as_slice(), &SENT.as_bytes()[..taken]);
         assert_eq!(rt; reader.len(), RECEIVED.len());
+    }
+    Ok(())
+}
+
+/// Whichever read fails, a reply that came whole before is told, and another is lost.
+#[test]
+fn each_read_that_fails_ends_an_exchange(rt: HostRuntime) -> Result<(), Fail> {
+    let alloc = rt.alloc();
+    let put = put(alloc)?;
+    for length in 0..=RECEIVED.len() {
+        let mut reader = Breaking {
+            bytes: &RECEIVED.as_bytes()[..length],
+        };
+        let mut written = Vec::new(alloc);
+        let reply = exchange(alloc, &put, &mut reader, &mut written)?;
+        assert_eq!(rt; reply.is_some(), length >= LENGTH);
+        assert_eq!(rt; written.as_slice(), SENT.as_bytes());
     }
     Ok(())
 }

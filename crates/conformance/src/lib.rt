@@ -1,23 +1,30 @@
-//! Tests of what has to fail: a refused allocation, a store, a reader and a writer that fail. One more
-//! compares a socket with memory. All that a reply can show stands in rows of data, in the crates
-//! `values` and `requests`.
+//! Tests of what has to fail: a refused allocation, a store, a disk, a reader and a writer that fail, also
+//! among many connections. One more compares a socket with memory. All that a reply can show stands in
+//! rows of data, in the crates `values` and `requests`. Two functions say why a request is a 500.
 #![tactic(auto)]
 
 #[cfg(test)]
 mod allocations;
 #[cfg(test)]
 mod broken_streams;
+pub mod causes;
+#[cfg(test)]
+mod disk_stops;
 #[cfg(test)]
 mod exchanges;
 #[cfg(test)]
+mod few_rows;
+#[cfg(test)]
 mod local_client;
+#[cfg(test)]
+mod loopback;
+#[cfg(test)]
+mod many;
 #[cfg(test)]
 mod passes;
 #[cfg(test)]
 mod scripts;
 #[cfg(test)]
 mod services;
-#[cfg(test)]
-mod sockets;
 #[cfg(test)]
 mod stores;

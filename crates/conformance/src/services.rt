@@ -1,7 +1,7 @@
 //! Connections that are served from a reader that fails, and to a writer that fails.
 
-use crate::broken_streams::{Broken, Slow};
-use crate::local_client::{node, store};
+use crate::broken_streams::{Breaking, Broken, Slow};
+use crate::local_client::{node, request, store};
 use hub::{Hub, ServiceEnd, serve_connection};
 use std::alloc::Global;
 use std::test::Fail;
@@ -23,6 +23,27 @@ fn a_read_that_fails_ends_a_connection(rt: HostRuntime) -> Result<(), Fail> {
     assert_eq!(rt; end, ServiceEnd::ReadFailed);
     assert!(rt; written.is_empty());
     assert!(rt; !hub.is_open(1));
+    Ok(())
+}
+
+/// Whichever read fails, a request that came whole is answered, and of another nothing is done.
+#[test]
+fn each_read_that_fails_ends_a_connection(rt: HostRuntime) -> Result<(), Fail> {
+    let alloc = rt.alloc();
+    for length in 0..=SENT.len() {
+        let is_whole = length == SENT.len();
+        let mut hub = Hub::new(alloc, node(alloc, store(alloc)?)?);
+        let mut reader = Breaking {
+            bytes: &SENT.as_bytes()[..length],
+        };
+        let mut written = Vec::new(alloc);
+        let end = serve_connection(&mut hub, &mut reader, &mut written);
+        assert_eq!(rt; end, ServiceEnd::ReadFailed);
+        let wanted = if is_whole { REPLY } else { "" };
+        assert_eq!(rt; written.as_slice(), wanted.as_bytes());
+        let reply = hub.handle(&request(alloc, "GET /db/a", "")?);
+        assert_eq!(rt; reply.status(), if is_whole { 200 } else { 404 });
+    }
     Ok(())
 }
 
