@@ -2,17 +2,20 @@
 import os
 import re
 import sys
+import threading
 
 passed, failed = 0, 0
+counting = threading.Lock()
 
 
 def compare(what, wanted, got):
     """Counts one comparison, and tells where it differs."""
     global passed, failed
-    if wanted == got:
-        passed += 1
-        return
-    failed += 1
+    with counting:
+        if wanted == got:
+            passed += 1
+            return
+        failed += 1
     print(f"{os.path.basename(sys.argv[0])}: {what}\n  wanted {wanted!r}\n  got    {got!r}", flush=True)
 
 
