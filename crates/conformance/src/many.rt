@@ -103,18 +103,18 @@ fn replies_do_not_hang_on_sizes(rt: HostRuntime) -> Result<(), Fail> {
 /// Whichever read or write fails, what was taken begins the replies.
 #[test]
 fn replies_are_cut_where_a_read_or_a_write_fails(rt: HostRuntime) -> Result<(), Fail> {
-    let mut calls = 0;
     let mut length = 0;
-    while length < REPLIES.len() {
+    for calls in 0..1_000 {
         let client = client(rt.alloc(), SENT, 13, 17, calls)?;
         let (taken, _) = serve_one(rt.alloc(), client)?;
         assert!(rt; REPLIES.starts_with(&taken), "after {calls} calls");
         assert!(rt; taken.len() >= length, "after {calls} calls");
         length = taken.len();
-        calls += 1;
-        assert!(rt; calls < 1_000);
+        if length == REPLIES.len() {
+            return Ok(());
+        }
     }
-    Ok(())
+    Err(Fail::from("the replies were never whole"))
 }
 
 /// A client that ends in mid-request has the replies to the requests that were whole.

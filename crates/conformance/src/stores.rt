@@ -64,7 +64,7 @@ fn each_store_call(rt: HostRuntime) -> Result<(), Fail> {
             if store.faults() == 0 {
                 break;
             }
-            failures += 1;
+            failures = k;
             let mut failing = node(alloc, store)?;
             if told.as_str() == FAILED {
                 assert_eq!(rt; shown(alloc, &mut failing)?, before, "{line}, call {k}");

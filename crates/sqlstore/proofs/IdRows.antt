@@ -298,7 +298,7 @@ module _ (trees : Trees) (db : ℤ) (l : IsLaid trees) where
     pub rows_intact : (given : List Row) → IsLiveRangeOf range db low high docs given → AllByRecursion IsListedDocument given
     rows_intact given r = subst (AllByRecursion IsListedDocument) (sym r.2) (part_intact low high range.descending r.0 range.skip)
 
-    within_counted : marked_count db false low high docs ≡ length (rows_within range rows)
+    pub within_counted : marked_count db false low high docs ≡ length (rows_within range rows)
     within_counted =
         between_counted low high ∙ sym (length-filter (λ (r : IdRow). is_between low high r.id) rows) ∙ sym (same_length range.descending (filter (λ (r : IdRow). is_between low high r.id) rows)) ∙ ap length in_range
       where
@@ -327,17 +327,17 @@ module _ (trees : Trees) (db : ℤ) (l : IsLaid trees) where
         between_counted [] (255 ∷ []) ∙ sym (length-filter (λ (r : IdRow). is_between [] (255 ∷ []) r.id) rows)
         ∙ ap length (filter_all (λ (r : IdRow). is_between [] (255 ∷ []) r.id) rows (all_weaker (λ (r : IdRow). IsUtf8 r.id) (λ (r : IdRow). is_between [] (255 ∷ []) r.id ≡ true) (λ r u. all_between r.id u) rows all_texts))
 
-    pub counts_made : (before within total : ℕ) (made : RowCounts) → range.counted ≡ true → marked_count db false [] (255 ∷ []) docs ≡ total → marked_count db false low high docs ≡ within
-        → count_by (λ (r : IdRow). is_before_start range r.id) rows ≡ before → (before + min range.skip within ≤ total → made.offset ≡ before + min range.skip within) → made.total ≡ total
+    pub counts_made : (before skipped total : ℕ) (made : RowCounts) → range.counted ≡ true → marked_count db false [] (255 ∷ []) docs ≡ total → min range.skip (length (rows_within range rows)) ≡ skipped
+        → count_by (λ (r : IdRow). is_before_start range r.id) rows ≡ before → (before + skipped ≤ total → made.offset ≡ before + skipped) → made.total ≡ total
         → if_counted range.counted (row_counts range rows) ≡ Some made
-    counts_made before within total made asked sum inside_range first offset is_total =
+    counts_made before skipped total made asked sum left first offset is_total =
         let totals = sym total_counted ∙ sum in
-        let withins = sym within_counted ∙ inside_range in
         let fits = counted_within range rows in
-        let least : before + min range.skip within ≤ total = omega (arith, totals, withins, fits, first) in
+        let fewer : min range.skip (length (rows_within range rows)) ≤ length (rows_within range rows) = omega arith in
+        let least : before + skipped ≤ total = omega (arith, totals, fits, first, left, fewer) in
         let is_offset = offset least in
         ap (λ b. if_counted b (row_counts range rows)) asked
-        ∙ (λ i. Some (record { offset = (ap (λ n. n + min range.skip (length (rows_within range rows))) first ∙ ap (λ n. before + min range.skip n) withins ∙ sym is_offset) i; total = (totals ∙ sym is_total) i }))
+        ∙ (λ i. Some (record { offset = (ap (λ n. n + min range.skip (length (rows_within range rows))) first ∙ ap (λ n. before + n) left ∙ sym is_offset) i; total = (totals ∙ sym is_total) i }))
 
   -- ---- all documents, by sequence
 

@@ -8,12 +8,13 @@ use crate::sql_store::by_key::counts_of;
 use crate::sql_store::page_rows::limit_of;
 use index::read_count;
 use sqlite::{Alter, Row};
+use std::cmp::min;
 use store::{IdRange, IdRow, PageById, RowCounts, StoreFault};
 use tables::documents;
 use transactions::integer_of;
 
 impl<S: Alter> SqlStore<S> {
-    ghost use Rattle.std.specs.Prelude.{◌≡◌, ◌∷◌, ◌<◌, ◌≤◌, ◌^◌, ◌-◌, [], IfOk, IfSome, Some, drop, false, is_some, length, true};
+    ghost use Rattle.std.specs.Prelude.{◌≡◌, ◌∷◌, ◌<◌, ◌≤◌, ◌^◌, ◌-◌, [], IfOk, IfSome, Some, drop, false, is_some, length, min, true};
     ghost use Rattle.std.specs.List.{count_by};
     ghost use Rattle.store.specs.Pages.{id_page, if_counted, is_before_start, row_counts, rows_within, up_to_limit};
     ghost use Rattle.store.specs.Paging.{IsCounted, id_page_of};
@@ -155,6 +156,29 @@ impl<S: Alter> SqlStore<S> {
         self.count_marked(db, false, &start, low)
     }
 
+    /// Counts the rows that a page by id leaves out at the start of its range: as many as it skips, or all
+    /// where there are fewer.
+    fn count_skipped_ids(
+        &mut self,
+        db: &i64,
+        low: &[u8],
+        high: &[u8],
+        range: &IdRange,
+    ) -> Result<u64, StoreFault>
+        requires low { IsLowIdBound range.now low.now }
+        requires high { IsHighIdBound range.now high.now }
+        ensures answer { Answers S.Store self.old self.new (λ n. n)
+            (Some (min range.now.skip (length (rows_within range.now (live_rows (listed_by_id (trees_of S.Store self.old) db.now)))))) result }
+        ensures bounded { IfOk result (λ n. n < 2 ^ 63 - 1) }
+        ensures stands { Stands S.Store self.old self.new }
+    {
+        if range.skip == 0 {
+            return Ok(0);
+        }
+        let within = self.count_marked(db, false, low, high)?;
+        Ok(min(range.skip, within))
+    }
+
     /// Counts the rows outside of a page by id, where that is asked for.
     fn count_id_rows(
         &mut self,
@@ -177,9 +201,9 @@ impl<S: Alter> SqlStore<S> {
         let end = above_all_ids(self.alloc)?;
         let start = Vec::new(self.alloc);
         let total = self.count_marked(db, false, &start, &end)?;
-        let within = self.count_marked(db, false, low, high)?;
+        let skipped = self.count_skipped_ids(db, low, high, range)?;
         let before = self.count_ids_before(db, low, high, range)?;
-        Ok(Some(counts_of(before, range.skip, within, total)))
+        Ok(Some(counts_of(before, skipped, total)))
     }
 
     /// Finds the documents whose winner is not deleted, by id and cut by a range.

@@ -1,6 +1,6 @@
 //! The pages by key, which the entries of an index list.
 
-ghost use Rattle.std.specs.Prelude.{◌≡◌, ◌+◌, ◌≤◌, ◌<◌, ◌^◌, min};
+ghost use Rattle.std.specs.Prelude.{◌≡◌, ◌+◌, ◌≤◌, ◌<◌, ◌^◌};
 
 use crate::fault::{judge_answer, judge_index};
 use crate::sql_store::SqlStore;
@@ -17,13 +17,13 @@ use tree::DocId;
 
 /// Returns the counts of a page: how many rows come before it, of those before its range and those of the
 /// range that it leaves out, and how many there are.
-pub(crate) fn counts_of(before: u64, skip: u64, within: u64, total: u64) -> RowCounts
-    requires { (before < 2 ^ 63) × (within < 2 ^ 63) }
-    ensures offset { before + min skip within ≤ total → result.offset ≡ before + min skip within }
+pub(crate) fn counts_of(before: u64, skipped: u64, total: u64) -> RowCounts
+    requires { (before < 2 ^ 63) × (skipped < 2 ^ 63) }
+    ensures offset { before + skipped ≤ total → result.offset ≡ before + skipped }
     ensures total { result.total ≡ total }
     ensures within { result.offset ≤ total }
 {
-    let offset = min(before + min(skip, within), total);
+    let offset = min(before + skipped, total);
     RowCounts { offset, total }
 }
 
@@ -219,7 +219,8 @@ impl<S: Alter> SqlStore<S> {
         let total = self.count_between(declaration, &start, &end)?;
         let within = self.count_between(declaration, low, high)?;
         let before = self.count_before(declaration, low, high, range)?;
-        Ok(Some(counts_of(before, range.skip, within, total)))
+        let skipped = min(range.skip, within);
+        Ok(Some(counts_of(before, skipped, total)))
     }
 
     /// Finds the rows of an index, by key and cut by a range.

@@ -7,7 +7,8 @@ use Rattle.sqlstore.specs.ByKey.{AnswersOf}
 use Rattle.sqlstore.specs.Model.{fault_count, is_honest}
 use Rattle.store.specs.declared.page.RowCounts.{RowCounts}
 use Rattle.sqlstore.proofs.Lemmas.{Err, Some, ap, inside, rules, stands_same, stands_then, subst, sym, trees_of, was_honest, ℕ, ◌∙◌, ◌≡◌}
-use Rattle.std.proofs.Common.{ap₂}
+use Rattle.std.proofs.Common.{ap₂, ◌+◌, ◌≤◌}
+use Rattle.store.proofs.Pagings.{smaller}
 use Rattle.tables.specs.Schema.{entries_tree}
 use Rattle.sqlstore.proofs.sql_store.SqlStore.count_key_rows.Goals as goal
 
@@ -29,9 +30,10 @@ returns-clause-answer g c places lows highs k =
     let all = ap₂ (λ a b. count_of n a b rows) (sym (c.deref.ensures.value ∙ c.new-start.ensures.items)) (sym (c.deref-2.ensures.value ∙ c.in_ok-end.ensures)) ∙ inside _ _ (c.in_ok-total.ensures.answer honest_one) in
     let within = ap (λ (t : Trees). count_of n c.args.low.now c.args.high.now (t entries_tree)) (sym (stands_same g.S.Store s one to_one)) ∙ inside _ _ (c.in_ok-within.ensures.answer honest_two) in
     let first = inside _ _ (c.in_ok-before.ensures.answer places lows highs k) in
+    let least = c.min-skipped.ensures ∙ smaller c.args.range.now.skip c.in_ok-within.within in
     ap Some
     (counts_made n places rows h c.args.range.now c.args.low.now c.args.high.now lows highs c.in_ok-before.before c.in_ok-within.within c.in_ok-total.total c.counts_of.result c.if-not-range.false all within first
-    c.counts_of.ensures.offset c.counts_of.ensures.total)
+    (λ le. c.counts_of.ensures.offset (subst (λ m. c.in_ok-before.before + m ≤ c.in_ok-total.total) (sym least) le) ∙ ap (λ m. c.in_ok-before.before + m) least) c.counts_of.ensures.total)
 
 pub returns-in_err-before-clause-answer : goal.returns-in_err-before-clause-answer
 returns-in_err-before-clause-answer g c places lows highs =
