@@ -2,7 +2,7 @@
 use Rattle.std.proofs.Common.{◌≡◌, ℕ, Bool, true, false, List, Option, Some, None, option_and_then, Result, Ok, Err, refl, sym, ap, ◌∙◌, subst}
 use Rattle.api.specs.Paths.{text_if}
 use Rattle.api.specs.Refusals.{there_or}
-use Rattle.api.specs.Saying.{Says}
+use Rattle.api.specs.RequestReading.{Says}
 use Rattle.api.specs.declared.fault.RequestFault.{RequestFault}
 use Rattle.api.specs.declared.fault.RequestFault.TheVariants.{Refused, Memory}
 use Rattle.api.specs.declared.refusal.Refusal.TheVariants.{Id}

@@ -1,7 +1,7 @@
 pub mod Paths
 pub mod Routing
 pub mod Refusals
-pub mod Saying
+pub mod RequestReading
 pub mod Asking
 pub mod Bulk
 pub mod BulkAsked

@@ -3,7 +3,7 @@
 ghost use Rattle.std.specs.Prelude.{◌≡◌, IfOk, option_copied, option_map};
 ghost use Rattle.couch_http.specs.Message.{message_of};
 ghost use Rattle.couch_json.specs.View.{items_view, view};
-ghost use Rattle.api.specs.Saying.{Says};
+ghost use Rattle.api.specs.RequestReading.{Says};
 ghost use Rattle.api.specs.Queried.{asked_of, query_of, texts_of};
 ghost use Rattle.api.specs.Queries.{asked_by, asked_of_document, document_query, open_revisions, query_by, revision_asked, revision_by, revision_in, revision_query, revisions, revisions_in, revisions_listed};
 ghost use Rattle.api.specs.Refusals.{there_or};

@@ -2,7 +2,7 @@
 
 ghost use Rattle.std.specs.Prelude.{◌≡◌, IfOk, Some, option_map};
 ghost use Rattle.couch_http.specs.Message.{message_of};
-ghost use Rattle.api.specs.Saying.{Says};
+ghost use Rattle.api.specs.RequestReading.{Says};
 ghost use Rattle.api.specs.Queried.{texts_of};
 ghost use Rattle.api.specs.Queries.{given_at};
 ghost use Rattle.api.specs.Refusals.{there_or};

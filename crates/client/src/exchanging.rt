@@ -63,13 +63,13 @@ fn read_piece<R: Read>(reader: &mut R, room: &mut [u8], cutter: &mut ReplyCutter
 {
     match reader.read(room) {
         Ok(0) => Ok(Turn::Lost),
-        Ok(count) => take_piece(cutter, &room[..count]),
+        Ok(count) => take_reply_piece(cutter, &room[..count]),
         Err(_) => Ok(Turn::Lost),
     }
 }
 
 /// Takes in one piece of a reply.
-fn take_piece(cutter: &mut ReplyCutter, piece: &[u8]) -> Got<Turn>
+fn take_reply_piece(cutter: &mut ReplyCutter, piece: &[u8]) -> Got<Turn>
     ensures { IfOk result (λ turn. IsTurn cutter.old piece.now turn cutter.new) }
 {
     match cutter.feed(piece) {

@@ -13,7 +13,7 @@ use Rattle.world.specs.Happening.{Happening, Sight, comes, exchanges}
 use Rattle.world.specs.Network.{Network, Transfer, home_of, transfer_at, with_transfer}
 use Rattle.world.specs.Playing.{HappensBy, PlaysBy}
 use Rattle.world.specs.Service.{HandlingOf, IsAnsweredBy, IsHandled, IsServiceBy, SeenReply, StepOf}
-use Rattle.world.specs.Turning.{is_known}
+use Rattle.world.specs.OneEvent.{is_known}
 use Rattle.world.specs.declared.fate.Fate.{Fate}
 use Rattle.completion.specs.Parted.{OpeningChangesNothing, StartingChangesNothing, with_home, with_pass}
 use Rattle.completion.proofs.Places.{got_before, set_before}

@@ -8,7 +8,7 @@ use Rattle.world.specs.Happening.{Happening, Sight, comes, ended, exchanged, exc
 use Rattle.world.specs.Network.{Network, Transfer}
 use Rattle.world.specs.Playing.{Plays, PlaysBy}
 use Rattle.world.specs.Service.{HandlingOf, IsHandled, StepOf}
-use Rattle.world.specs.Turning.{AreKnown}
+use Rattle.world.specs.OneEvent.{AreKnown}
 use Rattle.world.specs.declared.fate.Fate.TheVariants.{Answered, ReplyLost, RequestLost}
 
 -- ---- two calls

@@ -222,7 +222,7 @@ impl Conversation {
         match sockets.read(conn, room) {
             Flow::Bytes(count, more) => {
                 self.since = now;
-                self.take_piece(hub, conn, &room[..count], now);
+                self.feed_hub(hub, conn, &room[..count], now);
                 self.send_replies(sockets, conn, now, more)
             }
             Flow::Later => Turn::Later,
@@ -253,7 +253,7 @@ impl Conversation {
     }
 
     /// Takes a piece: feeds it to the hub and owes the replies, or passes it over.
-    fn take_piece<S: Store + Drop>(&mut self, hub: &mut Hub<S>, conn: u64, piece: &[u8], now: u64)
+    fn feed_hub<S: Store + Drop>(&mut self, hub: &mut Hub<S>, conn: u64, piece: &[u8], now: u64)
         requires stage { self.old.stage ≢ ConversationStage.Lost }
         requires owed { self.old.owed ≡ [] }
         ensures { (words : List ℕ) × TakesPiece S.Store conn hub.old (standing_at self.old.stage self.old.owed) piece.now words

@@ -3,7 +3,7 @@ use Rattle.std.proofs.Common.{ℕ, ◌≡◌, ◌∙◌, ◌+◌, ◌<◌, ◌++
 use Rattle.std.proofs.lemmas.List.{map_more}
 use Rattle.std.specs.Io.KnownBytes.{Appends}
 use Rattle.world.specs.Happening.{Sight}
-use Rattle.world.specs.Turning.{sight_of}
+use Rattle.world.specs.OneEvent.{sight_of}
 use Rattle.world.specs.declared.event.Seen.{Seen}
 use Rattle.lab.specs.Replies.{sight_line, sight_lines}
 

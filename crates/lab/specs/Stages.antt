@@ -7,8 +7,8 @@ use Rattle.store.specs.declared.store.Store.{Ghosts}
 use Rattle.lab.specs.declared.layout.Layout.{Layout}
 use Rattle.lab.specs.declared.running.Running.{Running}
 use Rattle.lab.specs.declared.server.Server.{Server}
-use Rattle.lab.specs.declared.stage.Stage.{Stage}
-use Rattle.lab.specs.declared.stage.Stage.TheVariants as stage
+use Rattle.lab.specs.declared.script_stage.ScriptStage.{ScriptStage}
+use Rattle.lab.specs.declared.script_stage.ScriptStage.TheVariants as stage
 use Rattle.lab.specs.Naming.{NamedValue, named_of}
 use Rattle.lab.specs.Scene.{NamedNetwork, Plays, Scene, laying, running}
 use Rattle.lab.specs.Script.{ScriptLine, line_of}
@@ -27,7 +27,7 @@ names_of r = record {
   network = r.world;
 }
 
-abbrev pub scene_of : {S : Type 0} → Stage S → Scene S
+abbrev pub scene_of : {S : Type 0} → ScriptStage S → Scene S
 scene_of (stage.Laying layout) = laying (nodes_of layout)
 scene_of (stage.Running r) = running (names_of r)
 

@@ -13,10 +13,10 @@ mod printed;
 mod printed_steps;
 mod repl_line;
 mod running;
+mod script_stage;
 mod scripts;
 mod server;
 mod showing;
-mod stage;
 mod turn;
 mod words;
 

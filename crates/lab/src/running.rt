@@ -2,7 +2,7 @@
 
 ghost use Rattle.std.specs.Prelude.{◌≡◌, ◌≢◌, ◌++◌, ◌∷◌, [], ℕ, List, Err, Some, IfOk, OnOk, length, map};
 ghost use Rattle.std.specs.Io.KnownBytes.{Appends, Keeps};
-ghost use Rattle.world.specs.Turning.{happening_of};
+ghost use Rattle.world.specs.OneEvent.{happening_of};
 ghost use Rattle.world.specs.Happening.{Sight};
 ghost use Rattle.lab.specs.Lines.{pass_said};
 ghost use Rattle.lab.specs.Naming.{named_of, value_named};

@@ -14,8 +14,8 @@ use crate::lab_store::LabStore;
 use crate::layout::Layout;
 use crate::line::{Line, read_line};
 use crate::running::Running;
+use crate::script_stage::ScriptStage;
 use crate::server::Server;
-use crate::stage::Stage;
 use command_line::ProgramFault;
 use sqlstore::MemoryStore;
 use std::alloc::Global;
@@ -89,7 +89,7 @@ pub fn play_script<S: LabStore, R: BufRead, W: Write>(
         secret,
         admins,
     };
-    let mut stage = Stage::Laying(Layout::<S>::new(alloc));
+    let mut stage = ScriptStage::Laying(Layout::<S>::new(alloc));
     let mut bytes = Vec::new(alloc);
     for number in 0..READS {
         if !read_next(reader, &mut bytes)? {
@@ -129,10 +129,10 @@ fn without_line_feed(line: &[u8]) -> &[u8]
 /// Plays a line.
 fn play<S: LabStore, W: Write>(
     server: Server<'_>,
-    stage: Stage<S>,
+    stage: ScriptStage<S>,
     bytes: &[u8],
     out: &mut W,
-) -> Result<Stage<S>, LineFault>
+) -> Result<ScriptStage<S>, LineFault>
     ensures played { IfOk result (λ next. AreBytesPlayed S.Store (configuration_of server.entry) (scene_of stage) bytes.now
         (W.contents out.old) (W.contents out.new) (scene_of next)) }
     ensures stands { result ≡ Err LineFault.Line → Keeps (W.contents out.old) (W.contents out.new) }
@@ -141,8 +141,8 @@ fn play<S: LabStore, W: Write>(
         return Err(LineFault::Line);
     };
     match stage {
-        Stage::Laying(layout) => lay(server, layout, line),
-        Stage::Running(running) => run(server, running, line, out),
+        ScriptStage::Laying(layout) => lay(server, layout, line),
+        ScriptStage::Running(running) => run(server, running, line, out),
     }
 }
 
@@ -151,28 +151,28 @@ fn lay<S: LabStore>(
     server: Server<'_>,
     layout: Layout<S>,
     line: Line<'_>,
-) -> Result<Stage<S>, LineFault>
+) -> Result<ScriptStage<S>, LineFault>
     ensures { IfOk result (λ next. Plays S.Store (configuration_of server.entry) (laying (nodes_of layout)) (said_by line.entry) [] (scene_of next)) }
 {
     let mut layout = layout;
     match line {
         Line::Node(name) => {
             layout.add_node(name)?;
-            Ok(Stage::Laying(layout))
+            Ok(ScriptStage::Laying(layout))
         }
         Line::Public(node, name) => {
             layout.add_database(node, &name)?;
-            Ok(Stage::Laying(layout))
+            Ok(ScriptStage::Laying(layout))
         }
         Line::Conn(node, name) => {
             let mut running = Running::start(server, layout)?;
             running.open(node, name)?;
-            Ok(Stage::Running(running))
+            Ok(ScriptStage::Running(running))
         }
         Line::Repl(words) => {
             let mut running = Running::start(server, layout)?;
             running.start_pass(server, &words)?;
-            Ok(Stage::Running(running))
+            Ok(ScriptStage::Running(running))
         }
         Line::Send(_, _) | Line::Close(_) | Line::Turn(_, _) => Err(LineFault::Line),
     }
@@ -184,7 +184,7 @@ fn run<S: LabStore, W: Write>(
     names: Running<S>,
     line: Line<'_>,
     out: &mut W,
-) -> Result<Stage<S>, LineFault>
+) -> Result<ScriptStage<S>, LineFault>
     ensures played { IfOk result (λ next. IsLinePlayed S.Store (configuration_of server.entry) (running (names_of names)) (said_by line.entry)
         (W.contents out.old) (W.contents out.new) (scene_of next)) }
     ensures stands { result ≡ Err LineFault.Line → Keeps (W.contents out.old) (W.contents out.new) }
@@ -193,23 +193,23 @@ fn run<S: LabStore, W: Write>(
     match line {
         Line::Conn(node, name) => {
             names.open(node, name)?;
-            Ok(Stage::Running(names))
+            Ok(ScriptStage::Running(names))
         }
         Line::Repl(words) => {
             names.start_pass(server, &words)?;
-            Ok(Stage::Running(names))
+            Ok(ScriptStage::Running(names))
         }
         Line::Send(name, piece) => {
             names.send(name, piece, out)?;
-            Ok(Stage::Running(names))
+            Ok(ScriptStage::Running(names))
         }
         Line::Close(name) => {
             names.close(name)?;
-            Ok(Stage::Running(names))
+            Ok(ScriptStage::Running(names))
         }
         Line::Turn(turn, name) => {
             names.take_turn(turn, name, out)?;
-            Ok(Stage::Running(names))
+            Ok(ScriptStage::Running(names))
         }
         Line::Node(_) | Line::Public(_, _) => Err(LineFault::Line),
     }

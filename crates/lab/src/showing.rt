@@ -4,7 +4,7 @@ ghost use Rattle.std.specs.Prelude.{◌≡◌, ◌≢◌, ℕ, List, Err, IfOk, 
 ghost use Rattle.std.specs.Io.KnownBytes.{Appends};
 ghost use Rattle.world.specs.Happening.{Sight};
 ghost use Rattle.world.specs.Network.{AreHonest};
-ghost use Rattle.world.specs.Turning.{happening_of, sight_of};
+ghost use Rattle.world.specs.OneEvent.{happening_of, sight_of};
 ghost use Rattle.lab.specs.Replies.{IsSent, IsShown, Runs, SaysItsEnd, is_end, says_end, sight_line, sight_lines};
 
 use crate::fault::LineFault;

@@ -9,19 +9,19 @@ use Rattle.store.specs.Contents.{Contents}
 use Rattle.store.specs.Database.{Database}
 use Rattle.tree.specs.Revision.{Revision}
 use Rattle.node.specs.Answer.{entry, database_name_of, outcome_in, task_outcome, worked, work_task}
-use Rattle.node.specs.Answered.{done_of, outcome_of}
+use Rattle.node.specs.Drafts.{done_of, outcome_of}
 use Rattle.node.specs.Coming.{Comes}
 use Rattle.node.specs.Work.{Done, Work}
 use Rattle.api.specs.Refusals.{next}
 use Rattle.node.specs.Works.{deletion, deletion_outcome, document_deleted, edit_asked, edit_done, edit_in}
 use Rattle.write.specs.Terms.{terms_in}
-use Rattle.node.specs.declared.answered.Worked.{Worked}
+use Rattle.node.specs.declared.draft.WriteDraft.{WriteDraft}
 use Rattle.api.specs.declared.refusal.Refusal.{Refusal}
-use Rattle.node.specs.declared.stop.Stop.{Stop}
-use Rattle.node.specs.declared.stop.Stop.TheVariants.{Refused, Failed, NoRoom}
+use Rattle.node.specs.declared.early_end.EarlyEnd.{EarlyEnd}
+use Rattle.node.specs.declared.early_end.EarlyEnd.TheVariants.{Refused, Failed, NoRoom}
 
 -- work that stops, stops the request
-pub work_stops : (databases : Contents) (name : List ℕ) (db : Database) (stop : Stop) (done : Result Done Refusal) → Comes (done_of db) (Err stop) done
+pub work_stops : (databases : Contents) (name : List ℕ) (db : Database) (stop : EarlyEnd) (done : Result Done Refusal) → Comes (done_of db) (Err stop) done
     → Comes (outcome_of databases) (Err stop) (next done (λ d. Ok (outcome_in name d)))
 work_stops databases name db (Refused refusal) done h = ap (λ (r : Result Done Refusal). next r (λ d. Ok (outcome_in name d))) h
 work_stops databases name db Failed done h = tt
@@ -32,7 +32,7 @@ refused_on (Ok a) f refusal go h = absurd cc
 refused_on (Err other) f refusal go h = let same : other ≡ refusal = cc in ap Err same
 
 -- a database that is not entered is not worked in
-pub entry_stops : (databases : Contents) (caller : Identity) (action : Action) (m : Message) (work : List ℕ → Work) (name : List ℕ) (stop : Stop) → database_name_of m ≡ Ok name
+pub entry_stops : (databases : Contents) (caller : Identity) (action : Action) (m : Message) (work : List ℕ → Work) (name : List ℕ) (stop : EarlyEnd) → database_name_of m ≡ Ok name
     → Comes (λ (u : Unit {0}). get databases name) (Err stop) (next (entry caller action (get databases name)) (λ db. Ok (Some db)))
     → Comes (outcome_of databases) (Err stop) (next (work_task action m work) (task_outcome caller databases))
 entry_stops databases caller action m work name (Refused refusal) own h =
@@ -42,7 +42,7 @@ entry_stops databases caller action m work name Failed own h = tt
 entry_stops databases caller action m work name NoRoom own h = tt
 
 -- a deletion that names a revision is its edit
-pub deletion_comes : (caller : Identity) (m : Message) (name : List ℕ) (db : Database) (asked : List ℕ × Option Revision) (rev : Revision) (document : Value) (result : Result Worked Stop)
+pub deletion_comes : (caller : Identity) (m : Message) (name : List ℕ) (db : Database) (asked : List ℕ × Option Revision) (rev : Revision) (document : Value) (result : Result WriteDraft EarlyEnd)
     → edit_asked m ≡ Ok asked → asked.1 ≡ Some rev → document ≡ deletion → Comes (done_of db) result (edit_in caller 200 name db asked.0 (Some rev) document)
     → Comes (done_of db) result (document_deleted caller m name db)
 deletion_comes caller m name db asked rev document result own named made h =

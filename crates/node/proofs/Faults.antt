@@ -22,12 +22,12 @@ use Rattle.std.proofs.lemmas.Bool.Decides.{nat_tests}
 use Rattle.node.proofs.Steps.{answer_served}
 use Rattle.node.specs.Step.{IsStep}
 use Rattle.node.specs.Answer.{Change, answer, creation, inside, kept, removal, with_change}
-use Rattle.node.specs.Answered.{change_inside}
+use Rattle.node.specs.Drafts.{change_inside}
 use Rattle.node.specs.Causes.{Ends, EndsBefore, HasCause, IsFailure, LacksNumbers, stop_of_change}
 use Rattle.node.specs.Work.{appended, local_put, nothing, secured}
 use Rattle.api.specs.declared.refusal.Refusal.{Refusal}
-use Rattle.node.specs.declared.stop.Stop.{Stop}
-use Rattle.node.specs.declared.stop.Stop.TheVariants.{Refused, Failed as Broken, NoRoom}
+use Rattle.node.specs.declared.early_end.EarlyEnd.{EarlyEnd}
+use Rattle.node.specs.declared.early_end.EarlyEnd.TheVariants.{Refused, Failed as Broken, NoRoom}
 
 -- changes for which there is no room in a database that is there
 room_lacking : {S : Type 0} (g : Ghosts S) (s : S) (name : List ℕ) (changes : Changes) (o : Option Database) → is_some o ≡ true
@@ -79,7 +79,7 @@ failed_from : (old mid new : ℕ) → old ≤ mid → HasFailed mid new → HasF
 failed_from old mid new before (inl rose) = inl (omega (arith, before, rose))
 failed_from old mid new before (inr full) = inr full
 
-pub ends_from : {S : Type 0} (g : Ghosts S) (a b c : S) (stop : Stop) → OnlyReads g a b → Ends g b c stop → Ends g a c stop
+pub ends_from : {S : Type 0} (g : Ghosts S) (a b c : S) (stop : EarlyEnd) → OnlyReads g a b → Ends g b c stop → Ends g a c stop
 ends_from g a b c Broken reads h = λ honest. failed_from _ _ _ reads.goes_on.counted (h honest)
 ends_from g a b c (Refused refusal) reads h = tt
 ends_from g a b c NoRoom reads h = tt
@@ -98,14 +98,14 @@ cause_from g a b c change reads honest (inl failed) = inl (failed_from _ _ _ rea
 cause_from g a b c change reads honest (inr lacking) = inr (lacking_from g a b change reads honest lacking)
 
 -- the change that was to be made may be told by either state
-ends_before_from : {S : Type 0} (g : Ghosts S) (a b c : S) (change whole : Change) (stop : Stop) → OnlyReads g a b → (g.is_honest c → g.is_honest b) → (g.is_honest c → change ≡ whole)
+ends_before_from : {S : Type 0} (g : Ghosts S) (a b c : S) (change whole : Change) (stop : EarlyEnd) → OnlyReads g a b → (g.is_honest c → g.is_honest b) → (g.is_honest c → change ≡ whole)
     → EndsBefore g b c change stop → EndsBefore g a c whole stop
 ends_before_from g a b c change whole Broken reads onward same h = λ honest. subst (λ (x : Change). HasCause g a c x) (same honest) (cause_from g a b c change reads (onward honest) (h honest))
 ends_before_from g a b c change whole (Refused refusal) reads onward same h = tt
 ends_before_from g a b c change whole NoRoom reads onward same h = tt
 
 -- the same of whatever the later call answers
-pub all_end_before : {S A : Type 0} (g : Ghosts S) (a b c : S) (change whole : Change) (r : Result A Stop) → OnlyReads g a b → (g.is_honest c → g.is_honest b) → (g.is_honest c → change ≡ whole)
+pub all_end_before : {S A : Type 0} (g : Ghosts S) (a b c : S) (change whole : Change) (r : Result A EarlyEnd) → OnlyReads g a b → (g.is_honest c → g.is_honest b) → (g.is_honest c → change ≡ whole)
     → IfErr r (EndsBefore g b c change) → IfErr r (EndsBefore g a c whole)
 all_end_before g a b c change whole (Ok v) reads onward same h = h
 all_end_before g a b c change whole (Err stop) reads onward same h = ends_before_from g a b c change whole stop reads onward same h

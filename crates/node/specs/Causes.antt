@@ -14,8 +14,8 @@ use Rattle.write.specs.declared.fault.WriteFault.TheVariants as write
 use Rattle.node.specs.Answer.{Change, creation, inside, kept, removal}
 use Rattle.node.specs.Work.{appended, local_put, nothing, secured}
 use Rattle.api.specs.declared.refusal.Refusal.TheVariants.{Deleted, Exists, Missing, NoDatabase, Query}
-use Rattle.node.specs.declared.stop.Stop.{Stop}
-use Rattle.node.specs.declared.stop.Stop.TheVariants.{Refused, Failed, NoRoom}
+use Rattle.node.specs.declared.early_end.EarlyEnd.{EarlyEnd}
+use Rattle.node.specs.declared.early_end.EarlyEnd.TheVariants.{Refused, Failed, NoRoom}
 
 -- the store has no number left for this change: for a new database, or for writes that are appended
 abbrev pub LacksNumbers : {S : Type 0} → Ghosts S → S → Change → Type 0
@@ -37,31 +37,31 @@ abbrev pub IsFailure : {S : Type 0} → Ghosts S → S → S → Change → Type
 IsFailure g old new change = HasFailed (g.fault_count old) (g.fault_count new) ⊎ (g.is_honest new → LacksNumbers g old change)
 
 -- what has to hold where the work on a request ends so before anything is changed
-abbrev pub Ends : {S : Type 0} → Ghosts S → S → S → Stop → Type 0
+abbrev pub Ends : {S : Type 0} → Ghosts S → S → S → EarlyEnd → Type 0
 Ends g old new Failed = g.is_honest new → HasFailed (g.fault_count old) (g.fault_count new)
 Ends g old new (Refused refusal) = ⊤
 Ends g old new NoRoom = ⊤
 
 -- what has to hold where it ends so though this change was to be made
-abbrev pub EndsBefore : {S : Type 0} → Ghosts S → S → S → Change → Stop → Type 0
+abbrev pub EndsBefore : {S : Type 0} → Ghosts S → S → S → Change → EarlyEnd → Type 0
 EndsBefore g old new change Failed = g.is_honest new → HasCause g old new change
 EndsBefore g old new change (Refused refusal) = ⊤
 EndsBefore g old new change NoRoom = ⊤
 
 -- how a request ends that is not read to its end
-abbrev pub stop_of_request : RequestFault → Stop
+abbrev pub stop_of_request : RequestFault → EarlyEnd
 stop_of_request (request.Refused refusal) = Refused refusal
 stop_of_request request.Memory = NoRoom
 
 -- how a request ends that the store refuses
-abbrev pub stop_of : StoreFault → Stop
+abbrev pub stop_of : StoreFault → EarlyEnd
 stop_of store.Memory = NoRoom
 stop_of store.NoDatabase = Refused NoDatabase
 stop_of store.Exists = Refused Exists
 stop_of fault = Failed
 
 -- how a request ends that shows nothing
-abbrev pub stop_of_reader : ReadFault → Stop
+abbrev pub stop_of_reader : ReadFault → EarlyEnd
 stop_of_reader read.Missing = Refused Missing
 stop_of_reader read.Deleted = Refused Deleted
 stop_of_reader read.BadQuery = Refused Query
@@ -69,6 +69,6 @@ stop_of_reader (read.Store fault) = stop_of fault
 stop_of_reader read.Memory = NoRoom
 
 -- how a request ends whose change was not made
-abbrev pub stop_of_change : WriteFault → Stop
+abbrev pub stop_of_change : WriteFault → EarlyEnd
 stop_of_change write.Memory = NoRoom
 stop_of_change fault = Failed

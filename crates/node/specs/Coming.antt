@@ -16,16 +16,16 @@ use Rattle.api.specs.declared.method.RequestMethod.{RequestMethod}
 use Rattle.api.specs.declared.page.Page.{Page}
 use Rattle.api.specs.declared.refusal.Refusal.{Refusal}
 use Rattle.node.specs.Answer.{Outcome, page_outcome}
-use Rattle.node.specs.Answered.{MayChange, done_of, outcome_of}
+use Rattle.node.specs.Drafts.{MayChange, done_of, outcome_of}
 use Rattle.node.specs.Causes.{Ends}
 use Rattle.node.specs.Work.{Work}
-use Rattle.node.specs.declared.answered.Answered.{Answered}
-use Rattle.node.specs.declared.answered.Worked.{Worked}
-use Rattle.node.specs.declared.stop.Stop.{Stop}
-use Rattle.node.specs.declared.stop.Stop.TheVariants.{Refused, Failed, NoRoom}
+use Rattle.node.specs.declared.draft.Draft.{Draft}
+use Rattle.node.specs.declared.draft.WriteDraft.{WriteDraft}
+use Rattle.node.specs.declared.early_end.EarlyEnd.{EarlyEnd}
+use Rattle.node.specs.declared.early_end.EarlyEnd.TheVariants.{Refused, Failed, NoRoom}
 
 -- what is defined comes, as shown, or its refusal; or the store failed, or memory ran out
-abbrev pub Comes : {A B : Type 0} → (A → B) → Result A Stop → Result B Refusal → Type 0
+abbrev pub Comes : {A B : Type 0} → (A → B) → Result A EarlyEnd → Result B Refusal → Type 0
 Comes shown (Ok a) defined = defined ≡ Ok (shown a)
 Comes shown (Err (Refused refusal)) defined = defined ≡ Err refusal
 Comes shown (Err Failed) defined = ⊤
@@ -37,24 +37,24 @@ OfThere databases name fact = (db : Database) → get databases name ≡ Some db
 
 -- What work on a request leaves: what is defined comes, its change may be made, it ends for the store's sake only where that has a cause,
 -- and nothing has changed.
-pub record Judges {S : Type 0} (g : Ghosts S) (old new : S) (defined : Result Outcome Refusal) (result : Result Answered Stop) : Type 0 where
+pub record Judges {S : Type 0} (g : Ghosts S) (old new : S) (defined : Result Outcome Refusal) (result : Result Draft EarlyEnd) : Type 0 where
   pub comes : g.is_honest new → Comes (outcome_of (g.contents old)) result defined
   pub may : g.is_honest new → IfOk result (λ answered. MayChange (g.contents old) answered.change)
   pub ends : IfErr result (Ends g old new)
   pub reads : OnlyReads g old new
 
 -- the same of work on what a page has for a method
-abbrev pub Serves : {S : Type 0} → Ghosts S → S → S → Page → Option RequestMethod → Identity → Message → Result Answered Stop → Type 0
+abbrev pub Serves : {S : Type 0} → Ghosts S → S → S → Page → Option RequestMethod → Identity → Message → Result Draft EarlyEnd → Type 0
 Serves g old new page method caller m result = Judges g old new (page_outcome page method caller (g.contents old) m) result
 
 -- what reading the database of this name leaves
-pub record Reads {S : Type 0} (g : Ghosts S) (old new : S) (name : List ℕ) (read : Database → Result Value Refusal) (result : Result Json Stop) : Type 0 where
+pub record Reads {S : Type 0} (g : Ghosts S) (old new : S) (name : List ℕ) (read : Database → Result Value Refusal) (result : Result Json EarlyEnd) : Type 0 where
   pub comes : g.is_honest new → OfThere (g.contents old) name (λ db. Comes view result (read db))
   pub ends : IfErr result (Ends g old new)
   pub reads : OnlyReads g old new
 
 -- what work in the database of this name leaves, which plans a change of that database
-pub record WorksIn {S : Type 0} (g : Ghosts S) (old new : S) (name : List ℕ) (work : Work) (result : Result Worked Stop) : Type 0 where
+pub record WorksIn {S : Type 0} (g : Ghosts S) (old new : S) (name : List ℕ) (work : Work) (result : Result WriteDraft EarlyEnd) : Type 0 where
   pub comes : g.is_honest new → OfThere (g.contents old) name (λ db. Comes (done_of db) result (work db))
   pub may : g.is_honest new → OfThere (g.contents old) name (λ db. IfOk result (λ worked. MayBeMade worked.planned.changes db))
   pub own : IfOk result (λ worked. worked.planned.database ≡ name)

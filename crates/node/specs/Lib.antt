@@ -3,7 +3,7 @@ pub mod Bulk
 pub mod Work
 pub mod Works
 pub mod Answer
-pub mod Answered
+pub mod Drafts
 pub mod Coming
 pub mod Causes
 pub mod Step

@@ -5,9 +5,9 @@ ghost use Rattle.api.specs.BulkAsked.{bulk_asked};
 ghost use Rattle.node.specs.Coming.{WorksIn};
 ghost use Rattle.node.specs.Works.{bulk_written, documents_written};
 
-use crate::answered::Worked;
 use crate::bulk_reply::bulk_reply;
-use crate::stop::Stop;
+use crate::draft::WriteDraft;
+use crate::early_end::EarlyEnd;
 use api::{BulkAsked, Refusal, body, bulk_in, without_parameters};
 use auth::Caller;
 use couch_http::Request;
@@ -22,13 +22,13 @@ pub(crate) fn write_documents<S: Store>(
     caller: &Caller,
     name: &DbName,
     request: &Request,
-) -> Result<Worked, Stop>
+) -> Result<WriteDraft, EarlyEnd>
     ensures works { WorksIn S.Store store.old store.new name.now (documents_written caller.now (message_of request.now) name.now) result }
 {
     without_parameters(request)?;
     let value = body(alloc, request)?;
     let Some(asked) = bulk_in(value) else {
-        return Err(Stop::Refused(Refusal::Body));
+        return Err(EarlyEnd::Refused(Refusal::Body));
     };
     write_bulk(alloc, store, caller, name, asked)
 }
@@ -40,13 +40,13 @@ fn write_bulk<S: Store>(
     caller: &Caller,
     name: &DbName,
     asked: BulkAsked,
-) -> Result<Worked, Stop>
+) -> Result<WriteDraft, EarlyEnd>
     ensures works { WorksIn S.Store store.old store.new name.now (bulk_written caller.now (bulk_asked asked) name.now) result }
 {
     let planned = match bulk(alloc, store, name, caller, asked.documents, asked.new_edits) {
         Ok(planned) => planned,
-        Err(WriteFault::Store(fault)) => return Err(Stop::from(fault)),
-        Err(WriteFault::Memory) => return Err(Stop::NoRoom),
+        Err(WriteFault::Store(fault)) => return Err(EarlyEnd::from(fault)),
+        Err(WriteFault::Memory) => return Err(EarlyEnd::NoRoom),
         Err(_) => unreachable!(),
     };
     let Planned {
@@ -55,7 +55,7 @@ fn write_bulk<S: Store>(
         results,
     } = planned;
     let value = bulk_reply(alloc, caller, asked.new_edits, results)?;
-    Ok(Worked {
+    Ok(WriteDraft {
         status: 201,
         value,
         planned: Planned {

@@ -9,12 +9,12 @@ ghost use Rattle.store.specs.Calls.{OnlyReads};
 ghost use Rattle.node.specs.Answer.{administration, database_name_of};
 ghost use Rattle.node.specs.Causes.{Ends};
 ghost use Rattle.node.specs.Coming.{Reads, Serves};
-ghost use Rattle.api.specs.Saying.{Says};
+ghost use Rattle.api.specs.RequestReading.{Says};
 ghost use Rattle.api.specs.Refusals.{next};
 ghost use Rattle.node.specs.Works.{database_read, done};
 
-use crate::answered::{Answered, Change};
-use crate::stop::Stop;
+use crate::draft::{Change, Draft};
+use crate::early_end::EarlyEnd;
 use api::{Page, Refusal, RequestFault, RequestMethod, database_name, deny, without_parameters};
 use auth::Caller;
 use couch_http::Request;
@@ -31,7 +31,7 @@ pub(crate) fn read_database<S: Store>(
     store: &mut S,
     name: &DbName,
     request: &Request,
-) -> Result<Json, Stop>
+) -> Result<Json, EarlyEnd>
     ensures reads { Reads S.Store store.old store.new name.now (database_read (message_of request.now) name.now) result }
 {
     without_parameters(request)?;
@@ -44,14 +44,14 @@ pub(crate) fn list_databases<S: Store>(
     store: &mut S,
     caller: &Caller,
     request: &Request,
-) -> Result<Answered, Stop>
+) -> Result<Draft, EarlyEnd>
     ensures serves { Serves S.Store store.old store.new Page.AllDatabases (Some RequestMethod.Get) caller.now (message_of request.now) result }
 {
     require_server_admin(alloc, caller)?;
     without_parameters(request)?;
     let names = store.names()?;
     let value = list_names(alloc, &names)?;
-    Ok(Answered {
+    Ok(Draft {
         status: 200,
         value,
         change: None,
@@ -64,16 +64,16 @@ pub(crate) fn create_database<S: Store>(
     store: &mut S,
     caller: &Caller,
     request: &Request,
-) -> Result<Answered, Stop>
+) -> Result<Draft, EarlyEnd>
     ensures serves { Serves S.Store store.old store.new Page.Database (Some RequestMethod.Put) caller.now (message_of request.now) result }
 {
     let name = name_to_govern(alloc, caller, request)?;
     if is_there(store, &name)? {
-        return Err(Stop::Refused(Refusal::Exists));
+        return Err(EarlyEnd::Refused(Refusal::Exists));
     }
     without_parameters(request)?;
     let value = done(alloc)?;
-    Ok(Answered {
+    Ok(Draft {
         status: 201,
         value,
         change: Some(Change::Create(name)),
@@ -86,16 +86,16 @@ pub(crate) fn remove_database<S: Store>(
     store: &mut S,
     caller: &Caller,
     request: &Request,
-) -> Result<Answered, Stop>
+) -> Result<Draft, EarlyEnd>
     ensures serves { Serves S.Store store.old store.new Page.Database (Some RequestMethod.Delete) caller.now (message_of request.now) result }
 {
     let name = name_to_govern(alloc, caller, request)?;
     if !is_there(store, &name)? {
-        return Err(Stop::Refused(Refusal::NoDatabase));
+        return Err(EarlyEnd::Refused(Refusal::NoDatabase));
     }
     without_parameters(request)?;
     let value = done(alloc)?;
-    Ok(Answered {
+    Ok(Draft {
         status: 200,
         value,
         change: Some(Change::Remove(name)),
@@ -123,16 +123,16 @@ fn require_server_admin(alloc: Global, caller: &Caller) -> Result<(), RequestFau
 }
 
 /// Tells whether there is a database of this name.
-fn is_there<S: Store>(store: &mut S, name: &DbName) -> Result<bool, Stop>
+fn is_there<S: Store>(store: &mut S, name: &DbName) -> Result<bool, EarlyEnd>
     ensures ok { S.is_honest store.new → IfOk result (λ there. is_some (map.get (S.contents store.old) name.now) ≡ there) }
-    ensures unrefused { (refusal : _) → result ≢ Err (Stop.Refused refusal) }
+    ensures unrefused { (refusal : _) → result ≢ Err (EarlyEnd.Refused refusal) }
     ensures ends { IfErr result (Ends S.Store store.old store.new) }
     ensures reads { OnlyReads S.Store store.old store.new }
 {
     match store.security(name) {
         Ok(_security) => Ok(true),
         Err(StoreFault::NoDatabase) => Ok(false),
-        Err(fault) => Err(Stop::from(fault)),
+        Err(fault) => Err(EarlyEnd::from(fault)),
     }
 }
 

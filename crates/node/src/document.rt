@@ -12,16 +12,16 @@ ghost use Rattle.write.specs.BulkResults.{IsMadeOutcome, OfFirst};
 ghost use Rattle.write.specs.Terms.{terms_in};
 ghost use Rattle.node.specs.Bulk.{made_members};
 ghost use Rattle.couch_json.specs.Value.{object};
-ghost use Rattle.node.specs.Answered.{done_of};
+ghost use Rattle.node.specs.Drafts.{done_of};
 ghost use Rattle.node.specs.Causes.{Ends};
 ghost use Rattle.node.specs.Coming.{Comes, OfThere, Reads, WorksIn};
-ghost use Rattle.api.specs.Saying.{Says};
+ghost use Rattle.api.specs.RequestReading.{Says};
 ghost use Rattle.api.specs.Queried.{asked_of, query_of};
 ghost use Rattle.node.specs.Works.{deletion, document_deleted, document_read, document_written, edit_asked, edit_done, edit_in, found, read_by};
 
-use crate::answered::Worked;
 use crate::bulk_reply::{made_members, refusal_of_edit};
-use crate::stop::Stop;
+use crate::draft::WriteDraft;
+use crate::early_end::EarlyEnd;
 use api::{
     Asked, DocumentQuery, Refusal, RequestFault, body, document_id, document_query, revision_query,
 };
@@ -36,12 +36,12 @@ use tree::{DocId, Rev};
 use write::{DocumentResult, Outcome, WriteFault, edit, judge_unnamed_deletion};
 
 /// Reads a document.
-pub(crate) fn read_document<S: Store>(
+pub(crate) fn show_document<S: Store>(
     alloc: Global,
     store: &mut S,
     name: &DbName,
     request: &Request,
-) -> Result<Json, Stop>
+) -> Result<Json, EarlyEnd>
     ensures reads { Reads S.Store store.old store.new name.now (document_read (message_of request.now)) result }
 {
     let id = document_id(alloc, &request.path)?;
@@ -56,7 +56,7 @@ fn find<S: Store>(
     name: &DbName,
     id: &DocId,
     query: &DocumentQuery,
-) -> Result<Json, Stop>
+) -> Result<Json, EarlyEnd>
     ensures reads { Reads S.Store store.old store.new name.now (λ db. found (read_by id.now (query_of query.now).revs (query_of query.now).asked db)) result }
 {
     Ok(read_by(alloc, store, name, id, query)?)
@@ -96,7 +96,7 @@ pub(crate) fn write_document<S: Store>(
     caller: &Caller,
     name: &DbName,
     request: &Request,
-) -> Result<Worked, Stop>
+) -> Result<WriteDraft, EarlyEnd>
     ensures works { WorksIn S.Store store.old store.new name.now (document_written caller.now (message_of request.now) name.now) result }
 {
     let (id, rev) = edit_asked(alloc, request)?;
@@ -112,7 +112,7 @@ pub(crate) fn delete_document<S: Store>(
     caller: &Caller,
     name: &DbName,
     request: &Request,
-) -> Result<Worked, Stop>
+) -> Result<WriteDraft, EarlyEnd>
     ensures works { WorksIn S.Store store.old store.new name.now (document_deleted caller.now (message_of request.now) name.now) result }
 {
     let (id, rev) = edit_asked(alloc, request)?;
@@ -134,16 +134,16 @@ fn edit_asked(alloc: Global, request: &Request) -> Result<(DocId, Option<Rev>), 
 }
 
 /// Tells what a deletion that names no revision comes to.
-fn refuse_deletion<S: Store>(store: &mut S, caller: &Caller, name: &DbName, id: &DocId) -> Stop
+fn refuse_deletion<S: Store>(store: &mut S, caller: &Caller, name: &DbName, id: &DocId) -> EarlyEnd
     ensures comes { S.is_honest store.new → OfThere (S.contents store.old) name.now (λ db. Comes (done_of db) (Err result)
         (edit_done caller.now 200 id.now (unnamed_deletion (terms_in caller.now name.now db) id.now))) }
     ensures ends { Ends S.Store store.old store.new result }
     ensures reads { OnlyReads S.Store store.old store.new }
 {
     match judge_unnamed_deletion(store, name, caller, id) {
-        WriteFault::Memory => Stop::NoRoom,
-        WriteFault::Store(fault) => Stop::from(fault),
-        fault => Stop::Refused(refusal_of_edit(caller, fault)),
+        WriteFault::Memory => EarlyEnd::NoRoom,
+        WriteFault::Store(fault) => EarlyEnd::from(fault),
+        fault => EarlyEnd::Refused(refusal_of_edit(caller, fault)),
     }
 }
 
@@ -166,19 +166,19 @@ fn edit_document<S: Store>(
     rev: Option<Rev>,
     document: Json,
     status: u16,
-) -> Result<Worked, Stop>
+) -> Result<WriteDraft, EarlyEnd>
     requires local { is_local_id id.now ≡ false }
     ensures works { WorksIn S.Store store.old store.new name.now (λ db. edit_in caller.now status name.now db id.now rev (view document)) result }
 {
     let planned = match edit(alloc, store, name, caller, id, rev, document) {
         Ok(planned) => planned,
-        Err(WriteFault::Memory) => return Err(Stop::NoRoom),
-        Err(WriteFault::Store(fault)) => return Err(Stop::from(fault)),
-        Err(fault) => return Err(Stop::Refused(refusal_of_edit(caller, fault))),
+        Err(WriteFault::Memory) => return Err(EarlyEnd::NoRoom),
+        Err(WriteFault::Store(fault)) => return Err(EarlyEnd::from(fault)),
+        Err(fault) => return Err(EarlyEnd::Refused(refusal_of_edit(caller, fault))),
     };
     let rev = made_revision(&planned.results);
     let value = edit_reply(alloc, id, &rev)?;
-    Ok(Worked {
+    Ok(WriteDraft {
         status,
         value,
         planned,

@@ -8,7 +8,7 @@ ghost use Rattle.api.specs.Refusals.{there_or};
 ghost use Rattle.node.specs.Coming.{Comes, Reads};
 ghost use Rattle.node.specs.Works.{document_finds, documents_reply, view_read};
 
-use crate::stop::Stop;
+use crate::early_end::EarlyEnd;
 use api::{Refusal, body, document_id, index_name, view_query, without_parameters};
 use couch_http::Request;
 use couch_json::{Got, Json, put_member};
@@ -23,7 +23,7 @@ pub(crate) fn find_documents<S: Store>(
     store: &mut S,
     name: &DbName,
     request: &Request,
-) -> Result<Json, Stop>
+) -> Result<Json, EarlyEnd>
     ensures reads { Reads S.Store store.old store.new name.now (document_finds (message_of request.now)) result }
 {
     without_parameters(request)?;
@@ -34,14 +34,14 @@ pub(crate) fn find_documents<S: Store>(
 }
 
 /// Reads what is looked for.
-fn read_query(alloc: Global, value: &Json) -> Result<Query, Stop>
+fn read_query(alloc: Global, value: &Json) -> Result<Query, EarlyEnd>
     ensures comes { Comes (λ query. query) result (there_or Refusal.Body (query_in (view value.now))) }
-    ensures ends { IfErr result (λ stop. stop ≢ Stop.Failed) }
+    ensures ends { IfErr result (λ stop. stop ≢ EarlyEnd.Failed) }
 {
     match Query::read(alloc, value) {
         Ok(query) => Ok(query),
-        Err(QueryFault::Shape) => Err(Stop::Refused(Refusal::Body)),
-        Err(QueryFault::Memory) => Err(Stop::NoRoom),
+        Err(QueryFault::Shape) => Err(EarlyEnd::Refused(Refusal::Body)),
+        Err(QueryFault::Memory) => Err(EarlyEnd::NoRoom),
     }
 }
 
@@ -62,7 +62,7 @@ pub(crate) fn list_view<S: Store>(
     store: &mut S,
     name: &DbName,
     request: &Request,
-) -> Result<Json, Stop>
+) -> Result<Json, EarlyEnd>
     ensures reads { Reads S.Store store.old store.new name.now (view_read (message_of request.now)) result }
 {
     let design = document_id(alloc, &request.path)?;

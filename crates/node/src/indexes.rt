@@ -8,13 +8,13 @@ ghost use Rattle.find.specs.Indexes.{index_in};
 ghost use Rattle.tree.specs.DocumentId.{is_design_id};
 ghost use Rattle.write.specs.BulkResults.{IsUnrefused, OfFirst};
 ghost use Rattle.api.specs.Refusals.{there_or};
-ghost use Rattle.node.specs.Answered.{says_made};
+ghost use Rattle.node.specs.Drafts.{says_made};
 ghost use Rattle.node.specs.Coming.{Comes, WorksIn};
 ghost use Rattle.node.specs.Works.{index_asked_in, index_reply, index_written};
 
-use crate::answered::Worked;
 use crate::bulk_reply::refusal_of_edit;
-use crate::stop::Stop;
+use crate::draft::WriteDraft;
+use crate::early_end::EarlyEnd;
 use api::{Refusal, body, put_text, without_parameters};
 use auth::Caller;
 use couch_http::Request;
@@ -32,7 +32,7 @@ pub(crate) fn write_index<S: Store>(
     caller: &Caller,
     name: &DbName,
     request: &Request,
-) -> Result<Worked, Stop>
+) -> Result<WriteDraft, EarlyEnd>
     ensures works { WorksIn S.Store store.old store.new name.now (index_written caller.now (message_of request.now) name.now) result }
 {
     without_parameters(request)?;
@@ -42,15 +42,15 @@ pub(crate) fn write_index<S: Store>(
 }
 
 /// Reads the index that a body asks to declare.
-fn read_index(alloc: Global, value: &Json) -> Result<Index, Stop>
+fn read_index(alloc: Global, value: &Json) -> Result<Index, EarlyEnd>
     ensures comes { Comes index_asked result (there_or Refusal.Body (index_in (view value.now))) }
     ensures design { IfOk result (λ index. is_design_id index.design ≡ true) }
-    ensures ends { IfErr result (λ stop. stop ≢ Stop.Failed) }
+    ensures ends { IfErr result (λ stop. stop ≢ EarlyEnd.Failed) }
 {
     match Index::read(alloc, value) {
         Ok(index) => Ok(index),
-        Err(QueryFault::Shape) => Err(Stop::Refused(Refusal::Body)),
-        Err(QueryFault::Memory) => Err(Stop::NoRoom),
+        Err(QueryFault::Shape) => Err(EarlyEnd::Refused(Refusal::Body)),
+        Err(QueryFault::Memory) => Err(EarlyEnd::NoRoom),
     }
 }
 
@@ -61,7 +61,7 @@ fn declare_index<S: Store>(
     caller: &Caller,
     name: &DbName,
     index: &Index,
-) -> Result<Worked, Stop>
+) -> Result<WriteDraft, EarlyEnd>
     requires { is_design_id index.now.design ≡ true }
     ensures works { WorksIn S.Store store.old store.new name.now (λ db. index_asked_in caller.now name.now db (index_asked index.now)) result }
 {
@@ -75,12 +75,12 @@ fn declare_index<S: Store>(
         &index.fields,
     ) {
         Ok(planned) => planned,
-        Err(WriteFault::Memory) => return Err(Stop::NoRoom),
-        Err(WriteFault::Store(fault)) => return Err(Stop::from(fault)),
-        Err(fault) => return Err(Stop::Refused(refusal_of_edit(caller, fault))),
+        Err(WriteFault::Memory) => return Err(EarlyEnd::NoRoom),
+        Err(WriteFault::Store(fault)) => return Err(EarlyEnd::from(fault)),
+        Err(fault) => return Err(EarlyEnd::Refused(refusal_of_edit(caller, fault))),
     };
     let value = index_reply(alloc, index, says_made(&planned.results))?;
-    Ok(Worked {
+    Ok(WriteDraft {
         status: 200,
         value,
         planned,

@@ -8,13 +8,14 @@
 //! ```
 #![tactic(auto)]
 
-mod answered;
 mod bulk;
 mod bulk_reply;
 mod databases;
+mod dispatch;
 mod document;
+mod draft;
+mod early_end;
 mod finds;
-mod handling;
 mod indexes;
 pub mod laws;
 mod lists;
@@ -22,10 +23,9 @@ mod local_document;
 mod memory;
 mod node;
 mod security;
-mod stop;
 mod task;
 mod welcome;
-mod working;
+mod work;
 
 pub use api::Routes;
 pub use memory::handle_in_memory;

@@ -7,13 +7,13 @@ ghost use Rattle.couch_json.specs.View.{view};
 ghost use Rattle.store.specs.Contents.{local_at};
 ghost use Rattle.write.specs.LocalWrites.{local_outcome};
 ghost use Rattle.write.specs.Planning.{IsLocal};
-ghost use Rattle.node.specs.Answered.{IsLocalReply};
+ghost use Rattle.node.specs.Drafts.{IsLocalReply};
 ghost use Rattle.node.specs.Coming.{Reads, WorksIn};
 ghost use Rattle.node.specs.Works.{local_members, local_read, local_set, local_written};
 
-use crate::answered::Worked;
 use crate::bulk_reply::{known_members, refusal_of_edit};
-use crate::stop::Stop;
+use crate::draft::WriteDraft;
+use crate::early_end::EarlyEnd;
 use api::{body, local_id, without_parameters};
 use auth::Caller;
 use couch_http::Request;
@@ -30,7 +30,7 @@ pub(crate) fn read_local<S: Store>(
     store: &mut S,
     name: &DbName,
     request: &Request,
-) -> Result<Json, Stop>
+) -> Result<Json, EarlyEnd>
     ensures reads { Reads S.Store store.old store.new name.now (local_read (message_of request.now)) result }
 {
     let id = local_id(alloc, &request.path)?;
@@ -45,7 +45,7 @@ pub(crate) fn write_local<S: Store>(
     caller: &Caller,
     name: &DbName,
     request: &Request,
-) -> Result<Worked, Stop>
+) -> Result<WriteDraft, EarlyEnd>
     ensures works { WorksIn S.Store store.old store.new name.now (local_written caller.now (message_of request.now)) result }
 {
     let id = local_id(alloc, &request.path)?;
@@ -62,17 +62,17 @@ fn set_local<S: Store>(
     name: &DbName,
     id: &DocId,
     document: Json,
-) -> Result<Worked, Stop>
+) -> Result<WriteDraft, EarlyEnd>
     ensures works { WorksIn S.Store store.old store.new name.now (λ db. local_set caller.now id.now (local_outcome (local_at db id.now) id.now (view document))) result }
 {
     let planned = match put_local(alloc, store, name, id, document) {
         Ok(planned) => planned,
-        Err(WriteFault::Memory) => return Err(Stop::NoRoom),
-        Err(WriteFault::Store(fault)) => return Err(Stop::from(fault)),
-        Err(fault) => return Err(Stop::Refused(refusal_of_edit(caller, fault))),
+        Err(WriteFault::Memory) => return Err(EarlyEnd::NoRoom),
+        Err(WriteFault::Store(fault)) => return Err(EarlyEnd::from(fault)),
+        Err(fault) => return Err(EarlyEnd::Refused(refusal_of_edit(caller, fault))),
     };
     let value = local_reply(alloc, &planned.changes)?;
-    Ok(Worked {
+    Ok(WriteDraft {
         status: 201,
         value,
         planned,

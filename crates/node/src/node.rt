@@ -1,4 +1,4 @@
-use crate::handling::handle;
+use crate::dispatch::handle;
 use api::Routes;
 use auth::Auth;
 use couch_http::{Request, Response};

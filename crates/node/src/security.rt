@@ -6,9 +6,9 @@ ghost use Rattle.write.specs.Planning.{security_outcome};
 ghost use Rattle.node.specs.Coming.{Reads, WorksIn};
 ghost use Rattle.node.specs.Works.{security_read, security_set, security_written};
 
-use crate::answered::Worked;
 use crate::databases::done;
-use crate::stop::Stop;
+use crate::draft::WriteDraft;
+use crate::early_end::EarlyEnd;
 use api::{Refusal, body, without_parameters};
 use couch_http::Request;
 use couch_json::Json;
@@ -22,7 +22,7 @@ pub(crate) fn read_security<S: Store>(
     store: &mut S,
     name: &DbName,
     request: &Request,
-) -> Result<Json, Stop>
+) -> Result<Json, EarlyEnd>
     ensures reads { Reads S.Store store.old store.new name.now (security_read (message_of request.now)) result }
 {
     without_parameters(request)?;
@@ -36,7 +36,7 @@ pub(crate) fn write_security<S: Store>(
     store: &mut S,
     name: &DbName,
     request: &Request,
-) -> Result<Worked, Stop>
+) -> Result<WriteDraft, EarlyEnd>
     ensures works { WorksIn S.Store store.old store.new name.now (security_written (message_of request.now)) result }
 {
     without_parameters(request)?;
@@ -50,18 +50,18 @@ fn set_security<S: Store>(
     store: &mut S,
     name: &DbName,
     value: &Json,
-) -> Result<Worked, Stop>
+) -> Result<WriteDraft, EarlyEnd>
     ensures works { WorksIn S.Store store.old store.new name.now (λ db. security_set (security_outcome (view value.now))) result }
 {
     let planned = match put_security(alloc, store, name, value) {
         Ok(planned) => planned,
-        Err(WriteFault::Memory) => return Err(Stop::NoRoom),
-        Err(WriteFault::Store(fault)) => return Err(Stop::from(fault)),
-        Err(WriteFault::BadDocument) => return Err(Stop::Refused(Refusal::Body)),
+        Err(WriteFault::Memory) => return Err(EarlyEnd::NoRoom),
+        Err(WriteFault::Store(fault)) => return Err(EarlyEnd::from(fault)),
+        Err(WriteFault::BadDocument) => return Err(EarlyEnd::Refused(Refusal::Body)),
         Err(_) => unreachable!(),
     };
     let reply = done(alloc)?;
-    Ok(Worked {
+    Ok(WriteDraft {
         status: 200,
         value: reply,
         planned,

@@ -4,10 +4,10 @@ ghost use Rattle.std.specs.Prelude.{◌≡◌};
 ghost use Rattle.auth.specs.Callers.{Identity};
 ghost use Rattle.couch_http.specs.Message.{Message};
 ghost use Rattle.node.specs.Answer.{task_of};
-ghost use Rattle.node.specs.Answered.{task_asked_if_any};
+ghost use Rattle.node.specs.Drafts.{task_asked_if_any};
 
-use crate::working::Work::{Read, Write};
-use crate::working::{Reading, Work, Writing};
+use crate::work::Work::{Read, Write};
+use crate::work::{Reading, Work, Writing};
 use api::RequestMethod::{Delete, Get, Post, Put};
 use api::{Page, RequestMethod};
 use policy::Action;

@@ -4,7 +4,7 @@ ghost use Rattle.std.specs.Prelude.{◌≡◌, IfOk, Ok};
 ghost use Rattle.couch_http.specs.Message.{message_of};
 ghost use Rattle.couch_json.specs.View.{view};
 ghost use Rattle.node.specs.Answer.{welcome};
-ghost use Rattle.api.specs.Saying.{Says};
+ghost use Rattle.api.specs.RequestReading.{Says};
 ghost use Rattle.api.specs.Refusals.{next};
 ghost use Rattle.api.specs.Asking.{plain};
 

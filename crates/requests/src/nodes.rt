@@ -8,7 +8,7 @@ use store::Store;
 
 /// A request as its parts.
 #[derive(Clone, Copy)]
-pub struct Asked<'a> {
+pub struct RequestParts<'a> {
     pub method: &'a str,
     pub target: &'a str,
     pub headers: &'a str,
@@ -20,7 +20,7 @@ pub struct Asked<'a> {
 pub fn send<S: Store + Drop>(
     alloc: Global,
     node: &mut Node<S>,
-    asked: Asked<'_>,
+    asked: RequestParts<'_>,
 ) -> Result<Vec<u8>, RowsFault> {
     let Some(request) = request_of(alloc, asked)? else {
         return Err(RowsFault::Refused("no request"));
@@ -33,8 +33,8 @@ pub fn send<S: Store + Drop>(
 }
 
 /// Returns a request as it is cut from its bytes; `None` where they are none.
-fn request_of(alloc: Global, asked: Asked<'_>) -> Result<Option<Request>, RowsFault> {
-    let Asked {
+fn request_of(alloc: Global, asked: RequestParts<'_>) -> Result<Option<Request>, RowsFault> {
+    let RequestParts {
         method,
         target,
         headers,

@@ -1,5 +1,5 @@
 use crate::key_pages::by_key;
-use crate::nodes::{Asked, send};
+use crate::nodes::{RequestParts, send};
 use crate::setup::Setup;
 use crate::texts::{first_word, text_of};
 use lab::LabStore;
@@ -40,7 +40,7 @@ impl<S: LabStore> Pages<S> {
         let Some(headers) = self.setup.headers_of(user) else {
             return Err(RowsFault::Refused("the head has no such user"));
         };
-        let asked = Asked {
+        let asked = RequestParts {
             method,
             target,
             headers,

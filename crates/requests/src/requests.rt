@@ -1,4 +1,4 @@
-use crate::nodes::{Asked, send};
+use crate::nodes::{RequestParts, send};
 use crate::setup::Setup;
 use crate::texts::{answer, first_word, text_of};
 use lab::LabStore;
@@ -91,7 +91,7 @@ impl<S: LabStore> Kind for Requests<S> {
         let Some(headers) = self.setup.headers_of(user) else {
             return Err(RowsFault::Refused("the head has no such user"));
         };
-        let asked = Asked {
+        let asked = RequestParts {
             method,
             target,
             headers,

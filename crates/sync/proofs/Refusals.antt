@@ -7,7 +7,7 @@ use Rattle.std.specs.Prelude.{Some}
 use Rattle.world.specs.Happening.{Happening, Sight, comes, exchanges}
 use Rattle.world.specs.Network.{Network}
 use Rattle.world.specs.Playing.{Plays, StandAs, Stands}
-use Rattle.world.specs.Turning.{happening_of}
+use Rattle.world.specs.OneEvent.{happening_of}
 use Rattle.world.specs.declared.event.Event.TheVariants.{Exchange}
 use Rattle.world.specs.declared.fate.Fate.TheVariants.{Answered, ReplyLost}
 use Rattle.world.specs.declared.fault.WorldFaultKind.{WorldFaultKind}

@@ -5,7 +5,7 @@ ghost use Rattle.std.specs.Io.KnownBytes.{Appends};
 ghost use Rattle.repl.specs.Asks.{ask_of};
 ghost use Rattle.repl.specs.Passes.{Asked};
 ghost use Rattle.world.specs.Network.{AreHonest};
-ghost use Rattle.world.specs.Turning.{sight_of, was_started};
+ghost use Rattle.world.specs.OneEvent.{sight_of, was_started};
 ghost use Rattle.sync.specs.Ending.{end_text, status_of};
 ghost use Rattle.sync.specs.Passing.{HasTurn, BreaksOff, end_in};
 ghost use Rattle.sync.specs.Turns.{ComesToEnd, EndsEarly};

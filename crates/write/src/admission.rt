@@ -8,7 +8,7 @@ ghost use Rattle.write.specs.Admission.{appended_edit, base, design_refusal, edi
 ghost use Rattle.write.specs.TermsRead.{terms_of};
 
 use crate::denial::{find_design_refusal, find_rule_refusal};
-use crate::document::{Sent, read_document};
+use crate::document::{Sent, read_sent};
 use crate::fault::WriteFault;
 use crate::terms::Terms;
 use couch_json::{Got, Json, NoMemory};
@@ -80,7 +80,7 @@ pub(crate) fn admit_sent(
 fn read_edit(alloc: Global, id: &DocId, query: Option<Rev>, document: Json) -> Got<Option<Sent>>
     ensures { IfOk result (λ sent. sent ≡ edit_of id.now query (view document)) }
 {
-    let Some(sent) = read_document(alloc, id, document)? else {
+    let Some(sent) = read_sent(alloc, id, document)? else {
         return Ok(None);
     };
     match match_revisions(query, sent.rev) {

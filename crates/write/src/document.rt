@@ -25,7 +25,7 @@ pub(crate) struct Sent {
 }
 
 /// Reads what a document with this id says; `None` where it is a bad one.
-pub(crate) fn read_document(alloc: Global, id: &DocId, document: Json) -> Got<Option<Sent>>
+pub(crate) fn read_sent(alloc: Global, id: &DocId, document: Json) -> Got<Option<Sent>>
     ensures { IfOk result (λ sent. sent ≡ sent_in id.now (view document)) }
 {
     let Some((rev, deleted)) = read_words(id, &document) else {

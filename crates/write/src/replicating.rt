@@ -18,7 +18,7 @@ ghost use Rattle.write.specs.TermsRead.{terms_of};
 
 use crate::ancestry::{Ancestry, find_ancestry, read_given};
 use crate::denial::{find_design_refusal, find_nearest_held, find_rule_refusal};
-use crate::document::{Sent, read_document};
+use crate::document::{Sent, read_sent};
 use crate::fault::WriteFault;
 use crate::planned::Planned;
 use crate::planning::{plan_alone, read_label};
@@ -85,7 +85,7 @@ pub(crate) fn admit_replicated(
     ensures others { IfErr result (λ fault. (fault ≢ WriteFault.Conflict) × (fault ≢ WriteFault.Generation) × ((cause : _) → fault ≢ WriteFault.Store cause)) }
 {
     let given = read_given(alloc, &document)?;
-    let Some(sent) = read_document(alloc, id, document)? else {
+    let Some(sent) = read_sent(alloc, id, document)? else {
         return Err(WriteFault::BadDocument);
     };
     let Some(ancestry) = find_ancestry(alloc, given, sent.rev)? else {

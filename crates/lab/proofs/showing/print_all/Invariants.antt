@@ -1,6 +1,6 @@
 use Rattle.std.proofs.Common.{map, take}
 use Rattle.std.specs.Io.KnownBytes.{Appends}
-use Rattle.world.specs.Turning.{sight_of}
+use Rattle.world.specs.OneEvent.{sight_of}
 use Rattle.lab.specs.Replies.{sight_lines}
 use Rattle.lab.proofs.showing.print_all.Given as goal
 

@@ -1,5 +1,5 @@
 use Rattle.std.proofs.Common.{◌≡◌, drop, map}
-use Rattle.world.specs.Turning.{sight_of}
+use Rattle.world.specs.OneEvent.{sight_of}
 use Rattle.lab.specs.Replies.{says_end}
 use Rattle.lab.proofs.showing.says_end.Given as goal
 

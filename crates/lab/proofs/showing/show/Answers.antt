@@ -1,6 +1,6 @@
 use Rattle.std.proofs.Common.{◌∙◌, ap, map, sym, refl}
 use Rattle.lab.specs.Replies.{says_end, sight_lines}
-use Rattle.world.specs.Turning.{sight_of}
+use Rattle.world.specs.OneEvent.{sight_of}
 use Rattle.lab.proofs.showing.show.Goals as goal
 
 pub returns-in-Ok-clause-shown : goal.returns-in-Ok-clause-shown

@@ -1,5 +1,5 @@
 use Rattle.std.proofs.Common.{◌≡◌, map}
-use Rattle.world.specs.Turning.{sight_of}
+use Rattle.world.specs.OneEvent.{sight_of}
 use Rattle.sync.specs.Passing.{end_in}
 use Rattle.sync.proofs.passing.end_of.Given as goal
 

@@ -1,8 +1,8 @@
 use Rattle.std.proofs.Common.{rules}
 use Rattle.couch_http.specs.Message.{message_of}
-use Rattle.node.specs.Answered.{work_of}
+use Rattle.node.specs.Drafts.{work_of}
 use Rattle.node.proofs.Comings.{entry_stops}
-use Rattle.node.proofs.working.do_work.Goals as goal
+use Rattle.node.proofs.work.do_work.Goals as goal
 
 pub returns : goal.returns
 returns g c = record {

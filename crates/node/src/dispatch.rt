@@ -10,18 +10,18 @@ ghost use Rattle.couch_json.specs.View.{view};
 ghost use Rattle.store.specs.Calls.{ChangesWhole, GoesOn};
 ghost use Rattle.node.specs.Answer.{answer, judgement, task_outcome, with_change};
 ghost use Rattle.api.specs.Asking.{method_of};
-ghost use Rattle.node.specs.Answered.{MayChange, MayChangeBy, change_by, change_of, outcome_of, task_asked};
+ghost use Rattle.node.specs.Drafts.{MayChange, MayChangeBy, change_by, change_of, outcome_of, task_asked};
 ghost use Rattle.api.specs.Refusals.{next, refusal_value, status_of};
 ghost use Rattle.node.specs.Causes.{EndsBefore, HasCause, stop_of_change};
 ghost use Rattle.node.specs.Coming.{Judges, Serves};
 ghost use Rattle.node.specs.Step.{IsDone, IsStep};
 
-use crate::answered::{Answered, Change};
 use crate::databases::{create_database, list_databases, remove_database};
-use crate::stop::Stop;
+use crate::draft::{Change, Draft};
+use crate::early_end::EarlyEnd;
 use crate::task::{Task, task_of};
 use crate::welcome::tell_welcome;
-use crate::working::do_work;
+use crate::work::do_work;
 use api::{Page, Refusal, Routes, caller, method_of};
 use auth::{Auth, Caller};
 use couch_http::{Fixed, HttpFault, Request, Response};
@@ -37,12 +37,12 @@ fn judge<S: Store>(
     auth: &Auth,
     routes: &Routes,
     request: &Request,
-) -> Result<Answered, Stop>
+) -> Result<Draft, EarlyEnd>
     ensures judges { Judges S.Store store.old store.new (judgement auth.now (S.contents store.old) (message_of request.now)) result }
 {
     let caller = caller(alloc, auth, request)?;
     let Some(page) = routes.page(&request.path) else {
-        return Err(Stop::Refused(Refusal::Path));
+        return Err(EarlyEnd::Refused(Refusal::Path));
     };
     serve(alloc, store, page, &caller, request)
 }
@@ -54,12 +54,12 @@ fn serve<S: Store>(
     page: Page,
     caller: &Caller,
     request: &Request,
-) -> Result<Answered, Stop>
+) -> Result<Draft, EarlyEnd>
     ensures serves { Serves S.Store store.old store.new page (method_of request.now.method) caller.now (message_of request.now) result }
 {
     match task_of(page, method_of(request.method.as_str())) {
         Some(task) => do_task(alloc, store, task, caller, request),
-        None => Err(Stop::Refused(Refusal::Method)),
+        None => Err(EarlyEnd::Refused(Refusal::Method)),
     }
 }
 
@@ -70,13 +70,13 @@ fn do_task<S: Store>(
     task: Task,
     caller: &Caller,
     request: &Request,
-) -> Result<Answered, Stop>
+) -> Result<Draft, EarlyEnd>
     ensures judges { Judges S.Store store.old store.new (next (task_asked task caller.now (message_of request.now)) (task_outcome caller.now (S.contents store.old))) result }
 {
     match task {
         Task::Welcome => {
             let value = tell_welcome(alloc, request)?;
-            Ok(Answered {
+            Ok(Draft {
                 status: 200,
                 value,
                 change: None,
@@ -94,12 +94,12 @@ fn do_task<S: Store>(
 fn finish<S: Store>(
     alloc: Global,
     store: &mut S,
-    answered: Answered,
+    answered: Draft,
     last: bool,
-) -> Result<Response, Stop>
+) -> Result<Response, EarlyEnd>
     requires { S.is_honest store.old → MayChange (S.contents store.old) answered.change }
     ensures ok { S.is_honest store.new → IfOk result (λ reply. IsDone (outcome_of (S.contents store.old) answered) last (S.contents store.old) reply (S.contents store.new)) }
-    ensures unrefused { (refusal : _) → result ≢ Err (Stop.Refused refusal) }
+    ensures unrefused { (refusal : _) → result ≢ Err (EarlyEnd.Refused refusal) }
     ensures ends { IfErr result (EndsBefore S.Store store.old store.new (change_of (S.contents store.old) answered.change)) }
     ensures changes { ChangesWhole S.Store store.old store.new result }
 {
@@ -121,10 +121,10 @@ fn build_response(alloc: Global, status: u16, value: &Json, last: bool) -> Got<R
 }
 
 /// Makes the change, if there is one: the only step of a request that changes the store.
-fn change<S: Store>(store: &mut S, change: Option<Change>) -> Result<(), Stop>
+fn change<S: Store>(store: &mut S, change: Option<Change>) -> Result<(), EarlyEnd>
     requires { S.is_honest store.old → MayChange (S.contents store.old) change }
     ensures ok { S.is_honest store.new → OnOk result (S.contents store.new ≡ with_change (change_of (S.contents store.old) change) (S.contents store.old)) }
-    ensures unrefused { (refusal : _) → result ≢ Err (Stop.Refused refusal) }
+    ensures unrefused { (refusal : _) → result ≢ Err (EarlyEnd.Refused refusal) }
     ensures ends { IfErr result (EndsBefore S.Store store.old store.new (change_of (S.contents store.old) change)) }
     ensures changes { ChangesWhole S.Store store.old store.new result }
 {
@@ -137,41 +137,41 @@ fn change<S: Store>(store: &mut S, change: Option<Change>) -> Result<(), Stop>
 }
 
 /// Makes a new database.
-fn create<S: Store>(store: &mut S, name: &DbName) -> Result<(), Stop>
+fn create<S: Store>(store: &mut S, name: &DbName) -> Result<(), EarlyEnd>
     requires { S.is_honest store.old → MayChangeBy (S.contents store.old) (Change.Create name.now) }
     ensures ok { S.is_honest store.new → OnOk result (S.contents store.new ≡ with_change (change_by (S.contents store.old) (Change.Create name.now)) (S.contents store.old)) }
-    ensures unrefused { (refusal : _) → result ≢ Err (Stop.Refused refusal) }
+    ensures unrefused { (refusal : _) → result ≢ Err (EarlyEnd.Refused refusal) }
     ensures ends { IfErr result (EndsBefore S.Store store.old store.new (change_by (S.contents store.old) (Change.Create name.now))) }
     ensures changes { ChangesWhole S.Store store.old store.new result }
 {
     match store.create(name) {
         Ok(()) => Ok(()),
-        Err(StoreFault::Memory) => Err(Stop::NoRoom),
-        Err(_) => Err(Stop::Failed),
+        Err(StoreFault::Memory) => Err(EarlyEnd::NoRoom),
+        Err(_) => Err(EarlyEnd::Failed),
     }
 }
 
 /// Removes a database with all that it holds.
-fn remove<S: Store>(store: &mut S, name: &DbName) -> Result<(), Stop>
+fn remove<S: Store>(store: &mut S, name: &DbName) -> Result<(), EarlyEnd>
     requires { S.is_honest store.old → MayChangeBy (S.contents store.old) (Change.Remove name.now) }
     ensures ok { S.is_honest store.new → OnOk result (S.contents store.new ≡ with_change (change_by (S.contents store.old) (Change.Remove name.now)) (S.contents store.old)) }
-    ensures unrefused { (refusal : _) → result ≢ Err (Stop.Refused refusal) }
+    ensures unrefused { (refusal : _) → result ≢ Err (EarlyEnd.Refused refusal) }
     ensures ends { IfErr result (EndsBefore S.Store store.old store.new (change_by (S.contents store.old) (Change.Remove name.now))) }
     ensures changes { ChangesWhole S.Store store.old store.new result }
 {
     match store.remove(name) {
         Ok(()) => Ok(()),
-        Err(StoreFault::Memory) => Err(Stop::NoRoom),
-        Err(_) => Err(Stop::Failed),
+        Err(StoreFault::Memory) => Err(EarlyEnd::NoRoom),
+        Err(_) => Err(EarlyEnd::Failed),
     }
 }
 
 /// Makes what was planned.
 #[tactic(auto, using(crate::proofs::Faults::unrefused_change))]
-fn write<S: Store>(store: &mut S, planned: Planned) -> Result<(), Stop>
+fn write<S: Store>(store: &mut S, planned: Planned) -> Result<(), EarlyEnd>
     requires { S.is_honest store.old → MayChangeBy (S.contents store.old) (Change.Write planned) }
     ensures ok { S.is_honest store.new → OnOk result (S.contents store.new ≡ with_change (change_by (S.contents store.old) (Change.Write planned)) (S.contents store.old)) }
-    ensures unrefused { (refusal : _) → result ≢ Err (Stop.Refused refusal) }
+    ensures unrefused { (refusal : _) → result ≢ Err (EarlyEnd.Refused refusal) }
     ensures ends { IfErr result (EndsBefore S.Store store.old store.new (change_by (S.contents store.old) (Change.Write planned))) }
     ensures changes { ChangesWhole S.Store store.old store.new result }
 {
@@ -182,12 +182,12 @@ fn write<S: Store>(store: &mut S, planned: Planned) -> Result<(), Stop>
 }
 
 /// Tells how a request ends whose change was not made.
-fn stop_after(fault: &WriteFault) -> Stop
+fn stop_after(fault: &WriteFault) -> EarlyEnd
     ensures { result ≡ stop_of_change fault.now }
 {
     match fault {
-        WriteFault::Memory => Stop::NoRoom,
-        _ => Stop::Failed,
+        WriteFault::Memory => EarlyEnd::NoRoom,
+        _ => EarlyEnd::Failed,
     }
 }
 
@@ -198,10 +198,10 @@ fn reply<S: Store>(
     auth: &Auth,
     routes: &Routes,
     request: &Request,
-) -> Result<Response, Stop>
+) -> Result<Response, EarlyEnd>
     ensures ok { S.is_honest store.new → IfOk result (λ reply. IsDone (answer auth.now (S.contents store.old) (message_of request.now))
         request.now.last (S.contents store.old) reply (S.contents store.new)) }
-    ensures refused { S.is_honest store.new → (refusal : _) → result ≡ Err (Stop.Refused refusal)
+    ensures refused { S.is_honest store.new → (refusal : _) → result ≡ Err (EarlyEnd.Refused refusal)
         → judgement auth.now (S.contents store.old) (message_of request.now) ≡ Err refusal }
     ensures ends { IfErr result (EndsBefore S.Store store.old store.new (answer auth.now (S.contents store.old) (message_of request.now)).change) }
     ensures changes { ChangesWhole S.Store store.old store.new result }
@@ -243,8 +243,8 @@ pub(crate) fn handle<S: Store>(
 {
     match reply(alloc, store, auth, routes, request) {
         Ok(reply) => reply,
-        Err(Stop::Refused(refusal)) => refusal_reply(alloc, &refusal, request.last),
-        Err(Stop::Failed) => Response::fixed(Fixed::Store { last: request.last }),
-        Err(Stop::NoRoom) => Response::fixed(Fixed::NoRoom { last: request.last }),
+        Err(EarlyEnd::Refused(refusal)) => refusal_reply(alloc, &refusal, request.last),
+        Err(EarlyEnd::Failed) => Response::fixed(Fixed::Store { last: request.last }),
+        Err(EarlyEnd::NoRoom) => Response::fixed(Fixed::NoRoom { last: request.last }),
     }
 }

@@ -4,7 +4,7 @@ use crate::running::Running;
 
 /// How far a script is: nodes and databases are laid out first, and then connections come.
 #[derive(Drop)]
-pub enum Stage<S: LabStore> {
+pub enum ScriptStage<S: LabStore> {
     Laying(Layout<S>),
     Running(Running<S>),
 }

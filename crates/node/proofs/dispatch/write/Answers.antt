@@ -1,10 +1,10 @@
 use Rattle.std.proofs.Common.{sym, subst, refl}
 use Rattle.std.specs.FinMap.{get}
-use Rattle.node.specs.Answered.{change_inside}
+use Rattle.node.specs.Drafts.{change_inside}
 use Rattle.node.specs.Causes.{EndsBefore}
-use Rattle.node.specs.declared.stop.Stop.{Stop}
+use Rattle.node.specs.declared.early_end.EarlyEnd.{EarlyEnd}
 use Rattle.node.proofs.Faults.{change_ends, change_made}
-use Rattle.node.proofs.handling.write.Goals as goal
+use Rattle.node.proofs.dispatch.write.Goals as goal
 
 pub returns-in-Ok-clause-ok : goal.returns-in-Ok-clause-ok
 returns-in-Ok-clause-ok g c = λ honest.
@@ -17,5 +17,5 @@ returns-in-Err-clause-ends g c =
     let changes = c.args.planned.changes in
     let old = c.args.store.now in
     let new = c.apply.new.store in
-    subst (λ (stop : Stop). EndsBefore g.S.Store old new (change_inside name changes (get (g.S.Store.contents old) name)) stop) (sym c.stop_after.ensures)
+    subst (λ (stop : EarlyEnd). EndsBefore g.S.Store old new (change_inside name changes (get (g.S.Store.contents old) name)) stop) (sym c.stop_after.ensures)
     (change_ends g.S.Store old new name changes c.in-Err.fault (λ honest. (c.requires (c.in-Err.ensures.changes.goes_on.honest honest)).1) c.in-Err.ensures.only c.in-Err.ensures.passed)

@@ -5,21 +5,21 @@ ghost use Rattle.std.specs.FinMap as map;
 ghost use Rattle.couch_http.specs.Message.{message_of};
 ghost use Rattle.store.specs.Calls.{OnlyReads};
 ghost use Rattle.node.specs.Answer.{entry, outcome_in, task_outcome, work_task};
-ghost use Rattle.node.specs.Answered.{MayChange, outcome_of, reading_of, work_of, writing_of};
+ghost use Rattle.node.specs.Drafts.{MayChange, outcome_of, reading_of, work_of, writing_of};
 ghost use Rattle.node.specs.Causes.{Ends};
 ghost use Rattle.node.specs.Coming.{Comes, Judges, OfThere, Reads, WorksIn};
 ghost use Rattle.api.specs.Refusals.{next};
 
-use crate::answered::{Answered, Change, Worked};
 use crate::bulk::write_documents;
 use crate::databases::read_database;
-use crate::document::{delete_document, read_document, write_document};
+use crate::document::{delete_document, show_document, write_document};
+use crate::draft::{Change, Draft, WriteDraft};
+use crate::early_end::EarlyEnd;
 use crate::finds::{find_documents, list_view};
 use crate::indexes::write_index;
 use crate::lists::{list_changes, list_documents, tell_differences};
 use crate::local_document::{read_local, write_local};
 use crate::security::{read_security, write_security};
-use crate::stop::Stop;
 use api::{database_name, deny};
 use auth::Caller;
 use couch_http::Request;
@@ -86,7 +86,7 @@ pub(crate) fn do_work<S: Store>(
     action: Action,
     work: Work,
     request: &Request,
-) -> Result<Answered, Stop>
+) -> Result<Draft, EarlyEnd>
     ensures judges { Judges S.Store store.old store.new (next (work_task action (message_of request.now) (work_of work caller.now (message_of request.now))) (task_outcome caller.now (S.contents store.old))) result }
 {
     let name = database_name(alloc, &request.path)?;
@@ -102,7 +102,7 @@ fn enter<S: Store>(
     action: Action,
     caller: &Caller,
     name: &DbName,
-) -> Result<(), Stop>
+) -> Result<(), EarlyEnd>
     ensures comes { S.is_honest store.new → Comes (λ _. map.get (S.contents store.old) name.now) result
         (next (entry caller.now action (map.get (S.contents store.old) name.now)) (λ db. Ok (Some db))) }
     ensures ends { IfErr result (Ends S.Store store.old store.new) }
@@ -110,7 +110,7 @@ fn enter<S: Store>(
 {
     let security = store.security(name)?;
     match refusal(action, caller, &security) {
-        Some(rule) => Err(Stop::Refused(deny(caller, rule))),
+        Some(rule) => Err(EarlyEnd::Refused(deny(caller, rule))),
         None => Ok(()),
     }
 }
@@ -123,7 +123,7 @@ fn perform<S: Store>(
     name: &DbName,
     work: Work,
     request: &Request,
-) -> Result<Answered, Stop>
+) -> Result<Draft, EarlyEnd>
     ensures comes { S.is_honest store.new → OfThere (S.contents store.old) name.now (λ db. Comes (outcome_of (S.contents store.old)) result
         (next (work_of work caller.now (message_of request.now) name.now db) (λ d. Ok (outcome_in name.now d)))) }
     ensures may { S.is_honest store.new → OfThere (S.contents store.old) name.now (λ db. IfOk result (λ answered. MayChange (S.contents store.old) answered.change)) }
@@ -133,14 +133,14 @@ fn perform<S: Store>(
     match work {
         Work::Read(reading) => {
             let value = read(alloc, store, name, reading, request)?;
-            Ok(Answered {
+            Ok(Draft {
                 status: 200,
                 value,
                 change: None,
             })
         }
         Work::Write(writing) => match write(alloc, store, caller, name, writing, request) {
-            Ok(worked) => Ok(Answered {
+            Ok(worked) => Ok(Draft {
                 status: worked.status,
                 value: worked.value,
                 change: Some(Change::Write(worked.planned)),
@@ -157,13 +157,13 @@ fn read<S: Store>(
     name: &DbName,
     reading: Reading,
     request: &Request,
-) -> Result<Json, Stop>
+) -> Result<Json, EarlyEnd>
     ensures reads { Reads S.Store store.old store.new name.now (reading_of reading (message_of request.now) name.now) result }
 {
     match reading {
         Reading::Database => read_database(alloc, store, name, request),
         Reading::Security => read_security(alloc, store, name, request),
-        Reading::Document => read_document(alloc, store, name, request),
+        Reading::Document => show_document(alloc, store, name, request),
         Reading::Documents => list_documents(alloc, store, name, request),
         Reading::Changes => list_changes(alloc, store, name, request),
         Reading::Differences => tell_differences(alloc, store, name, request),
@@ -181,7 +181,7 @@ fn write<S: Store>(
     name: &DbName,
     writing: Writing,
     request: &Request,
-) -> Result<Worked, Stop>
+) -> Result<WriteDraft, EarlyEnd>
     ensures works { WorksIn S.Store store.old store.new name.now (writing_of writing caller.now (message_of request.now) name.now) result }
 {
     match writing {

@@ -21,18 +21,18 @@ use Rattle.api.specs.declared.method.RequestMethod.TheVariants.{Get, Put, Delete
 use Rattle.api.specs.declared.page.Page.TheVariants as page
 use Rattle.api.specs.declared.refusal.Refusal.{Refusal}
 use Rattle.api.specs.declared.refusal.Refusal.TheVariants.{Method}
-use Rattle.node.specs.declared.answered.Answered.{Answered}
-use Rattle.node.specs.declared.answered.Change.{Change}
-use Rattle.node.specs.declared.answered.Change.TheVariants.{Create, Remove, Write}
-use Rattle.node.specs.declared.answered.Worked.{Worked}
+use Rattle.node.specs.declared.draft.Draft.{Draft}
+use Rattle.node.specs.declared.draft.Change.{Change}
+use Rattle.node.specs.declared.draft.Change.TheVariants.{Create, Remove, Write}
+use Rattle.node.specs.declared.draft.WriteDraft.{WriteDraft}
 use Rattle.node.specs.declared.task.Task.{Task}
 use Rattle.node.specs.declared.task.Task.TheVariants as task
-use Rattle.node.specs.declared.working.Work.{Work as WorkAsked}
-use Rattle.node.specs.declared.working.Work.TheVariants as asked
-use Rattle.node.specs.declared.working.Reading.{Reading}
-use Rattle.node.specs.declared.working.Reading.TheVariants as read
-use Rattle.node.specs.declared.working.Writing.{Writing}
-use Rattle.node.specs.declared.working.Writing.TheVariants as write
+use Rattle.node.specs.declared.work.Work.{Work as WorkAsked}
+use Rattle.node.specs.declared.work.Work.TheVariants as asked
+use Rattle.node.specs.declared.work.Reading.{Reading}
+use Rattle.node.specs.declared.work.Reading.TheVariants as read
+use Rattle.node.specs.declared.work.Writing.{Writing}
+use Rattle.node.specs.declared.work.Writing.TheVariants as write
 
 -- ---- work
 
@@ -93,7 +93,7 @@ says_made Known = false
 says_made (Refused fault) = false
 
 -- what work comes to in a database
-abbrev pub done_of : Database → Worked → Done
+abbrev pub done_of : Database → WriteDraft → Done
 done_of db w = record { status = w.status; value = view w.value; effect = effect_of w.planned.changes db }
 
 abbrev pub change_inside : List ℕ → Changes → Option Database → answer.Change
@@ -110,7 +110,7 @@ abbrev pub change_of : Contents → Option Change → answer.Change
 change_of databases None = answer.kept
 change_of databases (Some change) = change_by databases change
 
-abbrev pub outcome_of : Contents → Answered → answer.Outcome
+abbrev pub outcome_of : Contents → Draft → answer.Outcome
 outcome_of databases a = record { status = a.status; value = view a.value; change = change_of databases a.change }
 
 -- ---- when it may be made

@@ -4,7 +4,7 @@ use write::Planned;
 
 /// What a request comes to, with a change that is not made yet.
 #[derive(Drop)]
-pub(crate) struct Answered {
+pub(crate) struct Draft {
     /// The status of the reply.
     pub(crate) status: u16,
     /// The value of its body.
@@ -26,7 +26,7 @@ pub(crate) enum Change {
 
 /// What a request comes to that changes a database, with the change not made yet.
 #[derive(Drop)]
-pub(crate) struct Worked {
+pub(crate) struct WriteDraft {
     /// The status of the reply.
     pub(crate) status: u16,
     /// The value of its body.

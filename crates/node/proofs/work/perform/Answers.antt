@@ -1,12 +1,12 @@
 use Rattle.std.proofs.Common.{sym, subst, Ok, Err}
 use Rattle.couch_http.specs.Message.{message_of}
 use Rattle.node.specs.Answer.{outcome_in}
-use Rattle.node.specs.Answered.{outcome_of, work_of, writing_of}
+use Rattle.node.specs.Drafts.{outcome_of, work_of, writing_of}
 use Rattle.node.specs.Coming.{Comes}
 use Rattle.api.specs.Refusals.{next}
-use Rattle.node.specs.declared.working.Work.{Work}
+use Rattle.node.specs.declared.work.Work.{Work}
 use Rattle.node.proofs.Comings.{work_stops}
-use Rattle.node.proofs.working.perform.Goals as goal
+use Rattle.node.proofs.work.perform.Goals as goal
 
 pub returns-in-Err-clause-comes : goal.returns-in-Err-clause-comes
 returns-in-Err-clause-comes g c = λ honest db there.
