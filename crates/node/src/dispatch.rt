@@ -30,6 +30,26 @@ use std::alloc::Global;
 use store::{DbName, Store, StoreFault};
 use write::{Planned, WriteFault, apply};
 
+/// Replies to a request, whatever becomes of it.
+pub(crate) fn handle<S: Store>(
+    alloc: Global,
+    store: &mut S,
+    auth: &Auth,
+    routes: &Routes,
+    request: &Request,
+) -> Response
+    ensures step { S.is_honest store.new → IsStep auth.now (S.contents store.old) (message_of request.now)
+        (HasCause S.Store store.old store.new) result (S.contents store.new) }
+    ensures onward { GoesOn S.Store store.old store.new }
+{
+    match reply(alloc, store, auth, routes, request) {
+        Ok(reply) => reply,
+        Err(EarlyEnd::Refused(refusal)) => refusal_reply(alloc, &refusal, request.last),
+        Err(EarlyEnd::Failed) => Response::fixed(Fixed::Store { last: request.last }),
+        Err(EarlyEnd::NoRoom) => Response::fixed(Fixed::NoRoom { last: request.last }),
+    }
+}
+
 /// Tells what a request comes to, but for the change of the store itself.
 fn judge<S: Store>(
     alloc: Global,
@@ -227,24 +247,4 @@ fn refusal_made(alloc: Global, refusal: &Refusal, last: bool) -> Got<Response>
 {
     let value = refusal.value(alloc)?;
     build_response(alloc, refusal.status(), &value, last)
-}
-
-/// Replies to a request, whatever becomes of it.
-pub(crate) fn handle<S: Store>(
-    alloc: Global,
-    store: &mut S,
-    auth: &Auth,
-    routes: &Routes,
-    request: &Request,
-) -> Response
-    ensures step { S.is_honest store.new → IsStep auth.now (S.contents store.old) (message_of request.now)
-        (HasCause S.Store store.old store.new) result (S.contents store.new) }
-    ensures onward { GoesOn S.Store store.old store.new }
-{
-    match reply(alloc, store, auth, routes, request) {
-        Ok(reply) => reply,
-        Err(EarlyEnd::Refused(refusal)) => refusal_reply(alloc, &refusal, request.last),
-        Err(EarlyEnd::Failed) => Response::fixed(Fixed::Store { last: request.last }),
-        Err(EarlyEnd::NoRoom) => Response::fixed(Fixed::NoRoom { last: request.last }),
-    }
 }

@@ -39,6 +39,29 @@ pub(crate) enum Followed {
     Open,
 }
 
+/// Judges an edit of a stored document: its write, or why it is refused.
+pub(crate) fn judge_edit<S: Store>(
+    alloc: Global,
+    store: &mut S,
+    db: &DbName,
+    terms: &Terms,
+    id: &DocId,
+    query: Option<Rev>,
+    document: Json,
+) -> Result<Write, WriteFault>
+    ensures ok { S.is_honest store.new → IfOk result (λ write. IfThere (map.get (S.contents store.old) db.now) (λ d.
+        edit_outcome (terms_of terms.now) id.now (history_at d id.now) query (view document) ≡ Ok (written_in (history_at d id.now) (addition_of write)))) }
+    ensures refused { S.is_honest store.new → IfErr result (λ fault. IsOwn fault
+        → IfThere (map.get (S.contents store.old) db.now) (λ d. edit_outcome (terms_of terms.now) id.now (history_at d id.now) query (view document) ≡ Err fault)) }
+    ensures headed { IfOk result (λ write. 0 < length write.path.items) }
+    ensures edits { IfErr result (λ fault. fault ≢ WriteFault.BadHistory) }
+    ensures passed { IfErr result (Refuses S.Store store.old store.new (map.get (S.contents store.old) db.now ≡ None) ⊥) }
+    ensures reads { OnlyReads S.Store store.old store.new }
+{
+    let sent = read_allowed(alloc, terms, id, query, document)?;
+    judge_sent(alloc, store, db, terms, id, sent)
+}
+
 /// Finds what an edit that names this revision, or none, follows, as far as the winner tells.
 fn find_followed(winner: Option<MarkedRev>, rev: Option<Rev>) -> Followed
     ensures { (h : HistoryContent) → winner ≡ marked_winner h → IsFollowed h (base h rev) result }
@@ -214,27 +237,4 @@ fn judge_sent<S: Store>(
         Followed::Conflict => Err(WriteFault::Conflict),
         Followed::Open => judge_whole(alloc, store, db, terms, id, sent),
     }
-}
-
-/// Judges an edit of a stored document: its write, or why it is refused.
-pub(crate) fn judge_edit<S: Store>(
-    alloc: Global,
-    store: &mut S,
-    db: &DbName,
-    terms: &Terms,
-    id: &DocId,
-    query: Option<Rev>,
-    document: Json,
-) -> Result<Write, WriteFault>
-    ensures ok { S.is_honest store.new → IfOk result (λ write. IfThere (map.get (S.contents store.old) db.now) (λ d.
-        edit_outcome (terms_of terms.now) id.now (history_at d id.now) query (view document) ≡ Ok (written_in (history_at d id.now) (addition_of write)))) }
-    ensures refused { S.is_honest store.new → IfErr result (λ fault. IsOwn fault
-        → IfThere (map.get (S.contents store.old) db.now) (λ d. edit_outcome (terms_of terms.now) id.now (history_at d id.now) query (view document) ≡ Err fault)) }
-    ensures headed { IfOk result (λ write. 0 < length write.path.items) }
-    ensures edits { IfErr result (λ fault. fault ≢ WriteFault.BadHistory) }
-    ensures passed { IfErr result (Refuses S.Store store.old store.new (map.get (S.contents store.old) db.now ≡ None) ⊥) }
-    ensures reads { OnlyReads S.Store store.old store.new }
-{
-    let sent = read_allowed(alloc, terms, id, query, document)?;
-    judge_sent(alloc, store, db, terms, id, sent)
 }
