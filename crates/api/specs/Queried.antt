@@ -11,11 +11,11 @@ use Rattle.api.specs.declared.query.DocumentQuery.{DocumentQuery as Question}
 abbrev pub texts_of : List (String Global × String Global) → List (List ℕ × List ℕ)
 texts_of parameters = map (λ p. (string_bytes p.0, string_bytes p.1)) parameters
 
-abbrev pub asked_of : AskedFor → Asked
-asked_of Winner = winner
-asked_of (Revision r) = revision r
-asked_of Leaves = leaves
-asked_of (Revisions rs) = revisions rs.items
+abbrev pub choice_of : AskedFor → Asked
+choice_of Winner = winner
+choice_of (Revision r) = revision r
+choice_of Leaves = leaves
+choice_of (Revisions rs) = revisions rs.items
 
 abbrev pub query_of : Question → DocumentQuery
-query_of q = record { asked = asked_of q.asked; revs = q.revs }
+query_of q = record { asked = choice_of q.asked; revs = q.revs }

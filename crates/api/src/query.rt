@@ -4,7 +4,7 @@ ghost use Rattle.std.specs.Prelude.{◌≡◌, IfOk, option_copied, option_map};
 ghost use Rattle.couch_http.specs.Message.{message_of};
 ghost use Rattle.couch_json.specs.View.{items_view, view};
 ghost use Rattle.api.specs.RequestReading.{Says};
-ghost use Rattle.api.specs.Queried.{asked_of, query_of, texts_of};
+ghost use Rattle.api.specs.Queried.{choice_of, query_of, texts_of};
 ghost use Rattle.api.specs.Queries.{asked_by, asked_of_document, document_query, open_revisions, query_by, revision_asked, revision_by, revision_in, revision_query, revisions, revisions_in, revisions_listed};
 ghost use Rattle.api.specs.Refusals.{there_or};
 
@@ -95,7 +95,7 @@ fn query_by(
 
 /// Reads which revisions `rev` and `open_revs` ask for.
 fn asked_by(alloc: Global, rev: Option<&str>, open_revs: Option<&str>) -> Got<Option<Asked>>
-    ensures { IfOk result (λ asked. option_map asked_of asked ≡ asked_by (option_copied rev.entry) (option_copied open_revs.entry)) }
+    ensures { IfOk result (λ asked. option_map choice_of asked ≡ asked_by (option_copied rev.entry) (option_copied open_revs.entry)) }
 {
     match (rev, open_revs) {
         (None, None) => Ok(Some(Asked::Winner)),
@@ -110,7 +110,7 @@ fn asked_by(alloc: Global, rev: Option<&str>, open_revs: Option<&str>) -> Got<Op
 
 /// Reads the open revisions that are asked for: `all`, or a JSON list of revisions.
 fn read_open_revisions(alloc: Global, value: &str) -> Got<Option<Asked>>
-    ensures { IfOk result (λ asked. option_map asked_of asked ≡ open_revisions value.now) }
+    ensures { IfOk result (λ asked. option_map choice_of asked ≡ open_revisions value.now) }
 {
     if value == "all" {
         return Ok(Some(Asked::Leaves));
@@ -124,7 +124,7 @@ fn read_open_revisions(alloc: Global, value: &str) -> Got<Option<Asked>>
 
 /// Reads the revisions that a list spells.
 fn read_revisions(alloc: Global, value: &Json) -> Got<Option<Asked>>
-    ensures { IfOk result (λ asked. option_map asked_of asked ≡ option_map revisions (revisions_listed (view value.now))) }
+    ensures { IfOk result (λ asked. option_map choice_of asked ≡ option_map revisions (revisions_listed (view value.now))) }
 {
     match list_revisions(alloc, value)? {
         Some(revs) => Ok(Some(Asked::Revisions(revs))),

@@ -205,8 +205,8 @@ sync_of p = record {
 }
 
 -- the program's plan as the definition's
-abbrev pub asked_of : Plan → Asked
-asked_of (Lab secret admins) = lab_asked (string_bytes secret) (map string_bytes admins.items)
-asked_of (Serve secret file port conns at_once admins) =
+abbrev pub command_of : Plan → Asked
+command_of (Lab secret admins) = lab_asked (string_bytes secret) (map string_bytes admins.items)
+command_of (Serve secret file port conns at_once admins) =
     serve_asked (record { secret = string_bytes secret; file = string_bytes file; port = port; conns = conns; at_once = at_once; admins = map string_bytes admins.items })
-asked_of (Sync plan) = sync_asked (sync_of plan)
+command_of (Sync plan) = sync_asked (sync_of plan)

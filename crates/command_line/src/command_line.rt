@@ -5,7 +5,7 @@ ghost use Rattle.std.specs.Char.{is_ascii_digit};
 ghost use Rattle.std.specs.List.{list_all};
 ghost use Rattle.clap.specs.declared.builder.command.Command.TheViews.{out-Command as fields_of};
 ghost use Rattle.clap.specs.Words.{all_of, app_of, fault_of, first_of, found_of, kind_of, rows_of, rule_of, shape_of, subcommand_of, subcommand_rows_of};
-ghost use Rattle.command_line.specs.Plan.{admin_rule, asked_at, asked_by, asked_of, at_once_in, couchd_command, file_beside, is_header_byte, is_numeral, lab_asked_by, lab_command, number_between, optional_option, port_in, required_option, serve_asked_by, serve_command, sync_asked_by, sync_command, sync_options, target_in, target_of, user_in};
+ghost use Rattle.command_line.specs.Plan.{admin_rule, asked_at, asked_by, command_of, at_once_in, couchd_command, file_beside, is_header_byte, is_numeral, lab_asked_by, lab_command, number_between, optional_option, port_in, required_option, serve_asked_by, serve_command, sync_asked_by, sync_command, sync_options, target_in, target_of, user_in};
 
 use crate::plans::{Plan, PlanFault, SyncPlan, SyncTarget};
 use clap::error::ErrorKind;
@@ -25,7 +25,7 @@ const GREATEST_AT_ONCE: u32 = 1_000;
 ///
 /// `Usage` comes if and only if the words ask for nothing that the program does.
 pub fn plan(alloc: Global, words: &[String]) -> Result<Plan, PlanFault>
-    ensures ok { IfOk result (λ plan. asked_by (map string_bytes words.now) ≡ Some (asked_of plan)) }
+    ensures ok { IfOk result (λ plan. asked_by (map string_bytes words.now) ≡ Some (command_of plan)) }
     ensures usage { result ≡ Err PlanFault.Usage → asked_by (map string_bytes words.now) ≡ None }
 {
     match parse(alloc, words) {
@@ -168,7 +168,7 @@ fn admin_words<'a>(alloc: Global) -> Arg<'a>
 
 /// Returns the plan of the command of this name, with what clap made of its words.
 fn plan_at(alloc: Global, name: &str, matches: &ArgMatches<'_>) -> Result<Plan, PlanFault>
-    ensures ok { IfOk result (λ plan. asked_at name.now (rows_of (found_of matches.now)) ≡ Some (asked_of plan)) }
+    ensures ok { IfOk result (λ plan. asked_at name.now (rows_of (found_of matches.now)) ≡ Some (command_of plan)) }
     ensures usage { result ≡ Err PlanFault.Usage → asked_at name.now (rows_of (found_of matches.now)) ≡ None }
 {
     if name == "lab" {
@@ -184,7 +184,7 @@ fn plan_at(alloc: Global, name: &str, matches: &ArgMatches<'_>) -> Result<Plan, 
 
 /// Returns the plan of the words after `lab`.
 fn lab_plan(alloc: Global, matches: &ArgMatches<'_>) -> Result<Plan, PlanFault>
-    ensures ok { IfOk result (λ plan. lab_asked_by (rows_of (found_of matches.now)) ≡ Some (asked_of plan)) }
+    ensures ok { IfOk result (λ plan. lab_asked_by (rows_of (found_of matches.now)) ≡ Some (command_of plan)) }
     ensures usage { result ≡ Err PlanFault.Usage → lab_asked_by (rows_of (found_of matches.now)) ≡ None }
 {
     let secret = text_at(alloc, matches, "secret")?;
@@ -194,7 +194,7 @@ fn lab_plan(alloc: Global, matches: &ArgMatches<'_>) -> Result<Plan, PlanFault>
 
 /// Returns the plan of the words after `serve`.
 fn serve_plan(alloc: Global, matches: &ArgMatches<'_>) -> Result<Plan, PlanFault>
-    ensures ok { IfOk result (λ plan. serve_asked_by (rows_of (found_of matches.now)) ≡ Some (asked_of plan)) }
+    ensures ok { IfOk result (λ plan. serve_asked_by (rows_of (found_of matches.now)) ≡ Some (command_of plan)) }
     ensures usage { result ≡ Err PlanFault.Usage → serve_asked_by (rows_of (found_of matches.now)) ≡ None }
 {
     let secret = text_at(alloc, matches, "secret")?;
@@ -215,7 +215,7 @@ fn serve_plan(alloc: Global, matches: &ArgMatches<'_>) -> Result<Plan, PlanFault
 
 /// Returns the plan of the words after `sync`.
 fn sync_plan(alloc: Global, matches: &ArgMatches<'_>) -> Result<Plan, PlanFault>
-    ensures ok { IfOk result (λ plan. sync_asked_by (rows_of (found_of matches.now)) ≡ Some (asked_of plan)) }
+    ensures ok { IfOk result (λ plan. sync_asked_by (rows_of (found_of matches.now)) ≡ Some (command_of plan)) }
     ensures usage { result ≡ Err PlanFault.Usage → sync_asked_by (rows_of (found_of matches.now)) ≡ None }
 {
     let secret = text_at(alloc, matches, "secret")?;

@@ -16,7 +16,7 @@ ghost use Rattle.node.specs.Drafts.{done_of};
 ghost use Rattle.node.specs.Causes.{Ends};
 ghost use Rattle.node.specs.Coming.{Comes, OfThere, Reads, WorksIn};
 ghost use Rattle.api.specs.RequestReading.{Says};
-ghost use Rattle.api.specs.Queried.{asked_of, query_of};
+ghost use Rattle.api.specs.Queried.{choice_of, query_of};
 ghost use Rattle.node.specs.Works.{deletion, document_deleted, document_read, document_written, edit_asked, edit_done, edit_in, found, read_by};
 
 use crate::bulk_reply::{made_members, refusal_of_edit};

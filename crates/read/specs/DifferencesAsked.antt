@@ -4,8 +4,8 @@ use Rattle.std.specs.Prelude.{List, map, string_bytes}
 use Rattle.read.specs.Differences.{RevisionsOf}
 use Rattle.read.specs.declared.differences.AskedRevisions.{AskedRevisions}
 
-abbrev pub asked_of : AskedRevisions → RevisionsOf
-asked_of a = record { id = string_bytes a.id; revs = a.revs.items }
+abbrev pub revisions_asked : AskedRevisions → RevisionsOf
+revisions_asked a = record { id = string_bytes a.id; revs = a.revs.items }
 
 abbrev pub all_asked : List AskedRevisions → List RevisionsOf
-all_asked as_they_come = map asked_of as_they_come
+all_asked as_they_come = map revisions_asked as_they_come

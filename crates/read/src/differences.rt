@@ -9,7 +9,7 @@ ghost use Rattle.store.specs.Database.{Database};
 ghost use Rattle.tree.specs.Outline.{outline_of};
 ghost use Rattle.read.specs.Answers.{Answers, Stops};
 ghost use Rattle.read.specs.Differences.{history_by, missing_texts, revision_differences, with_difference, with_differences, with_missing};
-ghost use Rattle.read.specs.DifferencesAsked.{all_asked, asked_of};
+ghost use Rattle.read.specs.DifferencesAsked.{all_asked, revisions_asked};
 
 use crate::fault::ReadFault;
 use couch_json::{Got, Json, put_member};
@@ -82,7 +82,7 @@ fn put_difference<S: Store>(
     members: &mut BTreeMap<String, Json>,
 ) -> Result<(), ReadFault>
     ensures ok { S.is_honest store.new → OnOk result ((d : Database) → map.get (S.contents store.old) db.now ≡ Some d
-        → members_view members.new.entries ≡ with_difference d (members_view members.old.entries) (asked_of asked.now)) }
+        → members_view members.new.entries ≡ with_difference d (members_view members.old.entries) (revisions_asked asked.now)) }
     ensures stops { IfErr result (Stops S.Store store.old store.new (map.get (S.contents store.old) db.now ≡ None)) }
     ensures reads { OnlyReads S.Store store.old store.new }
 {
