@@ -53,7 +53,7 @@ power_positive : (k : ℕ) → 0 < 256 ^ k
 power_positive zero = lit< tt
 power_positive (suc k) = subst (λ x. 0 < x) (sym (pow-succ' 256 k)) (omega (arith, power_positive k))
 
-byte_is : (k n : ℕ) → n % 256 ^ suc k ≡ byte_at k n * 256 ^ k + n % 256 ^ k
+pub byte_is : (k n : ℕ) → n % 256 ^ suc k ≡ byte_at k n * 256 ^ k + n % 256 ^ k
 byte_is zero n = omega arith
 byte_is (suc k) n = ap (λ x. n % x) (pow-succ' 256 (suc k)) ∙ mod-mul n {m = 256} {c = 256 ^ suc k} (lit< tt) (power_positive (suc k))
 
@@ -73,7 +73,7 @@ bytes_order (suc k) m n r s =
     ap₂ nat_cmp (byte_is k m) (byte_is k n) ∙ digits_apart (byte_at k m) (byte_at k n) (m % 256 ^ k) (n % 256 ^ k) (256 ^ k) (mod_below m k) (mod_below n k) top refl (ranked (byte_at k m) (byte_at k n) top refl) in
     ap (ordering_then top) (bytes_order k m n r s) ∙ sym (then_assoc top low (slice_cmp nat_cmp r s)) ∙ ap (λ o. ordering_then o (slice_cmp nat_cmp r s)) (sym whole)
 
-pub height_below : (z : ℤ) → IsInRange z → height z < 2 ^ 64
+pub height_below : (z : ℤ) → IsInRange z → height z < 256 ^ 9
 height_below (pos n) p = omega (arith, ints)
 height_below (negsuc n) p = omega (arith, ints)
 
@@ -162,9 +162,9 @@ mutual
   key_order (whole y) (truth false) r s p q = refl
   key_order (whole y) (truth true) r s p q = refl
   key_order (whole y) (whole z) r s p q =
-      let a : height y % 256 ^ 8 ≡ height y = omega (arith, height_below y p) in
-      let b : height z % 256 ^ 8 ≡ height z = omega (arith, height_below z q) in
-      bytes_order 8 (height y) (height z) r s ∙ ap₂ (λ m n. ordering_then (nat_cmp m n) (slice_cmp nat_cmp r s)) a b ∙ ap (λ o. ordering_then o (slice_cmp nat_cmp r s)) (wholes_order y z p q)
+      let a : height y % 256 ^ 9 ≡ height y = omega (arith, height_below y p) in
+      let b : height z % 256 ^ 9 ≡ height z = omega (arith, height_below z q) in
+      bytes_order 9 (height y) (height z) r s ∙ ap₂ (λ m n. ordering_then (nat_cmp m n) (slice_cmp nat_cmp r s)) a b ∙ ap (λ o. ordering_then o (slice_cmp nat_cmp r s)) (wholes_order y z p q)
   key_order (text t) (truth false) r s p q = refl
   key_order (text t) (truth true) r s p q = refl
   key_order (text t) (text u) r s p q = texts_order t u r s

@@ -1,21 +1,20 @@
 -- What is left to read of a key.
-use Rattle.std.proofs.Common.{◌≡◌, ◌≢◌, ◌≤◌, ◌<◌, ◌-◌, ℕ, ℤ, zero, suc, ◌+◌, List, [], ◌∷◌, ◌++◌, length, take, drop, Bool, true, false, Option, Some, None, option_map, IsUtf8, refl, sym, ap, ap₂, subst, ◌∙◌, append_assoc, append-nil, length-append, String, Global, Vec, BTreeMap, string_bytes, arith, rules}
+use Rattle.std.proofs.Common.{◌≡◌, ◌≢◌, ◌≤◌, ◌<◌, ◌-◌, ◌*◌, ◌%◌, ◌^◌, ℕ, ℤ, zero, suc, ◌+◌, List, [], ◌∷◌, ◌++◌, length, take, drop, Bool, true, false, Option, Some, None, option_map, IsUtf8, refl, sym, ap, ap₂, subst, ◌∙◌, append_assoc, append-nil, length-append, String, Global, Vec, BTreeMap, string_bytes, arith, rules}
 use Rattle.std.specs.declared.cmp.Ordering.{Ordering}
 use Rattle.std.specs.declared.cmp.Ordering.TheVariants.{Less, Equal, Greater}
 use Rattle.std.specs.Ordering.{match_ordering, nat_cmp}
 use Rattle.std.specs.Cmp.Lexicographic.{slice_cmp}
-use Rattle.std.specs.Int.{to_be_bytes, from_be_bytes, w64}
-use Rattle.std.proofs.lemmas.Nat.{from_be_bytes-to_be_bytes_8}
-use Rattle.couch_json.specs.Key.{key, height, text_key, items_key, members_key}
+use Rattle.std.specs.Int.{byte_at, bytes_high_first, from_be_bytes, w64}
+use Rattle.couch_json.specs.Key.{key, height, number_key, text_key, items_key, members_key}
 use Rattle.couch_json.specs.Lawful.{AreLawfulItems, HasAscendingNames, AreLawfulMembers}
 use Rattle.couch_json.specs.Range.{IsInRange}
-use Rattle.couch_json.specs.KeyFront.{FindsValue, FindsItems, FindsMembers, FindsText}
+use Rattle.couch_json.specs.KeyFront.{FindsValue, FindsItems, FindsMembers, FindsNumber, FindsText}
 use Rattle.couch_json.specs.Value.{Value, null, truth, whole, text, array, object, Items, no_items, item, Members, no_members, member, put, depth, items_depth, members_depth}
 use Rattle.couch_json.specs.View.{view, items_view, members_view}
 use Rattle.couch_json.specs.declared.number.Number.{Number}
 use Rattle.couch_json.specs.declared.value.Json.{Json, Null, Truth, Whole, Text, Array, Object, the_lemmas}
 use Rattle.couch_json.proofs.Items.{items_after, items_after-no_items, items_after-push}
-use Rattle.couch_json.proofs.KeyOrder.{text_cons, height_below, height_order}
+use Rattle.couch_json.proofs.KeyOrder.{text_cons, byte_is, height_below, height_order}
 use Rattle.couch_json.proofs.Objects.{joined, joined_assoc, joined-no_members, put_last, view-Object}
 
 abbrev pub first_byte : List ℕ → ℕ
@@ -77,22 +76,46 @@ finds_none limit bytes n1 n2 n3 n4 n5 n6 n7 (object ms) r h d e = absurd (omega 
 
 -- ---- numbers
 
-pub finds_whole : (limit : ℕ) (bytes : List ℕ) (n : ℤ) → IsInRange n → height n ≡ from_be_bytes w64 (take 8 bytes)
-    → FindsValue limit (4 ∷ bytes) (Some (whole n, drop 8 bytes))
-finds_whole limit bytes n p is (whole z) r h d e =
-    let same : to_be_bytes w64 (height z) ≡ take 8 bytes = ap (λ t. take 8 (after_first t)) e in
-    let left : r ≡ drop 8 bytes = ap (λ t. drop 8 (after_first t)) e in
-    let level : height n ≡ height z = is ∙ ap (from_be_bytes w64) (sym same) ∙ from_be_bytes-to_be_bytes_8 (height z) (height_below z h) in
-    λ i. Some (whole (height_order n z p h Equal level i), sym left i)
-finds_whole limit bytes n p is (truth false) r h d e = absurd (omega (arith, ap first_byte e))
-finds_whole limit bytes n p is (truth true) r h d e = absurd (omega (arith, ap first_byte e))
-finds_whole limit bytes n p is v r h d e = absurd (omega (arith, ap first_byte e))
+eight_bytes : (b0 b1 b2 b3 b4 b5 b6 b7 r0 r1 r2 r3 r4 r5 r6 r7 r8 : ℕ) → r0 ≡ 0 → r1 ≡ b0 * 1 + r0 → r2 ≡ b1 * 256 + r1 → r3 ≡ b2 * 256 ^ 2 + r2 → r4 ≡ b3 * 256 ^ 3 + r3
+    → r5 ≡ b4 * 256 ^ 4 + r4 → r6 ≡ b5 * 256 ^ 5 + r5 → r7 ≡ b6 * 256 ^ 6 + r6 → r8 ≡ b7 * 256 ^ 7 + r7
+    → b7 * 256 ^ 7 + b6 * 256 ^ 6 + b5 * 256 ^ 5 + b4 * 256 ^ 4 + b3 * 256 ^ 3 + b2 * 256 ^ 2 + b1 * 256 + b0 ≡ r8
+eight_bytes b0 b1 b2 b3 b4 b5 b6 b7 r0 r1 r2 r3 r4 r5 r6 r7 r8 e0 e1 e2 e3 e4 e5 e6 e7 e8 = omega arith
 
-pub finds_no_whole : (limit : ℕ) (bytes : List ℕ) → length bytes < 8 → FindsValue limit (4 ∷ bytes) None
-finds_no_whole limit bytes few (whole z) r h d e = absurd (omega (arith, few, ap (λ t. length (after_first t)) e))
-finds_no_whole limit bytes few (truth false) r h d e = absurd (omega (arith, ap first_byte e))
-finds_no_whole limit bytes few (truth true) r h d e = absurd (omega (arith, ap first_byte e))
-finds_no_whole limit bytes few v r h d e = absurd (omega (arith, ap first_byte e))
+-- the lowest eight bytes of a number
+low_bytes : (n : ℕ) → from_be_bytes w64 (bytes_high_first 8 n) ≡ n % 256 ^ 8
+low_bytes n =
+    eight_bytes (byte_at 0 n) (byte_at 1 n) (byte_at 2 n) (byte_at 3 n) (byte_at 4 n) (byte_at 5 n) (byte_at 6 n) (byte_at 7 n) (n % 1) (n % 256) (n % 256 ^ 2) (n % 256 ^ 3) (n % 256 ^ 4) (n % 256 ^ 5)
+    (n % 256 ^ 6) (n % 256 ^ 7) (n % 256 ^ 8) (omega arith) (byte_is 0 n) (byte_is 1 n) (byte_is 2 n) (byte_is 3 n) (byte_is 4 n) (byte_is 5 n) (byte_is 6 n) (byte_is 7 n)
+
+height_bytes : (z : ℤ) → IsInRange z → height z ≡ byte_at 8 (height z) * 2 ^ 64 + from_be_bytes w64 (bytes_high_first 8 (height z))
+height_bytes z h =
+    let fits : height z ≡ height z % 256 ^ 9 = omega (arith, height_below z h) in
+    fits ∙ byte_is 8 (height z) ∙ ap (λ low. byte_at 8 (height z) * 2 ^ 64 + low) (sym (low_bytes (height z)))
+
+-- what these bytes say where they are the key of the number
+height_of_bytes : (high : ℕ) (between r : List ℕ) (z : ℤ) → IsInRange z → number_key z ++ r ≡ high ∷ between → height z ≡ high * 2 ^ 64 + from_be_bytes w64 (take 8 between)
+height_of_bytes high between r z h e =
+    height_bytes z h ∙ ap₂ (λ top low. top * 2 ^ 64 + from_be_bytes w64 low) (ap first_byte e) (ap (λ t. take 8 (after_first t)) e)
+
+pub finds_number : (bytes between rest : List ℕ) (high : ℕ) (n : ℤ) → IsInRange n → bytes ≡ high ∷ between → rest ≡ drop 8 between
+    → height n ≡ high * 2 ^ 64 + from_be_bytes w64 (take 8 between) → FindsNumber bytes (Some (n, rest))
+finds_number bytes between rest high n p is left level z r h e =
+    let same : height n ≡ height z = level ∙ sym (height_of_bytes high between r z h (e ∙ is)) in
+    let behind : rest ≡ r = left ∙ sym (ap (λ t. drop 8 (after_first t)) (e ∙ is)) in
+    λ i. Some (height_order n z p h Equal same i, behind i)
+
+pub finds_high_number : (bytes between : List ℕ) (high : ℕ) → bytes ≡ high ∷ between → ((n : ℤ) → IsInRange n → height n ≢ high * 2 ^ 64 + from_be_bytes w64 (take 8 between))
+    → FindsNumber bytes None
+finds_high_number bytes between high is none z r h e = absurd (none z h (height_of_bytes high between r z h (e ∙ is)))
+
+pub finds_short_number : (bytes : List ℕ) → length bytes < 9 → FindsNumber bytes None
+finds_short_number bytes few z r h e = absurd (omega (arith, few, ap length e))
+
+pub finds_whole : (limit : ℕ) (bytes : List ℕ) (o : Option (ℤ × List ℕ)) → FindsNumber bytes o → FindsValue limit (4 ∷ bytes) (option_map (λ p. (whole p.0, p.1)) o)
+finds_whole limit bytes o found (whole n) r h d e = ap (option_map (λ p. (whole p.0, p.1))) (found n r h (ap after_first e))
+finds_whole limit bytes o found (truth false) r h d e = absurd (omega (arith, ap first_byte e))
+finds_whole limit bytes o found (truth true) r h d e = absurd (omega (arith, ap first_byte e))
+finds_whole limit bytes o found v r h d e = absurd (omega (arith, ap first_byte e))
 
 -- ---- the kinds as the code has them
 
@@ -120,10 +143,9 @@ finds_Truth_false limit bytes rest is = rw (is, view-Truth false) (finds_false l
 pub finds_Truth_true : (limit : ℕ) (bytes rest : List ℕ) → bytes ≡ 3 ∷ rest → FindsValue limit bytes (Some (view (Truth true), rest))
 finds_Truth_true limit bytes rest is = rw (is, view-Truth true) (finds_true limit rest)
 
-pub finds_Whole : (limit : ℕ) (bytes between rest : List ℕ) (n : Number) → bytes ≡ 4 ∷ between → height n.value ≡ from_be_bytes w64 (take 8 between)
-    → rest ≡ drop 8 between
+pub finds_Whole : (limit : ℕ) (bytes between rest : List ℕ) (n : Number) → bytes ≡ 4 ∷ between → FindsNumber between (Some (n.value, rest))
     → FindsValue limit bytes (Some (view (Whole n), rest))
-finds_Whole limit bytes between rest n is high left = rw (is, left, view-Whole n) (finds_whole limit between n.value n.in_range high)
+finds_Whole limit bytes between rest n is found = rw (is, view-Whole n) (finds_whole limit between (Some (n.value, rest)) found)
 
 pub finds_Text : (limit : ℕ) (bytes between rest : List ℕ) (s : String Global) → bytes ≡ 5 ∷ between → FindsText between (Some (string_bytes s, rest))
     → FindsValue limit bytes (Some (view (Text s), rest))

@@ -1,9 +1,9 @@
 -- The canonical text of a lawful value reads as that value, and is the text of no other.
 -- serde_json's own limit on depth refuses no text that is not nested too deep.
-use Rattle.std.proofs.Common.{◌≡◌, ℕ, suc, ◌^◌, ◌<◌, ◌≤◌, ℤ, pos, negsuc, List, [], ◌∷◌, ◌++◌, Bool, true, false, cond, Ordering, Less, Equal, Greater, Option, Some, None, option_and_then, nat_cmp, IsUtf8, refl, sym, ap, ◌∙◌, arith, lt-ltb, Result, Ok, Err, subst, append-nil, ◌+◌}
+use Rattle.std.proofs.Common.{◌≡◌, ℕ, suc, ◌^◌, ◌<◌, ◌≤◌, ℤ, pos, negsuc, List, [], ◌∷◌, ◌++◌, Bool, true, false, cond, Ordering, Less, Equal, Greater, Option, Some, None, option_and_then, nat_cmp, IsUtf8, refl, sym, ap, ◌∙◌, arith, Result, Ok, Err, subst, append-nil, ◌+◌}
 use Rattle.std.specs.Prelude.{⊤}
 use Rattle.std.proofs.lemmas.Int.{ints}
-use Rattle.std.proofs.lemmas.Fmt.{IsAscii-signed}
+use Rattle.std.proofs.lemmas.Fmt.{IsAscii-decimal, IsAscii-signed}
 use Rattle.std.proofs.lemmas.Str.{IsUtf8-append, IsUtf8-nil, IsUtf8-from_ascii}
 use Rattle.std.specs.Cmp.Lexicographic.{slice_cmp}
 use Rattle.std.specs.List.{AllByRecursion, join_with_byte}
@@ -21,7 +21,7 @@ use Rattle.json.proofs.Printed.Utf8.{IsUtf8-are_ascii, IsUtf8-quoted}
 use Rattle.json.proofs.Unique.Spelling.{value-json_tokens_back}
 use Rattle.json.proofs.Printed.Decimals.{IsNumber-decimal, IsNumber-signed_decimal}
 use Rattle.serde_json.specs.Data as serde
-use Rattle.serde_json.specs.Find.{as_i64, of_integer}
+use Rattle.serde_json.specs.Find.{as_integer, of_integer}
 use Rattle.serde_json.specs.Read.{number_of, of_json, of_items, of_members, read, max_depth}
 use Rattle.serde_json.specs.Written.{number_text, outline, items_outline, members_outline}
 use Rattle.serde_json.proofs.Numbers.{number_of-decimal, number_of-negative}
@@ -42,19 +42,19 @@ use Rattle.couch_json.proofs.TreeDepths.{NoBad-json_tokens, passes-json_tokens, 
 
 -- ---- numbers
 
-below : (n : ℕ) → IsInRange (pos n) → n < 2 ^ 63
+below : (n : ℕ) → IsInRange (pos n) → n < 2 ^ 64
 below n h = let most = h.below in omega (arith, ints)
 
 above : (n : ℕ) → IsInRange (negsuc n) → n < 2 ^ 63
 above n h = let least = h.above in omega (arith, ints)
 
 pub number_of-number_text : (z : ℤ) → IsInRange z → number_of (number_text (of_integer z)) ≡ Some (of_integer z)
-number_of-number_text (pos n) h = let small = below n h in number_of-decimal n (omega arith)
+number_of-number_text (pos n) h = number_of-decimal n (below n h)
 number_of-number_text (negsuc n) h = number_of-negative n (above n h)
 
-pub as_i64-of_integer : (z : ℤ) → IsInRange z → as_i64 (of_integer z) ≡ Some z
-as_i64-of_integer (pos n) h = rw (lt-ltb n (2 ^ 63) (below n h))
-as_i64-of_integer (negsuc n) h = refl
+as_integer-of_integer : (z : ℤ) → as_integer (of_integer z) ≡ Some z
+as_integer-of_integer (pos n) = refl
+as_integer-of_integer (negsuc n) = refl
 
 -- ---- members
 
@@ -91,7 +91,7 @@ mutual
   value_of-data_of : (v : Value) → IsLawful v → value_of (data_of v) ≡ Some v
   value_of-data_of null h = refl
   value_of-data_of (truth b) h = refl
-  value_of-data_of (whole n) h = rw (as_i64-of_integer n h)
+  value_of-data_of (whole n) h = rw (as_integer-of_integer n)
   value_of-data_of (text s) h = refl
   value_of-data_of (array vs) h = rw (items_of_data-items_data vs h)
   value_of-data_of (object ms) h = rw (members_of_data-members_data ms no_members h.1, put_all-no_members ms h.0)
@@ -129,7 +129,7 @@ mutual
   HasNumbers-outline : (v : Value) → IsLawful v → tree.HasNumbers (outline (data_of v))
   HasNumbers-outline null h = tt
   HasNumbers-outline (truth b) h = tt
-  HasNumbers-outline (whole (pos n)) h = let small = below n h in IsNumber-decimal n (omega arith)
+  HasNumbers-outline (whole (pos n)) h = IsNumber-decimal n (below n h)
   HasNumbers-outline (whole (negsuc n)) h = IsNumber-signed_decimal (negsuc n) (above n h)
   HasNumbers-outline (text s) h = tt
   HasNumbers-outline (array vs) h = ItemsHaveNumbers-outline vs h
@@ -158,7 +158,7 @@ mutual
   IsUtf8-canonical null h = IsUtf8-are_ascii (canonical null) refl
   IsUtf8-canonical (truth true) h = IsUtf8-are_ascii (canonical (truth true)) refl
   IsUtf8-canonical (truth false) h = IsUtf8-are_ascii (canonical (truth false)) refl
-  IsUtf8-canonical (whole (pos n)) h = IsUtf8-from_ascii _ (IsAscii-signed (pos n) (below n h))
+  IsUtf8-canonical (whole (pos n)) h = IsUtf8-from_ascii _ (IsAscii-decimal n (below n h))
   IsUtf8-canonical (whole (negsuc n)) h = IsUtf8-from_ascii _ (IsAscii-signed (negsuc n) (above n h))
   IsUtf8-canonical (text s) h = IsUtf8-quoted s h
   IsUtf8-canonical (array vs) h =

@@ -1,8 +1,8 @@
 -- The key of a value: bytes whose order is the order of the values.
--- The layout is this store's own, the first. A key's first byte tells the kind. A text ends in two bytes 0, and each byte 0 of it
--- has 255 behind it; an array and an object end in a byte 0.
+-- The layout is this store's own, the second. A key's first byte tells the kind. A number is nine bytes. A text ends in two bytes 0,
+-- and each byte 0 of it has 255 behind it; an array and an object end in a byte 0.
 use Rattle.std.specs.Prelude.{ℕ, ℤ, pos, negsuc, ◌+◌, ◌-◌, ◌^◌, ◌==◌, List, [], ◌∷◌, ◌++◌, true, false, if◌then◌else◌}
-use Rattle.std.specs.Int.{to_be_bytes, w64}
+use Rattle.std.specs.Int.{bytes_high_first}
 use Rattle.couch_json.specs.Value.{Value, null, truth, whole, text, array, object, Items, no_items, item, Members, no_members, member}
 
 -- the bytes of a text, and its end
@@ -15,12 +15,16 @@ abbrev pub height : ℤ → ℕ
 height (pos n) = 2 ^ 63 + n
 height (negsuc n) = 2 ^ 63 - (n + 1)
 
+-- the height in nine bytes, the greatest first
+abbrev pub number_key : ℤ → List ℕ
+number_key n = bytes_high_first 9 (height n)
+
 abbrev mutual
   pub key : Value → List ℕ
   key null = 1 ∷ []
   key (truth false) = 2 ∷ []
   key (truth true) = 3 ∷ []
-  key (whole n) = 4 ∷ to_be_bytes w64 (height n)
+  key (whole n) = 4 ∷ number_key n
   key (text s) = 5 ∷ text_key s
   key (array vs) = 6 ∷ items_key vs
   key (object ms) = 7 ∷ members_key ms

@@ -6,20 +6,20 @@ use Rattle.json.specs.Lex.{tokens}
 use Rattle.json.specs.Json.{if_last}
 use Rattle.json.specs.Json as json
 use Rattle.serde_json.specs.Data as serde
-use Rattle.serde_json.specs.Find.{as_i64}
+use Rattle.serde_json.specs.Find.{as_integer}
 use Rattle.serde_json.specs.Read.{read, of_json}
 use Rattle.couch_json.specs.declared.fault.JsonFault.{JsonFault}
 use Rattle.couch_json.specs.declared.fault.JsonFault.TheVariants.{Syntax, Number, Depth}
 use Rattle.couch_json.specs.Nesting.{nests_too_deep}
 use Rattle.couch_json.specs.Value.{Value, null, truth, whole, text, array, object, Items, no_items, item, Members, no_members, put}
 
--- The value that data of serde_json are, where each number is whole and in range: an integer of 64 bits with a sign.
--- serde_json reads a fraction, an exponent, `-0` and what leaves its range as a float.
+-- The value that data of serde_json are, where each number is whole and in range: an integer of 64 bits, with a sign or without.
+-- serde_json reads a fraction, an exponent, `-0` and what leaves this range as a float.
 abbrev mutual
   pub value_of : serde.Data → Option Value
   value_of serde.null = Some null
   value_of (serde.boolean b) = Some (truth b)
-  value_of (serde.number n) = option_map whole (as_i64 n)
+  value_of (serde.number n) = option_map whole (as_integer n)
   value_of (serde.string s) = Some (text s)
   value_of (serde.array ds) = option_map array (items_of_data ds)
   value_of (serde.object ms) = option_map object (members_of_data ms no_members)

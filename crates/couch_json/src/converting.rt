@@ -34,6 +34,9 @@ fn convert_number(number: serde_json::Number) -> Result<Json, JsonFault>
     ensures fault { IfErr result (λ e. (e ≡ JsonFault.Number)
         × (value_of (number_data (number_view number)) ≡ None)) }
 {
+    if let Some(whole) = number.as_u64() {
+        return Ok(Json::Whole(Number::from(whole)));
+    }
     match number.as_i64() {
         Some(whole) => Ok(Json::Whole(Number::from(whole))),
         None => Err(JsonFault::Number),

@@ -9,7 +9,7 @@ pub enum JsonFault {
     /// The bytes are no JSON text (RFC 8259), or not UTF-8.
     #[error("not a JSON text")]
     Syntax = 1,
-    /// A number has a fraction or an exponent, is `-0`, or lies outside of -2^63 to 2^63 - 1.
+    /// A number has a fraction or an exponent, is `-0`, or lies outside of -2^63 to 2^64 - 1.
     #[error("a number that is not whole or out of range")]
     Number = 2,
     /// More than 110 brackets and braces are open at once.

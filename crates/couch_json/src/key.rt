@@ -1,5 +1,5 @@
 ghost use Rattle.std.specs.Prelude.{◌≡◌, ◌++◌, IfOk, OnOk};
-ghost use Rattle.couch_json.specs.Key.{height, items_key, key, members_key, text_key};
+ghost use Rattle.couch_json.specs.Key.{height, items_key, key, members_key, number_key, text_key};
 ghost use Rattle.couch_json.specs.Lawful.{IsLawful};
 ghost use Rattle.couch_json.specs.View.{view, items_view, members_view};
 
@@ -34,7 +34,7 @@ fn put_value(out: &mut Vec<u8>, value: &Json) -> Got<()>
         Json::Truth(true) => out.push(3)?,
         Json::Whole(number) => {
             out.push(4)?;
-            out.extend_from_slice(&height_of(*number).to_be_bytes())?;
+            put_number(out, *number)?;
         }
         Json::Text(text) => {
             out.push(5)?;
@@ -52,11 +52,19 @@ fn put_value(out: &mut Vec<u8>, value: &Json) -> Got<()>
     Ok(())
 }
 
+/// Puts the lowest nine of the sixteen bytes of the height: no height has more.
+fn put_number(out: &mut Vec<u8>, number: Number) -> Got<()>
+    ensures { OnOk result (out.new.items ≡ out.old.items ++ number_key number.value) }
+{
+    out.extend_from_slice(&height_of(number).to_be_bytes()[7..])?;
+    Ok(())
+}
+
 /// Tells how far the number lies above the least one.
-fn height_of(number: Number) -> u64
+fn height_of(number: Number) -> u128
     ensures { result ≡ height number.value }
 {
-    (number.value() + (1 << 63)) as u64
+    (number.value() + (1 << 63)) as u128
 }
 
 fn put_text(out: &mut Vec<u8>, bytes: &[u8]) -> Got<()>

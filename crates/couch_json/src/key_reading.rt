@@ -1,9 +1,9 @@
-ghost use Rattle.std.specs.Prelude.{◌≡◌, ◌≢◌, ◌<◌, ◌≤◌, IfOk, IfErr, OnErr, Some, None, drop, length, string_bytes, take};
-ghost use Rattle.std.specs.Int.{from_be_bytes, w64};
+ghost use Rattle.std.specs.Prelude.{◌≡◌, ◌≢◌, ◌≤◌, ◌+◌, ◌*◌, ◌^◌, ℤ, IfOk, IfErr, OnErr, MatchOption, Some, None, string_bytes};
 ghost use Rattle.couch_json.specs.Key.{height, key};
-ghost use Rattle.couch_json.specs.KeyFront.{FindsItems, FindsMembers, FindsText, FindsValue};
+ghost use Rattle.couch_json.specs.KeyFront.{FindsItems, FindsMembers, FindsNumber, FindsText, FindsValue};
 ghost use Rattle.couch_json.specs.Lawful.{IsLawful};
 ghost use Rattle.couch_json.specs.Nesting.{max_open};
+ghost use Rattle.couch_json.specs.Range.{IsInRange};
 ghost use Rattle.couch_json.specs.Value.{Value, depth, items_depth, members_depth};
 ghost use Rattle.couch_json.specs.View.{view, items_view, members_view};
 
@@ -83,24 +83,32 @@ fn read_value<'a>(
     }
 }
 
-/// Reads the number of a key.
+/// Reads the nine bytes of a number, and refuses those of a number above the greatest one.
 fn read_number<'a>(bytes: &'a [u8]) -> Result<(Number, &'a [u8]), KeyFault>
-    ensures number { IfOk result (λ found. height found.0.value ≡ from_be_bytes w64 (take 8 bytes.now)) }
-    ensures rest { IfOk result (λ found. found.1.now ≡ drop 8 bytes.now) }
+    ensures value { IfOk result (λ found.
+        FindsNumber bytes.now (Some (found.0.value, found.1.now))) }
     ensures fault { IfErr result (λ fault. fault ≡ KeyFault.NotKey) }
-    ensures short { OnErr result (length bytes.now < 8) }
+    ensures none { OnErr result (FindsNumber bytes.now None) }
 {
-    let Some((digits, rest)) = bytes.split_first_chunk::<8>() else {
+    let Some((high, after)) = bytes.split_first() else {
         return Err(KeyFault::NotKey);
     };
-    Ok((number_above(u64::from_be_bytes(*digits)), rest))
+    let Some((low, rest)) = after.split_first_chunk::<8>() else {
+        return Err(KeyFault::NotKey);
+    };
+    match number_above(*high, u64::from_be_bytes(*low)) {
+        Some(number) => Ok((number, rest)),
+        None => Err(KeyFault::NotKey),
+    }
 }
 
-/// Returns the number that lies this far above the least one.
-fn number_above(distance: u64) -> Number
-    ensures { height result.value ≡ distance }
+/// Returns the number that lies `high` * 2^64 + `low` above the least one, or `None` if and only if
+/// that is above the greatest.
+fn number_above(high: u8, low: u64) -> Option<Number>
+    ensures { MatchOption result ((n : ℤ) → IsInRange n → height n ≢ high * 2 ^ 64 + low)
+        (λ number. height number.value ≡ high * 2 ^ 64 + low) }
 {
-    Number::from((i128::from(distance) - (1 << 63)) as i64)
+    Number::new((i128::from(high) << 64) + i128::from(low) - (1 << 63))
 }
 
 /// Reads a text of a key and its end.

@@ -17,7 +17,7 @@ use std::alloc::Global;
 ///    with none open counts for nothing.
 /// 2. `Syntax`: serde_json has no reading of the bytes, or they are not UTF-8.
 /// 3. `Number`: a number of the value has a fraction or an exponent, is `-0`, or lies outside of
-///    -2^63 to 2^63 - 1. A number that a repeated name replaced is not looked at.
+///    -2^63 to 2^64 - 1. A number that a repeated name replaced is not looked at.
 ///
 /// Of a repeated name the last value stands. `Memory` may come in place of any answer.
 pub fn read(alloc: Global, bytes: &[u8]) -> Result<Json, JsonFault>

@@ -17,7 +17,7 @@ pub enum Json {
     Null,
     /// `true` or `false`
     Truth(bool),
-    /// A whole number from -2^63 to 2^63 - 1.
+    /// A whole number from -2^63 to 2^64 - 1.
     Whole(Number),
     /// A string.
     Text(String),

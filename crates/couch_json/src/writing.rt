@@ -2,12 +2,14 @@ ghost use Rattle.std.specs.Prelude.{◌≡◌, ◌≤◌, ◌++◌, IfOk, OnOk, 
 ghost use Rattle.couch_json.specs.Canonical.{canonical};
 ghost use Rattle.couch_json.specs.Lawful.{IsLawful, AreLawfulItems, HasAscendingNames, AreLawfulMembers};
 ghost use Rattle.couch_json.specs.Nesting.{max_open};
+ghost use Rattle.couch_json.specs.Range.{IsInRange};
 ghost use Rattle.couch_json.specs.Reading.{reading};
-ghost use Rattle.couch_json.specs.Value.{array, object, depth};
+ghost use Rattle.couch_json.specs.Value.{array, object, whole, depth};
 ghost use Rattle.couch_json.specs.View.{view, items_view, members_view};
 ghost use Rattle.couch_json.specs.Written.{value_tokens};
 
 use crate::no_memory::Got;
+use crate::number::Number;
 use crate::value::Json;
 use json::Writer;
 use std::alloc::Global;
@@ -41,10 +43,24 @@ fn put_value(out: &mut Writer, value: &Json) -> Got<()>
     match value {
         Json::Null => out.null()?,
         Json::Truth(truth) => out.boolean(*truth)?,
-        Json::Whole(number) => out.i64(number.value() as i64)?,
+        Json::Whole(number) => put_number(out, *number)?,
         Json::Text(text) => out.string(text.as_str())?,
         Json::Array(items) => put_items(out, items)?,
         Json::Object(members) => put_members(out, members)?,
+    }
+    Ok(())
+}
+
+fn put_number(out: &mut Writer, number: Number) -> Got<()>
+    ensures tokens { OnOk result (out.new.tokens ≡ out.old.tokens ++ value_tokens (whole number.value)) }
+    ensures before { OnOk result (out.new.before ≡ out.old.before) }
+    ensures range { IsInRange number.value }
+{
+    let value = number.value();
+    if value < 0 {
+        out.i64(value as i64)?;
+    } else {
+        out.u64(value as u64)?;
     }
     Ok(())
 }

@@ -4,7 +4,7 @@ use Rattle.couch_json.specs.KeyFront.{FindsItems, FindsMembers, FindsValue}
 use Rattle.couch_json.specs.Value.{put}
 use Rattle.couch_json.specs.View.{view, members_view}
 use Rattle.couch_json.specs.declared.key_fault.KeyFault.TheVariants.{Memory}
-use Rattle.couch_json.proofs.KeyReading.{first_byte, finds_Array, finds_Null, finds_Object, finds_Text, finds_Truth_false, finds_Truth_true, finds_Whole, finds_array, finds_no_whole, finds_none, finds_object, finds_text, ItemsLeft, items_end, items_fail, items_depth-push, items_go, items_short, MembersLeft, members_depth-put, members_end, members_fail, members_go, members_short, members_unnamed}
+use Rattle.couch_json.proofs.KeyReading.{first_byte, finds_Array, finds_Null, finds_Object, finds_Text, finds_Truth_false, finds_Truth_true, finds_Whole, finds_array, finds_whole, finds_none, finds_object, finds_text, ItemsLeft, items_end, items_fail, items_depth-push, items_go, items_short, MembersLeft, members_depth-put, members_end, members_fail, members_go, members_short, members_unnamed}
 use Rattle.couch_json.proofs.Objects.{members_view-insert_entry}
 use Rattle.couch_json.proofs.key_reading.+read.Goals as goal
 
@@ -131,7 +131,7 @@ read_value-returns-in_ok-members-in-7-clause-value t c =
 pub read_value-returns-in_ok-number-in-4-clause-value : goal.read_value-returns-in_ok-number-in-4-clause-value
 read_value-returns-in_ok-number-in-4-clause-value t c =
     let found = c.in_ok-number-in-4 in
-    finds_Whole c.args.limit c.args.bytes.now c.in-Some.rest.now found.rest.now found.number (search rules) found.ensures.number found.ensures.rest
+    finds_Whole c.args.limit c.args.bytes.now c.in-Some.rest.now found.rest.now found.number (search rules) found.ensures.value
 
 pub read_value-returns-in_default-clause-none : goal.read_value-returns-in_default-clause-none
 read_value-returns-in_default-clause-none t c =
@@ -144,7 +144,7 @@ read_value-returns-in_err-number-in-4-clause-none t c =
     let is : c.from_residual.result ≡ Err c.in_err-number-in-4.field-0.0 = search rules in
     let starts : c.args.bytes.now ≡ 4 ∷ c.in-Some.rest.now = search rules in
     subst (λ result. IfErr result (λ fault. fault ≢ Memory → FindsValue c.args.limit c.args.bytes.now None)) (sym is)
-    (λ _. rw starts (finds_no_whole c.args.limit c.in-Some.rest.now c.in_err-number-in-4.ensures.short))
+    (λ _. rw starts (finds_whole c.args.limit c.in-Some.rest.now None c.in_err-number-in-4.ensures.none))
 
 pub read_value-returns-in_err-text-in-5-clause-none : goal.read_value-returns-in_err-text-in-5-clause-none
 read_value-returns-in_err-text-in-5-clause-none t c =
