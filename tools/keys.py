@@ -58,7 +58,7 @@ def key_bytes(value):
     if isinstance(value, bool):
         return b"\x03" if value else b"\x02"
     if isinstance(value, int):
-        return b"\x04" + (value + 2**63).to_bytes(8, "big")
+        return b"\x04" + (value + 2**63).to_bytes(9, "big")
     if isinstance(value, str):
         return text_bytes(value.encode())
     if isinstance(value, list):
