@@ -11,7 +11,7 @@ use Rattle.find.specs.declared.query.Query.{Query}
 
 -- ---- numbers
 
--- a number from 0 to the greatest
+-- a count: a number from 0 to the greatest one
 abbrev pub count_in : Value → Option ℕ
 count_in (whole (pos n)) = if nat_le n greatest_count then Some n else None
 count_in v = None
