@@ -9,7 +9,7 @@ use Rattle.tables.proofs.Finds.{finds_one}
 use Rattle.tables.proofs.Queries.{program_on}
 use Rattle.tables.proofs.Tables.{dbs_plain, databases_laid, numbered_databases, one_named, one_numbered}
 use Rattle.tables.proofs.Updates.{updates_where}
-use Rattle.tables.proofs.Writes.{IsCommand}
+use Rattle.tables.proofs.Writes.{IsCommand, update_stays}
 
 abbrev pub by_number : List Term
 by_number = compares Eq 0 0 ∷ []
@@ -96,6 +96,14 @@ module _ {X E : Type 0} (old new : State) (has : old.now.schema ≡ schema) (lai
       (shown_advanced sequence) (λ x. database_row (number_of x) (name_of x) (security_text x) sequence) IsOne refl (λ x. refl) (λ x. refl)
       (λ x k. ap (λ y. cast_row dbs_table (drop 1 (shown_advanced sequence y))) k ∙ cast_advanced sequence (number_of x) (name_of x) (security_text x) (pos (length_of x))) (λ x. refl) (λ x. refl)
       (numbered_databases _ laid) laid.each (one_numbered _ laid.rising n) (tests_number n (Int sequence ∷ []) _ (numbered_databases _ laid)) r h
+
+-- whatever the rows are, the schema stays
+module _ {X E : Type 0} (old new : State) (has : old.now.schema ≡ schema) where
+  pub secures_stay : (params : Row) (r : Result X E) → OnOk r (Ran secure_text params old new) → OnOk r (new.now.schema ≡ schema)
+  secures_stay = update_stays schema 1 dbs_table dbs_plain old new has secure_is
+
+  pub advances_stay : (params : Row) (r : Result X E) → OnOk r (Ran advance_text params old new) → OnOk r (new.now.schema ≡ schema)
+  advances_stay = update_stays schema 1 dbs_table dbs_plain old new has advance_is
 
 -- ---- all names, in order
 

@@ -37,9 +37,11 @@ module _ {S X E : Type 0} {IsFit : Database → Type 0} {Is : Trees → X → Ty
 -- a statement of a transaction alters one table
 pub alters : {S X E : Type 0} {IsFit : List Row → Type 0} {change : List Row → List Row} {r : Result X E} {params given : Row} (g : Ghosts S) (old new : Held S) (tree : ℕ) (text : List ℕ)
     → (old.schema ≡ tables.schema → IsFit ((state g old).now.trees tree) → OnOk r (Ran text given (state g old) (state g new)) → OnOk r (Changes tree (change ((state g old).now.trees tree)) (state g old).now (state g new).now))
+    → (old.schema ≡ tables.schema → OnOk r (Ran text params (state g old) (state g new)) → OnOk r (new.schema ≡ tables.schema))
     → (HasCleanDisk (state g new) → OnOk r (Ran text params (state g old) (state g new))) → params ≡ given → Stays g old new r → Proceeds (state g old) (state g new) → Alters g tree IsFit change old new r
-alters {r = r} g old new tree text means ran equal within proceeds = record {
+alters {r = r} g old new tree text means stays ran equal within proceeds = record {
   ok = λ clean has fit. means has fit (subst (λ ps. OnOk r (Ran text ps (state g old) (state g new))) equal (ran clean));
+  keeps = λ clean has. stays has (ran clean);
   inside = within;
   proceeds = proceeds;
 }

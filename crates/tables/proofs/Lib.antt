@@ -42,5 +42,7 @@ pub mod Removed
 pub mod Pages
 pub mod Counts
 pub mod LiveStatements
+pub mod PlaceStatements
+pub mod Renewed
 pub mod Backwards
 pub mod Lemmas

@@ -1,16 +1,20 @@
--- What the statement on the version means.
-use Rattle.tables.proofs.Common.{IfOk, Insert, Int, IsPermutation, List, Null, Result, Row, Select, Shown, State, Values, [], all_of, ap, arith, cast_row, codes, col, count, everything, filter_all, is_first, length_permutation, lit, map, meta_table, meta_tree, one_permutation, pos, refl, same, schema, shown_version, shows_first, subst, true, understood, ℕ, ◌∷◌, ◌≡◌}
+-- What the statements on the version mean.
+use Rattle.tables.proofs.Common.{Delete, IfOk, Insert, Int, IsPermutation, List, Null, Result, Row, Select, Shown, State, Values, [], all_of, ap, arith, cast_row, codes, col, count, everything, filter_all, length_permutation, lit, map, meta_table, meta_tree, one_permutation, pos, refl, same, schema, shown_version, subst, true, understood, version_in, version_shown, ℕ, ◌∷◌, ◌≡◌}
 use Rattle.tables.proofs.Cells.{cast_null, cast_int}
 use Rattle.tables.proofs.Finds.{finds_where}
 use Rattle.tables.proofs.Queries.{program_on}
 use Rattle.tables.proofs.Writes.{IsCommand}
 
-pub inserts_version : IsCommand schema (codes "INSERT INTO meta (version) VALUES (1)") (Insert 0 (Values (lit Null ∷ lit (Int (pos 1)) ∷ []) 2))
+pub inserts_version : IsCommand schema (codes "INSERT INTO meta (version) VALUES (2)") (Insert 0 (Values (lit Null ∷ lit (Int (pos 2)) ∷ []) 2))
 unfolding understood everything
 inserts_version = record { is = refl; plain = (refl, refl); unlisted = refl }
 
-pub cast_version : cast_row meta_table (Null ∷ count 1 ∷ []) ≡ Null ∷ count 1 ∷ []
-cast_version = λ i. cast_null i ∷ cast_int (pos 1) i ∷ []
+pub clears_version : IsCommand schema (codes "DELETE FROM meta") (Delete 0 (program_on meta_tree [] (col 1 0 ∷ []) []))
+unfolding understood everything
+clears_version = record { is = refl; plain = (refl, refl); unlisted = refl }
+
+pub cast_version : cast_row meta_table (Null ∷ count 2 ∷ []) ≡ Null ∷ count 2 ∷ []
+cast_version = λ i. cast_null i ∷ cast_int (pos 2) i ∷ []
 
 abbrev pub version_text : List ℕ
 version_text = codes "SELECT version FROM meta"
@@ -26,10 +30,10 @@ finds_version old new has r items h =
     subst (λ l. IfOk r (λ x. IsPermutation (map shown_version l) (items x))) (filter_all (λ x. true) (old.now.trees meta_tree) all) (finds_where old new has version_is [] (λ x. true) shown_version refl (λ x. refl) all r items h)
 
 -- what is shown tells the version
-pub shows_version : (rows shown : List Row) → IsPermutation (map shown_version rows) shown → shows_first shown ≡ is_first rows
+pub shows_version : (rows shown : List Row) → IsPermutation (map shown_version rows) shown → version_shown shown ≡ version_in rows
 shows_version [] [] same = refl
 shows_version [] (s ∷ more) same = absurd (omega (arith, length_permutation [] (s ∷ more) same))
-shows_version (r ∷ []) shown same = ap shows_first (one_permutation (shown_version r) shown same)
+shows_version (r ∷ []) shown same = ap version_shown (one_permutation (shown_version r) shown same)
 shows_version (r ∷ s ∷ rows) [] same = refl
 shows_version (r ∷ s ∷ rows) (x ∷ []) same = absurd (omega (arith, length_permutation (shown_version r ∷ shown_version s ∷ map shown_version rows) (x ∷ []) same))
 shows_version (r ∷ s ∷ rows) (x ∷ y ∷ more) same = refl

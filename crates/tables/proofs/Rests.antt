@@ -1,5 +1,5 @@
 -- What a change leaves of other tables and of rows that it doesn't touch, and tables that say the same.
-use Rattle.tables.proofs.Common.{AllByRecursion, AreLawful, AreNumbered, Changes, Contents, HistoryContent, IsAscending, IsDatabaseNumber, IsDatabaseRow, IsDocumentRow, IsLaid, IsLawful, IsLocalRow, IsRevisionRow, IsStore, List, None, Option, Revision, Row, Schema, Some, Trees, all_weaker, any_is_found, ap, arith, cond, contents_in, database_at, db_of, dbs_tree, decls_tree, docs_tree, documents_in, entries_tree, eqb, eqb_tells, from_entries, held_of, history_in, id_of, inl, inr, is_deleted, is_gone, is_known, is_of, is_some, json_in, length_of, list_any, locals_in, locals_tree, map, meta_tree, name_of, number_of, option_map, refl, revs_tree, same, schema, security_of, sequence_of, subst, sym, text_cell, text_of, true, value_or_null, winner, winner_text, ℕ, ℤ, ◌∙◌, ◌≡◌, ◌≢◌, ◌≤◌}
+use Rattle.tables.proofs.Common.{[], AllByRecursion, AreLawful, AreNumbered, Changes, Contents, HistoryContent, IsAscending, IsDatabaseNumber, IsDatabaseRow, IsDocumentRow, IsLaid, IsLaidAt, IsLawful, IsLocalRow, IsRevisionRow, IsStore, List, None, Option, Revision, Row, Schema, Some, Trees, all_weaker, any_is_found, ap, arith, cond, contents_in, database_at, db_of, dbs_tree, decls_tree, docs_tree, documents_in, entries_tree, eqb, eqb_tells, from_entries, held_of, history_in, id_of, inl, inr, is_deleted, is_gone, is_known, is_of, is_some, json_in, length_of, list_any, locals_in, locals_tree, map, meta_tree, name_of, number_of, option_map, refl, revs_tree, same, schema, security_of, sequence_of, subst, sym, text_cell, text_of, true, value_or_null, version_row, winner, winner_text, ℕ, ℤ, ◌∙◌, ◌∷◌, ◌≡◌, ◌≢◌, ◌≤◌}
 use Rattle.std.specs.Ordering.{int_eq}
 use Rattle.couch_json.specs.Nesting.{max_open}
 use Rattle.couch_json.specs.Value as json
@@ -85,6 +85,16 @@ pub record AreSame (a b : Trees) : Type 0 where
   pub revs : b revs_tree ≡ a revs_tree
   pub locals : b locals_tree ≡ a locals_tree
 
+-- the same but for the version
+pub record HoldSame (a b : Trees) : Type 0 where
+  pub dbs : b dbs_tree ≡ a dbs_tree
+  pub docs : b docs_tree ≡ a docs_tree
+  pub revs : b revs_tree ≡ a revs_tree
+  pub locals : b locals_tree ≡ a locals_tree
+
+hold_same : (a b : Trees) → AreSame a b → HoldSame a b
+hold_same a b s = record { dbs = s.dbs; docs = s.docs; revs = s.revs; locals = s.locals }
+
 pub unchanged : (a : Trees) → AreSame a a
 unchanged a = record { meta = refl; dbs = refl; docs = refl; revs = refl; locals = refl }
 
@@ -109,16 +119,17 @@ abbrev pub contents_of : List Row → List Row → List Row → List Row → Con
 contents_of dbs docs revs locals =
     from_entries (map (λ r. (name_of r, record { length = length_of r; security = security_of r; locals = locals_in locals (number_of r); documents = documents_in docs revs (number_of r) })) dbs)
 
-module _ (a b : Trees) (same : AreSame a b) where
-  pub contents_same : contents_in b ≡ contents_in a
-  contents_same = λ i. contents_of (same.dbs i) (same.docs i) (same.revs i) (same.locals i)
+module _ (a b : Trees) (same : HoldSame a b) where
+  pub rows_hold : contents_in b ≡ contents_in a
+  rows_hold = λ i. contents_of (same.dbs i) (same.docs i) (same.revs i) (same.locals i)
 
-  pub laid_same : IsLaid a → IsLaid b
-  laid_same h =
+  -- at whatever version
+  pub laid_over : (m n : ℕ) → b meta_tree ≡ version_row n ∷ [] → IsLaidAt m a → IsLaidAt n b
+  laid_over m n version h =
       let lengths : (n : ℤ) → length_at (b dbs_tree) n ≡ length_at (a dbs_tree) n = λ n. ap (λ l. length_at l n) same.dbs in
       let histories : (n : ℤ) (id : List ℕ) → history_in (b revs_tree) n id ≡ history_in (a revs_tree) n id = λ n id. ap (λ l. history_in l n id) same.revs in
       record {
-        version = same.meta ∙ h.version;
+        version = version;
         dbs_numbered = subst AreNumbered (sym same.dbs) h.dbs_numbered;
         docs_numbered = subst AreNumbered (sym same.docs) h.docs_numbered;
         revs_numbered = subst AreNumbered (sym same.revs) h.revs_numbered;
@@ -135,8 +146,15 @@ module _ (a b : Trees) (same : AreSame a b) where
         locals = subst (AllByRecursion (IsLocalRow b)) (sym same.locals)
             (all_weaker (IsLocalRow a) (IsLocalRow b) (λ r. local_kept a b r (lengths (db_of r))) (a locals_tree) h.locals);
         local_ids_apart = subst (IsAscending _) (sym same.locals) h.local_ids_apart;
-        lawful = subst (λ c. ∥ AreLawful c ∥₁) (sym contents_same) h.lawful;
+        lawful = subst (λ c. ∥ AreLawful c ∥₁) (sym rows_hold) h.lawful;
       }
+
+module _ (a b : Trees) (same : AreSame a b) where
+  pub contents_same : contents_in b ≡ contents_in a
+  contents_same = rows_hold a b (hold_same a b same)
+
+  pub laid_same : IsLaid a → IsLaid b
+  laid_same h = laid_over a b (hold_same a b same) 2 2 (same.meta ∙ h.version) h
 
 -- so they are those of a store
 pub store_of : (a : Trees) (new : sqlite.Database) → new.schema ≡ schema → AreSame a new.trees → IsLaid a → IsStore new

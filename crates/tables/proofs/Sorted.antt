@@ -1,5 +1,5 @@
 -- What a query with an order answers, where no two rows tie.
-use Rattle.tables.proofs.Common.{AllByRecursion, Bool, Equal, Err, Greater, IfOk, IsAnswer, IsAscending, IsPermutation, IsTotalOrder, Key, Less, List, Null, Ok, Ordering, Output, Query, Result, Row, Select, Shown, State, Term, [], all-filter, all_both, all_weaker, ap, ap₂, as_count, ascending-filter, ascending-map, cond, eval, eval_all, false, filter, flat_map, holds, insert_sorted, is_eq, is_gt, limited, list_all, map, map-map, map_same, ordering_reverse, output, output_cmp, overlay, reads_as, refl, sort_by, sort_by-map, sorted_is-sort_by, subst, sym, true, upto, ℕ, ◌∙◌, ◌∷◌, ◌≡◌}
+use Rattle.tables.proofs.Common.{AllByRecursion, Bool, Equal, Err, Greater, IfOk, IsAnswer, IsAscending, IsPermutation, IsTotalOrder, Key, Less, Less-from_lt, List, Null, Ok, Ordering, Output, Query, Result, Row, Select, Shown, State, Term, [], all-filter, all_both, all_weaker, ap, ap₂, as_count, ascending-filter, ascending-map, cond, eval, eval_all, false, filter, flat_map, holds, insert_sorted, int_cmp, is_eq, is_gt, limited, list_all, map, map-map, map_same, number_of, ordering_reverse, output, output_cmp, overlay, reads_as, refl, sort_by, sort_by-map, sorted_is-sort_by, subst, sym, true, upto, ℕ, ◌<ℤ◌, ◌∙◌, ◌∷◌, ◌≡◌}
 use Rattle.sqlite_sql.proofs.QueryLemmas.{output_cmp_total}
 use Rattle.sqlite.specs.Effect.{Answers}
 use Rattle.tables.proofs.Queries.{first_program, first_on, passed}
@@ -116,3 +116,16 @@ module _ (old new : State) (has : old.now.schema ≡ tables.schema) {text : List
       ∙ ap (limited (as_count (eval most (params ∷ []))))
       (ap (map (λ (o : Output). o.1)) (ordered ∙ sort_by-map (output_cmp q) out found ∙ ap (map out) mine)
       ∙ map-map (λ (o : Output). o.1) out (sort_by by found) ∙ map_same _ show shows (sort_by by found))
+
+-- ---- rows by their numbers, which rise
+
+abbrev pub by_their_numbers : Row → Row → Ordering
+by_their_numbers a b = int_cmp (number_of a) (number_of b)
+
+stays_first : (r : Row) (rows : List Row) → AllByRecursion (λ b. number_of r <ℤ number_of b) rows → insert_sorted by_their_numbers r rows ≡ r ∷ rows
+stays_first r [] above = refl
+stays_first r (s ∷ rows) above = ap (λ o. cond (is_gt o) (s ∷ insert_sorted by_their_numbers r rows) (r ∷ s ∷ rows)) (Less-from_lt (number_of r) (number_of s) above.0)
+
+pub sorted_already : (rows : List Row) → IsAscending (λ a b. number_of a <ℤ number_of b) rows → sort_by by_their_numbers rows ≡ rows
+sorted_already [] up = refl
+sorted_already (r ∷ rows) up = ap (insert_sorted by_their_numbers r) (sorted_already rows up.1) ∙ stays_first r rows up.0

@@ -1,5 +1,5 @@
 -- What an INSERT of values, a DELETE and an UPDATE make of their table.
-use Rattle.tables.proofs.Common.{Above, AllByRecursion, Applies, Changes, Chosen, Database, Delete, Edit, Err, Given, Insert, IsPlain, List, MatchBool, None, Ok, Option, Program, Ran, Result, Row, Schema, Some, State, Table, Term, Trees, Update, Values, Writes, [], ap, append-nil, ap₂, command_of, cond, drop, edit_of, edited, eval_all, false, ids_of, inl, inr, int_cmp, is_lt, length, mode_of, one_step, reads_listing, refl, runs_as, slice_get, subst, sym, taken_by, understood, value_rows, without_all, ℕ, ℤ, ◌++◌, ◌-◌, ◌/◌, ◌∙◌, ◌∷◌, ◌≡◌, ◌≢◌, ◌⊎◌}
+use Rattle.tables.proofs.Common.{Above, AllByRecursion, Applies, Changes, Chosen, Database, Delete, Edit, Err, Given, Insert, IsPlain, List, MatchBool, None, Ok, OnOk, Option, Program, Ran, Result, Row, Schema, Some, State, Table, Term, Trees, Update, Values, Writes, [], ap, append-nil, ap₂, command_of, cond, drop, edit_of, edited, eval_all, false, ids_of, inl, inr, int_cmp, is_lt, length, mode_of, one_step, reads_listing, refl, runs_as, slice_get, subst, sym, taken_by, understood, value_rows, without_all, ℕ, ℤ, ◌++◌, ◌-◌, ◌/◌, ◌∙◌, ◌∷◌, ◌≡◌, ◌≢◌, ◌⊎◌}
 use Rattle.sqlite_schema.specs.declared.schema.Keys.TheVariants.{Enforced}
 use Rattle.sqlite_schema.specs.declared.command.Command.{Command}
 use Rattle.sqlite_rules.specs.Action.{works}
@@ -145,3 +145,17 @@ pub updates : (schema : Schema) (at : ℕ) (table : Table) → IsPlainTable sche
     × Changes table.tree (edited old.now.trees (edit_of old.now.trees table (ids_of rows) Given 1 rows)) old.now new.now
 updates schema at table it old new has text q command params ran =
     updated schema at table it old new has params _ ran.0 q (runs_as text params old new schema has (Update at q) command.is command.plain ran.0 ran.1)
+
+-- whatever the rows are, the schema stays
+module _ {X E : Type 0} (schema : Schema) (at : ℕ) (table : Table) (it : IsPlainTable schema at table) (old new : State) (has : old.now.schema ≡ schema) {text : List ℕ} where
+  pub insert_stays : {terms : List Term} {width : ℕ} → IsCommand schema text (Insert at (Values terms width)) → (params : Row) (r : Result X E) → OnOk r (Ran text params old new) → OnOk r (new.now.schema ≡ schema)
+  insert_stays command params (Err e) h = tt
+  insert_stays {terms} {width} command params (Ok x) h = (inserts schema at table it old new has text terms width command params h).schema ∙ has
+
+  pub delete_stays : {q : Program} → IsCommand schema text (Delete at q) → (params : Row) (r : Result X E) → OnOk r (Ran text params old new) → OnOk r (new.now.schema ≡ schema)
+  delete_stays command params (Err e) h = tt
+  delete_stays {q} command params (Ok x) h = (deletes schema at table it old new has text q command params h).2.schema ∙ has
+
+  pub update_stays : {q : Program} → IsCommand schema text (Update at q) → (params : Row) (r : Result X E) → OnOk r (Ran text params old new) → OnOk r (new.now.schema ≡ schema)
+  update_stays command params (Err e) h = tt
+  update_stays {q} command params (Ok x) h = (updates schema at table it old new has text q command params h).2.schema ∙ has

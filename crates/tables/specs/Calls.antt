@@ -18,9 +18,15 @@ Stays g old new r = HasCleanDisk (state g new) → OnOk r (steps.StaysInside (st
 abbrev pub Proceeds : {S : Type 0} → Ghosts S → Held S → Held S → Type 0
 Proceeds g old new = steps.Proceeds (state g old) (state g new)
 
--- What a change of one table leaves. If the table was fit for it, its rows are changed so and the others stay; the transaction goes on, and nothing is committed.
+-- the schema stays ours
+abbrev pub KeepsSchema : {S X E : Type 0} → Ghosts S → Held S → Held S → Result X E → Type 0
+KeepsSchema g old new r = HasCleanDisk (state g new) → old.schema ≡ schema → OnOk r (new.schema ≡ schema)
+
+-- What a change of one table leaves. If the table was fit for it, its rows are changed so and the others stay; whatever its rows are, the schema stays.
+-- The transaction goes on, and nothing is committed.
 pub record Alters {S X E : Type 0} (g : Ghosts S) (tree : ℕ) (IsFit : List Row → Type 0) (change : List Row → List Row) (old new : Held S) (r : Result X E) : Type 0 where
   pub ok : HasCleanDisk (state g new) → old.schema ≡ schema → IsFit ((state g old).now.trees tree) → OnOk r (steps.Changes tree (change ((state g old).now.trees tree)) (state g old).now (state g new).now)
+  pub keeps : KeepsSchema g old new r
   pub inside : Stays g old new r
   pub proceeds : Proceeds g old new
 

@@ -1,6 +1,6 @@
 -- When the rows of the tables are laid out as this server lays them out.
 -- This server's own: what an opened file is held to, and what each write keeps.
-use Rattle.std.specs.Prelude.{◌≡◌, ◌≢◌, ◌≤◌, ◌<◌, ◌^◌, ◌↔◌, IsTrue, IsUtf8, ℤ, pos, ◌<ℤ◌, List, [], ◌∷◌, find, Option, Some, None, option_map}
+use Rattle.std.specs.Prelude.{◌≡◌, ◌≢◌, ◌≤◌, ◌<◌, ◌^◌, ◌↔◌, IsTrue, IsUtf8, ℕ, ℤ, pos, ◌<ℤ◌, List, [], ◌∷◌, find, Option, Some, None, option_map}
 use Rattle.std.specs.List.{AllByRecursion, list_any}
 use Rattle.std.specs.Ordering.{int_eq}
 use Rattle.couch_json.specs.Canonical.{canonical}
@@ -48,9 +48,9 @@ IsDatabaseNumber trees db = IsTrue (list_any (λ r. int_eq (number_of r) db) (tr
 abbrev pub database_at : List Row → ℤ → Option Row
 database_at rows db = find (λ r. int_eq (number_of r) db) rows
 
--- the one row of `meta`
-abbrev pub version_row : Row
-version_row = Int (pos 1) ∷ count 1 ∷ []
+-- the one row of `meta`, at this version
+abbrev pub version_row : ℕ → Row
+version_row n = Int (pos 1) ∷ count n ∷ []
 
 pub record IsDatabaseRow (r : Row) : Type 0 where
   pub is : r ≡ database_row (number_of r) (name_of r) (canonical (security_of r)) (pos (length_of r))
@@ -88,9 +88,9 @@ pub record IsLocalRow (trees : Trees) (r : Row) : Type 0 where
   pub small : (local_of r).number < 2 ^ 32
   pub body : IsBody (local_of r).body
 
--- All rows are so, no two of one table say the same thing, and the databases that they hold are lawful.
-pub record IsLaid (trees : Trees) : Type 0 where
-  pub version : trees meta_tree ≡ version_row ∷ []
+-- All rows are so, no two of one table say the same thing, the databases that they hold are lawful, and the version is this one.
+pub record IsLaidAt (n : ℕ) (trees : Trees) : Type 0 where
+  pub version : trees meta_tree ≡ version_row n ∷ []
   pub dbs_numbered : AreNumbered (trees dbs_tree)
   pub docs_numbered : AreNumbered (trees docs_tree)
   pub revs_numbered : AreNumbered (trees revs_tree)
@@ -106,10 +106,28 @@ pub record IsLaid (trees : Trees) : Type 0 where
   pub local_ids_apart : IsAscending (λ a b. db_of a ≡ db_of b → id_of a ≢ id_of b) (trees locals_tree)
   pub lawful : ∥ AreLawful (contents_in trees) ∥₁
 
+-- the same at the version that this server writes
+abbrev pub IsLaid : Trees → Type 0
+IsLaid = IsLaidAt 2
+
 -- the database has these tables and no others, and their rows are laid out
 pub record IsStore (db : sqlite.Database) : Type 0 where
   pub schema_is : db.schema ≡ schema
   pub laid : IsLaid db.trees
+
+-- The same of a file of the first version, whose rows of indexes are of an earlier layout: nothing is known of them but that their numbers rise.
+pub record IsFirstStore (db : sqlite.Database) : Type 0 where
+  pub schema_is : db.schema ≡ schema
+  pub laid : IsLaidAt 1 db.trees
+  pub decls_numbered : AreNumbered (db.trees decls_tree)
+  pub entries_numbered : AreNumbered (db.trees entries_tree)
+
+-- a file of the first version is a store now, with the same databases, and has no row of an index yet
+pub record IsRenewed (old new : sqlite.Database) : Type 0 where
+  pub store : IsStore new
+  pub decls : new.trees decls_tree ≡ []
+  pub entries : new.trees entries_tree ≡ []
+  pub contents : contents_in new.trees ≡ contents_in old.trees
 
 -- the tables with no row at all
 pub record IsEmpty (db : sqlite.Database) : Type 0 where
@@ -125,7 +143,7 @@ pub record IsEmpty (db : sqlite.Database) : Type 0 where
 -- the tables as they are made: with the version, and no other row
 pub record IsNew (db : sqlite.Database) : Type 0 where
   pub schema_is : db.schema ≡ schema
-  pub version : db.trees meta_tree ≡ version_row ∷ []
+  pub version : db.trees meta_tree ≡ version_row 2 ∷ []
   pub dbs : db.trees dbs_tree ≡ []
   pub docs : db.trees docs_tree ≡ []
   pub revs : db.trees revs_tree ≡ []

@@ -52,6 +52,14 @@ rows_behind (negsuc n) rows = rows
 abbrev pub is_between : List ℕ → List ℕ → List ℕ → Bool
 is_between low high bytes = is_le (slice_cmp nat_cmp low bytes) && is_lt (slice_cmp nat_cmp bytes high)
 
+-- the row is that of a document whose id lies between the bounds
+abbrev pub has_id_between : List ℕ → List ℕ → Row → Bool
+has_id_between low high r = is_between low high (id_of r)
+
+-- what names a document among those of all databases: the number of its database, and its id
+abbrev pub named_document : Row → Row
+named_document r = column r 1 ∷ column r 2 ∷ []
+
 -- the winner is deleted, or is not, as it is asked for
 abbrev pub has_mark : Bool → Bool → Bool
 has_mark deleted gone = if deleted then gone else not gone

@@ -1,12 +1,14 @@
--- Which of the tables a schema has, and whether the version is that of this layout.
+-- Which of the tables a schema has, and which version a file has.
 -- This server's own: tables go by their names, and there is one row of the version.
-use Rattle.std.specs.Prelude.{Bool, false, ℕ, pos, List, [], ◌∷◌, codes, is_some}
+use Rattle.std.specs.Prelude.{Bool, ℕ, ℤ, pos, if◌then◌else◌, List, [], ◌∷◌, codes, is_some}
 use Rattle.std.specs.List.{list_all, list_any}
 use Rattle.std.specs.Ordering.{int_eq}
 use Rattle.sqlite_value.specs.Order.{Row, column}
 use Rattle.sqlite_schema.specs.declared.schema.Schema.{Schema}
 use Rattle.sqlite_schema.specs.Names.{table_named}
 use Rattle.tables.specs.Rows.{whole_in}
+use Rattle.tables.specs.declared.meta.FileVersion.{FileVersion}
+use Rattle.tables.specs.declared.meta.FileVersion.TheVariants.{First, Second, Other}
 
 abbrev pub table_names : List (List ℕ)
 table_names = codes "meta" ∷ codes "dbs" ∷ codes "docs" ∷ codes "revs" ∷ codes "locals" ∷ codes "decls" ∷ codes "entries" ∷ []
@@ -24,14 +26,18 @@ has_any schema = list_any (has_table schema) table_names
 abbrev pub shown_version : Row → Row
 shown_version r = column r 1 ∷ []
 
--- one row is shown, of the version 1
-abbrev pub shows_first : List Row → Bool
-shows_first [] = false
-shows_first (s ∷ []) = int_eq (whole_in (column s 0)) (pos 1)
-shows_first (s ∷ t ∷ more) = false
+-- the version of this number
+abbrev pub version_numbered : ℤ → FileVersion
+version_numbered n = if int_eq n (pos 2) then Second else (if int_eq n (pos 1) then First else Other)
 
--- there is one row, of the version 1
-abbrev pub is_first : List Row → Bool
-is_first [] = false
-is_first (r ∷ []) = int_eq (whole_in (column r 1)) (pos 1)
-is_first (r ∷ s ∷ more) = false
+-- the version that is shown, in one row
+abbrev pub version_shown : List Row → FileVersion
+version_shown [] = Other
+version_shown (s ∷ []) = version_numbered (whole_in (column s 0))
+version_shown (s ∷ t ∷ more) = Other
+
+-- the version of a file whose `meta` has these rows: it stands in one row
+abbrev pub version_in : List Row → FileVersion
+version_in [] = Other
+version_in (r ∷ []) = version_numbered (whole_in (column r 1))
+version_in (r ∷ s ∷ more) = Other

@@ -13,11 +13,11 @@ use crate::statement::change;
 use sqlite::{Alter, Error, Transaction};
 
 /// Writes the version of the layout.
-fn insert_version<S: Alter>(tx: &mut Transaction<'_, S>) -> Result<(), Error>
+pub(crate) fn insert_version<S: Alter>(tx: &mut Transaction<'_, S>) -> Result<(), Error>
     ensures same_reference { tx.new.conn.ghost_name ≡ tx.old.conn.ghost_name }
-    ensures alters { Alters S.Store meta_tree AreNumbered (λ rows. with_cells rows (count 1 ∷ [])) tx.old.conn.now tx.new.conn.now result }
+    ensures alters { Alters S.Store meta_tree AreNumbered (λ rows. with_cells rows (count 2 ∷ [])) tx.old.conn.now tx.new.conn.now result }
 {
-    change(tx, "INSERT INTO meta (version) VALUES (1)", &[])
+    change(tx, "INSERT INTO meta (version) VALUES (2)", &[])
 }
 
 /// Makes all seven tables, where there is none.

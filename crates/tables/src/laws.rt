@@ -8,11 +8,12 @@ ghost use Rattle.sqlite_trees.specs.Tree.{Trees};
 ghost use Rattle.store.specs.Database.{Database, history_at};
 ghost use Rattle.tree.specs.History.{is_known};
 ghost use Rattle.tree.specs.Revision.{Revision, is_revision};
-ghost use Rattle.tables.specs.Layout.{IsLaid, IsNew, IsStore};
-ghost use Rattle.tables.specs.Presence.{has_all, is_first};
+ghost use Rattle.tables.specs.Layout.{IsFirstStore, IsLaid, IsNew, IsStore};
+ghost use Rattle.tables.specs.Presence.{has_all, version_in};
 ghost use Rattle.tables.specs.Rows.{contents_in, shown_database, shown_hash, shown_local, shown_outline, shown_revision};
 ghost use Rattle.tables.specs.Schema as tables;
 ghost use Rattle.tables.specs.Schema.{dbs_tree, locals_tree, meta_tree, revs_tree};
+ghost use Rattle.tables.specs.declared.meta.FileVersion.{FileVersion};
 ghost use Rattle.tables.specs.Shown.{IsShownDatabase, IsShownHash, IsShownLocal, IsShownOutline, IsShownRevision};
 
 /// What `create_tables` makes holds a store, and no database.
@@ -21,10 +22,12 @@ pub fn new_tables()
     ensures nothing { (db : sqlite.Database) → IsNew db → contents_in db.trees ≡ empty }
 {}
 
-/// Tables that are laid out are told to be there, at the version of this layout.
+/// Tables that are laid out are told to be there, at their version.
 pub fn tables_of_a_store()
     ensures tables { (db : sqlite.Database) → IsStore db → has_all db.schema ≡ true }
-    ensures version { (db : sqlite.Database) → IsStore db → is_first (db.trees meta_tree) ≡ true }
+    ensures version { (db : sqlite.Database) → IsStore db → version_in (db.trees meta_tree) ≡ FileVersion.Second }
+    ensures first_tables { (db : sqlite.Database) → IsFirstStore db → has_all db.schema ≡ true }
+    ensures first_version { (db : sqlite.Database) → IsFirstStore db → version_in (db.trees meta_tree) ≡ FileVersion.First }
 {}
 
 /// No reader of a row finds a row damaged where the tables are laid out.

@@ -12,6 +12,7 @@ pub mod listings;
 pub mod locals;
 mod meta;
 pub mod reads_in;
+mod renewing;
 pub mod revisions;
 pub mod statement;
 
@@ -20,4 +21,5 @@ pub use decode::{
     FoundDatabase, FoundNode, FoundRevision, ListedDocument, RowFault, id_at, json_at,
     read_database, read_hash, read_listed_document, read_local, read_node, read_revision, whole_at,
 };
-pub use meta::{FoundTables, is_first_version, tables_in};
+pub use meta::{FileVersion, FoundTables, read_version, tables_in};
+pub use renewing::renew_tables;

@@ -2,7 +2,7 @@
 
 ghost use Rattle.std.specs.Prelude.{◌≡◌, ◌↔◌, false, true, IsPermutation, map};
 ghost use Rattle.tables.specs.Calls.{Reads};
-ghost use Rattle.tables.specs.Presence.{has_all, has_any, has_table, is_first, shown_version, shows_first};
+ghost use Rattle.tables.specs.Presence.{has_all, has_any, has_table, shown_version, version_in, version_shown};
 ghost use Rattle.tables.specs.Schema as tables;
 ghost use Rattle.tables.specs.Schema.{meta_tree};
 
@@ -22,6 +22,17 @@ pub enum FoundTables {
     Part = 3,
     /// There are all of these.
     All = 4,
+}
+
+/// The version of a file.
+#[derive(Clone, Copy, PartialEq, Eq)]
+pub enum FileVersion {
+    /// It is the first one, whose rows of indexes are of an earlier layout.
+    First = 1,
+    /// It is the second one, which this server writes.
+    Second = 2,
+    /// There is another number, or not one row.
+    Other = 3,
 }
 
 fn has_table(schema: &Schema, name: &str) -> bool
@@ -85,19 +96,23 @@ fn version_rows<S: Alter>(conn: &mut Connection<S>) -> Result<Vec<Row>, Error>
     query(conn, "SELECT version FROM meta", &[])
 }
 
-fn is_first(rows: &[Row]) -> bool
-    ensures { result ≡ shows_first rows.now }
+fn version_of(rows: &[Row]) -> FileVersion
+    ensures { result ≡ version_shown rows.now }
 {
     if rows.len() != 1 {
-        return false;
+        return FileVersion::Other;
     }
-    matches!(rows[0].get_ref(0), Ok(ValueRef::Int(1)))
+    match rows[0].get_ref(0) {
+        Ok(ValueRef::Int(2)) => FileVersion::Second,
+        Ok(ValueRef::Int(1)) => FileVersion::First,
+        _ => FileVersion::Other,
+    }
 }
 
-/// Tells whether `meta` has one row, which has the version of this layout.
-pub fn is_first_version<S: Alter>(conn: &mut Connection<S>) -> Result<bool, Error>
-    ensures { Reads S.Store (λ db. db.schema ≡ tables.schema) conn.old conn.new (λ trees first. first ≡ is_first (trees meta_tree)) result }
+/// Reads the version of a file, which stands in the one row of `meta`.
+pub fn read_version<S: Alter>(conn: &mut Connection<S>) -> Result<FileVersion, Error>
+    ensures { Reads S.Store (λ db. db.schema ≡ tables.schema) conn.old conn.new (λ trees version. version ≡ version_in (trees meta_tree)) result }
 {
     let rows = version_rows(conn)?;
-    Ok(is_first(&rows))
+    Ok(version_of(&rows))
 }

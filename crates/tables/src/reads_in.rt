@@ -3,6 +3,7 @@
 ghost use Rattle.std.specs.Prelude.{◌≡◌, filter, map, IsPermutation};
 ghost use Rattle.tables.specs.Calls.{ReadsInside};
 ghost use Rattle.tables.specs.Layout.{IsStore};
+ghost use Rattle.tables.specs.Listings.{has_id_between, named_document};
 ghost use Rattle.tables.specs.Rows.{is_of, is_revision_of, listed_document, shown_revision};
 ghost use Rattle.tables.specs.Schema.{docs_tree, revs_tree};
 
@@ -57,5 +58,22 @@ pub fn one_revision_rows_in<S: Alter>(
         tx,
         "SELECT n, hash, parent, held, del, body FROM revs WHERE db = ?1 AND id = ?2 AND n = ?3 AND hash = ?4",
         params![db, id, number, hash],
+    )
+}
+
+/// Returns the rows of the documents of all databases whose ids are not below the low bound and below
+/// the high one, by their numbers: the number of the database, and the id.
+pub fn rows_between_in<S: Alter>(
+    tx: &mut Transaction<'_, S>,
+    low: &[u8],
+    high: &[u8],
+) -> Result<Vec<Row>, Error>
+    ensures same_reference { tx.new.conn.ghost_name ≡ tx.old.conn.ghost_name }
+    ensures reads { ReadsInside S.Store IsStore tx.old.conn.now tx.new.conn.now (λ trees rows. rows.items ≡ map named_document (filter (has_id_between low.now high.now) (trees docs_tree))) result }
+{
+    query_in(
+        tx,
+        "SELECT db, id FROM docs WHERE id >= ?1 AND id < ?2 ORDER BY rowid",
+        params![low, high],
     )
 }
