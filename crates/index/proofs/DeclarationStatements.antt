@@ -1,5 +1,6 @@
 -- What the statements on declarations mean.
 use Rattle.index.proofs.Common.{AllByRecursion, AreDeclarationRows, AreNumbered, Binary, Blob, Delete, Eq, HasIndexRows, HasOneAtMost, IfOk, Insert, Int, IsAscending, IsCommand, IsDeclarationRow, Key, Less-from_lt, List, Null, Ordering, Result, Row, Select, Shown, State, Term, Text, Values, [], all_weaker, and_parts, ap, ap₂, ascending-filter, ascending_weaker, by_number, bytes_eq, bytes_eq-Decides, cast_int, cast_null, cast_row, codes, col, column, compares, cond, declaration_cells, decls_table, decls_tree, design_of, everything, false, filter, finds_one, holds, home_of, index_name_of, insert_sorted, int_by, int_cmp, is_at_home, is_declaration_of, is_eq, is_gt, last_term, list_all, lists, lit, map, number_of, program_on, refl, rowid, same_blob, same_int, schema, shown_declaration, sort_by, subst, sym, then-Equal, then_term, true, understood, value_cmp, value_cmp-Int, ℕ, ℤ, ◌<ℤ◌, ◌∙◌, ◌∷◌, ◌≡◌, ◌≢◌}
+use Rattle.tables.proofs.Sorted.{by_their_numbers, sorted_already}
 
 abbrev pub by_home : List Term
 by_home = compares Eq 2 0 ∷ []
@@ -33,19 +34,6 @@ pub one_of_index : (rows : List Row) → AreDeclarationRows rows → (db : ℤ) 
 one_of_index rows h db design name =
     ascending_weaker (λ a b. home_of a ≡ home_of b → design_of a ≡ design_of b → index_name_of a ≢ index_name_of b) (λ a b. is_declaration_of db design name a ≡ true → is_declaration_of db design name b ≡ true → ⊥)
     (λ a b apart p q. let x = of_index db design name a p in let y = of_index db design name b q in apart (x.0 ∙ sym y.0) (x.1 ∙ sym y.1) (x.2 ∙ sym y.2)) rows h.apart
-
--- ---- rows by their numbers
-
-abbrev by_their_numbers : Row → Row → Ordering
-by_their_numbers a b = int_cmp (number_of a) (number_of b)
-
-stays_first : (r : Row) (rows : List Row) → AllByRecursion (λ b. number_of r <ℤ number_of b) rows → insert_sorted by_their_numbers r rows ≡ r ∷ rows
-stays_first r [] above = refl
-stays_first r (s ∷ rows) above = ap (λ o. cond (is_gt o) (s ∷ insert_sorted by_their_numbers r rows) (r ∷ s ∷ rows)) (Less-from_lt (number_of r) (number_of s) above.0)
-
-sorted_already : (rows : List Row) → IsAscending (λ a b. number_of a <ℤ number_of b) rows → sort_by by_their_numbers rows ≡ rows
-sorted_already [] up = refl
-sorted_already (r ∷ rows) up = ap (insert_sorted by_their_numbers r) (sorted_already rows up.1) ∙ stays_first r rows up.0
 
 -- ---- the statements
 

@@ -58,7 +58,7 @@ and_true : (b : Bool) → (b && true) ≡ b
 and_true true = refl
 and_true false = refl
 
-all_get : (P : Row → Type 0) (xs : List Row) (i : ℕ) (x : Row) → i < length xs → AllByRecursion P xs → P (get_or xs i x)
+pub all_get : (P : Row → Type 0) (xs : List Row) (i : ℕ) (x : Row) → i < length xs → AllByRecursion P xs → P (get_or xs i x)
 all_get P [] i x lt all = absurd (omega (arith, lt))
 all_get P (y ∷ xs) Prim.Native.Nat.zero x lt all = all.0
 all_get P (y ∷ xs) (suc i) x lt all = all_get P xs i x (omega (arith, lt)) all.1
@@ -174,7 +174,7 @@ unwritten_unseen trees l db i none =
     hidden true = refl
     hidden false = refl
 
-get_map : {B : Type 0} (f : Row → B) (xs : List Row) (i : ℕ) (x : Row) (y : B) → i < length xs → get_or (map f xs) i y ≡ f (get_or xs i x)
+pub get_map : {B : Type 0} (f : Row → B) (xs : List Row) (i : ℕ) (x : Row) (y : B) → i < length xs → get_or (map f xs) i y ≡ f (get_or xs i x)
 get_map f [] i x y lt = absurd (omega (arith, lt))
 get_map f (z ∷ xs) Prim.Native.Nat.zero x y lt = refl
 get_map f (z ∷ xs) (suc i) x y lt = get_map f xs i x y (omega (arith, lt))

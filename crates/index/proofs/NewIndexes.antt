@@ -1,5 +1,5 @@
 -- New tables have the index rows that they are to have, which are none.
-use Rattle.index.proofs.Common.{AreDeclarationRows, AreEntryRows, Bool, Database, HasIndexRows, IsIndexed, IsNew, List, None, Option, [], ap, declared_by, has_entry, if◌then◌else◌, is_due, option_map, refl, sees_in, subst, sym, true, false, ℕ, ◌∙◌, ◌≡◌}
+use Rattle.index.proofs.Common.{AreDeclarationRows, AreEntryRows, AreIndexed, Bool, Database, Declarations, Documents, HasIndexRows, IsIndexed, IsNew, List, None, Option, Trees, [], ap, declared_by, declares_in, decls_tree, entries_tree, has_entry, if◌then◌else◌, is_due, option_map, refl, sees_in, subst, sym, true, false, ℕ, ℤ, ◌∙◌, ◌≡◌}
 use Rattle.std.specs.FinMap.{empty}
 use Rattle.std.specs.Prelude.{option_and_then}
 use Rattle.store.proofs.Winnings.{no_winner}
@@ -30,12 +30,18 @@ nothing_declared design name = ap (λ (r : Option Revision). if is_design_id des
     both true = refl
     both false = refl
 
-pub new_indexed : (db : Database) → IsNew db → IsIndexed db.trees
-new_indexed db h = record {
-  decls = subst AreDeclarationRows (sym h.decls) none_declared;
-  declared = λ d design name. ap (λ rows. declared_by rows d design name) h.decls ∙ sym (ap (λ rows. index_fields_of design (history_in rows d design) name) h.revs ∙ nothing_declared design name);
+-- where nothing is declared there are no index rows
+pub bare_indexed : (declares : Declarations) (sees : Documents) (trees : Trees) → trees decls_tree ≡ [] → trees entries_tree ≡ [] → ((db : ℤ) (design name : List ℕ) → declares db design name ≡ None) → AreIndexed declares sees trees
+bare_indexed declares sees trees decls entries none = record {
+  decls = subst AreDeclarationRows (sym decls) none_declared;
+  declared = λ d design name. ap (λ rows. declared_by rows d design name) decls ∙ sym (none d design name);
   entries = record {
-    laid = subst AreEntryRows (sym h.entries) none_entered;
-    exact = λ n k id. ap (λ rows. has_entry rows n k id) h.entries ∙ sym (ap (λ rows. is_due (sees_in db.trees) rows n k id) h.decls);
+    laid = subst AreEntryRows (sym entries) none_entered;
+    exact = λ n k id. ap (λ rows. has_entry rows n k id) entries ∙ sym (ap (λ rows. is_due sees rows n k id) decls);
   };
 }
+
+pub new_indexed : (db : Database) → IsNew db → IsIndexed db.trees
+new_indexed db h =
+    bare_indexed (declares_in db.trees) (sees_in db.trees) db.trees h.decls h.entries
+    (λ d design name. ap (λ rows. index_fields_of design (history_in rows d design) name) h.revs ∙ nothing_declared design name)

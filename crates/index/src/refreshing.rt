@@ -5,7 +5,7 @@ ghost use Rattle.std.specs.List.{AllByRecursion};
 ghost use Rattle.couch_json.specs.View.{view};
 ghost use Rattle.sqlite.specs.Held.{state};
 ghost use Rattle.sqlite.specs.State.{HasCleanDisk};
-ghost use Rattle.tables.specs.Calls.{AsksInside, LooksInside, Proceeds, Stands};
+ghost use Rattle.tables.specs.Calls.{AsksInside, KeepsSchema, LooksInside, Proceeds, Stands};
 ghost use Rattle.tables.specs.Schema.{decls_tree, schema};
 ghost use Rattle.index.specs.Calls.{FollowsAll, GoesOn, IsRefused, IsSound, Refreshes, ReplacesKey};
 ghost use Rattle.index.specs.Layout.{HasIndexRows};
@@ -109,6 +109,7 @@ pub(crate) fn refresh_index<S: Alter>(
     ensures replaces { ReplacesKey S.Store (declared declaration.now).number id.now (key_if_seen (declared declaration.now).fields (option_map (λ v. view v.now) before.entry))
         (key_if_seen (declared declaration.now).fields (option_map (λ v. view v.now) after.entry)) tx.old.conn.now tx.new.conn.now result }
     ensures err { IfErr result (IsRefused ⊤) }
+    ensures keeps { KeepsSchema S.Store tx.old.conn.now tx.new.conn.now result }
     ensures goes_on { GoesOn S.Store tx.old.conn.now tx.new.conn.now result }
     ensures proceeds { Proceeds S.Store tx.old.conn.now tx.new.conn.now }
 {
@@ -128,6 +129,7 @@ fn replace_entry<S: Alter>(
 ) -> Result<(), Error>
     ensures same_reference { tx.new.conn.ghost_name ≡ tx.old.conn.ghost_name }
     ensures replaces { ReplacesKey S.Store declaration.now id.now (option_map (λ bytes. bytes.items) old.now) (option_map (λ bytes. bytes.items) new.now) tx.old.conn.now tx.new.conn.now result }
+    ensures keeps { KeepsSchema S.Store tx.old.conn.now tx.new.conn.now result }
     ensures goes_on { GoesOn S.Store tx.old.conn.now tx.new.conn.now result }
     ensures proceeds { Proceeds S.Store tx.old.conn.now tx.new.conn.now }
 {
@@ -147,6 +149,7 @@ fn remove_key<S: Alter>(
 ) -> Result<(), Error>
     ensures same_reference { tx.new.conn.ghost_name ≡ tx.old.conn.ghost_name }
     ensures replaces { ReplacesKey S.Store declaration.now id.now (option_map (λ bytes. bytes.items) key.now) None tx.old.conn.now tx.new.conn.now result }
+    ensures keeps { KeepsSchema S.Store tx.old.conn.now tx.new.conn.now result }
     ensures goes_on { GoesOn S.Store tx.old.conn.now tx.new.conn.now result }
     ensures proceeds { Proceeds S.Store tx.old.conn.now tx.new.conn.now }
 {
@@ -165,6 +168,7 @@ fn add_key<S: Alter>(
 ) -> Result<(), Error>
     ensures same_reference { tx.new.conn.ghost_name ≡ tx.old.conn.ghost_name }
     ensures replaces { ReplacesKey S.Store declaration.now id.now None (option_map (λ bytes. bytes.items) key.now) tx.old.conn.now tx.new.conn.now result }
+    ensures keeps { KeepsSchema S.Store tx.old.conn.now tx.new.conn.now result }
     ensures goes_on { GoesOn S.Store tx.old.conn.now tx.new.conn.now result }
     ensures proceeds { Proceeds S.Store tx.old.conn.now tx.new.conn.now }
 {

@@ -56,7 +56,7 @@ returns-clause-fills g c d due =
     steps_then g.S.Store {E = IndexFault} (IsToFill db x c.args.row.now d due) (λ p. (p.schema ≡ schema) × AreEntriesOf due (p.trees entries_tree) × ((k : List ℕ) → due x.number k id ≡ is_key None k)) (λ p q. q ≡ p) (HasEntries (with_key due x.number id after))
     (λ p q. HasEntries (with_key due x.number (id_of d) (key_if_seen x.fields (sees_in p.trees db (id_of d)))) p q) c.args.tx.now.conn.now c.find_live.new.tx.conn.now c.refresh_index.new.tx.conn.now c.in_ok-seen.seen c.refresh_index.result
     (steps_read g.S.Store (IsToFill db x c.args.row.now d due) c.args.tx.now.conn.now c.find_live.new.tx.conn.now (Ok c.in_ok-seen.seen) c.in_ok-seen.ensures.stands c.in_ok-seen.ensures.looks c.in_ok-seen.ensures.asks (λ fit. fit.store.schema_is))
-    (steps_key g.S.Store due x.number id None after c.find_live.new.tx.conn.now c.refresh_index.new.tx.conn.now c.refresh_index.result c.refresh_index.ensures.replaces c.refresh_index.ensures.goes_on c.refresh_index.ensures.proceeds)
+    (steps_key g.S.Store due x.number id None after c.find_live.new.tx.conn.now c.refresh_index.new.tx.conn.now c.refresh_index.result c.refresh_index.ensures.replaces c.refresh_index.ensures.goes_on c.refresh_index.ensures.keeps c.refresh_index.ensures.proceeds)
     (λ was fit same. (
       ap (λ (p : Database). p.schema) same ∙ fit.store.schema_is,
       subst (λ (p : Database). AreEntriesOf due (p.trees entries_tree)) (sym same) fit.entries,

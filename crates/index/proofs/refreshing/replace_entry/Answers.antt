@@ -24,3 +24,8 @@ returns-clause-replaces g c clean has due h was =
     let first = c.in_ok-remove_key.ensures.replaces before has due h was in
     on_ok c.add_key.result (λ second. has_as (with_key (with_key due d id None) d id key) (with_key due d id key) old.now new.now (with_again due d id None key) (has_after _ old.now mid.now new.now first.only second))
     (c.add_key.ensures.replaces clean (first.only.schema ∙ has) (with_key due d id None) first.entries (has_then due d id None))
+
+pub returns-clause-keeps : goal.returns-clause-keeps
+returns-clause-keeps g c clean has =
+    let before : HasCleanDisk (state g.S.Store c.remove_key.new.tx.conn.now) = omega (arith, c.add_key.ensures.proceeds.survives.clean, clean) in
+    c.add_key.ensures.keeps clean (c.in_ok-remove_key.ensures.keeps before has)
