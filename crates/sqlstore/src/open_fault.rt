@@ -12,7 +12,8 @@ pub enum OpenFault {
     /// What the store stands on failed, as a disk.
     #[error("the store failed")]
     Failed = 2,
-    /// The tables are not those of this server, or a transaction was open.
+    /// The tables are not those of this server, or a transaction was open. A row of a file of the first
+    /// version that is met as that is carried over, and is not laid out, is told so too.
     #[error("not a store of this server")]
     NotOurs = 3,
 }

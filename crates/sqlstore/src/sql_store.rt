@@ -59,14 +59,16 @@ impl<S: Alter + Drop> SqlStore<S> {
     ghost use Rattle.std.specs.FinMap.{empty};
     ghost use Rattle.sqlite.specs.Held.{state};
     ghost use Rattle.sqlite.specs.State.{HasCleanDisk};
-    ghost use Rattle.tables.specs.Layout.{IsStore};
-    ghost use Rattle.tables.specs.Presence.{has_all, has_any, is_first};
+    ghost use Rattle.tables.specs.Layout.{IsFirstStore, IsStore};
+    ghost use Rattle.tables.specs.Presence.{has_all, has_any, version_in};
     ghost use Rattle.tables.specs.Rows.{contents_in};
     ghost use Rattle.tables.specs.Schema.{meta_tree, no_schema, schema};
+    ghost use Rattle.tables.specs.declared.meta.FileVersion.{FileVersion};
     ghost use Rattle.transactions.specs.Indexing.{IsIndexedStore};
     ghost use Rattle.sqlstore.specs.Model.{contents_of, fault_count, is_clean, is_honest};
 
-    /// Opens the store that the tables of a connection hold, and makes the tables where there is none of them.
+    /// Opens the store that the tables of a connection hold, and makes the tables where there is none of
+    /// them. A file of the first version is carried over to this one: the rows of its indexes are made anew.
     ///
     /// `NotOurs` comes where the tables are not those of this server, or a transaction is open. The
     /// connection comes back where the store is not opened.
@@ -76,15 +78,18 @@ impl<S: Alter + Drop> SqlStore<S> {
     ) -> Result<SqlStore<S>, (OpenFault, Connection<S>)>
         // Where there was a store, with the rows of its indexes, it is opened as it was; and where there was nothing it has no database.
         ensures found { IfOk result (λ s. is_clean S.Store s → IsIndexedStore (state S.Store conn).now → is_honest S.Store s × (contents_of S.Store s ≡ contents_in (state S.Store conn).now.trees)) }
+        // One of the first version is opened with what it held, and with the rows of its indexes made anew.
+        ensures carried { IfOk result (λ s. is_clean S.Store s → IsFirstStore (state S.Store conn).now → is_honest S.Store s × (contents_of S.Store s ≡ contents_in (state S.Store conn).now.trees)) }
         ensures made { IfOk result (λ s. is_clean S.Store s → conn.schema ≡ no_schema → is_honest S.Store s × (contents_of S.Store s ≡ empty)) }
         ensures no_faults { IfOk result (λ s. fault_count S.Store s ≡ 0) }
         ensures clean { IfOk result (λ s. is_clean S.Store s → HasCleanDisk (state S.Store conn)) }
         ensures served { IfOk result (λ s. is_clean S.Store s → IsTrue (state S.Store conn).is_open) }
         ensures not_ours { IfErr result (λ e. e.0 ≡ OpenFault.NotOurs → (conn.in_transaction ≡ true) ⊎ (HasCleanDisk (state S.Store e.1) → ¬ IsStore (state S.Store conn).now)) }
+        ensures not_first { IfErr result (λ e. e.0 ≡ OpenFault.NotOurs → (conn.in_transaction ≡ true) ⊎ (HasCleanDisk (state S.Store e.1) → ¬ IsFirstStore (state S.Store conn).now)) }
 
-        // What is opened has none of the tables or all, and if they are those of this layout, the version.
+        // What is opened has none of the tables or all, and if they are those of this layout, one of the two versions.
         ensures all { IfOk result (λ _. has_any conn.schema ≡ true → has_all conn.schema ≡ true) }
-        ensures version { IfOk result (λ s. is_clean S.Store s → conn.schema ≡ schema → is_first ((state S.Store conn).now.trees meta_tree) ≡ true) }
+        ensures version { IfOk result (λ s. is_clean S.Store s → conn.schema ≡ schema → version_in ((state S.Store conn).now.trees meta_tree) ≢ FileVersion.Other) }
 
         // Where it is refused the rows are as they were, if tables of these names are those of this layout,
         // and a connection that was shut is not opened.
@@ -96,7 +101,7 @@ impl<S: Alter + Drop> SqlStore<S> {
             return Err((OpenFault::NotOurs, conn));
         }
         conn.set_step_limit(None);
-        if let Err(fault) = find_tables(&mut conn) {
+        if let Err(fault) = find_tables(alloc, &mut conn) {
             return Err((fault, conn));
         }
         if !conn.is_autocommit() {

@@ -95,7 +95,7 @@ neither true = refl
 neither false = refl
 
 -- an empty history declares nothing
-nothing_there : (design name : List ℕ) → index_fields_of design empty name ≡ None
+pub nothing_there : (design name : List ℕ) → index_fields_of design empty name ≡ None
 nothing_there design name =
     ap (λ w. if is_design_id design then option_and_then (λ body. declared_fields body name) (option_map (λ held. held.body) (held_by empty (live_rev_by empty w))) else None) no_winner ∙ neither (is_design_id design)
 

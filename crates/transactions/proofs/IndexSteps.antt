@@ -107,11 +107,11 @@ indexed_still declares sees a b decls entries h =
     }
 
 -- the document and the database are those, or not
-same_place : (db : ℤ) (id : List ℕ) (n : ℤ) (other : List ℕ) → (int_eq n db && bytes_eq other id) ≡ true → (n ≡ db) × (other ≡ id)
+pub same_place : (db : ℤ) (id : List ℕ) (n : ℤ) (other : List ℕ) → (int_eq n db && bytes_eq other id) ≡ true → (n ≡ db) × (other ≡ id)
 same_place db id n other is = let parts = and_parts (int_eq n db) (bytes_eq other id) is in (same_int n db parts.0, (bytes_eq-Decides other id).0 parts.1)
 
 -- the test of one place, either way
-other_place : (db : ℤ) (id : List ℕ) (n : ℤ) (other : List ℕ) → (int_eq n db && bytes_eq other id) ≡ false → (int_eq db n && bytes_eq id other) ≡ false
+pub other_place : (db : ℤ) (id : List ℕ) (n : ℤ) (other : List ℕ) → (int_eq n db && bytes_eq other id) ≡ false → (int_eq db n && bytes_eq id other) ≡ false
 other_place db id n other apart = by (int_eq db n && bytes_eq id other) refl
   where
     by : (b : Bool) → (int_eq db n && bytes_eq id other) ≡ b → b ≡ false

@@ -7,6 +7,7 @@ pub mod OneRevision
 pub mod IndexSteps
 pub mod IndexRests
 pub mod Following
+pub mod Redeclared
 pub mod DocumentWriting
 pub mod Committing
 pub mod HeldHistories

@@ -49,7 +49,8 @@ module _ (trees : Trees) (db : ℤ) (id : List ℕ) (l : IsLaid trees) where
         ap₂ (λ (n : ℤ) (i : List ℕ). is_some (winner (here n i))) (sym own.0) (sym own.1) ∙ ap is_some (stored_winner trees l.revs r k).1,
       )
 
-  nothing_written : filter (is_of db id) (trees docs_tree) ≡ [] → history_in (trees revs_tree) db id ≡ finite.empty
+  -- a document without a row was never written
+  pub nothing_written : filter (is_of db id) (trees docs_tree) ≡ [] → history_in (trees revs_tree) db id ≡ finite.empty
   nothing_written none = unwritten trees db id l (sym (slice_get-filter (is_of db id) (trees docs_tree)) ∙ ap (λ rs. slice_get rs 0) none)
 
   winner_first : (rows : List Row) → filter (is_of db id) (trees docs_tree) ≡ rows → (rows ≡ []) ⊎ ((r : Row) × (rows ≡ r ∷ [])) → option_and_then winner_shown (slice_get (map listed_document rows) 0) ≡ marked_winner (history_in (trees revs_tree) db id)

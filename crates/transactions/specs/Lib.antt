@@ -6,3 +6,4 @@ pub mod Following
 pub mod Commits
 pub mod Histories
 pub mod Indexing
+pub mod Renewing

@@ -79,7 +79,7 @@ pub(crate) fn write_seen<S: Alter>(
 }
 
 /// Has the indexes of a database follow a design document as it is stored.
-fn redeclare<S: Alter>(
+pub(crate) fn redeclare<S: Alter>(
     alloc: Global,
     tx: &mut Transaction<'_, S>,
     db: &i64,

@@ -9,6 +9,7 @@ mod histories;
 mod history_fault;
 mod indexing;
 pub mod laws;
+mod renewing;
 mod seeing;
 mod winners;
 
@@ -16,5 +17,6 @@ pub use changes::{add_database, begin_tables, change_security, remove_database, 
 pub use commit_fault::CommitFault;
 pub use commits::{commit_writes, integer_of};
 pub use histories::{read_history, read_outline};
+pub use renewing::carry_over;
 pub use seeing::first_revision;
 pub use winners::first_winner;

@@ -25,11 +25,12 @@ returns-in_err-rebuild-clause-steps g c declares sees design =
     subst (λ (r : Result (Unit {0}) CommitFault). Steps g.S.Store (IsRebuildable declares sees db) (IsRedeclared declares sees db c.args.id.now) first last r) (sym is)
     (record {
       ok = λ clean fit. tt;
-      kept = λ clean fit.
+      keeps = λ clean has. tt;
+      kept = λ clean has.
           let mid-clean : HasCleanDisk mid = omega (arith, e.asks.survives.clean, clean) in
-          let same : mid.now ≡ old.now = (find.stands fit.store.schema_is mid-clean).0.now_is in
-          keeps_then old mid end ((find.looks fit.store.schema_is).kept mid-clean) (e.kept clean (subst (IsRebuildable declares sees db) (sym same) fit));
-      goes_on = λ clean fit up inside. tt;
+          let same : mid.now ≡ old.now = (find.stands has mid-clean).0.now_is in
+          keeps_then old mid end ((find.looks has).kept mid-clean) (e.kept clean (ap (λ (d : Database). d.schema) same ∙ has));
+      goes_on = λ clean has up inside. tt;
       asks = asks_then old mid end find.asks e.asks;
     })
 
@@ -85,13 +86,16 @@ returns-clause-steps g c declares sees design =
                 (c.find_winning_body-body.ensures ∙ ap winning_body (find.ok mid-clean fit.store) ∙ body_alone h) made.indexed;
             only = subst (λ (d : Database). ChangesIndexes d end.now) same made.only;
           };
-      kept = λ clean fit.
+      keeps = λ clean has.
           let mid-clean : HasCleanDisk mid = omega (arith, e.asks.survives.clean, clean) in
-          let same : mid.now ≡ old.now = (find.stands fit.store.schema_is mid-clean).0.now_is in
-          keeps_then old mid end ((find.looks fit.store.schema_is).kept mid-clean) (e.kept clean (subst (IsRebuildable declares sees db) (sym same) fit));
-      goes_on = λ clean fit up inside.
+          e.keeps clean (ap (λ (d : Database). d.schema) (find.stands has mid-clean).0.now_is ∙ has);
+      kept = λ clean has.
           let mid-clean : HasCleanDisk mid = omega (arith, e.asks.survives.clean, clean) in
-          let stands = (find.stands fit.store.schema_is mid-clean).0 in
-          e.goes_on clean (subst (IsRebuildable declares sees db) (sym stands.now_is) fit) stands.is_open (stands.mode ∙ inside);
+          let same : mid.now ≡ old.now = (find.stands has mid-clean).0.now_is in
+          keeps_then old mid end ((find.looks has).kept mid-clean) (e.kept clean (ap (λ (d : Database). d.schema) same ∙ has));
+      goes_on = λ clean has up inside.
+          let mid-clean : HasCleanDisk mid = omega (arith, e.asks.survives.clean, clean) in
+          let stands = (find.stands has mid-clean).0 in
+          e.goes_on clean (ap (λ (d : Database). d.schema) stands.now_is ∙ has) stands.is_open (stands.mode ∙ inside);
       asks = asks_then old mid end find.asks e.asks;
     }

@@ -46,7 +46,7 @@ returns-clause-inside g c clean was design stored due =
     let write = w.ok due.row put-clean was.store stored due.placed due.numbered due.at in
     let store = due.store w.lawful put.now write in
     let fit = design_fit due.row a db old.now put.now was design due.numbered write store in
-    s.goes_on clean fit (w.inside put-clean).0 (w.inside put-clean).1
+    s.goes_on clean fit.store.schema_is (w.inside put-clean).0 (w.inside put-clean).1
 
 pub returns-clause-served : goal.returns-clause-served
 returns-clause-served g c clean =
@@ -72,7 +72,7 @@ returns-clause-kept g c clean was design stored due =
     let write = w.ok due.row put-clean was.store stored due.placed due.numbered due.at in
     let store = due.store w.lawful put.now write in
     let fit = design_fit due.row a db old.now put.now was design due.numbered write store in
-    keeps_then old put end ((w.looks was.store.schema_is).kept put-clean) (s.kept clean fit)
+    keeps_then old put end ((w.looks was.store.schema_is).kept put-clean) (s.kept clean fit.store.schema_is)
 
 pub returns-clause-asks : goal.returns-clause-asks
 returns-clause-asks g c =

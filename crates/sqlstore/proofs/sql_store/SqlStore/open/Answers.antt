@@ -1,13 +1,22 @@
-use Rattle.sqlstore.proofs.Lemmas.{Database, Err, Held, IsStore, IsTrue, ap, contents_in, has_all, has_any, inr, is_first, meta_tree, not, nothing, state, subst, sym, true, ∥∥₁_map, ◌∙◌, ◌≡◌}
+use Rattle.sqlstore.proofs.Lemmas.{Database, Err, Held, IsStore, IsTrue, ap, contents_in, has_all, has_any, inr, meta_tree, not, nothing, state, subst, sym, true, ∥∥₁_map, ◌∙◌, ◌≡◌}
 use Rattle.tables.proofs.Laid.{holds}
 use Rattle.index.proofs.NewIndexes.{new_indexed}
 use Rattle.index.specs.Indexed.{IsIndexed}
+use Rattle.std.specs.Prelude.{◌≢◌}
+use Rattle.tables.specs.Layout.{IsFirstStore}
+use Rattle.tables.specs.Presence.{version_in}
+use Rattle.tables.specs.declared.meta.FileVersion.TheVariants.{Other}
 use Rattle.transactions.specs.Indexing.{IsIndexedStore}
+use Rattle.transactions.specs.Renewing.{IsCarriedOver}
 use Rattle.sqlstore.proofs.sql_store.SqlStore.open.Goals as goal
 
 pub returns-in-Err-clause-not_ours : goal.returns-in-Err-clause-not_ours
 returns-in-Err-clause-not_ours g c is =
     inr (λ clean store. c.find_tables.ensures.not_ours (c.in-Err.is ∙ ap Err is) clean (subst IsStore (sym (ap (λ h. (state g.S.Store h).now) c.set_step_limit.ensures)) store))
+
+pub returns-in-Err-clause-not_first : goal.returns-in-Err-clause-not_first
+returns-in-Err-clause-not_first g c is =
+    inr (λ clean store. c.find_tables.ensures.not_first (c.in-Err.is ∙ ap Err is) clean (subst IsFirstStore (sym (ap (λ h. (state g.S.Store h).now) c.set_step_limit.ensures)) store))
 
 pub invariant_of-result : goal.invariant_of-result
 invariant_of-result g c =
@@ -36,6 +45,14 @@ returns-clause-found g c clean store =
     let same : now c.find_tables.new.conn ≡ now c.args.conn = c.in_default.ensures.found clean (subst IsStore (sym began) store.store) ∙ began in
     ((clean, ∣ subst IsIndexedStore (sym (ap now c.of-origin.ensures ∙ same)) store ∣₁), ap (λ (d : Database). contents_in d.trees) (ap now c.of-last.ensures ∙ same))
 
+pub returns-clause-carried : goal.returns-clause-carried
+returns-clause-carried g c clean first =
+    let now : Held g.row.S.Denot → Database = λ h. (state g.S.Store h).now in
+    let began = ap now c.set_step_limit.ensures in
+    let made : IsCarriedOver (now c.args.conn) (now c.find_tables.new.conn) =
+    subst (λ d. IsFirstStore d → IsCarriedOver d (now c.find_tables.new.conn)) began (c.in_default.ensures.carried clean) first in
+    ((clean, ∣ subst IsIndexedStore (sym (ap now c.of-origin.ensures)) made.indexed ∣₁), ap (λ h. contents_in (now h).trees) c.of-last.ensures ∙ made.contents)
+
 pub returns-clause-made : goal.returns-clause-made
 returns-clause-made g c clean none =
     let now : Held g.row.S.Denot → Database = λ h. (state g.S.Store h).now in
@@ -47,5 +64,5 @@ returns-clause-all g c = subst (λ (h : Held g.row.S.Denot). has_any h.schema �
 
 pub returns-clause-version : goal.returns-clause-version
 returns-clause-version g c clean ours =
-    sym (ap (λ (h : Held g.row.S.Denot). is_first ((state g.S.Store h).now.trees meta_tree)) c.set_step_limit.ensures)
-    ∙ c.in_default.ensures.version clean (ap (λ (h : Held g.row.S.Denot). h.schema) c.set_step_limit.ensures ∙ ours)
+    subst (λ (h : Held g.row.S.Denot). version_in ((state g.S.Store h).now.trees meta_tree) ≢ Other) c.set_step_limit.ensures
+    (c.in_default.ensures.version clean (ap (λ (h : Held g.row.S.Denot). h.schema) c.set_step_limit.ensures ∙ ours))

@@ -1,0 +1,61 @@
+use Rattle.transactions.proofs.Lemmas.{CommitFault, ap, rules, state, subst, sym, ◌∙◌, ◌≡◌}
+use Rattle.transactions.proofs.Common.{Err, List, Ok, Row, db_of, false, id_of, refl, true, ℕ, ◌∷◌}
+use Rattle.transactions.proofs.Redeclared.{named_one, redeclared, skipped, unwritten_as}
+use Rattle.transactions.proofs.Committing.{unwritten_of}
+use Rattle.transactions.specs.Indexing.{IsRedeclared}
+use Rattle.transactions.specs.Renewing.{AreRedeclared, IsShownName, IsToRedeclare, without_documents}
+use Rattle.index.specs.Declaring.{IsRebuildable}
+use Rattle.index.specs.Meaning.{declares_in, sees_in}
+use Rattle.index.specs.Steps.{AreFit, WasFit}
+use Rattle.index.proofs.Going.{if_err}
+use Rattle.index.proofs.StepLemmas.{steps_none, steps_weaker}
+use Rattle.sqlite_value.specs.Order.{bytes, column}
+use Rattle.tables.specs.Rows.{whole_in}
+use Rattle.tree.specs.DocumentId.{is_design_id}
+use Rattle.transactions.proofs.renewing.redeclare_row.Goals as goal
+
+pub returns-in_err-named-clause-err : goal.returns-in_err-named-clause-err
+returns-in_err-named-clause-err g c d left =
+    let a = c.args.tx.now.conn.now in
+    let fault = c.in_err-named.field-0.0 in
+    let Given = AreFit g.S.Store (IsToRedeclare c.args.row.now d left) a a in
+    let is : c.from_residual.result ≡ Err fault = search rules in
+    unwritten_as Given c.from_residual.result fault is
+    (unwritten_of (IsShownName c.args.row.now) Given fault (λ it. subst IsShownName (sym it.1.shown_is) (named_one (state g.S.Store a).now.trees d it.1.row)) c.in_err-named.ensures.err)
+
+pub returns-then-not-is_design-clause-steps : goal.returns-then-not-is_design-clause-steps
+returns-then-not-is_design-clause-steps g c d left =
+    let a = c.args.tx.now.conn.now in
+    let plain : is_design_id c.in_ok-named.named.id ≡ false = search rules in
+    steps_none g.S.Store (IsToRedeclare c.args.row.now d left) (AreRedeclared left) a (Ok tt)
+    (λ fit. skipped d left (state g.S.Store a).now c.args.row.now fit (ap is_design_id (ap (λ s. bytes (column s 1)) (sym fit.shown_is) ∙ sym c.in_ok-named.ensures.id) ∙ plain)) tt
+
+pub returns-clause-steps : goal.returns-clause-steps
+returns-clause-steps g c d left =
+    let first = c.args.tx.now.conn.now in
+    let last = c.redeclare.new.tx.conn.now in
+    let a = (state g.S.Store first).now in
+    let b = (state g.S.Store last).now in
+    let declares = without_documents (declares_in a.trees) (d ∷ left) in
+    let sees = sees_in a.trees in
+    let n = c.in_ok-named.named.db in
+    let id : List ℕ = c.in_ok-named.named.id in
+    let design : is_design_id id ≡ true = search rules in
+    steps_weaker g.S.Store (IsToRedeclare c.args.row.now d left) (IsRebuildable declares sees n) (AreRedeclared left) (IsRedeclared declares sees n id) first last c.redeclare.result (c.redeclare.ensures.steps declares sees design)
+    (λ fit. record { store = fit.store; indexed = fit.indexed; seen = λ i. refl })
+    (λ fit made.
+    let number : n ≡ db_of d = c.in_ok-named.ensures.db ∙ ap (λ s. whole_in (column s 0)) fit.shown_is in
+    let name : id ≡ id_of d = c.in_ok-named.ensures.id ∙ ap (λ s. bytes (column s 1)) fit.shown_is in
+    redeclared d left a c.args.row.now fit b (subst (λ i. IsRedeclared declares sees (db_of d) i a b) name (subst (λ m. IsRedeclared declares sees m id a b) number made)))
+
+pub returns-clause-err : goal.returns-clause-err
+returns-clause-err g c d left =
+    let first = c.args.tx.now.conn.now in
+    let last = c.redeclare.new.tx.conn.now in
+    let a = (state g.S.Store first).now in
+    let declares = without_documents (declares_in a.trees) (d ∷ left) in
+    let sees = sees_in a.trees in
+    let n = c.in_ok-named.named.db in
+    if_err c.redeclare.result
+    (λ e. unwritten_of (WasFit g.S.Store (IsRebuildable declares sees n) first last) (AreFit g.S.Store (IsToRedeclare c.args.row.now d left) first last) e
+    (λ it. (it.0, λ up. record { store = it.1.store; indexed = it.1.indexed; seen = λ i. refl }))) (c.redeclare.ensures.err declares sees)
