@@ -1,6 +1,7 @@
 -- Ids that have all documents that match give the documents that a query finds, and the rows of an index have such ids.
 use Rattle.std.proofs.Common.{◌≡◌, ℕ, Bool, true, false, cond, List, [], ◌∷◌, Option, Some, None, drop, map, option_map, take, refl, sym, ap, subst, ◌∙◌}
 use Rattle.std.specs.FinMap as finite
+use Rattle.std.specs.Prelude.{string_bytes}
 use Rattle.couch_json.specs.Value.{Items, Value, array}
 use Rattle.selector.specs.Truth.{selector_matches}
 use Rattle.tree.specs.DocumentId.{is_design_id}
@@ -13,21 +14,26 @@ use Rattle.store.proofs.IndexRows.{place_there}
 use Rattle.store.proofs.Winnings.{no_winner}
 use Rattle.store.specs.Database.{Database, Document, history_at, history_in}
 use Rattle.store.specs.Indexes.{IndexPlace, field_values, index_fields_at, index_rows, put_in_index, queried_document, shown_by}
-use Rattle.store.specs.KeyPages.{KeyPage, is_key_within, key_page, key_rows_within, page_of_keys}
-use Rattle.store.specs.Pages.{in_direction, live_rev, live_rev_by, page_of_ids, up_to_limit}
+use Rattle.store.specs.KeyPages.{is_key_within, key_rows_within}
+use Rattle.store.specs.Pages.{in_direction, live_rev, live_rev_by, page_of_ids}
 use Rattle.store.specs.declared.key_page.KeyRange.{KeyRange}
 use Rattle.store.specs.declared.page.IdRow.{IdRow}
 use Rattle.find.proofs.Covered.{HasMatches, covered}
-use Rattle.find.proofs.Finding.{every_row, found_sorted}
+use Rattle.find.proofs.Finding.{every_row, found_sorted, rows_of_page}
+use Rattle.find.proofs.Indexed.{put_matches}
 use Rattle.find.specs.Candidates.{put_candidates}
 use Rattle.find.specs.Found.{found_documents}
-use Rattle.find.specs.Matching.{if_matches, match_in, put_matches}
-use Rattle.find.specs.Planning.{Covers, has_key_within}
+use Rattle.find.specs.IndexRead.{index_asked}
+use Rattle.find.specs.Matching.{if_matches, match_in}
+use Rattle.find.specs.Planning.{Covers, MayServe, has_key_within}
+use Rattle.find.specs.Sources.{ids_in, ids_of_places}
+use Rattle.find.specs.declared.plan.Plan.{Plan}
+use Rattle.find.specs.declared.source.Source.TheVariants.{Documents, Index}
 use Rattle.find.specs.declared.query.Query.{Query}
 
 -- ---- a document that matches
 
-matched : (selector : Value) (o : Option Value) (v : Value) → if_matches selector o ≡ Some v → (o ≡ Some v) × (selector_matches selector v ≡ true)
+pub matched : (selector : Value) (o : Option Value) (v : Value) → if_matches selector o ≡ Some v → (o ≡ Some v) × (selector_matches selector v ≡ true)
 matched selector None v h = absurd cc
 matched selector (Some w) v h = by (selector_matches selector w) refl h
   where
@@ -75,14 +81,19 @@ put_matches-ids : (fields : List (List ℕ)) (selector : Value) (d : Database) (
 put_matches-ids fields selector d [] among = refl
 put_matches-ids fields selector d (r ∷ rows) among = put_matches-ids fields selector d rows (put_in_index fields r.id (match_in selector d r.id) among)
 
-all_rows : (fields : List (List ℕ)) (selector : Value) (d : Database) → HasMatches fields selector d (ids_of (page_of_ids (every_row true) d).rows)
-all_rows fields selector d x h =
+pub all_rows : (descending : Bool) (fields : List (List ℕ)) (selector : Value) (d : Database) → HasMatches fields selector d (ids_of (page_of_ids (every_row descending) d).rows)
+all_rows descending fields selector d x h =
     let id = x.0.id in
     let m = matched selector (queried_document id (history_at d id)) x.1 h.0 in
     let s = seen_at d id x.1 m.0 in
     let l = live_one id s.document.history x.1 s.shown in
-    in_map (λ (r : IdRow). r.id) (page_of_ids (every_row true) d).rows (record { id = id; rev = l.0 })
-    (id_row_there (every_row true) d (record { id = id; rev = l.0 }) refl refl (record { document = s.document; there = s.there; live = l.1; within = refl }))
+    in_map (λ (r : IdRow). r.id) (page_of_ids (every_row descending) d).rows (record { id = id; rev = l.0 })
+    (id_row_there (every_row descending) d (record { id = id; rev = l.0 }) refl refl (record { document = s.document; there = s.there; live = l.1; within = refl }))
+
+-- all documents, in either direction
+pub all_documents : (descending : Bool) (fields : List (List ℕ)) (selector : Value) (d : Database) → HasMatches fields selector d (ids_in (Documents descending) d)
+all_documents descending fields selector d =
+    subst (λ rows. HasMatches fields selector d (ids_of rows)) (rows_of_page descending d) (all_rows descending fields selector d)
 
 -- ids that have all documents that match give what is found
 pub found_among : (query : Query) (d : Database) (ids : List (List ℕ)) → HasMatches query.sort query.selector d ids
@@ -90,12 +101,12 @@ pub found_among : (query : Query) (d : Database) (ids : List (List ℕ)) → Has
 found_among query d ids h =
     let rows = (page_of_ids (every_row true) d).rows in
     ap (λ es. take query.limit (drop query.skip (in_direction query.descending (map (λ e. e.1) es))))
-    (covered query.sort query.selector d ids (ids_of rows) h (all_rows query.sort query.selector d) ∙ sym (put_matches-ids query.sort query.selector d rows []))
+    (covered query.sort query.selector d ids (ids_of rows) h (all_rows true query.sort query.selector d) ∙ sym (put_matches-ids query.sort query.selector d rows []))
     ∙ found_sorted query d
 
 -- ---- the rows of an index
 
-abbrev ids_at : List IndexPlace → List (List ℕ)
+abbrev pub ids_at : List IndexPlace → List (List ℕ)
 ids_at ps = map (λ p. p.id) ps
 
 has_keys : (o : Option Items) (key : Value) → option_map array o ≡ Some key → (values : Items) × (o ≡ Some values)
@@ -107,7 +118,7 @@ has_values range None h = absurd cc
 has_values range (Some values) h = (values, refl, h)
 
 -- a range that covers a query has the rows of all documents that match
-index_covers : (query : Query) (d : Database) (fields : List (List ℕ)) (range : KeyRange) → Covers fields range query
+pub index_covers : (query : Query) (d : Database) (fields : List (List ℕ)) (range : KeyRange) → Covers fields range query
     → HasMatches query.sort query.selector d (ids_at (key_rows_within range (index_rows fields d)))
 index_covers query d fields range covers x h =
     let id = x.0.id in
@@ -121,21 +132,14 @@ index_covers query d fields range covers x h =
     (in_directed range.descending (index_rows fields d) (record { key = array w.0; id = id })
     (place_there fields d (record { key = array w.0; id = id }) (record { document = s.document; there = s.there; shown = x.1; looked_at = s.shown; values = ap (option_map array) w.1 }))) w.2)
 
-of_page : (range : KeyRange) (declared : Option (List (List ℕ))) (d : Database) (fields : List (List ℕ)) (page : KeyPage)
-    → option_map (λ fs. key_page range (index_rows fs d)) declared ≡ Some page → declared ≡ Some fields → page ≡ key_page range (index_rows fields d)
-of_page range None d fields page e is = absurd cc
-of_page range (Some fs) d fields page e is =
-    let same : fs ≡ fields = cc in
-    let one : key_page range (index_rows fs d) ≡ page = cc in
-    sym one ∙ ap (λ gs. key_page range (index_rows gs d)) same
+-- the ids of an index that is declared
+pub ids_of_index : (plan : Plan) (d : Database) (fields : List (List ℕ)) → index_fields_at d plan.index.design (string_bytes plan.index.name) ≡ Some fields
+    → ids_in (Index plan) d ≡ ids_at (key_rows_within plan.rows.range (index_rows fields d))
+ids_of_index plan d fields declared = ap (λ o. ids_of_places (option_map (λ fs. key_rows_within plan.rows.range (index_rows fs d)) o)) declared
 
--- a page of all rows of a range that covers the query
-pub found_by_page : (query : Query) (d : Database) (design name : List ℕ) (fields : List (List ℕ)) (range : KeyRange) (page : KeyPage) → range.limit ≡ None → range.skip ≡ 0
-    → page_of_keys range design name d ≡ Some page → index_fields_at d design name ≡ Some fields → Covers fields range query
-    → take query.limit (drop query.skip (in_direction query.descending (map (λ e. e.1) (put_candidates query.sort query.selector d (map (λ p. p.id) page.rows) [])))) ≡ found_documents query d
-found_by_page query d design name fields range page unlimited whole pages declared covers =
-    let is = of_page range (index_fields_at d design name) d fields page pages declared in
-    let rows : page.rows ≡ key_rows_within range (index_rows fields d) =
-    ap (λ (p : KeyPage). p.rows) is ∙ (λ i. up_to_limit (unlimited i) (drop (whole i) (key_rows_within range (index_rows fields d)))) in
-    found_among query d (ids_at page.rows)
-    (subst (λ rs. HasMatches query.sort query.selector d (ids_at rs)) (sym rows) (index_covers query d fields range covers))
+pub found_by_index : (query : Query) (d : Database) (plan : Plan) → MayServe (index_asked plan.index) plan.rows.range query d
+    → take query.limit (drop query.skip (in_direction query.descending (map (λ e. e.1) (put_candidates query.sort query.selector d (ids_in (Index plan) d) [])))) ≡ found_documents query d
+found_by_index query d plan serves =
+    let fields = plan.index.fields.items in
+    found_among query d (ids_in (Index plan) d)
+    (subst (λ ids. HasMatches query.sort query.selector d ids) (sym (ids_of_index plan d fields serves.declared)) (index_covers query d fields plan.rows.range serves.covers))

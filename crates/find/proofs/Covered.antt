@@ -140,7 +140,7 @@ module _ (fields : List (List ℕ)) where
           (λ same. let is = own (ap (λ (p : IndexPlace). p.id) same) in let value : v ≡ x.1 = cc in λ j. (same j, value j)) i
 
   module _ (selector : Value) (db : Database) where
-    from_all : (ids : List (List ℕ)) (es : List (IndexPlace × Value)) (x : IndexPlace × Value) → In (put_candidates fields selector db ids es) x → IsMatch fields selector db x ⊎ In es x
+    pub from_all : (ids : List (List ℕ)) (es : List (IndexPlace × Value)) (x : IndexPlace × Value) → In (put_candidates fields selector db ids es) x → IsMatch fields selector db x ⊎ In es x
     from_all [] es x i = inr i
     from_all (id ∷ ids) es x i = elim (from_all ids (put_in_index fields id (match_in selector db id) es) x i) as (λ _. IsMatch fields selector db x ⊎ In es x) [
       | inl h ↦ inl h

@@ -12,7 +12,8 @@ use Rattle.store.specs.Calls.{OnlyReads}
 use Rattle.store.specs.Causes.{HasFailed}
 use Rattle.store.specs.Database.{Database}
 use Rattle.store.specs.Indexes.{index_entries}
-use Rattle.store.specs.Pages.{IdPage, in_direction, live_rows, page_of_ids}
+use Rattle.store.proofs.Calls.{reads_nothing}
+use Rattle.store.specs.Pages.{in_direction, live_rows, page_of_ids}
 use Rattle.store.specs.declared.fault.StoreFault.{StoreFault}
 use Rattle.store.specs.declared.fault.StoreFault.TheVariants as store
 use Rattle.store.specs.declared.page.IdRange.{IdRange}
@@ -22,11 +23,13 @@ use Rattle.read.specs.Answers.{Stops, StopsBy}
 use Rattle.read.specs.declared.fault.ReadFault.{ReadFault}
 use Rattle.read.specs.declared.fault.ReadFault.TheVariants.{Missing, Deleted, BadQuery, Store, Memory}
 use Rattle.find.proofs.Filtered.{filter-seconds}
-use Rattle.find.proofs.Indexed.{AreOf, filter_index, index_by_id, index_of, rows_match, rows_sorted}
+use Rattle.find.proofs.Indexed.{AreOf, filter_index, index_by_id, index_of, matches_ids, put_matches, rows_match, rows_sorted}
 use Rattle.store.proofs.Directed.{filter-directed, options-directed}
 use Rattle.find.specs.Answers.{Finds}
 use Rattle.find.specs.Found.{found_documents, sorted_documents}
-use Rattle.find.specs.Matching.{match_in, matches_of, put_matches}
+use Rattle.find.specs.Matching.{match_in, matches_at}
+use Rattle.find.specs.Sources.{ids_in}
+use Rattle.find.specs.declared.source.Source.TheVariants.{Documents}
 use Rattle.find.specs.declared.query.Query.{Query}
 
 -- ---- the rows of a page
@@ -34,11 +37,11 @@ use Rattle.find.specs.declared.query.Query.{Query}
 abbrev pub every_row : Bool → IdRange
 every_row descending = record { start = None; end = None; inclusive_end = false; descending = descending; skip = 0; limit = None; counted = false }
 
-all_pass : {X : Type 0} (xs : List X) → filter (λ x. true) xs ≡ xs
+pub all_pass : {X : Type 0} (xs : List X) → filter (λ x. true) xs ≡ xs
 all_pass [] = refl
 all_pass (x ∷ xs) = ap (λ ys. x ∷ ys) (all_pass xs)
 
-rows_of_page : (descending : Bool) (d : Database) → (page_of_ids (every_row descending) d).rows ≡ in_direction descending (live_rows (finite.entries d.documents))
+pub rows_of_page : (descending : Bool) (d : Database) → (page_of_ids (every_row descending) d).rows ≡ in_direction descending (live_rows (finite.entries d.documents))
 rows_of_page descending d = all_pass (in_direction descending (live_rows (finite.entries d.documents)))
 
 up : (d : Database) → finite.is_sorted (slice_cmp nat_cmp) (finite.entries d.documents) ≡ true
@@ -59,13 +62,13 @@ part_of : Query → List Value → List Value
 part_of query vs = take query.limit (drop query.skip vs)
 
 pub found_by_id : (query : Query) (d : Database) → query.sort ≡ []
-    → take query.limit (drop query.skip (matches_of query.selector d (page_of_ids (every_row query.descending) d).rows)) ≡ found_documents query d
+    → take query.limit (drop query.skip (matches_at query.selector d (ids_in (Documents query.descending) d))) ≡ found_documents query d
 unfolding part_of
 found_by_id query d unsorted =
     let es = finite.entries d.documents in
-    ap (λ rows. part_of query (matches_of query.selector d rows)) (rows_of_page query.descending d)
-    ∙ ap (part_of query)
-    (options-directed (λ (r : IdRow). match_in query.selector d r.id) query.descending (live_rows es)
+    ap (part_of query)
+    (matches_ids query.selector d (in_direction query.descending (live_rows es))
+    ∙ options-directed (λ (r : IdRow). match_in query.selector d r.id) query.descending (live_rows es)
     ∙ ap (in_direction query.descending) (rows_match d query.selector es (own d) ∙ sym (index_by_id query.selector es (up d)))
     ∙ sym (matching_index [] query.descending query.selector d))
     ∙ ap (λ fields. part_of query (filter (λ v. selector_matches query.selector v) (sorted_documents fields query.descending d))) (sym unsorted)
@@ -100,19 +103,11 @@ stops_later g old mid new absent missing BadQuery reads so h = h
 stops_later g old mid new absent missing (Store cause) reads so h = stops_by g old mid new absent missing cause reads so h
 stops_later g old mid new absent missing Memory reads so h = tt
 
-inside : {X : Type 0} (x y : X) → Some x ≡ Some y → x ≡ y
-inside x y e = cc
-
--- a page is read, and then what its rows give
-pub found_from : {S X : Type 0} (g : Ghosts S) (old mid new : S) (shown : X → List Value) (there later : Option Database) (range : IdRange) (page : IdPage) (rows : List IdRow)
-    (give : Database → List IdRow → List Value) (defined : Database → List Value) (r : Result X ReadFault)
-    → OnlyReads g old mid → OnlyReads g mid new → (g.is_honest mid → later ≡ there) → (g.is_honest mid → option_map (λ d. page_of_ids range d) there ≡ Some page) → rows ≡ page.rows
-    → (g.is_honest new → IfOk r (λ x. (d : Database) → later ≡ Some d → shown x ≡ give d rows)) → IfErr r (Stops g mid new (later ≡ None))
-    → ((d : Database) → give d (page_of_ids range d).rows ≡ defined d) → Finds g old new shown (option_map defined there) r
-found_from g old mid new shown there later range page rows give defined (Err fault) first then same pages its found stops is =
-    stops_later g old mid new (later ≡ None) (option_map defined there ≡ None) fault first
-    (λ honest none. ap (option_map defined) (sym (same (then.goes_on.honest honest)) ∙ none)) stops
-found_from g old mid new shown None later range page rows give defined (Ok x) first then same pages its found stops is = λ honest. cc (pages (then.goes_on.honest honest))
-found_from g old mid new shown (Some d) later range page rows give defined (Ok x) first then same pages its found stops is = λ honest.
-    let before = then.goes_on.honest honest in
-    ap Some (sym (found honest d (same before) ∙ ap (give d) (its ∙ ap (λ (p : IdPage). p.rows) (sym (inside _ page (pages before)))) ∙ is d))
+-- what the calls of a find give is what it answers
+pub finds_by : {S X : Type 0} (g : Ghosts S) (old new : S) (shown : X → List Value) (there : Option Database) (give defined : Database → List Value) (r : Result X ReadFault)
+    → (g.is_honest new → IfOk r (λ x. option_map give there ≡ Some (shown x))) → IfErr r (Stops g old new (there ≡ None)) → ((d : Database) → give d ≡ defined d)
+    → Finds g old new shown (option_map defined there) r
+finds_by g old new shown there give defined (Err fault) found stops is =
+    stops_later g old old new (there ≡ None) (option_map defined there ≡ None) fault (reads_nothing g old) (λ honest none. ap (option_map defined) none) stops
+finds_by g old new shown None give defined (Ok x) found stops is = λ honest. let never : None ≡ Some (shown x) = found honest in absurd cc
+finds_by g old new shown (Some d) give defined (Ok x) found stops is = λ honest. ap Some (sym (is d)) ∙ found honest

@@ -28,7 +28,7 @@ use Rattle.store.specs.Pages.{live_rev, live_rows, with_row}
 use Rattle.store.specs.declared.page.IdRow.{IdRow}
 use Rattle.find.proofs.Filtered.{HasKeys, filter-put, keys_put, put_front}
 use Rattle.store.proofs.Directed.{reverse-cons}
-use Rattle.find.specs.Matching.{if_matches, match_in, matches_of, put_matches}
+use Rattle.find.specs.Matching.{if_matches, match_in, matches_at}
 
 -- ---- the map of the code
 
@@ -64,7 +64,7 @@ sorted_index fields (e ∷ es) = sorted_put fields e.0 (seen e) (index_over fiel
 abbrev pub After : List ℕ → IndexPlace → Type 0
 After id p = slice_cmp nat_cmp id p.id ≡ Less
 
-after_put : (P : IndexPlace → Type 0) (fields : List (List ℕ)) (id : List ℕ) (o : Option Value) (es : List (IndexPlace × Value)) → ((key : Value) → P (record { key = key; id = id })) → HasKeys P es → HasKeys P (put_in_index fields id o es)
+pub after_put : (P : IndexPlace → Type 0) (fields : List (List ℕ)) (id : List ℕ) (o : Option Value) (es : List (IndexPlace × Value)) → ((key : Value) → P (record { key = key; id = id })) → HasKeys P es → HasKeys P (put_in_index fields id o es)
 after_put P fields id None es p h = h
 after_put P fields id (Some v) es p h = by (field_values fields v)
   where
@@ -139,6 +139,19 @@ index_by_id selector (e ∷ es) h = by (if_matches selector (seen e)) (index_by_
         ∙ ap (λ vs. v ∷ vs) rest
 
 -- ---- rows
+
+-- the documents of these rows that match
+abbrev pub matches_of : Value → Database → List IdRow → List Value
+matches_of selector d rows = flat_map (λ r. option_to_list (match_in selector d r.id)) rows
+
+pub matches_ids : (selector : Value) (d : Database) (rows : List IdRow) → matches_at selector d (map (λ r. r.id) rows) ≡ matches_of selector d rows
+matches_ids selector d [] = refl
+matches_ids selector d (r ∷ rows) = ap (λ vs. option_to_list (match_in selector d r.id) ++ vs) (matches_ids selector d rows)
+
+-- the same documents at their places in an index of these fields
+abbrev pub put_matches : List (List ℕ) → Value → Database → List IdRow → List (IndexPlace × Value) → List (IndexPlace × Value)
+put_matches fields selector d [] among = among
+put_matches fields selector d (r ∷ rows) among = put_matches fields selector d rows (put_in_index fields r.id (match_in selector d r.id) among)
 
 -- these are entries of the database
 abbrev pub AreOf : Database → List Entry → Type 0

@@ -1,7 +1,7 @@
 -- Keys whose first value lies within bounds lie within a range of keys.
 use Rattle.std.proofs.Common.{◌≡◌, ◌≤◌, ◌<◌, ◌+◌, ℕ, suc, arith, Bool, true, false, not, ◌&&◌, cond, List, [], ◌∷◌, Option, Some, None, Ordering, bytes_eq, drop, get_or, length, refl, sym, ap, subst, ◌∙◌}
 use Rattle.std.proofs.Math.Seq.{drop-cons}
-use Rattle.std.proofs.lemmas.List.{drop_all}
+use Rattle.std.proofs.lemmas.List.{drop_all, drop_more}
 use Rattle.std.proofs.lemmas.Slice.Eq.{bytes_eq-Decides}
 use Rattle.std.specs.Prelude.{◌||◌, is_some, slice_get}
 use Rattle.std.specs.List.{list_any}
@@ -24,7 +24,7 @@ use Rattle.store.specs.declared.key_page.CutSide.{CutSide}
 use Rattle.store.specs.declared.key_page.CutSide.TheVariants.{AfterPrefix, Before}
 use Rattle.store.specs.declared.key_page.KeyCut.{KeyCut}
 use Rattle.store.specs.declared.key_page.KeyRange.{KeyRange}
-use Rattle.find.specs.Planning.{AreThere, Covers, IsThere, IsWhole, has_key_within}
+use Rattle.find.specs.Planning.{AreThere, Covers, IsThere, has_key_within}
 use Rattle.find.specs.declared.query.Query.{Query}
 
 -- ---- cuts at one value
@@ -150,10 +150,6 @@ pub first_covers : (query : Query) (field : List ℕ) (fields : List (List ℕ))
 first_covers query field fields bounds range there inside ranged = λ v keys m s.
     within_values bounds range (value_at field v) (field_values fields v) ranged (there v keys m s) (inside v m)
 
--- a range that is made between two cuts leaves no row out
-pub whole_between : (low high : Option KeyCut) (range : KeyRange) → range ≡ record { low = low; high = high; descending = false; skip = 0; limit = None; counted = false } → IsWhole range
-whole_between low high range e = record { unlimited = ap (λ (r : KeyRange). r.limit) e; from_the_first = ap (λ (r : KeyRange). r.skip) e }
-
 -- the first of these fields, and the rest
 pub first_of : (fields : List (List ℕ)) (field : List ℕ) → Some field ≡ slice_get fields 0 → (rest : List (List ℕ)) × (fields ≡ field ∷ rest)
 first_of [] field e = absurd cc
@@ -182,3 +178,10 @@ next_there query fields i field lt is h rest =
 -- there are no more fields
 pub no_more_there : (query : Query) (fields : List (List ℕ)) (i : ℕ) → length fields ≤ i → AreThere (drop i fields) query
 no_more_there query fields i le = subst (λ fs. AreThere fs query) (sym (drop_all i fields le)) (none_there query)
+
+-- the next field is the same as the next of the others
+pub next_same : {P : Type 0} (fields : List (List ℕ)) (i : ℕ) (field other : List ℕ) (left more : List (List ℕ)) → i < length fields → field ≡ get_or fields i field → left ≡ other ∷ more → bytes_eq field other ≡ true
+    → (drop i fields ≡ left → P) → drop (i + 1) fields ≡ more → P
+next_same fields i field other left more lt is next same found rest =
+    let one = (bytes_eq-Decides field other).0 same in
+    found (drop_more fields i field lt ∙ (λ j. sym is j ∷ drop (i + 1) fields) ∙ (λ j. one j ∷ rest j) ∙ sym next)

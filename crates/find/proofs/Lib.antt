@@ -11,3 +11,7 @@ mod Candidates
 mod KeyRanges
 mod Serving
 mod Planned
+mod Chunks
+mod InOrder
+mod FixedFields
+mod Takings

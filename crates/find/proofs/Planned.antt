@@ -16,7 +16,7 @@ inside x y e = cc
 
 pub served_by : (query : Query) (there : Option Database) (d : Database) (design : List ℕ) (h : HistoryContent) (plan : Option Plan) → there ≡ Some d
     → option_map (λ e. winner_alone (history_at e design)) there ≡ Some h → IfSome plan (λ p. p.index.design ≡ design)
-    → IfSome plan (λ p. MayServeBy (index_asked p.index) p.range query h) → IfSome plan (λ p. MayServe (index_asked p.index) p.range query d)
+    → IfSome plan (λ p. MayServeBy (index_asked p.index) p.rows.range query h) → IfSome plan (λ p. MayServe (index_asked p.index) p.rows.range query d)
 served_by query there d design h None is read same serves = tt
 served_by query there d design h (Some p) is read same serves =
     let index = index_asked p.index in
@@ -27,5 +27,4 @@ served_by query there d design h (Some p) is read same serves =
           ∙ ap (λ x. index_fields_of index.design x index.name) (ap (λ i. winner_alone (history_at d i)) same ∙ own)
           ∙ serves.declared;
       covers = serves.covers;
-      whole = serves.whole;
     }

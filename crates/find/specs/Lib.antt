@@ -7,3 +7,4 @@ pub mod IndexRead
 pub mod Indexes
 pub mod Candidates
 pub mod Planning
+pub mod Sources

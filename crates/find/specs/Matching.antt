@@ -1,13 +1,12 @@
--- A find row by row: what each row adds, and what is still to come.
+-- A find id by id: what each document adds, and what is still to come.
 -- This crate's own: it ties the loops of the code to the definition of `Found`.
-use Rattle.std.specs.Prelude.{ℕ, List, [], ◌∷◌, ◌++◌, drop, flat_map, if◌then◌else◌, map, Option, Some, None, take}
+use Rattle.std.specs.Prelude.{ℕ, List, ◌++◌, drop, flat_map, if◌then◌else◌, map, Option, Some, None, take}
 use Rattle.std.specs.Option.{option_to_list}
 use Rattle.couch_json.specs.Value.{Value}
 use Rattle.couch_json.specs.View.{view}
 use Rattle.selector.specs.Truth.{selector_matches}
 use Rattle.store.specs.Database.{Database, history_at}
-use Rattle.store.specs.Indexes.{IndexPlace, put_in_index, queried_document}
-use Rattle.store.specs.declared.page.IdRow.{IdRow}
+use Rattle.store.specs.Indexes.{queried_document}
 use Rattle.find.specs.declared.part.Part.{Part}
 
 -- the document, where it matches
@@ -19,14 +18,9 @@ if_matches selector (Some v) = if selector_matches selector v then Some v else N
 abbrev pub match_in : Value → Database → List ℕ → Option Value
 match_in selector db id = if_matches selector (queried_document id (history_at db id))
 
--- the documents of these rows that match
-abbrev pub matches_of : Value → Database → List IdRow → List Value
-matches_of selector db rows = flat_map (λ r. option_to_list (match_in selector db r.id)) rows
-
--- the same documents at their places in an index of these fields
-abbrev pub put_matches : List (List ℕ) → Value → Database → List IdRow → List (IndexPlace × Value) → List (IndexPlace × Value)
-put_matches fields selector db [] among = among
-put_matches fields selector db (r ∷ rows) among = put_matches fields selector db rows (put_in_index fields r.id (match_in selector db r.id) among)
+-- those of the documents of these ids that match
+abbrev pub matches_at : Value → Database → List (List ℕ) → List Value
+matches_at selector d ids = flat_map (λ id. option_to_list (match_in selector d id)) ids
 
 -- the part, once these documents have come too
 abbrev pub completion : Part → List Value → List Value

@@ -1,6 +1,6 @@
-//! Finds with a sort: all documents that match are put at their places first.
+//! Finds over documents in any order: all that match are put at their places first.
 
-ghost use Rattle.std.specs.Prelude.{◌≡◌, [], IfOk, IfErr, None, OnOk, Some, drop, map as each, take};
+ghost use Rattle.std.specs.Prelude.{◌≡◌, [], IfOk, IfErr, None, OnOk, Some, drop, map as each, option_map, take};
 ghost use Rattle.std.specs.FinMap as map;
 ghost use Rattle.couch_json.specs.Value.{array};
 ghost use Rattle.couch_json.specs.View.{items_view, view};
@@ -10,61 +10,66 @@ ghost use Rattle.store.specs.Indexes.{put_in_index};
 ghost use Rattle.store.specs.Plain.{place_views};
 ghost use Rattle.read.specs.Answers.{Stops};
 ghost use Rattle.store.specs.Pages.{in_direction};
-ghost use Rattle.find.specs.Matching.{match_in, put_matches};
+ghost use Rattle.find.specs.Candidates.{put_candidates};
+ghost use Rattle.find.specs.Matching.{match_in};
+ghost use Rattle.find.specs.Sources.{ids_in};
 
 use crate::matching::read_match;
 use crate::part::Part;
 use crate::query::Query;
+use crate::source::{Source, take_ids};
 use couch_json::{FieldPath, Got, Json};
 use read::ReadFault;
 use std::alloc::Global;
 use std::collections::BTreeMap;
-use store::{DbName, IdRow, IndexKey, KeyRow, Store, reverse_if, values_at};
+use store::{DbName, IndexKey, KeyRow, Store, reverse_if, values_at};
 use tree::DocId;
 
-/// Finds the documents of these rows that match and have all fields of the sort, sorts them, and
-/// takes the part that is asked for.
+/// Finds the documents of a source that match and have all fields of the sort, sorts them, and takes the
+/// part that is asked for.
 #[tactic(auto, using(store::proofs::Directed::map_directed))]
 pub(crate) fn find_sorted<S: Store>(
     alloc: Global,
     store: &mut S,
     db: &DbName,
-    rows: &[IdRow],
     query: &Query,
+    source: &Source,
 ) -> Result<Vec<Json>, ReadFault>
-    ensures ok { S.is_honest store.new → IfOk result (λ documents. (d : Database) → map.get (S.contents store.old) db.now ≡ Some d
-        → each view documents.items ≡ take query.now.limit (drop query.now.skip
-        (in_direction query.now.descending (each (λ e. e.1) (put_matches query.now.sort query.now.selector d rows.now []))))) }
+    ensures ok { S.is_honest store.new → IfOk result (λ documents.
+        option_map (λ d. take query.now.limit (drop query.now.skip (in_direction query.now.descending
+        (each (λ e. e.1) (put_candidates query.now.sort query.now.selector d (ids_in source.now d) []))))) (map.get (S.contents store.old) db.now)
+        ≡ Some (each view documents.items)) }
     ensures stops { IfErr result (Stops S.Store store.old store.new (map.get (S.contents store.old) db.now ≡ None)) }
     ensures reads { OnlyReads S.Store store.old store.new }
 {
-    let sorted = sort_matches(alloc, store, db, rows, query)?;
+    let ids = take_ids(alloc, store, db, source, 0, None)?;
+    let sorted = sort_matches(alloc, store, db, &ids, query)?;
     let documents = reverse_if(documents_of(alloc, sorted)?, query.descending);
     Ok(take_part(alloc, documents, query)?)
 }
 
-/// Puts the documents of these rows that match at their places.
+/// Puts the documents of these ids that match at their places.
 fn sort_matches<S: Store>(
     alloc: Global,
     store: &mut S,
     db: &DbName,
-    rows: &[IdRow],
+    ids: &[DocId],
     query: &Query,
 ) -> Result<BTreeMap<KeyRow, Json>, ReadFault>
     ensures ok { S.is_honest store.new → IfOk result (λ sorted. (d : Database) → map.get (S.contents store.old) db.now ≡ Some d
-        → place_views sorted.entries ≡ put_matches query.now.sort query.now.selector d rows.now []) }
+        → place_views sorted.entries ≡ put_candidates query.now.sort query.now.selector d ids.now []) }
     ensures stops { IfErr result (Stops S.Store store.old store.new (map.get (S.contents store.old) db.now ≡ None)) }
     ensures reads { OnlyReads S.Store store.old store.new }
 {
     let mut sorted = BTreeMap::new(alloc);
-    for row in rows {
-        put_match(alloc, store, db, &row.id, query, &mut sorted)?;
+    for id in ids {
+        put_match(alloc, store, db, id, query, &mut sorted)?;
     }
     Ok(sorted)
 }
 
 /// Puts a document at its place, if it matches and has one.
-pub(crate) fn put_match<S: Store>(
+fn put_match<S: Store>(
     alloc: Global,
     store: &mut S,
     db: &DbName,
@@ -109,7 +114,7 @@ fn make_key(values: Vec<Json>) -> IndexKey
 }
 
 /// Lists the documents in the order of their places.
-pub(crate) fn documents_of(alloc: Global, sorted: BTreeMap<KeyRow, Json>) -> Got<Vec<Json>>
+fn documents_of(alloc: Global, sorted: BTreeMap<KeyRow, Json>) -> Got<Vec<Json>>
     ensures { IfOk result (λ documents. each view documents.items ≡ each (λ e. e.1) (place_views sorted.entries)) }
 {
     let mut documents = Vec::with_capacity(alloc, sorted.len())?;
@@ -120,7 +125,7 @@ pub(crate) fn documents_of(alloc: Global, sorted: BTreeMap<KeyRow, Json>) -> Got
 }
 
 /// Takes the part of the documents that is asked for.
-pub(crate) fn take_part(alloc: Global, documents: Vec<Json>, query: &Query) -> Got<Vec<Json>>
+fn take_part(alloc: Global, documents: Vec<Json>, query: &Query) -> Got<Vec<Json>>
     ensures { IfOk result (λ part. each view part.items ≡ take query.now.limit (drop query.now.skip (each view documents.items))) }
 {
     let mut part = Part::new(alloc, query);

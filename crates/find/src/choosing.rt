@@ -6,8 +6,9 @@ ghost use Rattle.std.specs.FinMap as map;
 ghost use Rattle.store.specs.Calls.{OnlyReads};
 ghost use Rattle.read.specs.Answers.{Stops};
 
+use crate::fixed::are_fixed;
 use crate::query::Query;
-use crate::ranges::are_there;
+use crate::ranges::{are_same, are_there};
 use couch_json::{FieldPath, Got, Json, NoMemory, PathFault};
 use read::ReadFault;
 use selector::Bounds;
@@ -23,9 +24,23 @@ pub(crate) struct IndexName {
     pub(crate) design: DocId,
     /// Its name there.
     pub(crate) name: String,
+    /// How well it serves.
+    fit: Fit,
 }
 
-/// Chooses an index of a database for a query; `None` where a scan of all documents serves as well.
+/// How well an index serves a query.
+#[derive(Clone, Copy, Debug, PartialEq, Eq)]
+enum Fit {
+    /// It may not, or no better than a scan of all documents.
+    Poor = 1,
+    /// It leaves out documents that a scan reads.
+    Narrow = 2,
+    /// Its rows go in the order of the query, too.
+    InOrder = 3,
+}
+
+/// Chooses an index of a database for a query: the first whose rows go in its order, else the first that
+/// serves; `None` where a scan of all documents serves as well.
 pub(crate) fn choose_index<S: Store>(
     alloc: Global,
     store: &mut S,
@@ -51,13 +66,25 @@ fn choose_among<S: Store>(
     ensures stops { IfErr result (Stops S.Store store.old store.new (map.get (S.contents store.old) db.now ≡ None)) }
     ensures reads { OnlyReads S.Store store.old store.new }
 {
+    let mut chosen = None;
     for row in rows {
-        let chosen = choose_in(alloc, store, db, &row.id, query)?;
-        if chosen.is_some() {
-            return Ok(chosen);
+        let found = choose_in(alloc, store, db, &row.id, query)?;
+        if fit_of(&found) == Fit::InOrder {
+            return Ok(found);
+        }
+        if chosen.is_none() {
+            chosen = found;
         }
     }
-    Ok(None)
+    Ok(chosen)
+}
+
+/// Tells how well an index serves, where there is one.
+fn fit_of(name: &Option<IndexName>) -> Fit {
+    match name {
+        Some(name) => name.fit,
+        None => Fit::Poor,
+    }
 }
 
 /// Chooses an index that this design document declares.
@@ -91,32 +118,60 @@ fn choose_declared(
     }
 }
 
-/// Chooses one of these indexes by name.
+/// Chooses one of these indexes, the first by name where they serve as well.
 fn choose_named(
     alloc: Global,
     design: &DocId,
     indexes: &BTreeMap<String, Json>,
     query: &Query,
 ) -> Got<Option<IndexName>> {
+    let mut chosen = None;
     for (name, index) in indexes.iter() {
-        if is_helpful(alloc, index, query)? {
-            return Ok(Some(IndexName {
+        let fit = fit_declared(alloc, index, query)?;
+        if fit == Fit::InOrder || (fit == Fit::Narrow && chosen.is_none()) {
+            chosen = Some(IndexName {
                 design: design.copy(alloc)?,
                 name: String::from_str(alloc, name.as_str())?,
-            }));
+                fit,
+            });
+        }
+        if fit == Fit::InOrder {
+            return Ok(chosen);
         }
     }
-    Ok(None)
+    Ok(chosen)
 }
 
-/// Tells whether an index that is declared so may serve the query, better than a scan does.
-fn is_helpful(alloc: Global, index: &Json, query: &Query) -> Got<bool> {
+/// Tells how well an index that is declared so serves the query.
+fn fit_declared(alloc: Global, index: &Json, query: &Query) -> Got<Fit> {
     match index.member("fields") {
         Some(Json::Array(fields)) => match read_paths(alloc, fields)? {
-            Some(paths) => Ok(are_there(&paths, query) && is_narrowing(&paths, query)),
-            None => Ok(false),
+            Some(paths) => Ok(fit_of_fields(&paths, query)),
+            None => Ok(Fit::Poor),
         },
-        _ => Ok(false),
+        _ => Ok(Fit::Poor),
+    }
+}
+
+/// Tells how well an index of these fields serves the query.
+fn fit_of_fields(fields: &[FieldPath], query: &Query) -> Fit {
+    if !are_there(fields, query) || !is_narrowing(fields, query) {
+        Fit::Poor
+    } else if goes_in_order(fields, query) {
+        Fit::InOrder
+    } else {
+        Fit::Narrow
+    }
+}
+
+/// Tells whether the rows of an index of these fields go in the order of the query: they are those of the
+/// sort or, without a sort, have one value each.
+fn goes_in_order(fields: &[FieldPath], query: &Query) -> bool {
+    let sort = query.sort.as_slice();
+    if sort.is_empty() {
+        are_fixed(fields, query)
+    } else {
+        are_same(fields, sort)
     }
 }
 

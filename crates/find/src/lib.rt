@@ -10,11 +10,12 @@
 #![tactic(auto)]
 
 mod by_fields;
-mod by_id;
 mod by_index;
 mod choosing;
 mod documents;
 mod fault;
+mod fixed;
+mod in_order;
 mod index;
 pub mod laws;
 mod matching;
@@ -26,6 +27,7 @@ mod ranges;
 mod scan;
 mod sort;
 mod sort_fields;
+mod source;
 
 pub use documents::find;
 pub use fault::QueryFault;

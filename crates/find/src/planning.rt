@@ -1,18 +1,18 @@
 //! Whether an index may serve a find, and by which of its rows.
 
-ghost use Rattle.std.specs.Prelude.{◌≡◌, IfOk, IfErr, IfSome, None, Some};
+ghost use Rattle.std.specs.Prelude.{◌≡◌, IfOk, IfErr, IfSome, None, Some, true};
 ghost use Rattle.std.specs.FinMap as map;
 ghost use Rattle.store.specs.Calls.{OnlyReads};
 ghost use Rattle.store.specs.Database.{Database};
 ghost use Rattle.read.specs.Answers.{Stops};
 ghost use Rattle.find.specs.IndexRead.{index_asked};
-ghost use Rattle.find.specs.Planning.{MayServe, MayServeBy};
+ghost use Rattle.find.specs.Planning.{IsInOrder, MayServe, MayServeBy};
 
 use crate::choosing::IndexName;
 use crate::index::Index;
 use crate::plan::Plan;
 use crate::query::Query;
-use crate::ranges::range_of;
+use crate::ranges::rows_for;
 use couch_json::Got;
 use read::ReadFault;
 use std::alloc::Global;
@@ -29,7 +29,8 @@ pub(crate) fn plan_by<S: Store>(
     query: &Query,
 ) -> Result<Option<Plan>, ReadFault>
     ensures ok { S.is_honest store.new → IfOk result (λ plan. (d : Database) → map.get (S.contents store.old) db.now ≡ Some d
-        → IfSome plan (λ p. MayServe (index_asked p.index) p.range query.now d)) }
+        → IfSome plan (λ p. MayServe (index_asked p.index) p.rows.range query.now d)) }
+    ensures order { IfOk result (λ plan. IfSome plan (λ p. p.rows.in_order ≡ true → IsInOrder p.index.fields.items p.rows.range query.now)) }
     ensures stops { IfErr result (Stops S.Store store.old store.new (map.get (S.contents store.old) db.now ≡ None)) }
     ensures reads { OnlyReads S.Store store.old store.new }
 {
@@ -44,13 +45,14 @@ fn plan_declared(
     name: IndexName,
     query: &Query,
 ) -> Got<Option<Plan>>
-    ensures serves { IfOk result (λ plan. IfSome plan (λ p. MayServeBy (index_asked p.index) p.range query.now history.now)) }
+    ensures serves { IfOk result (λ plan. IfSome plan (λ p. MayServeBy (index_asked p.index) p.rows.range query.now history.now)) }
+    ensures order { IfOk result (λ plan. IfSome plan (λ p. p.rows.in_order ≡ true → IsInOrder p.index.fields.items p.rows.range query.now)) }
     ensures design { IfOk result (λ plan. IfSome plan (λ p. p.index.design ≡ name.design)) }
 {
     let Some(fields) = read_index_fields(alloc, &name.design, history, name.name.as_str())? else {
         return Ok(None);
     };
-    let Some(range) = range_of(alloc, &fields, query)? else {
+    let Some(rows) = rows_for(alloc, &fields, query)? else {
         return Ok(None);
     };
     let index = Index {
@@ -58,5 +60,5 @@ fn plan_declared(
         name: name.name,
         fields,
     };
-    Ok(Some(Plan { index, range }))
+    Ok(Some(Plan { index, rows }))
 }

@@ -1,6 +1,6 @@
 //! Finds by a scan of all documents.
 
-ghost use Rattle.std.specs.Prelude.{◌≡◌, None, false, map as each, option_map};
+ghost use Rattle.std.specs.Prelude.{map as each, option_map};
 ghost use Rattle.std.specs.FinMap as map;
 ghost use Rattle.couch_json.specs.View.{view};
 ghost use Rattle.store.specs.Calls.{OnlyReads};
@@ -8,14 +8,16 @@ ghost use Rattle.find.specs.Answers.{Finds};
 ghost use Rattle.find.specs.Found.{found_documents};
 
 use crate::by_fields::find_sorted;
-use crate::by_id::find_in_rows;
+use crate::in_order::find_in_order;
 use crate::query::Query;
+use crate::source::Source;
 use couch_json::Json;
 use read::ReadFault;
 use std::alloc::Global;
-use store::{DbName, IdRange, Store};
+use store::{DbName, Store};
 
-/// Finds the documents of a query among all documents of the database.
+/// Finds the documents of a query among all documents of the database. Without a sort they go by id, as
+/// they are asked for.
 pub(crate) fn find_by_scan<S: Store>(
     alloc: Global,
     store: &mut S,
@@ -26,25 +28,11 @@ pub(crate) fn find_by_scan<S: Store>(
         (option_map (λ d. found_documents query.now d) (map.get (S.contents store.old) db.now)) result }
     ensures reads { OnlyReads S.Store store.old store.new }
 {
+    let source = Source::Documents {
+        descending: query.descending,
+    };
     if query.sort.as_slice().is_empty() {
-        let page = store.page_by_id(db, &every_row(query.descending))?;
-        return find_in_rows(alloc, store, db, &page.rows, query);
+        return find_in_order(alloc, store, db, query, &source);
     }
-    let page = store.page_by_id(db, &every_row(true))?;
-    find_sorted(alloc, store, db, &page.rows, query)
-}
-
-/// Makes the range of all rows, in this direction.
-fn every_row(descending: bool) -> IdRange
-    ensures { result ≡ record { start = None; end = None; inclusive_end = false; descending = descending; skip = 0; limit = None; counted = false } }
-{
-    IdRange {
-        start: None,
-        end: None,
-        inclusive_end: false,
-        descending,
-        skip: 0,
-        limit: None,
-        counted: false,
-    }
+    find_sorted(alloc, store, db, query, &source)
 }
