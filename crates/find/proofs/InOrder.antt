@@ -1,11 +1,10 @@
 -- Rows that go in the order of a query give what it finds, as they come.
-use Rattle.std.proofs.Common.{◌≡◌, ◌&&◌, ℕ, suc, Bool, true, false, not, cond, List, [], ◌∷◌, ◌++◌, AllPairs, Option, Some, None, Ordering, drop, filter, map, option_map, reverse, take, get_or, refl, sym, ap, ap₂, subst, ◌∙◌, inl, inr, arith}
+use Rattle.std.proofs.Common.{◌≡◌, ◌&&◌, ℕ, suc, Bool, true, false, not, List, [], ◌∷◌, ◌++◌, AllPairs, Option, Some, None, Ordering, drop, filter, map, option_map, reverse, take, refl, sym, ap, ap₂, subst, ◌∙◌, inl, inr, arith}
 use Rattle.std.specs.Prelude.{is_some}
 use Rattle.std.specs.Option.{option_to_list}
 use Rattle.std.specs.declared.cmp.Ordering.TheVariants.{Less, Equal, Greater}
 use Rattle.std.specs.Cmp.{tied_itself}
 use Rattle.std.specs.Cmp.Lexicographic.{slice_cmp}
-use Rattle.std.specs.FinMap as finite
 use Rattle.std.specs.Ordering.{is_ge, is_gt, nat_cmp, ordering_then}
 use Rattle.std.proofs.lemmas.List.Kept.{AllPairs-filter}
 use Rattle.couch_json.specs.Collation.{collation}
@@ -16,7 +15,7 @@ use Rattle.store.proofs.Directed.{filter-directed, from_directed, in_directed, m
 use Rattle.store.proofs.IndexRows.{place_from, rows_ascend}
 use Rattle.store.proofs.Listings.{In}
 use Rattle.store.specs.Database.{Database, history_at, history_in}
-use Rattle.store.specs.Indexes.{IndexPlace, IsPlaceOf, field_values, index_fields_at, index_rows, place_order, put_at_values, put_in_index, queried_document}
+use Rattle.store.specs.Indexes.{IndexPlace, IsPlaceOf, field_values, index_rows, place_order, put_at_values, put_in_index, queried_document}
 use Rattle.store.specs.KeyPages.{is_key_within, key_rows_within}
 use Rattle.store.specs.Pages.{in_direction}
 use Rattle.store.specs.declared.key_page.CutSide.TheVariants.{After, Before}

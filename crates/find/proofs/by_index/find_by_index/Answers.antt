@@ -1,4 +1,4 @@
-use Rattle.std.proofs.Common.{◌≡◌, Some, [], drop, map, take, true, ap}
+use Rattle.std.proofs.Common.{[], drop, map, take, ap}
 use Rattle.std.specs.FinMap as finite
 use Rattle.couch_json.specs.View.{view}
 use Rattle.store.specs.Contents.{Contents}

@@ -1,4 +1,4 @@
-use Rattle.std.proofs.Common.{◌≡◌, rules, Some, sym, ap, true, ◌∙◌}
+use Rattle.std.proofs.Common.{◌≡◌, rules, Some, sym, true, ◌∙◌}
 use Rattle.selector.specs.Bounds.{contain}
 use Rattle.selector.specs.declared.bounds.Bounds.TheVariants.{Range}
 use Rattle.find.proofs.FixedFields.{only_between}

@@ -1,4 +1,4 @@
-use Rattle.std.proofs.Common.{◌≡◌, ◌∷◌, true, rules, sym, ◌∙◌}
+use Rattle.std.proofs.Common.{◌≡◌, true, rules, sym, ◌∙◌}
 use Rattle.find.proofs.KeyRanges.{next_same}
 use Rattle.find.proofs.ranges.are_same.Goals as goal
 

@@ -1,4 +1,4 @@
-use Rattle.std.proofs.Common.{◌≡◌, length, rules, sym, subst, ◌∙◌}
+use Rattle.std.proofs.Common.{◌≡◌, length, rules, sym, ◌∙◌}
 use Rattle.couch_json.specs.View.{items_view}
 use Rattle.store.proofs.Pagings.{no_length}
 use Rattle.find.proofs.InOrder.{key_covers, key_in_order}
