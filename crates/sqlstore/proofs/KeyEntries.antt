@@ -131,17 +131,18 @@ module _ (declaration : ℤ) (places : List IndexPlace) (rows : List Row) (h : A
       let counted = sym (within_counted declaration places rows h range low high lows highs) ∙ is in
       ap (up_to_limit range.limit) (nothing_left range.skip (key_rows_within range places) (omega (arith, counted, lt, far))) ∙ none_limited range.limit
 
-  pub counts_made : (before within total : ℕ) (made : RowCounts) → range.counted ≡ true → count_of declaration [] (8 ∷ []) rows ≡ total → count_of declaration low high rows ≡ within
-      → count_by (λ p. is_key_before range p.key) places ≡ before → (before + min range.skip within ≤ total → made.offset ≡ before + min range.skip within) → made.total ≡ total
-      → if_counted range.counted (key_counts range places) ≡ Some made
-  counts_made before within total made asked all inside_range first offset sum =
+  pub skipped_counted : (within : ℕ) → count_of declaration low high rows ≡ within → min range.skip (length (key_rows_within range places)) ≡ min range.skip within
+  skipped_counted within is = ap (min range.skip) (sym (within_counted declaration places rows h range low high lows highs) ∙ is)
+
+  pub counts_made : (before skipped total : ℕ) (made : RowCounts) → range.counted ≡ true → count_of declaration [] (8 ∷ []) rows ≡ total → min range.skip (length (key_rows_within range places)) ≡ skipped
+      → count_by (λ p. is_key_before range p.key) places ≡ before → (before + skipped ≤ total → made.offset ≡ before + skipped) → made.total ≡ total → if_counted range.counted (key_counts range places) ≡ Some made
+  counts_made before skipped total made asked all left first offset sum =
       let totals = sym (total_counted declaration places rows h) ∙ all in
-      let withins = sym (within_counted declaration places rows h range low high lows highs) ∙ inside_range in
       let fits = counted_key_within range places in
-      let least : before + min range.skip within ≤ total = omega (arith, totals, withins, fits, first) in
+      let least : before + skipped ≤ total = omega (arith, totals, left, fits, first) in
       let is_offset = offset least in
       ap (λ b. if_counted b (key_counts range places)) asked
-      ∙ (λ i. Some (record { offset = (ap (λ n. n + min range.skip (length (key_rows_within range places))) first ∙ ap (λ n. before + min range.skip n) withins ∙ sym is_offset) i; total = (totals ∙ sym sum) i }))
+      ∙ (λ i. Some (record { offset = (ap (λ n. n + min range.skip (length (key_rows_within range places))) first ∙ ap (λ n. before + n) left ∙ sym is_offset) i; total = (totals ∙ sym sum) i }))
 
 -- ---- the index of a database that is found
 

@@ -28,7 +28,7 @@ pub(crate) fn counts_of(before: u64, skipped: u64, total: u64) -> RowCounts
 }
 
 impl<S: Alter> SqlStore<S> {
-    ghost use Rattle.std.specs.Prelude.{◌≡◌, ◌∷◌, ◌<◌, ◌≤◌, ◌^◌, ◌-◌, [], IfErr, IfOk, IfSome, List, Some, drop, false, find, is_some, map, option_map, true};
+    ghost use Rattle.std.specs.Prelude.{◌≡◌, ◌∷◌, ◌<◌, ◌≤◌, ◌^◌, ◌-◌, [], IfErr, IfOk, IfSome, List, Some, drop, false, find, is_some, length, map, min, option_map, true};
     ghost use Rattle.couch_json.specs.Lawful.{IsLawful};
     ghost use Rattle.index.specs.Places.{IsHighBound, IsLowBound, IsShownEntry, spot_of, spot_shown};
     ghost use Rattle.index.specs.Rows.{count_of, is_declaration_of, range_of};
@@ -197,6 +197,27 @@ impl<S: Alter> SqlStore<S> {
         self.count_between(declaration, &start, low)
     }
 
+    /// Counts the rows that a page by key leaves out at the start of its range: as many as it skips, or all
+    /// where there are fewer.
+    fn count_skipped_keys(
+        &mut self,
+        declaration: &i64,
+        low: &[u8],
+        high: &[u8],
+        range: &KeyRange,
+    ) -> Result<u64, StoreFault>
+        ensures answer { (places : List IndexPlace) → IsLowBound range.now low.now → IsHighBound range.now high.now
+            → AnswersOf S.Store declaration.now places self.old self.new (λ n. n) (min range.now.skip (length (key_rows_within range.now places))) result }
+        ensures bounded { IfOk result (λ n. n < 2 ^ 63 - 1) }
+        ensures stands { Stands S.Store self.old self.new }
+    {
+        if range.skip == 0 {
+            return Ok(0);
+        }
+        let within = self.count_between(declaration, low, high)?;
+        Ok(min(range.skip, within))
+    }
+
     /// Counts the rows outside of a page by key, where that is asked for.
     fn count_key_rows(
         &mut self,
@@ -217,9 +238,8 @@ impl<S: Alter> SqlStore<S> {
         let end = above_all(self.alloc)?;
         let start = Vec::new(self.alloc);
         let total = self.count_between(declaration, &start, &end)?;
-        let within = self.count_between(declaration, low, high)?;
+        let skipped = self.count_skipped_keys(declaration, low, high, range)?;
         let before = self.count_before(declaration, low, high, range)?;
-        let skipped = min(range.skip, within);
         Ok(Some(counts_of(before, skipped, total)))
     }
 
