@@ -9,6 +9,8 @@ mod allocations;
 mod broken_streams;
 pub mod causes;
 #[cfg(test)]
+mod disk_stops;
+#[cfg(test)]
 mod exchanges;
 #[cfg(test)]
 mod few_rows;

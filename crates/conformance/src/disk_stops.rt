@@ -1,0 +1,300 @@
+//! A store in files, one of which stops at some call.
+
+use crate::local_client::{FAILED, node, reply_to, root_request, shown};
+use couch_http::Request;
+use sqlite::{Alter, Connection, FileStore, Files, Options};
+use sqlite_disk::{Crash, Disk, Fuse, Memory};
+use sqlstore::SqlStore;
+use std::alloc::Global;
+use std::process::Abort;
+use std::test::Fail;
+
+/// A file in memory that takes so many calls, and fails each one after.
+type Stopping = Fuse<Memory>;
+
+/// Small limits, so that a request writes its pages in parts, and copies the log into the file.
+const OPTIONS: Options = Options {
+    cache_pages: 20,
+    spill_pages: 2,
+    checkpoint_frames: 3,
+    seed: 7,
+};
+
+/// What the admin `root` writes before: a declared index, a document that has a row in it, and a local
+/// document.
+const FILLING: [(&str, &str); 4] = [
+    ("PUT /db", ""),
+    (
+        "POST /db/_bulk_docs",
+        r#"{"docs":[{"_id":"_design/d","_rev":"1-d","indexes":{"v":{"fields":["v"]}}}],"new_edits":false}"#,
+    ),
+    ("PUT /db/m", r#"{"v":5,"w":6}"#),
+    ("PUT /db/_local/l", r#"{"at":1}"#),
+];
+
+/// What is asked of files that stop: a bulk of two documents, another declaration of the index, another
+/// local document and security object, and a database that is made or removed.
+const REQUESTS: [(&str, &str); 6] = [
+    (
+        "POST /db/_bulk_docs",
+        r#"{"docs":[{"_id":"a","v":1},{"_id":"b","v":2}]}"#,
+    ),
+    (
+        "POST /db/_bulk_docs",
+        r#"{"docs":[{"_id":"_design/d","_rev":"2-e","_revisions":{"start":2,"ids":["e","d"]},"indexes":{"v":{"fields":["w","v"]}}}],"new_edits":false}"#,
+    ),
+    ("PUT /db/_local/l", r#"{"_rev":"0-1","at":2}"#),
+    ("PUT /db/_security", r#"{"members":{"names":["bob"]}}"#),
+    ("PUT /new", ""),
+    ("DELETE /db", ""),
+];
+
+/// The bytes of a log and of its file.
+#[derive(PartialEq, Drop)]
+struct Image {
+    log: Vec<u8>,
+    db: Vec<u8>,
+}
+
+/// Copies what the files hold now.
+fn image_of(alloc: Global, files: &Files<Stopping>) -> Result<Image, Fail> {
+    Ok(Image {
+        log: Vec::from_slice(alloc, files.log.inner().bytes())?,
+        db: Vec::from_slice(alloc, files.db.inner().bytes())?,
+    })
+}
+
+/// Copies the bytes of files.
+fn copy_of(alloc: Global, image: &Image) -> Result<Image, Fail> {
+    Ok(Image {
+        log: Vec::from_slice(alloc, &image.log)?,
+        db: Vec::from_slice(alloc, &image.db)?,
+    })
+}
+
+/// Makes a file with these bytes that takes so many calls.
+fn file_with(alloc: Global, bytes: &[u8], calls: u64) -> Result<Stopping, Fail> {
+    let mut file = Memory::new(alloc);
+    file.write_at(0, bytes)?;
+    file.sync()?;
+    Ok(Fuse::new(file, calls))
+}
+
+/// Makes files with these bytes, of which the log and the other take so many calls.
+fn files_with(
+    alloc: Global,
+    image: &Image,
+    log_calls: u64,
+    db_calls: u64,
+) -> Result<Files<Stopping>, Fail> {
+    Ok(Files {
+        log: file_with(alloc, &image.log, log_calls)?,
+        db: file_with(alloc, &image.db, db_calls)?,
+    })
+}
+
+/// Opens the files, if they may be used, or gives them back.
+fn open_files(
+    alloc: Global,
+    files: Files<Stopping>,
+) -> Result<Connection<FileStore<Stopping>>, Files<Stopping>> {
+    if !files.log.may_be_used() || !files.db.may_be_used() {
+        return Err(files);
+    }
+    match Connection::open_files(alloc, files, OPTIONS) {
+        Ok(conn) => Ok(conn),
+        Err((_error, left)) => Err(left.into_files()),
+    }
+}
+
+/// Asks for something of the store over a connection. Returns the reply, or `None` where the store isn't
+/// opened, and what the connection stood on.
+fn ask_tables<S: Alter + Drop>(
+    alloc: Global,
+    conn: Connection<S>,
+    request: &Request,
+) -> Result<(Option<String>, S), Fail> {
+    match SqlStore::open(alloc, conn) {
+        Ok(store) => {
+            let mut node = node(alloc, store)?;
+            let told = reply_to(alloc, &mut node, request)?;
+            Ok((Some(told), node.into_store().close().into_store()))
+        }
+        Err((_fault, conn)) => Ok((None, conn.into_store())),
+    }
+}
+
+/// Asks for something of the store in files. Returns the reply, or `None` where the store isn't opened,
+/// and the files.
+fn ask(
+    alloc: Global,
+    files: Files<Stopping>,
+    request: &Request,
+) -> Result<(Option<String>, Files<Stopping>), Fail> {
+    match open_files(alloc, files) {
+        Ok(conn) => {
+            let (told, left) = ask_tables(alloc, conn, request)?;
+            Ok((told, left.close()))
+        }
+        Err(files) => Ok((None, files)),
+    }
+}
+
+/// Returns all that the store over a connection shows.
+fn shown_in_tables<S: Alter + Drop>(alloc: Global, conn: Connection<S>) -> Result<String, Fail> {
+    match SqlStore::open(alloc, conn) {
+        Ok(store) => shown(alloc, &mut node(alloc, store)?),
+        Err((_fault, _conn)) => Err(Fail::from("it is not opened")),
+    }
+}
+
+/// Returns all that a store with these bytes shows, whose files don't stop.
+fn shown_by(alloc: Global, image: &Image) -> Result<String, Fail> {
+    match open_files(alloc, files_with(alloc, image, u64::MAX, u64::MAX)?) {
+        Ok(conn) => shown_in_tables(alloc, conn),
+        Err(_files) => Err(Fail::from("it does not open")),
+    }
+}
+
+/// Returns files in which the filling stands.
+fn filled(alloc: Global) -> Result<Image, Fail> {
+    let mut image = Image {
+        log: Vec::new(alloc),
+        db: Vec::new(alloc),
+    };
+    for (line, body) in FILLING {
+        let files = files_with(alloc, &image, u64::MAX, u64::MAX)?;
+        let (told, files) = ask(alloc, files, &root_request(alloc, line, body)?)?;
+        if !told.ok_or("it does not open")?.as_str().starts_with("201") {
+            return Err(Fail::from("not written"));
+        }
+        image = image_of(alloc, &files)?;
+    }
+    Ok(image)
+}
+
+/// Tells whether a file takes a further call.
+fn goes_on(file: &mut Stopping) -> bool {
+    file.may_be_used() && file.len().is_ok()
+}
+
+/// A request to files that stop, and what comes of it where they don't.
+#[derive(Drop)]
+struct Trial {
+    request: Request,
+    image: Image,
+    before: String,
+    wanted: String,
+    after: String,
+}
+
+/// Asks for something of files that don't stop.
+fn make_trial(alloc: Global, image: &Image, line: &str, body: &str) -> Result<Trial, Fail> {
+    let before = shown_by(alloc, image)?;
+    let request = root_request(alloc, line, body)?;
+    let files = files_with(alloc, image, u64::MAX, u64::MAX)?;
+    let (wanted, files) = ask(alloc, files, &request)?;
+    let after = shown_by(alloc, &image_of(alloc, &files)?)?;
+    Ok(Trial {
+        request,
+        image: copy_of(alloc, image)?,
+        before,
+        wanted: wanted.ok_or("it does not open")?,
+        after,
+    })
+}
+
+/// Files that were opened last, and whether they hold the store of after.
+#[derive(Drop)]
+struct Opened {
+    image: Image,
+    is_after: bool,
+}
+
+/// Copies the files of a trial, which hold the store of before.
+fn not_after(alloc: Global, trial: &Trial) -> Result<Opened, Fail> {
+    Ok(Opened {
+        image: copy_of(alloc, &trial.image)?,
+        is_after: false,
+    })
+}
+
+/// Tells whether these files hold the store of after, and not the one of before. The same bytes are
+/// opened once.
+fn is_after(
+    rt: &impl Abort,
+    alloc: Global,
+    trial: &Trial,
+    files: &Files<Stopping>,
+    last: &mut Opened,
+) -> Result<bool, Fail> {
+    let image = image_of(alloc, files)?;
+    if image != last.image {
+        let shown = shown_by(alloc, &image)?;
+        let is_after = shown == trial.after;
+        assert!(rt; is_after || shown == trial.before, "{shown}");
+        *last = Opened { image, is_after };
+    }
+    Ok(last.is_after)
+}
+
+/// Asks files that stop, and opens what they hold then: as it is, and without all that was not synced.
+/// Tells whether they go on.
+fn try_files(
+    rt: &impl Abort,
+    alloc: Global,
+    trial: &Trial,
+    files: Files<Stopping>,
+    last_killed: &mut Opened,
+    last_lost: &mut Opened,
+) -> Result<bool, Fail> {
+    let (told, mut files) = ask(alloc, files, &trial.request)?;
+    let is_answered = told.as_ref() == Some(&trial.wanted);
+    if let Some(told) = &told {
+        assert!(rt; is_answered || told.as_str() == FAILED, "{told}");
+    }
+    let killed = is_after(rt, alloc, trial, &files, last_killed)?;
+    let goes_on = goes_on(&mut files.log) && goes_on(&mut files.db);
+    files.log.crash();
+    files.db.crash();
+    let lost = is_after(rt, alloc, trial, &files, last_lost)?;
+    assert!(rt; killed && lost || !is_answered);
+    assert!(rt; told.is_some() || !killed && !lost);
+    Ok(goes_on)
+}
+
+/// Has the log or the other file stop at each call, and returns how many calls there are.
+fn try_each_call(rt: &impl Abort, alloc: Global, trial: &Trial, is_log: bool) -> Result<u64, Fail> {
+    let mut killed = not_after(alloc, trial)?;
+    let mut lost = not_after(alloc, trial)?;
+    for calls in 0..1_000 {
+        let (log_calls, db_calls) = if is_log {
+            (calls, u64::MAX)
+        } else {
+            (u64::MAX, calls)
+        };
+        let files = files_with(alloc, &trial.image, log_calls, db_calls)?;
+        if try_files(rt, alloc, trial, files, &mut killed, &mut lost)? {
+            return Ok(calls);
+        }
+    }
+    Err(Fail::from("it has no end"))
+}
+
+/// At whichever call the log or the file stops: opened again, the store is that of before or that of
+/// after, and the latter where the request was answered.
+#[test]
+fn each_disk_stop(rt: HostRuntime) -> Result<(), Fail> {
+    let alloc = rt.alloc();
+    let image = filled(alloc)?;
+    for (line, body) in REQUESTS {
+        let trial = make_trial(alloc, &image, line, body)?;
+        assert!(rt; trial.wanted.as_str().starts_with("20"), "{line}");
+        assert!(rt; trial.after != trial.before, "{line}");
+        for is_log in [true, false] {
+            let calls = try_each_call(&rt, alloc, &trial, is_log)?;
+            assert!(rt; calls > 0, "{line}");
+        }
+    }
+    Ok(())
+}
