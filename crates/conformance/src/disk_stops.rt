@@ -1,5 +1,6 @@
 //! A store in files, one of which stops at some call.
 
+use crate::first_version::{FILLING, VIEW, turn_back};
 use crate::local_client::{FAILED, node, reply_to, root_request, shown};
 use couch_http::Request;
 use sqlite::{Alter, Connection, FileStore, Files, Options};
@@ -19,18 +20,6 @@ const OPTIONS: Options = Options {
     checkpoint_frames: 3,
     seed: 7,
 };
-
-/// What the admin `root` writes before: a declared index, a document that has a row in it, and a local
-/// document.
-const FILLING: [(&str, &str); 4] = [
-    ("PUT /db", ""),
-    (
-        "POST /db/_bulk_docs",
-        r#"{"docs":[{"_id":"_design/d","_rev":"1-d","indexes":{"v":{"fields":["v"]}}}],"new_edits":false}"#,
-    ),
-    ("PUT /db/m", r#"{"v":5,"w":6}"#),
-    ("PUT /db/_local/l", r#"{"at":1}"#),
-];
 
 /// What is asked of files that stop: a bulk of two documents, another declaration of the index, another
 /// local document and security object, and a database that is made or removed.
@@ -295,6 +284,76 @@ fn each_disk_stop(rt: HostRuntime) -> Result<(), Fail> {
             let calls = try_each_call(&rt, alloc, &trial, is_log)?;
             assert!(rt; calls > 0, "{line}");
         }
+    }
+    Ok(())
+}
+
+/// Makes files in which the filling stands those of version 1.
+fn turn_files_back(alloc: Global, image: &Image) -> Result<Image, Fail> {
+    let files = files_with(alloc, image, u64::MAX, u64::MAX)?;
+    match open_files(alloc, files) {
+        Ok(mut conn) => {
+            turn_back(&mut conn)?;
+            image_of(alloc, &conn.into_store().close())
+        }
+        Err(_files) => Err(Fail::from("it does not open")),
+    }
+}
+
+/// Returns what the index shows of a store with these bytes, whose files don't stop.
+fn view_of(alloc: Global, image: &Image) -> Result<String, Fail> {
+    let files = files_with(alloc, image, u64::MAX, u64::MAX)?;
+    let (told, _files) = ask(alloc, files, &root_request(alloc, VIEW.0, "")?)?;
+    Ok(told.ok_or("it does not open")?)
+}
+
+/// Opens files of version 1 that stop, and then what they hold: as it is, and without all that was not
+/// synced. Tells whether they go on.
+fn try_carrying_over(rt: &impl Abort, alloc: Global, files: Files<Stopping>) -> Result<bool, Fail> {
+    let (told, mut files) = ask(alloc, files, &root_request(alloc, VIEW.0, "")?)?;
+    if let Some(told) = &told {
+        assert!(rt;
+            told.as_str() == VIEW.1 || told.as_str() == FAILED,
+            "{told}"
+        );
+    }
+    assert_eq!(rt; view_of(alloc, &image_of(alloc, &files)?)?.as_str(), VIEW.1);
+    let goes_on = goes_on(&mut files.log) && goes_on(&mut files.db);
+    files.log.crash();
+    files.db.crash();
+    assert_eq!(rt; view_of(alloc, &image_of(alloc, &files)?)?.as_str(), VIEW.1);
+    Ok(goes_on)
+}
+
+/// Has the log or the other file of version 1 stop at each call, and returns how many calls there are.
+fn carry_over_at_each_call(
+    rt: &impl Abort,
+    alloc: Global,
+    image: &Image,
+    is_log: bool,
+) -> Result<u64, Fail> {
+    for calls in 0..1_000 {
+        let (log_calls, db_calls) = if is_log {
+            (calls, u64::MAX)
+        } else {
+            (u64::MAX, calls)
+        };
+        let files = files_with(alloc, image, log_calls, db_calls)?;
+        if try_carrying_over(rt, alloc, files)? {
+            return Ok(calls);
+        }
+    }
+    Err(Fail::from("it has no end"))
+}
+
+/// At whichever call the log or the file of version 1 stops: opened again, its index shows what it showed.
+#[test]
+fn each_disk_stop_of_carrying_over(rt: HostRuntime) -> Result<(), Fail> {
+    let alloc = rt.alloc();
+    let image = turn_files_back(alloc, &filled(alloc)?)?;
+    for is_log in [true, false] {
+        let calls = carry_over_at_each_call(&rt, alloc, &image, is_log)?;
+        assert!(rt; calls > 0);
     }
     Ok(())
 }

@@ -15,6 +15,8 @@ mod exchanges;
 #[cfg(test)]
 mod few_rows;
 #[cfg(test)]
+mod first_version;
+#[cfg(test)]
 mod local_client;
 #[cfg(test)]
 mod loopback;
