@@ -8,7 +8,7 @@ const DESIGN: &str =
     r#"{"docs":[{"_id":"_design/i","_rev":"1-1","indexes":{"a":{"fields":["a"]}}}],"new_edits":false}"#;
 
 /// Requests that show one document of a thousand, and their replies.
-const REQUESTS: [(&str, &str, &str); 7] = [
+const REQUESTS: [(&str, &str, &str); 10] = [
     (
         "GET /db",
         "",
@@ -43,6 +43,21 @@ const REQUESTS: [(&str, &str, &str); 7] = [
         "POST /db/_find",
         r#"{"selector":{"a":500},"limit":1}"#,
         r#"200 {"bookmark":"nil","docs":[{"_id":"d0500","_rev":"1-a","a":500}]}"#,
+    ),
+    (
+        "POST /db/_find",
+        r#"{"selector":{"a":{"$gte":500}},"sort":[{"a":"asc"}],"limit":1}"#,
+        r#"200 {"bookmark":"nil","docs":[{"_id":"d0500","_rev":"1-a","a":500}]}"#,
+    ),
+    (
+        "POST /db/_find",
+        r#"{"selector":{},"sort":[{"a":"desc"}],"limit":1}"#,
+        r#"200 {"bookmark":"nil","docs":[{"_id":"d0999","_rev":"1-a","a":999}]}"#,
+    ),
+    (
+        "POST /db/_find",
+        r#"{"selector":{},"limit":1}"#,
+        r#"200 {"bookmark":"nil","docs":[{"_id":"d0000","_rev":"1-a","a":0}]}"#,
     ),
 ];
 
