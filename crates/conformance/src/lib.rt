@@ -1,5 +1,5 @@
-//! Tests of what has to fail: a refused allocation, a store, a reader and a writer that fail, also among
-//! many connections. One more compares a socket with memory. All that a reply can show stands in rows of
+//! Tests of what has to fail: a refused allocation, a store, a disk, a reader and a writer that fail, also
+//! among many connections. One more compares a socket with memory. All that a reply can show stands in rows of
 //! data, in the crates `values` and `requests`. Two functions say why a request is a 500.
 #![tactic(auto)]
 
