@@ -1,5 +1,5 @@
 -- What the statements on declarations mean.
-use Rattle.index.proofs.Common.{AllByRecursion, AreDeclarationRows, AreNumbered, Binary, Blob, Delete, Eq, HasIndexRows, HasOneAtMost, IfOk, Insert, Int, IsAscending, IsCommand, IsDeclarationRow, Key, Less-from_lt, List, Null, Ordering, Result, Row, Select, Shown, State, Term, Text, Values, [], all_weaker, and_parts, ap, ap₂, ascending-filter, ascending_weaker, by_number, bytes_eq, bytes_eq-Decides, cast_int, cast_null, cast_row, codes, col, column, compares, cond, declaration_cells, decls_table, decls_tree, design_of, everything, false, filter, finds_one, holds, home_of, index_name_of, insert_sorted, int_by, int_cmp, is_at_home, is_declaration_of, is_eq, is_gt, last_term, list_all, lists, lit, map, number_of, program_on, refl, rowid, same_blob, same_int, schema, shown_declaration, sort_by, subst, sym, then-Equal, then_term, true, understood, value_cmp, value_cmp-Int, ℕ, ℤ, ◌<ℤ◌, ◌∙◌, ◌∷◌, ◌≡◌, ◌≢◌}
+use Rattle.index.proofs.Common.{AllByRecursion, AreDeclarationRows, AreNumbered, Binary, Blob, Delete, Eq, HasIndexRows, HasOneAtMost, IfOk, Insert, Int, IsCommand, IsDeclarationRow, Key, Less-from_lt, List, Null, Result, Row, Select, Shown, State, Term, Text, Values, [], all_weaker, and_parts, ap, ap₂, ascending-filter, ascending_weaker, by_number, bytes_eq, bytes_eq-Decides, cast_int, cast_null, cast_row, codes, col, column, compares, declaration_cells, decls_table, decls_tree, design_of, everything, false, filter, finds_one, holds, home_of, index_name_of, int_by, is_at_home, is_declaration_of, is_eq, last_term, list_all, lists, lit, map, number_of, program_on, refl, rowid, same_blob, same_int, schema, shown_declaration, subst, sym, then-Equal, then_term, true, understood, value_cmp, value_cmp-Int, ℕ, ℤ, ◌<ℤ◌, ◌∙◌, ◌∷◌, ◌≡◌, ◌≢◌}
 use Rattle.tables.proofs.Sorted.{by_their_numbers, sorted_already}
 
 abbrev pub by_home : List Term

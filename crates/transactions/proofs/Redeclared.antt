@@ -1,12 +1,12 @@
 -- Documents that declare anew what they declare, one after another.
-use Rattle.transactions.proofs.Common.{AllByRecursion, Bool, Database, IsAscending, IsStore, List, None, Option, Row, Trees, [], all-filter, ap, arith, bytes_eq-Decides, cond, db_of, docs_tree, drop, false, filter, get_or, history_in, id_of, is_of, length, length-map, map, refl, revs_tree, subst, sym, true, ℕ, ℤ, ◌++◌, ◌+◌, ◌<◌, ◌∙◌, ◌∷◌, ◌≡◌, ◌≢◌}
+use Rattle.transactions.proofs.Common.{AllByRecursion, Bool, Database, IsAscending, IsStore, List, None, Option, Row, Trees, [], all-filter, ap, arith, cond, db_of, docs_tree, drop, false, filter, get_or, history_in, id_of, is_of, length, length-map, map, refl, revs_tree, subst, sym, true, ℕ, ℤ, ◌++◌, ◌+◌, ◌<◌, ◌∙◌, ◌∷◌, ◌≡◌, ◌≢◌}
 use Rattle.std.specs.Prelude.{◌&&◌, ◌||◌, bytes_eq, codes, if◌then◌else◌, nat_eq, option_and_then}
 use Rattle.std.specs.Cmp.{first_so, second_so}
 use Rattle.std.specs.List.{list_any, starts_with}
 use Rattle.std.specs.Ordering.{int_eq}
 use Rattle.std.proofs.Common.{ap₂, eqb-true}
-use Rattle.std.proofs.lemmas.Bool.{cases_Bool, false_from_ne_true}
-use Rattle.sqlite_keyed.proofs.ListLemmas.{ascending-filter, filter_none}
+use Rattle.std.proofs.lemmas.Bool.{false_from_ne_true}
+use Rattle.sqlite_keyed.proofs.ListLemmas.{ascending-filter}
 use Rattle.std.proofs.lemmas.List.{drop_more}
 use Rattle.store.specs.Indexes.{declared_fields, index_fields_of, queried_document, winning_body}
 use Rattle.tree.specs.DocumentId.{is_design_id}
@@ -15,7 +15,6 @@ use Rattle.tables.proofs.Rests.{document_kept, length_at}
 use Rattle.tables.proofs.Tables.{of_these}
 use Rattle.tables.specs.Layout.{IsDocumentRow}
 use Rattle.tables.specs.Listings.{has_id_between, is_between, named_document}
-use Rattle.tables.specs.Schema.{decls_tree, entries_tree}
 use Rattle.index.proofs.Alike.{alike}
 use Rattle.index.proofs.Filled.{all_get, ascending-drop, get_map}
 use Rattle.index.proofs.NewIndexes.{bare_indexed}

@@ -1,6 +1,6 @@
 -- A file of the first version that is carried over: what its design documents declare is declared anew, one document after another.
 -- This server's own: what index rows are to be is said by `index`, and what the two versions are by `tables`.
-use Rattle.std.specs.Prelude.{◌≡◌, ◌≢◌, ℕ, ℤ, false, if◌then◌else◌, length, List, [], ◌∷◌, map, None}
+use Rattle.std.specs.Prelude.{◌≡◌, ◌≢◌, false, if◌then◌else◌, length, List, [], ◌∷◌, map, None}
 use Rattle.std.specs.List.{AllByRecursion, list_any}
 use Rattle.sqlite.specs.Effect.{Database}
 use Rattle.sqlite_trees.specs.Tree.{IsAscending}

@@ -1,4 +1,4 @@
-use Rattle.transactions.proofs.Lemmas.{CommitFault, Database, ap, filter, rules, state, subst, sym, ◌∙◌, ◌≡◌}
+use Rattle.transactions.proofs.Lemmas.{filter, state, subst, sym, ◌∙◌, ◌≡◌}
 use Rattle.transactions.proofs.Common.{Error, Ok, [], docs_tree}
 use Rattle.transactions.proofs.Redeclared.{all_to_redeclare, of_designs, unwritten_then}
 use Rattle.transactions.specs.Renewing.{AreRedeclared, AreToRedeclare, HasNoIndexes}

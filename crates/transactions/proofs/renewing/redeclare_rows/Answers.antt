@@ -1,5 +1,5 @@
-use Rattle.transactions.proofs.Lemmas.{CommitFault, ap, arith, refl, rules, state, subst, ◌+◌, ◌∙◌, ◌≡◌, ⊤}
-use Rattle.transactions.proofs.Common.{Err, Ok, [], drop, get_or, length, length-map, map}
+use Rattle.transactions.proofs.Lemmas.{ap, arith, refl, rules, state, subst, ◌+◌, ◌∙◌, ◌≡◌, ⊤}
+use Rattle.transactions.proofs.Common.{Err, Ok, [], drop, get_or, length, length-map}
 use Rattle.std.proofs.Common.{◌≤◌}
 use Rattle.std.proofs.lemmas.List.{drop_all}
 use Rattle.transactions.proofs.Redeclared.{next_done, next_row, none_redeclared, unwritten_as, unwritten_then}

@@ -1,4 +1,4 @@
-use Rattle.transactions.proofs.Lemmas.{CommitFault, Database, Err, HasCleanDisk, arith, rules, state, ◌≡◌}
+use Rattle.transactions.proofs.Lemmas.{Err, HasCleanDisk, arith, rules, state, ◌≡◌}
 use Rattle.transactions.proofs.Common.{Error, Ok, []}
 use Rattle.transactions.proofs.Redeclared.{carried, renewed_bare, steps_renewed}
 use Rattle.transactions.proofs.Committing.{unwritten_of}
