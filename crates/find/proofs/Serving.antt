@@ -34,8 +34,3 @@ finds_later g old mid new shown there later defined (Ok x) first then same h = �
 finds_later g old mid new shown there later defined (Err fault) first then same h =
     stops_later g old mid new (option_map defined later ≡ None) (option_map defined there ≡ None) fault first
     (λ honest none. ap (option_map defined) (sym (same (then.goes_on.honest honest))) ∙ none) h
-
--- where there is no database nothing is defined
-pub undefined_stops : {S : Type 0} (g : Ghosts S) (old new : S) (there : Option Database) (defined : Database → List Value) (fault : ReadFault)
-    → Stops g old new (there ≡ None) fault → Stops g old new (option_map defined there ≡ None) fault
-undefined_stops g old new there defined fault h = stops_later g old old new (there ≡ None) (option_map defined there ≡ None) fault (reads_nothing g old) (λ honest none. ap (option_map defined) none) h

@@ -76,10 +76,11 @@ fn take_documents<S: Store>(
         counted: false,
     };
     let page = store.page_by_id(db, &range)?;
-    Ok(document_ids(alloc, &page.rows)?)
+    Ok(copy_ids(alloc, &page.rows)?)
 }
 
-fn document_ids(alloc: Global, rows: &[IdRow]) -> Got<Vec<DocId>>
+/// Copies the ids of these rows.
+fn copy_ids(alloc: Global, rows: &[IdRow]) -> Got<Vec<DocId>>
     ensures { IfOk result (λ ids. ids.items ≡ each (λ r. r.id) rows.now) }
 {
     let mut ids = Vec::with_capacity(alloc, rows.len())?;
@@ -107,7 +108,7 @@ fn take_places<S: Store>(
     let index = &plan.index;
     let range = part_of(alloc, &plan.rows.range, skip, limit)?;
     match store.page_by_key(db, &index.design, index.name.as_str(), &range)? {
-        Some(page) => Ok(place_ids(alloc, &page.rows)?),
+        Some(page) => Ok(copy_place_ids(alloc, &page.rows)?),
         None => Ok(Vec::new(alloc)),
     }
 }
@@ -141,7 +142,8 @@ fn copy_cut(alloc: Global, cut: &Option<KeyCut>) -> Got<Option<KeyCut>>
     }
 }
 
-fn place_ids(alloc: Global, rows: &[KeyRow]) -> Got<Vec<DocId>>
+/// Copies the ids of these rows of an index.
+fn copy_place_ids(alloc: Global, rows: &[KeyRow]) -> Got<Vec<DocId>>
     ensures { IfOk result (λ ids. ids.items ≡ each (λ r. r.id) rows.now) }
 {
     let mut ids = Vec::with_capacity(alloc, rows.len())?;

@@ -9,9 +9,9 @@ pub returns-in-Some-clause-ok : goal.returns-in-Some-clause-ok
 returns-in-Some-clause-ok g c = λ honest.
     let plan = c.args.plan.now in
     let there = finite.get (g.S.Store.contents c.args.store.now) c.args.db.now in
-    places_taken plan.rows.range c.in_ok-range.range plan.index.design _ c.args.skip c.args.limit there (key_page_of c.in-Some.page) c.deref.result.now c.in_ok-place_ids-in-Some.field-0.items c.in_ok-range.ensures
+    places_taken plan.rows.range c.in_ok-range.range plan.index.design _ c.args.skip c.args.limit there (key_page_of c.in-Some.page) c.deref.result.now c.in_ok-copy_place_ids-in-Some.field-0.items c.in_ok-range.ensures
     (ap (λ (n : List ℕ). option_map (λ d. page_of_keys c.in_ok-range.range plan.index.design n d) there) (sym c.as_str.ensures.value)
-    ∙ c.in_ok-page.ensures.answer honest ∙ ap (λ p. Some (key_page_in p)) c.in-Some.is) c.deref.ensures.value c.in_ok-place_ids-in-Some.ensures
+    ∙ c.in_ok-page.ensures.answer honest ∙ ap (λ p. Some (key_page_in p)) c.in-Some.is) c.deref.ensures.value c.in_ok-copy_place_ids-in-Some.ensures
 
 pub returns-clause-ok : goal.returns-clause-ok
 returns-clause-ok g c = λ honest.

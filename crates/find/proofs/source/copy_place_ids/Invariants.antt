@@ -1,5 +1,5 @@
 use Rattle.std.proofs.Common.{◌≡◌, ◌++◌, drop, map}
-use Rattle.find.proofs.source.place_ids.Given as goal
+use Rattle.find.proofs.source.copy_place_ids.Given as goal
 
 -- the ids so far and those of the rows to come are those of all rows
 abbrev pub invariant-loop-row : goal.invariant-loop-row
