@@ -1,14 +1,9 @@
 -- Rows of an index are read, and then their documents; else all documents are scanned.
-use Rattle.std.proofs.Common.{◌≡◌, List, Option, Some, None, Result, Ok, Err, option_map, refl, sym, ap, ◌∙◌}
+use Rattle.std.proofs.Common.{◌≡◌, List, Option, Some, None, option_map, refl, sym, ap, ◌∙◌}
 use Rattle.couch_json.specs.Value.{Value}
-use Rattle.store.proofs.Calls.{reads_nothing}
 use Rattle.store.specs.Calls.{OnlyReads}
 use Rattle.store.specs.Database.{Database}
 use Rattle.store.specs.declared.store.Store.{Ghosts}
-use Rattle.read.specs.Answers.{Stops}
-use Rattle.read.specs.declared.fault.ReadFault.{ReadFault}
-use Rattle.find.proofs.Finding.{stops_later}
-use Rattle.find.specs.Answers.{Finds}
 use Rattle.find.specs.Found.{found_documents}
 use Rattle.find.specs.declared.query.Query.{Query}
 
@@ -26,11 +21,3 @@ found_planned g first mid new there chosen later query give found planned served
     let before = served.goes_on.honest honest in
     let start = planned.goes_on.honest before in
     sym (same_found query there give (λ d e. is before d (same start ∙ e))) ∙ ap (option_map give) (sym (still before ∙ same start)) ∙ gives honest
-
--- a find that goes on after calls that only read
-pub finds_later : {S X : Type 0} (g : Ghosts S) (old mid new : S) (shown : X → List Value) (there later : Option Database) (defined : Database → List Value) (r : Result X ReadFault)
-    → OnlyReads g old mid → OnlyReads g mid new → (g.is_honest mid → later ≡ there) → Finds g mid new shown (option_map defined later) r → Finds g old new shown (option_map defined there) r
-finds_later g old mid new shown there later defined (Ok x) first then same h = λ honest. ap (option_map defined) (sym (same (then.goes_on.honest honest))) ∙ h honest
-finds_later g old mid new shown there later defined (Err fault) first then same h =
-    stops_later g old mid new (option_map defined later ≡ None) (option_map defined there ≡ None) fault first
-    (λ honest none. ap (option_map defined) (sym (same (then.goes_on.honest honest))) ∙ none) h
