@@ -1,9 +1,11 @@
 -- What a design document's declarations make of index rows.
 -- This server's own: each name is set apart, those that the rows have and those that the body declares.
-use Rattle.std.specs.Prelude.{ℕ, ℤ, ◌&&◌, bytes_eq, codes, if◌then◌else◌, List, [], ◌∷◌, Option, None, Some, Result}
+use Rattle.std.specs.Prelude.{ℕ, ℤ, Bool, true, ◌&&◌, bytes_eq, codes, if◌then◌else◌, List, [], ◌∷◌, Option, None, Some, Result}
 use Rattle.std.specs.List.{list_any}
 use Rattle.std.specs.Ordering.{int_eq}
 use Rattle.couch_json.specs.Value.{Value, Members, no_members, member, member_of}
+use Rattle.policy.specs.DesignDocuments.{is_index_object}
+use Rattle.policy.specs.Security.{is_absent_or}
 use Rattle.sqlite.specs.Held.{Held}
 use Rattle.sqlite_trees.specs.declared.store.Store.{Ghosts}
 use Rattle.index.specs.Declaring.{IsRebuildable, IsRebuilt}
@@ -42,6 +44,11 @@ names_in (Some v) = names_of (members_in v)
 abbrev pub declared_names : Option Value → List (List ℕ)
 declared_names None = []
 declared_names (Some body) = names_in (member_of body (codes "indexes"))
+
+-- the indexes of a body are of their form, if it has any
+abbrev pub has_good_indexes : Option Value → Bool
+has_good_indexes None = true
+has_good_indexes (Some body) = is_absent_or is_index_object (member_of body (codes "indexes"))
 
 -- the name of an index, as a query shows it
 abbrev pub shown_name : Row → List ℕ

@@ -1,14 +1,14 @@
 //! The indexes of a design document, after another body of it is the winner's.
 
-ghost use Rattle.std.specs.Prelude.{◌≡◌, IfErr, IfOk, map, option_map, true, ⊤};
+ghost use Rattle.std.specs.Prelude.{◌≡◌, IfErr, IfOk, IfSome, Some, map, option_map, true, ⊤};
 ghost use Rattle.std.specs.List.{AllByRecursion};
 ghost use Rattle.couch_json.specs.View.{members_view, view};
 ghost use Rattle.policy.specs.DesignDocuments.{is_index};
-ghost use Rattle.store.specs.Indexes.{fields_in};
+ghost use Rattle.store.specs.Indexes.{declared_index, fields_in};
 ghost use Rattle.index.specs.Calls.{IsRefused};
 ghost use Rattle.index.specs.Declaring.{IsRebuildable, SetsIndex};
 ghost use Rattle.index.specs.Meaning.{Declarations, Documents, declared_if};
-ghost use Rattle.index.specs.Rebuilding.{Rebuilds, SetsNames, declared_names, names_of, shown_name};
+ghost use Rattle.index.specs.Rebuilding.{Rebuilds, SetsNames, declared_names, has_good_indexes, names_of, shown_name};
 ghost use Rattle.index.specs.Shown.{IsShownDeclaration};
 ghost use Rattle.index.specs.Steps.{AreFit, WasFit};
 
@@ -17,12 +17,12 @@ use crate::declaring::set_index;
 use crate::fault::IndexFault;
 use crate::reading::read_paths;
 use couch_json::{FieldPath, Got, Json};
+use policy::check_indexes;
 use sqlite::{Alter, Row, Transaction};
 use sqlite_value::value::ValueRef;
 use std::alloc::Global;
 use std::collections::BTreeMap;
 use std::str;
-use store::find_index;
 
 /// Lets the indexes of a design document be those that its body declares, or none where it has no body:
 /// what is not declared any more is taken out, and what is declared anew is filled.
@@ -40,8 +40,19 @@ pub fn rebuild<S: Alter>(
     let rows = rows_of_database(tx, db)?;
     let stored = list_stored(alloc, &rows)?;
     let declared = list_declared(alloc, body)?;
-    set_names(alloc, tx, db, design, body, &stored)?;
-    set_names(alloc, tx, db, design, body, &declared)
+    let good = check_declared(alloc, body)?;
+    set_names(alloc, tx, db, design, body, good, &stored)?;
+    set_names(alloc, tx, db, design, body, good, &declared)
+}
+
+/// Checks once for all names whether the indexes of a body are of their form.
+fn check_declared(alloc: Global, body: Option<&Json>) -> Got<bool>
+    ensures { IfOk result (λ good. good ≡ has_good_indexes (option_map (λ v. view v.now) body.entry)) }
+{
+    match body {
+        Some(body) => check_indexes(alloc, body.member("indexes")),
+        None => Ok(true),
+    }
 }
 
 /// Lists the names of the indexes of these rows.
@@ -109,14 +120,16 @@ fn set_names<S: Alter>(
     db: &i64,
     design: &[u8],
     body: Option<&Json>,
+    good: bool,
     names: &[Vec<u8>],
 ) -> Result<(), IndexFault>
+    requires { good ≡ has_good_indexes (option_map (λ v. view v.now) body) }
     ensures same_reference { tx.new.conn.ghost_name ≡ tx.old.conn.ghost_name }
     ensures sets { SetsNames S.Store db.now design.now (option_map (λ v. view v.now) body.entry) (map (λ name. name.items) names.now) tx.old.conn.now tx.new.conn.now result }
     ensures err { (declares : Declarations) (sees : Documents) → IfErr result (IsRefused (AreFit S.Store (IsRebuildable declares sees db.now) tx.old.conn.now tx.new.conn.now)) }
 {
     for name in names {
-        set_name(alloc, tx, db, design, body, name)?;
+        set_name(alloc, tx, db, design, body, good, name)?;
     }
     Ok(())
 }
@@ -128,13 +141,15 @@ fn set_name<S: Alter>(
     db: &i64,
     design: &[u8],
     body: Option<&Json>,
+    good: bool,
     name: &[u8],
 ) -> Result<(), IndexFault>
+    requires { good ≡ has_good_indexes (option_map (λ v. view v.now) body) }
     ensures same_reference { tx.new.conn.ghost_name ≡ tx.old.conn.ghost_name }
     ensures sets { SetsIndex S.Store db.now design.now name.now (declared_if (option_map (λ v. view v.now) body.entry) name.now) tx.old.conn.now tx.new.conn.now result }
     ensures err { (declares : Declarations) (sees : Documents) → IfErr result (IsRefused (AreFit S.Store (IsRebuildable declares sees db.now) tx.old.conn.now tx.new.conn.now)) }
 {
-    let fields = read_declared(alloc, body, name)?;
+    let fields = read_declared(alloc, body, good, name)?;
     set_index(alloc, tx, db, design, name, &fields)
 }
 
@@ -143,8 +158,10 @@ fn set_name<S: Alter>(
 fn read_declared(
     alloc: Global,
     body: Option<&Json>,
+    good: bool,
     name: &[u8],
 ) -> Result<Option<Vec<FieldPath>>, IndexFault>
+    requires { good ≡ has_good_indexes (option_map (λ v. view v.now) body) }
     ensures ok { IfOk result (λ fields. option_map (λ paths. paths.items) fields ≡ declared_if (option_map (λ v. view v.now) body.entry) name.now) }
     ensures err { IfErr result (IsRefused ⊤) }
 {
@@ -154,9 +171,27 @@ fn read_declared(
     let Ok(text) = str::from_utf8(name) else {
         return Ok(None);
     };
-    match find_index(alloc, body, text)? {
+    match find_index(body, good, text) {
         Some(index) => Ok(Some(read_index(alloc, index)?)),
         None => Ok(None),
+    }
+}
+
+/// Finds the index that a body declares under this name, where its indexes are of their form.
+fn find_index<'a>(body: &'a Json, good: bool, name: &str) -> Option<&'a Json>
+    requires { good ≡ has_good_indexes (Some (view body.now)) }
+    ensures declared { option_map (λ v. view v.now) result ≡ declared_index (view body.now) name.now }
+    ensures formed { IfSome result (λ v. is_index (view v.now) ≡ true) }
+{
+    if !good {
+        return None;
+    }
+    let Some(indexes) = body.member("indexes") else {
+        return None;
+    };
+    match indexes.member(name) {
+        Some(index) => Some(index),
+        None => None,
     }
 }
 
