@@ -10,8 +10,8 @@ use Rattle.couch_json.specs.Reading.{reading}
 use Rattle.couch_json.specs.Value.{Value, Members, no_members, member}
 use Rattle.couch_json.specs.declared.fault.JsonFault.{JsonFault}
 use Rattle.tree.specs.Revision.{Revision}
-use Rattle.store.specs.declared.page.IdRange.{IdRange}
-use Rattle.store.specs.declared.page.SeqRange.{SeqRange}
+use Rattle.store.specs.declared.listing.IdRange.{IdRange}
+use Rattle.store.specs.declared.listing.SeqRange.{SeqRange}
 use Rattle.read.specs.Differences.{RevisionsOf}
 use Rattle.api.specs.Queries.{are_named, flag_in, given_at, parameters_in, revisions_listed}
 

@@ -4,11 +4,11 @@ use Rattle.std.specs.Prelude.{Bool, false, ℕ, if◌then◌else◌, List, Optio
 use Rattle.couch_json.specs.Reading.{reading}
 use Rattle.couch_json.specs.Value.{Value}
 use Rattle.couch_json.specs.declared.fault.JsonFault.{JsonFault}
-use Rattle.store.specs.declared.key_page.CutSide.{CutSide}
-use Rattle.store.specs.declared.key_page.CutSide.TheVariants.{Before, After}
-use Rattle.store.specs.declared.key_page.KeyCut.{KeyCut}
-use Rattle.store.specs.declared.key_page.KeyRange.{KeyRange}
-use Rattle.store.specs.declared.page.IdRange.{IdRange}
+use Rattle.store.specs.declared.index_page.CutSide.{CutSide}
+use Rattle.store.specs.declared.index_page.CutSide.TheVariants.{Before, After}
+use Rattle.store.specs.declared.index_page.KeyCut.{KeyCut}
+use Rattle.store.specs.declared.index_page.KeyRange.{KeyRange}
+use Rattle.store.specs.declared.listing.IdRange.{IdRange}
 use Rattle.api.specs.Listings.{listing_names, range_from}
 use Rattle.api.specs.Queries.{are_named, given_at, parameters_in}
 

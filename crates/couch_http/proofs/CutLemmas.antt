@@ -6,7 +6,7 @@ use Rattle.couch_http.specs.declared.scan.Line.TheVariants.{Empty}
 use Rattle.couch_http.specs.Message.{Message}
 use Rattle.couch_http.specs.Stream.{waits, broken, whole, Begins, StreamEnd, unfinished, ended, faulty, Cuts}
 use Rattle.couch_http.specs.Front.{head_limit}
-use Rattle.couch_http.specs.Pieces.{bytes_of_pieces, CutInPieces, GoesOn}
+use Rattle.couch_http.specs.Pieces.{bytes_of_pieces, CutInPieces, GivesFirst}
 use Rattle.couch_http.proofs.BeginLemmas.{Begins-waits}
 use Rattle.couch_http.proofs.StreamLaws.{Begins_unique, Begins-append_whole, Begins-append_broken}
 
@@ -113,7 +113,7 @@ CutInPieces-whole (piece ∷ pieces) left ms end begins (first, middle, cuts, on
     rw (← append_assoc) (by_middle middle cuts on (λ after others waiting then. CutInPieces-whole pieces after others end waiting then))
   where
     by_middle : (e : StreamEnd) → Cuts (left ++ piece) first e
-        → GoesOn e (λ after others. CutInPieces after pieces others end) first ms end
+        → GivesFirst e (λ after others. CutInPieces after pieces others end) first ms end
         → ((after : List ℕ) (others : List Message) → Begins after waits → CutInPieces after pieces others end
         → Cuts (after ++ bytes_of_pieces pieces) others end)
         → Cuts (left ++ piece ++ bytes_of_pieces pieces) ms end

@@ -6,7 +6,7 @@ use Rattle.couch_http.specs.declared.cut.Ending.{Ending}
 use Rattle.couch_http.specs.declared.cut.Ending.TheVariants.{Open, Last, Fault}
 use Rattle.couch_http.specs.declared.fault.HttpFault.{HttpFault}
 use Rattle.couch_http.specs.declared.fault.HttpFault.TheVariants.{Syntax, Encoding, TooLarge}
-use Rattle.couch_http.specs.Cutting.{Answers, CutsTo, HasStreamFault, messages_of}
+use Rattle.couch_http.specs.Cutting.{CutsPiece, CutsTo, HasStreamFault, messages_of}
 use Rattle.couch_http.specs.Fields.{body_limit, length_of, request_length, has_transfer_encoding, values_of}
 use Rattle.couch_http.specs.Head.{HeadScan, within, complete, head_scan}
 use Rattle.couch_http.specs.Message.{HeaderField, Message}
@@ -97,6 +97,6 @@ ending_sound bytes messages Last left cuts = tt
 ending_sound bytes messages (Fault fault) None cuts = Cuts_fault bytes messages fault cuts
 ending_sound bytes messages (Fault fault) (Some left) cuts = absurd cuts
 
-pub HasStreamFault_answer : (old : Option (List ℕ)) (piece : List ℕ) (cut : Cut) (left : Option (List ℕ)) → Answers old piece cut left → HasStreamFault cut.ending
+pub HasStreamFault_answer : (old : Option (List ℕ)) (piece : List ℕ) (cut : Cut) (left : Option (List ℕ)) → CutsPiece old piece cut left → HasStreamFault cut.ending
 HasStreamFault_answer None piece cut left answers = absurd answers
 HasStreamFault_answer (Some old) piece cut left answers = ending_sound (old ++ piece) (messages_of cut) cut.ending left answers

@@ -28,6 +28,6 @@ HasStreamFault Last = ⊤
 HasStreamFault (Fault fault) = IsStreamFault fault
 
 -- the answer to a piece, where old had come of the next request before it
-abbrev pub Answers : Option (List ℕ) → List ℕ → Cut → Option (List ℕ) → Type 0
-Answers (Some old) piece cut left = CutsTo (old ++ piece) (messages_of cut) cut.ending left
-Answers None piece cut left = ⊥
+abbrev pub CutsPiece : Option (List ℕ) → List ℕ → Cut → Option (List ℕ) → Type 0
+CutsPiece (Some old) piece cut left = CutsTo (old ++ piece) (messages_of cut) cut.ending left
+CutsPiece None piece cut left = ⊥

@@ -10,10 +10,10 @@ abbrev pub bytes_of_pieces : List (List ℕ) → List ℕ
 bytes_of_pieces pieces = flat_map (λ piece. piece) pieces
 
 -- after a piece that gave the first of the requests; Next says what the later pieces give behind what was left
-abbrev pub GoesOn : StreamEnd → (List ℕ → List Message → Type 0) → List Message → List Message → StreamEnd → Type 0
-GoesOn (unfinished left) Next first messages end = (others : List Message) × Next left others × (messages ≡ first ++ others)
-GoesOn ended Next first messages end = (messages ≡ first) × (end ≡ ended)
-GoesOn (faulty fault) Next first messages end = (messages ≡ first) × (end ≡ faulty fault)
+abbrev pub GivesFirst : StreamEnd → (List ℕ → List Message → Type 0) → List Message → List Message → StreamEnd → Type 0
+GivesFirst (unfinished left) Next first messages end = (others : List Message) × Next left others × (messages ≡ first ++ others)
+GivesFirst ended Next first messages end = (messages ≡ first) × (end ≡ ended)
+GivesFirst (faulty fault) Next first messages end = (messages ≡ first) × (end ≡ faulty fault)
 
 -- cut one after another, behind the bytes left of what came before, the pieces give these requests in all, and the
 -- stream then stands so; an ended stream takes no more
@@ -21,4 +21,4 @@ abbrev pub CutInPieces : List ℕ → List (List ℕ) → List Message → Strea
 CutInPieces left [] messages end = (messages ≡ []) × (end ≡ unfinished left)
 CutInPieces left (piece ∷ pieces) messages end =
     (first : List Message) × (middle : StreamEnd) × Cuts (left ++ piece) first middle
-    × GoesOn middle (λ after others. CutInPieces after pieces others end) first messages end
+    × GivesFirst middle (λ after others. CutInPieces after pieces others end) first messages end

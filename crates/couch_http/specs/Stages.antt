@@ -14,7 +14,7 @@ use Rattle.couch_http.specs.declared.stage.Begun.TheVariants.{Waits, Broken, Who
 use Rattle.couch_http.specs.Message.{message_of}
 use Rattle.couch_http.specs.Head.{head_scan, within}
 use Rattle.couch_http.specs.Stream.{waits, broken, whole, with_body, head_limit, Begins}
-use Rattle.couch_http.specs.Cutting.{CutsTo, Answers, messages_of}
+use Rattle.couch_http.specs.Cutting.{CutsPiece, CutsTo, messages_of}
 
 -- what has come is no whole head yet, and has been read up to its end
 pub record IsPartialHead (p : PartialHead) : Type 0 where
@@ -40,7 +40,7 @@ stage_rest Closed = None
 
 -- the answer to a piece at a stage, and what is kept
 abbrev pub IsTakenFrom : Stage → List ℕ → Taken → Type 0
-IsTakenFrom stage piece t = IsStage t.stage × Answers (stage_rest stage) piece t.cut (stage_rest t.stage)
+IsTakenFrom stage piece t = IsStage t.stage × CutsPiece (stage_rest stage) piece t.cut (stage_rest t.stage)
 
 -- why nothing is taken at a stage
 abbrev pub fault_at : Stage → HttpFault

@@ -38,7 +38,7 @@ impl Model for Cutter {
 
 impl Cutter {
     ghost use Rattle.std.specs.Prelude.{◌≡◌, ◌≢◌, ◌↔◌, ◌≤◌, ◌+◌, [], Some, None, length, vec_capacity, vec_len, IfOk, IfErr, OnErr, IsErrOf};
-    ghost use Rattle.couch_http.specs.Cutting.{Answers, HasStreamFault};
+    ghost use Rattle.couch_http.specs.Cutting.{CutsPiece, HasStreamFault};
 
     /// Begins at the front of a stream.
     #[tactic(auto, unfolding(crate::specs::Front::head_limit))]
@@ -60,7 +60,7 @@ impl Cutter {
     /// A head has at most 16,384 bytes and 64 header lines, a body 4,194,304 bytes. After `Last` and after a
     /// fault each further piece is `Closed`.
     pub fn feed(&mut self, piece: &[u8]) -> Result<Cut, HttpFault>
-        ensures cut { IfOk result (λ cut. Answers self.old piece.now cut self.new) }
+        ensures cut { IfOk result (λ cut. CutsPiece self.old piece.now cut self.new) }
         ensures fault { IfOk result (λ cut. HasStreamFault cut.ending) }
 
         // Nothing changes at a refusal. `Closed` comes exactly on an ended stream, and else memory was refused.
@@ -82,7 +82,7 @@ impl Cutter {
         piece: &[u8],
         room: &mut Vec<Response>,
     ) -> Result<Cut, HttpFault>
-        ensures cut { IfOk result (λ cut. Answers self.old piece.now cut self.new) }
+        ensures cut { IfOk result (λ cut. CutsPiece self.old piece.now cut self.new) }
         ensures fault { IfOk result (λ cut. HasStreamFault cut.ending) }
 
         // Nothing changes at a refusal. `Closed` comes exactly on an ended stream, and else memory was refused.

@@ -2,7 +2,7 @@
 //! a database by a replication pass.
 #![tactic(auto)]
 
-use command_line::{Plan, Refusal, plan, words_of};
+use command_line::{CommandFault, Plan, plan, words_of};
 use lab::play_input;
 use server::serve_file;
 use sqlite::Unknown;
@@ -16,15 +16,15 @@ use sync::sync;
 fn main(rt: HostRuntime) -> ExitCode {
     match run(&rt) {
         Ok(status) => ExitCode::from(status),
-        Err(refusal) => {
-            let _ = eprintln!(rt; "couchd: {refusal}");
-            ExitCode::from(refusal.status())
+        Err(fault) => {
+            let _ = eprintln!(rt; "couchd: {fault}");
+            ExitCode::from(fault.status())
         }
     }
 }
 
 /// Does what the command line says. The answer is the program's status.
-fn run(rt: &HostRuntime) -> Result<u8, Refusal> {
+fn run(rt: &HostRuntime) -> Result<u8, CommandFault> {
     let words = words_of(rt)?;
     match plan(rt.alloc(), words.as_slice())? {
         Plan::Lab { secret, admins } => Ok(play_input(rt, secret.as_str(), admins.as_slice())?),

@@ -16,8 +16,8 @@ use Rattle.store.specs.Database.{Database, Document, history_at, history_in}
 use Rattle.store.specs.Indexes.{IndexPlace, field_values, index_fields_at, index_rows, put_in_index, queried_document, shown_by}
 use Rattle.store.specs.KeyPages.{is_key_within, key_rows_within}
 use Rattle.store.specs.Pages.{in_direction, live_rev, live_rev_by, page_of_ids}
-use Rattle.store.specs.declared.key_page.KeyRange.{KeyRange}
-use Rattle.store.specs.declared.page.IdRow.{IdRow}
+use Rattle.store.specs.declared.index_page.KeyRange.{KeyRange}
+use Rattle.store.specs.declared.listing.IdRow.{IdRow}
 use Rattle.find.proofs.Covered.{HasMatches, covered}
 use Rattle.find.proofs.Finding.{every_row, found_sorted, rows_of_page}
 use Rattle.find.proofs.Indexed.{put_matches}

@@ -16,8 +16,8 @@ use Rattle.store.proofs.Calls.{reads_nothing}
 use Rattle.store.specs.Pages.{in_direction, live_rows, page_of_ids}
 use Rattle.store.specs.declared.fault.StoreFault.{StoreFault}
 use Rattle.store.specs.declared.fault.StoreFault.TheVariants as store
-use Rattle.store.specs.declared.page.IdRange.{IdRange}
-use Rattle.store.specs.declared.page.IdRow.{IdRow}
+use Rattle.store.specs.declared.listing.IdRange.{IdRange}
+use Rattle.store.specs.declared.listing.IdRow.{IdRow}
 use Rattle.store.specs.declared.store.Store.{Ghosts}
 use Rattle.read.specs.Answers.{Stops, StopsBy}
 use Rattle.read.specs.declared.fault.ReadFault.{ReadFault}

@@ -18,8 +18,8 @@ use Rattle.store.specs.Database.{Database, history_at, history_in}
 use Rattle.store.specs.Indexes.{IndexPlace, IsPlaceOf, field_values, index_rows, place_order, put_at_values, put_in_index, queried_document}
 use Rattle.store.specs.KeyPages.{is_key_within, key_rows_within}
 use Rattle.store.specs.Pages.{in_direction}
-use Rattle.store.specs.declared.key_page.CutSide.TheVariants.{After, Before}
-use Rattle.store.specs.declared.key_page.KeyRange.{KeyRange}
+use Rattle.store.specs.declared.index_page.CutSide.TheVariants.{After, Before}
+use Rattle.store.specs.declared.index_page.KeyRange.{KeyRange}
 use Rattle.find.proofs.Candidates.{found_by_index, ids_at, ids_of_index, index_covers, matched}
 use Rattle.find.proofs.Covered.{HasMatches, IsMatch, covered, from_all}
 use Rattle.find.proofs.Filtered.{HasKeys, put_front}

@@ -25,7 +25,7 @@ use Rattle.store.specs.Indexes.{IndexPlace, field_values, index_over, place_orde
 use Rattle.store.specs.PlaceOrder.{place_order_total}
 use Rattle.store.specs.Plain.{place_views}
 use Rattle.store.specs.Pages.{live_rev, live_rows, with_row}
-use Rattle.store.specs.declared.page.IdRow.{IdRow}
+use Rattle.store.specs.declared.listing.IdRow.{IdRow}
 use Rattle.find.proofs.Filtered.{HasKeys, filter-put, keys_put, put_front}
 use Rattle.store.proofs.Directed.{reverse-cons}
 use Rattle.find.specs.Matching.{if_matches, match_in, matches_at}

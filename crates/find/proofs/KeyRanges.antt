@@ -20,10 +20,10 @@ use Rattle.selector.specs.declared.bounds.Bounds.TheVariants.{Range}
 use Rattle.selector.specs.declared.bounds.Edge.{Edge}
 use Rattle.store.specs.Indexes.{field_values, values_with}
 use Rattle.store.specs.KeyPages.{is_above, is_key_within, lies_above}
-use Rattle.store.specs.declared.key_page.CutSide.{CutSide}
-use Rattle.store.specs.declared.key_page.CutSide.TheVariants.{AfterPrefix, Before}
-use Rattle.store.specs.declared.key_page.KeyCut.{KeyCut}
-use Rattle.store.specs.declared.key_page.KeyRange.{KeyRange}
+use Rattle.store.specs.declared.index_page.CutSide.{CutSide}
+use Rattle.store.specs.declared.index_page.CutSide.TheVariants.{AfterPrefix, Before}
+use Rattle.store.specs.declared.index_page.KeyCut.{KeyCut}
+use Rattle.store.specs.declared.index_page.KeyRange.{KeyRange}
 use Rattle.find.specs.Planning.{AreThere, Covers, IsThere, has_key_within}
 use Rattle.find.specs.declared.query.Query.{Query}
 

@@ -6,9 +6,9 @@ use Rattle.store.specs.Database.{Database}
 use Rattle.store.specs.Indexes.{IndexPlace, index_fields_at, index_rows}
 use Rattle.store.specs.KeyPages.{KeyPage, key_page, key_rows_within, page_of_keys}
 use Rattle.store.specs.Pages.{IdPage, in_direction, live_rows, page_of_ids, up_to_limit}
-use Rattle.store.specs.declared.key_page.KeyRange.{KeyRange}
-use Rattle.store.specs.declared.page.IdRange.{IdRange}
-use Rattle.store.specs.declared.page.IdRow.{IdRow}
+use Rattle.store.specs.declared.index_page.KeyRange.{KeyRange}
+use Rattle.store.specs.declared.listing.IdRange.{IdRange}
+use Rattle.store.specs.declared.listing.IdRow.{IdRow}
 use Rattle.find.proofs.Finding.{all_pass}
 use Rattle.find.specs.Sources.{ids_of_places}
 

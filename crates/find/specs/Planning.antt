@@ -9,7 +9,7 @@ use Rattle.tree.specs.History.{HistoryContent}
 use Rattle.store.specs.Database.{Database}
 use Rattle.store.specs.Indexes.{field_values, index_fields_at, index_fields_of}
 use Rattle.store.specs.KeyPages.{is_key_within}
-use Rattle.store.specs.declared.key_page.KeyRange.{KeyRange}
+use Rattle.store.specs.declared.index_page.KeyRange.{KeyRange}
 use Rattle.find.specs.Found.{found_documents}
 use Rattle.find.specs.Indexes.{IndexAsked}
 use Rattle.find.specs.declared.query.Query.{Query}

@@ -9,7 +9,7 @@ ghost use Rattle.couch_json.specs.View.{items_view, view};
 ghost use Rattle.selector.specs.Bounds.{contain};
 ghost use Rattle.selector.specs.Truth.{selector_matches};
 ghost use Rattle.selector.specs.declared.bounds.Bounds.TheVariants.{Range};
-ghost use Rattle.store.specs.declared.key_page.CutSide.TheVariants.{After, Before};
+ghost use Rattle.store.specs.declared.index_page.CutSide.TheVariants.{After, Before};
 ghost use Rattle.find.specs.Planning.{AreFixed};
 
 use crate::query::Query;

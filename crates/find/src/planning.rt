@@ -16,7 +16,7 @@ use crate::ranges::rows_for;
 use couch_json::Got;
 use read::ReadFault;
 use std::alloc::Global;
-use store::paging::read_index_fields;
+use store::cuts::read_index_fields;
 use store::{DbName, Store, read_winning};
 use tree::History;
 

@@ -6,7 +6,7 @@ ghost use Rattle.couch_json.specs.Value.{Items, Value, array, item, no_items};
 ghost use Rattle.couch_json.specs.View.{view};
 ghost use Rattle.selector.specs.Bounds.{contain, is_above as is_over, is_below};
 ghost use Rattle.store.specs.KeyPages.{is_above, is_key_within};
-ghost use Rattle.store.specs.declared.key_page.CutSide.TheVariants.{AfterPrefix, Before};
+ghost use Rattle.store.specs.declared.index_page.CutSide.TheVariants.{AfterPrefix, Before};
 ghost use Rattle.find.specs.Planning.{AreThere, Covers, IsInOrder, IsThere};
 
 use crate::fixed::{fixed_values, range_at};

@@ -14,7 +14,7 @@ use Rattle.couch_json.specs.Parts.{items_in}
 use Rattle.couch_json.specs.Value.{Items, Value, array, item, no_items, null, object, text, truth, whole}
 use Rattle.std.specs.Prelude.{is_some, option_map}
 use Rattle.store.specs.KeyPages.{begin_with, is_front_of, lies_above}
-use Rattle.store.specs.declared.key_page.CutSide.TheVariants.{After, AfterPrefix, Before}
+use Rattle.store.specs.declared.index_page.CutSide.TheVariants.{After, AfterPrefix, Before}
 
 begin_alike : (us vs : Items) → cuts.begin_with us vs ≡ begin_with us vs
 begin_alike no_items vs = refl

@@ -17,7 +17,7 @@ use Rattle.store.proofs.Listings.{In}
 use Rattle.store.specs.Indexes.{IndexPlace}
 use Rattle.store.specs.KeyPages.{is_above, is_key_before, is_key_within, key_rows_within}
 use Rattle.store.specs.Pages as store
-use Rattle.store.specs.declared.key_page.KeyRange.{KeyRange}
+use Rattle.store.specs.declared.index_page.KeyRange.{KeyRange}
 use Rattle.sqlite_trees.proofs.ListLemmas.{filter_same}
 use Rattle.tables.proofs.Sorted.{all_sorted}
 use Rattle.tables.specs.Listings.{first_rows, is_between}

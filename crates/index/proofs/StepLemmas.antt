@@ -1,5 +1,5 @@
 -- Steps of a change, one after another.
-use Rattle.index.proofs.Common.{Alters, AreEntriesOf, AsksInside, Changes, Database, Entries, Err, Ghosts, GoesOn, HasCleanDisk, HasEntries, Held, List, Ok, OnOk, Option, Proceeds, ReplacesKey, Result, Row, State, ap, arith, entries_tree, inl, is_key, keeps_itself, refl, schema, state, subst, sym, with_key, ℕ, ℤ, ⊤, ◌∙◌, ◌≡◌}
+use Rattle.index.proofs.Common.{Alters, AreEntriesOf, AsksInside, Changes, Database, Entries, Err, Ghosts, StaysOpen, HasCleanDisk, HasEntries, Held, List, Ok, OnOk, Option, Proceeds, ReplacesKey, Result, Row, State, ap, arith, entries_tree, inl, is_key, keeps_itself, refl, schema, state, subst, sym, with_key, ℕ, ℤ, ⊤, ◌∙◌, ◌≡◌}
 use Rattle.index.proofs.Going.{on_ok, went_on}
 use Rattle.index.specs.Steps.{Steps}
 use Rattle.sqlite.proofs.InsideLemmas.{keeps_then}
@@ -74,7 +74,7 @@ module _ {S : Type 0} (g : Ghosts S) where
   }
 
   -- a document gets another key in an index
-  pub steps_key : {X E : Type 0} (due : Entries) (n : ℤ) (id : List ℕ) (before after : Option (List ℕ)) (a b : Held S) (r : Result X E) → ReplacesKey g n id before after a b r → GoesOn g a b r → KeepsSchema g a b r → Proceeds (state g a) (state g b)
+  pub steps_key : {X E : Type 0} (due : Entries) (n : ℤ) (id : List ℕ) (before after : Option (List ℕ)) (a b : Held S) (r : Result X E) → ReplacesKey g n id before after a b r → StaysOpen g a b r → KeepsSchema g a b r → Proceeds (state g a) (state g b)
       → Steps g (λ d. (d.schema ≡ schema) × AreEntriesOf due (d.trees entries_tree) × ((k : List ℕ) → due n k id ≡ is_key before k)) (HasEntries (with_key due n id after)) a b r
   steps_key due n id before after a b r replaces goes_on keeps proceeds = record {
     ok = λ clean fit. replaces clean fit.0 due fit.1 fit.2;

@@ -39,8 +39,8 @@ abbrev pub IsSoundStore : {S : Type 0} → Ghosts S → Held S → Held S → Ty
 IsSoundStore g old new = HasCleanDisk (state g new) × (IsTrue (state g old).is_open → IsStore (state g old).now)
 
 -- an open transaction goes on
-abbrev pub GoesOn : {S X E : Type 0} → Ghosts S → Held S → Held S → Result X E → Type 0
-GoesOn g old new r = HasCleanDisk (state g new) → IsTrue (state g old).is_open → (state g old).in_transaction ≡ true → OnOk r (IsTrue (state g new).is_open × ((state g new).in_transaction ≡ true))
+abbrev pub StaysOpen : {S X E : Type 0} → Ghosts S → Held S → Held S → Result X E → Type 0
+StaysOpen g old new r = HasCleanDisk (state g new) → IsTrue (state g old).is_open → (state g old).in_transaction ≡ true → OnOk r (IsTrue (state g new).is_open × ((state g new).in_transaction ≡ true))
 
 -- the schema stays, and each table but one has the rows that it had
 pub record ChangesOnly (tree : ℕ) (old new : Database) : Type 0 where

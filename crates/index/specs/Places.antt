@@ -12,7 +12,7 @@ use Rattle.sqlite_value.specs.Order.{Row, bytes, column}
 use Rattle.sqlite_value.specs.declared.value.Value.TheVariants.{Blob}
 use Rattle.store.specs.Indexes.{IndexPlace, place_order}
 use Rattle.store.specs.KeyPages.{is_above}
-use Rattle.store.specs.declared.key_page.KeyRange.{KeyRange}
+use Rattle.store.specs.declared.index_page.KeyRange.{KeyRange}
 use Rattle.tree.specs.DocumentId.{is_document_id}
 use Rattle.index.specs.Layout.{AreEntryRows}
 use Rattle.index.specs.Rows.{entry_id, has_entry, key_of}

@@ -5,7 +5,7 @@ ghost use Rattle.sqlite.specs.Held.{state};
 ghost use Rattle.sqlite.specs.State.{HasCleanDisk};
 ghost use Rattle.tables.specs.Calls.{AsksInside, LooksInside, Proceeds};
 ghost use Rattle.tables.specs.Schema.{schema};
-ghost use Rattle.index.specs.Calls.{ClearsAll, ClearsEntries, Drops, GoesOn, IsRefused, IsSound};
+ghost use Rattle.index.specs.Calls.{ClearsAll, ClearsEntries, Drops, StaysOpen, IsRefused, IsSound};
 ghost use Rattle.index.specs.Shown.{declared};
 
 use crate::declaration::Declaration;
@@ -25,7 +25,7 @@ pub fn drop_db<S: Alter>(
     ensures same_reference { tx.new.conn.ghost_name ≡ tx.old.conn.ghost_name }
     ensures drops { Drops S.Store db.now tx.old.conn.now tx.new.conn.now result }
     ensures err { IfErr result (IsRefused (IsSound S.Store tx.old.conn.now tx.new.conn.now)) }
-    ensures goes_on { tx.old.conn.now.schema ≡ schema → GoesOn S.Store tx.old.conn.now tx.new.conn.now result }
+    ensures goes_on { tx.old.conn.now.schema ≡ schema → StaysOpen S.Store tx.old.conn.now tx.new.conn.now result }
     ensures looks { LooksInside S.Store tx.old.conn.now tx.new.conn.now }
     ensures asks { AsksInside S.Store tx.old.conn.now tx.new.conn.now }
 {
@@ -42,7 +42,7 @@ fn clear_indexes<S: Alter>(
 ) -> Result<(), Error>
     ensures same_reference { tx.new.conn.ghost_name ≡ tx.old.conn.ghost_name }
     ensures clears { ClearsAll S.Store db.now (map declared declarations.now) tx.old.conn.now tx.new.conn.now result }
-    ensures goes_on { GoesOn S.Store tx.old.conn.now tx.new.conn.now result }
+    ensures goes_on { StaysOpen S.Store tx.old.conn.now tx.new.conn.now result }
     ensures proceeds { Proceeds S.Store tx.old.conn.now tx.new.conn.now }
 {
     clear_all_entries(tx, declarations)?;
@@ -56,7 +56,7 @@ fn clear_all_entries<S: Alter>(
 ) -> Result<(), Error>
     ensures same_reference { tx.new.conn.ghost_name ≡ tx.old.conn.ghost_name }
     ensures clears { ClearsEntries S.Store (map declared declarations.now) tx.old.conn.now tx.new.conn.now result }
-    ensures goes_on { GoesOn S.Store tx.old.conn.now tx.new.conn.now result }
+    ensures goes_on { StaysOpen S.Store tx.old.conn.now tx.new.conn.now result }
     ensures proceeds { Proceeds S.Store tx.old.conn.now tx.new.conn.now }
 {
     for declaration in declarations {

@@ -8,7 +8,7 @@ ghost use Rattle.sqlite_trees.specs.Tree.{Trees};
 ghost use Rattle.sqlite_value.specs.Order.{Row};
 ghost use Rattle.store.specs.Indexes.{IndexPlace, index_rows};
 ghost use Rattle.store.specs.KeyPages.{key_rows_within};
-ghost use Rattle.store.specs.declared.key_page.KeyRange.{KeyRange};
+ghost use Rattle.store.specs.declared.index_page.KeyRange.{KeyRange};
 ghost use Rattle.tables.specs.Layout.{IsNew, IsStore};
 ghost use Rattle.tables.specs.Rows.{database_of, number_of};
 ghost use Rattle.tables.specs.Schema.{decls_tree, entries_tree, revs_tree};

@@ -7,7 +7,7 @@ ghost use Rattle.sqlite.specs.Held.{state};
 ghost use Rattle.sqlite.specs.State.{HasCleanDisk};
 ghost use Rattle.tables.specs.Calls.{AsksInside, KeepsSchema, LooksInside, Proceeds, Stands};
 ghost use Rattle.tables.specs.Schema.{decls_tree, schema};
-ghost use Rattle.index.specs.Calls.{FollowsAll, GoesOn, IsRefused, IsSound, Refreshes, ReplacesKey};
+ghost use Rattle.index.specs.Calls.{FollowsAll, StaysOpen, IsRefused, IsSound, Refreshes, ReplacesKey};
 ghost use Rattle.index.specs.Layout.{HasIndexRows};
 ghost use Rattle.index.specs.Meaning.{key_if_seen};
 ghost use Rattle.index.specs.Rows.{is_at_home};
@@ -36,7 +36,7 @@ pub fn refresh<S: Alter>(
     ensures same_reference { tx.new.conn.ghost_name ≡ tx.old.conn.ghost_name }
     ensures refreshes { Refreshes S.Store db.now id.now (option_map (λ v. view v.now) before.entry) (option_map (λ v. view v.now) after.entry) tx.old.conn.now tx.new.conn.now result }
     ensures err { IfErr result (IsRefused (IsSound S.Store tx.old.conn.now tx.new.conn.now)) }
-    ensures goes_on { tx.old.conn.now.schema ≡ schema → GoesOn S.Store tx.old.conn.now tx.new.conn.now result }
+    ensures goes_on { tx.old.conn.now.schema ≡ schema → StaysOpen S.Store tx.old.conn.now tx.new.conn.now result }
     ensures looks { LooksInside S.Store tx.old.conn.now tx.new.conn.now }
     ensures asks { AsksInside S.Store tx.old.conn.now tx.new.conn.now }
 {
@@ -87,7 +87,7 @@ pub fn refresh_indexes<S: Alter>(
     ensures same_reference { tx.new.conn.ghost_name ≡ tx.old.conn.ghost_name }
     ensures follows { FollowsAll S.Store db.now (map declared declarations.now) id.now (option_map (λ v. view v.now) before.entry) (option_map (λ v. view v.now) after.entry) tx.old.conn.now tx.new.conn.now result }
     ensures err { IfErr result (IsRefused ⊤) }
-    ensures goes_on { GoesOn S.Store tx.old.conn.now tx.new.conn.now result }
+    ensures goes_on { StaysOpen S.Store tx.old.conn.now tx.new.conn.now result }
     ensures proceeds { Proceeds S.Store tx.old.conn.now tx.new.conn.now }
 {
     for declaration in declarations {
@@ -110,7 +110,7 @@ pub(crate) fn refresh_index<S: Alter>(
         (key_if_seen (declared declaration.now).fields (option_map (λ v. view v.now) after.entry)) tx.old.conn.now tx.new.conn.now result }
     ensures err { IfErr result (IsRefused ⊤) }
     ensures keeps { KeepsSchema S.Store tx.old.conn.now tx.new.conn.now result }
-    ensures goes_on { GoesOn S.Store tx.old.conn.now tx.new.conn.now result }
+    ensures goes_on { StaysOpen S.Store tx.old.conn.now tx.new.conn.now result }
     ensures proceeds { Proceeds S.Store tx.old.conn.now tx.new.conn.now }
 {
     let old = find_key(alloc, &declaration.fields, before)?;
@@ -130,7 +130,7 @@ fn replace_entry<S: Alter>(
     ensures same_reference { tx.new.conn.ghost_name ≡ tx.old.conn.ghost_name }
     ensures replaces { ReplacesKey S.Store declaration.now id.now (option_map (λ bytes. bytes.items) old.now) (option_map (λ bytes. bytes.items) new.now) tx.old.conn.now tx.new.conn.now result }
     ensures keeps { KeepsSchema S.Store tx.old.conn.now tx.new.conn.now result }
-    ensures goes_on { GoesOn S.Store tx.old.conn.now tx.new.conn.now result }
+    ensures goes_on { StaysOpen S.Store tx.old.conn.now tx.new.conn.now result }
     ensures proceeds { Proceeds S.Store tx.old.conn.now tx.new.conn.now }
 {
     if are_same(old, new) {
@@ -150,7 +150,7 @@ fn remove_key<S: Alter>(
     ensures same_reference { tx.new.conn.ghost_name ≡ tx.old.conn.ghost_name }
     ensures replaces { ReplacesKey S.Store declaration.now id.now (option_map (λ bytes. bytes.items) key.now) None tx.old.conn.now tx.new.conn.now result }
     ensures keeps { KeepsSchema S.Store tx.old.conn.now tx.new.conn.now result }
-    ensures goes_on { GoesOn S.Store tx.old.conn.now tx.new.conn.now result }
+    ensures goes_on { StaysOpen S.Store tx.old.conn.now tx.new.conn.now result }
     ensures proceeds { Proceeds S.Store tx.old.conn.now tx.new.conn.now }
 {
     match key {
@@ -169,7 +169,7 @@ fn add_key<S: Alter>(
     ensures same_reference { tx.new.conn.ghost_name ≡ tx.old.conn.ghost_name }
     ensures replaces { ReplacesKey S.Store declaration.now id.now None (option_map (λ bytes. bytes.items) key.now) tx.old.conn.now tx.new.conn.now result }
     ensures keeps { KeepsSchema S.Store tx.old.conn.now tx.new.conn.now result }
-    ensures goes_on { GoesOn S.Store tx.old.conn.now tx.new.conn.now result }
+    ensures goes_on { StaysOpen S.Store tx.old.conn.now tx.new.conn.now result }
     ensures proceeds { Proceeds S.Store tx.old.conn.now tx.new.conn.now }
 {
     match key {

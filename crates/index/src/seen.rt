@@ -17,8 +17,8 @@ use crate::fault::IndexFault;
 use couch_json::Json;
 use sqlite::{Alter, Error, Row, Transaction, params};
 use std::alloc::Global;
-use tables::reads_in::one_revision_rows_in;
 use tables::statement::query_in;
+use tables::transaction_reads::one_revision_rows_in;
 use tables::{FoundRevision, ListedDocument, RowFault, read_listed_document, read_revision};
 use tree::{DocId, Rev, show};
 

@@ -8,7 +8,7 @@ use Rattle.couch_http.specs.Message.{Message}
 use Rattle.couch_json.specs.Value.{Value}
 use Rattle.store.specs.Contents.{Contents}
 use Rattle.store.specs.Database.{Database}
-use Rattle.store.specs.declared.page.SeqRange.{SeqRange}
+use Rattle.store.specs.declared.listing.SeqRange.{SeqRange}
 use Rattle.read.specs.Changes.{changes_in}
 use Rattle.api.specs.Asking.{is_nothing, lacks_parameters, plain}
 use Rattle.api.specs.Listings as api

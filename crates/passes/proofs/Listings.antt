@@ -13,7 +13,7 @@ use Rattle.tree.specs.Write.{StandsIn}
 use Rattle.tree.proofs.Leaves.{leaves_are}
 use Rattle.store.specs.Database.{Database, Document, HasSequences, history_in, sequence_at, sequence_in}
 use Rattle.store.specs.Pages.{IsRowOf, SequencePage, SequenceRow, last_sequence, page_by_sequence, row_of, up_to_limit}
-use Rattle.store.specs.declared.page.SeqRange.{SeqRange}
+use Rattle.store.specs.declared.listing.SeqRange.{SeqRange}
 use Rattle.store.proofs.Listings.{In}
 use Rattle.store.proofs.RowOrders.{page_ascends}
 use Rattle.store.proofs.Rows.{page_within, row_from, row_there}

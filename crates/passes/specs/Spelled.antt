@@ -11,7 +11,7 @@ use Rattle.couch_json.specs.Value.{Value}
 use Rattle.tree.specs.Revision.{Revision}
 use Rattle.store.specs.Contents.{Contents}
 use Rattle.store.specs.Database.{Database, history_at}
-use Rattle.store.specs.declared.page.SeqRange.{SeqRange}
+use Rattle.store.specs.declared.listing.SeqRange.{SeqRange}
 use Rattle.read.specs.Changes.{changes_in}
 use Rattle.read.specs.Differences.{RevisionsOf, revision_differences}
 use Rattle.read.specs.OpenRevisions.{open_revisions}

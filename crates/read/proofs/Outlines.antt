@@ -8,7 +8,7 @@ use Rattle.tree.specs.Outline.{all_bare, outline_of}
 use Rattle.tree.specs.Revision.{Revision, revision_cmp, text_of}
 use Rattle.tree.specs.declared.entry.Entry.{Entry}
 use Rattle.tree.proofs.Outlines.{chain_in, is_known_in}
-use Rattle.store.proofs.Pagings.{no_length}
+use Rattle.store.proofs.PageStructs.{no_length}
 use Rattle.read.specs.Differences.{missing_texts}
 use Rattle.read.specs.Path.{with_path, with_paths, with_revisions}
 

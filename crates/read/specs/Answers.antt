@@ -27,13 +27,13 @@ Refuses g old new defined store.Full = ⊥
 
 -- What a reader answers, by what is defined for the database of a name, if there is one: that value, that refusal, or want of memory or
 -- a fault of the store. It never answers that it was asked wrongly.
-abbrev pub Answers : {S : Type 0} → Ghosts S → S → S → Option (Result Value ReadFault) → Result Json ReadFault → Type 0
-Answers g old new defined (Ok json) = g.is_honest new → defined ≡ Some (Ok (view json))
-Answers g old new defined (Err Missing) = g.is_honest new → defined ≡ Some (Err Missing)
-Answers g old new defined (Err Deleted) = g.is_honest new → defined ≡ Some (Err Deleted)
-Answers g old new defined (Err BadQuery) = ⊥
-Answers g old new defined (Err (Store fault)) = Refuses g old new defined fault
-Answers g old new defined (Err Memory) = ⊤
+abbrev pub AnswersValue : {S : Type 0} → Ghosts S → S → S → Option (Result Value ReadFault) → Result Json ReadFault → Type 0
+AnswersValue g old new defined (Ok json) = g.is_honest new → defined ≡ Some (Ok (view json))
+AnswersValue g old new defined (Err Missing) = g.is_honest new → defined ≡ Some (Err Missing)
+AnswersValue g old new defined (Err Deleted) = g.is_honest new → defined ≡ Some (Err Deleted)
+AnswersValue g old new defined (Err BadQuery) = ⊥
+AnswersValue g old new defined (Err (Store fault)) = Refuses g old new defined fault
+AnswersValue g old new defined (Err Memory) = ⊤
 
 -- the same where the history is at hand, so that no store is asked
 abbrev pub Shows : Result Value ReadFault → Result Json ReadFault → Type 0

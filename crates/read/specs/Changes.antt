@@ -5,7 +5,7 @@ use Rattle.couch_json.specs.Value.{Value, truth, whole, text, array, object, Mem
 use Rattle.couch_json.specs.View.{items_of}
 use Rattle.store.specs.Database.{Database}
 use Rattle.store.specs.Pages.{SequencePage, SequenceRow, page_by_sequence}
-use Rattle.store.specs.declared.page.SeqRange.{SeqRange}
+use Rattle.store.specs.declared.listing.SeqRange.{SeqRange}
 use Rattle.read.specs.Listing.{revision_object}
 
 -- a document whose winner is deleted says so

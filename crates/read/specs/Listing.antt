@@ -7,9 +7,9 @@ use Rattle.couch_json.specs.View.{items_of}
 use Rattle.tree.specs.Revision.{Revision, text_of}
 use Rattle.store.specs.Database.{Database}
 use Rattle.store.specs.Pages.{live_rows, page_of_ids, row_counts}
-use Rattle.store.specs.declared.page.IdRange.{IdRange}
-use Rattle.store.specs.declared.page.IdRow.{IdRow}
-use Rattle.store.specs.declared.page.RowCounts.{RowCounts}
+use Rattle.store.specs.declared.listing.IdRange.{IdRange}
+use Rattle.store.specs.declared.listing.IdRow.{IdRow}
+use Rattle.store.specs.declared.listing.RowCounts.{RowCounts}
 
 -- an object that names a revision
 abbrev pub revision_object : Revision → Value

@@ -5,7 +5,7 @@ use Rattle.couch_json.specs.Value.{Value, null, text, object, no_members, member
 use Rattle.store.specs.Database.{Database}
 use Rattle.store.specs.Indexes.{IndexPlace, index_fields_at, index_rows}
 use Rattle.store.specs.KeyPages.{key_counts, key_page}
-use Rattle.store.specs.declared.key_page.KeyRange.{KeyRange}
+use Rattle.store.specs.declared.index_page.KeyRange.{KeyRange}
 use Rattle.read.specs.Listing.{listing_of}
 use Rattle.read.specs.declared.fault.ReadFault.{ReadFault}
 use Rattle.read.specs.declared.fault.ReadFault.TheVariants.{Missing}

@@ -4,8 +4,8 @@ ghost use Rattle.std.specs.Prelude.{◌≡◌, ◌≢◌, ◌<◌, ◌^◌, All,
 ghost use Rattle.std.specs.FinMap as map;
 ghost use Rattle.couch_json.specs.View.{members_view, view};
 ghost use Rattle.store.specs.Calls.{OnlyReads};
-ghost use Rattle.store.specs.Paging.{sequence_page_of, sequence_row_of, sequence_rows};
-ghost use Rattle.read.specs.Answers.{Answers};
+ghost use Rattle.store.specs.PageStructs.{sequence_page_of, sequence_row_of, sequence_rows};
+ghost use Rattle.read.specs.Answers.{AnswersValue};
 ghost use Rattle.read.specs.Changes.{change_members, change_object, changes_in, changes_of};
 ghost use Rattle.read.specs.Listing.{revision_object};
 
@@ -30,7 +30,7 @@ pub fn changes<S: Store>(
     db: &DbName,
     range: &SeqRange,
 ) -> Result<Json, ReadFault>
-    ensures answer { Answers S.Store store.old store.new (option_map (λ d. Ok (changes_in range.now d)) (map.get (S.contents store.old) db.now)) result }
+    ensures answer { AnswersValue S.Store store.old store.new (option_map (λ d. Ok (changes_in range.now d)) (map.get (S.contents store.old) db.now)) result }
     ensures only { IfErr result (λ fault. fault ≢ ReadFault.Memory → ((cause : _) → fault ≢ ReadFault.Store cause) → ⊥) }
     ensures reads { OnlyReads S.Store store.old store.new }
 {

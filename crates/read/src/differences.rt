@@ -7,7 +7,7 @@ ghost use Rattle.couch_json.specs.View.{items_view, members_view, view};
 ghost use Rattle.store.specs.Calls.{OnlyReads};
 ghost use Rattle.store.specs.Database.{Database};
 ghost use Rattle.tree.specs.Outline.{outline_of};
-ghost use Rattle.read.specs.Answers.{Answers, Stops};
+ghost use Rattle.read.specs.Answers.{AnswersValue, Stops};
 ghost use Rattle.read.specs.Differences.{history_by, missing_texts, revision_differences, with_difference, with_differences, with_missing};
 ghost use Rattle.read.specs.DifferencesAsked.{all_asked, revisions_asked};
 
@@ -45,7 +45,7 @@ pub fn revs_diff<S: Store>(
     db: &DbName,
     asked: &[AskedRevisions],
 ) -> Result<Json, ReadFault>
-    ensures answer { Answers S.Store store.old store.new (option_map (λ d. Ok (revision_differences (all_asked asked.now) d)) (map.get (S.contents store.old) db.now)) result }
+    ensures answer { AnswersValue S.Store store.old store.new (option_map (λ d. Ok (revision_differences (all_asked asked.now) d)) (map.get (S.contents store.old) db.now)) result }
     ensures only { IfErr result (λ fault. fault ≢ ReadFault.Memory → ((cause : _) → fault ≢ ReadFault.Store cause) → ⊥) }
     ensures reads { OnlyReads S.Store store.old store.new }
 {

@@ -2,7 +2,7 @@ ghost use Rattle.std.specs.Prelude.{◌≡◌, None, option_copied, option_map};
 ghost use Rattle.std.specs.FinMap as map;
 ghost use Rattle.store.specs.Calls.{OnlyReads};
 ghost use Rattle.store.specs.Database.{history_at};
-ghost use Rattle.read.specs.Answers.{Answers};
+ghost use Rattle.read.specs.Answers.{AnswersValue};
 ghost use Rattle.read.specs.Shown.{document_by, document_in, found, shown_document};
 
 use crate::fault::ReadFault;
@@ -28,7 +28,7 @@ pub fn get<S: Store>(
     rev: Option<&Rev>,
     revs: bool,
 ) -> Result<Json, ReadFault>
-    ensures answer { Answers S.Store store.old store.new (document_in (S.contents store.old) db.now id.now (option_copied rev.entry) revs) result }
+    ensures answer { AnswersValue S.Store store.old store.new (document_in (S.contents store.old) db.now id.now (option_copied rev.entry) revs) result }
     ensures reads { OnlyReads S.Store store.old store.new }
 {
     match rev {
@@ -45,7 +45,7 @@ fn read_winner<S: Store>(
     id: &DocId,
     revs: bool,
 ) -> Result<Json, ReadFault>
-    ensures answer { Answers S.Store store.old store.new (option_map (λ d. document_by id.now (history_at d id.now) None revs) (map.get (S.contents store.old) db.now)) result }
+    ensures answer { AnswersValue S.Store store.old store.new (option_map (λ d. document_by id.now (history_at d id.now) None revs) (map.get (S.contents store.old) db.now)) result }
     ensures reads { OnlyReads S.Store store.old store.new }
 {
     let Some(winner) = store.winner(db, id)? else {
@@ -66,7 +66,7 @@ fn read_revision<S: Store>(
     rev: &Rev,
     revs: bool,
 ) -> Result<Json, ReadFault>
-    ensures answer { Answers S.Store store.old store.new (option_map (λ d. found (shown_document id.now (history_at d id.now) rev.now revs)) (map.get (S.contents store.old) db.now)) result }
+    ensures answer { AnswersValue S.Store store.old store.new (option_map (λ d. found (shown_document id.now (history_at d id.now) rev.now revs)) (map.get (S.contents store.old) db.now)) result }
     ensures reads { OnlyReads S.Store store.old store.new }
 {
     let paths = read_paths(store, db, id, revs)?;

@@ -2,7 +2,7 @@ ghost use Rattle.std.specs.Prelude.{◌≡◌, ◌≢◌, ◌<◌, ◌^◌, IfOk
 ghost use Rattle.std.specs.FinMap as map;
 ghost use Rattle.couch_json.specs.View.{view};
 ghost use Rattle.store.specs.Calls.{OnlyReads};
-ghost use Rattle.read.specs.Answers.{Answers};
+ghost use Rattle.read.specs.Answers.{AnswersValue};
 ghost use Rattle.read.specs.Information.{information, information_by};
 
 use crate::fault::ReadFault;
@@ -19,7 +19,7 @@ use store::{DbName, DocumentCounts, SeqRange, Store};
 /// lack of memory and faults of the store refuse. Nothing changes. See the CouchDB manual,
 /// api/database/common.
 pub fn info<S: Store>(alloc: Global, store: &mut S, db: &DbName) -> Result<Json, ReadFault>
-    ensures answer { Answers S.Store store.old store.new (option_map (λ d. Ok (information db.now d)) (map.get (S.contents store.old) db.now)) result }
+    ensures answer { AnswersValue S.Store store.old store.new (option_map (λ d. Ok (information db.now d)) (map.get (S.contents store.old) db.now)) result }
     ensures only { IfErr result (λ fault. fault ≢ ReadFault.Memory → ((cause : _) → fault ≢ ReadFault.Store cause) → ⊥) }
     ensures reads { OnlyReads S.Store store.old store.new }
 {

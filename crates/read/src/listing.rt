@@ -5,7 +5,7 @@ ghost use Rattle.std.specs.FinMap as map;
 ghost use Rattle.couch_json.specs.Value.{whole};
 ghost use Rattle.couch_json.specs.View.{view};
 ghost use Rattle.store.specs.Calls.{OnlyReads};
-ghost use Rattle.read.specs.Answers.{Answers};
+ghost use Rattle.read.specs.Answers.{AnswersValue};
 ghost use Rattle.read.specs.Listing.{document_listing, listing_of, revision_object, row_object};
 
 use crate::fault::ReadFault;
@@ -28,7 +28,7 @@ pub fn all_docs<S: Store>(
     db: &DbName,
     range: IdRange,
 ) -> Result<Json, ReadFault>
-    ensures answer { Answers S.Store store.old store.new (option_map (λ d. Ok (document_listing range d)) (map.get (S.contents store.old) db.now)) result }
+    ensures answer { AnswersValue S.Store store.old store.new (option_map (λ d. Ok (document_listing range d)) (map.get (S.contents store.old) db.now)) result }
     ensures only { IfErr result (λ fault. fault ≢ ReadFault.Memory → ((cause : _) → fault ≢ ReadFault.Store cause) → ⊥) }
     ensures reads { OnlyReads S.Store store.old store.new }
 {

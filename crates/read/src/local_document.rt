@@ -5,7 +5,7 @@ ghost use Rattle.std.specs.FinMap as map;
 ghost use Rattle.couch_json.specs.View.{members_view, view};
 ghost use Rattle.store.specs.Calls.{OnlyReads};
 ghost use Rattle.tree.specs.ShownDocument.{members_in};
-ghost use Rattle.read.specs.Answers.{Answers};
+ghost use Rattle.read.specs.Answers.{AnswersValue};
 ghost use Rattle.read.specs.Local.{local_document, shown_local};
 
 use crate::fault::ReadFault;
@@ -25,7 +25,7 @@ pub fn local<S: Store>(
     db: &DbName,
     id: &DocId,
 ) -> Result<Json, ReadFault>
-    ensures answer { Answers S.Store store.old store.new (option_map (λ d. local_document id.now d) (map.get (S.contents store.old) db.now)) result }
+    ensures answer { AnswersValue S.Store store.old store.new (option_map (λ d. local_document id.now d) (map.get (S.contents store.old) db.now)) result }
     ensures reads { OnlyReads S.Store store.old store.new }
 {
     match store.local(db, id)? {

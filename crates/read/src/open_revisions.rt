@@ -5,7 +5,7 @@ ghost use Rattle.couch_json.specs.View.{items_of, view};
 ghost use Rattle.store.specs.Calls.{OnlyReads};
 ghost use Rattle.store.specs.Database.{Database, history_at};
 ghost use Rattle.tree.specs.Outline.{outline_of};
-ghost use Rattle.read.specs.Answers.{Answers, Stops};
+ghost use Rattle.read.specs.Answers.{AnswersValue, Stops};
 ghost use Rattle.read.specs.OpenRevisions.{asked_revisions, element, open_revision, open_revisions_in};
 
 use crate::fault::ReadFault;
@@ -32,7 +32,7 @@ pub fn open_revs<S: Store>(
     asked: Option<&[Rev]>,
     revs: bool,
 ) -> Result<Json, ReadFault>
-    ensures answer { Answers S.Store store.old store.new (option_map (λ value. Ok value)
+    ensures answer { AnswersValue S.Store store.old store.new (option_map (λ value. Ok value)
         (open_revisions_in (S.contents store.old) db.now id.now (option_copied asked.entry) revs)) result }
     ensures plain { (result ≢ Err ReadFault.Missing) × (result ≢ Err ReadFault.Deleted) }
     ensures reads { OnlyReads S.Store store.old store.new }

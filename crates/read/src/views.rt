@@ -4,7 +4,7 @@ ghost use Rattle.std.specs.Prelude.{◌≡◌, ◌≢◌, map as each, IfOk, IfE
 ghost use Rattle.std.specs.FinMap as map;
 ghost use Rattle.couch_json.specs.View.{view};
 ghost use Rattle.store.specs.Calls.{OnlyReads};
-ghost use Rattle.read.specs.Answers.{Answers};
+ghost use Rattle.read.specs.Answers.{AnswersValue};
 ghost use Rattle.read.specs.Views.{key_row_object, view_listing};
 
 use crate::fault::ReadFault;
@@ -29,7 +29,7 @@ pub fn view<S: Store>(
     index: &str,
     range: KeyRange,
 ) -> Result<Json, ReadFault>
-    ensures answer { Answers S.Store store.old store.new (option_map (λ d. view_listing range design.now index.now d) (map.get (S.contents store.old) db.now)) result }
+    ensures answer { AnswersValue S.Store store.old store.new (option_map (λ d. view_listing range design.now index.now d) (map.get (S.contents store.old) db.now)) result }
     ensures only { IfErr result (λ fault. fault ≢ ReadFault.Missing → fault ≢ ReadFault.Memory → ((cause : _) → fault ≢ ReadFault.Store cause) → ⊥) }
     ensures reads { OnlyReads S.Store store.old store.new }
 {

@@ -1,10 +1,10 @@
 use crate::texts::text_of;
-use command_line::{Plan, PlanFault, Refusal, SyncPlan, SyncTarget, plan};
+use command_line::{CommandFault, Plan, PlanFault, SyncPlan, SyncTarget, plan};
 use rows::{Kind, RowsFault, push_all};
 use std::alloc::Global;
 
 /// A command line, whose words stand between single blanks: what it asks for, or the status and the
-/// words of its refusal.
+/// words of its fault.
 #[derive(Drop)]
 pub struct CommandLines {
     pub alloc: Global,
@@ -35,7 +35,7 @@ impl Kind for CommandLines {
             }
             Ok(Plan::Sync(plan)) => show_sync(self.alloc, &plan),
             Err(PlanFault::Memory) => Err(RowsFault::Memory),
-            Err(fault) => show_refusal(self.alloc, Refusal::from(fault)),
+            Err(fault) => show_fault(self.alloc, CommandFault::from(fault)),
         }
     }
 }
@@ -89,8 +89,8 @@ fn show_sync(alloc: Global, plan: &SyncPlan) -> Result<Vec<u8>, RowsFault> {
     show_asked(front, &plan.secret, &plan.admins)
 }
 
-/// Answers with the status and the words of a refusal.
-fn show_refusal(alloc: Global, refusal: Refusal) -> Result<Vec<u8>, RowsFault> {
-    let status = refusal.status();
-    Ok(format!(in alloc; "status {status}, couchd: {refusal}")?.into_bytes())
+/// Answers with the status and the words of a fault.
+fn show_fault(alloc: Global, fault: CommandFault) -> Result<Vec<u8>, RowsFault> {
+    let status = fault.status();
+    Ok(format!(in alloc; "status {status}, couchd: {fault}")?.into_bytes())
 }

@@ -13,7 +13,7 @@ mod setup;
 mod texts;
 
 use lab::LabStore;
-use rows::{Player, Report, RowText, RowsFault, play, play_files};
+use rows::{PlayReport, Player, RowText, RowsFault, play, play_files};
 use sqlstore::MemoryStore;
 use std::alloc::Global;
 use std::process::ExitCode;
@@ -30,7 +30,11 @@ fn main(rt: HostRuntime) -> ExitCode {
 
 /// Rows about nodes are played twice: over plain stores, and over tables.
 impl Player for NodeRows {
-    fn play_file(alloc: Global, file: RowText<'_>, report: &mut Report) -> Result<(), RowsFault> {
+    fn play_file(
+        alloc: Global,
+        file: RowText<'_>,
+        report: &mut PlayReport,
+    ) -> Result<(), RowsFault> {
         match file.ending {
             "commands" => play(alloc, file, command_lines::CommandLines { alloc }, report),
             "connections" | "lab" | "pages" | "requests" => {
@@ -52,7 +56,7 @@ impl Player for NodeRows {
 fn play_over<S: LabStore>(
     alloc: Global,
     file: RowText<'_>,
-    report: &mut Report,
+    report: &mut PlayReport,
 ) -> Result<(), RowsFault> {
     match file.ending {
         "connections" => play(

@@ -1,5 +1,5 @@
 use crate::texts::answer;
-use command_line::Refusal;
+use command_line::CommandFault;
 use lab::{LabStore, play_script};
 use rows::{Joint, Kind, RowsFault};
 use std::alloc::Global;
@@ -57,7 +57,7 @@ impl<S: LabStore> Kind for Scripts<S> {
         );
         let ending = match result {
             Ok(status) => format!(in alloc; "status {status}")?,
-            Err(fault) => ending_of(alloc, Refusal::from(fault))?,
+            Err(fault) => ending_of(alloc, CommandFault::from(fault))?,
         };
         printed.extend_from_slice(ending.as_bytes())?;
         answer(alloc, String::from_utf8_lossy(alloc, &printed)?.as_str())
@@ -65,7 +65,7 @@ impl<S: LabStore> Kind for Scripts<S> {
 }
 
 /// Returns the last line of a script that was refused.
-fn ending_of(alloc: Global, refusal: Refusal) -> Result<String, RowsFault> {
-    let status = refusal.status();
-    Ok(format!(in alloc; "status {status}, couchd: {refusal}")?)
+fn ending_of(alloc: Global, fault: CommandFault) -> Result<String, RowsFault> {
+    let status = fault.status();
+    Ok(format!(in alloc; "status {status}, couchd: {fault}")?)
 }

@@ -28,4 +28,4 @@ pub use fault::RowsFault;
 pub use file::{Row, RowFile, Table, read_file};
 pub use kind::{Joint, Kind};
 pub use playing::{Player, play_files};
-pub use report::{Report, RowText, play};
+pub use report::{PlayReport, RowText, play};

@@ -2,7 +2,7 @@
 
 use crate::fault::RowsFault;
 use crate::listing::file_names;
-use crate::report::{Report, RowText};
+use crate::report::{PlayReport, RowText};
 use std::alloc::Global;
 use std::env::Env;
 use std::fs::read_to_string;
@@ -12,7 +12,11 @@ use std::rt::Files;
 /// A program that plays rows: a file's ending says which kind its rows are of.
 pub trait Player {
     /// Plays a file, and adds what came of its rows to the report.
-    fn play_file(alloc: Global, file: RowText<'_>, report: &mut Report) -> Result<(), RowsFault>;
+    fn play_file(
+        alloc: Global,
+        file: RowText<'_>,
+        report: &mut PlayReport,
+    ) -> Result<(), RowsFault>;
 }
 
 /// Plays the files that the command line names or, where it names none, all files of the folder.
@@ -23,7 +27,7 @@ pub fn play_files<P: Player, R: Env + Files + Print + Eprint + AllocGlobal + Clo
     rt: &R,
     program: &str,
 ) -> ExitCode {
-    let mut report = Report::new(rt.alloc());
+    let mut report = PlayReport::new(rt.alloc());
     let played = play_all::<P, R>(rt, &mut report);
     let _ = print!(rt; "{}", report.tables);
     let _ = eprint!(rt; "{}", report.differences);
@@ -40,7 +44,7 @@ pub fn play_files<P: Player, R: Env + Files + Print + Eprint + AllocGlobal + Clo
 /// Plays the files.
 fn play_all<P: Player, R: Env + Files + AllocGlobal + Clone + Drop>(
     rt: &R,
-    report: &mut Report,
+    report: &mut PlayReport,
 ) -> Result<(), RowsFault> {
     for name in &file_names(rt)? {
         let text = read_to_string(rt, name.as_str())?;

@@ -19,7 +19,7 @@ pub struct RowText<'a> {
 
 /// What came of the rows that were played.
 #[derive(Drop)]
-pub struct Report {
+pub struct PlayReport {
     alloc: Global,
     /// A line for each table: `FILE: TITLE: N rows`.
     pub tables: String,
@@ -27,10 +27,10 @@ pub struct Report {
     pub differences: String,
 }
 
-impl Report {
+impl PlayReport {
     /// Returns an empty report. Takes no memory.
-    pub fn new(alloc: Global) -> Report {
-        Report {
+    pub fn new(alloc: Global) -> PlayReport {
+        PlayReport {
             alloc,
             tables: String::new(alloc),
             differences: String::new(alloc),
@@ -91,7 +91,7 @@ pub fn play<K: Kind + Drop>(
     alloc: Global,
     file: RowText<'_>,
     kind: K,
-    report: &mut Report,
+    report: &mut PlayReport,
 ) -> Result<(), RowsFault> {
     let name = file.name;
     let mut kind = kind;
@@ -116,7 +116,7 @@ fn play_table<K: Kind>(
     name: &str,
     table: &Table,
     kind: &mut K,
-    report: &mut Report,
+    report: &mut PlayReport,
 ) -> Result<(), RowsFault> {
     kind.begin()?;
     for row in &table.rows {

@@ -2,7 +2,7 @@
 use Rattle.sqlstore.proofs.Common.{AreEnoughBySequence, Bool, Err, IfOk, IsLimitFor, IsSequenceRow, List, None, Ok, Option, Result, Row, SeqRange, SequenceRow, Some, all-filter, ap, ap₂, arith, comes_after, filter, filter-map, filter_all, filter_same, first_rows, inl, inr, if_counted, int_lt, ints, last_sequence, later_rows, listed_counts, listed_sequence, map, nat_lt, nat_tests, option_map, pos, refl, sequence_page, sequence_row, subst, sym, take, take-map, true, up_to_limit, winners_page, ℕ, ℤ, ◌∙◌, ◌≡◌}
 use Rattle.std.proofs.Common.{min}
 use Rattle.std.proofs.lemmas.List.{take-take}
-use Rattle.store.specs.declared.page.DocumentCounts.{DocumentCounts}
+use Rattle.store.specs.declared.listing.DocumentCounts.{DocumentCounts}
 use Rattle.tables.proofs.RowMaps.{passing}
 use Rattle.index.proofs.PagePlaces.{all_taken}
 use Rattle.sqlstore.proofs.Cuts.{first_all}

@@ -2,8 +2,8 @@
 use Rattle.sqlstore.proofs.Common.{Coded-set, Document, Ghosts, IsDatabaseRow, IsLaid, List, NumberValues, SeqRange, Some, SqlStore, Stands, Trees, all-filter, all-slice_get, ap, content_code, contents_in, database_of, dbs_tree, document_counts, false, filter, history_at, history_in, id_page, if_counted, in_sequence, index_fields_of, index_rows, is_honest, is_named, key_page, leaves_row, length_of, listed_by_id, listed_by_sequence, listed_counts, live_rows, map, number_of, numbers_in, option_map, page_by_sequence, page_of_ids, page_of_keys, page_with_leaves, revs_tree, rows_of, sequence_page, sequence_row, slice_get, subst, sym, trees_of, true, winners_page, ℕ, ∥∥₁_elim, ◌<◌, ◌^◌, ◌∙◌, ◌≡◌}
 use Rattle.std.specs.FinMap as finite
 use Rattle.store.specs.Database.{Database}
-use Rattle.store.specs.declared.key_page.KeyRange.{KeyRange}
-use Rattle.store.specs.declared.page.IdRange.{IdRange}
+use Rattle.store.specs.declared.index_page.KeyRange.{KeyRange}
+use Rattle.store.specs.declared.listing.IdRange.{IdRange}
 use Rattle.tables.proofs.ListingRows.{counts_by_sequence, leaves_by_sequence, live_by_id, winners_by_sequence}
 use Rattle.tables.proofs.Lookups.{document_found}
 use Rattle.tree.specs.Outline.{marked_winner, outline_of}

@@ -19,10 +19,10 @@ use Rattle.sqlite_value.specs.declared.value.Value.{Value}
 use Rattle.tree.proofs.RevisionText.{read_of_text}
 use Rattle.tree.specs.Revision.{revision_read}
 use Rattle.store.proofs.Directed.{filter-directed, map_directed}
-use Rattle.store.proofs.Pagings.{counted_within}
+use Rattle.store.proofs.PageStructs.{counted_within}
 use Rattle.store.specs.Pages.{is_after_end, is_after_end_of, is_before_start, is_before_start_of, is_within}
-use Rattle.store.specs.declared.page.IdRange.{IdRange}
-use Rattle.store.specs.declared.page.RowCounts.{RowCounts}
+use Rattle.store.specs.declared.listing.IdRange.{IdRange}
+use Rattle.store.specs.declared.listing.RowCounts.{RowCounts}
 use Rattle.tables.proofs.Backwards.{sorted_back}
 use Rattle.tables.proofs.DocumentStatements.{left_in_order}
 use Rattle.tables.proofs.ListingRows.{documents_of, ids_apart}

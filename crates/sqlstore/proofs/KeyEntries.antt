@@ -16,8 +16,8 @@ use Rattle.store.specs.Causes.{HasFailed}
 use Rattle.store.specs.Database.{Database}
 use Rattle.store.specs.KeyPages.{is_key_before, key_counts, key_rows_within}
 use Rattle.store.specs.Leaving as leaving
-use Rattle.store.specs.declared.key_page.KeyRange.{KeyRange}
-use Rattle.store.specs.declared.page.RowCounts.{RowCounts}
+use Rattle.store.specs.declared.index_page.KeyRange.{KeyRange}
+use Rattle.store.specs.declared.listing.RowCounts.{RowCounts}
 use Rattle.tables.proofs.RowMaps.{mapped_some}
 use Rattle.tables.specs.Rows.{number_of}
 use Rattle.tables.specs.Schema.{decls_tree, entries_tree}

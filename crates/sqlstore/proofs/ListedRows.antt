@@ -3,8 +3,8 @@ use Rattle.sqlstore.proofs.Common.{All, AllByRecursion, Bool, Coded, Coded-set, 
 use Rattle.std.proofs.lemmas.List.{append_assoc, append-nil, take-map}
 use Rattle.store.specs.contracts.page.DocumentCounts as document_counts
 use Rattle.store.specs.contracts.page.IdRow as id_row
-use Rattle.store.specs.declared.page.DocumentCounts.{DocumentCounts}
-use Rattle.store.specs.declared.page.RowCounts.{RowCounts}
+use Rattle.store.specs.declared.listing.DocumentCounts.{DocumentCounts}
+use Rattle.store.specs.declared.listing.RowCounts.{RowCounts}
 use Rattle.tables.proofs.ListingRows.{rows_of_a_listing}
 use Rattle.tables.proofs.RowMaps.{find_found}
 use Rattle.tables.proofs.Sorted.{all_sorted}

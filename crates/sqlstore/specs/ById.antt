@@ -5,7 +5,7 @@ use Rattle.std.specs.Cmp.Lexicographic.{slice_cmp}
 use Rattle.std.specs.Ordering.{is_le, is_lt, nat_cmp}
 use Rattle.sqlite_value.specs.Order.{Row}
 use Rattle.store.specs.Pages.{is_after_end, is_before_start}
-use Rattle.store.specs.declared.page.IdRange.{IdRange}
+use Rattle.store.specs.declared.listing.IdRange.{IdRange}
 use Rattle.tables.specs.Listings.{live_range}
 use Rattle.sqlstore.specs.Listing.{IsLimitFor}
 

@@ -6,7 +6,7 @@ use Rattle.sqlite_value.specs.Order.{Row}
 use Rattle.store.specs.Indexes.{IndexPlace}
 use Rattle.store.specs.Leaving as leaving
 use Rattle.store.specs.declared.fault.StoreFault.{StoreFault}
-use Rattle.store.specs.declared.key_page.KeyRange.{KeyRange}
+use Rattle.store.specs.declared.index_page.KeyRange.{KeyRange}
 use Rattle.tables.specs.Schema.{entries_tree}
 use Rattle.index.specs.Places.{AreEntriesAt}
 use Rattle.index.specs.Rows.{range_of}

@@ -4,7 +4,7 @@ use Rattle.std.specs.Prelude.{◌≡◌, ◌<◌, ◌^◌, ◌⊎◌, ℕ, ℤ, 
 use Rattle.std.specs.List.{AllByRecursion}
 use Rattle.tree.specs.History.{HistoryContent, leaves}
 use Rattle.store.specs.Pages.{SequencePage, SequenceRow, if_counted, later_rows, sequence_page}
-use Rattle.store.specs.declared.page.SeqRange.{SeqRange}
+use Rattle.store.specs.declared.listing.SeqRange.{SeqRange}
 use Rattle.sqlite_value.specs.Order.{Row}
 use Rattle.sqlite_trees.specs.Tree.{Trees}
 use Rattle.sqlite_keyed.specs.Lists.{sort_by}

@@ -1,16 +1,16 @@
 //! The store of databases over SQLite tables.
 #![tactic(auto)]
 
+mod database_names;
 mod fault;
+mod first_rows;
 mod id_bounds;
 mod in_memory;
 mod known_database;
 pub mod laws;
 mod listings;
-mod names;
 mod open_fault;
 mod opening;
-mod shown;
 mod sql_store;
 
 pub use in_memory::MemoryStore;

@@ -3,16 +3,46 @@
 ghost use Rattle.std.specs.Prelude.{◌≡◌, ◌<◌, ◌^◌, All, IfErr, IfOk, IfSome, Some, is_some, map};
 ghost use Rattle.std.specs.List.{AllByRecursion};
 ghost use Rattle.store.specs.Pages.{sequence_page, up_to_limit};
-ghost use Rattle.store.specs.Paging.{IsBounded, sequence_page_of, sequence_row_of, sequence_rows};
+ghost use Rattle.store.specs.PageStructs.{IsBounded, sequence_page_of, sequence_row_of, sequence_rows};
 ghost use Rattle.tables.specs.Listings.{IsListedDocument, listed_id, listed_mark, listed_sequence, listed_winner, live_row, live_rows, sequence_row};
 ghost use Rattle.sqlstore.specs.Listing.{IsSequenceRow};
 ghost use Rattle.transactions.specs.Reading.{IsLost, IsRead};
 
 use sqlite::Row;
 use std::alloc::Global;
-use store::paging::{cut_by_sequence, cut_to_limit};
+use store::cuts::{cut_by_sequence, cut_to_limit};
 use store::{DocumentCounts, IdRow, PageBySeq, SeqRange, SeqRow, StoreFault};
 use tables::{ListedDocument, RowFault, read_listed_document};
+
+/// Reads the rows of a page by id, up to its limit.
+pub(crate) fn read_id_rows(
+    alloc: Global,
+    rows: &[Row],
+    limit: Option<u64>,
+) -> Result<Vec<IdRow>, StoreFault>
+    ensures { IsRead (λ read. read.items) (Some (up_to_limit limit (live_rows rows.now))) (AllByRecursion IsListedDocument rows.now) result }
+{
+    let live = read_live_rows(alloc, rows)?;
+    Ok(cut_to_limit(live, limit))
+}
+
+/// Reads the page by sequence of these rows, each with its winner alone, in a database at this sequence
+/// that has these documents.
+pub(crate) fn read_page_by_sequence(
+    alloc: Global,
+    rows: &[Row],
+    sequence: u64,
+    counts: Option<DocumentCounts>,
+    range: &SeqRange,
+) -> Result<PageBySeq, StoreFault>
+    requires bounded { (sequence < 2 ^ 63) × IfSome counts (λ c. (c.documents < 2 ^ 63) × (c.deleted < 2 ^ 63)) }
+    requires counted { is_some counts ≡ range.now.counted }
+    ensures page { IsRead sequence_page_of (Some (sequence_page range.now sequence counts (map sequence_row rows.now))) (AllByRecursion IsSequenceRow rows.now) result }
+    ensures bounded { IfOk result (IsBounded range.now) }
+{
+    let read = read_sequence_rows(alloc, rows)?;
+    Ok(cut_by_sequence(read, sequence, counts, range))
+}
 
 /// Reads the document of a row.
 fn read_row(alloc: Global, row: &Row) -> Result<ListedDocument, StoreFault>
@@ -59,18 +89,6 @@ fn read_live_rows(alloc: Global, rows: &[Row]) -> Result<Vec<IdRow>, StoreFault>
     Ok(live)
 }
 
-/// Reads the rows of a page by id, up to its limit.
-pub(crate) fn read_id_rows(
-    alloc: Global,
-    rows: &[Row],
-    limit: Option<u64>,
-) -> Result<Vec<IdRow>, StoreFault>
-    ensures { IsRead (λ read. read.items) (Some (up_to_limit limit (live_rows rows.now))) (AllByRecursion IsListedDocument rows.now) result }
-{
-    let live = read_live_rows(alloc, rows)?;
-    Ok(cut_to_limit(live, limit))
-}
-
 // ---- by sequence
 
 /// Reads the row of a listing by sequence, with the winner alone.
@@ -103,22 +121,4 @@ fn read_sequence_rows(alloc: Global, rows: &[Row]) -> Result<Vec<SeqRow>, StoreF
         read.push(read_sequence_row(alloc, row)?)?;
     }
     Ok(read)
-}
-
-/// Reads the page by sequence of these rows, each with its winner alone, in a database at this sequence
-/// that has these documents.
-pub(crate) fn read_page_by_sequence(
-    alloc: Global,
-    rows: &[Row],
-    sequence: u64,
-    counts: Option<DocumentCounts>,
-    range: &SeqRange,
-) -> Result<PageBySeq, StoreFault>
-    requires bounded { (sequence < 2 ^ 63) × IfSome counts (λ c. (c.documents < 2 ^ 63) × (c.deleted < 2 ^ 63)) }
-    requires counted { is_some counts ≡ range.now.counted }
-    ensures page { IsRead sequence_page_of (Some (sequence_page range.now sequence counts (map sequence_row rows.now))) (AllByRecursion IsSequenceRow rows.now) result }
-    ensures bounded { IfOk result (IsBounded range.now) }
-{
-    let read = read_sequence_rows(alloc, rows)?;
-    Ok(cut_by_sequence(read, sequence, counts, range))
 }

@@ -17,6 +17,39 @@ use store::StoreFault;
 use tables::{FileVersion, FoundTables, read_version, tables_in};
 use transactions::{CommitFault, begin_tables, carry_over};
 
+/// Finds the tables of a store, which it carries over where they are of the first version, or makes them
+/// where there is none of them.
+pub(crate) fn find_tables<S: Alter>(
+    alloc: Global,
+    conn: &mut Connection<S>,
+) -> Result<(), OpenFault>
+    requires { conn.old.in_transaction ≡ false }
+    // Where there was a store it is found as it was, where there was one of the first version it is
+    // carried over, and where there was nothing it is made.
+    ensures found { HasCleanDisk (state S.Store conn.new) → IsStore (state S.Store conn.old).now → OnOk result ((state S.Store conn.new).now ≡ (state S.Store conn.old).now) }
+    ensures carried { HasCleanDisk (state S.Store conn.new) → IsFirstStore (state S.Store conn.old).now → OnOk result (IsCarriedOver (state S.Store conn.old).now (state S.Store conn.new).now) }
+    ensures made { HasCleanDisk (state S.Store conn.new) → conn.old.schema ≡ no_schema → OnOk result (IsNew (state S.Store conn.new).now) }
+    ensures not_ours { result ≡ Err OpenFault.NotOurs → HasCleanDisk (state S.Store conn.new) → ¬ IsStore (state S.Store conn.old).now }
+    ensures not_first { result ≡ Err OpenFault.NotOurs → HasCleanDisk (state S.Store conn.new) → ¬ IsFirstStore (state S.Store conn.old).now }
+
+    // What is opened has none of the tables or all, and if they are those of this layout, one of the two versions.
+    ensures all { OnOk result (has_any conn.old.schema ≡ true → has_all conn.old.schema ≡ true) }
+    ensures version { HasCleanDisk (state S.Store conn.new) → conn.old.schema ≡ schema → OnOk result (version_in ((state S.Store conn.old).now.trees meta_tree) ≢ FileVersion.Other) }
+
+    // Where it is refused the rows are as they were, if tables of these names are those of this layout.
+    ensures refused { (has_all conn.old.schema ≡ true → conn.old.schema ≡ schema) → HasCleanDisk (state S.Store conn.new) → IsTrue (state S.Store conn.new).is_open
+        → OnErr result (((state S.Store conn.new).now ≡ (state S.Store conn.old).now) ⊎ ((state S.Store conn.new).now ≡ (state S.Store conn.old).committed)) }
+    ensures turns { Turns S.Store conn.old conn.new }
+    ensures served { HasCleanDisk (state S.Store conn.new) → OnOk result (IsTrue (state S.Store conn.old).is_open) }
+{
+    match tables_in(conn.schema()) {
+        FoundTables::All => find_version(alloc, conn),
+        FoundTables::Part => Err(OpenFault::NotOurs),
+        FoundTables::Nothing => make_tables(conn),
+        FoundTables::Others => make_tables(conn),
+    }
+}
+
 /// Carries a file of the first version over to this one.
 fn renew_file<S: Alter>(alloc: Global, conn: &mut Connection<S>) -> Result<(), OpenFault>
     requires { conn.old.in_transaction ≡ false }
@@ -67,38 +100,5 @@ fn make_tables<S: Alter>(conn: &mut Connection<S>) -> Result<(), OpenFault>
     match begin_tables(conn) {
         Ok(()) => Ok(()),
         Err(error) => Err(open_fault(error)),
-    }
-}
-
-/// Finds the tables of a store, which it carries over where they are of the first version, or makes them
-/// where there is none of them.
-pub(crate) fn find_tables<S: Alter>(
-    alloc: Global,
-    conn: &mut Connection<S>,
-) -> Result<(), OpenFault>
-    requires { conn.old.in_transaction ≡ false }
-    // Where there was a store it is found as it was, where there was one of the first version it is
-    // carried over, and where there was nothing it is made.
-    ensures found { HasCleanDisk (state S.Store conn.new) → IsStore (state S.Store conn.old).now → OnOk result ((state S.Store conn.new).now ≡ (state S.Store conn.old).now) }
-    ensures carried { HasCleanDisk (state S.Store conn.new) → IsFirstStore (state S.Store conn.old).now → OnOk result (IsCarriedOver (state S.Store conn.old).now (state S.Store conn.new).now) }
-    ensures made { HasCleanDisk (state S.Store conn.new) → conn.old.schema ≡ no_schema → OnOk result (IsNew (state S.Store conn.new).now) }
-    ensures not_ours { result ≡ Err OpenFault.NotOurs → HasCleanDisk (state S.Store conn.new) → ¬ IsStore (state S.Store conn.old).now }
-    ensures not_first { result ≡ Err OpenFault.NotOurs → HasCleanDisk (state S.Store conn.new) → ¬ IsFirstStore (state S.Store conn.old).now }
-
-    // What is opened has none of the tables or all, and if they are those of this layout, one of the two versions.
-    ensures all { OnOk result (has_any conn.old.schema ≡ true → has_all conn.old.schema ≡ true) }
-    ensures version { HasCleanDisk (state S.Store conn.new) → conn.old.schema ≡ schema → OnOk result (version_in ((state S.Store conn.old).now.trees meta_tree) ≢ FileVersion.Other) }
-
-    // Where it is refused the rows are as they were, if tables of these names are those of this layout.
-    ensures refused { (has_all conn.old.schema ≡ true → conn.old.schema ≡ schema) → HasCleanDisk (state S.Store conn.new) → IsTrue (state S.Store conn.new).is_open
-        → OnErr result (((state S.Store conn.new).now ≡ (state S.Store conn.old).now) ⊎ ((state S.Store conn.new).now ≡ (state S.Store conn.old).committed)) }
-    ensures turns { Turns S.Store conn.old conn.new }
-    ensures served { HasCleanDisk (state S.Store conn.new) → OnOk result (IsTrue (state S.Store conn.old).is_open) }
-{
-    match tables_in(conn.schema()) {
-        FoundTables::All => find_version(alloc, conn),
-        FoundTables::Part => Err(OpenFault::NotOurs),
-        FoundTables::Nothing => make_tables(conn),
-        FoundTables::Others => make_tables(conn),
     }
 }

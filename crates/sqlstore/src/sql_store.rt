@@ -2,12 +2,12 @@ ghost use Rattle.sqlstore.specs.Standing.{IsStanding};
 
 mod by_id;
 mod by_key;
+mod by_sequence;
 mod calls;
 mod changing;
 mod committing;
 mod find;
 mod listing_rows;
-mod numbered;
 mod one_document;
 mod page_rows;
 mod rows;

@@ -5,15 +5,15 @@ use Rattle.std.proofs.lemmas.List.{get_or-map, length-map}
 use Rattle.couch_json.specs.Value.{null}
 use Rattle.store.specs.Database.{empty_database}
 use Rattle.store.specs.Pages.{SequencePage, page_by_sequence, page_with}
-use Rattle.store.specs.Paging.{sequence_row_of, sequence_rows}
+use Rattle.store.specs.PageStructs.{sequence_row_of, sequence_rows}
 use Rattle.store.specs.Plain.{gathered_after, written_content}
 use Rattle.store.specs.Writing.{Addition, writings_in}
-use Rattle.store.specs.declared.page.DocumentCounts.{DocumentCounts}
-use Rattle.store.specs.declared.page.SeqRange.{SeqRange}
-use Rattle.store.specs.declared.page.SeqRow.{SeqRow}
+use Rattle.store.specs.declared.listing.DocumentCounts.{DocumentCounts}
+use Rattle.store.specs.declared.listing.SeqRange.{SeqRange}
+use Rattle.store.specs.declared.listing.SeqRow.{SeqRow}
 use Rattle.store.proofs.Laters.{sequences_by_all}
 use Rattle.store.proofs.Lawfuls.{lawful_empty}
-use Rattle.store.proofs.Pagings.{entries-written_content, length-written_content}
+use Rattle.store.proofs.PageStructs.{entries-written_content, length-written_content}
 use Rattle.store.proofs.Rows.{page_within, rows_within}
 
 all_from_map : (n : ℕ) (rs : List SeqRow) → All (λ r. r.sequence ≤ n) (sequence_rows rs) → All (λ r. r.sequence ≤ n) rs

@@ -2,11 +2,11 @@
 use Rattle.std.proofs.Common.{◌≡◌, ℕ, ◌<◌, ◌^◌, List, [], ◌∷◌, min, nat_lt, Option, IfSome, is_some, suc, refl, sym, ap, subst, ◌∙◌, inl, inr, arith}
 use Rattle.std.specs.List.{All}
 use Rattle.store.specs.Pages.{SequencePage, SequenceRow, last_sequence, later_rows, sequence_page}
-use Rattle.store.specs.Paging.{AreBounded, IsBounded, sequence_page_of, sequence_row_of, sequence_rows}
-use Rattle.store.specs.declared.page.DocumentCounts.{DocumentCounts}
-use Rattle.store.specs.declared.page.PageBySeq.{PageBySeq}
-use Rattle.store.specs.declared.page.SeqRange.{SeqRange}
-use Rattle.store.specs.declared.page.SeqRow.{SeqRow}
+use Rattle.store.specs.PageStructs.{AreBounded, IsBounded, sequence_page_of, sequence_row_of, sequence_rows}
+use Rattle.store.specs.declared.listing.DocumentCounts.{DocumentCounts}
+use Rattle.store.specs.declared.listing.PageBySeq.{PageBySeq}
+use Rattle.store.specs.declared.listing.SeqRange.{SeqRange}
+use Rattle.store.specs.declared.listing.SeqRow.{SeqRow}
 use Rattle.store.proofs.Among.{all_in, from_filter, from_limited, from_map, in_map}
 use Rattle.store.proofs.Listings.{In}
 

@@ -11,8 +11,8 @@ use Rattle.tree.specs.Revision.{Revision}
 use Rattle.tree.proofs.Kept.{true_from_T}
 use Rattle.store.specs.Database.{Database}
 use Rattle.store.specs.Pages.{IsIdRowOf, comes_before, in_direction, is_within, live_rev, live_rows, page_of_ids, with_row}
-use Rattle.store.specs.declared.page.IdRange.{IdRange}
-use Rattle.store.specs.declared.page.IdRow.{IdRow}
+use Rattle.store.specs.declared.listing.IdRange.{IdRange}
+use Rattle.store.specs.declared.listing.IdRow.{IdRow}
 use Rattle.store.proofs.Among.{all_in, from_filter, from_limited, in_filter}
 use Rattle.store.proofs.Directed.{from_directed, from_drop, in_directed, pairs_drop, pairs_reverse}
 use Rattle.store.proofs.Listings.{Entry, In, below_in, found_in, in_found}

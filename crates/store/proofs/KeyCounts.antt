@@ -10,11 +10,11 @@ use Rattle.store.specs.KeyPages.{is_above, is_key_before, is_key_within, key_pag
 use Rattle.store.specs.Pages.{if_counted, in_direction, up_to_limit}
 use Rattle.store.specs.Plain.{content, gathered_after, history_after, places_over}
 use Rattle.store.specs.Writing.{additions}
-use Rattle.store.specs.declared.key_page.KeyRange.{KeyRange}
-use Rattle.store.specs.declared.page.RowCounts.{RowCounts}
+use Rattle.store.specs.declared.index_page.KeyRange.{KeyRange}
+use Rattle.store.specs.declared.listing.RowCounts.{RowCounts}
 use Rattle.store.specs.declared.plain.PlainDatabase.{PlainDatabase}
 use Rattle.store.proofs.Contents.{history_at-content}
-use Rattle.store.proofs.Pagings.{apart, count-directed, entries-content, length-directed}
+use Rattle.store.proofs.PageStructs.{apart, count-directed, entries-content, length-directed}
 
 not_both : (descending low high : Bool) → cond descending high (not low) ≡ true → (low && not high) ≡ false
 not_both true true true h = refl

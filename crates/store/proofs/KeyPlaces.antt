@@ -9,7 +9,7 @@ use Rattle.store.specs.Database.{Document}
 use Rattle.store.specs.Indexes.{IndexPlace, index_over, field_values, place_order, put_at_values, put_in_index, queried_document}
 use Rattle.store.specs.Plain.{document_entries, document_entry, place_views, places_over}
 use Rattle.store.specs.declared.plain.PlainDocument.{PlainDocument}
-use Rattle.store.proofs.Pagings.{put-seen}
+use Rattle.store.proofs.PageStructs.{put-seen}
 
 -- the documents put in an index that has these already
 abbrev pub index_onto : List (List ℕ) → List (List ℕ × Document) → List (IndexPlace × Value) → List (IndexPlace × Value)

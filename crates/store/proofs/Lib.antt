@@ -7,7 +7,7 @@ pub mod Orders
 pub mod Listings
 pub mod Among
 pub mod Rows
-pub mod Pagings
+pub mod PageStructs
 pub mod Lawfuls
 pub mod Bounds
 pub mod Cuts

@@ -13,8 +13,8 @@ use Rattle.store.specs.Database.{Document}
 use Rattle.store.specs.Pages.{IdPage, id_page, if_counted, in_direction, is_within, live_rev, live_rows, row_counts, rows_within, up_to_limit, with_row}
 use Rattle.store.specs.Plain.{gathered_after, with_write_at}
 use Rattle.store.specs.Writing.{Addition}
-use Rattle.store.specs.declared.page.IdRange.{IdRange}
-use Rattle.store.specs.declared.page.IdRow.{IdRow}
+use Rattle.store.specs.declared.listing.IdRange.{IdRange}
+use Rattle.store.specs.declared.listing.IdRow.{IdRow}
 use Rattle.store.proofs.Directed.{from_directed}
 use Rattle.store.proofs.Listings.{In}
 

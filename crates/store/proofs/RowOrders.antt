@@ -10,7 +10,7 @@ use Rattle.std.specs.FinMap.Entries.{below_all, by_order}
 use Rattle.tree.proofs.SortedEntries.{less}
 use Rattle.store.specs.Database.{Database}
 use Rattle.store.specs.Pages.{SequenceRow, in_sequence, up_to_limit, page_by_sequence, put_in_sequence, rows_of}
-use Rattle.store.specs.declared.page.SeqRange.{SeqRange}
+use Rattle.store.specs.declared.listing.SeqRange.{SeqRange}
 use Rattle.store.proofs.Among.{all_in, from_map}
 use Rattle.store.proofs.Listings.{In, ascending}
 

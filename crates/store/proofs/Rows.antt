@@ -6,7 +6,7 @@ use Rattle.std.specs.FinMap as finite
 use Rattle.tree.proofs.Kept.{true_from_T}
 use Rattle.store.specs.Database.{Database, Document, HasSequences}
 use Rattle.store.specs.Pages.{IsRowOf, SequenceRow, in_sequence, last_sequence, page_by_sequence, put_in_sequence, row_of, rows_of}
-use Rattle.store.specs.declared.page.SeqRange.{SeqRange}
+use Rattle.store.specs.declared.listing.SeqRange.{SeqRange}
 use Rattle.store.proofs.Among.{all_in, from_filter, from_limited, from_map, from_put, in_filter, in_found_at}
 use Rattle.store.proofs.Listings.{Entry, In, each_has_its_row, in_found}
 

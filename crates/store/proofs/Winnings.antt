@@ -11,7 +11,7 @@ use Rattle.tree.specs.ShownDocument.{shown_document}
 use Rattle.tree.specs.declared.entry.Entry.{Entry}
 use Rattle.tree.specs.declared.entry.Held.{Held}
 use Rattle.tree.proofs.Kept.{Node, revision_cmp_total}
-use Rattle.store.proofs.Pagings.{no_length}
+use Rattle.store.proofs.PageStructs.{no_length}
 use Rattle.store.specs.Indexes.{declared_fields, held_by, index_fields_of, queried_document, shown_by, winning_body}
 use Rattle.store.specs.Pages.{live_rev, live_rev_by}
 use Rattle.store.specs.Winning.{single, single_by, winner_alone}

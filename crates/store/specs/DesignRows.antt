@@ -3,7 +3,7 @@
 use Rattle.std.specs.Prelude.{◌≡◌, ℕ, false, true, List, None}
 use Rattle.tree.specs.DocumentId.{is_design_id}
 use Rattle.store.specs.Pages.{is_within}
-use Rattle.store.specs.declared.page.IdRange.{IdRange}
+use Rattle.store.specs.declared.listing.IdRange.{IdRange}
 
 -- all rows of design documents are in the range, ascending
 pub record IsDesignRange (range : IdRange) : Type 0 where

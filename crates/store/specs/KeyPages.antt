@@ -9,11 +9,11 @@ use Rattle.couch_json.specs.Value.{Value, Items, no_items, item}
 use Rattle.store.specs.Database.{Database}
 use Rattle.store.specs.Indexes.{IndexPlace, index_fields_at, index_rows}
 use Rattle.store.specs.Pages.{if_counted, in_direction, up_to_limit}
-use Rattle.store.specs.declared.key_page.CutSide.{CutSide}
-use Rattle.store.specs.declared.key_page.CutSide.TheVariants.{Before, After, AfterPrefix}
-use Rattle.store.specs.declared.key_page.KeyCut.{KeyCut}
-use Rattle.store.specs.declared.key_page.KeyRange.{KeyRange}
-use Rattle.store.specs.declared.page.RowCounts.{RowCounts}
+use Rattle.store.specs.declared.index_page.CutSide.{CutSide}
+use Rattle.store.specs.declared.index_page.CutSide.TheVariants.{Before, After, AfterPrefix}
+use Rattle.store.specs.declared.index_page.KeyCut.{KeyCut}
+use Rattle.store.specs.declared.index_page.KeyRange.{KeyRange}
+use Rattle.store.specs.declared.listing.RowCounts.{RowCounts}
 
 -- ---- cuts between keys
 

@@ -7,8 +7,8 @@ pub mod Indexes
 pub mod PlaceOrder
 pub mod KeyPages
 pub mod Writing
-pub mod Paging
-pub mod KeyPaging
+pub mod PageStructs
+pub mod KeyPageStructs
 pub mod Lawful
 pub mod Leaving
 pub mod Calls

@@ -9,11 +9,11 @@ use Rattle.std.specs.FinMap.{entries, get, put}
 use Rattle.tree.specs.Revision.{Revision}
 use Rattle.tree.specs.History.{HistoryContent, held_of, is_deleted, leaves, winner}
 use Rattle.store.specs.Database.{Database, Document}
-use Rattle.store.specs.declared.page.DocumentCounts.{DocumentCounts}
-use Rattle.store.specs.declared.page.IdRange.{IdRange}
-use Rattle.store.specs.declared.page.IdRow.{IdRow}
-use Rattle.store.specs.declared.page.RowCounts.{RowCounts}
-use Rattle.store.specs.declared.page.SeqRange.{SeqRange}
+use Rattle.store.specs.declared.listing.DocumentCounts.{DocumentCounts}
+use Rattle.store.specs.declared.listing.IdRange.{IdRange}
+use Rattle.store.specs.declared.listing.IdRow.{IdRow}
+use Rattle.store.specs.declared.listing.RowCounts.{RowCounts}
+use Rattle.store.specs.declared.listing.SeqRange.{SeqRange}
 
 -- counts come where they are asked for
 abbrev pub if_counted : {A : Type 0} → Bool → A → Option A

@@ -3,7 +3,7 @@
 ghost use Rattle.std.specs.Prelude.{IfOk};
 ghost use Rattle.store.specs.DesignRows.{IsDesignRange};
 
-use crate::page::IdRange;
+use crate::listing::IdRange;
 use crate::range_key::RangeKey;
 use couch_json::Got;
 use std::alloc::Global;

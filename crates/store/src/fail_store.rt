@@ -6,18 +6,18 @@ ghost use Rattle.store.specs.Contents.{AreAcceptable, IfThere, local_at, new_dat
 ghost use Rattle.store.specs.Database.{history_at, with_all};
 ghost use Rattle.store.specs.Failing.{TakesTurn, failing_call, failures_of, one_call_later};
 ghost use Rattle.store.specs.KeyPages.{page_of_keys};
-ghost use Rattle.store.specs.KeyPaging.{HasKeyCounts, key_page_in};
+ghost use Rattle.store.specs.KeyPageStructs.{HasKeyCounts, key_page_in};
 ghost use Rattle.store.specs.Lawful.{IsBody};
 ghost use Rattle.store.specs.Pages.{page_of_ids, page_by_sequence};
-ghost use Rattle.store.specs.Paging.{IsBounded, IsCounted, id_page_of, sequence_page_of};
+ghost use Rattle.store.specs.PageStructs.{IsBounded, IsCounted, id_page_of, sequence_page_of};
 ghost use Rattle.store.specs.Writing.{additions, writings_in};
 ghost use Rattle.tree.specs.Outline.{marked_winner, outline_of};
 
 use crate::database_name::DbName;
 use crate::fault::StoreFault;
-use crate::key_page::{KeyRange, PageByKey};
+use crate::index_page::{KeyRange, PageByKey};
+use crate::listing::{IdRange, PageById, PageBySeq, SeqRange};
 use crate::local_document::LocalDocument;
-use crate::page::{IdRange, PageById, PageBySeq, SeqRange};
 use crate::store::Store;
 use crate::write::Write;
 use policy::Security;

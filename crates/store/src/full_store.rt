@@ -8,9 +8,9 @@ ghost use Rattle.store.specs.Writing.{additions, writings_in};
 
 use crate::database_name::DbName;
 use crate::fault::StoreFault;
-use crate::key_page::{KeyRange, PageByKey};
+use crate::index_page::{KeyRange, PageByKey};
+use crate::listing::{IdRange, PageById, PageBySeq, SeqRange};
 use crate::local_document::LocalDocument;
-use crate::page::{IdRange, PageById, PageBySeq, SeqRange};
 use crate::store::Store;
 use crate::write::Write;
 use policy::Security;

@@ -16,9 +16,9 @@ ghost use Rattle.store.specs.Winning.{winner_alone};
 ghost use Rattle.store.specs.Writing.{Addition, writings_in};
 ghost use Rattle.store.specs.declared.fail_store.FailingCall.TheVariants.{After};
 ghost use Rattle.store.specs.declared.local_document.LocalDocument.{LocalDocument};
-ghost use Rattle.store.specs.declared.page.IdRange.{IdRange};
-ghost use Rattle.store.specs.declared.page.IdRow.{IdRow};
-ghost use Rattle.store.specs.declared.page.SeqRange.{SeqRange};
+ghost use Rattle.store.specs.declared.listing.IdRange.{IdRange};
+ghost use Rattle.store.specs.declared.listing.IdRow.{IdRow};
+ghost use Rattle.store.specs.declared.listing.SeqRange.{SeqRange};
 
 use std::cmp::Ordering;
 

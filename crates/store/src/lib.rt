@@ -8,24 +8,24 @@
 //! ```
 #![tactic(auto)]
 
+pub mod cuts;
 mod database_name;
 mod databases;
 mod design_rows;
 mod fail_store;
 mod fault;
 mod full_store;
-mod id_pages;
+mod index_page;
 mod indexes;
-mod key_page;
-mod key_pages;
 pub mod laws;
+mod listing;
 mod local_document;
 mod locals;
 mod order;
-mod page;
-mod pages;
-pub mod paging;
 mod plain;
+mod plain_id_pages;
+mod plain_index_pages;
+mod plain_sequence_pages;
 mod plain_store;
 mod range_key;
 mod replay;
@@ -38,11 +38,13 @@ pub use design_rows::design_range;
 pub use fail_store::{FailStore, FailingCall};
 pub use fault::StoreFault;
 pub use full_store::FullStore;
-pub use id_pages::reverse_if;
+pub use index_page::{CutSide, IndexKey, KeyCut, KeyRange, KeyRow, PageByKey};
 pub use indexes::{find_index, find_winning_body, show_queried, values_at};
-pub use key_page::{CutSide, IndexKey, KeyCut, KeyRange, KeyRow, PageByKey};
+pub use listing::{
+    DocumentCounts, IdRange, IdRow, PageById, PageBySeq, RowCounts, SeqRange, SeqRow,
+};
 pub use local_document::LocalDocument;
-pub use page::{DocumentCounts, IdRange, IdRow, PageById, PageBySeq, RowCounts, SeqRange, SeqRow};
+pub use plain_id_pages::reverse_if;
 pub use plain_store::PlainStore;
 pub use range_key::RangeKey;
 pub use store::Store;

@@ -62,7 +62,7 @@ pub use Rattle.store.specs.Lawful.{AreLawful, IsBody}
 pub use Rattle.store.specs.Pages.{SequenceRow, document_counts, gone_count, in_sequence, is_gone_by, live_count, live_rev, live_rev_by, put_in_sequence, rows_of, with_row}
 pub use Rattle.store.specs.Writing.{Addition, written_in}
 pub use Rattle.store.specs.declared.local_document.LocalDocument.{LocalDocument}
-pub use Rattle.store.specs.declared.page.IdRow.{IdRow}
+pub use Rattle.store.specs.declared.listing.IdRow.{IdRow}
 pub use Rattle.tables.specs.Calls.{Reads, ReadsInside}
 pub use Rattle.tables.specs.Edits.{AreInserted, HasWritten, IsStorable, IsWritable, IsWrite, history_after, history_before, new_entries, row_after, with_revisions}
 pub use Rattle.tables.specs.Layout.{AreDatabaseRows, AreKeyed, AreNumbered, IsDatabaseNumber, IsDatabaseRow, IsDocumentRow, IsEmpty, IsFirstStore, IsKeyed, IsLaid, IsLaidAt, IsLocalRow, IsNew, IsRenewed, IsRevisionRow, IsStore, database_at, version_row}

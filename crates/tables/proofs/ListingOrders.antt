@@ -3,7 +3,7 @@ use Rattle.tables.proofs.Common.{AllByRecursion, Bool, Equal-is, FinMap, IsAntis
 use Rattle.std.specs.declared.cmp.Ordering.TheVariants.{Less, Equal, Greater}
 use Rattle.std.specs.FinMap as finite
 use Rattle.std.specs.FinMap.Entries.{by_order}
-use Rattle.store.proofs.Pagings.{no_length}
+use Rattle.store.proofs.PageStructs.{no_length}
 use Rattle.tables.proofs.RowMaps.{all_passing}
 use Rattle.tables.proofs.Sorted.{all_sorted}
 

@@ -4,7 +4,7 @@ use Rattle.std.proofs.Common.{count_by}
 use Rattle.std.proofs.lemmas.List.Sums.{sum_by-cons}
 use Rattle.std.specs.FinMap as finite
 use Rattle.store.specs.Pages as pages
-use Rattle.store.proofs.Pagings.{no_length}
+use Rattle.store.proofs.PageStructs.{no_length}
 use Rattle.tables.proofs.Laid.{history, is_lawful_winner, shown_documents, stored_winner}
 use Rattle.tables.proofs.ListingOrders.{ascending_within, entries_by_key, map_sorted}
 use Rattle.tables.proofs.RowMaps.{passing, text_exact, untied}

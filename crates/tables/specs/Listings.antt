@@ -10,8 +10,8 @@ use Rattle.tree.specs.DocumentId.{is_document_id}
 use Rattle.tree.specs.History.{leaves}
 use Rattle.tree.specs.Revision.{Revision, revision_read}
 use Rattle.store.specs.Pages.{SequenceRow}
-use Rattle.store.specs.declared.page.DocumentCounts.{DocumentCounts}
-use Rattle.store.specs.declared.page.IdRow.{IdRow}
+use Rattle.store.specs.declared.listing.DocumentCounts.{DocumentCounts}
+use Rattle.store.specs.declared.listing.IdRow.{IdRow}
 use Rattle.sqlite_value.specs.declared.value.Value.{Value}
 use Rattle.sqlite_value.specs.declared.value.Value.TheVariants.{Blob, Int}
 use Rattle.sqlite_keyed.specs.Lists.{sort_by}

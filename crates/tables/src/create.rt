@@ -12,6 +12,18 @@ ghost use Rattle.tables.specs.Schema.{meta_tree};
 use crate::statement::change;
 use sqlite::{Alter, Error, Transaction};
 
+/// Makes all seven tables, where there is none, and writes the version.
+pub fn create_tables<S: Alter>(tx: &mut Transaction<'_, S>) -> Result<(), Error>
+    ensures same_reference { tx.new.conn.ghost_name ≡ tx.old.conn.ghost_name }
+    ensures ok { HasCleanDisk (state S.Store tx.new.conn.now) → tx.old.conn.now.schema ≡ tables.no_schema
+        → OnOk result (IsNew (state S.Store tx.new.conn.now).now) }
+    ensures inside { Stays S.Store tx.old.conn.now tx.new.conn.now result }
+    ensures proceeds { Proceeds S.Store tx.old.conn.now tx.new.conn.now }
+{
+    make_tables(tx)?;
+    insert_version(tx)
+}
+
 /// Writes the version of the layout.
 pub(crate) fn insert_version<S: Alter>(tx: &mut Transaction<'_, S>) -> Result<(), Error>
     ensures same_reference { tx.new.conn.ghost_name ≡ tx.old.conn.ghost_name }
@@ -63,16 +75,4 @@ fn make_tables<S: Alter>(tx: &mut Transaction<'_, S>) -> Result<(), Error>
         "CREATE TABLE entries (decl INTEGER NOT NULL, k BLOB NOT NULL, id BLOB NOT NULL, PRIMARY KEY (decl, k, id)) STRICT",
         &[],
     )
-}
-
-/// Makes all seven tables, where there is none, and writes the version.
-pub fn create_tables<S: Alter>(tx: &mut Transaction<'_, S>) -> Result<(), Error>
-    ensures same_reference { tx.new.conn.ghost_name ≡ tx.old.conn.ghost_name }
-    ensures ok { HasCleanDisk (state S.Store tx.new.conn.now) → tx.old.conn.now.schema ≡ tables.no_schema
-        → OnOk result (IsNew (state S.Store tx.new.conn.now).now) }
-    ensures inside { Stays S.Store tx.old.conn.now tx.new.conn.now result }
-    ensures proceeds { Proceeds S.Store tx.old.conn.now tx.new.conn.now }
-{
-    make_tables(tx)?;
-    insert_version(tx)
 }

@@ -1,20 +1,20 @@
 //! The databases as rows of SQLite tables.
 #![tactic(auto)]
 
-pub mod changes;
+pub mod contents_laws;
 mod create;
 pub mod databases;
 mod decode;
 pub mod documents;
-pub mod edits;
 pub mod laws;
 pub mod listings;
 pub mod locals;
 mod meta;
-pub mod reads_in;
 mod renewing;
 pub mod revisions;
 pub mod statement;
+pub mod transaction_reads;
+pub mod write_laws;
 
 pub use create::create_tables;
 pub use decode::{

@@ -35,6 +35,33 @@ pub enum FileVersion {
     Other = 3,
 }
 
+/// Tells which of the tables a schema has, by their names.
+pub fn tables_in(schema: &Schema) -> FoundTables
+    ensures nothing { result ≡ FoundTables.Nothing ↔ schema.now ≡ tables.no_schema }
+    ensures part { result ≡ FoundTables.Part ↔ ((has_any schema.now ≡ true) × (has_all schema.now ≡ false)) }
+    ensures all { result ≡ FoundTables.All ↔ has_all schema.now ≡ true }
+{
+    if has_all(schema) {
+        return FoundTables::All;
+    }
+    if has_any(schema) {
+        return FoundTables::Part;
+    }
+    if is_blank(schema) {
+        FoundTables::Nothing
+    } else {
+        FoundTables::Others
+    }
+}
+
+/// Reads the version of a file, which stands in the one row of `meta`.
+pub fn read_version<S: Alter>(conn: &mut Connection<S>) -> Result<FileVersion, Error>
+    ensures { Reads S.Store (λ db. db.schema ≡ tables.schema) conn.old conn.new (λ trees version. version ≡ version_in (trees meta_tree)) result }
+{
+    let rows = version_rows(conn)?;
+    Ok(version_of(&rows))
+}
+
 fn has_table(schema: &Schema, name: &str) -> bool
     ensures { result ≡ has_table schema.now name.now }
 {
@@ -71,25 +98,6 @@ fn is_blank(schema: &Schema) -> bool
     schema.tables.is_empty() && schema.indexes.is_empty() && schema.views.is_empty()
 }
 
-/// Tells which of the tables a schema has, by their names.
-pub fn tables_in(schema: &Schema) -> FoundTables
-    ensures nothing { result ≡ FoundTables.Nothing ↔ schema.now ≡ tables.no_schema }
-    ensures part { result ≡ FoundTables.Part ↔ ((has_any schema.now ≡ true) × (has_all schema.now ≡ false)) }
-    ensures all { result ≡ FoundTables.All ↔ has_all schema.now ≡ true }
-{
-    if has_all(schema) {
-        return FoundTables::All;
-    }
-    if has_any(schema) {
-        return FoundTables::Part;
-    }
-    if is_blank(schema) {
-        FoundTables::Nothing
-    } else {
-        FoundTables::Others
-    }
-}
-
 fn version_rows<S: Alter>(conn: &mut Connection<S>) -> Result<Vec<Row>, Error>
     ensures { Reads S.Store (λ db. db.schema ≡ tables.schema) conn.old conn.new (λ trees rows. IsPermutation (map shown_version (trees meta_tree)) rows.items) result }
 {
@@ -107,12 +115,4 @@ fn version_of(rows: &[Row]) -> FileVersion
         Ok(ValueRef::Int(1)) => FileVersion::First,
         _ => FileVersion::Other,
     }
-}
-
-/// Reads the version of a file, which stands in the one row of `meta`.
-pub fn read_version<S: Alter>(conn: &mut Connection<S>) -> Result<FileVersion, Error>
-    ensures { Reads S.Store (λ db. db.schema ≡ tables.schema) conn.old conn.new (λ trees version. version ≡ version_in (trees meta_tree)) result }
-{
-    let rows = version_rows(conn)?;
-    Ok(version_of(&rows))
 }

@@ -33,8 +33,74 @@ use sqlite::{Alter, Connection, Transaction};
 use std::alloc::Global;
 use std::collections::BTreeMap;
 use store::Write;
-use tables::reads_in::{document_rows_in, revision_rows_in};
+use tables::transaction_reads::{document_rows_in, revision_rows_in};
 use tree::{DocId, History};
+
+/// Does the writes of a database, all of them or none.
+pub fn commit_writes<S: Alter>(
+    alloc: Global,
+    conn: &mut Connection<S>,
+    db: &i64,
+    sequence: u64,
+    writes: &[Write],
+) -> Result<(), CommitFault>
+    requires idle { conn.old.in_transaction ≡ false }
+    requires room { sequence + length writes.now < 2 ^ 63 }
+    ensures ok { (name : List ℕ) → HasCleanDisk (state S.Store conn.new) → IsIndexedStore (state S.Store conn.old).now
+        → (due : AreDue (additions writes.now) name db.now sequence (state S.Store conn.old).now.trees)
+        → OnOk result (HasWritten (writings_in (database_of (state S.Store conn.old).now.trees due.row) (additions writes.now)) name due.row
+        (state S.Store conn.old).now (state S.Store conn.new).now × IsIndexed (state S.Store conn.new).now.trees) }
+    ensures err { (name : List ℕ) → IfErr result (IsUnwritten (IsSoundIndexed S.Store (λ d. AreDue (additions writes.now) name db.now sequence d.trees) conn.old conn.new)) }
+    ensures turns { Turns S.Store conn.old conn.new }
+    ensures done { IsDone S.Store conn.old conn.new result }
+    ensures undone { (name : List ℕ) → IsIndexedStore (state S.Store conn.old).now → AreDue (additions writes.now) name db.now sequence (state S.Store conn.old).now.trees
+        → IsUndone S.Store conn.old conn.new result }
+{
+    let mut tx = conn.transaction();
+    write_all(alloc, &mut tx, db, sequence, writes)?;
+    tx.commit()?;
+    Ok(())
+}
+
+/// Writes a document under this sequence, in a transaction. Its history is taken from those that were
+/// read, or else read as far as the write asks; where it is there as a whole it is put back as it is after
+/// the write.
+pub(crate) fn write_document<S: Alter>(
+    alloc: Global,
+    tx: &mut Transaction<'_, S>,
+    db: &i64,
+    sequence: &i64,
+    histories: &mut BTreeMap<DocId, History>,
+    write: &Write,
+) -> Result<(), CommitFault>
+    ensures same_reference { tx.new.conn.ghost_name ≡ tx.old.conn.ghost_name }
+    ensures ok { (r : Row) → HasCleanDisk (state S.Store tx.new.conn.now) → IsStore (state S.Store tx.old.conn.now).now
+        → AreStored histories.old (history_in ((state S.Store tx.old.conn.now).now.trees revs_tree) db.now)
+        → HasPlaceFor (history_in ((state S.Store tx.old.conn.now).now.trees revs_tree) (number_of r) (addition_of write.now).id) (addition_of write.now)
+        → db.now ≡ number_of r → sequence.now ≡ pos (length_of r + 1)
+        → OnOk result (IsWrite r (written_in (history_in ((state S.Store tx.old.conn.now).now.trees revs_tree) (number_of r) (addition_of write.now).id) (addition_of write.now))
+        (state S.Store tx.old.conn.now).now (state S.Store tx.new.conn.now).now) }
+    ensures after { HasCleanDisk (state S.Store tx.new.conn.now) → IsStore (state S.Store tx.old.conn.now).now
+        → AreStored histories.old (history_in ((state S.Store tx.old.conn.now).now.trees revs_tree) db.now)
+        → OnOk result (IsWithin histories.old (addition_of write.now).id
+        (with_addition (history_in ((state S.Store tx.old.conn.now).now.trees revs_tree) db.now (addition_of write.now).id) (addition_of write.now)) histories.new) }
+    ensures lawful { OnOk result (IsLawfulAddition (addition_of write.now)) }
+    ensures inside { HasCleanDisk (state S.Store tx.new.conn.now) → OnOk result (IsTrue (state S.Store tx.new.conn.now).is_open × ((state S.Store tx.new.conn.now).in_transaction ≡ true)) }
+    ensures err { IfErr result (IsUnwritten (IsHeldOpen histories.old (state S.Store tx.old.conn.now)
+        × IsSound S.Store (λ trees. AreStored histories.old (history_in (trees revs_tree) db.now) × HasBest (history_with trees db.now (addition_of write.now))) tx.old.conn.now tx.new.conn.now)) }
+    ensures looks { LooksInside S.Store tx.old.conn.now tx.new.conn.now }
+    ensures asks { AsksInside S.Store tx.old.conn.now tx.new.conn.now }
+{
+    if let Some(history) = histories.remove(&write.id) {
+        let history = write_known(alloc, tx, db, sequence, history, write)?;
+        put_history(alloc, histories, &write.id, history)?;
+        return Ok(());
+    }
+    if let Some(history) = write_unread(alloc, tx, db, sequence, write)? {
+        put_history(alloc, histories, &write.id, history)?;
+    }
+    Ok(())
+}
 
 /// Reads the history of a document within a transaction.
 fn read_document<S: Alter>(
@@ -180,46 +246,6 @@ fn put_history(
     Ok(())
 }
 
-/// Writes a document under this sequence, in a transaction. Its history is taken from those that were
-/// read, or else read as far as the write asks; where it is there as a whole it is put back as it is after
-/// the write.
-pub(crate) fn write_document<S: Alter>(
-    alloc: Global,
-    tx: &mut Transaction<'_, S>,
-    db: &i64,
-    sequence: &i64,
-    histories: &mut BTreeMap<DocId, History>,
-    write: &Write,
-) -> Result<(), CommitFault>
-    ensures same_reference { tx.new.conn.ghost_name ≡ tx.old.conn.ghost_name }
-    ensures ok { (r : Row) → HasCleanDisk (state S.Store tx.new.conn.now) → IsStore (state S.Store tx.old.conn.now).now
-        → AreStored histories.old (history_in ((state S.Store tx.old.conn.now).now.trees revs_tree) db.now)
-        → HasPlaceFor (history_in ((state S.Store tx.old.conn.now).now.trees revs_tree) (number_of r) (addition_of write.now).id) (addition_of write.now)
-        → db.now ≡ number_of r → sequence.now ≡ pos (length_of r + 1)
-        → OnOk result (IsWrite r (written_in (history_in ((state S.Store tx.old.conn.now).now.trees revs_tree) (number_of r) (addition_of write.now).id) (addition_of write.now))
-        (state S.Store tx.old.conn.now).now (state S.Store tx.new.conn.now).now) }
-    ensures after { HasCleanDisk (state S.Store tx.new.conn.now) → IsStore (state S.Store tx.old.conn.now).now
-        → AreStored histories.old (history_in ((state S.Store tx.old.conn.now).now.trees revs_tree) db.now)
-        → OnOk result (IsWithin histories.old (addition_of write.now).id
-        (with_addition (history_in ((state S.Store tx.old.conn.now).now.trees revs_tree) db.now (addition_of write.now).id) (addition_of write.now)) histories.new) }
-    ensures lawful { OnOk result (IsLawfulAddition (addition_of write.now)) }
-    ensures inside { HasCleanDisk (state S.Store tx.new.conn.now) → OnOk result (IsTrue (state S.Store tx.new.conn.now).is_open × ((state S.Store tx.new.conn.now).in_transaction ≡ true)) }
-    ensures err { IfErr result (IsUnwritten (IsHeldOpen histories.old (state S.Store tx.old.conn.now)
-        × IsSound S.Store (λ trees. AreStored histories.old (history_in (trees revs_tree) db.now) × HasBest (history_with trees db.now (addition_of write.now))) tx.old.conn.now tx.new.conn.now)) }
-    ensures looks { LooksInside S.Store tx.old.conn.now tx.new.conn.now }
-    ensures asks { AsksInside S.Store tx.old.conn.now tx.new.conn.now }
-{
-    if let Some(history) = histories.remove(&write.id) {
-        let history = write_known(alloc, tx, db, sequence, history, write)?;
-        put_history(alloc, histories, &write.id, history)?;
-        return Ok(());
-    }
-    if let Some(history) = write_unread(alloc, tx, db, sequence, write)? {
-        put_history(alloc, histories, &write.id, history)?;
-    }
-    Ok(())
-}
-
 /// Returns the integer that SQLite holds for a count.
 pub fn integer_of(count: u64) -> i64
     requires { count < 2 ^ 63 }
@@ -290,30 +316,4 @@ fn write_all<S: Alter>(
 {
     let mut indexes = list_declarations(alloc, tx, db)?;
     write_each(alloc, tx, db, sequence, &mut indexes, writes)
-}
-
-/// Does the writes of a database, all of them or none.
-pub fn commit_writes<S: Alter>(
-    alloc: Global,
-    conn: &mut Connection<S>,
-    db: &i64,
-    sequence: u64,
-    writes: &[Write],
-) -> Result<(), CommitFault>
-    requires idle { conn.old.in_transaction ≡ false }
-    requires room { sequence + length writes.now < 2 ^ 63 }
-    ensures ok { (name : List ℕ) → HasCleanDisk (state S.Store conn.new) → IsIndexedStore (state S.Store conn.old).now
-        → (due : AreDue (additions writes.now) name db.now sequence (state S.Store conn.old).now.trees)
-        → OnOk result (HasWritten (writings_in (database_of (state S.Store conn.old).now.trees due.row) (additions writes.now)) name due.row
-        (state S.Store conn.old).now (state S.Store conn.new).now × IsIndexed (state S.Store conn.new).now.trees) }
-    ensures err { (name : List ℕ) → IfErr result (IsUnwritten (IsSoundIndexed S.Store (λ d. AreDue (additions writes.now) name db.now sequence d.trees) conn.old conn.new)) }
-    ensures turns { Turns S.Store conn.old conn.new }
-    ensures done { IsDone S.Store conn.old conn.new result }
-    ensures undone { (name : List ℕ) → IsIndexedStore (state S.Store conn.old).now → AreDue (additions writes.now) name db.now sequence (state S.Store conn.old).now.trees
-        → IsUndone S.Store conn.old conn.new result }
-{
-    let mut tx = conn.transaction();
-    write_all(alloc, &mut tx, db, sequence, writes)?;
-    tx.commit()?;
-    Ok(())
 }

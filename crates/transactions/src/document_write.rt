@@ -37,6 +37,37 @@ use tables::documents::{delete_document, insert_document};
 use tables::revisions::insert_revision;
 use tree::{History, Rev, find_next};
 
+/// Does one write of a document, whose history says what the write asks of the one before it.
+pub(crate) fn add_write<S: Alter>(
+    alloc: Global,
+    tx: &mut Transaction<'_, S>,
+    db: &i64,
+    sequence: &i64,
+    history: &mut History,
+    write: &Write,
+) -> Result<(), CommitFault>
+    ensures same_reference { tx.new.conn.ghost_name ≡ tx.old.conn.ghost_name }
+    ensures ok { (r : Row) → HasCleanDisk (state S.Store tx.new.conn.now) → IsStore (state S.Store tx.old.conn.now).now
+        → Serves (addition_of write.now) (history_in ((state S.Store tx.old.conn.now).now.trees revs_tree) (number_of r) (addition_of write.now).id) history.old
+        → db.now ≡ number_of r → sequence.now ≡ pos (length_of r + 1)
+        → OnOk result (IsWrite r (written_in (history_in ((state S.Store tx.old.conn.now).now.trees revs_tree) (number_of r) (addition_of write.now).id) (addition_of write.now))
+        (state S.Store tx.old.conn.now).now (state S.Store tx.new.conn.now).now) }
+    ensures after { OnOk result (history.new ≡ with_addition history.old (addition_of write.now)) }
+    ensures err { IfErr result (IsUnwritten (HasBest (with_addition history.old (addition_of write.now)))) }
+    ensures lawful { OnOk result (IsLawfulAddition (addition_of write.now)) }
+    ensures inside { Stays S.Store tx.old.conn.now tx.new.conn.now result }
+    ensures proceeds { Proceeds S.Store tx.old.conn.now tx.new.conn.now }
+{
+    let is_new = history.winner().is_none();
+    insert_revisions(alloc, tx, db, history, write)?;
+    history.put(&write.path, write.parent, write.deleted, &write.body)?;
+    let (text, deleted) = best_of(alloc, history)?;
+    let id = write.id.as_str().as_bytes();
+    place_document(tx, db, id, sequence, text.as_str(), deleted, is_new)?;
+    advance_database(tx, db, sequence)?;
+    Ok(())
+}
+
 /// Puts in the row of one revision of a document that only stands in a path, if the history doesn't
 /// know it.
 fn insert_passed<S: Alter>(
@@ -251,35 +282,4 @@ fn best_of(alloc: Global, history: &History) -> Result<(String, bool), HistoryFa
     let deleted = history.is_deleted(rev);
     let text = rev.text(alloc)?;
     Ok((text, deleted))
-}
-
-/// Does one write of a document, whose history says what the write asks of the one before it.
-pub(crate) fn add_write<S: Alter>(
-    alloc: Global,
-    tx: &mut Transaction<'_, S>,
-    db: &i64,
-    sequence: &i64,
-    history: &mut History,
-    write: &Write,
-) -> Result<(), CommitFault>
-    ensures same_reference { tx.new.conn.ghost_name ≡ tx.old.conn.ghost_name }
-    ensures ok { (r : Row) → HasCleanDisk (state S.Store tx.new.conn.now) → IsStore (state S.Store tx.old.conn.now).now
-        → Serves (addition_of write.now) (history_in ((state S.Store tx.old.conn.now).now.trees revs_tree) (number_of r) (addition_of write.now).id) history.old
-        → db.now ≡ number_of r → sequence.now ≡ pos (length_of r + 1)
-        → OnOk result (IsWrite r (written_in (history_in ((state S.Store tx.old.conn.now).now.trees revs_tree) (number_of r) (addition_of write.now).id) (addition_of write.now))
-        (state S.Store tx.old.conn.now).now (state S.Store tx.new.conn.now).now) }
-    ensures after { OnOk result (history.new ≡ with_addition history.old (addition_of write.now)) }
-    ensures err { IfErr result (IsUnwritten (HasBest (with_addition history.old (addition_of write.now)))) }
-    ensures lawful { OnOk result (IsLawfulAddition (addition_of write.now)) }
-    ensures inside { Stays S.Store tx.old.conn.now tx.new.conn.now result }
-    ensures proceeds { Proceeds S.Store tx.old.conn.now tx.new.conn.now }
-{
-    let is_new = history.winner().is_none();
-    insert_revisions(alloc, tx, db, history, write)?;
-    history.put(&write.path, write.parent, write.deleted, &write.body)?;
-    let (text, deleted) = best_of(alloc, history)?;
-    let id = write.id.as_str().as_bytes();
-    place_document(tx, db, id, sequence, text.as_str(), deleted, is_new)?;
-    advance_database(tx, db, sequence)?;
-    Ok(())
 }

@@ -18,7 +18,7 @@ use crate::indexing::redeclare;
 use sqlite::{Alter, Connection, Row, Transaction};
 use std::alloc::Global;
 use store::StoreFault;
-use tables::reads_in::rows_between_in;
+use tables::transaction_reads::rows_between_in;
 use tables::{RowFault, id_at, renew_tables, whole_at};
 use tree::DocId;
 

@@ -23,7 +23,7 @@ use couch_json::Json;
 use sqlite::{Alter, Row, Transaction};
 use std::alloc::Global;
 use store::{StoreFault, show_queried, take_held};
-use tables::reads_in::{document_rows_in, one_revision_rows_in};
+use tables::transaction_reads::{document_rows_in, one_revision_rows_in};
 use tables::{FoundRevision, RowFault, read_revision};
 use tree::{Body, DocId, Entry, Held, History, MarkedRev, Rev};
 

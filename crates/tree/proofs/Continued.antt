@@ -4,7 +4,7 @@ use Rattle.std.proofs.lemmas.Bool.{false≢true}
 use Rattle.std.specs.FinMap.{get}
 use Rattle.tree.specs.Revision.{Revision}
 use Rattle.tree.specs.Write.{Write, is_whole, counts_down, head, IsBehind, IsKnown, IsParent, AreWhole, IsLawful}
-use Rattle.tree.specs.History.{HistoryContent, is_known, same_parent, agrees, keeps_parents, is_head_known, placement, content_of, with_write, GoesOn}
+use Rattle.tree.specs.History.{HistoryContent, is_known, same_parent, agrees, keeps_parents, is_head_known, placement, content_of, with_write, IsWithWrite}
 use Rattle.tree.specs.declared.entry.Entry.{Entry}
 use Rattle.tree.specs.declared.placement.Placed.{Placed}
 use Rattle.tree.specs.declared.placement.Placed.TheVariants.{Added, Known}
@@ -237,7 +237,7 @@ goes_on_added ws w lawful = is_added (content_of ws) w.path (record { whole = wh
     new = new_at w.path (head w.path) refl refl
 
 -- a write that was added goes on with whatever lawful list stands behind the content
-pub goes_on : (old : HistoryContent) (w : Write) (new : HistoryContent) → placement old w.path ≡ Ok Added → new ≡ with_write old w → GoesOn old w new
+pub goes_on : (old : HistoryContent) (w : Write) (new : HistoryContent) → placement old w.path ≡ Ok Added → new ≡ with_write old w → IsWithWrite old w new
 goes_on old w new added is ws lawful behind = (
   added_goes_on ws w lawful (ap (λ (h : HistoryContent). placement h w.path) (sym behind) ∙ added),
   is ∙ ap (λ (h : HistoryContent). with_write h w) behind ∙ sym (one_more_write ws w),

@@ -188,8 +188,8 @@ abbrev pub content_after : HistoryContent → Write → HistoryContent
 content_after h w = if is_head_known h w.path then h else with_write h w
 
 -- what stands behind the old content, with this write at its end, is lawful and stands behind the new
-abbrev pub GoesOn : HistoryContent → Write → HistoryContent → Type 0
-GoesOn old w new =
+abbrev pub IsWithWrite : HistoryContent → Write → HistoryContent → Type 0
+IsWithWrite old w new =
     (ws : List Write) → IsLawful ws → old ≡ content_of ws → IsLawful (ws ++ w ∷ []) × (new ≡ content_of (ws ++ w ∷ []))
 
 -- ---- what a content says of the writes behind it

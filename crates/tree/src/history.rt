@@ -2,7 +2,7 @@ ghost use Rattle.std.specs.Prelude.{◌≡◌, ◌≢◌, ◌++◌, Option, Some
 ghost use Rattle.std.specs.FinMap as map;
 ghost use Rattle.couch_json.specs.View.{view};
 ghost use Rattle.tree.specs.Write.{counts_down, head, is_whole};
-ghost use Rattle.tree.specs.History.{GoesOn, agrees, behind, chain, has_child, held_of, is_deleted, is_head_known, is_known, is_leaf, is_leaf_in, is_live, keeps_parents, leaves, leaves_marked, line, placement, row_of, winner, with_new, with_write};
+ghost use Rattle.tree.specs.History.{IsWithWrite, agrees, behind, chain, has_child, held_of, is_deleted, is_head_known, is_known, is_leaf, is_leaf_in, is_live, keeps_parents, leaves, leaves_marked, line, placement, row_of, winner, with_new, with_write};
 ghost use Rattle.tree.specs.Outline.{marked_winner, outline_of};
 
 use crate::body::Body;
@@ -104,7 +104,7 @@ impl History {
         ensures added { result ≡ Ok Placed.Added
             → self.new ≡ with_write self.old (record { path = path.now; deleted = deleted; body = view body.now }) }
         ensures lawful { result ≡ Ok Placed.Added
-            → GoesOn self.old (record { path = path.now; deleted = deleted; body = view body.now }) self.new }
+            → IsWithWrite self.old (record { path = path.now; deleted = deleted; body = view body.now }) self.new }
         ensures known { result ≡ Ok Placed.Known → self.new ≡ self.old }
         ensures refused { IfErr result (λ e. e ≢ TreeFault.Memory → placement self.old path.now ≡ Err e) }
         ensures memory { result ≡ Err TreeFault.Memory → placement self.old path.now ≡ Ok Placed.Added }

@@ -25,7 +25,7 @@ mod texts;
 mod tokens;
 mod users;
 
-use rows::{Player, Report, RowText, RowsFault, play, play_files};
+use rows::{PlayReport, Player, RowText, RowsFault, play, play_files};
 use std::alloc::Global;
 use std::process::ExitCode;
 
@@ -39,7 +39,11 @@ fn main(rt: HostRuntime) -> ExitCode {
 }
 
 impl Player for Values {
-    fn play_file(alloc: Global, file: RowText<'_>, report: &mut Report) -> Result<(), RowsFault> {
+    fn play_file(
+        alloc: Global,
+        file: RowText<'_>,
+        report: &mut PlayReport,
+    ) -> Result<(), RowsFault> {
         if let Some(kind) = plain::PlainRows::of_ending(alloc, file.ending) {
             return play(alloc, file, kind, report);
         }

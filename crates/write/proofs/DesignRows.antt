@@ -15,8 +15,8 @@ use Rattle.store.specs.Contents.{IfThere}
 use Rattle.store.specs.Database.{Database, history_in}
 use Rattle.store.specs.DesignRows.{IsDesignRange}
 use Rattle.store.specs.Pages.{IdPage, in_direction, is_within, live_rev, live_rows, page_of_ids, rows_within, up_to_limit, with_row}
-use Rattle.store.specs.declared.page.IdRange.{IdRange}
-use Rattle.store.specs.declared.page.IdRow.{IdRow}
+use Rattle.store.specs.declared.listing.IdRange.{IdRange}
+use Rattle.store.specs.declared.listing.IdRow.{IdRow}
 use Rattle.store.proofs.Listings.{Entry, In, in_found}
 use Rattle.write.specs.Terms.{Terms, as_design_document, design_document_of, design_documents_in, rules_in, terms_in}
 use Rattle.store.specs.Indexes.{held_by, winning_body}

@@ -54,7 +54,7 @@ behind_known (w ∷ ws) r whole (inr i) = let k = behind_known ws r whole.1 i in
 -- ---- a revision to follow
 
 -- what stands behind a revision is whole by itself and keeps the parents that are known, and there is nothing behind none
-pub record GoesOn (h : HistoryContent) (parent : Option Revision) : Type 0 where
+pub record MayBeFollowed (h : HistoryContent) (parent : Option Revision) : Type 0 where
   pub counts : counts_down (behind h parent) ≡ true
   pub keeps : keeps_parents h (behind h parent) ≡ true
   pub number : number_before parent ≡ length (behind h parent)
@@ -65,7 +65,7 @@ number_of r rest c = eqb-true r.number (suc (length rest)) (parts _ _ c).0
 known_line : (h : HistoryContent) (r : Revision) (path : List Revision) → is_known h r ≡ true → chain h r ≡ Some path → line h r.number r ≡ path
 known_line h r path known is = inside (line h r.number r) path (sym (ap (λ b. cond b (Some (line h r.number r)) None) known) ∙ is)
 
-known_goes_on : (ws : List Write) (r : Revision) → AreWritten ws → is_known (content_of ws) r ≡ true → GoesOn (content_of ws) (Some r)
+known_goes_on : (ws : List Write) (r : Revision) → AreWritten ws → is_known (content_of ws) r ≡ true → MayBeFollowed (content_of ws) (Some r)
 known_goes_on ws r lawful known =
     let back = behind_known ws r lawful.whole ((is_known_writes ws r).0 known) in
     let same : line (content_of ws) r.number r ≡ r ∷ back.rest = known_line (content_of ws) r (r ∷ back.rest) known (chain_is_path ws lawful r back.rest back.ending) in
@@ -76,7 +76,7 @@ known_goes_on ws r lawful known =
       number = number_of r back.rest back.counts ∙ sym (ap length same);
     }
 
-none_goes_on : (h : HistoryContent) → GoesOn h None
+none_goes_on : (h : HistoryContent) → MayBeFollowed h None
 none_goes_on h = record { counts = refl; keeps = refl; number = refl }
 
 deleted_known : (h : HistoryContent) (r : Revision) (o : Option Entry) → get h r ≡ o → is_deleted (option_and_then (λ (e : Entry). e.held) o) ≡ true → is_known h r ≡ true
@@ -87,22 +87,22 @@ leaf_known : (known childless : Bool) → (known && childless) ≡ true → know
 leaf_known true childless e = refl
 leaf_known false childless e = e
 
-followed : (ws : List Write) (r : Revision) (parent : Option Revision) → AreWritten ws → is_known (content_of ws) r ≡ true → Some (Some r) ≡ Some parent → GoesOn (content_of ws) parent
-followed ws r parent lawful known is = subst (GoesOn (content_of ws)) (inside (Some r) parent is) (known_goes_on ws r lawful known)
+followed : (ws : List Write) (r : Revision) (parent : Option Revision) → AreWritten ws → is_known (content_of ws) r ≡ true → Some (Some r) ≡ Some parent → MayBeFollowed (content_of ws) parent
+followed ws r parent lawful known is = subst (MayBeFollowed (content_of ws)) (inside (Some r) parent is) (known_goes_on ws r lawful known)
 
-extended_goes_on : (ws : List Write) (o parent : Option Revision) → AreWritten ws → extended_leaf (content_of ws) o ≡ Some parent → GoesOn (content_of ws) parent
-extended_goes_on ws None parent lawful e = subst (GoesOn (content_of ws)) (inside None parent e) (none_goes_on (content_of ws))
+extended_goes_on : (ws : List Write) (o parent : Option Revision) → AreWritten ws → extended_leaf (content_of ws) o ≡ Some parent → MayBeFollowed (content_of ws) parent
+extended_goes_on ws None parent lawful e = subst (MayBeFollowed (content_of ws)) (inside None parent e) (none_goes_on (content_of ws))
 extended_goes_on ws (Some r) parent lawful e = by (is_deleted (held_of (content_of ws) r)) refl e
   where
-    by : (b : Bool) → is_deleted (held_of (content_of ws) r) ≡ b → cond b (Some (Some r)) None ≡ Some parent → GoesOn (content_of ws) parent
+    by : (b : Bool) → is_deleted (held_of (content_of ws) r) ≡ b → cond b (Some (Some r)) None ≡ Some parent → MayBeFollowed (content_of ws) parent
     by true d k = followed ws r parent lawful (deleted_known (content_of ws) r (get (content_of ws) r) refl d) k
     by false d k = cc
 
-base_goes_on : (ws : List Write) (named parent : Option Revision) → AreWritten ws → base (content_of ws) named ≡ Some parent → GoesOn (content_of ws) parent
+base_goes_on : (ws : List Write) (named parent : Option Revision) → AreWritten ws → base (content_of ws) named ≡ Some parent → MayBeFollowed (content_of ws) parent
 base_goes_on ws None parent lawful e = extended_goes_on ws (winner (content_of ws)) parent lawful e
 base_goes_on ws (Some r) parent lawful e = by (is_leaf (content_of ws) r) refl e
   where
-    by : (b : Bool) → is_leaf (content_of ws) r ≡ b → cond b (Some (Some r)) None ≡ Some parent → GoesOn (content_of ws) parent
+    by : (b : Bool) → is_leaf (content_of ws) r ≡ b → cond b (Some (Some r)) None ≡ Some parent → MayBeFollowed (content_of ws) parent
     by true d k = followed ws r parent lawful (leaf_known (is_known (content_of ws) r) _ d) k
     by false d k = cc
 
@@ -112,12 +112,12 @@ unknown : (o : Option Entry) → is_some o ≡ false → o ≡ None
 unknown None h = refl
 unknown (Some e) h = cc
 
-whole_next : (h : HistoryContent) (parent : Option Revision) (deleted : Bool) (body : Value) → GoesOn h parent → is_whole (next_revision parent deleted body ∷ behind h parent) ≡ true
+whole_next : (h : HistoryContent) (parent : Option Revision) (deleted : Bool) (body : Value) → MayBeFollowed h parent → is_whole (next_revision parent deleted body ∷ behind h parent) ≡ true
 whole_next h parent deleted body k =
     let number : (number_before parent + 1 == suc (length (behind h parent))) ≡ true = grind (arith, nat_tests, k.number) in rw (number, k.counts) refl
 
 -- the write with a new revision comes in
-placed_next : (h : HistoryContent) (parent : Option Revision) (deleted : Bool) (body : Value) → GoesOn h parent → is_known h (next_revision parent deleted body) ≡ false
+placed_next : (h : HistoryContent) (parent : Option Revision) (deleted : Bool) (body : Value) → MayBeFollowed h parent → is_known h (next_revision parent deleted body) ≡ false
     → placement h (next_revision parent deleted body ∷ behind h parent) ≡ Ok Added
 placed_next h parent deleted body k new =
     let r = next_revision parent deleted body in
@@ -130,9 +130,9 @@ placed_next h parent deleted body k new =
     by a b c x y z = rw (x, y, z) refl
 
 -- the history that stands behind what was lawfully written, and a revision that an edit may follow
-pub goes_on : (ws : List Write) (h : HistoryContent) (named parent : Option Revision) → AreWritten ws → h ≡ content_of ws → base h named ≡ Some parent → GoesOn h parent
+pub goes_on : (ws : List Write) (h : HistoryContent) (named parent : Option Revision) → AreWritten ws → h ≡ content_of ws → base h named ≡ Some parent → MayBeFollowed h parent
 goes_on ws h named parent lawful is follows =
-    subst (λ (k : HistoryContent). GoesOn k parent) (sym is) (base_goes_on ws named parent lawful (ap (λ (k : HistoryContent). base k named) (sym is) ∙ follows))
+    subst (λ (k : HistoryContent). MayBeFollowed k parent) (sym is) (base_goes_on ws named parent lawful (ap (λ (k : HistoryContent). base k named) (sym is) ∙ follows))
 
 pub edit_placed : (ws : List Write) (h : HistoryContent) (named parent : Option Revision) (deleted : Bool) (body : Value) → AreWritten ws → h ≡ content_of ws → base h named ≡ Some parent
     → is_known h (next_revision parent deleted body) ≡ false → placement h (next_revision parent deleted body ∷ behind h parent) ≡ Ok Added

@@ -17,7 +17,7 @@ impl<S: Alter> SqlStore<S> {
     ghost use Rattle.std.specs.Prelude.{◌≡◌, ◌∷◌, ◌<◌, ◌≤◌, ◌^◌, ◌-◌, [], IfOk, IfSome, Some, drop, false, is_some, length, min, true};
     ghost use Rattle.std.specs.List.{count_by};
     ghost use Rattle.store.specs.Pages.{id_page, if_counted, is_before_start, row_counts, rows_within, up_to_limit};
-    ghost use Rattle.store.specs.Paging.{IsCounted, id_page_of};
+    ghost use Rattle.store.specs.PageStructs.{IsCounted, id_page_of};
     ghost use Rattle.tables.specs.Listings.{live_range, live_rows, marked_count, shown_count};
     ghost use Rattle.tables.specs.Schema.{docs_tree};
     ghost use Rattle.sqlstore.specs.ById.{IsHighIdBound, IsLiveRangeOf, IsLowIdBound};

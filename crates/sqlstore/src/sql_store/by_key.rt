@@ -10,7 +10,7 @@ use index::{
 };
 use sqlite::{Alter, Row};
 use std::cmp::min;
-use store::paging::cut_to_limit;
+use store::cuts::cut_to_limit;
 use store::{KeyRange, KeyRow, PageByKey, RowCounts, StoreFault};
 use transactions::integer_of;
 use tree::DocId;
@@ -37,9 +37,9 @@ impl<S: Alter> SqlStore<S> {
     ghost use Rattle.store.specs.Indexes.{IndexPlace};
     ghost use Rattle.std.specs.List.{AllByRecursion, count_by};
     ghost use Rattle.store.specs.KeyPages.{is_key_before, key_counts, key_page, key_rows_within};
-    ghost use Rattle.store.specs.KeyPaging.{HasKeyCounts, key_page_of};
+    ghost use Rattle.store.specs.KeyPageStructs.{HasKeyCounts, key_page_of};
     ghost use Rattle.store.specs.Pages.{if_counted, up_to_limit};
-    ghost use Rattle.store.specs.declared.page.RowCounts.{RowCounts};
+    ghost use Rattle.store.specs.declared.listing.RowCounts.{RowCounts};
     ghost use Rattle.tables.specs.Schema.{decls_tree, entries_tree};
     ghost use Rattle.sqlstore.specs.Model.{Answers, Finds, Stands, trees_of};
     ghost use Rattle.sqlstore.specs.ByKey.{AnswersOf, IsRangeOf};

@@ -1,7 +1,7 @@
 //! The calls of the trait `Store`.
 
-use crate::names::read_names;
-use crate::shown::{first_local, read_security};
+use crate::database_names::read_names;
+use crate::first_rows::{first_local, read_security};
 use crate::sql_store::SqlStore;
 use crate::sql_store::committing::has_room;
 use policy::Security;

@@ -1,7 +1,7 @@
 //! A database, found by its name.
 
+use crate::first_rows::first_database;
 use crate::known_database::{DatabaseNumbers, KnownDatabase};
-use crate::shown::first_database;
 use crate::sql_store::SqlStore;
 use sqlite::Alter;
 use store::{DbName, StoreFault};

@@ -1,6 +1,6 @@
 use Rattle.std.proofs.Common.{◌≡◌, length, rules, sym, ◌∙◌}
 use Rattle.couch_json.specs.View.{items_view}
-use Rattle.store.proofs.Pagings.{no_length}
+use Rattle.store.proofs.PageStructs.{no_length}
 use Rattle.find.proofs.InOrder.{key_covers, key_in_order}
 use Rattle.find.proofs.ranges.fixed_range.Goals as goal
 

@@ -2,7 +2,7 @@ use Rattle.std.proofs.Common.{true, false, Some, sym, ap, ◌∙◌}
 use Rattle.couch_json.specs.Value.{array, item}
 use Rattle.selector.specs.Bounds.{contain}
 use Rattle.store.specs.KeyPages.{is_above}
-use Rattle.store.specs.declared.key_page.KeyRange.{KeyRange}
+use Rattle.store.specs.declared.index_page.KeyRange.{KeyRange}
 use Rattle.find.proofs.KeyRanges.{between}
 use Rattle.find.proofs.ranges.range_within.Goals as goal
 

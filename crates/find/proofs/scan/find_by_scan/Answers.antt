@@ -3,7 +3,7 @@ use Rattle.std.proofs.Common.{◌≡◌, [], drop, length, map, rules, sym, take
 use Rattle.std.specs.FinMap as finite
 use Rattle.couch_json.specs.View.{view}
 use Rattle.store.specs.Pages.{in_direction}
-use Rattle.store.proofs.Pagings.{no_length}
+use Rattle.store.proofs.PageStructs.{no_length}
 use Rattle.find.proofs.Candidates.{all_documents, found_among}
 use Rattle.find.proofs.Finding.{finds_by, found_by_id}
 use Rattle.find.specs.Candidates.{put_candidates}

@@ -1,5 +1,5 @@
 use Rattle.std.specs.FinMap as finite
-use Rattle.store.specs.Paging.{id_page_of}
+use Rattle.store.specs.PageStructs.{id_page_of}
 use Rattle.find.proofs.Takings.{documents_taken}
 use Rattle.find.proofs.source.take_documents.Goals as goal
 

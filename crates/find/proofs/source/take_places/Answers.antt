@@ -1,7 +1,7 @@
 use Rattle.std.proofs.Common.{ℕ, List, Some, option_map, sym, ap, ◌∙◌}
 use Rattle.std.specs.FinMap as finite
 use Rattle.store.specs.KeyPages.{page_of_keys}
-use Rattle.store.specs.KeyPaging.{key_page_in, key_page_of}
+use Rattle.store.specs.KeyPageStructs.{key_page_in, key_page_of}
 use Rattle.find.proofs.Takings.{no_places, places_taken}
 use Rattle.find.proofs.source.take_places.Goals as goal
 

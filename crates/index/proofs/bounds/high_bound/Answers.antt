@@ -1,7 +1,7 @@
 use Rattle.index.proofs.Common.{None, Option, ap, false, rules, sym, ◌∙◌, ◌≡◌}
 use Rattle.index.proofs.KeyBounds.{any_ok, none_above}
 use Rattle.store.specs.KeyPages.{is_above}
-use Rattle.store.specs.declared.key_page.KeyCut.{KeyCut}
+use Rattle.store.specs.declared.index_page.KeyCut.{KeyCut}
 use Rattle.index.proofs.bounds.high_bound.Goals as goal
 
 pub returns-in-None : goal.returns-in-None

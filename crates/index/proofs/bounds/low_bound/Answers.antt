@@ -1,7 +1,7 @@
 use Rattle.index.proofs.Common.{None, Option, ap, rules, sym, true, ◌∙◌, ◌≡◌}
 use Rattle.index.proofs.KeyBounds.{none_below}
 use Rattle.store.specs.KeyPages.{is_above}
-use Rattle.store.specs.declared.key_page.KeyCut.{KeyCut}
+use Rattle.store.specs.declared.index_page.KeyCut.{KeyCut}
 use Rattle.index.proofs.bounds.low_bound.Goals as goal
 
 pub returns-in-None : goal.returns-in-None

@@ -1,6 +1,6 @@
 use Rattle.std.proofs.Common.{◌≡◌, ◌++◌, map, drop}
 use Rattle.couch_json.specs.View.{view}
-use Rattle.store.specs.Paging.{sequence_rows}
+use Rattle.store.specs.PageStructs.{sequence_rows}
 use Rattle.read.specs.Changes.{change_object}
 use Rattle.read.proofs.change_list.build_results.Given as goal
 

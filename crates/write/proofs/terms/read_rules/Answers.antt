@@ -2,7 +2,7 @@
 use Rattle.std.proofs.Common.{ap}
 use Rattle.std.specs.FinMap as finite
 use Rattle.store.specs.Contents.{Contents}
-use Rattle.store.specs.Paging.{id_page_of}
+use Rattle.store.specs.PageStructs.{id_page_of}
 use Rattle.write.proofs.DesignRows.{rules_read}
 use Rattle.write.proofs.terms.read_rules.Goals as goal
 

@@ -4,7 +4,7 @@ use Rattle.std.specs.Prelude.{flat_map}
 use Rattle.std.specs.FinMap as finite
 use Rattle.policy.specs.UpdateRules.{Rules, rules_of, with_rules}
 use Rattle.store.specs.Contents.{Contents}
-use Rattle.store.specs.declared.page.IdRow.{IdRow}
+use Rattle.store.specs.declared.listing.IdRow.{IdRow}
 use Rattle.store.proofs.Calls.{reads_nothing, reads_then}
 use Rattle.write.specs.TermsRead.{document_at}
 use Rattle.write.proofs.DesignRows.{row_taken}

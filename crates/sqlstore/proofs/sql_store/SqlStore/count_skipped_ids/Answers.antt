@@ -2,7 +2,7 @@ use Rattle.sqlstore.proofs.Common.{Coded-set, coded_ℕ}
 use Rattle.sqlstore.proofs.IdRows.{within_counted}
 use Rattle.sqlstore.proofs.Lemmas.{Some, ap, inside, laid, sym, trees_of, was_honest, ∥∥₁_elim, ◌∙◌}
 use Rattle.std.proofs.Common.{min}
-use Rattle.store.proofs.Pagings.{smaller}
+use Rattle.store.proofs.PageStructs.{smaller}
 use Rattle.sqlstore.proofs.sql_store.SqlStore.count_skipped_ids.Goals as goal
 
 pub returns-clause-answer : goal.returns-clause-answer

@@ -1,6 +1,6 @@
 use Rattle.sqlstore.proofs.KeyEntries.{entries_before, skipped_counted}
 use Rattle.sqlstore.proofs.Lemmas.{Some, ap, inside, sym, trees_of, ◌∙◌}
-use Rattle.store.proofs.Pagings.{smaller}
+use Rattle.store.proofs.PageStructs.{smaller}
 use Rattle.tables.specs.Schema.{entries_tree}
 use Rattle.sqlstore.proofs.sql_store.SqlStore.count_skipped_keys.Goals as goal
 

@@ -1,13 +1,13 @@
 use Rattle.index.specs.Places.{AreEntriesAt, IsHighBound, IsLowBound}
 use Rattle.sqlstore.proofs.KeyEntries.{fault_of}
 use Rattle.sqlstore.proofs.Common.{Global, IndexPlace, Option, Result, Some, StoreFault, Vec, key_page}
-use Rattle.store.specs.declared.key_page.PageByKey.{PageByKey}
+use Rattle.store.specs.declared.index_page.PageByKey.{PageByKey}
 use Rattle.sqlstore.proofs.Lemmas.{Err, List, arith, rules, subst, sym, trees_of, ◌≡◌}
 use Rattle.sqlstore.specs.ByKey.{AnswersOf}
 use Rattle.sqlstore.specs.Model.{fault_count, is_honest}
-use Rattle.store.specs.KeyPaging.{key_page_of}
-use Rattle.store.specs.declared.key_page.KeyRow.{KeyRow}
-use Rattle.store.specs.declared.page.RowCounts.{RowCounts}
+use Rattle.store.specs.KeyPageStructs.{key_page_of}
+use Rattle.store.specs.declared.index_page.KeyRow.{KeyRow}
+use Rattle.store.specs.declared.listing.RowCounts.{RowCounts}
 use Rattle.tables.specs.Schema.{entries_tree}
 use Rattle.sqlstore.proofs.sql_store.SqlStore.find_page_by_key.Goals as goal
 

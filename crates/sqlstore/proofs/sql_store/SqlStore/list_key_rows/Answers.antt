@@ -5,7 +5,7 @@ use Rattle.sqlstore.proofs.Lemmas.{Err, List, Some, ap, arith, inside, map, rule
 use Rattle.sqlstore.proofs.Common.{Global, IndexPlace, Result, SqlStore, StoreFault, Vec, drop, up_to_limit}
 use Rattle.store.specs.KeyPages.{key_rows_within}
 use Rattle.sqlstore.specs.ByKey.{AnswersOf}
-use Rattle.store.specs.declared.key_page.KeyRow.{KeyRow}
+use Rattle.store.specs.declared.index_page.KeyRow.{KeyRow}
 use Rattle.sqlstore.specs.Model.{fault_count, is_honest}
 use Rattle.tables.specs.Schema.{entries_tree}
 use Rattle.sqlstore.proofs.sql_store.SqlStore.list_key_rows.Goals as goal

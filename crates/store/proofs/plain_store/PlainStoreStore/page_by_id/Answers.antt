@@ -2,7 +2,7 @@ use Rattle.std.proofs.Common.{◌≡◌, Some, option_map, sym, ap, ◌∙◌, r
 use Rattle.std.specs.FinMap as map
 use Rattle.store.specs.Pages.{page_of_ids}
 use Rattle.store.specs.Plain.{content, contents_of}
-use Rattle.store.proofs.Pagings.{page_by_id-content}
+use Rattle.store.proofs.PageStructs.{page_by_id-content}
 use Rattle.store.proofs.plain_store.PlainStoreStore.page_by_id.Goals as goal
 
 pub returns-in_ok-page_by_id-in-Some-clause-answer : goal.returns-in_ok-page_by_id-in-Some-clause-answer

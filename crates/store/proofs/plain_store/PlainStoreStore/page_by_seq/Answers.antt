@@ -2,7 +2,7 @@ use Rattle.std.proofs.Common.{◌≡◌, Some, option_map, sym, ap, ◌∙◌, r
 use Rattle.std.specs.FinMap as map
 use Rattle.store.specs.Pages.{page_by_sequence}
 use Rattle.store.specs.Plain.{content, contents_of}
-use Rattle.store.proofs.Pagings.{page_by_sequence-content}
+use Rattle.store.proofs.PageStructs.{page_by_sequence-content}
 use Rattle.store.proofs.plain_store.PlainStoreStore.page_by_seq.Goals as goal
 
 pub returns-in_ok-page_by_seq-in-Some-clause-answer : goal.returns-in_ok-page_by_seq-in-Some-clause-answer

@@ -1,8 +1,8 @@
 use Rattle.index.specs.Places.{AreEntriesAt}
 use Rattle.index.specs.Shown.{declared}
 use Rattle.store.specs.Database.{Database}
-use Rattle.store.specs.KeyPaging.{key_page_in, key_page_of}
-use Rattle.store.specs.declared.key_page.PageByKey.{PageByKey}
+use Rattle.store.specs.KeyPageStructs.{key_page_in, key_page_of}
+use Rattle.store.specs.declared.index_page.PageByKey.{PageByKey}
 use Rattle.sqlstore.proofs.Common.{Err, IndexPlace, NumberValues, Option, Result, Some, SqlStore, StoreFault, Trees, [], contents_of, get, key_page, option_map, page_of_keys}
 use Rattle.sqlstore.proofs.KeyEntries.{fault_any, no_page_found, page_found, pages_set}
 use Rattle.sqlstore.proofs.Lemmas.{DatabaseNumbers, List, ap, inside, not_found, numbers_in, rules, stands_same, stands_then, subst, sym, trees_of, was_honest, ∥∥₁_elim, ◌∙◌, ◌≡◌}

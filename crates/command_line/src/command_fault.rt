@@ -1,0 +1,36 @@
+use crate::fault::ProgramFault;
+use crate::plans::PlanFault;
+use thiserror::Error;
+
+/// Why the program did not do what it was asked, or not to its end.
+#[derive(Clone, Copy, Debug, PartialEq, Eq, Error)]
+pub enum CommandFault {
+    /// The command line was not understood.
+    #[error("{0}")]
+    Plan(PlanFault),
+    /// What it asked for ended early.
+    #[error("{0}")]
+    Program(ProgramFault),
+}
+
+impl CommandFault {
+    /// Returns the status that the program ends with: 2 where the command line is invalid, else 1.
+    pub fn status(self) -> u8 {
+        match self {
+            CommandFault::Plan(PlanFault::Usage) => 2,
+            CommandFault::Plan(PlanFault::Memory) | CommandFault::Program(_) => 1,
+        }
+    }
+}
+
+impl From<PlanFault> for CommandFault {
+    fn from(fault: PlanFault) -> CommandFault {
+        CommandFault::Plan(fault)
+    }
+}
+
+impl From<ProgramFault> for CommandFault {
+    fn from(fault: ProgramFault) -> CommandFault {
+        CommandFault::Program(fault)
+    }
+}

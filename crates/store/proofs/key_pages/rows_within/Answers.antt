@@ -1,9 +1,0 @@
-use Rattle.std.proofs.Common.{rules}
-use Rattle.std.proofs.lemmas.Fn.{filter_same}
-use Rattle.store.specs.KeyPages.{is_key_within}
-use Rattle.store.proofs.key_pages.rows_within.Goals as goal
-
-pub returns-clause-rows : goal.returns-clause-rows
-returns-clause-rows c =
-    let range = c.args.range.now in
-    filter_same _ (λ r. is_key_within range r.key) _ (λ x r f' k. search rules) _ _ c.retain.ensures.filtered

@@ -1,5 +1,0 @@
-use Rattle.tables.proofs.LocalChanges.{written_store}
-use Rattle.tables.proofs.changes.another_local.Goals as goal
-
-pub returns : goal.returns
-returns c = written_store

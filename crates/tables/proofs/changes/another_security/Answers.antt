@@ -1,5 +1,0 @@
-use Rattle.tables.proofs.Secured.{secured_store}
-use Rattle.tables.proofs.changes.another_security.Goals as goal
-
-pub returns : goal.returns
-returns c = secured_store

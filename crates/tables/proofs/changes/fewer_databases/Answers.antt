@@ -1,5 +1,0 @@
-use Rattle.tables.proofs.Removed.{removed_store}
-use Rattle.tables.proofs.changes.fewer_databases.Goals as goal
-
-pub returns : goal.returns
-returns c = removed_store

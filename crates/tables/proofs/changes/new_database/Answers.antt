@@ -1,5 +1,0 @@
-use Rattle.tables.proofs.NewDatabases.{new_store}
-use Rattle.tables.proofs.changes.new_database.Goals as goal
-
-pub returns : goal.returns
-returns c = new_store

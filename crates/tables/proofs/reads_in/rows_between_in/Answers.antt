@@ -1,7 +1,0 @@
-use Rattle.tables.proofs.Lemmas.{between_is, lists_between, reads_inside, rules}
-use Rattle.tables.proofs.reads_in.rows_between_in.Goals as goal
-
-pub returns-clause-reads : goal.returns-clause-reads
-returns-clause-reads g c =
-    reads_inside g.S.Store _ _ between_is _ (λ is. lists_between _ _ is c.args.low.now c.args.high.now c.query_in.result (λ rows. rows.items))
-    c.query_in.ensures.ok (search rules) c.query_in.ensures.served c.query_in.ensures.stands c.query_in.ensures.proceeds c.query_in.ensures.asks
