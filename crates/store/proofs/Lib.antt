@@ -10,7 +10,7 @@ pub mod Rows
 pub mod PageStructs
 pub mod Lawfuls
 pub mod Bounds
-pub mod Cuts
+pub mod PageCuts
 pub mod Calls
 pub mod RowOrders
 pub mod Directed

@@ -1,7 +1,7 @@
 use Rattle.std.proofs.Common.{ap, ◌∙◌}
 use Rattle.store.specs.Pages.{last_sequence}
 use Rattle.store.specs.PageStructs.{sequence_rows}
-use Rattle.store.proofs.Cuts.{cut_bounded, cut_made}
+use Rattle.store.proofs.PageCuts.{cut_bounded, cut_made}
 use Rattle.store.proofs.PageStructs.{smaller}
 use Rattle.store.proofs.plain_sequence_pages.cut_by_sequence.Goals as goal
 
