@@ -30,6 +30,7 @@ pub mod ListingOrders
 pub mod ListingRows
 pub mod RowMaps
 pub mod SinglePath
+pub mod FirstPath
 pub mod Lookups
 pub mod KnownRevisions
 pub mod Changed
