@@ -4,7 +4,7 @@ ghost use Rattle.std.specs.Prelude.{◌≡◌, IfOk, IfErr, Err, Some, false, op
 ghost use Rattle.std.specs.FinMap as map;
 ghost use Rattle.couch_http.specs.Message.{message_of};
 ghost use Rattle.couch_json.specs.View.{view};
-ghost use Rattle.read.specs.AnswersValue.{AnswersValue};
+ghost use Rattle.read.specs.Answers.{AnswersValue};
 ghost use Rattle.store.specs.Calls.{OnlyReads};
 ghost use Rattle.tree.specs.DocumentId.{is_local_id};
 ghost use Rattle.write.specs.Admission.{unnamed_deletion};
