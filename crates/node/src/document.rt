@@ -4,7 +4,7 @@ ghost use Rattle.std.specs.Prelude.{◌≡◌, IfOk, IfErr, Err, Some, false, op
 ghost use Rattle.std.specs.FinMap as map;
 ghost use Rattle.couch_http.specs.Message.{message_of};
 ghost use Rattle.couch_json.specs.View.{view};
-ghost use Rattle.read.specs.Answers.{Answers};
+ghost use Rattle.read.specs.Answers.{AnswersValue};
 ghost use Rattle.store.specs.Calls.{OnlyReads};
 ghost use Rattle.tree.specs.DocumentId.{is_local_id};
 ghost use Rattle.write.specs.Admission.{unnamed_deletion};
@@ -70,7 +70,7 @@ fn read_by<S: Store>(
     id: &DocId,
     query: &DocumentQuery,
 ) -> Result<Json, ReadFault>
-    ensures answer { Answers S.Store store.old store.new
+    ensures answer { AnswersValue S.Store store.old store.new
         (option_map (read_by id.now (query_of query.now).revs (query_of query.now).asked) (map.get (S.contents store.old) name.now)) result }
     ensures reads { OnlyReads S.Store store.old store.new }
 {
