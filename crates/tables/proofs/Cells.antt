@@ -51,9 +51,9 @@ by_id = compares Eq 1 0 ∷ compares Eq 2 1 ∷ []
 pub tests_db : (db : ℤ) (rows : List Row) → AreKeyed rows → AllByRecursion (λ r. list_all (holds ((Int db ∷ []) ∷ r ∷ [])) by_db ≡ is_in db r) rows
 tests_db db rows h = all_weaker IsKeyed (λ r. list_all (holds ((Int db ∷ []) ∷ r ∷ [])) by_db ≡ is_in db r) (λ r k. last_term (int_by Eq (column r 1) (db_of r) db k.db)) rows h.keyed
 
-pub tests_id : (db : ℤ) (id : List ℕ) (rows : List Row) → AreKeyed rows → AllByRecursion (λ r. list_all (holds ((Int db ∷ Blob id ∷ []) ∷ r ∷ [])) by_id ≡ is_of db id r) rows
-tests_id db id rows h =
-    all_weaker IsKeyed (λ r. list_all (holds ((Int db ∷ Blob id ∷ []) ∷ r ∷ [])) by_id ≡ is_of db id r)
+pub tests_id : (db : ℤ) (id : List ℕ) (rest : Row) (rows : List Row) → AreKeyed rows → AllByRecursion (λ r. list_all (holds ((Int db ∷ Blob id ∷ rest) ∷ r ∷ [])) by_id ≡ is_of db id r) rows
+tests_id db id rest rows h =
+    all_weaker IsKeyed (λ r. list_all (holds ((Int db ∷ Blob id ∷ rest) ∷ r ∷ [])) by_id ≡ is_of db id r)
     (λ r k. then_term (int_by Eq (column r 1) (db_of r) db k.db) (last_term (same_blob (column r 2) (id_of r) id k.id))) rows h.keyed
 
 -- ---- the tests by a sequence

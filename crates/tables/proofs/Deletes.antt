@@ -29,7 +29,7 @@ module _ {X E : Type 0} (at : ℕ) (table : Table) (it : IsPlainTable schema at 
     (bare : overlay old.now.trees [] table.tree ≡ old.now.trees table.tree) (keyed : AreKeyed (old.now.trees table.tree)) {text : List ℕ} where
   pub deletes_id : IsCommand schema text (Delete at (program_on table.tree by_id (col 1 0 ∷ []) [])) → (db : ℤ) (id : List ℕ) (r : Result X E) → OnOk r (Ran text (Int db ∷ Blob id ∷ []) old new)
       → OnOk r (Changes table.tree (filter (λ l. not (is_of db id l)) (old.now.trees table.tree)) old.now new.now)
-  deletes_id command db id = deletes_where at table it old new has command (Int db ∷ Blob id ∷ []) (is_of db id) bare (numbered_from_keyed _ keyed) (tests_id db id _ keyed)
+  deletes_id command db id = deletes_where at table it old new has command (Int db ∷ Blob id ∷ []) (is_of db id) bare (numbered_from_keyed _ keyed) (tests_id db id [] _ keyed)
 
   pub clears : IsCommand schema text (Delete at (program_on table.tree by_db (col 1 0 ∷ []) [])) → (db : ℤ) (r : Result X E) → OnOk r (Ran text (Int db ∷ []) old new)
       → OnOk r (Changes table.tree (filter (λ l. not (is_in db l)) (old.now.trees table.tree)) old.now new.now)

@@ -1,21 +1,19 @@
 -- What the statements on documents mean.
-use Rattle.tables.proofs.Common.{AllByRecursion, Binary, Blob, Bool, Delete, Equal, IfOk, Insert, Int, IsDocumentRow, IsStore, IsTotalOrder, Key, List, Null, Ordering, Result, Row, Select, Shown, State, Term, Text, Values, [], all_weaker, and_parts, ap, ap₂, arith, as_count, cast_row, codes, col, column, comes_after, cond, db_of, docs_table, docs_tree, document_cells, document_row, eval, everything, false, filter, filter-map, first_rows, holds, id_of, int_cmp, ints, is_gone, is_in, is_of, limited, list_all, listed_document, lit, map, nat_cmp, nat_cmp-IsAntisymmetric, nat_cmp_total, nat_list_cmp_total, nat_tests, negsuc, number_of, on_total, ordering_then, pos, refl, same_int, schema, sequence_of, sort_by, subst, sym, then-Equal, true, understood, value_cmp, value_cmp-Int, winner, winner_text, ℕ, ℤ, ◌&&◌, ◌∙◌, ◌∷◌, ◌≡◌, ◌≢◌}
+use Rattle.tables.proofs.Common.{AllByRecursion, AreDocumentRows, Binary, Blob, Bool, Changes, Delete, Equal, IfOk, Insert, Int, IsDocumentRow, IsKeyed, IsStore, IsTotalOrder, Key, List, Null, OnOk, Ordering, Ran, Result, Row, Select, Shown, State, Term, Text, Update, Values, [], all_weaker, and_parts, ap, ap₂, arith, as_count, cast_row, codes, col, column, comes_after, cond, db_of, docs_table, docs_tree, document_cells, document_row, drop, eval, everything, false, filter, filter-map, first_rows, flag, holds, id_of, int_cmp, ints, is_gone, is_in, is_of, limited, list_all, listed_document, lit, map, nat_cmp, nat_cmp-IsAntisymmetric, nat_cmp_total, nat_list_cmp_total, nat_tests, negsuc, number_of, on_total, ordering_then, pos, refl, row_with_winner, rows_with_winner, same_int, schema, sequence_of, sort_by, subst, sym, then-Equal, true, understood, value_cmp, value_cmp-Int, winner, winner_text, ℕ, ℤ, ◌&&◌, ◌∙◌, ◌∷◌, ◌≡◌, ◌≢◌}
 use Rattle.tables.proofs.Cells.{blobs_agree, by_db, by_id, by_later, cast_null, cast_int, tests_db, tests_id, tests_later}
 use Rattle.tables.proofs.RowMaps.{filter_both, text_exact, untied}
 use Rattle.tables.proofs.Sorted.{lists, sorted_left}
 use Rattle.tables.specs.Rows as order
 use Rattle.tables.proofs.Queries.{first_program, program_on}
 use Rattle.tables.proofs.Finds.{finds_one}
-use Rattle.tables.proofs.Tables.{docs_keyed, one_of}
-use Rattle.tables.proofs.Writes.{IsCommand}
+use Rattle.tables.proofs.Numbered.{numbered_from_keyed}
+use Rattle.tables.proofs.Tables.{docs_keyed, docs_plain, one_of}
+use Rattle.tables.proofs.Updates.{updates_where}
+use Rattle.tables.proofs.Writes.{IsCommand, update_stays}
 
 pub inserts_document : IsCommand schema (codes "INSERT INTO docs (db, id, seq, winner, del) VALUES (?1, ?2, ?3, ?4, ?5)") (Insert 2 (Values (lit Null ∷ col 0 0 ∷ col 0 1 ∷ col 0 2 ∷ col 0 3 ∷ col 0 4 ∷ []) 6))
 unfolding understood everything
 inserts_document = record { is = refl; plain = (refl, refl); unlisted = refl }
-
-pub deletes_document : IsCommand schema (codes "DELETE FROM docs WHERE db = ?1 AND id = ?2") (Delete 2 (program_on docs_tree by_id (col 1 0 ∷ []) []))
-unfolding understood everything
-deletes_document = record { is = refl; plain = (refl, refl); unlisted = refl }
 
 pub clears_documents : IsCommand schema (codes "DELETE FROM docs WHERE db = ?1") (Delete 2 (program_on docs_tree by_db (col 1 0 ∷ []) []))
 unfolding understood everything
@@ -23,6 +21,40 @@ clears_documents = record { is = refl; plain = (refl, refl); unlisted = refl }
 
 pub cast_document : (db : ℤ) (id : List ℕ) (sequence : ℤ) (winner : List ℕ) (deleted : Bool) → cast_row docs_table (Null ∷ document_cells db id sequence winner deleted) ≡ Null ∷ document_cells db id sequence winner deleted
 cast_document db id sequence winner deleted = λ i. cast_null i ∷ cast_int db i ∷ Blob id ∷ cast_int sequence i ∷ Text winner ∷ cast_int (cond deleted (pos 1) (pos 0)) i ∷ []
+
+-- ---- another sequence, winner and mark
+
+abbrev pub advance_text : List ℕ
+advance_text = codes "UPDATE docs SET seq = ?3, winner = ?4, del = ?5 WHERE db = ?1 AND id = ?2"
+
+-- a row with these as the query shows it: its number before and after, and its columns
+abbrev advanced : List Term
+advanced = col 1 0 ∷ col 1 0 ∷ col 1 1 ∷ col 1 2 ∷ col 0 2 ∷ col 0 3 ∷ col 0 4 ∷ []
+
+advance_is : IsCommand schema advance_text (Update 2 (program_on docs_tree by_id advanced []))
+unfolding understood everything
+advance_is = record { is = refl; plain = (refl, refl); unlisted = refl }
+
+module _ (sequence : ℤ) (winner : List ℕ) (deleted : Bool) where
+  abbrev shown_advanced : Row → Row
+  shown_advanced r = column r 0 ∷ column r 0 ∷ column r 1 ∷ column r 2 ∷ Int sequence ∷ Text winner ∷ flag deleted ∷ []
+
+  cast_advanced : (n db : ℤ) (id : List ℕ) → cast_row docs_table (Int n ∷ Int db ∷ Blob id ∷ Int sequence ∷ Text winner ∷ flag deleted ∷ []) ≡ document_row n db id sequence winner deleted
+  cast_advanced n db id = λ i. cast_int n i ∷ cast_int db i ∷ Blob id ∷ cast_int sequence i ∷ Text winner ∷ cast_int (cond deleted (pos 1) (pos 0)) i ∷ []
+
+  keyed_advanced : (r : Row) → IsKeyed r → cast_row docs_table (drop 1 (shown_advanced r)) ≡ row_with_winner sequence winner deleted r
+  keyed_advanced r k = (λ i. cast_row docs_table (k.number i ∷ k.db i ∷ k.id i ∷ Int sequence ∷ Text winner ∷ flag deleted ∷ [])) ∙ cast_advanced (number_of r) (db_of r) (id_of r)
+
+pub advances_document : {X E : Type 0} (old new : State) → old.now.schema ≡ schema → AreDocumentRows (old.now.trees docs_tree) → (db : ℤ) (id : List ℕ) (sequence : ℤ) (winner : List ℕ) (deleted : Bool) (r : Result X E)
+    → OnOk r (Ran advance_text (Int db ∷ Blob id ∷ Int sequence ∷ Text winner ∷ flag deleted ∷ []) old new)
+    → OnOk r (Changes docs_tree (rows_with_winner db id sequence winner deleted (old.now.trees docs_tree)) old.now new.now)
+advances_document old new has fit db id sequence winner deleted r h =
+    updates_where schema 2 docs_table docs_plain old new has advance_text by_id advanced advance_is (Int db ∷ Blob id ∷ Int sequence ∷ Text winner ∷ flag deleted ∷ []) (is_of db id)
+    (shown_advanced sequence winner deleted) (row_with_winner sequence winner deleted) IsKeyed refl (λ x. refl) (λ x. refl) (keyed_advanced sequence winner deleted) (λ x. refl) (λ x. refl)
+    (numbered_from_keyed _ fit.keyed) fit.keyed.keyed (one_of _ fit.ids_apart db id) (tests_id db id (Int sequence ∷ Text winner ∷ flag deleted ∷ []) _ fit.keyed) r h
+
+pub document_advance_stays : {X E : Type 0} (old new : State) → old.now.schema ≡ schema → (params : Row) (r : Result X E) → OnOk r (Ran advance_text params old new) → OnOk r (new.now.schema ≡ schema)
+document_advance_stays old new has = update_stays schema 2 docs_table docs_plain old new has advance_is
 
 -- ---- all documents of a database, in order
 
@@ -42,7 +74,7 @@ document_is = record { is = refl; plain = (refl, refl); unlisted = refl }
 pub finds_document : {X E : Type 0} (old new : State) → IsStore old.now → (db : ℤ) (id : List ℕ) (r : Result X E) (items : X → List Row) → IfOk r (λ x. Shown document_text (Int db ∷ Blob id ∷ []) old new (items x))
     → IfOk r (λ x. items x ≡ map listed_document (filter (is_of db id) (old.now.trees docs_tree)))
 finds_document old new is db id =
-    finds_one old new is.schema_is document_is (Int db ∷ Blob id ∷ []) (is_of db id) listed_document refl (λ r. refl) (tests_id db id _ (docs_keyed old.now.trees is.laid)) (one_of (old.now.trees docs_tree) is.laid.ids_apart db id)
+    finds_one old new is.schema_is document_is (Int db ∷ Blob id ∷ []) (is_of db id) listed_document refl (λ r. refl) (tests_id db id [] _ (docs_keyed old.now.trees is.laid)) (one_of (old.now.trees docs_tree) is.laid.ids_apart db id)
 
 abbrev pub ids_text : List ℕ
 ids_text = codes "SELECT id, seq, winner, del FROM docs WHERE db = ?1 ORDER BY id"

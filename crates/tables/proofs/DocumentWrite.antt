@@ -1,16 +1,14 @@
 -- One write of a document: the tables are laid out after it, and hold the database with the write.
-use Rattle.tables.proofs.Common.{AllByRecursion, AreLawful, Bool, DocumentWrite, Entry, HistoryContent, IsAscending, IsDatabaseNumber, IsDatabaseRow, IsDocumentRow, IsLaid, IsLocalRow, IsRevisionRow, IsStore, IsWritable, IsWrite, List, None, Revision, Row, Some, StandsIn, Trees, [], all-append, all-filter, all_of, all_weaker, and_left, ap, ap₂, arith, ascending-filter, bytes_eq, cases_Bool, contents_in, counts_down, database_at, database_of, database_row, db_of, dbs_tree, docs_tree, document_of, document_row, documents_in, entry_kept, entry_of, false, filter, has_number, held_by, held_of, history_after, history_before, history_in, id_of, inl, inr, inside, int_eq, is_deleted, is_in, is_known, is_named, is_of, is_some, lawful_by_one, lawful_insert, length_of, locals_in, locals_tree, name_of, nat_list_cmp_total, new_entries, next_number, not, number_of, option_map, placement, pos, refl, revision_row, revs_tree, right_some, row_at_sequence, same_int, security_of, security_text, sequence_of, slice_get, stands_found, subst, sym, text_of, true, whole_counts, winner, with_one, with_write, write_entries, write_shows, ℕ, ℤ, ∥∥₁_map, ◌+◌, ◌<◌, ◌↔◌, ◌∙◌, ◌∷◌, ◌≡◌, ◌≢◌}
+use Rattle.tables.proofs.Common.{AllByRecursion, AreLawful, Bool, DocumentWrite, Entry, HistoryContent, IsAscending, IsDatabaseNumber, IsDatabaseRow, IsDocumentRow, IsLaid, IsLocalRow, IsRevisionRow, IsStore, IsWritable, IsWrite, List, None, Revision, Row, Some, StandsIn, Trees, all-filter, all_of, all_weaker, and_left, ap, ap₂, arith, ascending-filter, bytes_eq, cases_Bool, contents_in, counts_down, database_at, database_of, database_row, db_of, dbs_tree, docs_tree, document_of, document_row, documents_in, entry_kept, entry_of, false, filter, has_number, held_by, held_of, history_after, history_before, history_in, id_of, inl, inr, inside, int_eq, is_deleted, is_in, is_known, is_named, is_of, is_some, lawful_by_one, lawful_insert, length_of, locals_in, locals_tree, name_of, nat_list_cmp_total, new_entries, not, number_of, option_map, placement, pos, refl, revision_row, revs_tree, right_some, row_at_sequence, same_int, security_of, security_text, sequence_of, slice_get, stands_found, subst, sym, text_of, true, whole_counts, winner, with_one, with_write, write_entries, write_shows, ℕ, ℤ, ∥∥₁_map, ◌+◌, ◌<◌, ◌↔◌, ◌∙◌, ◌≡◌, ◌≢◌}
 use Rattle.std.specs.FinMap as finite
 use Rattle.tree.proofs.Continued.{added_is}
 use Rattle.sqlite.specs.Effect as sqlite
 use Rattle.tables.proofs.Changed.{all_changed, contents_changed, longer, named_changed, names_changed, number_stays, numbered_changed, own_changed}
-use Rattle.tables.proofs.DocumentWriteDocuments.{apart_of, own_row, row_stays, sequences_stay_apart}
+use Rattle.tables.proofs.DocumentWriteDocuments.{all_placed, apart_of, ids_stay_apart, numbered_placed, other_values, own_row, own_values, row_stays, sequences_stay_apart}
 use Rattle.tables.proofs.DocumentWriteEntries.{IsKept, IsPathEntry, path_entries_are, entries_apart, entry_again, flag_again}
 use Rattle.tables.proofs.DocumentWriteHistories.{IsOther, AreApart, all-with_revisions, history_own, history_others, with_new_entries, unknown_apart, revisions_stay_apart}
 use Rattle.tables.proofs.DocumentWriteSteps.{after_write, written, revisions_changed, keyed-with_revisions}
-use Rattle.tables.proofs.Kept.{numbered-filter, numbered-with_cells}
 use Rattle.tables.proofs.Rests.{AreSame, contents_same, store_of}
-use Rattle.tables.proofs.ReplacedRows.{ids_stay_apart, other_values, own_values}
 use Rattle.tables.proofs.RowMaps.{all_left, all_passing, rows_alike, text_exact, text_tests}
 use Rattle.tables.proofs.Lookups.{at_number, database_there, document_found, number_there}
 use Rattle.tables.proofs.Tables.{of_these, revs_keyed}
@@ -99,12 +97,9 @@ module _ (a e : sqlite.Database) (name : List ℕ) (r : Row) (w : DocumentWrite)
     gone = λ v up. k.gone v (sym (ap winner (other_history x out)) ∙ up) ∙ ap (λ (k : HistoryContent). is_deleted (held_of k v)) (sym (other_history x out));
   }
 
-  abbrev row : Row
-  row = document_row (next_number (filter (λ x. not (is_of db w.id x)) (t docs_tree))) db w.id (pos sequence) (text_of h.best) gone
-
-  new_document : IsDocumentRow u row
-  new_document = record {
-    is = ap (λ b. document_row (number_of row) db w.id (pos sequence) (text_of h.best) b) (sym (flag_again gone));
+  new_document : (k : ℤ) → IsDocumentRow u (document_row k db w.id (pos sequence) (text_of h.best) gone)
+  new_document k = record {
+    is = ap (λ b. document_row k db w.id (pos sequence) (text_of h.best) b) (sym (flag_again gone));
     there = number_still db (number_there t is.laid name r ok.found);
     named = ok.storable.named;
     text = ok.storable.text;
@@ -118,8 +113,7 @@ module _ (a e : sqlite.Database) (name : List ℕ) (r : Row) (w : DocumentWrite)
 
   documents : AllByRecursion (IsDocumentRow u) (u docs_tree)
   documents =
-      all-append (IsDocumentRow u) _ (row ∷ [])
-      (all_left (IsDocumentRow u) (is_of db w.id) (t docs_tree) (all_weaker (IsDocumentRow t) (λ x. is_of db w.id x ≡ false → IsDocumentRow u x) old_document (t docs_tree) is.laid.docs)) (new_document, tt)
+      all_placed (t docs_tree) db w.id sequence (text_of h.best) gone (IsDocumentRow u) (all_weaker (IsDocumentRow t) (λ x. is_of db w.id x ≡ false → IsDocumentRow u x) old_document (t docs_tree) is.laid.docs) new_document
 
   below : AllByRecursion (λ x. db_of x ≡ db → sequence_of x < sequence) (t docs_tree)
   below = all_weaker (IsDocumentRow t) (λ x. db_of x ≡ db → sequence_of x < sequence) (λ x k here. let low = k.within r (ap (database_at (t dbs_tree)) here ∙ at_number t is.laid name r ok.found) in omega (arith, low)) (t docs_tree) is.laid.docs
@@ -175,7 +169,7 @@ module _ (a e : sqlite.Database) (name : List ℕ) (r : Row) (w : DocumentWrite)
   own_database : database_of u (advanced r) ≡ with_one (database_of t r) w
   own_database =
       ap (λ d. record (database_of u (advanced r)) { documents = d })
-      (own_values (t docs_tree) db w.id row refl refl (document_of (u revs_tree)) (document_of (t revs_tree)) same_document
+      (own_values (t docs_tree) db w.id sequence (text_of h.best) gone (document_of (u revs_tree)) (document_of (t revs_tree)) (record { sequence = sequence; history = history_in (u revs_tree) db w.id }) (λ k. refl) same_document
       ∙ ap (λ (k : HistoryContent). finite.insert (documents_in (t docs_tree) (t revs_tree) db) w.id (record { sequence = sequence; history = k }))
       (own_history ∙ ap (λ (k : HistoryContent). with_write k w.write) (sym (document_found t r w.id is.laid))))
 
@@ -183,7 +177,7 @@ module _ (a e : sqlite.Database) (name : List ℕ) (r : Row) (w : DocumentWrite)
   other_database x apart =
       let mine : List Row = filter (is_in (number_of x)) (t docs_tree) in
       ap (λ d. record (database_of t x) { documents = d })
-      (ap finite.from_entries (other_values (t docs_tree) db w.id row refl refl (document_of (u revs_tree)) (number_of x) apart)
+      (ap finite.from_entries (other_values (t docs_tree) db w.id sequence (text_of h.best) gone (document_of (u revs_tree)) (number_of x) apart)
       ∙ rows_alike nat_list_cmp_total text_exact id_of (λ q y. bytes_eq (id_of y) q) (text_tests id_of) (document_of (u revs_tree)) (document_of (t revs_tree)) mine
       (all_passing (λ y. document_of (u revs_tree) y ≡ document_of (t revs_tree) y) (is_in (number_of x)) (t docs_tree)
       (all_of (λ y. is_in (number_of x) y ≡ true → document_of (u revs_tree) y ≡ document_of (t revs_tree) y)
@@ -198,15 +192,15 @@ module _ (a e : sqlite.Database) (name : List ℕ) (r : Row) (w : DocumentWrite)
       record {
         version = l.version;
         dbs_numbered = numbered_changed db advanced (λ x. refl) (λ x. refl) (λ x. refl) (t dbs_tree) l.dbs_numbered;
-        docs_numbered = numbered-with_cells _ _ (numbered-filter (λ x. not (is_of db w.id x)) (t docs_tree) l.docs_numbered);
+        docs_numbered = numbered_placed (t docs_tree) db w.id sequence (text_of h.best) gone l.docs_numbered;
         revs_numbered = numbered_from_keyed _ (keyed-with_revisions entries (t revs_tree) db w.id (revs_keyed t l));
         locals_numbered = l.locals_numbered;
         dbs = all_changed db advanced (λ x. refl) (λ x. refl) IsDatabaseRow
             (λ x k. record { is = ap (λ text. database_row (number_of x) (name_of x) text (pos sequence)) (ap security_text k.is); named = k.named; security = k.security; bounded = ok.room }) (t dbs_tree) l.dbs;
         names_apart = names_changed db advanced (λ x. refl) (λ x. refl) (t dbs_tree) l.names_apart;
         docs = documents;
-        ids_apart = ids_stay_apart (t docs_tree) db w.id row refl refl l.ids_apart;
-        sequences_apart = sequences_stay_apart (t docs_tree) db w.id sequence (text_of h.best) gone below l.sequences_apart;
+        ids_apart = ids_stay_apart (t docs_tree) db w.id sequence (text_of h.best) gone l.ids_apart;
+        sequences_apart = sequences_stay_apart (t docs_tree) db w.id sequence (text_of h.best) gone below l.ids_apart l.sequences_apart;
         revs = revisions;
         revisions_apart = revisions_apart;
         locals = all_weaker (IsLocalRow t) (IsLocalRow u) local_still (t locals_tree) l.locals;
@@ -224,7 +218,7 @@ module _ (a e : sqlite.Database) (name : List ℕ) (r : Row) (w : DocumentWrite)
 
   pub one_write-store : IsStore e
   one_write-store =
-      store_of u e (h.advances.schema ∙ h.places.schema ∙ h.removes.schema ∙ (revisions_changed entries db w.id a h.inserted h.revisions).schema ∙ is.schema_is) after laid_out
+      store_of u e (h.advances.schema ∙ h.places.schema ∙ (revisions_changed entries db w.id a h.inserted h.revisions).schema ∙ is.schema_is) after laid_out
 
   pub one_write-contents : contents_in e.trees ≡ finite.insert (contents_in t) name (with_one (database_of t r) w)
   one_write-contents = contents_same u e.trees after ∙ contents

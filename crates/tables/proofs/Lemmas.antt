@@ -2,7 +2,7 @@
 pub use Rattle.tables.proofs.Common.{Blob, Err, Error, FailsToQuery, IfErr, IfOk, IsRolledBack, IsUnchanged, List, None, Ok, OnOk, Option, Result, Row, Shown, Some, State, Text, ap, as_text, [], dbs_table, docs_table, document_cells, Int, local_cells, given_cells, ◌∷◌, has_all, has_number, HasCleanDisk, arith, decls_table, entries_table, inl, locals_table, meta_table, refl, revs_table, rules, schema, state, version_in, version_shown, understood, ℕ, ◌∙◌, ◌≡◌, ◌⊎◌}
 pub use Rattle.tables.proofs.DatabaseStatements.{advances_database, advances_stay, cast_database, database_is, deletes_database, finds_database, inserts_database, lists_names, names_are, secures_database, secures_stay, tests_number}
 pub use Rattle.tables.proofs.Deletes.{clears, deletes_id, deletes_where, empties}
-pub use Rattle.tables.proofs.DocumentStatements.{cast_document, clears_documents, deletes_document, document_is, finds_document, inserts_document, later_are, lists_by_sequence, lists_later, sequences_are}
+pub use Rattle.tables.proofs.DocumentStatements.{document_advance_stays, advances_document, cast_document, clears_documents, document_is, finds_document, inserts_document, later_are, lists_by_sequence, lists_later, sequences_are}
 pub use Rattle.tables.proofs.DocumentWrites.{acceptable_in_turn, none_written, one_more_written}
 pub use Rattle.tables.proofs.Finds.{alters, reads_inside, reads_nothing, reads_of, reads_so}
 pub use Rattle.tables.proofs.KnownRevisions.{known_are_revisions}

@@ -31,4 +31,4 @@ local_is = record { is = refl; plain = (refl, refl); unlisted = refl }
 pub finds_local : {X E : Type 0} (old new : State) → IsStore old.now → (db : ℤ) (id : List ℕ) (r : Result X E) (items : X → List Row) → IfOk r (λ x. Shown local_text (Int db ∷ Blob id ∷ []) old new (items x))
     → IfOk r (λ x. items x ≡ map shown_local (filter (is_of db id) (old.now.trees locals_tree)))
 finds_local old new is db id =
-    finds_one old new is.schema_is local_is (Int db ∷ Blob id ∷ []) (is_of db id) shown_local refl (λ r. refl) (tests_id db id _ (locals_keyed old.now.trees is.laid)) (one_of (old.now.trees locals_tree) is.laid.local_ids_apart db id)
+    finds_one old new is.schema_is local_is (Int db ∷ Blob id ∷ []) (is_of db id) shown_local refl (λ r. refl) (tests_id db id [] _ (locals_keyed old.now.trees is.laid)) (one_of (old.now.trees locals_tree) is.laid.local_ids_apart db id)

@@ -30,7 +30,7 @@ revisions_are = record { is = refl; plain = (refl, refl); unlisted = refl }
 
 pub finds_revisions : {X E : Type 0} (old new : State) → IsStore old.now → (db : ℤ) (id : List ℕ) (r : Result X E) (items : X → List Row) → IfOk r (λ x. Shown revisions_text (Int db ∷ Blob id ∷ []) old new (items x))
     → IfOk r (λ x. IsPermutation (map shown_revision (filter (is_of db id) (old.now.trees revs_tree))) (items x))
-finds_revisions old new is db id = finds_where old new is.schema_is revisions_are (Int db ∷ Blob id ∷ []) (is_of db id) shown_revision refl (λ r. refl) (tests_id db id _ (revs_keyed old.now.trees is.laid))
+finds_revisions old new is db id = finds_where old new is.schema_is revisions_are (Int db ∷ Blob id ∷ []) (is_of db id) shown_revision refl (λ r. refl) (tests_id db id [] _ (revs_keyed old.now.trees is.laid))
 
 -- ---- one revision
 
@@ -109,7 +109,7 @@ outline_is = record { is = refl; plain = (refl, refl); unlisted = refl }
 
 pub finds_outline : {X E : Type 0} (old new : State) → IsStore old.now → (db : ℤ) (id : List ℕ) (r : Result X E) (items : X → List Row) → IfOk r (λ x. Shown outline_text (Int db ∷ Blob id ∷ []) old new (items x))
     → IfOk r (λ x. IsPermutation (map shown_outline (filter (is_of db id) (old.now.trees revs_tree))) (items x))
-finds_outline old new is db id = finds_where old new is.schema_is outline_is (Int db ∷ Blob id ∷ []) (is_of db id) shown_outline refl (λ r. refl) (tests_id db id _ (revs_keyed old.now.trees is.laid))
+finds_outline old new is db id = finds_where old new is.schema_is outline_is (Int db ∷ Blob id ∷ []) (is_of db id) shown_outline refl (λ r. refl) (tests_id db id [] _ (revs_keyed old.now.trees is.laid))
 
 -- ---- revisions by their numbers and hashes alone
 
@@ -122,4 +122,4 @@ hash_is = record { is = refl; plain = (refl, refl); unlisted = refl }
 
 pub finds_hashes : {X E : Type 0} (old new : State) → IsStore old.now → (db : ℤ) (id : List ℕ) (r : Result X E) (items : X → List Row) → IfOk r (λ x. Shown hash_text (Int db ∷ Blob id ∷ []) old new (items x))
     → IfOk r (λ x. IsPermutation (map shown_hash (filter (is_of db id) (old.now.trees revs_tree))) (items x))
-finds_hashes old new is db id = finds_where old new is.schema_is hash_is (Int db ∷ Blob id ∷ []) (is_of db id) shown_hash refl (λ r. refl) (tests_id db id _ (revs_keyed old.now.trees is.laid))
+finds_hashes old new is db id = finds_where old new is.schema_is hash_is (Int db ∷ Blob id ∷ []) (is_of db id) shown_hash refl (λ r. refl) (tests_id db id [] _ (revs_keyed old.now.trees is.laid))

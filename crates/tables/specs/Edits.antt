@@ -1,4 +1,4 @@
--- One write of a document, done as statements: its new revisions are put in one after another, and then the document's row and its database's are replaced.
+-- One write of a document, done as statements: its new revisions are put in one after another, and then the document's row is put in or changed, and its database's is changed.
 -- This server's own layout; when a write may be done, and what it makes of the database, is said by `store`.
 use Rattle.std.specs.Prelude.{◌≡◌, ◌+◌, ◌<◌, ◌^◌, ℕ, ℤ, pos, not, IsTrue, IsUtf8, List, [], ◌∷◌, filter, slice_get, length, Some}
 use Rattle.std.specs.FinMap.{insert}
@@ -15,7 +15,7 @@ use Rattle.sqlite_value.specs.Order.{Row}
 use Rattle.sqlite_trees.specs.Tree.{Trees}
 use Rattle.sqlite.specs.Effect as sqlite
 use Rattle.tables.specs.Layout.{IsStore}
-use Rattle.tables.specs.Rows.{number_of, length_of, is_named, is_of, with_cells, revision_cells, document_cells, row_at_sequence, rows_at_sequence, history_in, database_of, contents_in}
+use Rattle.tables.specs.Rows.{number_of, length_of, is_named, with_cells, revision_cells, rows_with_document, row_at_sequence, rows_at_sequence, history_in, database_of, contents_in}
 use Rattle.tables.specs.Schema.{dbs_tree, docs_tree, revs_tree}
 use Rattle.tables.specs.Steps.{Changes}
 
@@ -57,13 +57,11 @@ pub record IsWritable (trees : Trees) (name : List ℕ) (r : Row) (w : DocumentW
 -- the statements of the write, in the database that has this row
 pub record IsWrite (r : Row) (w : DocumentWrite) (old new : sqlite.Database) : Type 0 where
   pub inserted : sqlite.Database
-  pub removed : sqlite.Database
   pub placed : sqlite.Database
   pub best : Revision
   pub revisions : AreInserted (new_entries (history_before old.trees r w) w.write) (number_of r) w.id old inserted
-  pub removes : Changes docs_tree (filter (λ x. not (is_of (number_of r) w.id x)) (inserted.trees docs_tree)) inserted removed
   pub best_is : winner (history_after old.trees r w) ≡ Some best
-  pub places : Changes docs_tree (with_cells (removed.trees docs_tree) (document_cells (number_of r) w.id (pos (length_of r + 1)) (text_of best) (is_deleted (held_of (history_after old.trees r w) best)))) removed placed
+  pub places : Changes docs_tree (rows_with_document (number_of r) w.id (pos (length_of r + 1)) (text_of best) (is_deleted (held_of (history_after old.trees r w) best)) (inserted.trees docs_tree)) inserted placed
   pub advances : Changes dbs_tree (rows_at_sequence (number_of r) (pos (length_of r + 1)) (placed.trees dbs_tree)) placed new
 
 -- the database's row after so many writes

@@ -35,6 +35,11 @@ pub record AreKeyed (rows : List Row) : Type 0 where
   pub keyed : AllByRecursion IsKeyed rows
   pub rising : IsAscending (λ a b. number_of a <ℤ number_of b) rows
 
+-- the same, and no two rows are of one document
+pub record AreDocumentRows (rows : List Row) : Type 0 where
+  pub keyed : AreKeyed rows
+  pub ids_apart : IsAscending (λ a b. db_of a ≡ db_of b → id_of a ≢ id_of b) rows
+
 -- each row is that of a database, and the numbers rise
 pub record AreDatabaseRows (rows : List Row) : Type 0 where
   pub each : AllByRecursion (λ r. r ≡ database_row (number_of r) (name_of r) (security_text r) (pos (length_of r))) rows

@@ -5,6 +5,7 @@ use Rattle.std.specs.declared.cmp.Ordering.{Ordering}
 use Rattle.std.specs.Ordering.{eq_by_cmp, int_eq, nat_cmp}
 use Rattle.std.specs.Cmp.Lexicographic.{slice_cmp}
 use Rattle.std.specs.FinMap.{from_entries}
+use Rattle.std.specs.List.{list_any}
 use Rattle.couch_json.specs.Canonical.{canonical}
 use Rattle.couch_json.specs.Reading.{reading}
 use Rattle.couch_json.specs.Value as json
@@ -143,6 +144,19 @@ document_cells db id sequence winner deleted = Int db ∷ Blob id ∷ Int sequen
 
 abbrev pub document_row : ℤ → ℤ → List ℕ → ℤ → List ℕ → Bool → Row
 document_row number db id sequence winner deleted = Int number ∷ document_cells db id sequence winner deleted
+
+-- the row of a document at another sequence, with another winner and mark
+abbrev pub row_with_winner : ℤ → List ℕ → Bool → Row → Row
+row_with_winner sequence winner deleted r = document_row (number_of r) (db_of r) (id_of r) sequence winner deleted
+
+-- the rows, where the document of this id has another
+abbrev pub rows_with_winner : ℤ → List ℕ → ℤ → List ℕ → Bool → List Row → List Row
+rows_with_winner db id sequence winner deleted rows = map (λ r. if is_of db id r then row_with_winner sequence winner deleted r else r) rows
+
+-- the rows with that of this document: in the place of the one of its id, and behind all others where there is none
+abbrev pub rows_with_document : ℤ → List ℕ → ℤ → List ℕ → Bool → List Row → List Row
+rows_with_document db id sequence winner deleted rows =
+    if list_any (is_of db id) rows then rows_with_winner db id sequence winner deleted rows else with_cells rows (document_cells db id sequence winner deleted)
 
 -- what a query shows of such a row: the sequence, the winner and whether it is deleted
 abbrev pub shown_document : Row → Row

@@ -3,9 +3,9 @@
 ghost use Rattle.std.specs.Prelude.{◌≡◌, ◌∷◌, [], false, not, filter, map, true};
 ghost use Rattle.sqlite_keyed.specs.Lists.{sort_by};
 ghost use Rattle.tables.specs.Calls.{Alters, Reads};
-ghost use Rattle.tables.specs.Layout.{AreKeyed, IsStore};
+ghost use Rattle.tables.specs.Layout.{AreDocumentRows, AreKeyed, IsStore};
 ghost use Rattle.tables.specs.Listings.{comes_after, first_rows, live_range, marked_count, shown_count};
-ghost use Rattle.tables.specs.Rows.{by_sequence, is_in, is_of, listed_document, document_cells, with_cells};
+ghost use Rattle.tables.specs.Rows.{by_sequence, is_in, is_of, listed_document, document_cells, rows_with_winner, with_cells};
 ghost use Rattle.tables.specs.Schema.{docs_tree};
 
 use crate::statement::{change, query};
@@ -30,19 +30,22 @@ pub fn insert_document<S: Alter>(
     )
 }
 
-/// Takes out the row of the document of this id.
-pub fn delete_document<S: Alter>(
+/// Gives the document of this id another sequence, another winner and its mark.
+pub fn advance_document<S: Alter>(
     tx: &mut Transaction<'_, S>,
     db: &i64,
     id: &[u8],
+    sequence: &i64,
+    winner: &str,
+    deleted: bool,
 ) -> Result<(), Error>
     ensures same_reference { tx.new.conn.ghost_name ≡ tx.old.conn.ghost_name }
-    ensures alters { Alters S.Store docs_tree AreKeyed (λ rows. filter (λ r. not (is_of db.now id.now r)) rows) tx.old.conn.now tx.new.conn.now result }
+    ensures alters { Alters S.Store docs_tree AreDocumentRows (rows_with_winner db.now id.now sequence.now winner.now deleted) tx.old.conn.now tx.new.conn.now result }
 {
     change(
         tx,
-        "DELETE FROM docs WHERE db = ?1 AND id = ?2",
-        params![db, id],
+        "UPDATE docs SET seq = ?3, winner = ?4, del = ?5 WHERE db = ?1 AND id = ?2",
+        params![db, id, sequence, winner, deleted],
     )
 }
 

@@ -1,10 +1,13 @@
 -- One write of a document, by the statements that were run for it.
-use Rattle.transactions.proofs.Common.{Addition, AreDatabaseRows, AreInserted, AreKeyed, Bool, Changes, Database, Entry, Err, HistoryContent, IsBest, IsPlaced, IsStore, IsWrite, List, None, Ok, OnOk, Result, Revision, Row, [], ap, arith, dbs_tree, docs_tree, entries_of, filter, history_in, is_of, length_of, number_of, pos, revs_tree, rows_at_sequence, schema, subst, sym, text_of, unknown_in, with_addition, written_in, ℕ, ℤ, ◌+◌, ◌∙◌, ◌≡◌}
+use Rattle.transactions.proofs.Common.{Addition, AreDatabaseRows, AreInserted, Bool, Changes, Database, Entry, Err, HistoryContent, IsBest, IsPlaced, IsStore, IsWrite, List, Ok, OnOk, Result, Revision, Row, ap, arith, dbs_tree, docs_tree, entries_of, history_in, is_of, length_of, number_of, pos, revs_tree, rows_at_sequence, schema, subst, sym, text_of, unknown_in, with_addition, written_in, ℕ, ℤ, ◌+◌, ◌∙◌, ◌≡◌}
 use Rattle.tables.proofs.DocumentWriteNews.{news_of_addition}
 use Rattle.tables.proofs.DocumentWriteSteps.{revisions_changed}
 use Rattle.tables.proofs.Rests.{leaves}
 use Rattle.tables.proofs.Tables.{databases_laid, docs_keyed}
-use Rattle.transactions.proofs.WinningRows.{no_row}
+use Rattle.tables.specs.Layout.{AreDocumentRows}
+use Rattle.std.specs.List.{list_any}
+use Rattle.std.specs.Prelude.{is_some}
+use Rattle.transactions.proofs.WinningRows.{has_row}
 use Rattle.transactions.specs.Following.{Serves}
 use Rattle.tree.specs.History.{winner}
 
@@ -33,13 +36,11 @@ module _ (k : HistoryContent) (a : Addition) (text : List ℕ) (deleted : Bool) 
       let marked = subst (λ d. IsPlaced (number_of r) a.id (pos (length_of r + 1)) (text_of best.best) d inserted placed) best.deleted_is spelled in
       record {
         inserted = inserted;
-        removed = marked.removed;
         placed = placed;
         best = best.best;
         revisions = subst (λ es. AreInserted es (number_of r) a.id old inserted) (serves.news ∙ sym (news_of_addition h a)) ran.revisions;
-        removes = marked.removes;
         best_is = best.best_is;
-        places = marked.places;
+        places = marked;
         advances = ran.advances;
       }
 
@@ -55,20 +56,22 @@ module _ (es : List (Revision × Entry)) (db : ℤ) (id : List ℕ) (old inserte
   pub schema_after : inserted.schema ≡ schema
   schema_after = (revisions_changed es db id old inserted revisions).schema ∙ store.schema_is
 
-  pub docs_fit : AreKeyed (inserted.trees docs_tree)
-  docs_fit = subst AreKeyed (sym ((leaves revs_tree _ old inserted store.schema_is (revisions_changed es db id old inserted revisions)).docs (omega arith))) (docs_keyed old.trees store.laid)
+  docs_stay : inserted.trees docs_tree ≡ old.trees docs_tree
+  docs_stay = (leaves revs_tree _ old inserted store.schema_is (revisions_changed es db id old inserted revisions)).docs (omega arith)
 
-  -- a document without a winner has no row yet
-  pub none_placed : winner (history_in (old.trees revs_tree) db id) ≡ None → filter (is_of db id) (inserted.trees docs_tree) ≡ []
-  none_placed none = ap (filter (is_of db id)) ((leaves revs_tree _ old inserted store.schema_is (revisions_changed es db id old inserted revisions)).docs (omega arith)) ∙ no_row old.trees db id store.laid none
+  pub docs_fit : AreDocumentRows (inserted.trees docs_tree)
+  docs_fit = subst AreDocumentRows (sym docs_stay) (record { keyed = docs_keyed old.trees store.laid; ids_apart = store.laid.ids_apart })
+
+  -- the document has a row where its history had a winner
+  pub row_there : list_any (is_of db id) (inserted.trees docs_tree) ≡ is_some (winner (history_in (old.trees revs_tree) db id))
+  row_there = ap (list_any (is_of db id)) docs_stay ∙ has_row old.trees db id store.laid
 
   module _ (sequence : ℤ) (text : List ℕ) (deleted : Bool) (placed : Database) (document : IsPlaced db id sequence text deleted inserted placed) where
     pub schema_placed : placed.schema ≡ schema
-    schema_placed = document.places.schema ∙ document.removes.schema ∙ schema_after
+    schema_placed = document.schema ∙ schema_after
 
     pub dbs_fit : AreDatabaseRows (placed.trees dbs_tree)
     dbs_fit =
         let first = (leaves revs_tree _ old inserted store.schema_is (revisions_changed es db id old inserted revisions)).dbs (omega arith) in
-        let second = (leaves docs_tree _ inserted document.removed schema_after document.removes).dbs (omega arith) in
-        let third = (leaves docs_tree _ document.removed placed (document.removes.schema ∙ schema_after) document.places).dbs (omega arith) in
-        subst AreDatabaseRows (sym (third ∙ second ∙ first)) (databases_laid old.trees store.laid)
+        let second = (leaves docs_tree _ inserted placed schema_after document).dbs (omega arith) in
+        subst AreDatabaseRows (sym (second ∙ first)) (databases_laid old.trees store.laid)

@@ -293,11 +293,8 @@ module _ (a : Addition) (w : Revision) (f : IsFollower a w) (positive : 0 < w.nu
             text_is = b.text_is ∙ ap text_of it;
             deleted_is = b.deleted_is ∙ ap (λ r. is_deleted (held_of (with_addition (single w) a) r)) it ∙ ap is_deleted held_same;
           };
-      begins = λ none. absurd (some_or_none (sym (single_wins w) ∙ none));
+      begins = ap is_some (single_wins w) ∙ sym (ap is_some wins);
     }
-      where
-        some_or_none : ◌≡◌ {A = Option Revision} (Some w) None → ⊥
-        some_or_none e = cc
 
   pub single_has_best : HasBest (with_addition (single w) a)
   single_has_best =
@@ -308,7 +305,7 @@ module _ (a : Addition) (w : Revision) (f : IsFollower a w) (positive : 0 < w.nu
       by false new = has_winner_then (single w) w (single_wins w) f.newest held new (single_parents w)
 
 pub serves_itself : (a : Addition) (h : HistoryContent) → Serves a h h
-serves_itself a h = record { news = refl; best = λ text deleted b. b; begins = λ none. none }
+serves_itself a h = record { news = refl; best = λ text deleted b. b; begins = refl }
 
 -- ---- what the code is told
 

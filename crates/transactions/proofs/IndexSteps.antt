@@ -80,15 +80,13 @@ pub write_leaves : (r : Row) (w : DocumentWrite) (a e : sqlite.Database) → a.s
 write_leaves r w a e is h =
     let one = revisions_changed (new_entries (history_before a.trees r w) w.write) (number_of r) w.id a h.inserted h.revisions in
     let schema_b = one.schema ∙ is in
-    let schema_c = h.removes.schema ∙ schema_b in
     let b = leaves revs_tree _ a h.inserted is one in
-    let c = leaves docs_tree _ h.inserted h.removed schema_b h.removes in
-    let d = leaves docs_tree _ h.removed h.placed schema_c h.places in
-    let f = leaves dbs_tree _ h.placed e (h.places.schema ∙ schema_c) h.advances in
-    let revs : e.trees revs_tree ≡ h.inserted.trees revs_tree = f.revs (omega arith) ∙ d.revs (omega arith) ∙ c.revs (omega arith) in
+    let c = leaves docs_tree _ h.inserted h.placed schema_b h.places in
+    let d = leaves dbs_tree _ h.placed e (h.places.schema ∙ schema_b) h.advances in
+    let revs : e.trees revs_tree ≡ h.inserted.trees revs_tree = d.revs (omega arith) ∙ c.revs (omega arith) in
     record {
-      decls = f.decls (omega arith) ∙ d.decls (omega arith) ∙ c.decls (omega arith) ∙ b.decls (omega arith);
-      entries = f.entries (omega arith) ∙ d.entries (omega arith) ∙ c.entries (omega arith) ∙ b.entries (omega arith);
+      decls = d.decls (omega arith) ∙ c.decls (omega arith) ∙ b.decls (omega arith);
+      entries = d.entries (omega arith) ∙ c.entries (omega arith) ∙ b.entries (omega arith);
       others = λ n other apart.
           ap (λ rows. history_in rows n other) (revs ∙ one.rows)
           ∙ history_others (new_entries (history_before a.trees r w) w.write) (a.trees revs_tree) (number_of r) w.id n other apart;

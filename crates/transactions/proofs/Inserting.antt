@@ -1,6 +1,8 @@
 -- Revisions that are put in one after another.
-use Rattle.transactions.proofs.Common.{AreInserted, Bool, Changes, Database, Entry, Err, HistoryContent, IsOnTheWay, IsPlaced, List, None, Ok, OnOk, Option, Result, Revision, Some, [], ap, arith, cond, docs_tree, document_cells, drop, entries_before, false, filter, get_or, is_known, is_of, length, next_of, not, refl, revision_cells, revs_tree, slice_get, subst, suc, sym, true, unknown_in, with_cells, Row, ℕ, ℤ, ◌++◌, ◌+◌, ◌<◌, ◌∙◌, ◌∷◌, ◌≡◌, ◌≢◌}
-use Rattle.tables.proofs.Common.{all_of}
+use Rattle.transactions.proofs.Common.{AreInserted, Bool, Changes, Database, Entry, Err, HistoryContent, IsOnTheWay, IsPlaced, List, None, Ok, OnOk, Option, Result, Revision, Some, [], ap, arith, cond, docs_tree, document_cells, drop, entries_before, false, get_or, is_known, is_of, length, next_of, not, refl, revision_cells, revs_tree, slice_get, subst, suc, sym, true, unknown_in, with_cells, Row, ℕ, ℤ, ◌++◌, ◌+◌, ◌<◌, ◌∙◌, ◌∷◌, ◌≡◌}
+use Rattle.tables.specs.Rows.{rows_with_winner}
+use Rattle.std.specs.List.{list_any}
+use Rattle.std.proofs.lemmas.Bool.{cond-false, cond-true}
 use Rattle.std.proofs.Math.Seq.{drop-cons}
 use Rattle.tree.specs.declared.entry.Held.{Held}
 use Rattle.tables.proofs.DocumentWriteSteps.{inserted_fit, revisions_changed}
@@ -66,28 +68,16 @@ module _ (db : ℤ) (id : List ℕ) where
       (subst (λ (p : Option Revision). AreInserted (unknown_in h ((v, record { parent = p; held = d }) ∷ [])) db id a b) (follows ∙ ap (λ p. next_of p last) cut) one)
       (subst (λ p. AreInserted (unknown_in h (entries_before None p last)) db id b c) cut more)
 
--- one document's row, and then the other's
-module _ (db : ℤ) (id : List ℕ) (sequence : ℤ) (winner : List ℕ) (deleted : Bool) where
-  pub placed : {X E : Type 0} (r : Result X E) (a b c : Database) → Changes docs_tree (filter (λ x. not (is_of db id x)) (a.trees docs_tree)) a b
-      → OnOk r (Changes docs_tree (with_cells (b.trees docs_tree) (document_cells db id sequence winner deleted)) b c) → OnOk r (IsPlaced db id sequence winner deleted a c)
-  placed (Err e) a b c out put = tt
-  placed (Ok x) a b c out put = record { removed = b; removes = out; places = put }
+-- the document's row, put in where there was none, or changed
+module _ {X E : Type 0} (r : Result X E) (db : ℤ) (id : List ℕ) (sequence : ℤ) (winner : List ℕ) (deleted : Bool) (a b : Database) where
+  abbrev put : List Row
+  put = with_cells (a.trees docs_tree) (document_cells db id sequence winner deleted)
 
--- where there is no row of its own, nothing is taken out
-kept_all : (p : Row → Bool) (rows : List Row) → filter p rows ≡ [] → filter (λ x. not (p x)) rows ≡ rows
-kept_all p [] none = refl
-kept_all p (r ∷ rows) none = by (kept_all p rows) (p r) refl none
-  where
-    by : (filter p rows ≡ [] → filter (λ x. not (p x)) rows ≡ rows) → (b : Bool) → p r ≡ b → cond b (r ∷ filter p rows) (filter p rows) ≡ [] → cond (not (p r)) (r ∷ filter (λ x. not (p x)) rows) (filter (λ x. not (p x)) rows) ≡ r ∷ rows
-    by rest true is none = absurd (cc)
-    by rest false is none = ap (λ b. cond (not b) (r ∷ filter (λ x. not (p x)) rows) (filter (λ x. not (p x)) rows)) is ∙ ap (λ xs. r ∷ xs) (rest none)
+  abbrev changed : List Row
+  changed = rows_with_winner db id sequence winner deleted (a.trees docs_tree)
 
-pub placed_new : {X E : Type 0} (r : Result X E) (db : ℤ) (id : List ℕ) (sequence : ℤ) (winner : List ℕ) (deleted : Bool) (a b : Database) → filter (is_of db id) (a.trees docs_tree) ≡ []
-    → OnOk r (Changes docs_tree (with_cells (a.trees docs_tree) (document_cells db id sequence winner deleted)) a b) → OnOk r (IsPlaced db id sequence winner deleted a b)
-placed_new r db id sequence winner deleted a b none put =
-    placed db id sequence winner deleted r a a b
-    (record {
-      schema = refl;
-      rows = sym (kept_all (is_of db id) (a.trees docs_tree) none);
-      others = all_of (λ t. t.tree ≢ docs_tree → a.trees t.tree ≡ a.trees t.tree) (λ t apart. refl) a.schema.tables;
-    }) put
+  pub placed_new : list_any (is_of db id) (a.trees docs_tree) ≡ false → OnOk r (Changes docs_tree put a b) → OnOk r (IsPlaced db id sequence winner deleted a b)
+  placed_new none = subst (λ rows. OnOk r (Changes docs_tree rows a b)) (sym (cond-false (list_any (is_of db id) (a.trees docs_tree)) changed put none))
+
+  pub placed_there : list_any (is_of db id) (a.trees docs_tree) ≡ true → OnOk r (Changes docs_tree changed a b) → OnOk r (IsPlaced db id sequence winner deleted a b)
+  placed_there there = subst (λ rows. OnOk r (Changes docs_tree rows a b)) (sym (cond-true (list_any (is_of db id) (a.trees docs_tree)) changed put there))

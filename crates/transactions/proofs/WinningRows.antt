@@ -6,6 +6,8 @@ use Rattle.std.proofs.Common.{ap₂}
 use Rattle.std.specs.Ordering.{eq_by_cmp}
 use Rattle.tables.proofs.Common.{all_both}
 use Rattle.sqlite_keyed.proofs.ListLemmas.{slice_get-filter}
+use Rattle.sqlite_keyed.proofs.SliceLemmas.{any_is_found}
+use Rattle.std.specs.List.{list_any}
 use Rattle.store.proofs.Winnings.{no_winner}
 use Rattle.tables.proofs.Laid.{history, stored_winner}
 use Rattle.tables.proofs.ListingRows.{rows_of_a_listing, won}
@@ -62,6 +64,16 @@ module _ (trees : Trees) (db : ℤ) (id : List ℕ) (l : IsLaid trees) where
 
   pub winner_found : option_and_then winner_shown (slice_get (map listed_document (filter (is_of db id) (trees docs_tree))) 0) ≡ marked_winner (history_in (trees revs_tree) db id)
   winner_found = winner_first (filter (is_of db id) (trees docs_tree)) refl (few (is_of db id) (trees docs_tree) (one_of (trees docs_tree) l.ids_apart db id))
+
+  -- a document has a row where it has a winner
+  pub has_row : list_any (is_of db id) (trees docs_tree) ≡ is_some (winner (history_in (trees revs_tree) db id))
+  has_row = any_is_found (is_of db id) (trees docs_tree) ∙ ap is_some (sym (slice_get-filter (is_of db id) (trees docs_tree))) ∙ by
+    where
+      by : is_some (slice_get (filter (is_of db id) (trees docs_tree)) 0) ≡ is_some (winner (history_in (trees revs_tree) db id))
+      by = elim (few (is_of db id) (trees docs_tree) (one_of (trees docs_tree) l.ids_apart db id)) as (λ _. is_some (slice_get (filter (is_of db id) (trees docs_tree)) 0) ≡ is_some (winner (history_in (trees revs_tree) db id))) [
+        | inl is ↦ ap (λ rs. is_some (slice_get rs 0)) is ∙ sym (ap (λ h. is_some (winner h)) (nothing_written is) ∙ ap is_some no_winner)
+        | inr it ↦ ap (λ rs. is_some (slice_get rs 0)) it.1 ∙ sym (one_row it.0 it.1).1
+      ]
 
   -- a document without a winner has no row
   pub no_row : winner (history_in (trees revs_tree) db id) ≡ None → filter (is_of db id) (trees docs_tree) ≡ []

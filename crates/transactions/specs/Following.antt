@@ -1,6 +1,6 @@
 -- When a history says the same as another of all that a write asks.
 -- This server's own: a write that follows the winner asks for no more of a history than the winner.
-use Rattle.std.specs.Prelude.{◌≡◌, ◌∷◌, ℕ, Bool, IsTrue, List, [], false, Ok, None, Some}
+use Rattle.std.specs.Prelude.{◌≡◌, ◌∷◌, ℕ, Bool, IsTrue, List, [], false, is_some, Ok, Some}
 use Rattle.store.specs.Plain.{with_addition}
 use Rattle.store.specs.Writing.{Addition, written_in}
 use Rattle.tree.specs.History.{HistoryContent, is_known, parent_of, placement, winner}
@@ -23,9 +23,9 @@ pub record IsFollower (a : Addition) (w : Revision) : Type 0 where
   pub follows : a.parent ≡ Some w
   pub live : a.deleted ≡ false
 
--- As much of the write is new to one history k as to the other, and it makes the same revision the best; where k has no revision the
--- other has none.
+-- As much of the write is new to one history k as to the other, and it makes the same revision the best; and either has a best revision
+-- where the other has one.
 pub record Serves (a : Addition) (h k : HistoryContent) : Type 0 where
   pub news : unknown_in k (entries_of k a) ≡ unknown_in h (entries_of h a)
   pub best : (text : List ℕ) (deleted : Bool) → IsBest (with_addition k a) text deleted → IsBest (with_addition h a) text deleted
-  pub begins : winner k ≡ None → winner h ≡ None
+  pub begins : is_some (winner k) ≡ is_some (winner h)

@@ -16,7 +16,7 @@ use Rattle.tree.specs.Write.{head}
 use Rattle.tree.specs.declared.entry.Entry.{Entry}
 use Rattle.tables.specs.Edits.{AreInserted}
 use Rattle.tables.specs.Layout.{AreKeyed}
-use Rattle.tables.specs.Rows.{document_cells, is_of, with_cells}
+use Rattle.tables.specs.Rows.{rows_with_document}
 use Rattle.tables.specs.Schema.{docs_tree, revs_tree, schema}
 use Rattle.tables.specs.Steps.{Changes}
 
@@ -47,11 +47,9 @@ pub record IsOnTheWay (all left : List (Revision × Entry)) (db : ℤ) (id : Lis
   pub fit : AreKeyed (now.trees revs_tree)
   pub goes_on : (end : Database) → AreInserted left db id now end → AreInserted all db id old end
 
--- the row of a document takes the place of the one of its id
-pub record IsPlaced (db : ℤ) (id : List ℕ) (sequence : ℤ) (winner : List ℕ) (deleted : Bool) (old new : Database) : Type 0 where
-  pub removed : Database
-  pub removes : Changes docs_tree (filter (λ r. not (is_of db id r)) (old.trees docs_tree)) old removed
-  pub places : Changes docs_tree (with_cells (removed.trees docs_tree) (document_cells db id sequence winner deleted)) removed new
+-- the document has this row now: in the place of the one of its id, or behind all others
+abbrev pub IsPlaced : ℤ → List ℕ → ℤ → List ℕ → Bool → Database → Database → Type 0
+IsPlaced db id sequence winner deleted old new = Changes docs_tree (rows_with_document db id sequence winner deleted (old.trees docs_tree)) old new
 
 -- the text of the best revision, and whether that is deleted
 pub record IsBest (h : HistoryContent) (text : List ℕ) (deleted : Bool) : Type 0 where

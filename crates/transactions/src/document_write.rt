@@ -1,8 +1,8 @@
 //! One write of a document, as statements of a transaction.
 
-ghost use Rattle.std.specs.Prelude.{◌≡◌, ◌+◌, ◌∷◌, [], filter, pos, None, Some, IfErr, IfOk, OnOk, string_bytes, true, ⊤};
+ghost use Rattle.std.specs.Prelude.{◌≡◌, ◌+◌, ◌∷◌, [], not, pos, None, Some, IfErr, IfOk, OnOk, string_bytes, ⊤};
 ghost use Rattle.std.specs.Prelude.{IsTrue};
-ghost use Rattle.std.specs.List.{AllByRecursion};
+ghost use Rattle.std.specs.List.{AllByRecursion, list_any};
 ghost use Rattle.couch_json.specs.Canonical.{canonical};
 ghost use Rattle.couch_json.specs.Value.{Value};
 ghost use Rattle.sqlite.specs.Held.{state};
@@ -14,7 +14,7 @@ ghost use Rattle.store.specs.Plain.{with_addition};
 ghost use Rattle.store.specs.Writing.{addition_of, written_in};
 ghost use Rattle.sqlite_value.specs.Order.{Row};
 ghost use Rattle.tables.specs.Edits.{IsWrite};
-ghost use Rattle.tables.specs.Layout.{AreKeyed, IsStore};
+ghost use Rattle.tables.specs.Layout.{AreDocumentRows, IsStore};
 ghost use Rattle.tables.specs.Rows.{history_in, is_of, length_of, number_of, parent_cell};
 ghost use Rattle.tables.specs.Schema.{docs_tree, revs_tree, schema};
 ghost use Rattle.tree.specs.History.{behind};
@@ -33,7 +33,7 @@ use sqlite::{Alter, Error, Transaction};
 use std::alloc::Global;
 use store::Write;
 use tables::databases::advance_database;
-use tables::documents::{delete_document, insert_document};
+use tables::documents::{advance_document, insert_document};
 use tables::revisions::insert_revision;
 use tree::{History, Rev, find_next};
 
@@ -228,8 +228,8 @@ fn insert_revisions<S: Alter>(
     Ok(())
 }
 
-/// Puts the row of a document in the place of the one of its id; where the document is new there is
-/// none.
+/// Gives a document its sequence, its winner and its mark: in the row that it has, or in a row that is
+/// put in where the document is new.
 fn place_document<S: Alter>(
     tx: &mut Transaction<'_, S>,
     db: &i64,
@@ -240,8 +240,8 @@ fn place_document<S: Alter>(
     is_new: bool,
 ) -> Result<(), Error>
     ensures same_reference { tx.new.conn.ghost_name ≡ tx.old.conn.ghost_name }
-    ensures ok { HasCleanDisk (state S.Store tx.new.conn.now) → tx.old.conn.now.schema ≡ schema → AreKeyed ((state S.Store tx.old.conn.now).now.trees docs_tree)
-        → (is_new ≡ true → filter (is_of db.now id.now) ((state S.Store tx.old.conn.now).now.trees docs_tree) ≡ [])
+    ensures ok { HasCleanDisk (state S.Store tx.new.conn.now) → tx.old.conn.now.schema ≡ schema → AreDocumentRows ((state S.Store tx.old.conn.now).now.trees docs_tree)
+        → list_any (is_of db.now id.now) ((state S.Store tx.old.conn.now).now.trees docs_tree) ≡ not is_new
         → OnOk result (IsPlaced db.now id.now sequence.now winner.now deleted (state S.Store tx.old.conn.now).now (state S.Store tx.new.conn.now).now) }
     ensures inside { Stays S.Store tx.old.conn.now tx.new.conn.now result }
     ensures proceeds { Proceeds S.Store tx.old.conn.now tx.new.conn.now }
@@ -249,26 +249,7 @@ fn place_document<S: Alter>(
     if is_new {
         return insert_document(tx, db, id, sequence, winner, deleted);
     }
-    replace_document(tx, db, id, sequence, winner, deleted)
-}
-
-/// Puts the row of a document in the place of the one of its id.
-fn replace_document<S: Alter>(
-    tx: &mut Transaction<'_, S>,
-    db: &i64,
-    id: &[u8],
-    sequence: &i64,
-    winner: &str,
-    deleted: bool,
-) -> Result<(), Error>
-    ensures same_reference { tx.new.conn.ghost_name ≡ tx.old.conn.ghost_name }
-    ensures ok { HasCleanDisk (state S.Store tx.new.conn.now) → tx.old.conn.now.schema ≡ schema → AreKeyed ((state S.Store tx.old.conn.now).now.trees docs_tree)
-        → OnOk result (IsPlaced db.now id.now sequence.now winner.now deleted (state S.Store tx.old.conn.now).now (state S.Store tx.new.conn.now).now) }
-    ensures inside { Stays S.Store tx.old.conn.now tx.new.conn.now result }
-    ensures proceeds { Proceeds S.Store tx.old.conn.now tx.new.conn.now }
-{
-    delete_document(tx, db, id)?;
-    insert_document(tx, db, id, sequence, winner, deleted)
+    advance_document(tx, db, id, sequence, winner, deleted)
 }
 
 /// Returns the text of the best revision, and whether it is deleted.

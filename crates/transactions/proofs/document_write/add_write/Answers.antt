@@ -1,7 +1,9 @@
 use Rattle.transactions.proofs.Lemmas.{CommitFault, HasCleanDisk, IsBest, IsPlaced, Ok, addition_of, ap, arith, behind, entries_of, refl, revs_keyed, rules, state, string_bytes, subst, sym, unknown_in, with_addition, with_write, ◌++◌, ◌∙◌, ◌≡◌}
-use Rattle.transactions.proofs.Common.{[], docs_tree, filter, history_in, is_of, revs_tree, true}
+use Rattle.transactions.proofs.Common.{docs_tree, history_in, is_of, not, revs_tree}
+use Rattle.std.specs.List.{list_any}
+use Rattle.std.specs.Prelude.{is_some}
 use Rattle.tree.specs.History.{winner}
-use Rattle.transactions.proofs.DocumentWriting.{dbs_fit, docs_fit, none_placed, schema_after, schema_placed, written}
+use Rattle.transactions.proofs.DocumentWriting.{dbs_fit, docs_fit, row_there, schema_after, schema_placed, written}
 use Rattle.transactions.proofs.document_write.add_write.Goals as goal
 
 pub returns-clause-ok : goal.returns-clause-ok
@@ -25,11 +27,11 @@ returns-clause-ok g c r clean store serves numbered at =
     subst (λ t. IsBest (with_addition k a) t deleted) (sym c.as_str-2.ensures.value)
     (subst (λ h. IsBest h (string_bytes c.in_ok-text.text) deleted) after c.in_ok-text.ensures.ok) in
     let named = c.as_bytes-id.ensures.value ∙ c.as_str.ensures.text in
-    let begins : (c.is_none-is_new.result ≡ true) → filter (is_of db c.as_bytes-id.result.now) (inserted.now.trees docs_tree) ≡ [] =
-    λ is_new. ap (λ i. filter (is_of db i) (inserted.now.trees docs_tree)) named
-    ∙ none_placed es db a.id old.now inserted.now store revisions (ap (λ n. winner (history_in (old.now.trees revs_tree) n a.id)) numbered ∙ serves.begins (search rules)) in
+    let there : list_any (is_of db c.as_bytes-id.result.now) (inserted.now.trees docs_tree) ≡ not c.is_none-is_new.result =
+    ap (λ i. list_any (is_of db i) (inserted.now.trees docs_tree)) named
+    ∙ row_there es db a.id old.now inserted.now store revisions ∙ ap (λ n. is_some (winner (history_in (old.now.trees revs_tree) n a.id))) numbered ∙ sym serves.begins ∙ search rules in
     let document = subst (λ i. IsPlaced db i c.args.sequence.now text deleted inserted.now placed.now) named
-    (c.in_ok-place_document.ensures.ok second (schema_after es db a.id old.now inserted.now store revisions) (docs_fit es db a.id old.now inserted.now store revisions) begins) in
+    (c.in_ok-place_document.ensures.ok second (schema_after es db a.id old.now inserted.now store revisions) (docs_fit es db a.id old.now inserted.now store revisions) there) in
     written k a text deleted {X = Unit {0}} {E = CommitFault} (Ok tt) r db c.args.sequence.now a.id old.now inserted.now placed.now new.now serves numbered at refl revisions best document
     (c.in_ok-advance_database.ensures.alters.ok clean (schema_placed es db a.id old.now inserted.now store revisions c.args.sequence.now text deleted placed.now document)
     (dbs_fit es db a.id old.now inserted.now store revisions c.args.sequence.now text deleted placed.now document))
