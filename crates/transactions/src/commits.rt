@@ -1,6 +1,8 @@
 //! Writes of a database that are committed together.
 
-ghost use Rattle.std.specs.Prelude.{◌≡◌, ◌+◌, ◌<◌, ◌^◌, ℕ, IsTrue, List, false, length, pos, IfErr, IfOk, IfSome, OnOk, true, ⊤};
+ghost use Rattle.std.specs.FinMap as finite;
+ghost use Rattle.tree.specs.History.{winner};
+ghost use Rattle.std.specs.Prelude.{◌≡◌, ◌+◌, ◌<◌, ◌^◌, ℕ, IsTrue, List, None, false, length, pos, IfErr, IfOk, IfSome, OnOk, true, ⊤};
 ghost use Rattle.sqlite.specs.Held.{state};
 ghost use Rattle.sqlite.specs.State.{HasCleanDisk, KeepsCommit};
 ghost use Rattle.sqlite_value.specs.Order.{Row};
@@ -23,7 +25,7 @@ ghost use Rattle.index.specs.Shown.{declared};
 ghost use Rattle.std.specs.Prelude.{map};
 
 use crate::commit_fault::CommitFault;
-use crate::document_write::add_write;
+use crate::document_write::{add_first, add_write};
 use crate::histories::read_history;
 use crate::indexing::write_indexed;
 use crate::winners::{first_winner, history_for};
@@ -138,6 +140,7 @@ fn read_followed<S: Alter>(
     ensures has_best { HasCleanDisk (state S.Store tx.new.conn.now) → IsStore (state S.Store tx.old.conn.now).now
         → HasBest (history_with (state S.Store tx.old.conn.now).now.trees db.now (addition_of write.now))
         → IfOk result (λ found. IfSome found (λ history. HasBest (with_addition history (addition_of write.now)))) }
+    ensures empty { IfOk result (λ found. IfSome found (λ history. winner history ≡ None → history ≡ finite.empty)) }
     ensures err { IfErr result (IsUnwritten (IsSound S.Store (λ _. ⊤) tx.old.conn.now tx.new.conn.now)) }
     ensures stands { Stands S.Store tx.old.conn.now tx.new.conn.now result }
     ensures served { IsServed S.Store tx.old.conn.now tx.new.conn.now result }
@@ -174,6 +177,36 @@ fn write_known<S: Alter>(
     let mut history = history;
     add_write(alloc, tx, db, sequence, &mut history, write)?;
     Ok(history)
+}
+
+/// Writes a document by a history that says what the write asks of the document's own: the winner alone,
+/// or nothing where the document is new.
+fn write_served<S: Alter>(
+    alloc: Global,
+    tx: &mut Transaction<'_, S>,
+    db: &i64,
+    sequence: &i64,
+    history: History,
+    write: &Write,
+) -> Result<(), CommitFault>
+    requires { winner history ≡ None → history ≡ finite.empty }
+    ensures same_reference { tx.new.conn.ghost_name ≡ tx.old.conn.ghost_name }
+    ensures ok { (r : Row) → HasCleanDisk (state S.Store tx.new.conn.now) → IsStore (state S.Store tx.old.conn.now).now
+        → HasPlaceFor (history_in ((state S.Store tx.old.conn.now).now.trees revs_tree) (number_of r) (addition_of write.now).id) (addition_of write.now)
+        → Serves (addition_of write.now) (history_in ((state S.Store tx.old.conn.now).now.trees revs_tree) (number_of r) (addition_of write.now).id) history
+        → db.now ≡ number_of r → sequence.now ≡ pos (length_of r + 1)
+        → OnOk result (IsWrite r (written_in (history_in ((state S.Store tx.old.conn.now).now.trees revs_tree) (number_of r) (addition_of write.now).id) (addition_of write.now))
+        (state S.Store tx.old.conn.now).now (state S.Store tx.new.conn.now).now) }
+    ensures err { IfErr result (IsUnwritten (HasBest (with_addition history (addition_of write.now)))) }
+    ensures lawful { OnOk result (IsLawfulAddition (addition_of write.now)) }
+    ensures inside { Stays S.Store tx.old.conn.now tx.new.conn.now result }
+    ensures proceeds { Proceeds S.Store tx.old.conn.now tx.new.conn.now }
+{
+    let mut history = history;
+    if history.winner().is_none() {
+        return add_first(alloc, tx, db, sequence, &history, write);
+    }
+    add_write(alloc, tx, db, sequence, &mut history, write)
 }
 
 /// Writes a document after its history was read as a whole, and returns its history after the write.
@@ -226,7 +259,7 @@ fn write_unread<S: Alter>(
 {
     match read_followed(alloc, tx, db, write)? {
         Some(history) => {
-            write_known(alloc, tx, db, sequence, history, write)?;
+            write_served(alloc, tx, db, sequence, history, write)?;
             Ok(None)
         }
         None => Ok(Some(write_read(alloc, tx, db, sequence, write)?)),

@@ -1,6 +1,7 @@
 //! One write of a document, as statements of a transaction.
 
 ghost use Rattle.std.specs.Prelude.{◌≡◌, ◌+◌, ◌∷◌, [], not, pos, None, Some, IfErr, IfOk, OnOk, string_bytes, ⊤};
+ghost use Rattle.std.specs.FinMap as map;
 ghost use Rattle.std.specs.Prelude.{IsTrue};
 ghost use Rattle.std.specs.List.{AllByRecursion, list_any};
 ghost use Rattle.couch_json.specs.Canonical.{canonical};
@@ -22,7 +23,7 @@ ghost use Rattle.tree.specs.Nodes.{entries_before};
 ghost use Rattle.tree.specs.Revision.{is_revision};
 ghost use Rattle.tree.specs.Write.{head};
 ghost use Rattle.transactions.specs.Commits.{IsUnwritten};
-ghost use Rattle.transactions.specs.Following.{Serves};
+ghost use Rattle.transactions.specs.Following.{HasPlaceFor, Serves};
 ghost use Rattle.transactions.specs.Inserting.{InsertsAll, IsBest, IsLawfulAddition, IsPlaced, entries_of, unknown_in};
 ghost use Rattle.transactions.specs.Reading.{HasBest, IsMissed};
 
@@ -66,6 +67,48 @@ pub(crate) fn add_write<S: Alter>(
     place_document(tx, db, id, sequence, text.as_str(), deleted, is_new)?;
     advance_database(tx, db, sequence)?;
     Ok(())
+}
+
+/// Does the first write of a document, whose history is empty, and leaves it so. The newest revision of
+/// the path is the winner then, so no history is made of it.
+pub(crate) fn add_first<S: Alter>(
+    alloc: Global,
+    tx: &mut Transaction<'_, S>,
+    db: &i64,
+    sequence: &i64,
+    history: &History,
+    write: &Write,
+) -> Result<(), CommitFault>
+    ensures same_reference { tx.new.conn.ghost_name ≡ tx.old.conn.ghost_name }
+    ensures ok { (r : Row) → HasCleanDisk (state S.Store tx.new.conn.now) → IsStore (state S.Store tx.old.conn.now).now
+        → Serves (addition_of write.now) (history_in ((state S.Store tx.old.conn.now).now.trees revs_tree) (number_of r) (addition_of write.now).id) history.now
+        → history.now ≡ map.empty → HasPlaceFor map.empty (addition_of write.now)
+        → db.now ≡ number_of r → sequence.now ≡ pos (length_of r + 1)
+        → OnOk result (IsWrite r (written_in (history_in ((state S.Store tx.old.conn.now).now.trees revs_tree) (number_of r) (addition_of write.now).id) (addition_of write.now))
+        (state S.Store tx.old.conn.now).now (state S.Store tx.new.conn.now).now) }
+    ensures err { IfErr result (IsUnwritten (HasBest (with_addition map.empty (addition_of write.now)))) }
+    ensures lawful { OnOk result (IsLawfulAddition (addition_of write.now)) }
+    ensures inside { Stays S.Store tx.old.conn.now tx.new.conn.now result }
+    ensures proceeds { Proceeds S.Store tx.old.conn.now tx.new.conn.now }
+{
+    insert_revisions(alloc, tx, db, history, write)?;
+    let text = newest_of(alloc, write)?;
+    let id = write.id.as_str().as_bytes();
+    place_document(tx, db, id, sequence, text.as_str(), write.deleted, true)?;
+    advance_database(tx, db, sequence)?;
+    Ok(())
+}
+
+/// Returns the text of the newest revision of a write, which is the best where it is the first write of
+/// its document.
+fn newest_of(alloc: Global, write: &Write) -> Result<String, HistoryFault>
+    ensures ok { IfOk result (λ text. HasPlaceFor map.empty (addition_of write.now) → IsBest (with_addition map.empty (addition_of write.now)) (string_bytes text) write.now.deleted) }
+    ensures err { IfErr result (IsMissed (with_addition map.empty (addition_of write.now))) }
+{
+    let Some(rev) = write.path.first() else {
+        return Err(HistoryFault::Damaged);
+    };
+    Ok(rev.text(alloc)?)
 }
 
 /// Puts in the row of one revision of a document that only stands in a path, if the history doesn't

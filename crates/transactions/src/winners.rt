@@ -6,7 +6,7 @@ ghost use Rattle.std.specs.List.{AllByRecursion};
 ghost use Rattle.store.specs.Plain.{with_addition};
 ghost use Rattle.store.specs.Writing.{addition_of};
 ghost use Rattle.tables.specs.Listings.{IsListedDocument};
-ghost use Rattle.tree.specs.History.{HistoryContent, with_new};
+ghost use Rattle.tree.specs.History.{HistoryContent, winner as tree_winner, with_new};
 ghost use Rattle.tree.specs.Outline.{marked_winner};
 ghost use Rattle.transactions.specs.Following.{AreParentsKnown, HasPlaceFor, IsFollower, Serves};
 ghost use Rattle.transactions.specs.Reading.{HasBest, IsRead, winner_shown};
@@ -68,6 +68,7 @@ pub(crate) fn history_for(
         → IfOk result (λ found. IfSome found (Serves (addition_of write.now) h)) }
     ensures has_best { (h : HistoryContent) → (winner ≡ None → h ≡ map.empty) → HasBest (with_addition h (addition_of write.now))
         → IfOk result (λ found. IfSome found (λ history. HasBest (with_addition history (addition_of write.now)))) }
+    ensures empty { IfOk result (λ found. IfSome found (λ history. tree_winner history ≡ None → history ≡ map.empty)) }
 {
     let Some(winner) = winner else {
         return Ok(Some(History::new(alloc)));

@@ -24,19 +24,19 @@ returns-in_err-write_read-in-None-clause-err g c =
           subst (λ (d : Database). IsStore d × Best d.trees) (sym same) had,
     )) e.err)
 
-pub returns-in_ok-write_known-in-Some-clause-ok : goal.returns-in_ok-write_known-in-Some-clause-ok
-returns-in_ok-write_known-in-Some-clause-ok g c r clean store place numbered at =
+pub returns-in_ok-write_served-in-Some-clause-ok : goal.returns-in_ok-write_served-in-Some-clause-ok
+returns-in_ok-write_served-in-Some-clause-ok g c r clean store place numbered at =
     let old = state g.S.Store c.args.tx.now.conn.now in
     let mid = state g.S.Store c.read_followed.new.tx.conn.now in
-    let new = state g.S.Store c.write_known.new.tx.conn.now in
+    let new = state g.S.Store c.write_served.new.tx.conn.now in
     let a = addition_of c.args.write.now in
-    let e = c.in_ok-write_known-in-Some.ensures in
+    let e = c.in_ok-write_served-in-Some.ensures in
     let was : HasCleanDisk mid = omega (arith, e.proceeds.survives.clean, clean) in
     let same : mid.now ≡ old.now = (c.in_ok-history.ensures.stands store.schema_is was).0.now_is in
     let Given : ℤ → Type 0 = λ n. HasPlaceFor (history_in (old.now.trees revs_tree) n a.id) a → IfSome c.in_ok-history.field-0 (Serves a (history_in (old.now.trees revs_tree) n a.id)) in
     let told = subst Given numbered (c.in_ok-history.ensures.ok was store) place in
     let serves = subst (λ (o : Option HistoryContent). IfSome o (Serves a (history_in (old.now.trees revs_tree) (number_of r) a.id))) c.in-Some.is told in
-    document_written r a c.in-Some.history old.now mid.now new.now same store serves (λ is s. e.ok r clean is s numbered at)
+    document_written r a c.in-Some.history old.now mid.now new.now same store serves (λ is s. e.ok r clean is (subst (λ (d : Database). HasPlaceFor (history_in (d.trees revs_tree) (number_of r) a.id) a) (sym same) place) s numbered at)
 
 pub returns-in_ok-write_read-in-None-clause-ok : goal.returns-in_ok-write_read-in-None-clause-ok
 returns-in_ok-write_read-in-None-clause-ok g c r clean store place numbered at =

@@ -1,5 +1,5 @@
-use Rattle.transactions.proofs.Common.{HasBest, HistoryContent, addition_of, rules, subst, sym, with_addition, ◌<◌, ◌∙◌}
-use Rattle.transactions.proofs.Following.{marked_is, single_has_best, winner_serves}
+use Rattle.transactions.proofs.Common.{None, Some, ap, HasBest, HistoryContent, addition_of, rules, subst, sym, with_addition, ◌<◌, ◌∙◌, ◌≡◌}
+use Rattle.transactions.proofs.Following.{marked_is, single_has_best, single_wins, winner_serves}
 use Rattle.transactions.specs.Following.{IsFollower, Serves}
 use Rattle.tree.specs.History.{winner}
 use Rattle.transactions.proofs.winners.history_for.Goals as goal
@@ -19,3 +19,9 @@ returns-clause-has_best c h begins best =
     let f : IsFollower a w = c.follows.ensures (search rules) in
     let positive : 0 < w.number = search rules in
     subst (λ (k : HistoryContent). HasBest (with_addition k a)) (sym c.in_ok-make_single.ensures) (single_has_best a w f positive)
+
+pub returns-clause-empty : goal.returns-clause-empty
+returns-clause-empty c none =
+    let w = c.in-Some.winner.rev in
+    let both : Some w ≡ None = sym (single_wins w) ∙ ap winner (sym c.in_ok-make_single.ensures) ∙ none in
+    absurd (cc)
