@@ -1,4 +1,4 @@
-use crate::commas::element_text;
+use crate::joining::element_text;
 use crate::json_text::JsonText;
 use crate::no_memory::Got;
 use crate::value::Json;

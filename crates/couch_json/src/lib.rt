@@ -10,11 +10,11 @@
 
 mod array_text;
 mod collation;
-mod commas;
 mod converting;
 mod copying;
 mod fault;
 mod field_path;
+mod joining;
 mod json_text;
 mod key;
 mod key_fault;

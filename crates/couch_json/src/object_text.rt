@@ -1,4 +1,4 @@
-use crate::commas::key_text;
+use crate::joining::{join_texts, key_text};
 use crate::json_text::JsonText;
 use crate::no_memory::Got;
 use std::alloc::Global;
@@ -52,8 +52,8 @@ impl ObjectText {
         })
     }
 
-    /// Writes one more member, whose name is greater than those before it. Its text is moved, and what
-    /// came before is put in front of it.
+    /// Writes one more member, whose name is greater than those before it. The longer of the two texts
+    /// is not copied.
     pub fn with(self, alloc: Global, name: &str, value: JsonText) -> Got<ObjectText>
         requires { IsBehind name.now self }
         ensures { IfOk result (λ object. object ≡ with_last self name.now value) }
@@ -64,8 +64,7 @@ impl ObjectText {
         } = self;
         let key = key_text(alloc, name, is_empty)?;
         front.push_str(key.as_str())?;
-        let mut text = value.into_string();
-        text.insert_str(0, front.as_str())?;
+        let text = join_texts(front, value.into_string())?;
         Ok(ObjectText {
             text,
             is_empty: false,

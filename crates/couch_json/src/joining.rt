@@ -1,4 +1,4 @@
-//! What stands between the elements of an array and the members of an object.
+//! How the texts of elements and of members are joined.
 
 ghost use Rattle.std.specs.Prelude.{◌≡◌, ◌++◌, IfOk, IsUtf8, OnOk, codes, string_bytes};
 ghost use Rattle.json.specs.Print.{quoted};
@@ -40,4 +40,18 @@ fn put_comma(text: String, is_first: bool) -> Got<String>
         text.insert_str(0, ",")?;
     }
     Ok(text)
+}
+
+/// Joins two texts, in the place of the longer.
+pub(crate) fn join_texts(front: String, back: String) -> Got<String>
+    ensures { IfOk result (λ whole. string_bytes whole ≡ string_bytes front ++ string_bytes back) }
+{
+    let mut front = front;
+    let mut back = back;
+    if front.len() < back.len() {
+        back.insert_str(0, front.as_str())?;
+        return Ok(back);
+    }
+    front.push_str(back.as_str())?;
+    Ok(front)
 }
