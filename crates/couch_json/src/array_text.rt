@@ -1,4 +1,4 @@
-use crate::joining::element_text;
+use crate::joining::put_comma;
 use crate::json_text::JsonText;
 use crate::no_memory::Got;
 use crate::value::Json;
@@ -58,7 +58,14 @@ impl ArrayText {
     pub fn push(&mut self, alloc: Global, value: &Json) -> Got<()>
         ensures { OnOk result (self.new ≡ self.old ++ view value.now ∷ []) }
     {
-        let element = element_text(alloc, value, self.is_empty)?;
+        self.push_text(JsonText::of(alloc, value)?)
+    }
+
+    /// Writes one more element, whose text there is. After a refusal the array is as it was.
+    pub fn push_text(&mut self, value: JsonText) -> Got<()>
+        ensures { OnOk result (self.new ≡ self.old ++ value ∷ []) }
+    {
+        let element = put_comma(value.into_string(), self.is_empty)?;
         self.text.push_str(element.as_str())?;
         self.is_empty = false;
         Ok(())

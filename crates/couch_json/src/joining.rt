@@ -2,23 +2,12 @@
 
 ghost use Rattle.std.specs.Prelude.{◌≡◌, ◌++◌, IfOk, IsUtf8, OnOk, codes, string_bytes};
 ghost use Rattle.json.specs.Print.{quoted};
-ghost use Rattle.couch_json.specs.Canonical.{canonical};
-ghost use Rattle.couch_json.specs.Lawful.{IsLawful};
 ghost use Rattle.couch_json.specs.Said.{behind_comma};
-ghost use Rattle.couch_json.specs.View.{view};
 
 use crate::no_memory::Got;
 use crate::value::Json;
 use crate::writing::canon;
 use std::alloc::Global;
-
-/// Writes an element, with a comma before it unless it is the first.
-pub(crate) fn element_text(alloc: Global, value: &Json, is_first: bool) -> Got<String>
-    ensures text { IfOk result (λ text. string_bytes text ≡ behind_comma is_first (canonical (view value.now))) }
-    ensures lawful { OnOk result (IsLawful (view value.now)) }
-{
-    put_comma(canon(alloc, value)?, is_first)
-}
 
 /// Writes the name of a member with its colon, with a comma before it unless it is the first.
 pub(crate) fn key_text(alloc: Global, name: &str, is_first: bool) -> Got<String>
@@ -32,7 +21,7 @@ pub(crate) fn key_text(alloc: Global, name: &str, is_first: bool) -> Got<String>
 }
 
 /// Puts a comma before a text, unless it is the first.
-fn put_comma(text: String, is_first: bool) -> Got<String>
+pub(crate) fn put_comma(text: String, is_first: bool) -> Got<String>
     ensures { IfOk result (λ new. string_bytes new ≡ behind_comma is_first (string_bytes text)) }
 {
     let mut text = text;

@@ -11,7 +11,7 @@ ghost use Rattle.node.specs.Works.{document_finds, documents_reply, view_read};
 use crate::early_end::EarlyEnd;
 use api::{Refusal, body, document_id, index_name, view_query, without_parameters};
 use couch_http::Request;
-use couch_json::{Got, Json, put_member};
+use couch_json::{Got, Json, JsonText, put_member};
 use find::{Query, QueryFault, find};
 use std::alloc::Global;
 use std::collections::BTreeMap;
@@ -23,7 +23,7 @@ pub(crate) fn find_documents<S: Store>(
     store: &mut S,
     name: &DbName,
     request: &Request,
-) -> Result<Json, EarlyEnd>
+) -> Result<JsonText, EarlyEnd>
     ensures reads { Reads S.Store store.old store.new name.now (document_finds (message_of request.now)) result }
 {
     without_parameters(request)?;
@@ -46,14 +46,14 @@ fn read_query(alloc: Global, value: &Json) -> Result<Query, EarlyEnd>
 }
 
 /// Builds the reply to a find: the documents, and a bookmark that says nothing.
-fn documents_reply(alloc: Global, documents: Vec<Json>) -> Got<Json>
-    ensures { IfOk result (λ value. view value ≡ documents_reply (each view documents.items)) }
+fn documents_reply(alloc: Global, documents: Vec<Json>) -> Got<JsonText>
+    ensures { IfOk result (λ value. value ≡ documents_reply (each view documents.items)) }
 {
     let bookmark = String::from_str(alloc, "nil")?;
     let mut members = BTreeMap::new(alloc);
     put_member(alloc, &mut members, "bookmark", Json::Text(bookmark))?;
     put_member(alloc, &mut members, "docs", Json::Array(documents))?;
-    Ok(Json::Object(members))
+    JsonText::of(alloc, &Json::Object(members))
 }
 
 /// Lists the rows of an index.
@@ -62,7 +62,7 @@ pub(crate) fn list_view<S: Store>(
     store: &mut S,
     name: &DbName,
     request: &Request,
-) -> Result<Json, EarlyEnd>
+) -> Result<JsonText, EarlyEnd>
     ensures reads { Reads S.Store store.old store.new name.now (view_read (message_of request.now)) result }
 {
     let design = document_id(alloc, &request.path)?;
