@@ -100,7 +100,8 @@ fn put_document(
         return Ok(());
     };
     let place = KeyRow::new(make_key(values), id.copy(alloc)?);
-    drop(sorted.insert(place, JsonText::of(alloc, document)?)?);
+    let text = JsonText::of(alloc, document)?;
+    drop(sorted.insert(place, text)?);
     Ok(())
 }
 
