@@ -50,11 +50,11 @@ impl Model for Response {
 }
 
 impl Response {
-    ghost use Rattle.std.specs.Prelude.{◌≡◌, ◌≤◌, length, drop, IfOk, IfErr, OnOk};
+    ghost use Rattle.std.specs.Prelude.{◌≡◌, ◌≤◌, length, drop, IfOk, IfErr, OnOk, string_bytes};
     ghost use Rattle.couch_json.specs.Canonical.{canonical};
     ghost use Rattle.couch_json.specs.Lawful.{IsLawful};
     ghost use Rattle.couch_json.specs.View.{view};
-    ghost use Rattle.couch_http.specs.Reply.{reply_of, fixed_reply};
+    ghost use Rattle.couch_http.specs.Reply.{reply_of, reply_head, fixed_reply};
 
     /// Makes the reply of a status and a value, with `Connection: close` where it is the connection's last.
     ///
@@ -67,26 +67,35 @@ impl Response {
         ensures refused { IfErr result (λ fault. fault ≡ HttpFault.Memory) }
     {
         let body = canon(alloc, value)?;
-        Ok(Response::of_text(alloc, status, body.as_str(), last)?)
+        Ok(Response::of_text(alloc, status, body, last)?)
     }
 
-    /// Makes the reply of a status and the text of its body.
-    fn of_text(alloc: Global, status: u16, body: &str, last: bool) -> Got<Response>
-        ensures { IfOk result (λ reply. reply ≡ reply_of status body.now last) }
+    /// Makes the reply of a status and the text of its body. The head is put in front of the text, which
+    /// is not held twice.
+    pub fn of_text(alloc: Global, status: u16, body: String, last: bool) -> Got<Response>
+        ensures { IfOk result (λ reply. reply ≡ reply_of status (string_bytes body) last) }
     {
-        let mut text = String::new(alloc);
-        push_status(&mut text, status)?;
-        push_type(&mut text)?;
-        push_length(&mut text, body.len())?;
-        push_close(&mut text, last)?;
-        text.push_str("\r\n")?;
-        let head_len = text.len();
-        text.push_str(body)?;
+        let head = Response::head_of(alloc, status, body.len(), last)?;
+        let mut text = body;
+        text.insert_str(0, head.as_str())?;
         Ok(Response {
             status,
-            head_len,
+            head_len: head.len(),
             text: ReplyText::Made(text),
         })
+    }
+
+    /// Writes all that comes before a body of so many bytes.
+    fn head_of(alloc: Global, status: u16, size: usize, last: bool) -> Got<String>
+        ensures { IfOk result (λ head. string_bytes head ≡ reply_head status size last) }
+    {
+        let mut head = String::new(alloc);
+        push_status(&mut head, status)?;
+        push_type(&mut head)?;
+        push_length(&mut head, size)?;
+        push_close(&mut head, last)?;
+        head.push_str("\r\n")?;
+        Ok(head)
     }
 
     /// Makes a reply that needs no memory.

@@ -3,6 +3,7 @@ pub mod Objects
 pub mod Texts
 pub mod Readings
 pub mod ReadingBack
+pub mod Said
 pub mod Words
 pub mod OpenCounts
 pub mod TreeDepths

@@ -70,7 +70,7 @@ members_data-put name v (member other w ms) = members_data-match_ordering (slice
 -- ---- what was outlined is read
 
 mutual
-  of_json-outline : (v : Value) → IsLawful v → of_json (outline (data_of v)) ≡ Some (data_of v)
+  pub of_json-outline : (v : Value) → IsLawful v → of_json (outline (data_of v)) ≡ Some (data_of v)
   of_json-outline null h = refl
   of_json-outline (truth b) h = refl
   of_json-outline (whole n) h = rw (number_of-number_text n h)
@@ -88,7 +88,7 @@ mutual
       rw (of_json-outline v h.1) (ap (of_members (members_outline (members_data ms))) (sym (members_data-put name v found)) ∙ of_members-outline ms (put name v found) h.2)
 
 mutual
-  value_of-data_of : (v : Value) → IsLawful v → value_of (data_of v) ≡ Some v
+  pub value_of-data_of : (v : Value) → IsLawful v → value_of (data_of v) ≡ Some v
   value_of-data_of null h = refl
   value_of-data_of (truth b) h = refl
   value_of-data_of (whole n) h = rw (as_integer-of_integer n)
@@ -186,10 +186,10 @@ nests_too_deep-canonical v h shallow =
 
 -- ---- reading back
 
-value-json_tokens_alone : (limit : ℕ) (j : json.Json) → tree.depth j ≤ limit → json.value limit (json_tokens j) ≡ Some (j, [])
+pub value-json_tokens_alone : (limit : ℕ) (j : json.Json) → tree.depth j ≤ limit → json.value limit (json_tokens j) ≡ Some (j, [])
 value-json_tokens_alone limit j small = ap (json.value limit) (sym (append-nil (json_tokens j))) ∙ value-json_tokens j limit [] small
 
-abbrev whole_tree : Option (json.Json × List Token) → Option json.Json
+abbrev pub whole_tree : Option (json.Json × List Token) → Option json.Json
 whole_tree o = option_and_then (λ p. if_last p.0 p.1) o
 
 read-canonical : (v : Value) → IsLawful v → depth v ≤ max_open → read (canonical v) ≡ Some (data_of v)

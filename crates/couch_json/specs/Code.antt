@@ -61,3 +61,6 @@ mutual
 
 abbrev pub value_code : Coded Value
 value_code = record { code = value_numbers; inj = same_value }
+
+abbrev pub members_code : Coded Members
+members_code = record { code = members_numbers; inj = same_members }

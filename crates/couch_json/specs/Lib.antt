@@ -8,6 +8,7 @@ pub mod View
 pub mod Nesting
 pub mod Reading
 pub mod Written
+pub mod Said
 pub mod FieldPath
 pub mod Key
 pub mod KeyCuts

@@ -8,11 +8,14 @@
 //! ```
 #![tactic(auto)]
 
+mod array_text;
 mod collation;
 mod converting;
 mod copying;
 mod fault;
 mod field_path;
+mod joining;
+mod json_text;
 mod key;
 mod key_fault;
 mod key_reading;
@@ -22,20 +25,24 @@ mod nested;
 mod nesting;
 mod no_memory;
 mod number;
+mod object_text;
 mod reading;
 mod value;
 mod walking;
 mod writing;
 
+pub use array_text::ArrayText;
 pub use collation::collate;
 pub use fault::JsonFault;
 pub use field_path::{FieldPath, PathFault, at};
+pub use json_text::JsonText;
 pub use key::key_bytes;
 pub use key_fault::KeyFault;
 pub use key_reading::key_of;
 pub use members::{is_among, put_member};
 pub use no_memory::{Got, NoMemory};
 pub use number::Number;
+pub use object_text::ObjectText;
 pub use reading::read;
 pub use value::Json;
 pub use writing::canon;

@@ -39,14 +39,14 @@ one_chunk selector d limit left ids before after is put =
 
 -- ---- the last chunk
 
-none_left : (part : Part) → completion part [] ≡ map view part.documents.items
+none_left : (part : Part) → completion part [] ≡ part.documents
 none_left part =
-    (λ i. map view part.documents.items ++ take part.limit (drop-nil {A = Value} part.skip i)) ∙ ap (λ vs. map view part.documents.items ++ vs) (take-nil {A = Value} part.limit)
-    ∙ append-nil (map view part.documents.items)
+    (λ i. part.documents ++ take part.limit (drop-nil {A = Value} part.skip i)) ∙ ap (λ vs. part.documents ++ vs) (take-nil {A = Value} part.limit)
+    ∙ append-nil part.documents
 
 -- a part that is full stays as it is
-pub part_full : (part : Part) (rest : List Value) → part.limit ≡ 0 → completion part rest ≡ map view part.documents.items
-part_full part rest none = (λ i. map view part.documents.items ++ take (none i) (drop part.skip rest)) ∙ append-nil (map view part.documents.items)
+pub part_full : (part : Part) (rest : List Value) → part.limit ≡ 0 → completion part rest ≡ part.documents
+part_full part rest none = (λ i. part.documents ++ take (none i) (drop part.skip rest)) ∙ append-nil part.documents
 
 short : {X : Type 0} (n : ℕ) (xs : List X) → length (take n xs) < n → drop n xs ≡ []
 short zero xs lt = absurd (omega (arith, lt))
@@ -65,9 +65,9 @@ is_less m n h = grind (arith, nat_tests, h)
 
 -- nothing is to come behind a chunk where the part is full or the chunk is short
 pub last_chunk : (selector : Value) (d : Database) (most : ℕ) (left ids : List (List ℕ)) (part : Part) → ids ≡ take most left → (nat_eq part.limit 0 || nat_lt (length ids) most) ≡ true
-    → completion part (matches_at selector d (drop most left)) ≡ map view part.documents.items
+    → completion part (matches_at selector d (drop most left)) ≡ part.documents
 last_chunk selector d most left ids part is last =
-    elim (either (nat_eq part.limit 0) (nat_lt (length ids) most) last) as (λ _. completion part (matches_at selector d (drop most left)) ≡ map view part.documents.items) [
+    elim (either (nat_eq part.limit 0) (nat_lt (length ids) most) last) as (λ _. completion part (matches_at selector d (drop most left)) ≡ part.documents) [
       | inl full ↦ part_full part (matches_at selector d (drop most left)) (is_zero part.limit full)
       | inr few ↦ ap (λ xs. completion part (matches_at selector d xs)) (short most left (subst (λ xs. length xs < most) is (is_less (length ids) most few))) ∙ none_left part
     ]
@@ -96,8 +96,8 @@ pub chunk_ends : {S : Type 0} (g : Ghosts S) (was mid new : S) (there at : Optio
     → OnlyReads g was mid → OnlyReads g mid new → (g.is_honest was → at ≡ there)
     → (g.is_honest mid → option_map (λ d. up_to_limit limit (drop skip (all d))) at ≡ Some ids)
     → (g.is_honest new → (d : Database) → there ≡ Some d → completion part (matches_at selector d (behind limit (drop skip (all d)))) ≡ whole d)
-    → ((d : Database) → ids ≡ up_to_limit limit (drop skip (all d)) → completion part (matches_at selector d (behind limit (drop skip (all d)))) ≡ map view part.documents.items)
-    → g.is_honest new → option_map whole there ≡ Some (map view part.documents.items)
+    → ((d : Database) → ids ≡ up_to_limit limit (drop skip (all d)) → completion part (matches_at selector d (behind limit (drop skip (all d)))) ≡ part.documents)
+    → g.is_honest new → option_map whole there ≡ Some part.documents
 chunk_ends g was mid new None at selector all whole skip limit ids part first then same took found ends honest =
     let between = then.goes_on.honest honest in
     let never : None ≡ Some ids = ap (option_map (λ e. up_to_limit limit (drop skip (all e)))) (sym (same (first.goes_on.honest between))) ∙ took between in absurd cc
@@ -108,7 +108,7 @@ chunk_ends g was mid new (Some d) at selector all whole skip limit ids part firs
 
 -- ---- ids one after another
 
-pub no_more : (part : Part) → (selector : Value) (d : Database) → completion part (matches_at selector d []) ≡ map view part.documents.items
+pub no_more : (part : Part) → (selector : Value) (d : Database) → completion part (matches_at selector d []) ≡ part.documents
 no_more part selector d = none_left part
 
 -- one more document was put

@@ -30,12 +30,6 @@ use Rattle.find.proofs.Filtered.{HasKeys, filter-put, keys_put, put_front}
 use Rattle.store.proofs.Directed.{reverse-cons}
 use Rattle.find.specs.Matching.{if_matches, match_in, matches_at}
 
--- ---- the map of the code
-
-pub seconds_placed : (es : List (IndexPlace × Json)) → map view (map (λ e. e.1) es) ≡ map (λ e. e.1) (place_views es)
-seconds_placed [] = refl
-seconds_placed (e ∷ es) = ap (λ vs. view e.1 ∷ vs) (seconds_placed es)
-
 -- ---- an index of documents that match
 
 abbrev pub seen : Entry → Option Value

@@ -1,9 +1,8 @@
 -- A find id by id: what each document adds, and what is still to come.
 -- This crate's own: it ties the loops of the code to the definition of `Found`.
-use Rattle.std.specs.Prelude.{ℕ, List, ◌++◌, drop, flat_map, if◌then◌else◌, map, Option, Some, None, take}
+use Rattle.std.specs.Prelude.{ℕ, List, ◌++◌, drop, flat_map, if◌then◌else◌, Option, Some, None, take}
 use Rattle.std.specs.Option.{option_to_list}
 use Rattle.couch_json.specs.Value.{Value}
-use Rattle.couch_json.specs.View.{view}
 use Rattle.selector.specs.Truth.{selector_matches}
 use Rattle.store.specs.Database.{Database, history_at}
 use Rattle.store.specs.Indexes.{queried_document}
@@ -24,4 +23,4 @@ matches_at selector d ids = flat_map (λ id. option_to_list (match_in selector d
 
 -- the part, once these documents have come too
 abbrev pub completion : Part → List Value → List Value
-completion part rest = map view part.documents.items ++ take part.limit (drop part.skip rest)
+completion part rest = part.documents ++ take part.limit (drop part.skip rest)

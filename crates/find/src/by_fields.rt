@@ -7,7 +7,6 @@ ghost use Rattle.couch_json.specs.View.{items_view, view};
 ghost use Rattle.store.specs.Calls.{OnlyReads};
 ghost use Rattle.store.specs.Database.{Database};
 ghost use Rattle.store.specs.Indexes.{put_in_index};
-ghost use Rattle.store.specs.Plain.{place_views};
 ghost use Rattle.read.specs.Answers.{Stops};
 ghost use Rattle.store.specs.Pages.{in_direction};
 ghost use Rattle.find.specs.Candidates.{put_candidates};
@@ -18,7 +17,7 @@ use crate::matching::read_match;
 use crate::part::Part;
 use crate::query::Query;
 use crate::source::{Source, take_ids};
-use couch_json::{FieldPath, Got, Json};
+use couch_json::{ArrayText, FieldPath, Got, Json, JsonText};
 use read::ReadFault;
 use std::alloc::Global;
 use std::collections::BTreeMap;
@@ -27,18 +26,17 @@ use tree::DocId;
 
 /// Finds the documents of a source that match and have all fields of the sort, sorts them, and takes the
 /// part that is asked for.
-#[tactic(auto, using(store::proofs::Directed::map_directed))]
 pub(crate) fn find_sorted<S: Store>(
     alloc: Global,
     store: &mut S,
     db: &DbName,
     query: &Query,
     source: &Source,
-) -> Result<Vec<Json>, ReadFault>
+) -> Result<ArrayText, ReadFault>
     ensures ok { S.is_honest store.new → IfOk result (λ documents.
         option_map (λ d. take query.now.limit (drop query.now.skip (in_direction query.now.descending
         (each (λ e. e.1) (put_candidates query.now.sort query.now.selector d (ids_in source.now d) []))))) (map.get (S.contents store.old) db.now)
-        ≡ Some (each view documents.items)) }
+        ≡ Some documents) }
     ensures stops { IfErr result (Stops S.Store store.old store.new (map.get (S.contents store.old) db.now ≡ None)) }
     ensures reads { OnlyReads S.Store store.old store.new }
 {
@@ -55,9 +53,9 @@ fn sort_matches<S: Store>(
     db: &DbName,
     ids: &[DocId],
     query: &Query,
-) -> Result<BTreeMap<KeyRow, Json>, ReadFault>
+) -> Result<BTreeMap<KeyRow, JsonText>, ReadFault>
     ensures ok { S.is_honest store.new → IfOk result (λ sorted. (d : Database) → map.get (S.contents store.old) db.now ≡ Some d
-        → place_views sorted.entries ≡ put_candidates query.now.sort query.now.selector d ids.now []) }
+        → sorted.entries ≡ put_candidates query.now.sort query.now.selector d ids.now []) }
     ensures stops { IfErr result (Stops S.Store store.old store.new (map.get (S.contents store.old) db.now ≡ None)) }
     ensures reads { OnlyReads S.Store store.old store.new }
 {
@@ -75,15 +73,15 @@ fn put_match<S: Store>(
     db: &DbName,
     id: &DocId,
     query: &Query,
-    sorted: &mut BTreeMap<KeyRow, Json>,
+    sorted: &mut BTreeMap<KeyRow, JsonText>,
 ) -> Result<(), ReadFault>
     ensures ok { S.is_honest store.new → OnOk result ((d : Database) → map.get (S.contents store.old) db.now ≡ Some d
-        → place_views sorted.new.entries ≡ put_in_index query.now.sort id.now (match_in query.now.selector d id.now) (place_views sorted.old.entries)) }
+        → sorted.new.entries ≡ put_in_index query.now.sort id.now (match_in query.now.selector d id.now) sorted.old.entries) }
     ensures stops { IfErr result (Stops S.Store store.old store.new (map.get (S.contents store.old) db.now ≡ None)) }
     ensures reads { OnlyReads S.Store store.old store.new }
 {
     if let Some(document) = read_match(alloc, store, db, id, &query.selector)? {
-        put_document(alloc, query.sort.as_slice(), id, document, sorted)?;
+        put_document(alloc, query.sort.as_slice(), id, &document, sorted)?;
     }
     Ok(())
 }
@@ -93,16 +91,17 @@ fn put_document(
     alloc: Global,
     fields: &[FieldPath],
     id: &DocId,
-    document: Json,
-    sorted: &mut BTreeMap<KeyRow, Json>,
+    document: &Json,
+    sorted: &mut BTreeMap<KeyRow, JsonText>,
 ) -> Got<()>
-    ensures { OnOk result (place_views sorted.new.entries ≡ put_in_index fields.now id.now (Some (view document)) (place_views sorted.old.entries)) }
+    ensures { OnOk result (sorted.new.entries ≡ put_in_index fields.now id.now (Some (view document.now)) sorted.old.entries) }
 {
-    let Some(values) = values_at(alloc, fields, &document)? else {
+    let Some(values) = values_at(alloc, fields, document)? else {
         return Ok(());
     };
     let place = KeyRow::new(make_key(values), id.copy(alloc)?);
-    drop(sorted.insert(place, document)?);
+    let text = JsonText::of(alloc, document)?;
+    drop(sorted.insert(place, text)?);
     Ok(())
 }
 
@@ -114,8 +113,8 @@ fn make_key(values: Vec<Json>) -> IndexKey
 }
 
 /// Lists the documents in the order of their places.
-fn documents_of(alloc: Global, sorted: BTreeMap<KeyRow, Json>) -> Got<Vec<Json>>
-    ensures { IfOk result (λ documents. each view documents.items ≡ each (λ e. e.1) (place_views sorted.entries)) }
+fn documents_of(alloc: Global, sorted: BTreeMap<KeyRow, JsonText>) -> Got<Vec<JsonText>>
+    ensures { IfOk result (λ documents. documents.items ≡ each (λ e. e.1) sorted.entries) }
 {
     let mut documents = Vec::with_capacity(alloc, sorted.len())?;
     for document in sorted.into_values() {
@@ -125,10 +124,10 @@ fn documents_of(alloc: Global, sorted: BTreeMap<KeyRow, Json>) -> Got<Vec<Json>>
 }
 
 /// Takes the part of the documents that is asked for.
-fn take_part(alloc: Global, documents: Vec<Json>, query: &Query) -> Got<Vec<Json>>
-    ensures { IfOk result (λ part. each view part.items ≡ take query.now.limit (drop query.now.skip (each view documents.items))) }
+fn take_part(alloc: Global, documents: Vec<JsonText>, query: &Query) -> Got<ArrayText>
+    ensures { IfOk result (λ part. part ≡ take query.now.limit (drop query.now.skip documents.items)) }
 {
-    let mut part = Part::new(alloc, query);
+    let mut part = Part::new(alloc, query)?;
     for document in documents {
         part.put(document)?;
     }

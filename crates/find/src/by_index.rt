@@ -1,8 +1,7 @@
 //! Finds served by an index: only the documents of its rows in a range are read.
 
-ghost use Rattle.std.specs.Prelude.{◌≡◌, IfOk, IfErr, None, map as each, option_map};
+ghost use Rattle.std.specs.Prelude.{◌≡◌, IfOk, IfErr, None};
 ghost use Rattle.std.specs.FinMap as map;
-ghost use Rattle.couch_json.specs.View.{view};
 ghost use Rattle.store.specs.Calls.{OnlyReads};
 ghost use Rattle.read.specs.Answers.{Stops};
 ghost use Rattle.find.specs.Planning.{IsFound};
@@ -13,7 +12,7 @@ use crate::in_order::find_in_order;
 use crate::planning::plan_by;
 use crate::query::Query;
 use crate::source::Source;
-use couch_json::Json;
+use couch_json::ArrayText;
 use read::ReadFault;
 use std::alloc::Global;
 use store::{DbName, Store};
@@ -24,9 +23,9 @@ pub(crate) fn find_by_index<S: Store>(
     store: &mut S,
     db: &DbName,
     query: &Query,
-) -> Result<Option<Vec<Json>>, ReadFault>
+) -> Result<Option<ArrayText>, ReadFault>
     ensures ok { S.is_honest store.new → IfOk result (λ found.
-        IsFound query.now (map.get (S.contents store.old) db.now) (option_map (λ documents. each view documents.items) found)) }
+        IsFound query.now (map.get (S.contents store.old) db.now) found) }
     ensures stops { IfErr result (Stops S.Store store.old store.new (map.get (S.contents store.old) db.now ≡ None)) }
     ensures reads { OnlyReads S.Store store.old store.new }
 {

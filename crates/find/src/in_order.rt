@@ -1,21 +1,20 @@
 //! Finds that read documents in the order that is asked for: no more are read than are needed.
 
-ghost use Rattle.std.specs.Prelude.{◌≡◌, ◌≤◌, ◌||◌, ◌++◌, IfOk, IfErr, List, None, OnOk, Some, drop, map as each, nat_eq, nat_lt, option_map, take};
+ghost use Rattle.std.specs.Prelude.{◌≡◌, ◌≤◌, ◌||◌, ◌++◌, IfOk, IfErr, List, None, OnOk, Some, drop, nat_eq, nat_lt, option_map, take};
 ghost use Rattle.std.specs.FinMap as map;
 ghost use Rattle.std.specs.Option.{option_to_list};
 ghost use Rattle.couch_json.specs.Value.{Value};
-ghost use Rattle.couch_json.specs.View.{view};
 ghost use Rattle.store.specs.Calls.{OnlyReads};
 ghost use Rattle.store.specs.Database.{Database};
 ghost use Rattle.read.specs.Answers.{Stops};
 ghost use Rattle.find.specs.Matching.{completion, match_in, matches_at};
 ghost use Rattle.find.specs.Sources.{ids_in};
 
-use crate::matching::read_match;
+use crate::matching::write_match;
 use crate::part::Part;
 use crate::query::Query;
 use crate::source::{Source, take_ids};
-use couch_json::Json;
+use couch_json::ArrayText;
 use read::ReadFault;
 use std::alloc::Global;
 use std::cmp::{max, min};
@@ -36,14 +35,14 @@ pub(crate) fn find_in_order<S: Store>(
     db: &DbName,
     query: &Query,
     source: &Source,
-) -> Result<Vec<Json>, ReadFault>
+) -> Result<ArrayText, ReadFault>
     ensures ok { S.is_honest store.new → IfOk result (λ documents.
         option_map (λ d. take query.now.limit (drop query.now.skip (matches_at query.now.selector d (ids_in source.now d)))) (map.get (S.contents store.old) db.now)
-        ≡ Some (each view documents.items)) }
+        ≡ Some documents) }
     ensures stops { IfErr result (Stops S.Store store.old store.new (map.get (S.contents store.old) db.now ≡ None)) }
     ensures reads { OnlyReads S.Store store.old store.new }
 {
-    let mut part = Part::new(alloc, query);
+    let mut part = Part::new(alloc, query)?;
     let mut taken = 0;
     let mut most = first_chunk(query);
     while most <= LARGEST_CHUNK {
@@ -113,7 +112,7 @@ fn put_match<S: Store>(
     ensures stops { IfErr result (Stops S.Store store.old store.new (map.get (S.contents store.old) db.now ≡ None)) }
     ensures reads { OnlyReads S.Store store.old store.new }
 {
-    if let Some(document) = read_match(alloc, store, db, id, &query.selector)? {
+    if let Some(document) = write_match(alloc, store, db, id, &query.selector)? {
         part.put(document)?;
     }
     Ok(())

@@ -1,10 +1,9 @@
-ghost use Rattle.std.specs.Prelude.{◌≡◌, ◌∷◌, List, OnOk, drop, nat_eq, take};
+ghost use Rattle.std.specs.Prelude.{◌≡◌, ◌∷◌, IfOk, List, OnOk, drop, nat_eq, take};
 ghost use Rattle.couch_json.specs.Value.{Value};
-ghost use Rattle.couch_json.specs.View.{view};
 ghost use Rattle.find.specs.Matching.{completion};
 
 use crate::query::Query;
-use couch_json::{Got, Json};
+use couch_json::{ArrayText, Got, JsonText};
 use std::alloc::Global;
 
 /// The part of the documents that a query asks for, as it is gathered.
@@ -14,20 +13,20 @@ pub(crate) struct Part {
     pub(crate) skip: u64,
     /// How many more are wanted.
     pub(crate) limit: u64,
-    /// The documents so far.
-    pub(crate) documents: Vec<Json>,
+    /// The documents so far, as their texts.
+    pub(crate) documents: ArrayText,
 }
 
 impl Part {
-    /// Returns the part before any document has come. Takes no memory.
-    pub(crate) fn new(alloc: Global, query: &Query) -> Part
-        ensures { (rest : List Value) → completion result rest ≡ take query.now.limit (drop query.now.skip rest) }
+    /// Returns the part before any document has come.
+    pub(crate) fn new(alloc: Global, query: &Query) -> Got<Part>
+        ensures { IfOk result (λ part. (rest : List Value) → completion part rest ≡ take query.now.limit (drop query.now.skip rest)) }
     {
-        Part {
+        Ok(Part {
             skip: query.skip,
             limit: query.limit,
-            documents: Vec::new(alloc),
-        }
+            documents: ArrayText::new(alloc)?,
+        })
     }
 
     /// Tells whether no more documents are wanted.
@@ -38,14 +37,14 @@ impl Part {
     }
 
     /// Takes the next document, which may be left out.
-    pub(crate) fn put(&mut self, document: Json) -> Got<()>
-        ensures { OnOk result ((rest : List Value) → completion self.new rest ≡ completion self.old (view document ∷ rest)) }
+    pub(crate) fn put(&mut self, document: JsonText) -> Got<()>
+        ensures { OnOk result ((rest : List Value) → completion self.new rest ≡ completion self.old (document ∷ rest)) }
     {
         if self.skip > 0 {
             self.skip -= 1;
         } else if self.limit > 0 {
             self.limit -= 1;
-            self.documents.push(document)?;
+            self.documents.push_text(document)?;
         }
         Ok(())
     }

@@ -1,8 +1,7 @@
 //! Finds by a scan of all documents.
 
-ghost use Rattle.std.specs.Prelude.{map as each, option_map};
+ghost use Rattle.std.specs.Prelude.{option_map};
 ghost use Rattle.std.specs.FinMap as map;
-ghost use Rattle.couch_json.specs.View.{view};
 ghost use Rattle.store.specs.Calls.{OnlyReads};
 ghost use Rattle.find.specs.Answers.{Finds};
 ghost use Rattle.find.specs.Found.{found_documents};
@@ -11,7 +10,7 @@ use crate::by_fields::find_sorted;
 use crate::in_order::find_in_order;
 use crate::query::Query;
 use crate::source::Source;
-use couch_json::Json;
+use couch_json::ArrayText;
 use read::ReadFault;
 use std::alloc::Global;
 use store::{DbName, Store};
@@ -23,8 +22,8 @@ pub(crate) fn find_by_scan<S: Store>(
     store: &mut S,
     db: &DbName,
     query: &Query,
-) -> Result<Vec<Json>, ReadFault>
-    ensures answer { Finds S.Store store.old store.new (λ documents. each view documents.items)
+) -> Result<ArrayText, ReadFault>
+    ensures answer { Finds S.Store store.old store.new (λ documents. documents)
         (option_map (λ d. found_documents query.now d) (map.get (S.contents store.old) db.now)) result }
     ensures reads { OnlyReads S.Store store.old store.new }
 {

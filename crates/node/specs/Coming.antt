@@ -5,8 +5,6 @@ use Rattle.std.specs.FinMap.{get}
 use Rattle.auth.specs.Callers.{Identity}
 use Rattle.couch_http.specs.Message.{Message}
 use Rattle.couch_json.specs.Value.{Value}
-use Rattle.couch_json.specs.View.{view}
-use Rattle.couch_json.specs.declared.value.Json.{Json}
 use Rattle.store.specs.Calls.{OnlyReads}
 use Rattle.store.specs.Contents.{Contents}
 use Rattle.store.specs.Database.{Database}
@@ -48,8 +46,8 @@ abbrev pub Serves : {S : Type 0} → Ghosts S → S → S → Page → Option Re
 Serves g old new page method caller m result = Judges g old new (page_outcome page method caller (g.contents old) m) result
 
 -- what reading the database of this name leaves
-pub record Reads {S : Type 0} (g : Ghosts S) (old new : S) (name : List ℕ) (read : Database → Result Value Refusal) (result : Result Json EarlyEnd) : Type 0 where
-  pub comes : g.is_honest new → OfThere (g.contents old) name (λ db. Comes view result (read db))
+pub record Reads {S : Type 0} (g : Ghosts S) (old new : S) (name : List ℕ) (read : Database → Result Value Refusal) (result : Result Value EarlyEnd) : Type 0 where
+  pub comes : g.is_honest new → OfThere (g.contents old) name (λ db. Comes (λ value. value) result (read db))
   pub ends : IfErr result (Ends g old new)
   pub reads : OnlyReads g old new
 

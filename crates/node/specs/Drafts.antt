@@ -4,7 +4,6 @@ use Rattle.std.specs.Prelude.{◌≡◌, ℕ, Bool, List, false, true, Option, S
 use Rattle.std.specs.FinMap.{get}
 use Rattle.auth.specs.Callers.{Identity}
 use Rattle.couch_http.specs.Message.{Message}
-use Rattle.couch_json.specs.View.{view}
 use Rattle.store.specs.Contents.{Contents, IfThere}
 use Rattle.store.specs.Database.{Database}
 use Rattle.store.specs.Writing.{additions, writings_in}
@@ -94,7 +93,7 @@ says_made (Refused fault) = false
 
 -- what work comes to in a database
 abbrev pub done_of : Database → WriteDraft → Done
-done_of db w = record { status = w.status; value = view w.value; effect = effect_of w.planned.changes db }
+done_of db w = record { status = w.status; value = w.value; effect = effect_of w.planned.changes db }
 
 abbrev pub change_inside : List ℕ → Changes → Option Database → answer.Change
 change_inside name changes None = answer.kept
@@ -111,7 +110,7 @@ change_of databases None = answer.kept
 change_of databases (Some change) = change_by databases change
 
 abbrev pub outcome_of : Contents → Draft → answer.Outcome
-outcome_of databases a = record { status = a.status; value = view a.value; change = change_of databases a.change }
+outcome_of databases a = record { status = a.status; value = a.value; change = change_of databases a.change }
 
 -- ---- when it may be made
 

@@ -9,7 +9,7 @@ ghost use Rattle.node.specs.Bulk.{bulk_reply, edit_listed, failed_members, failu
 
 use api::{Refusal, deny, put_text};
 use auth::Caller;
-use couch_json::{Got, Json, put_member};
+use couch_json::{ArrayText, Got, Json, JsonText, put_member};
 use std::alloc::Global;
 use std::collections::BTreeMap;
 use tree::Rev;
@@ -22,35 +22,35 @@ pub(crate) fn bulk_reply(
     caller: &Caller,
     new_edits: bool,
     results: Vec<DocumentResult>,
-) -> Got<Json>
-    ensures { IfOk result (λ value. view value ≡ bulk_reply caller.now new_edits (map told_of results.items)) }
+) -> Got<JsonText>
+    ensures { IfOk result (λ value. value ≡ bulk_reply caller.now new_edits (map told_of results.items)) }
 {
     if new_edits {
-        return Ok(Json::Array(edits_listed(alloc, caller, results)?));
+        return edits_listed(alloc, caller, results)?.end();
     }
-    Ok(Json::Array(failures_listed(alloc, caller, results)?))
+    failures_listed(alloc, caller, results)?.end()
 }
 
-/// Builds an element for each edit, in order.
-fn edits_listed(alloc: Global, caller: &Caller, results: Vec<DocumentResult>) -> Got<Vec<Json>>
-    ensures { IfOk result (λ values. map view values.items ≡ map (edit_listed caller.now) (map told_of results.items)) }
+/// Writes an element for each edit, in order.
+fn edits_listed(alloc: Global, caller: &Caller, results: Vec<DocumentResult>) -> Got<ArrayText>
+    ensures { IfOk result (λ values. values ≡ map (edit_listed caller.now) (map told_of results.items)) }
 {
-    let mut values = Vec::with_capacity(alloc, results.len())?;
+    let mut values = ArrayText::new(alloc)?;
     for told in results {
-        values.push(edit_listed(alloc, caller, told)?)?;
+        values.push(alloc, &edit_listed(alloc, caller, told)?)?;
     }
     Ok(values)
 }
 
-/// Builds an element for each document that was refused, in order.
-fn failures_listed(alloc: Global, caller: &Caller, results: Vec<DocumentResult>) -> Got<Vec<Json>>
-    ensures { IfOk result (λ values. map view values.items ≡ failures_listed caller.now (map told_of results.items)) }
+/// Writes an element for each document that was refused, in order.
+fn failures_listed(alloc: Global, caller: &Caller, results: Vec<DocumentResult>) -> Got<ArrayText>
+    ensures { IfOk result (λ values. values ≡ failures_listed caller.now (map told_of results.items)) }
 {
-    let mut values = Vec::new(alloc);
+    let mut values = ArrayText::new(alloc)?;
     for told in results {
         let DocumentResult { id, rev, outcome } = told;
         if let Outcome::Refused(fault) = outcome {
-            values.push(failure_listed(alloc, caller, &id, &rev, fault)?)?;
+            values.push(alloc, &failure_listed(alloc, caller, &id, &rev, fault)?)?;
         }
     }
     Ok(values)

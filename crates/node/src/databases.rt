@@ -18,7 +18,7 @@ use crate::early_end::EarlyEnd;
 use api::{Page, Refusal, RequestFault, RequestMethod, database_name, deny, without_parameters};
 use auth::Caller;
 use couch_http::Request;
-use couch_json::{Got, Json, put_member};
+use couch_json::{ArrayText, Got, Json, JsonText, put_member};
 use policy::{Action, Security, refusal};
 use read::info;
 use std::alloc::Global;
@@ -31,7 +31,7 @@ pub(crate) fn read_database<S: Store>(
     store: &mut S,
     name: &DbName,
     request: &Request,
-) -> Result<Json, EarlyEnd>
+) -> Result<JsonText, EarlyEnd>
     ensures reads { Reads S.Store store.old store.new name.now (database_read (message_of request.now) name.now) result }
 {
     without_parameters(request)?;
@@ -50,7 +50,7 @@ pub(crate) fn list_databases<S: Store>(
     require_server_admin(alloc, caller)?;
     without_parameters(request)?;
     let names = store.names()?;
-    let value = list_names(alloc, &names)?;
+    let value = list_names(alloc, &names)?.end()?;
     Ok(Draft {
         status: 200,
         value,
@@ -136,22 +136,23 @@ fn is_there<S: Store>(store: &mut S, name: &DbName) -> Result<bool, EarlyEnd>
     }
 }
 
-/// Builds a list of names.
-fn list_names(alloc: Global, names: &[DbName]) -> Got<Json>
-    ensures { IfOk result (λ value. view value ≡ array (items_of (list_map text names.now))) }
+/// Writes a list of names.
+fn list_names(alloc: Global, names: &[DbName]) -> Got<ArrayText>
+    ensures { IfOk result (λ values. values ≡ list_map text names.now) }
 {
-    let mut values = Vec::with_capacity(alloc, names.len())?;
+    let mut values = ArrayText::new(alloc)?;
     for name in names {
-        values.push(Json::Text(String::from_str(alloc, name.as_str())?))?;
+        let name = Json::Text(String::from_str(alloc, name.as_str())?);
+        values.push(alloc, &name)?;
     }
-    Ok(Json::Array(values))
+    Ok(values)
 }
 
 /// Makes what a change replies that has nothing more to say.
-pub(crate) fn done(alloc: Global) -> Got<Json>
-    ensures { IfOk result (λ value. view value ≡ done) }
+pub(crate) fn done(alloc: Global) -> Got<JsonText>
+    ensures { IfOk result (λ value. value ≡ done) }
 {
     let mut members = BTreeMap::new(alloc);
     put_member(alloc, &mut members, "ok", Json::Truth(true))?;
-    Ok(Json::Object(members))
+    JsonText::of(alloc, &Json::Object(members))
 }

@@ -6,7 +6,6 @@ ghost use Rattle.couch_http.specs.Reply.{fixed_reply, reply_of};
 ghost use Rattle.couch_http.specs.declared.fixed.Fixed.TheVariants.{NoRoom};
 ghost use Rattle.couch_json.specs.Canonical.{canonical};
 ghost use Rattle.couch_json.specs.Lawful.{IsLawful};
-ghost use Rattle.couch_json.specs.View.{view};
 ghost use Rattle.store.specs.Calls.{ChangesWhole, GoesOn};
 ghost use Rattle.node.specs.Answer.{answer, judgement, task_outcome, with_change};
 ghost use Rattle.api.specs.Asking.{method_of};
@@ -24,8 +23,8 @@ use crate::welcome::tell_welcome;
 use crate::work::do_work;
 use api::{Page, Refusal, Routes, caller, method_of};
 use auth::{Auth, Caller};
-use couch_http::{Fixed, HttpFault, Request, Response};
-use couch_json::{Got, Json, NoMemory};
+use couch_http::{Fixed, Request, Response};
+use couch_json::{Got, JsonText, NoMemory};
 use std::alloc::Global;
 use store::{DbName, Store, StoreFault};
 use write::{Planned, WriteFault, apply};
@@ -123,21 +122,17 @@ fn finish<S: Store>(
     ensures ends { IfErr result (EndsBefore S.Store store.old store.new (change_of (S.contents store.old) answered.change)) }
     ensures changes { ChangesWhole S.Store store.old store.new result }
 {
-    let reply = build_response(alloc, answered.status, &answered.value, last)?;
+    let reply = build_response(alloc, answered.status, answered.value, last)?;
     change(store, answered.change)?;
     Ok(reply)
 }
 
-/// Builds the reply of a status and a value.
-fn build_response(alloc: Global, status: u16, value: &Json, last: bool) -> Got<Response>
-    ensures reply { IfOk result (λ reply. reply ≡ reply_of status (canonical (view value.now)) last) }
-    ensures lawful { OnOk result (IsLawful (view value.now)) }
+/// Builds the reply of a status and a value, whose text it takes over.
+fn build_response(alloc: Global, status: u16, value: JsonText, last: bool) -> Got<Response>
+    ensures reply { IfOk result (λ reply. reply ≡ reply_of status (canonical value) last) }
+    ensures lawful { IsLawful value }
 {
-    match Response::made(alloc, status, value, last) {
-        Ok(reply) => Ok(reply),
-        Err(HttpFault::Memory) => Err(NoMemory),
-        Err(_) => unreachable!(),
-    }
+    Response::of_text(alloc, status, value.into_string(), last)
 }
 
 /// Makes the change, if there is one: the only step of a request that changes the store.
@@ -245,6 +240,6 @@ fn refusal_made(alloc: Global, refusal: &Refusal, last: bool) -> Got<Response>
     ensures reply { IfOk result (λ reply. reply ≡ reply_of (status_of refusal.now) (canonical (refusal_value refusal.now)) last) }
     ensures lawful { OnOk result (IsLawful (refusal_value refusal.now)) }
 {
-    let value = refusal.value(alloc)?;
-    build_response(alloc, refusal.status(), &value, last)
+    let value = JsonText::of(alloc, &refusal.value(alloc)?)?;
+    build_response(alloc, refusal.status(), value, last)
 }

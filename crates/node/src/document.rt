@@ -27,7 +27,7 @@ use api::{
 };
 use auth::Caller;
 use couch_http::Request;
-use couch_json::{Got, Json, put_member};
+use couch_json::{Got, Json, JsonText, put_member};
 use read::{ReadFault, get, open_revs};
 use std::alloc::Global;
 use std::collections::BTreeMap;
@@ -41,7 +41,7 @@ pub(crate) fn show_document<S: Store>(
     store: &mut S,
     name: &DbName,
     request: &Request,
-) -> Result<Json, EarlyEnd>
+) -> Result<JsonText, EarlyEnd>
     ensures reads { Reads S.Store store.old store.new name.now (document_read (message_of request.now)) result }
 {
     let id = document_id(alloc, &request.path)?;
@@ -56,7 +56,7 @@ fn find<S: Store>(
     name: &DbName,
     id: &DocId,
     query: &DocumentQuery,
-) -> Result<Json, EarlyEnd>
+) -> Result<JsonText, EarlyEnd>
     ensures reads { Reads S.Store store.old store.new name.now (λ db. found (read_by id.now (query_of query.now).revs (query_of query.now).asked db)) result }
 {
     Ok(read_by(alloc, store, name, id, query)?)
@@ -69,7 +69,7 @@ fn read_by<S: Store>(
     name: &DbName,
     id: &DocId,
     query: &DocumentQuery,
-) -> Result<Json, ReadFault>
+) -> Result<JsonText, ReadFault>
     ensures answer { AnswersValue S.Store store.old store.new
         (option_map (read_by id.now (query_of query.now).revs (query_of query.now).asked) (map.get (S.contents store.old) name.now)) result }
     ensures reads { OnlyReads S.Store store.old store.new }
@@ -200,9 +200,10 @@ fn made_revision(results: &[DocumentResult]) -> Rev
 }
 
 /// Builds the reply to an edit: the id and the new revision.
-fn edit_reply(alloc: Global, id: &DocId, rev: &Rev) -> Got<Json>
-    ensures { IfOk result (λ value. view value ≡ object (made_members (Some id.now) rev.now)) }
+fn edit_reply(alloc: Global, id: &DocId, rev: &Rev) -> Got<JsonText>
+    ensures { IfOk result (λ value. value ≡ object (made_members (Some id.now) rev.now)) }
 {
     let id = String::from_str(alloc, id.as_str())?;
-    Ok(Json::Object(made_members(alloc, &Some(id), rev)?))
+    let value = Json::Object(made_members(alloc, &Some(id), rev)?);
+    JsonText::of(alloc, &value)
 }

@@ -1,4 +1,4 @@
-use couch_json::Json;
+use couch_json::JsonText;
 use store::DbName;
 use write::Planned;
 
@@ -7,8 +7,8 @@ use write::Planned;
 pub(crate) struct Draft {
     /// The status of the reply.
     pub(crate) status: u16,
-    /// The value of its body.
-    pub(crate) value: Json,
+    /// The value of its body, as its text.
+    pub(crate) value: JsonText,
     /// The change that the reply stands for.
     pub(crate) change: Option<Change>,
 }
@@ -29,8 +29,8 @@ pub(crate) enum Change {
 pub(crate) struct WriteDraft {
     /// The status of the reply.
     pub(crate) status: u16,
-    /// The value of its body.
-    pub(crate) value: Json,
+    /// The value of its body, as its text.
+    pub(crate) value: JsonText,
     /// The change that the reply stands for.
     pub(crate) planned: Planned,
 }

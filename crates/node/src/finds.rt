@@ -1,6 +1,6 @@
 //! The pages of finds and of views (CouchDB manual, api/database/find and api/ddoc/views).
 
-ghost use Rattle.std.specs.Prelude.{◌≡◌, ◌≢◌, IfErr, IfOk, map as each};
+ghost use Rattle.std.specs.Prelude.{◌≡◌, ◌≢◌, IfErr, IfOk};
 ghost use Rattle.couch_http.specs.Message.{message_of};
 ghost use Rattle.couch_json.specs.View.{view};
 ghost use Rattle.find.specs.Queries.{query_in};
@@ -11,10 +11,9 @@ ghost use Rattle.node.specs.Works.{document_finds, documents_reply, view_read};
 use crate::early_end::EarlyEnd;
 use api::{Refusal, body, document_id, index_name, view_query, without_parameters};
 use couch_http::Request;
-use couch_json::{Got, Json, put_member};
+use couch_json::{ArrayText, Got, Json, JsonText, ObjectText};
 use find::{Query, QueryFault, find};
 use std::alloc::Global;
-use std::collections::BTreeMap;
 use store::{DbName, Store};
 
 /// Finds the documents of a database that match a selector.
@@ -23,7 +22,7 @@ pub(crate) fn find_documents<S: Store>(
     store: &mut S,
     name: &DbName,
     request: &Request,
-) -> Result<Json, EarlyEnd>
+) -> Result<JsonText, EarlyEnd>
     ensures reads { Reads S.Store store.old store.new name.now (document_finds (message_of request.now)) result }
 {
     without_parameters(request)?;
@@ -45,15 +44,17 @@ fn read_query(alloc: Global, value: &Json) -> Result<Query, EarlyEnd>
     }
 }
 
-/// Builds the reply to a find: the documents, and a bookmark that says nothing.
-fn documents_reply(alloc: Global, documents: Vec<Json>) -> Got<Json>
-    ensures { IfOk result (λ value. view value ≡ documents_reply (each view documents.items)) }
+/// Writes the reply to a find: the documents, and a bookmark that says nothing.
+fn documents_reply(alloc: Global, documents: ArrayText) -> Got<JsonText>
+    ensures { IfOk result (λ value. value ≡ documents_reply documents) }
 {
-    let bookmark = String::from_str(alloc, "nil")?;
-    let mut members = BTreeMap::new(alloc);
-    put_member(alloc, &mut members, "bookmark", Json::Text(bookmark))?;
-    put_member(alloc, &mut members, "docs", Json::Array(documents))?;
-    Ok(Json::Object(members))
+    let bookmark = Json::Text(String::from_str(alloc, "nil")?);
+    let bookmark = JsonText::of(alloc, &bookmark)?;
+    let documents = documents.end()?;
+    ObjectText::new(alloc)?
+        .with(alloc, "bookmark", bookmark)?
+        .with(alloc, "docs", documents)?
+        .end()
 }
 
 /// Lists the rows of an index.
@@ -62,7 +63,7 @@ pub(crate) fn list_view<S: Store>(
     store: &mut S,
     name: &DbName,
     request: &Request,
-) -> Result<Json, EarlyEnd>
+) -> Result<JsonText, EarlyEnd>
     ensures reads { Reads S.Store store.old store.new name.now (view_read (message_of request.now)) result }
 {
     let design = document_id(alloc, &request.path)?;

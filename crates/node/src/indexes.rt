@@ -18,7 +18,7 @@ use crate::early_end::EarlyEnd;
 use api::{Refusal, body, put_text, without_parameters};
 use auth::Caller;
 use couch_http::Request;
-use couch_json::{Got, Json};
+use couch_json::{Got, Json, JsonText};
 use find::{Index, QueryFault};
 use std::alloc::Global;
 use std::collections::BTreeMap;
@@ -100,13 +100,13 @@ fn says_made(results: &[DocumentResult]) -> bool
 
 /// Builds the reply to the declaration of an index: the design document, the name, and whether it was
 /// created.
-fn index_reply(alloc: Global, index: &Index, created: bool) -> Got<Json>
-    ensures { IfOk result (λ value. view value ≡ index_reply (index_asked index.now).design (index_asked index.now).name created) }
+fn index_reply(alloc: Global, index: &Index, created: bool) -> Got<JsonText>
+    ensures { IfOk result (λ value. value ≡ index_reply (index_asked index.now).design (index_asked index.now).name created) }
 {
     let result = if created { "created" } else { "exists" };
     let mut members = BTreeMap::new(alloc);
     put_text(alloc, &mut members, "id", index.design.as_str())?;
     put_text(alloc, &mut members, "name", &index.name)?;
     put_text(alloc, &mut members, "result", result)?;
-    Ok(Json::Object(members))
+    JsonText::of(alloc, &Json::Object(members))
 }

@@ -7,7 +7,7 @@ ghost use Rattle.node.specs.Works.{change_list, difference_list, document_list};
 use crate::early_end::EarlyEnd;
 use api::{Refusal, body, changes_query, differences_in, listing_query, without_parameters};
 use couch_http::Request;
-use couch_json::Json;
+use couch_json::JsonText;
 use read::{all_docs, changes, revs_diff};
 use std::alloc::Global;
 use store::{DbName, Store};
@@ -18,7 +18,7 @@ pub(crate) fn list_documents<S: Store>(
     store: &mut S,
     name: &DbName,
     request: &Request,
-) -> Result<Json, EarlyEnd>
+) -> Result<JsonText, EarlyEnd>
     ensures reads { Reads S.Store store.old store.new name.now (document_list (message_of request.now)) result }
 {
     let range = listing_query(alloc, request)?;
@@ -31,7 +31,7 @@ pub(crate) fn list_changes<S: Store>(
     store: &mut S,
     name: &DbName,
     request: &Request,
-) -> Result<Json, EarlyEnd>
+) -> Result<JsonText, EarlyEnd>
     ensures reads { Reads S.Store store.old store.new name.now (change_list (message_of request.now)) result }
 {
     let range = changes_query(alloc, request)?;
@@ -44,7 +44,7 @@ pub(crate) fn tell_differences<S: Store>(
     store: &mut S,
     name: &DbName,
     request: &Request,
-) -> Result<Json, EarlyEnd>
+) -> Result<JsonText, EarlyEnd>
     ensures reads { Reads S.Store store.old store.new name.now (difference_list (message_of request.now)) result }
 {
     without_parameters(request)?;

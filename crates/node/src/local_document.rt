@@ -17,7 +17,7 @@ use crate::early_end::EarlyEnd;
 use api::{body, local_id, without_parameters};
 use auth::Caller;
 use couch_http::Request;
-use couch_json::{Got, Json, put_member};
+use couch_json::{Got, Json, JsonText, put_member};
 use read::local;
 use std::alloc::Global;
 use store::{DbName, LocalDocument, Store};
@@ -30,7 +30,7 @@ pub(crate) fn read_local<S: Store>(
     store: &mut S,
     name: &DbName,
     request: &Request,
-) -> Result<Json, EarlyEnd>
+) -> Result<JsonText, EarlyEnd>
     ensures reads { Reads S.Store store.old store.new name.now (local_read (message_of request.now)) result }
 {
     let id = local_id(alloc, &request.path)?;
@@ -80,9 +80,9 @@ fn set_local<S: Store>(
 }
 
 /// Builds the reply to the write of a local document: its id and its new revision.
-fn local_reply(alloc: Global, changes: &Changes) -> Got<Json>
+fn local_reply(alloc: Global, changes: &Changes) -> Got<JsonText>
     requires { IsLocal changes.now }
-    ensures { IfOk result (λ value. IsLocalReply changes.now (view value)) }
+    ensures { IfOk result (λ value. IsLocalReply changes.now value) }
 {
     match changes {
         Changes::Local(id, document) => build_local_reply(alloc, id, document),
@@ -91,12 +91,12 @@ fn local_reply(alloc: Global, changes: &Changes) -> Got<Json>
 }
 
 /// Builds what is said of a local document that was written.
-fn build_local_reply(alloc: Global, id: &DocId, document: &LocalDocument) -> Got<Json>
-    ensures { IfOk result (λ value. view value ≡ object (local_members id.now document.now)) }
+fn build_local_reply(alloc: Global, id: &DocId, document: &LocalDocument) -> Got<JsonText>
+    ensures { IfOk result (λ value. value ≡ object (local_members id.now document.now)) }
 {
     let rev = document.revision(alloc)?;
     let id = String::from_str(alloc, id.as_str())?;
     let mut members = known_members(alloc, &Some(id))?;
     put_member(alloc, &mut members, "rev", Json::Text(rev))?;
-    Ok(Json::Object(members))
+    JsonText::of(alloc, &Json::Object(members))
 }

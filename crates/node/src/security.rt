@@ -11,7 +11,7 @@ use crate::draft::WriteDraft;
 use crate::early_end::EarlyEnd;
 use api::{Refusal, body, without_parameters};
 use couch_http::Request;
-use couch_json::Json;
+use couch_json::{Json, JsonText};
 use std::alloc::Global;
 use store::{DbName, Store};
 use write::{WriteFault, put_security};
@@ -22,12 +22,12 @@ pub(crate) fn read_security<S: Store>(
     store: &mut S,
     name: &DbName,
     request: &Request,
-) -> Result<Json, EarlyEnd>
+) -> Result<JsonText, EarlyEnd>
     ensures reads { Reads S.Store store.old store.new name.now (security_read (message_of request.now)) result }
 {
     without_parameters(request)?;
     let security = store.security(name)?;
-    Ok(security.value().copy(alloc)?)
+    Ok(JsonText::of(alloc, security.value())?)
 }
 
 /// Writes the security object of a database, but for the change of the store itself.

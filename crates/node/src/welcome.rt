@@ -2,7 +2,6 @@
 
 ghost use Rattle.std.specs.Prelude.{◌≡◌, IfOk, Ok};
 ghost use Rattle.couch_http.specs.Message.{message_of};
-ghost use Rattle.couch_json.specs.View.{view};
 ghost use Rattle.node.specs.Answer.{welcome};
 ghost use Rattle.api.specs.RequestReading.{Says};
 ghost use Rattle.api.specs.Refusals.{next};
@@ -10,23 +9,23 @@ ghost use Rattle.api.specs.Asking.{plain};
 
 use api::{RequestFault, put_text, without_parameters};
 use couch_http::Request;
-use couch_json::{Got, Json};
+use couch_json::{Got, Json, JsonText};
 use std::alloc::Global;
 use std::collections::BTreeMap;
 
 /// Says who answers here.
-pub(crate) fn tell_welcome(alloc: Global, request: &Request) -> Result<Json, RequestFault>
-    ensures { Says view result (next (plain (message_of request.now)) (λ _. Ok welcome)) }
+pub(crate) fn tell_welcome(alloc: Global, request: &Request) -> Result<JsonText, RequestFault>
+    ensures { Says (λ value. value) result (next (plain (message_of request.now)) (λ _. Ok welcome)) }
 {
     without_parameters(request)?;
     Ok(welcome(alloc)?)
 }
 
-fn welcome(alloc: Global) -> Got<Json>
-    ensures { IfOk result (λ value. view value ≡ welcome) }
+fn welcome(alloc: Global) -> Got<JsonText>
+    ensures { IfOk result (λ value. value ≡ welcome) }
 {
     let mut members = BTreeMap::new(alloc);
     put_text(alloc, &mut members, "couchdb", "Welcome")?;
     put_text(alloc, &mut members, "version", "3-profile")?;
-    Ok(Json::Object(members))
+    JsonText::of(alloc, &Json::Object(members))
 }

@@ -23,7 +23,7 @@ use crate::security::{read_security, write_security};
 use api::{database_name, deny};
 use auth::Caller;
 use couch_http::Request;
-use couch_json::Json;
+use couch_json::JsonText;
 use policy::{Action, refusal};
 use std::alloc::Global;
 use store::{DbName, Store};
@@ -157,7 +157,7 @@ fn read<S: Store>(
     name: &DbName,
     reading: Reading,
     request: &Request,
-) -> Result<Json, EarlyEnd>
+) -> Result<JsonText, EarlyEnd>
     ensures reads { Reads S.Store store.old store.new name.now (reading_of reading (message_of request.now) name.now) result }
 {
     match reading {

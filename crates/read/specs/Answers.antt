@@ -2,8 +2,6 @@
 -- This server's own: what the store says of the cause of its fault holds of the fault that is passed on.
 use Rattle.std.specs.Prelude.{◌≡◌, Option, Some, None, Result, Ok, Err, ⊤}
 use Rattle.couch_json.specs.Value.{Value}
-use Rattle.couch_json.specs.View.{view}
-use Rattle.couch_json.specs.declared.value.Json.{Json}
 use Rattle.store.specs.Causes.{HasFailed}
 use Rattle.store.specs.declared.fault.StoreFault.{StoreFault}
 use Rattle.store.specs.declared.fault.StoreFault.TheVariants as store
@@ -25,24 +23,15 @@ Refuses g old new defined store.Memory = ⊥
 Refuses g old new defined store.Exists = ⊥
 Refuses g old new defined store.Full = ⊥
 
--- What a reader answers, by what is defined for the database of a name, if there is one: that value, that refusal, or want of memory or
--- a fault of the store. It never answers that it was asked wrongly.
-abbrev pub AnswersValue : {S : Type 0} → Ghosts S → S → S → Option (Result Value ReadFault) → Result Json ReadFault → Type 0
-AnswersValue g old new defined (Ok json) = g.is_honest new → defined ≡ Some (Ok (view json))
+-- What a reader answers, by what is defined for the database of a name, if there is one: that value, which is held as its text, that
+-- refusal, or want of memory or a fault of the store. It never answers that it was asked wrongly.
+abbrev pub AnswersValue : {S : Type 0} → Ghosts S → S → S → Option (Result Value ReadFault) → Result Value ReadFault → Type 0
+AnswersValue g old new defined (Ok value) = g.is_honest new → defined ≡ Some (Ok value)
 AnswersValue g old new defined (Err Missing) = g.is_honest new → defined ≡ Some (Err Missing)
 AnswersValue g old new defined (Err Deleted) = g.is_honest new → defined ≡ Some (Err Deleted)
 AnswersValue g old new defined (Err BadQuery) = ⊥
 AnswersValue g old new defined (Err (Store fault)) = Refuses g old new defined fault
 AnswersValue g old new defined (Err Memory) = ⊤
-
--- the same where the history is at hand, so that no store is asked
-abbrev pub Shows : Result Value ReadFault → Result Json ReadFault → Type 0
-Shows defined (Ok json) = defined ≡ Ok (view json)
-Shows defined (Err Missing) = defined ≡ Err Missing
-Shows defined (Err Deleted) = defined ≡ Err Deleted
-Shows defined (Err BadQuery) = ⊥
-Shows defined (Err (Store fault)) = ⊥
-Shows defined (Err Memory) = ⊤
 
 -- when the store stops a reader: there is no such database, as `absent` says of an honest one, or a fault that has a cause
 abbrev pub StopsBy : {S : Type 0} → Ghosts S → S → S → Type 0 → StoreFault → Type 0

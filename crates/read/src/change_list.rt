@@ -12,14 +12,15 @@ ghost use Rattle.read.specs.Listing.{revision_object};
 use crate::fault::ReadFault;
 use crate::listing::build_revision;
 use crate::numbers::whole;
-use couch_json::{Got, Json, put_member};
+use couch_json::{ArrayText, Got, Json, JsonText, ObjectText, put_member};
 use std::alloc::Global;
 use std::collections::BTreeMap;
 use store::{DbName, PageBySeq, SeqRange, SeqRow, Store};
 use tree::Rev;
 
 /// Lists the documents of a database that changed after a sequence, each once at the sequence of its
-/// latest write: an object with `last_seq` and `results`.
+/// latest write: an object with `last_seq` and `results`. It is written row by
+/// row.
 ///
 /// `Store(NoDatabase)` comes if and only if there is no database of this name; else nothing but want
 /// of memory and faults of the store refuse. Nothing changes, and no body is read. See the CouchDB
@@ -29,40 +30,37 @@ pub fn changes<S: Store>(
     store: &mut S,
     db: &DbName,
     range: &SeqRange,
-) -> Result<Json, ReadFault>
+) -> Result<JsonText, ReadFault>
     ensures answer { AnswersValue S.Store store.old store.new (option_map (λ d. Ok (changes_in range.now d)) (map.get (S.contents store.old) db.now)) result }
     ensures only { IfErr result (λ fault. fault ≢ ReadFault.Memory → ((cause : _) → fault ≢ ReadFault.Store cause) → ⊥) }
     ensures reads { OnlyReads S.Store store.old store.new }
 {
     let page = store.page_by_seq(db, range)?;
-    Ok(build_changes(alloc, &page)?)
+    Ok(write_changes(alloc, &page)?)
 }
 
-/// Builds the object of a page.
-fn build_changes(alloc: Global, page: &PageBySeq) -> Got<Json>
+/// Writes the object of a page.
+fn write_changes(alloc: Global, page: &PageBySeq) -> Got<JsonText>
     requires last { page.now.last_seq < 2 ^ 63 }
     requires rows { All (λ r. r.sequence < 2 ^ 63) page.now.rows.items }
-    ensures { IfOk result (λ value. view value ≡ changes_of (sequence_page_of page.now)) }
+    ensures { IfOk result (λ value. value ≡ changes_of (sequence_page_of page.now)) }
 {
-    let mut members = BTreeMap::new(alloc);
-    put_member(alloc, &mut members, "last_seq", whole(page.last_seq))?;
-    put_member(
-        alloc,
-        &mut members,
-        "results",
-        Json::Array(build_results(alloc, &page.rows)?),
-    )?;
-    Ok(Json::Object(members))
+    let last = JsonText::of(alloc, &whole(page.last_seq))?;
+    let results = write_results(alloc, &page.rows)?.end()?;
+    ObjectText::new(alloc)?
+        .with(alloc, "last_seq", last)?
+        .with(alloc, "results", results)?
+        .end()
 }
 
-/// Builds the objects of rows, in order.
-fn build_results(alloc: Global, rows: &[SeqRow]) -> Got<Vec<Json>>
+/// Writes the objects of rows, in order.
+fn write_results(alloc: Global, rows: &[SeqRow]) -> Got<ArrayText>
     requires { All (λ r. r.sequence < 2 ^ 63) rows.now }
-    ensures { IfOk result (λ values. each view values.items ≡ each change_object (sequence_rows rows.now)) }
+    ensures { IfOk result (λ values. values ≡ each change_object (sequence_rows rows.now)) }
 {
-    let mut values = Vec::with_capacity(alloc, rows.len())?;
+    let mut values = ArrayText::new(alloc)?;
     for row in rows {
-        values.push(build_change(alloc, row)?)?;
+        values.push(alloc, &build_change(alloc, row)?)?;
     }
     Ok(values)
 }

@@ -12,7 +12,7 @@ ghost use Rattle.read.specs.Differences.{history_by, missing_texts, revision_dif
 ghost use Rattle.read.specs.DifferencesAsked.{all_asked, revisions_asked};
 
 use crate::fault::ReadFault;
-use couch_json::{Got, Json, put_member};
+use couch_json::{Got, Json, JsonText, put_member};
 use std::alloc::Global;
 use std::collections::BTreeMap;
 use store::{DbName, Store};
@@ -44,13 +44,14 @@ pub fn revs_diff<S: Store>(
     store: &mut S,
     db: &DbName,
     asked: &[AskedRevisions],
-) -> Result<Json, ReadFault>
+) -> Result<JsonText, ReadFault>
     ensures answer { AnswersValue S.Store store.old store.new (option_map (λ d. Ok (revision_differences (all_asked asked.now) d)) (map.get (S.contents store.old) db.now)) result }
     ensures only { IfErr result (λ fault. fault ≢ ReadFault.Memory → ((cause : _) → fault ≢ ReadFault.Store cause) → ⊥) }
     ensures reads { OnlyReads S.Store store.old store.new }
 {
     let _present = store.security(db)?;
-    Ok(Json::Object(find_differences(alloc, store, db, asked)?))
+    let members = find_differences(alloc, store, db, asked)?;
+    Ok(JsonText::of(alloc, &Json::Object(members))?)
 }
 
 /// Finds the members of that object, document by document.

@@ -7,7 +7,7 @@ ghost use Rattle.read.specs.Shown.{document_by, document_in, found, shown_docume
 
 use crate::fault::ReadFault;
 use crate::shown::{read_paths, read_shown};
-use couch_json::Json;
+use couch_json::JsonText;
 use std::alloc::Global;
 use store::{DbName, Store};
 use tree::{DocId, Rev};
@@ -27,7 +27,7 @@ pub fn get<S: Store>(
     id: &DocId,
     rev: Option<&Rev>,
     revs: bool,
-) -> Result<Json, ReadFault>
+) -> Result<JsonText, ReadFault>
     ensures answer { AnswersValue S.Store store.old store.new (document_in (S.contents store.old) db.now id.now (option_copied rev.entry) revs) result }
     ensures reads { OnlyReads S.Store store.old store.new }
 {
@@ -44,7 +44,7 @@ fn read_winner<S: Store>(
     db: &DbName,
     id: &DocId,
     revs: bool,
-) -> Result<Json, ReadFault>
+) -> Result<JsonText, ReadFault>
     ensures answer { AnswersValue S.Store store.old store.new (option_map (λ d. document_by id.now (history_at d id.now) None revs) (map.get (S.contents store.old) db.now)) result }
     ensures reads { OnlyReads S.Store store.old store.new }
 {
@@ -65,13 +65,13 @@ fn read_revision<S: Store>(
     id: &DocId,
     rev: &Rev,
     revs: bool,
-) -> Result<Json, ReadFault>
+) -> Result<JsonText, ReadFault>
     ensures answer { AnswersValue S.Store store.old store.new (option_map (λ d. found (shown_document id.now (history_at d id.now) rev.now revs)) (map.get (S.contents store.old) db.now)) result }
     ensures reads { OnlyReads S.Store store.old store.new }
 {
     let paths = read_paths(store, db, id, revs)?;
     match read_shown(alloc, store, db, id, rev, &paths)? {
-        Some(document) => Ok(document),
+        Some(document) => Ok(JsonText::of(alloc, &document)?),
         None => Err(ReadFault::Missing),
     }
 }

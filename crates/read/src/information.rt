@@ -1,13 +1,12 @@
 ghost use Rattle.std.specs.Prelude.{◌≡◌, ◌≢◌, ◌<◌, ◌^◌, IfOk, IfErr, Ok, option_map};
 ghost use Rattle.std.specs.FinMap as map;
-ghost use Rattle.couch_json.specs.View.{view};
 ghost use Rattle.store.specs.Calls.{OnlyReads};
 ghost use Rattle.read.specs.Answers.{AnswersValue};
 ghost use Rattle.read.specs.Information.{information, information_by};
 
 use crate::fault::ReadFault;
 use crate::numbers::whole;
-use couch_json::{Got, Json, put_member};
+use couch_json::{Got, Json, JsonText, put_member};
 use std::alloc::Global;
 use std::collections::BTreeMap;
 use store::{DbName, DocumentCounts, SeqRange, Store};
@@ -18,7 +17,7 @@ use store::{DbName, DocumentCounts, SeqRange, Store};
 /// `Store(NoDatabase)` comes if and only if there is no database of this name; else nothing but
 /// lack of memory and faults of the store refuse. Nothing changes. See the CouchDB manual,
 /// api/database/common.
-pub fn info<S: Store>(alloc: Global, store: &mut S, db: &DbName) -> Result<Json, ReadFault>
+pub fn info<S: Store>(alloc: Global, store: &mut S, db: &DbName) -> Result<JsonText, ReadFault>
     ensures answer { AnswersValue S.Store store.old store.new (option_map (λ d. Ok (information db.now d)) (map.get (S.contents store.old) db.now)) result }
     ensures only { IfErr result (λ fault. fault ≢ ReadFault.Memory → ((cause : _) → fault ≢ ReadFault.Store cause) → ⊥) }
     ensures reads { OnlyReads S.Store store.old store.new }
@@ -37,11 +36,16 @@ pub fn info<S: Store>(alloc: Global, store: &mut S, db: &DbName) -> Result<Json,
 }
 
 /// Builds that object.
-fn build_information(alloc: Global, db: &DbName, counts: DocumentCounts, sequence: u64) -> Got<Json>
+fn build_information(
+    alloc: Global,
+    db: &DbName,
+    counts: DocumentCounts,
+    sequence: u64,
+) -> Got<JsonText>
     requires documents { counts.documents < 2 ^ 63 }
     requires deleted { counts.deleted < 2 ^ 63 }
     requires sequence { sequence < 2 ^ 63 }
-    ensures { IfOk result (λ value. view value ≡ information_by db.now counts.documents counts.deleted sequence) }
+    ensures { IfOk result (λ value. value ≡ information_by db.now counts.documents counts.deleted sequence) }
 {
     let name = String::from_str(alloc, db.as_str())?;
     let mut members = BTreeMap::new(alloc);
@@ -49,5 +53,5 @@ fn build_information(alloc: Global, db: &DbName, counts: DocumentCounts, sequenc
     put_member(alloc, &mut members, "doc_count", whole(counts.documents))?;
     put_member(alloc, &mut members, "doc_del_count", whole(counts.deleted))?;
     put_member(alloc, &mut members, "update_seq", whole(sequence))?;
-    Ok(Json::Object(members))
+    JsonText::of(alloc, &Json::Object(members))
 }

@@ -10,14 +10,14 @@ ghost use Rattle.read.specs.Listing.{document_listing, listing_of, revision_obje
 
 use crate::fault::ReadFault;
 use crate::numbers::whole;
-use couch_json::{Got, Json, put_member};
+use couch_json::{ArrayText, Got, Json, JsonText, ObjectText, put_member};
 use std::alloc::Global;
 use std::collections::BTreeMap;
 use store::{DbName, IdRange, IdRow, RowCounts, Store};
 use tree::Rev;
 
 /// Lists the documents of a database whose winner is not deleted, within a range of ids: an object
-/// with `offset`, `rows` and `total_rows`, whatever counts the range asks for.
+/// with `offset`, `rows` and `total_rows`, whatever counts the range asks for. It is written row by row.
 ///
 /// `Store(NoDatabase)` comes if and only if there is no database of this name; else nothing but want
 /// of memory and faults of the store refuse. Nothing changes, and no body is read. See the CouchDB
@@ -27,7 +27,7 @@ pub fn all_docs<S: Store>(
     store: &mut S,
     db: &DbName,
     range: IdRange,
-) -> Result<Json, ReadFault>
+) -> Result<JsonText, ReadFault>
     ensures answer { AnswersValue S.Store store.old store.new (option_map (λ d. Ok (document_listing range d)) (map.get (S.contents store.old) db.now)) result }
     ensures only { IfErr result (λ fault. fault ≢ ReadFault.Memory → ((cause : _) → fault ≢ ReadFault.Store cause) → ⊥) }
     ensures reads { OnlyReads S.Store store.old store.new }
@@ -38,31 +38,34 @@ pub fn all_docs<S: Store>(
     };
     let page = store.page_by_id(db, &counted)?;
     match page.counts {
-        Some(counts) => Ok(build_listing(alloc, build_rows(alloc, &page.rows)?, counts)?),
+        Some(counts) => Ok(write_listing(alloc, write_rows(alloc, &page.rows)?, counts)?),
         None => unreachable!(),
     }
 }
 
-/// Builds the object of a listing.
-pub(crate) fn build_listing(alloc: Global, rows: Vec<Json>, counts: RowCounts) -> Got<Json>
+/// Writes the object of a listing.
+pub(crate) fn write_listing(alloc: Global, rows: ArrayText, counts: RowCounts) -> Got<JsonText>
     requires before { counts.offset ≤ counts.total }
     requires total { counts.total < 2 ^ 63 }
-    ensures { IfOk result (λ value. view value ≡ listing_of (each view rows.items) counts) }
+    ensures { IfOk result (λ value. value ≡ listing_of rows counts) }
 {
-    let mut members = BTreeMap::new(alloc);
-    put_member(alloc, &mut members, "offset", whole(counts.offset))?;
-    put_member(alloc, &mut members, "rows", Json::Array(rows))?;
-    put_member(alloc, &mut members, "total_rows", whole(counts.total))?;
-    Ok(Json::Object(members))
+    let offset = JsonText::of(alloc, &whole(counts.offset))?;
+    let total = JsonText::of(alloc, &whole(counts.total))?;
+    let rows = rows.end()?;
+    ObjectText::new(alloc)?
+        .with(alloc, "offset", offset)?
+        .with(alloc, "rows", rows)?
+        .with(alloc, "total_rows", total)?
+        .end()
 }
 
-/// Builds the objects of rows, in order.
-fn build_rows(alloc: Global, rows: &[IdRow]) -> Got<Vec<Json>>
-    ensures { IfOk result (λ values. each view values.items ≡ each row_object rows.now) }
+/// Writes the objects of rows, in order.
+fn write_rows(alloc: Global, rows: &[IdRow]) -> Got<ArrayText>
+    ensures { IfOk result (λ values. values ≡ each row_object rows.now) }
 {
-    let mut values = Vec::with_capacity(alloc, rows.len())?;
+    let mut values = ArrayText::new(alloc)?;
     for row in rows {
-        values.push(build_row(alloc, row)?)?;
+        values.push(alloc, &build_row(alloc, row)?)?;
     }
     Ok(values)
 }

@@ -9,7 +9,7 @@ ghost use Rattle.read.specs.Answers.{AnswersValue};
 ghost use Rattle.read.specs.Local.{local_document, shown_local};
 
 use crate::fault::ReadFault;
-use couch_json::{Got, Json, put_member};
+use couch_json::{Got, Json, JsonText, put_member};
 use std::alloc::Global;
 use std::collections::BTreeMap;
 use store::{DbName, LocalDocument, Store};
@@ -24,7 +24,7 @@ pub fn local<S: Store>(
     store: &mut S,
     db: &DbName,
     id: &DocId,
-) -> Result<Json, ReadFault>
+) -> Result<JsonText, ReadFault>
     ensures answer { AnswersValue S.Store store.old store.new (option_map (λ d. local_document id.now d) (map.get (S.contents store.old) db.now)) result }
     ensures reads { OnlyReads S.Store store.old store.new }
 {
@@ -35,15 +35,15 @@ pub fn local<S: Store>(
 }
 
 /// Shows a local document.
-fn show_local(alloc: Global, id: &DocId, document: LocalDocument) -> Got<Json>
-    ensures { IfOk result (λ value. view value ≡ shown_local id.now document) }
+fn show_local(alloc: Global, id: &DocId, document: LocalDocument) -> Got<JsonText>
+    ensures { IfOk result (λ value. value ≡ shown_local id.now document) }
 {
     let rev = document.revision(alloc)?;
     let id = String::from_str(alloc, id.as_str())?;
     let mut members = take_members(alloc, document.body.into_json());
     put_member(alloc, &mut members, "_id", Json::Text(id))?;
     put_member(alloc, &mut members, "_rev", Json::Text(rev))?;
-    Ok(Json::Object(members))
+    JsonText::of(alloc, &Json::Object(members))
 }
 
 /// Takes the members out of a body.

@@ -1,7 +1,7 @@
 ghost use Rattle.std.specs.Prelude.{◌≡◌, ◌≢◌, ◌++◌, ◌∷◌, [], map as each, IfErr, IfOk, IfSome, None, OnOk, Some, Ok, Err, is_some, option_copied, option_map};
 ghost use Rattle.std.specs.FinMap as map;
-ghost use Rattle.couch_json.specs.Value.{array, member, no_members, object};
-ghost use Rattle.couch_json.specs.View.{items_of, view};
+ghost use Rattle.couch_json.specs.Value.{member, no_members, object};
+ghost use Rattle.couch_json.specs.View.{view};
 ghost use Rattle.store.specs.Calls.{OnlyReads};
 ghost use Rattle.store.specs.Database.{Database, history_at};
 ghost use Rattle.tree.specs.Outline.{outline_of};
@@ -10,7 +10,7 @@ ghost use Rattle.read.specs.OpenRevisions.{asked_revisions, element, open_revisi
 
 use crate::fault::ReadFault;
 use crate::shown::{read_paths, read_shown};
-use couch_json::{Got, Json, put_member};
+use couch_json::{ArrayText, Got, Json, JsonText, put_member};
 use std::alloc::Global;
 use std::collections::BTreeMap;
 use store::{DbName, Store};
@@ -31,7 +31,7 @@ pub fn open_revs<S: Store>(
     id: &DocId,
     asked: Option<&[Rev]>,
     revs: bool,
-) -> Result<Json, ReadFault>
+) -> Result<JsonText, ReadFault>
     ensures answer { AnswersValue S.Store store.old store.new (option_map (λ value. Ok value)
         (open_revisions_in (S.contents store.old) db.now id.now (option_copied asked.entry) revs)) result }
     ensures plain { (result ≢ Err ReadFault.Missing) × (result ≢ Err ReadFault.Deleted) }
@@ -40,14 +40,7 @@ pub fn open_revs<S: Store>(
     let _present = store.security(db)?;
     let paths = read_paths(store, db, id, revs)?;
     let elements = read_asked(alloc, store, db, id, asked, &paths)?;
-    Ok(list_elements(elements))
-}
-
-/// Makes the list of these elements.
-fn list_elements(elements: Vec<Json>) -> Json
-    ensures { view result ≡ array (items_of (each view elements.items)) }
-{
-    Json::Array(elements)
+    Ok(elements.end()?)
 }
 
 /// Tells what is said of the revisions that are asked for, or of all leaves.
@@ -59,10 +52,10 @@ fn read_asked<S: Store>(
     id: &DocId,
     asked: Option<&[Rev]>,
     paths: &Option<Outline>,
-) -> Result<Vec<Json>, ReadFault>
+) -> Result<ArrayText, ReadFault>
     ensures ok { S.is_honest store.new → IfOk result (λ elements. (d : Database) → map.get (S.contents store.old) db.now ≡ Some d
         → IfSome paths.now (λ outline. outline ≡ outline_of (history_at d id.now))
-        → each view elements.items ≡ each (open_revision id.now (history_at d id.now) (is_some paths.now)) (asked_revisions (history_at d id.now) (option_copied asked.entry))) }
+        → elements ≡ each (open_revision id.now (history_at d id.now) (is_some paths.now)) (asked_revisions (history_at d id.now) (option_copied asked.entry))) }
     ensures stops { IfErr result (Stops S.Store store.old store.new (map.get (S.contents store.old) db.now ≡ None)) }
     ensures reads { OnlyReads S.Store store.old store.new }
 {
@@ -81,14 +74,14 @@ fn read_elements<S: Store>(
     id: &DocId,
     asked: &[Rev],
     paths: &Option<Outline>,
-) -> Result<Vec<Json>, ReadFault>
+) -> Result<ArrayText, ReadFault>
     ensures ok { S.is_honest store.new → IfOk result (λ elements. (d : Database) → map.get (S.contents store.old) db.now ≡ Some d
         → IfSome paths.now (λ outline. outline ≡ outline_of (history_at d id.now))
-        → each view elements.items ≡ each (open_revision id.now (history_at d id.now) (is_some paths.now)) asked.now) }
+        → elements ≡ each (open_revision id.now (history_at d id.now) (is_some paths.now)) asked.now) }
     ensures stops { IfErr result (Stops S.Store store.old store.new (map.get (S.contents store.old) db.now ≡ None)) }
     ensures reads { OnlyReads S.Store store.old store.new }
 {
-    let mut elements = Vec::with_capacity(alloc, asked.len())?;
+    let mut elements = ArrayText::new(alloc)?;
     for rev in asked {
         let shown = read_shown(alloc, store, db, id, rev, paths)?;
         push_element(alloc, &mut elements, rev, shown)?;
@@ -97,11 +90,10 @@ fn read_elements<S: Store>(
 }
 
 /// Pushes what is said of one revision.
-fn push_element(alloc: Global, elements: &mut Vec<Json>, rev: &Rev, shown: Option<Json>) -> Got<()>
-    ensures { OnOk result (each view elements.new.items ≡ each view elements.old.items ++ element rev.now (option_map view shown) ∷ []) }
+fn push_element(alloc: Global, elements: &mut ArrayText, rev: &Rev, shown: Option<Json>) -> Got<()>
+    ensures { OnOk result (elements.new ≡ elements.old ++ element rev.now (option_map view shown) ∷ []) }
 {
-    elements.push(build_element(alloc, rev, shown)?)?;
-    Ok(())
+    elements.push(alloc, &build_element(alloc, rev, shown)?)
 }
 
 fn build_element(alloc: Global, rev: &Rev, document: Option<Json>) -> Got<Json>

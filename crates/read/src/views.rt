@@ -8,8 +8,8 @@ ghost use Rattle.read.specs.Answers.{AnswersValue};
 ghost use Rattle.read.specs.Views.{key_row_object, view_listing};
 
 use crate::fault::ReadFault;
-use crate::listing::build_listing;
-use couch_json::{Got, Json, put_member};
+use crate::listing::write_listing;
+use couch_json::{ArrayText, Got, Json, JsonText, put_member};
 use std::alloc::Global;
 use std::collections::BTreeMap;
 use store::{DbName, KeyRange, KeyRow, Store};
@@ -17,6 +17,7 @@ use tree::DocId;
 
 /// Lists the rows of the index that a design document of a database declares under a name, within a
 /// range of keys: an object with `offset`, `rows` and `total_rows`, whatever counts the range asks for.
+/// It is written row by row.
 ///
 /// `Missing` comes if and only if the design document declares no index of this name, and
 /// `Store(NoDatabase)` if and only if there is no database of this name; else nothing but want of memory
@@ -28,7 +29,7 @@ pub fn view<S: Store>(
     design: &DocId,
     index: &str,
     range: KeyRange,
-) -> Result<Json, ReadFault>
+) -> Result<JsonText, ReadFault>
     ensures answer { AnswersValue S.Store store.old store.new (option_map (λ d. view_listing range design.now index.now d) (map.get (S.contents store.old) db.now)) result }
     ensures only { IfErr result (λ fault. fault ≢ ReadFault.Missing → fault ≢ ReadFault.Memory → ((cause : _) → fault ≢ ReadFault.Store cause) → ⊥) }
     ensures reads { OnlyReads S.Store store.old store.new }
@@ -41,18 +42,18 @@ pub fn view<S: Store>(
         return Err(ReadFault::Missing);
     };
     match page.counts {
-        Some(counts) => Ok(build_listing(alloc, build_rows(alloc, &page.rows)?, counts)?),
+        Some(counts) => Ok(write_listing(alloc, write_rows(alloc, &page.rows)?, counts)?),
         None => unreachable!(),
     }
 }
 
-/// Builds the objects of rows, in order.
-fn build_rows(alloc: Global, rows: &[KeyRow]) -> Got<Vec<Json>>
-    ensures { IfOk result (λ values. each view values.items ≡ each key_row_object rows.now) }
+/// Writes the objects of rows, in order.
+fn write_rows(alloc: Global, rows: &[KeyRow]) -> Got<ArrayText>
+    ensures { IfOk result (λ values. values ≡ each key_row_object rows.now) }
 {
-    let mut values = Vec::with_capacity(alloc, rows.len())?;
+    let mut values = ArrayText::new(alloc)?;
     for row in rows {
-        values.push(build_row(alloc, row)?)?;
+        values.push(alloc, &build_row(alloc, row)?)?;
     }
     Ok(values)
 }

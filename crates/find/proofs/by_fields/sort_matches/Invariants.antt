@@ -2,7 +2,6 @@ use Rattle.std.proofs.Common.{◌≡◌, [], Some, drop}
 use Rattle.std.specs.FinMap as finite
 use Rattle.store.specs.Calls.{OnlyReads}
 use Rattle.store.specs.Database.{Database}
-use Rattle.store.specs.Plain.{place_views}
 use Rattle.find.specs.Candidates.{put_candidates}
 use Rattle.find.proofs.by_fields.sort_matches.Given as goal
 
@@ -10,6 +9,6 @@ use Rattle.find.proofs.by_fields.sort_matches.Given as goal
 abbrev pub invariant-loop-id : goal.invariant-loop-id
 invariant-loop-id g l = record {
   sorted : g.S.Store.is_honest l.store → (d : Database) → finite.get (g.S.Store.contents l.initial.store) l.db ≡ Some d
-      → put_candidates l.query.sort l.query.selector d (drop l.id-index l.ids) (place_views l.sorted.entries) ≡ put_candidates l.query.sort l.query.selector d l.ids [];
+      → put_candidates l.query.sort l.query.selector d (drop l.id-index l.ids) l.sorted.entries ≡ put_candidates l.query.sort l.query.selector d l.ids [];
   reads : OnlyReads g.S.Store l.initial.store l.store;
 }

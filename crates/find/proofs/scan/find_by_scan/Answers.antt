@@ -1,7 +1,6 @@
 -- All documents give what is found.
 use Rattle.std.proofs.Common.{◌≡◌, [], drop, length, map, rules, sym, take, ◌∙◌}
 use Rattle.std.specs.FinMap as finite
-use Rattle.couch_json.specs.View.{view}
 use Rattle.store.specs.Pages.{in_direction}
 use Rattle.store.proofs.PageStructs.{no_length}
 use Rattle.find.proofs.Candidates.{all_documents, found_among}
@@ -18,14 +17,14 @@ returns-then-is_empty-clause-answer g c =
     let query = c.args.query.now in
     let none : length c.as_slice.result.now ≡ 0 = search rules in
     let unsorted = sym c.as_slice.ensures ∙ no_length c.as_slice.result.now none in
-    finds_by g.S.Store c.args.store.now c.find_in_order.new.store (λ documents. map view documents.items) (finite.get (g.S.Store.contents c.args.store.now) c.args.db.now)
+    finds_by g.S.Store c.args.store.now c.find_in_order.new.store (λ documents. documents) (finite.get (g.S.Store.contents c.args.store.now) c.args.db.now)
     (λ d. take query.limit (drop query.skip (matches_at query.selector d (ids_in (Documents query.descending) d)))) (λ d. found_documents query d) c.find_in_order.result
     c.find_in_order.ensures.ok c.find_in_order.ensures.stops (λ d. found_by_id query d unsorted)
 
 pub returns-clause-answer : goal.returns-clause-answer
 returns-clause-answer g c =
     let query = c.args.query.now in
-    finds_by g.S.Store c.args.store.now c.find_sorted.new.store (λ documents. map view documents.items) (finite.get (g.S.Store.contents c.args.store.now) c.args.db.now)
+    finds_by g.S.Store c.args.store.now c.find_sorted.new.store (λ documents. documents) (finite.get (g.S.Store.contents c.args.store.now) c.args.db.now)
     (λ d. take query.limit (drop query.skip (in_direction query.descending (map (λ e. e.1) (put_candidates query.sort query.selector d (ids_in (Documents query.descending) d) []))))) (λ d. found_documents query d)
     c.find_sorted.result c.find_sorted.ensures.ok c.find_sorted.ensures.stops
     (λ d. found_among query d (ids_in (Documents query.descending) d) (all_documents query.descending query.sort query.selector d))

@@ -17,7 +17,7 @@ returns g c = record {
         let id = c.args.id.now in
         let v = view c.args.document in
         let planned = c.in-Ok.planned in
-        edit_comes caller c.args.status id db v (admission (terms_in caller name db) db id c.args.rev v) planned c.made_revision-rev.result (view c.in_ok-value.value)
+        edit_comes caller c.args.status id db v (admission (terms_in caller name db) db id c.args.rev v) planned c.made_revision-rev.result c.in_ok-value.value
         (of_there _ db (λ (d : Database). writes_alone (as_outcome (admission (terms_in caller name d) d id c.args.rev v)) ≡ Ok (planned_writes d planned.changes)) there (c.in-Ok.ensures.ok honest))
         (of_there _ db (λ (d : Database). Plans d (v ∷ []) (as_outcome (admission (terms_in caller name d) d id c.args.rev v) ∷ []) planned) there (c.in-Ok.ensures.plan honest))
         (rw c.deref.ensures.value at c.made_revision-rev.ensures) c.in_ok-value.ensures;

@@ -1,6 +1,5 @@
 use Rattle.std.proofs.Common.{◌≡◌, [], ◌∷◌, Ok, ap, ◌∙◌, rules}
 use Rattle.couch_json.specs.Value.{null}
-use Rattle.couch_json.specs.View.{view}
 use Rattle.find.specs.IndexRead.{index_asked}
 use Rattle.store.specs.Database.{Database}
 use Rattle.write.specs.Bulk.{DocumentOutcome, writes_alone}
@@ -25,7 +24,7 @@ returns g c = record {
         let same : index_admission (terms_in caller name db) db asked.design asked.name asked.fields ≡ outcome db =
         λ i. index_admission (terms_in caller name db) db asked.design (named i) (fields i) in
         ap (index_done caller asked.design asked.name) same
-        ∙ index_comes caller asked.design asked.name db (outcome db) planned c.says_made.result (view c.in_ok-value.value)
+        ∙ index_comes caller asked.design asked.name db (outcome db) planned c.says_made.result c.in_ok-value.value
         (of_there _ db (λ (d : Database). writes_alone (outcome d) ≡ Ok (planned_writes d planned.changes)) there (c.in-Ok.ensures.ok honest))
         (of_there _ db (λ (d : Database). Plans d (null ∷ []) (outcome d ∷ []) planned) there (c.in-Ok.ensures.plan honest))
         c.in-Ok.ensures.appends c.in-Ok.ensures.unrefused
