@@ -1,11 +1,11 @@
 -- Histories as functions of ids, and what a map of them holds.
-use Rattle.std.proofs.Common.{◌≡◌, ◌||◌, ℕ, Bool, true, false, cond, List, ◌∷◌, Ok, Err, option_map, Option, Some, None, refl, ap, sym, ◌∙◌}
+use Rattle.std.proofs.Common.{◌≡◌, ◌||◌, ℕ, Bool, true, false, cond, List, ◌∷◌, Ok, Err, option_map, option_and_then, Option, Some, None, refl, ap, sym, ◌∙◌}
 use Rattle.std.specs.BTreeMap.{BTreeMap, get}
 use Rattle.std.specs.Ordering.{is_eq, nat_cmp}
 use Rattle.std.specs.Cmp.Lexicographic.{slice_cmp}
 use Rattle.std.proofs.lemmas.Map.Text.{is_eq-slice_cmp}
 use Rattle.std.proofs.lemmas.Slice.Eq.{bytes_eq-Decides}
-use Rattle.std.specs.Prelude.{bytes_eq, is_some}
+use Rattle.std.specs.Prelude.{bytes_eq, codes, is_some}
 use Rattle.tree.specs.History.{HistoryContent}
 use Rattle.tree.specs.History.{with_write}
 use Rattle.couch_json.specs.Value.{Value}
@@ -15,7 +15,7 @@ use Rattle.store.specs.declared.write.Write.{Write}
 use Rattle.write.specs.Admission.{history_with}
 use Rattle.write.specs.Bulk.{DocumentOutcome, Histories, after, document_outcome, outcome_by_id, with_write_in}
 use Rattle.write.specs.BulkResults.{AgreeAt, brought, held_or, seen_in, with_history}
-use Rattle.write.specs.Document.{id_in, is_same_text}
+use Rattle.write.specs.Document.{id_if, id_in, is_bulk_id, is_same_text, member_text}
 use Rattle.write.specs.Repeats.{IsKept, is_named, is_named_if_any}
 use Rattle.write.proofs.Names.{judged-named}
 use Rattle.write.specs.Terms.{Terms}
@@ -170,16 +170,26 @@ after_agrees h g (Err fault) k same = same
 
 -- ---- documents that name an id
 
+-- the id of a document is its `_id`
+text_of_id : (t : Option (List ℕ)) (id : List ℕ) → option_and_then (λ x. id_if x) t ≡ Some id → t ≡ Some id
+text_of_id None id e = absurd cc
+text_of_id (Some t) id e = by (is_bulk_id t) e
+  where
+    by : (b : Bool) → cond b (Some t) None ≡ Some id → Some t ≡ Some id
+    by true k = k
+    by false k = absurd cc
+
 pub first_named : (id : List ℕ) (v : Value) (vs : List Value) → id_in v ≡ Some id → is_named id (v ∷ vs) ≡ true
 first_named id v vs is =
-    ap (λ (i : Option (List ℕ)). is_same_text id i || is_named id vs) is ∙ ap (λ (b : Bool). b || is_named id vs) ((bytes_eq-Decides id id).1 refl)
+    ap (λ (t : Option (List ℕ)). is_same_text id t || is_named id vs) (text_of_id (member_text (codes "_id") v) id is)
+    ∙ ap (λ (b : Bool). b || is_named id vs) ((bytes_eq-Decides id id).1 refl)
 
 pub named_behind : (id : List ℕ) (v : Value) (vs : List Value) → is_named id vs ≡ true → is_named id (v ∷ vs) ≡ true
-named_behind id v vs named = by (is_same_text id (id_in v)) (is_named id vs) named
+named_behind id v vs named = by (is_same_text id (member_text (codes "_id") v)) (is_named id vs) named
   where
     by : (b c : Bool) → c ≡ true → (b || c) ≡ true
     by true c e = refl
     by false c e = e
 
-pub named_again : (id : List ℕ) (i : Option (List ℕ)) (vs : List Value) → i ≡ Some id → is_named id vs ≡ true → is_named_if_any i vs ≡ true
-named_again id i vs is named = ap (λ (x : Option (List ℕ)). is_named_if_any x vs) is ∙ named
+pub named_again : (id : List ℕ) (v : Value) (vs : List Value) → id_in v ≡ Some id → is_named id vs ≡ true → is_named_if_any (member_text (codes "_id") v) vs ≡ true
+named_again id v vs is named = ap (λ (t : Option (List ℕ)). is_named_if_any t vs) (text_of_id (member_text (codes "_id") v) id is) ∙ named

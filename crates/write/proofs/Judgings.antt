@@ -183,7 +183,7 @@ with_outcome db (Err fault) = refl
 
 -- one document more
 pub judged_next : (terms : Terms) (new_edits again : Bool) (d : Database) (all documents left : List Value) (v : Value) (m l n : BTreeMap (List ℕ) HistoryContent) (writes more : List Addition) (results others : List Told) (t : Told)
-    → documents ≡ v ∷ left → IsJudged terms new_edits d all documents m writes results → seen_in (history_at d) l ≡ seen_in (history_at d) m → again ≡ is_named_if_any (id_in v) left
+    → documents ≡ v ∷ left → IsJudged terms new_edits d all documents m writes results → seen_in (history_at d) l ≡ seen_in (history_at d) m → again ≡ is_named_if_any (member_text (codes "_id") v) left
     → ((stored : Histories) → result_told v (outcome_in terms new_edits (seen_in stored l) v) ≡ t)
     → ((stored : Histories) (id : List ℕ) → IsKept again (id_in v) id → seen_in stored n id ≡ after (seen_in stored l) (outcome_in terms new_edits (seen_in stored l) v) id)
     → ((stored : Histories) (e : Database) → AgreeAt (id_in v) (seen_in stored l) (history_at (with_all e (writings_in e writes)))
@@ -201,7 +201,7 @@ judged_next terms new_edits again d all documents left v m l n writes more resul
     after_is e o ∙ ap history_at (with_outcome e o ∙ sym (with_all-append d (writings_in d writes) (put_before o [])) ∙ ap (with_all d) (sym one)) in
     let os : List DocumentOutcome = outcomes terms new_edits (after (history_at e) o) left in
     record {
-      seen = λ id named. becomes (history_at d) id (λ is. comes ∙ named_again id (id_in v) left is named)
+      seen = λ id named. becomes (history_at d) id (λ is. comes ∙ named_again id v left is named)
           ∙ after_agrees hs (history_at e) (outcome_in terms new_edits hs v) id (sees id (ap (is_named id) first ∙ named_behind id v left named))
           ∙ ap (λ (x : DocumentOutcome). after (history_at e) x id) same ∙ ap (λ (x : Histories). x id) now;
       writes = ap (λ (x : Histories). writings_in d more ++ writes_in (outcomes terms new_edits x left)) (sym now)

@@ -2,6 +2,7 @@ use Rattle.std.proofs.Common.{◌≡◌, ◌∷◌, ◌∙◌, [], ap, map, reve
 use Rattle.std.proofs.lemmas.Grind.{common_steps}
 use Rattle.std.proofs.lemmas.List.{map-append}
 use Rattle.std.proofs.lemmas.List.Elements.{All-push}
+use Rattle.std.specs.Prelude.{codes}
 use Rattle.std.specs.FinMap as finite
 use Rattle.std.specs.Vec.Iter.{into_iter_items}
 use Rattle.couch_json.specs.View.{view}
@@ -9,7 +10,7 @@ use Rattle.store.specs.Contents.{Contents}
 use Rattle.store.specs.Writing.{additions}
 use Rattle.store.proofs.Calls.{reads_nothing, reads_then}
 use Rattle.write.specs.BulkResults.{IsOwnOutcome, told_of}
-use Rattle.write.specs.Document.{id_in}
+use Rattle.write.specs.Document.{member_text}
 use Rattle.write.specs.Repeats.{is_named_if_any, repeats}
 use Rattle.write.specs.TermsRead.{terms_of}
 use Rattle.write.specs.declared.planned.DocumentResult.{DocumentResult}
@@ -34,7 +35,7 @@ loop-document-preserved g c =
     let l = c.loop-document in
     let left = into_iter_items c.next.new.self in
     let first : into_iter_items l.document-iterator ≡ c.in-Some.document ∷ left = search rules in
-    let mark = c.take_mark-again.ensures (reverse (repeats (map view left))) (is_named_if_any (id_in (view c.in-Some.document)) (map view left))
+    let mark = c.take_mark-again.ensures (reverse (repeats (map view left))) (is_named_if_any (member_text (codes "_id") (view c.in-Some.document)) (map view left))
     (l.invariant.marks ∙ ap (λ vs. reverse (repeats (map view vs))) first ∙ marks_cons (view c.in-Some.document) (map view left)) in
     record {
       judged = λ honest d there.
