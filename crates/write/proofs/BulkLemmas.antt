@@ -1,20 +1,22 @@
 -- Histories as functions of ids, and what a map of them holds.
-use Rattle.std.proofs.Common.{◌≡◌, ℕ, Bool, true, false, cond, List, Ok, option_map, Option, Some, None, refl, ap, sym, ◌∙◌}
+use Rattle.std.proofs.Common.{◌≡◌, ◌||◌, ℕ, Bool, true, false, cond, List, ◌∷◌, Ok, Err, option_map, option_and_then, Option, Some, None, refl, ap, sym, ◌∙◌}
 use Rattle.std.specs.BTreeMap.{BTreeMap, get}
 use Rattle.std.specs.Ordering.{is_eq, nat_cmp}
 use Rattle.std.specs.Cmp.Lexicographic.{slice_cmp}
 use Rattle.std.proofs.lemmas.Map.Text.{is_eq-slice_cmp}
 use Rattle.std.proofs.lemmas.Slice.Eq.{bytes_eq-Decides}
-use Rattle.std.specs.Prelude.{bytes_eq, is_some}
+use Rattle.std.specs.Prelude.{bytes_eq, codes, is_some}
 use Rattle.tree.specs.History.{HistoryContent}
 use Rattle.tree.specs.History.{with_write}
 use Rattle.couch_json.specs.Value.{Value}
-use Rattle.store.specs.Database.{DocumentWrite}
+use Rattle.store.specs.Database.{DocumentWrite, is_of}
 use Rattle.store.specs.Writing.{addition_of, written_in}
 use Rattle.store.specs.declared.write.Write.{Write}
 use Rattle.write.specs.Admission.{history_with}
-use Rattle.write.specs.Bulk.{Histories, after, document_outcome, with_write_in}
-use Rattle.write.specs.BulkResults.{brought, held_or, seen_in, with_history}
+use Rattle.write.specs.Bulk.{DocumentOutcome, Histories, after, document_outcome, outcome_by_id, with_write_in}
+use Rattle.write.specs.BulkResults.{AgreeAt, brought, held_or, seen_in, with_history}
+use Rattle.write.specs.Document.{id_if, id_in, is_bulk_id, is_same_text, member_text}
+use Rattle.write.specs.Repeats.{IsKept, is_named, is_named_if_any}
 use Rattle.write.proofs.Names.{judged-named}
 use Rattle.write.specs.Terms.{Terms}
 
@@ -111,6 +113,83 @@ seen_after terms new_edits old mid new id h k document w is others put became ta
     ∙ put_taken old id (option_map (λ (x : Write). written_in h (addition_of x)) w) named
     ∙ ap (λ o. after old (Ok o)) (brought_at old id h w is named)
 
-pub seen_still : (old mid new : Histories) (id : List ℕ) (h k : HistoryContent)
-    → h ≡ old id → ((g : HistoryContent) → with_history mid id g ≡ with_history old id g) → new ≡ with_history mid id k → k ≡ h → new ≡ old
-seen_still old mid new id h k is others put same = put ∙ others k ∙ ap (with_history old id) (same ∙ is) ∙ put_same old id
+pub seen_still : (old mid new : Histories) (id : List ℕ) (h : HistoryContent)
+    → h ≡ old id → ((g : HistoryContent) → with_history mid id g ≡ with_history old id g) → new ≡ with_history mid id h → new ≡ old
+seen_still old mid new id h is others put = put ∙ others h ∙ ap (with_history old id) is ∙ put_same old id
+
+-- ---- at another id
+
+put_elsewhere : (old : Histories) (id k : List ℕ) (h : HistoryContent) → (id ≡ k → ⊥) → with_history old id h k ≡ old k
+put_elsewhere old id k h other = by (bytes_eq id k) refl
+  where
+    by : (b : Bool) → bytes_eq id k ≡ b → cond b h (old k) ≡ old k
+    by true e = absurd (other ((bytes_eq-Decides id k).0 e))
+    by false e = refl
+
+-- where only the id's history can be another, those of others are the same
+pub still_elsewhere : (old mid : Histories) (id k : List ℕ) → ((g : HistoryContent) → with_history mid id g ≡ with_history old id g) → (id ≡ k → ⊥) → mid k ≡ old k
+still_elsewhere old mid id k others other =
+    sym (put_elsewhere mid id k (old id) other) ∙ ap (λ (hs : Histories). hs k) (others (old id)) ∙ put_elsewhere old id k (old id) other
+
+-- a write is in the history of its own id
+pub after_elsewhere : (old : Histories) (id k : List ℕ) (h : HistoryContent) (w : Option Write)
+    → ((v : DocumentWrite) → option_map (λ (x : Write). written_in h (addition_of x)) w ≡ Some v → v.id ≡ id) → (id ≡ k → ⊥)
+    → after old (Ok (option_map (brought old) w)) k ≡ old k
+after_elsewhere old id k h None own other = refl
+after_elsewhere old id k h (Some w) own other = by (bytes_eq w.id k) refl
+  where
+    by : (b : Bool) → bytes_eq w.id k ≡ b → cond b (with_write (old k) (brought old w).write) (old k) ≡ old k
+    by true e = absurd (other (sym (own (written_in h (addition_of w)) refl) ∙ (bytes_eq-Decides w.id k).0 e))
+    by false e = refl
+
+-- the id of a document that doesn't come again is another one than one whose history is kept
+pub kept_is_other : (own : Option (List ℕ)) (id k : List ℕ) (again : Bool) → own ≡ Some id → again ≡ false → IsKept again own k → id ≡ k → ⊥
+kept_is_other own id k again named last kept same = let wrong : false ≡ true = sym last ∙ kept (named ∙ ap Some same) in absurd cc
+
+-- ---- by the history at the id alone
+
+pub agree_at : (h g : Histories) (i : Option (List ℕ)) → ((id : List ℕ) → i ≡ Some id → h id ≡ g id) → AgreeAt i h g
+agree_at h g None same = tt
+agree_at h g (Some id) same = same id refl
+
+-- the same becomes of a document by histories that agree at its id
+pub outcome_agrees : (terms : Terms) (new_edits : Bool) (h g : Histories) (document : Value) (i : Option (List ℕ)) → AgreeAt i h g
+    → outcome_by_id terms new_edits h document i ≡ outcome_by_id terms new_edits g document i
+outcome_agrees terms new_edits h g document None same = refl
+outcome_agrees terms new_edits h g document (Some id) same = ap (λ (x : HistoryContent). document_outcome terms new_edits id x document) same
+
+pub outcome_named : (terms : Terms) (new_edits : Bool) (h : Histories) (document : Value) (i : Option (List ℕ)) (v : DocumentWrite)
+    → outcome_by_id terms new_edits h document i ≡ Ok (Some v) → i ≡ Some v.id
+outcome_named terms new_edits h document None v e = absurd cc
+outcome_named terms new_edits h document (Some id) v e = ap Some (sym (judged-named terms new_edits id (h id) document v e))
+
+pub after_agrees : (h g : Histories) (o : DocumentOutcome) (k : List ℕ) → h k ≡ g k → after h o k ≡ after g o k
+after_agrees h g (Ok (Some w)) k same = ap (λ (x : HistoryContent). cond (is_of k w) (with_write x w.write) x) same
+after_agrees h g (Ok None) k same = same
+after_agrees h g (Err fault) k same = same
+
+-- ---- documents that name an id
+
+-- the id of a document is its `_id`
+text_of_id : (t : Option (List ℕ)) (id : List ℕ) → option_and_then (λ x. id_if x) t ≡ Some id → t ≡ Some id
+text_of_id None id e = absurd cc
+text_of_id (Some t) id e = by (is_bulk_id t) e
+  where
+    by : (b : Bool) → cond b (Some t) None ≡ Some id → Some t ≡ Some id
+    by true k = k
+    by false k = absurd cc
+
+pub first_named : (id : List ℕ) (v : Value) (vs : List Value) → id_in v ≡ Some id → is_named id (v ∷ vs) ≡ true
+first_named id v vs is =
+    ap (λ (t : Option (List ℕ)). is_same_text id t || is_named id vs) (text_of_id (member_text (codes "_id") v) id is)
+    ∙ ap (λ (b : Bool). b || is_named id vs) ((bytes_eq-Decides id id).1 refl)
+
+pub named_behind : (id : List ℕ) (v : Value) (vs : List Value) → is_named id vs ≡ true → is_named id (v ∷ vs) ≡ true
+named_behind id v vs named = by (is_same_text id (member_text (codes "_id") v)) (is_named id vs) named
+  where
+    by : (b c : Bool) → c ≡ true → (b || c) ≡ true
+    by true c e = refl
+    by false c e = e
+
+pub named_again : (id : List ℕ) (v : Value) (vs : List Value) → id_in v ≡ Some id → is_named id vs ≡ true → is_named_if_any (member_text (codes "_id") v) vs ≡ true
+named_again id v vs is named = ap (λ (t : Option (List ℕ)). is_named_if_any t vs) (text_of_id (member_text (codes "_id") v) id is) ∙ named

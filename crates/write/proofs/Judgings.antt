@@ -1,5 +1,5 @@
 -- Documents that are judged one after another: what is seen, written and told after each.
-use Rattle.std.proofs.Common.{◌≡◌, ◌≢◌, ℕ, Bool, false, List, [], ◌∷◌, ◌++◌, Option, Some, None, option_map, Result, Ok, Err, IfOk, IfErr, OnErr, refl, ap, sym, ◌∙◌, subst, append_assoc, append-nil}
+use Rattle.std.proofs.Common.{◌≡◌, ◌≢◌, ℕ, Bool, true, false, List, [], ◌∷◌, ◌++◌, Option, Some, None, option_map, Result, Ok, Err, IfOk, IfErr, OnErr, refl, ap, sym, ◌∙◌, subst, append_assoc, append-nil}
 use Rattle.std.specs.Prelude.{codes, is_some}
 use Rattle.std.specs.BTreeMap.{BTreeMap, get}
 use Rattle.std.specs.Option.{option_to_list}
@@ -14,14 +14,16 @@ use Rattle.store.specs.declared.write.Write.{Write}
 use Rattle.store.proofs.Contents.{with_all-append, writings_in-append}
 use Rattle.write.specs.Admission.{history_with}
 use Rattle.write.specs.Bulk.{DocumentOutcome, Histories, Told, after, all_told, document_outcome, outcome_by_id, outcome_in, outcome_told, outcomes, put_before, result_told, writes_in}
-use Rattle.write.specs.BulkResults.{brought, held_or, seen_in, with_history}
+use Rattle.write.specs.BulkResults.{AgreeAt, brought, held_or, seen_in, with_history}
+use Rattle.write.specs.Repeats.{IsKept, is_named, is_named_if_any}
 use Rattle.write.specs.Document.{id_in, member_text}
 use Rattle.write.specs.Terms.{Terms}
 use Rattle.write.specs.declared.fault.WriteFault.{WriteFault}
 use Rattle.write.specs.declared.fault.WriteFault.TheVariants.{Memory}
 use Rattle.write.specs.declared.planned.Outcome.{Outcome}
 use Rattle.write.proofs.Acceptances.{after_is, db_after}
-use Rattle.write.proofs.BulkLemmas.{judged_seen, load_seen, seen_after, seen_still}
+use Rattle.write.proofs.BulkLemmas.{after_agrees, after_elsewhere, agree_at, first_named, judged_seen, kept_is_other, load_seen, named_again, named_behind, outcome_agrees, seen_after, seen_still, still_elsewhere}
+use Rattle.write.proofs.Names.{judged-named}
 
 -- ---- the stored history of a document, put in
 
@@ -44,25 +46,61 @@ settle_ok terms new_edits m id h document (Ok w) named value became =
     λ stored. ap (outcome_by_id terms new_edits (seen_in stored m) document) named ∙ judged_seen terms new_edits (seen_in stored m) id h document w (value stored) became
 settle_ok terms new_edits m id h document (Err fault) named value became = tt
 
-pub settle_histories : (terms : Terms) (new_edits : Bool) (m mid n : BTreeMap (List ℕ) HistoryContent) (id : List ℕ) (h k : HistoryContent) (document : Value) (r : Result (Option Write) WriteFault)
-    → ((stored : Histories) → h ≡ seen_in stored m id)
-    → ((stored : Histories) (g : HistoryContent) → with_history (seen_in stored mid) id g ≡ with_history (seen_in stored m) id g)
-    → ((stored : Histories) → seen_in stored n ≡ with_history (seen_in stored mid) id k)
-    → IfOk r (λ w. document_outcome terms new_edits id h document ≡ Ok (option_map (λ x. written_in h (addition_of x)) w))
+-- it is put in with its write
+pub taken_in_put : (m n : BTreeMap (List ℕ) HistoryContent) (id : List ℕ) (h k : HistoryContent) (r : Result (Option Write) WriteFault)
+    → ((stored : Histories) → seen_in stored n ≡ with_history (seen_in stored m) id k)
     → IfOk r (λ w. k ≡ history_with h (option_map (λ x. written_in h (addition_of x)) w))
-    → IfOk r (λ w. (stored : Histories) → seen_in stored n ≡ after (seen_in stored m) (Ok (option_map (brought (seen_in stored m)) w)))
-settle_histories terms new_edits m mid n id h k document (Ok w) value others put became taken_in =
-    λ stored. seen_after terms new_edits (seen_in stored m) (seen_in stored mid) (seen_in stored n) id h k document w (value stored) (others stored) (put stored) became taken_in
-settle_histories terms new_edits m mid n id h k document (Err fault) value others put became taken_in = tt
+    → IfOk r (λ w. (stored : Histories) → seen_in stored n ≡ with_history (seen_in stored m) id (history_with h (option_map (λ x. written_in h (addition_of x)) w)))
+taken_in_put m n id h k (Ok w) put taken_in = λ stored. put stored ∙ ap (with_history (seen_in stored m) id) taken_in
+taken_in_put m n id h k (Err fault) put taken_in = tt
 
-pub settle_same : (m mid n : BTreeMap (List ℕ) HistoryContent) (id : List ℕ) (h k : HistoryContent) (r : Result (Option Write) WriteFault)
+-- or as it was
+pub unchanged_put : (m n : BTreeMap (List ℕ) HistoryContent) (id : List ℕ) (h k : HistoryContent) (r : Result (Option Write) WriteFault)
+    → ((stored : Histories) → seen_in stored n ≡ with_history (seen_in stored m) id k) → OnErr r (k ≡ h)
+    → IfErr r (λ fault. fault ≢ Memory → (stored : Histories) → seen_in stored n ≡ with_history (seen_in stored m) id h)
+unchanged_put m n id h k (Ok w) put same = tt
+unchanged_put m n id h k (Err fault) put same = λ other stored. put stored ∙ ap (with_history (seen_in stored m) id) same
+
+-- and then it is what is seen
+pub settle_kept : (terms : Terms) (new_edits again : Bool) (m mid n : BTreeMap (List ℕ) HistoryContent) (own : Option (List ℕ)) (id : List ℕ) (h : HistoryContent) (document : Value) (r : Result (Option Write) WriteFault)
     → ((stored : Histories) → h ≡ seen_in stored m id)
     → ((stored : Histories) (g : HistoryContent) → with_history (seen_in stored mid) id g ≡ with_history (seen_in stored m) id g)
-    → ((stored : Histories) → seen_in stored n ≡ with_history (seen_in stored mid) id k)
-    → OnErr r (k ≡ h) → IfErr r (λ fault. fault ≢ Memory → (stored : Histories) → seen_in stored n ≡ seen_in stored m)
-settle_same m mid n id h k (Ok w) value others put same = tt
-settle_same m mid n id h k (Err fault) value others put same =
-    λ other stored. seen_still (seen_in stored m) (seen_in stored mid) (seen_in stored n) id h k (value stored) (others stored) (put stored) same
+    → IfOk r (λ w. document_outcome terms new_edits id h document ≡ Ok (option_map (λ x. written_in h (addition_of x)) w))
+    → IfOk r (λ w. (stored : Histories) → seen_in stored n ≡ with_history (seen_in stored mid) id (history_with h (option_map (λ x. written_in h (addition_of x)) w)))
+    → IfOk r (λ w. (stored : Histories) (k : List ℕ) → IsKept again own k → seen_in stored n k ≡ after (seen_in stored m) (Ok (option_map (brought (seen_in stored m)) w)) k)
+settle_kept terms new_edits again m mid n own id h document (Ok w) value others became put =
+    λ stored k kept. ap (λ (hs : Histories). hs k)
+    (seen_after terms new_edits (seen_in stored m) (seen_in stored mid) (seen_in stored n) id h (history_with h (option_map (λ x. written_in h (addition_of x)) w)) document w (value stored) (others stored) (put stored) became refl)
+settle_kept terms new_edits again m mid n own id h document (Err fault) value others became put = tt
+
+-- the history is dropped
+pub settle_dropped : (terms : Terms) (new_edits again : Bool) (m mid : BTreeMap (List ℕ) HistoryContent) (own : Option (List ℕ)) (id : List ℕ) (h : HistoryContent) (document : Value) (r : Result (Option Write) WriteFault)
+    → own ≡ Some id → again ≡ false
+    → ((stored : Histories) (g : HistoryContent) → with_history (seen_in stored mid) id g ≡ with_history (seen_in stored m) id g)
+    → IfOk r (λ w. document_outcome terms new_edits id h document ≡ Ok (option_map (λ x. written_in h (addition_of x)) w))
+    → IfOk r (λ w. (stored : Histories) (k : List ℕ) → IsKept again own k → seen_in stored mid k ≡ after (seen_in stored m) (Ok (option_map (brought (seen_in stored m)) w)) k)
+settle_dropped terms new_edits again m mid own id h document (Ok w) named last others became =
+    λ stored k kept.
+    still_elsewhere (seen_in stored m) (seen_in stored mid) id k (others stored) (kept_is_other own id k again named last kept)
+    ∙ sym (after_elsewhere (seen_in stored m) id k h w (λ v e. judged-named terms new_edits id h document v (became ∙ ap Ok e)) (kept_is_other own id k again named last kept))
+settle_dropped terms new_edits again m mid own id h document (Err fault) named last others became = tt
+
+pub settle_same_kept : (again : Bool) (m mid n : BTreeMap (List ℕ) HistoryContent) (own : Option (List ℕ)) (id : List ℕ) (h : HistoryContent) (r : Result (Option Write) WriteFault)
+    → ((stored : Histories) → h ≡ seen_in stored m id)
+    → ((stored : Histories) (g : HistoryContent) → with_history (seen_in stored mid) id g ≡ with_history (seen_in stored m) id g)
+    → IfErr r (λ fault. fault ≢ Memory → (stored : Histories) → seen_in stored n ≡ with_history (seen_in stored mid) id h)
+    → IfErr r (λ fault. fault ≢ Memory → (stored : Histories) (k : List ℕ) → IsKept again own k → seen_in stored n k ≡ seen_in stored m k)
+settle_same_kept again m mid n own id h (Ok w) value others put = tt
+settle_same_kept again m mid n own id h (Err fault) value others put =
+    λ other stored k kept. ap (λ (hs : Histories). hs k) (seen_still (seen_in stored m) (seen_in stored mid) (seen_in stored n) id h (value stored) (others stored) (put other stored))
+
+pub settle_same_dropped : (again : Bool) (m mid : BTreeMap (List ℕ) HistoryContent) (own : Option (List ℕ)) (id : List ℕ) (r : Result (Option Write) WriteFault)
+    → own ≡ Some id → again ≡ false
+    → ((stored : Histories) (g : HistoryContent) → with_history (seen_in stored mid) id g ≡ with_history (seen_in stored m) id g)
+    → IfErr r (λ fault. fault ≢ Memory → (stored : Histories) (k : List ℕ) → IsKept again own k → seen_in stored mid k ≡ seen_in stored m k)
+settle_same_dropped again m mid own id (Ok w) named last others = tt
+settle_same_dropped again m mid own id (Err fault) named last others =
+    λ other stored k kept. still_elsewhere (seen_in stored m) (seen_in stored mid) id k (others stored) (kept_is_other own id k again named last kept)
 
 -- ---- what is told
 
@@ -84,25 +122,30 @@ pub none_pushed : (d : Database) (ws : List Write) (o : DocumentOutcome) (fault 
     → writings_in d (additions ws) ≡ writings_in d (additions ws) ++ put_before o []
 none_pushed d ws o fault is = sym (append-nil (writings_in d (additions ws))) ∙ ap (λ (x : DocumentOutcome). writings_in d (additions ws) ++ put_before x []) (sym is)
 
-pub pushed : (histories : Histories) (d : Database) (ws vs : List Write) (w : Option Write) (o : DocumentOutcome) → o ≡ Ok (option_map (brought histories) w)
-    → vs ≡ ws ++ option_to_list w → histories ≡ history_at (with_all d (writings_in d (additions ws)))
+at_own : (h g : Histories) (i : Option (List ℕ)) (id : List ℕ) → i ≡ Some id → AgreeAt i h g → h id ≡ g id
+at_own h g i id is agree = subst (λ (x : Option (List ℕ)). AgreeAt x h g) is agree
+
+pub pushed : (histories : Histories) (d : Database) (ws vs : List Write) (w : Option Write) (i : Option (List ℕ)) (o : DocumentOutcome) → o ≡ Ok (option_map (brought histories) w)
+    → vs ≡ ws ++ option_to_list w → ((v : DocumentWrite) → o ≡ Ok (Some v) → i ≡ Some v.id) → AgreeAt i histories (history_at (with_all d (writings_in d (additions ws))))
     → writings_in d (additions vs) ≡ writings_in d (additions ws) ++ put_before o []
-pushed histories d ws vs None o is more seen =
+pushed histories d ws vs None i o is more named agree =
     ap (λ (us : List Write). writings_in d (additions us)) (more ∙ append-nil ws) ∙ sym (append-nil (writings_in d (additions ws)))
     ∙ ap (λ (x : DocumentOutcome). writings_in d (additions ws) ++ put_before x []) (sym is)
-pushed histories d ws vs (Some w) o is more seen =
+pushed histories d ws vs (Some w) i o is more named agree =
     ap (λ (us : List Write). writings_in d (additions us)) more ∙ ap (writings_in d) (map-append addition_of ws (w ∷ []))
     ∙ writings_in-append d (additions ws) (addition_of w ∷ [])
-    ∙ ap (λ (hs : Histories). writings_in d (additions ws) ++ brought hs w ∷ []) (sym seen)
+    ∙ ap (λ (h : HistoryContent). writings_in d (additions ws) ++ written_in h (addition_of w) ∷ [])
+    (sym (at_own histories (history_at (with_all d (writings_in d (additions ws)))) i w.id (named (brought histories w) is) agree))
     ∙ ap (λ (x : DocumentOutcome). writings_in d (additions ws) ++ put_before x []) (sym is)
 
 -- ---- all of them
 
--- So far these writes were made and this was told; what is left is judged by the histories that are seen.
+-- So far these writes were made and this was told; what is left is judged by the histories that they left, and these are seen of each
+-- id that is named still.
 pub record IsJudged (terms : Terms) (new_edits : Bool) (d : Database) (all left : List Value) (m : BTreeMap (List ℕ) HistoryContent) (added : List Addition) (told_so_far : List Told) : Type 0 where
-  pub seen : seen_in (history_at d) m ≡ history_at (with_all d (writings_in d added))
-  pub writes : writings_in d added ++ writes_in (outcomes terms new_edits (seen_in (history_at d) m) left) ≡ writes_in (outcomes terms new_edits (history_at d) all)
-  pub results : told_so_far ++ all_told left (outcomes terms new_edits (seen_in (history_at d) m) left) ≡ all_told all (outcomes terms new_edits (history_at d) all)
+  pub seen : (id : List ℕ) → is_named id left ≡ true → seen_in (history_at d) m id ≡ history_at (with_all d (writings_in d added)) id
+  pub writes : writings_in d added ++ writes_in (outcomes terms new_edits (history_at (with_all d (writings_in d added))) left) ≡ writes_in (outcomes terms new_edits (history_at d) all)
+  pub results : told_so_far ++ all_told left (outcomes terms new_edits (history_at (with_all d (writings_in d added))) left) ≡ all_told all (outcomes terms new_edits (history_at d) all)
 
 nothing_held : (stored : Histories) (m : BTreeMap (List ℕ) HistoryContent) → m.entries ≡ [] → seen_in stored m ≡ stored
 nothing_held stored m none = λ i id. at_id id i
@@ -112,12 +155,7 @@ nothing_held stored m none = λ i id. at_id id i
 
 begun_with : (terms : Terms) (new_edits : Bool) (d : Database) (all : List Value) (m : BTreeMap (List ℕ) HistoryContent) → m.entries ≡ [] → IsJudged terms new_edits d all all m [] []
 begun_with terms new_edits d all m none =
-    let same = nothing_held (history_at d) m none in
-    record {
-      seen = same;
-      writes = ap (λ (hs : Histories). writes_in (outcomes terms new_edits hs all)) same;
-      results = ap (λ (hs : Histories). all_told all (outcomes terms new_edits hs all)) same;
-    }
+    record { seen = λ id named. ap (λ (hs : Histories). hs id) (nothing_held (history_at d) m none); writes = refl; results = refl }
 
 pub begun : (terms : Terms) (new_edits : Bool) (d : Database) (all left : List Value) (m : BTreeMap (List ℕ) HistoryContent) (added : List Addition) (results : List Told)
     → m.entries ≡ [] → left ≡ all → added ≡ [] → results ≡ [] → IsJudged terms new_edits d all left m added results
@@ -144,35 +182,37 @@ with_outcome db (Ok None) = refl
 with_outcome db (Err fault) = refl
 
 -- one document more
-pub judged_next : (terms : Terms) (new_edits : Bool) (d : Database) (all documents left : List Value) (v : Value) (m l n : BTreeMap (List ℕ) HistoryContent) (writes more : List Addition) (results others : List Told) (t : Told)
-    → documents ≡ v ∷ left → IsJudged terms new_edits d all documents m writes results → seen_in (history_at d) l ≡ seen_in (history_at d) m
+pub judged_next : (terms : Terms) (new_edits again : Bool) (d : Database) (all documents left : List Value) (v : Value) (m l n : BTreeMap (List ℕ) HistoryContent) (writes more : List Addition) (results others : List Told) (t : Told)
+    → documents ≡ v ∷ left → IsJudged terms new_edits d all documents m writes results → seen_in (history_at d) l ≡ seen_in (history_at d) m → again ≡ is_named_if_any (member_text (codes "_id") v) left
     → ((stored : Histories) → result_told v (outcome_in terms new_edits (seen_in stored l) v) ≡ t)
-    → ((stored : Histories) → seen_in stored n ≡ after (seen_in stored l) (outcome_in terms new_edits (seen_in stored l) v))
-    → ((stored : Histories) (e : Database) → seen_in stored l ≡ history_at (with_all e (writings_in e writes))
+    → ((stored : Histories) (id : List ℕ) → IsKept again (id_in v) id → seen_in stored n id ≡ after (seen_in stored l) (outcome_in terms new_edits (seen_in stored l) v) id)
+    → ((stored : Histories) (e : Database) → AgreeAt (id_in v) (seen_in stored l) (history_at (with_all e (writings_in e writes)))
     → writings_in e more ≡ writings_in e writes ++ put_before (outcome_in terms new_edits (seen_in stored l) v) [])
     → others ≡ results ++ t ∷ [] → IsJudged terms new_edits d all left n more others
-judged_next terms new_edits d all documents left v m l n writes more results others t first so_far loaded is_told becomes written last =
-    let hs : Histories = seen_in (history_at d) l in
-    let o : DocumentOutcome = outcome_in terms new_edits hs v in
+judged_next terms new_edits again d all documents left v m l n writes more results others t first so_far loaded comes is_told becomes written last =
     let e : Database = with_all d (writings_in d writes) in
-    let seen : hs ≡ history_at e = loaded ∙ so_far.seen in
-    let one : writings_in d more ≡ writings_in d writes ++ put_before o [] = written (history_at d) d seen in
-    let now : seen_in (history_at d) n ≡ after hs o = becomes (history_at d) in
-    let os : List DocumentOutcome = outcomes terms new_edits (after hs o) left in
+    let hs : Histories = seen_in (history_at d) l in
+    let sees : (id : List ℕ) → is_named id documents ≡ true → hs id ≡ history_at e id = λ id named. ap (λ (x : Histories). x id) loaded ∙ so_far.seen id named in
+    let agree : AgreeAt (id_in v) hs (history_at e) = agree_at hs (history_at e) (id_in v) (λ id is. sees id (ap (is_named id) first ∙ first_named id v left is)) in
+    let o : DocumentOutcome = outcome_in terms new_edits (history_at e) v in
+    let same : outcome_in terms new_edits hs v ≡ o = outcome_agrees terms new_edits hs (history_at e) v (id_in v) agree in
+    let one : writings_in d more ≡ writings_in d writes ++ put_before o [] = written (history_at d) d agree ∙ ap (λ (x : DocumentOutcome). writings_in d writes ++ put_before x []) same in
+    let now : after (history_at e) o ≡ history_at (with_all d (writings_in d more)) =
+    after_is e o ∙ ap history_at (with_outcome e o ∙ sym (with_all-append d (writings_in d writes) (put_before o [])) ∙ ap (with_all d) (sym one)) in
+    let os : List DocumentOutcome = outcomes terms new_edits (after (history_at e) o) left in
     record {
-      seen = now ∙ ap (λ (x : Histories). after x o) seen ∙ after_is e o
-          ∙ ap history_at (with_outcome e o ∙ sym (with_all-append d (writings_in d writes) (put_before o [])) ∙ ap (with_all d) (sym one));
-      writes = ap (λ (x : Histories). writings_in d more ++ writes_in (outcomes terms new_edits x left)) now
+      seen = λ id named. becomes (history_at d) id (λ is. comes ∙ named_again id v left is named)
+          ∙ after_agrees hs (history_at e) (outcome_in terms new_edits hs v) id (sees id (ap (is_named id) first ∙ named_behind id v left named))
+          ∙ ap (λ (x : DocumentOutcome). after (history_at e) x id) same ∙ ap (λ (x : Histories). x id) now;
+      writes = ap (λ (x : Histories). writings_in d more ++ writes_in (outcomes terms new_edits x left)) (sym now)
           ∙ ap (λ ws. ws ++ writes_in os) one
           ∙ one_written (writings_in d writes) o (writes_in os)
-          ∙ ap (λ (x : Histories). writings_in d writes ++ writes_in (outcomes terms new_edits x (v ∷ left))) loaded
-          ∙ ap (λ vs. writings_in d writes ++ writes_in (outcomes terms new_edits (seen_in (history_at d) m) vs)) (sym first)
+          ∙ ap (λ vs. writings_in d writes ++ writes_in (outcomes terms new_edits (history_at e) vs)) (sym first)
           ∙ so_far.writes;
-      results = ap (λ (x : Histories). others ++ all_told left (outcomes terms new_edits x left)) now
+      results = ap (λ (x : Histories). others ++ all_told left (outcomes terms new_edits x left)) (sym now)
           ∙ ap (λ ts. ts ++ all_told left os) last
-          ∙ one_told results t v o left os (is_told (history_at d))
-          ∙ ap (λ (x : Histories). results ++ all_told (v ∷ left) (outcomes terms new_edits x (v ∷ left))) loaded
-          ∙ ap (λ vs. results ++ all_told vs (outcomes terms new_edits (seen_in (history_at d) m) vs)) (sym first)
+          ∙ one_told results t v o left os (ap (result_told v) (sym same) ∙ is_told (history_at d))
+          ∙ ap (λ vs. results ++ all_told vs (outcomes terms new_edits (history_at e) vs)) (sym first)
           ∙ so_far.results;
     }
 
@@ -180,9 +220,9 @@ judged_next terms new_edits d all documents left v m l n writes more results oth
 pub judged_writes : (terms : Terms) (new_edits : Bool) (d : Database) (all left : List Value) (m : BTreeMap (List ℕ) HistoryContent) (writes : List Addition) (results : List Told)
     → left ≡ [] → IsJudged terms new_edits d all left m writes results → writings_in d writes ≡ writes_in (outcomes terms new_edits (history_at d) all)
 judged_writes terms new_edits d all left m writes results none so_far =
-    sym (append-nil (writings_in d writes)) ∙ ap (λ vs. writings_in d writes ++ writes_in (outcomes terms new_edits (seen_in (history_at d) m) vs)) (sym none) ∙ so_far.writes
+    sym (append-nil (writings_in d writes)) ∙ ap (λ vs. writings_in d writes ++ writes_in (outcomes terms new_edits (history_at (with_all d (writings_in d writes))) vs)) (sym none) ∙ so_far.writes
 
 pub judged_results : (terms : Terms) (new_edits : Bool) (d : Database) (all left : List Value) (m : BTreeMap (List ℕ) HistoryContent) (writes : List Addition) (results : List Told)
     → left ≡ [] → IsJudged terms new_edits d all left m writes results → results ≡ all_told all (outcomes terms new_edits (history_at d) all)
 judged_results terms new_edits d all left m writes results none so_far =
-    sym (append-nil results) ∙ ap (λ vs. results ++ all_told vs (outcomes terms new_edits (seen_in (history_at d) m) vs)) (sym none) ∙ so_far.results
+    sym (append-nil results) ∙ ap (λ vs. results ++ all_told vs (outcomes terms new_edits (history_at (with_all d (writings_in d writes))) vs)) (sym none) ∙ so_far.results

@@ -10,6 +10,7 @@ pub mod Names
 pub mod Paths
 pub mod BulkLemmas
 pub mod Judgings
+pub mod Repetitions
 pub mod Plannings
 pub mod FollowedRules
 pub mod Settlings

@@ -55,6 +55,11 @@ abbrev pub IsHeld : BTreeMap (List ℕ) HistoryContent → Option (List ℕ) →
 IsHeld m None = ⊤
 IsHeld m (Some id) = is_some (get (slice_cmp nat_cmp) m id) ≡ true
 
+-- the histories are the same at the id of a document, where it has one
+abbrev pub AgreeAt : Option (List ℕ) → Histories → Histories → Type 0
+AgreeAt None histories others = ⊤
+AgreeAt (Some id) histories others = histories id ≡ others id
+
 -- the histories with this one for the id
 abbrev pub with_history : Histories → List ℕ → HistoryContent → Histories
 with_history histories id h = λ k. if bytes_eq id k then h else histories k

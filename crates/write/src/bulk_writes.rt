@@ -10,9 +10,10 @@ ghost use Rattle.store.specs.Database.{Database, history_at, with_all};
 ghost use Rattle.store.specs.Writing.{addition_of, additions, writings_in, written_in};
 ghost use Rattle.write.specs.Admission.{history_with};
 ghost use Rattle.write.specs.Bulk.{Histories, after, all_told, document_outcome, outcome_in, outcomes, put_before, result_told, writes_in};
-ghost use Rattle.write.specs.BulkResults.{IsHeld, IsOwnOutcome, brought, seen_in, told_of};
+ghost use Rattle.write.specs.BulkResults.{AgreeAt, IsHeld, IsOwnOutcome, brought, seen_in, told_of, with_history};
 ghost use Rattle.write.specs.Document.{id_in};
 ghost use Rattle.write.specs.Planning.{AreWrites, Plans};
+ghost use Rattle.write.specs.Repeats.{IsKept};
 ghost use Rattle.write.specs.Refusing.{IsDecided, IsOfStoreOrMemory, Refuses};
 ghost use Rattle.write.specs.Terms.{terms_in};
 ghost use Rattle.write.specs.TermsRead.{terms_of};
@@ -23,6 +24,7 @@ use crate::fault::WriteFault;
 use crate::histories::{load, put_history, take_history, take_in};
 use crate::planned::{Changes, DocumentResult, Outcome, Planned};
 use crate::planning::{read_label, tell_outcome, tell_result};
+use crate::repeats::{mark_repeats, take_mark};
 use crate::replicating::admit_replicated;
 use crate::terms::{Terms, read_terms};
 use auth::Caller;
@@ -86,44 +88,48 @@ fn judge_all<S: Store>(
     ensures passed { IfErr result (Refuses S.Store store.old store.new (map.get (S.contents store.old) db.now ≡ None) ⊥) }
     ensures reads { OnlyReads S.Store store.old store.new }
 {
+    let mut repeats = mark_repeats(alloc, &documents)?;
     let mut histories = BTreeMap::new(alloc);
-    let mut writes = Vec::new(alloc);
+    let mut writes = Vec::with_capacity(alloc, documents.len())?;
     let mut results = Vec::with_capacity(alloc, documents.len())?;
     for document in documents {
         load(alloc, store, db, &document, &mut histories)?;
+        let again = take_mark(&mut repeats);
         results.push(judge_one(
             alloc,
             terms,
             &mut histories,
             &mut writes,
             new_edits,
+            again,
             document,
         )?)?;
     }
     Ok((writes, results))
 }
 
-/// Judges a document by the histories, which take in its write, and puts that at the end of the
-/// writes, if it is appended.
+/// Judges a document by the histories, and puts its write at the end of the writes, if it is
+/// appended. Where its id comes again its history takes in the write, else it is dropped.
 fn judge_one(
     alloc: Global,
     terms: &Terms,
     histories: &mut BTreeMap<DocId, History>,
     writes: &mut Vec<Write>,
     new_edits: bool,
+    again: bool,
     document: Json,
 ) -> Got<DocumentResult>
     requires { IsHeld histories.old (id_in (view document)) }
     ensures told { IfOk result (λ r. (stored : Histories) → result_told (view document) (outcome_in (terms_of terms.now) new_edits (seen_in stored histories.old) (view document)) ≡ told_of r) }
     ensures own { IfOk result (λ r. IsOwnOutcome r.outcome) }
-    ensures histories { OnOk result ((stored : Histories) → seen_in stored histories.new
-        ≡ after (seen_in stored histories.old) (outcome_in (terms_of terms.now) new_edits (seen_in stored histories.old) (view document))) }
-    ensures writes { OnOk result ((stored : Histories) (d : Database) → seen_in stored histories.old ≡ history_at (with_all d (writings_in d (additions writes.old.items)))
+    ensures histories { OnOk result ((stored : Histories) (id : _) → IsKept again (id_in (view document)) id → seen_in stored histories.new id
+        ≡ after (seen_in stored histories.old) (outcome_in (terms_of terms.now) new_edits (seen_in stored histories.old) (view document)) id) }
+    ensures writes { OnOk result ((stored : Histories) (d : Database) → AgreeAt (id_in (view document)) (seen_in stored histories.old) (history_at (with_all d (writings_in d (additions writes.old.items))))
         → writings_in d (additions writes.new.items)
         ≡ writings_in d (additions writes.old.items) ++ put_before (outcome_in (terms_of terms.now) new_edits (seen_in stored histories.old) (view document)) []) }
 {
     let label = read_label(alloc, &document)?;
-    match settle(alloc, terms, histories, new_edits, document) {
+    match settle(alloc, terms, histories, new_edits, again, document) {
         Ok(write) => {
             let outcome = tell_outcome(&write);
             append(writes, write)?;
@@ -164,28 +170,56 @@ fn append(writes: &mut Vec<Write>, write: Option<Write>) -> Got<()>
     Ok(())
 }
 
-/// Judges a document by its history, which takes in its write.
+/// Judges a document by its history. Where its id comes again this takes in the write, else it is
+/// dropped.
 fn settle(
     alloc: Global,
     terms: &Terms,
     histories: &mut BTreeMap<DocId, History>,
     new_edits: bool,
+    again: bool,
     document: Json,
 ) -> Result<Option<Write>, WriteFault>
     requires { IsHeld histories.old (id_in (view document)) }
     ensures ok { IfOk result (λ write. (stored : Histories) → outcome_in (terms_of terms.now) new_edits (seen_in stored histories.old) (view document)
         ≡ Ok (option_map (brought (seen_in stored histories.old)) write)) }
     ensures headed { IfOk result (λ write. IfSome write (λ w. 0 < length w.path.items)) }
-    ensures histories { IfOk result (λ write. (stored : Histories) → seen_in stored histories.new
-        ≡ after (seen_in stored histories.old) (Ok (option_map (brought (seen_in stored histories.old)) write))) }
+    ensures histories { IfOk result (λ write. (stored : Histories) (id : _) → IsKept again (id_in (view document)) id → seen_in stored histories.new id
+        ≡ after (seen_in stored histories.old) (Ok (option_map (brought (seen_in stored histories.old)) write)) id) }
     ensures fault { IfErr result (λ fault. fault ≢ WriteFault.Memory → (stored : Histories) → outcome_in (terms_of terms.now) new_edits (seen_in stored histories.old) (view document) ≡ Err fault) }
-    ensures same { IfErr result (λ fault. fault ≢ WriteFault.Memory → (stored : Histories) → seen_in stored histories.new ≡ seen_in stored histories.old) }
+    ensures same { IfErr result (λ fault. fault ≢ WriteFault.Memory → (stored : Histories) (id : _) → IsKept again (id_in (view document)) id → seen_in stored histories.new id ≡ seen_in stored histories.old id) }
     ensures others { IfErr result (λ fault. (cause : _) → fault ≢ WriteFault.Store cause) }
 {
     let Some(id) = read_id(alloc, &document)? else {
         return Err(WriteFault::BadDocument);
     };
-    let mut history = take_history(histories, &id);
+    let history = take_history(histories, &id);
+    if again {
+        judge_and_keep(alloc, terms, histories, id, history, new_edits, document)
+    } else {
+        judge(alloc, terms, &history, &id, new_edits, document)
+    }
+}
+
+/// Judges a document by this history, which takes in its write and is put in.
+fn judge_and_keep(
+    alloc: Global,
+    terms: &Terms,
+    histories: &mut BTreeMap<DocId, History>,
+    id: DocId,
+    history: History,
+    new_edits: bool,
+    document: Json,
+) -> Result<Option<Write>, WriteFault>
+    ensures ok { IfOk result (λ write. document_outcome (terms_of terms.now) new_edits id history (view document) ≡ Ok (option_map (λ w. written_in history (addition_of w)) write)) }
+    ensures headed { IfOk result (λ write. IfSome write (λ w. 0 < length w.path.items)) }
+    ensures kept { IfOk result (λ write. (stored : Histories) → seen_in stored histories.new
+        ≡ with_history (seen_in stored histories.old) id (history_with history (option_map (λ w. written_in history (addition_of w)) write))) }
+    ensures fault { IfErr result (λ fault. fault ≢ WriteFault.Memory → document_outcome (terms_of terms.now) new_edits id history (view document) ≡ Err fault) }
+    ensures same { IfErr result (λ fault. fault ≢ WriteFault.Memory → (stored : Histories) → seen_in stored histories.new ≡ with_history (seen_in stored histories.old) id history) }
+    ensures others { IfErr result (λ fault. (cause : _) → fault ≢ WriteFault.Store cause) }
+{
+    let mut history = history;
     let outcome = judge_in(alloc, terms, &mut history, &id, new_edits, document);
     put_history(histories, id, history)?;
     outcome

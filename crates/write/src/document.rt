@@ -56,7 +56,7 @@ fn read_words(id: &DocId, document: &Json) -> Option<(Option<Rev>, bool)>
 fn read_body(alloc: Global, id: &DocId, document: Json) -> Got<Option<Json>>
     ensures { IfOk result (λ body. option_map view body ≡ body_for id.now (view document)) }
 {
-    let Some(body) = strip(document) else {
+    let Some(body) = strip(alloc, document) else {
         return Ok(None);
     };
     if suits(alloc, id, &body)? {
@@ -79,7 +79,7 @@ fn suits(alloc: Global, id: &DocId, body: &Json) -> Got<bool>
 
 /// Strips a document of its special members; `None` where it is no object, has special members that
 /// no document has, or nests too deep.
-fn strip(document: Json) -> Option<Json>
+fn strip(alloc: Global, document: Json) -> Option<Json>
     ensures { option_map view result ≡ body_in (view document) }
 {
     let Json::Object(members) = document else {
@@ -88,7 +88,7 @@ fn strip(document: Json) -> Option<Json>
     if !are_allowed(&members) {
         return None;
     }
-    let body = Json::Object(without_special(members));
+    let body = Json::Object(without_special(alloc, members));
     if !body.nests_within(MAX_BODY_DEPTH) {
         return None;
     }
@@ -126,12 +126,27 @@ fn is_document_member(name: &str) -> bool
 }
 
 /// Returns the members that are not special.
-pub(crate) fn without_special(members: BTreeMap<String, Json>) -> BTreeMap<String, Json>
+pub(crate) fn without_special(
+    alloc: Global,
+    members: BTreeMap<String, Json>,
+) -> BTreeMap<String, Json>
     ensures { members_view result.entries ≡ without_special (members_view members.entries) }
 {
     let mut members = members;
     members.retain(|name, _value| !is_special(name));
-    members
+    without_room(alloc, members)
+}
+
+/// Returns the same members. Where there are none they take no memory: a map keeps its room when the
+/// last member goes.
+fn without_room(alloc: Global, members: BTreeMap<String, Json>) -> BTreeMap<String, Json>
+    ensures { result.entries ≡ members.entries }
+{
+    if members.is_empty() {
+        BTreeMap::new(alloc)
+    } else {
+        members
+    }
 }
 
 /// Tells whether `_id`, where it is given, is the text of the id.

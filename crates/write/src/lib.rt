@@ -26,6 +26,7 @@ pub mod laws;
 mod local_writes;
 mod planned;
 mod planning;
+mod repeats;
 mod replicating;
 mod securing;
 mod terms;

@@ -77,7 +77,7 @@ fn plan_local(
     let Some(names) = names_stored(alloc, &stored, id, &document)? else {
         return Err(WriteFault::BadDocument);
     };
-    let Some(body) = strip_local(document) else {
+    let Some(body) = strip_local(alloc, document) else {
         return Err(WriteFault::BadDocument);
     };
     if !names {
@@ -126,7 +126,7 @@ fn is_revision(alloc: Global, stored: &Option<LocalDocument>, rev: &str) -> Got<
 
 /// Strips a local document of its special members; `None` where it is no object, has special members
 /// that no local document has, or nests too deep.
-fn strip_local(document: Json) -> Option<Json>
+fn strip_local(alloc: Global, document: Json) -> Option<Json>
     ensures { option_map view result ≡ local_body (view document) }
 {
     let Json::Object(members) = document else {
@@ -135,7 +135,7 @@ fn strip_local(document: Json) -> Option<Json>
     if !are_local_allowed(&members) {
         return None;
     }
-    let body = Json::Object(without_special(members));
+    let body = Json::Object(without_special(alloc, members));
     if !body.nests_within(MAX_BODY_DEPTH) {
         return None;
     }

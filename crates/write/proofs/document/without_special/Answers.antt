@@ -6,5 +6,5 @@ use Rattle.write.proofs.document.without_special.Goals as goal
 
 pub returns : goal.returns
 returns c =
-    ap members_view (filter_same_pairs _ is_plain _ (λ k v b w f' t. search rules) _ _ c.retain.ensures.filtered)
+    ap members_view (c.without_room.ensures ∙ filter_same_pairs _ is_plain _ (λ k v b w f' t. search rules) _ _ c.retain.ensures.filtered)
     ∙ members_view-filter c.args.members.entries
