@@ -1,8 +1,8 @@
 -- The rows of a list of documents: that they are intact, and what pages they make.
 use Rattle.sqlstore.proofs.Common.{All, AllByRecursion, Bool, Coded, Coded-set, HistoryContent, IdRow, IndexPlace, IsDatabaseRow, IsDocumentRow, IsLaid, IsListedDocument, IsSequenceRow, List, None, Option, Ordering, Revision, Row, SeqRange, SeqRow, SequenceRow, Some, Trees, [], all-filter, all_both, all_map, any_is_found, ap, arith, by_sequence, code_by, coded_bool, coded_list, coded_option, coded_ℕ, coded×, cond, db_of, dbs_tree, docs_tree, drop, drop_all, false, filter, get_or, get_or-map, has_number, is_in, is_some, last_sequence, later_rows, leaves_row, length, length-map, listed_by_sequence, listed_document, map, map-map, nat_lt, page_with_leaves, place_code, refl, revision_code, revs_tree, sequence_of, sequence_page, sequence_row, sort_by, sym, true, up_to_limit, with_leaves, ℕ, ℤ, ◌++◌, ◌+◌, ◌<◌, ◌^◌, ◌∙◌, ◌∷◌, ◌≡◌, ◌≤◌}
 use Rattle.std.proofs.lemmas.List.{append_assoc, append-nil, take-map}
-use Rattle.store.specs.contracts.page.DocumentCounts as document_counts
-use Rattle.store.specs.contracts.page.IdRow as id_row
+use Rattle.store.specs.contracts.listing.DocumentCounts as document_counts
+use Rattle.store.specs.contracts.listing.IdRow as id_row
 use Rattle.store.specs.declared.listing.DocumentCounts.{DocumentCounts}
 use Rattle.store.specs.declared.listing.RowCounts.{RowCounts}
 use Rattle.tables.proofs.ListingRows.{rows_of_a_listing}
