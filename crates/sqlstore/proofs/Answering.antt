@@ -1,5 +1,5 @@
 -- What a reader of a store answers, from what it read, and what it leaves.
-use Rattle.sqlstore.proofs.Common.{AllByRecursion, Answers, Bool, Damaged, DatabaseNumbers, Err, FoundValues, Ghosts, IsDatabaseRow, IsLaid, IsRead, IsShownDatabase, IsShownLocal, IsStanding, IsTrue, KnownDatabase, List, Memory, NoDatabase, None, NumberValues, Ok, OnlyReads, Option, Result, Row, Some, SqlStore, Stands, StoreFault, Trees, WasStore, [], all-filter, all-slice_get, all_map, ap, arith, contents_in, contents_of, database_of, dbs_tree, false, filter, found_in, found_shown, get, inl, inr, is_honest, is_named, is_of, is_security, known_values, length, local_at, local_of, local_shown, locals_tree, map, next_number, numbers_in, option_map, refl, shown_database, shown_local, slice_get, state, subst, sym, trees_of, ℕ, ∥∥₁_elim, ∥∥₁_map, ◌+◌, ◌<◌, ◌^◌, ◌∙◌, ◌∷◌, ◌≡◌, ◌≤◌}
+use Rattle.sqlstore.proofs.Common.{AllByRecursion, Answers, Bool, Damaged, DatabaseNumbers, Err, FoundValues, Ghosts, IsDatabaseRow, IsKnown, IsLaid, IsRead, IsShownDatabase, IsShownLocal, IsStanding, IsTrue, KnownDatabase, List, Memory, NoDatabase, None, NumberValues, Ok, OnlyReads, Option, Result, Row, Some, SqlStore, Stands, StoreFault, Trees, WasStore, [], all-filter, all-slice_get, all_map, ap, arith, contents_in, contents_of, database_of, dbs_tree, false, filter, found_in, found_shown, get, inl, inr, is_honest, is_named, is_of, is_security, length, local_at, local_of, local_shown, locals_tree, map, next_number, numbers_in, option_map, refl, shown_database, shown_local, slice_get, state, subst, sym, trees_of, ℕ, ∥∥₁_elim, ∥∥₁_map, ◌+◌, ◌<◌, ◌^◌, ◌∙◌, ◌∷◌, ◌≡◌, ◌≤◌}
 use Rattle.store.specs.Causes.{HasFailed}
 use Rattle.store.specs.Database.{Database}
 use Rattle.sqlite_sql.specs.Ops.{fits_i64}
@@ -132,11 +132,10 @@ missing g old new name r fault h is told honest =
     absent numbers_in (trees_of g old) name (told_none g old new {X = DatabaseNumbers} (λ d. (d.number, d.sequence)) _ fault (cc) h honest)
 
 -- what was found of a database may be known of it
-pub known_so : {S : Type 0} (g : Ghosts S) (old new : SqlStore S g) (name : List ℕ) (known : KnownDatabase) → Stands g old new → known.name ≡ name
-    → (is_honest g new → option_map found_in (slice_get (filter (is_named name) (trees_of g old dbs_tree)) 0) ≡ Some (known_values known)) → IsStanding g new.conn new.origin.value new.last.value (Some known)
-known_so g old new name known s named found = record {
+pub known_so : {S : Type 0} (g : Ghosts S) (old new : SqlStore S g) (known : Option KnownDatabase) → Stands g old new → (is_honest g new → ∥ IsKnown (trees_of g old) known ∥₁) → IsStanding g new.conn new.origin.value new.last.value known
+known_so g old new known s found = record {
   idle = new.standing.idle;
   unlimited = new.standing.unlimited;
   held = new.standing.held;
-  known_so = λ clean was. ∣ (λ i. option_map found_in (slice_get (filter (is_named (named i)) ((state g (s.last i)).now.trees dbs_tree)) 0)) ∙ found (clean, was) ∣₁;
+  known_so = λ clean was. subst (λ h. ∥ IsKnown (state g h).now.trees known ∥₁) (sym s.last) (found (clean, was));
 }

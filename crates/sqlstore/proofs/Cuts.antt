@@ -1,6 +1,7 @@
 -- Parts of a list, by a limit and by how many are left out.
-use Rattle.sqlstore.proofs.Common.{AllByRecursion, Bool, IsLimitFor, List, None, Option, Row, Some, [], ap, arith, count_by, drop, first_rows, inl, inr, inside, length, map, negsuc, pos, refl, suc, sym, take, take-map, up_to_limit, zero, ℕ, ℤ, ◌∙◌, ◌∷◌, ◌≡◌, ◌≤◌}
+use Rattle.sqlstore.proofs.Common.{AllByRecursion, Bool, IsLimitFor, List, None, Option, Row, Some, [], ap, arith, count_by, drop, false, first_rows, inl, inr, inside, length, map, negsuc, pos, refl, suc, sym, take, take-map, up_to_limit, zero, ℕ, ℤ, ◌∙◌, ◌∷◌, ◌≡◌, ◌≤◌}
 use Rattle.std.proofs.lemmas.List.Sums.{length-filter}
+use Rattle.sqlite_keyed.proofs.ListLemmas.{all_of, filter_none}
 use Rattle.sqlite_trees.proofs.ListLemmas.{filter_same}
 use Rattle.index.proofs.PagePlaces.{all_taken}
 
@@ -24,6 +25,9 @@ limited {A} (Some n) most xs (inr own) = let same : pos n ≡ most = inside (pos
 
 pub count_same : {A : Type 0} (f g : A → Bool) (xs : List A) → AllByRecursion (λ x. f x ≡ g x) xs → count_by f xs ≡ count_by g xs
 count_same f g xs all = sym (length-filter f xs) ∙ ap length (filter_same f g xs all) ∙ length-filter g xs
+
+pub count_none : {A : Type 0} (f : A → Bool) → ((x : A) → f x ≡ false) → (xs : List A) → count_by f xs ≡ 0
+count_none f none xs = sym (length-filter f xs) ∙ ap length (filter_none f xs (all_of (λ x. f x ≡ false) none xs))
 
 pub nothing_left : {A : Type 0} (n : ℕ) (xs : List A) → length xs ≤ n → drop n xs ≡ []
 nothing_left n [] le = nothing n

@@ -1,5 +1,5 @@
 -- The rows of a page by id are those that the rows of documents between two bounds show.
-use Rattle.sqlstore.proofs.Common.{AllByRecursion, Bool, IdRow, IsLaid, IsListedDocument, List, None, Option, Ordering, Revision, Row, Some, Trees, [], all-filter, all_both, all_weaker, and_parts, ap, ap₂, arith, by_id, by_sequence, cond, count_by, docs_tree, drop, false, filter, first_rows, id_of, if_counted, in_direction, is_in, length, length-map, listed_by_id, listed_by_sequence, listed_counts, listed_document, listed_id, listed_mark, listed_winner, live_row, live_rows, map, nat_cmp, nat_list_cmp_total, not, on_total, option_map, pos, refl, row_counts, rows_within, sequence_of, slice_cmp, sort_by, subst, sym, true, up_to_limit, ℕ, ℤ, ◌&&◌, ◌++◌, ◌+◌, ◌<◌, ◌^◌, ◌∙◌, ◌∷◌, ◌≡◌, ◌≤◌, ◌||◌}
+use Rattle.sqlstore.proofs.Common.{AllByRecursion, Bool, IdRow, IsLaid, IsListedDocument, List, None, Option, Ordering, Revision, Row, Some, Trees, [], all-filter, all_both, all_weaker, and_parts, ap, ap₂, arith, by_id, by_sequence, cond, count_by, docs_tree, drop, false, filter, first_rows, id_of, if_counted, in_direction, is_in, length, length-map, listed_by_id, listed_by_sequence, listed_document, listed_id, listed_mark, listed_winner, live_row, live_rows, map, nat_cmp, nat_list_cmp_total, not, on_total, option_map, pos, refl, row_counts, rows_within, sequence_of, slice_cmp, sort_by, subst, sym, true, up_to_limit, ℕ, ℤ, ◌&&◌, ◌++◌, ◌+◌, ◌<◌, ◌^◌, ◌∙◌, ◌∷◌, ◌≡◌, ◌≤◌, ◌||◌}
 use Rattle.std.proofs.Common.{min, reverse}
 use Rattle.std.proofs.lemmas.Bool.{not-true}
 use Rattle.std.proofs.lemmas.Cmp.{nat_cmp_total}
@@ -31,9 +31,10 @@ use Rattle.tables.specs.Listings.{SpellsId, by_id_in, has_mark, is_between, is_m
 use Rattle.tables.specs.Shown.{SpellsRevision}
 use Rattle.index.proofs.PagePlaces.{all_dropped}
 use Rattle.index.proofs.Spots.{at_in, each_in, from_directed}
-use Rattle.sqlstore.proofs.Cuts.{count_same, first_all, first_map, limited, none_limited, nothing_left}
+use Rattle.sqlstore.proofs.Cuts.{count_none, count_same, first_all, first_map, limited, none_limited, nothing_left}
 use Rattle.sqlstore.proofs.ListedRows.{listed_intact}
 use Rattle.sqlstore.proofs.TextBounds.{above_texts, at_most, behind, below, none_below}
+use Rattle.sqlstore.specs.Listing.{all_count}
 use Rattle.sqlstore.specs.ById.{IsHighIdBound, IsLiveRangeOf, IsLowIdBound, is_at_least, lies_above}
 
 -- ---- bounds of a range
@@ -339,10 +340,14 @@ module _ (trees : Trees) (db : ℤ) (l : IsLaid trees) where
         ap (λ b. if_counted b (row_counts range rows)) asked
         ∙ (λ i. Some (record { offset = (ap (λ n. n + min range.skip (length (rows_within range rows))) first ∙ ap (λ n. before + n) left ∙ sym is_offset) i; total = (totals ∙ sym is_total) i }))
 
+  -- without a start no row is before it
+  pub none_before : (range : IdRange) → range.start ≡ None → count_by (λ (r : IdRow). is_before_start range r.id) (live_rows (listed_by_id trees db)) ≡ 0
+  none_before range none = count_none (λ (r : IdRow). is_before_start range r.id) (λ r. ap (λ o. is_before_start_of range.descending o r.id) none) (live_rows (listed_by_id trees db))
+
   -- ---- all documents, by sequence
 
-  marks_counted : (deleted : Bool) → marked_count db deleted [] (255 ∷ []) docs ≡ count_by (λ s. has_mark deleted (listed_mark s)) (listed_by_sequence trees db)
-  marks_counted deleted =
+  pub all_counted : (deleted : Bool) → marked_count db deleted [] (255 ∷ []) docs ≡ all_count trees db deleted
+  all_counted deleted =
       counted by_sequence (on_total sequence_of nat_cmp_total) (passes deleted [] (255 ∷ []))
       ∙ count_same (passes deleted [] (255 ∷ [])) (λ s. has_mark deleted (listed_mark s)) (listed_by_sequence trees db)
       (all_weaker IsListedDocument (λ s. passes deleted [] (255 ∷ []) s ≡ has_mark deleted (listed_mark s))
@@ -351,10 +356,3 @@ module _ (trees : Trees) (db : ℤ) (l : IsLaid trees) where
       alone : (b : Bool) → (b && true) ≡ b
       alone true = refl
       alone false = refl
-
-  pub documents_counted : (documents deleted : ℕ) → marked_count db false [] (255 ∷ []) docs ≡ documents → marked_count db true [] (255 ∷ []) docs ≡ deleted
-      → listed_counts (listed_by_sequence trees db) ≡ record { documents = documents; deleted = deleted }
-  documents_counted documents deleted live gone =
-      let a = sym (marks_counted false) ∙ live in
-      let b = sym (marks_counted true) ∙ gone in
-      λ i. record { documents = a i; deleted = b i }

@@ -15,5 +15,6 @@ pub mod KeyEntries
 pub mod Afterwards
 pub mod LeafRows
 mod OpenedAgain
+pub mod KnownCounts
 pub mod Making
 pub mod Lemmas

@@ -1,5 +1,6 @@
 -- What each change makes of the tables, whose rows are those that the last change left.
-use Rattle.sqlstore.proofs.Common.{Addition, AreDue, Changes, Clears, Database, HasNumber, HasWritten, IfSome, IsBody, IsKnown, IsLawful, IsTrue, KnownDatabase, List, LocalDocument, None, Option, Replaces, Some, Trees, ap, ap₂, at_sequence, canonical, closed_security, contents_in, database_cells, database_of, dbs_tree, filter, found_in, get, insert, inside, is_database_name, is_document_id, is_named, is_security, known_values, length, length_of, new_database, option_map, pos, remove, rows_with_security, slice_get, subst, sym, with_all, with_cells, with_local, with_security, writings_in, ℕ, ℤ, ◌+◌, ◌<◌, ◌^◌, ◌∙◌, ◌≡◌}
+use Rattle.sqlstore.proofs.KnownCounts.{uncounted}
+use Rattle.sqlstore.proofs.Common.{Addition, AreDue, Changes, Clears, Database, HasNumber, HasWritten, IfSome, IsBody, IsKnown, IsLawful, IsTrue, KnownDatabase, List, LocalDocument, None, Option, Replaces, Some, Trees, ap, ap₂, at_sequence, canonical, closed_security, contents_in, database_cells, database_of, dbs_tree, filter, found_in, get, insert, inside, is_database_name, is_document_id, is_named, is_security, known_values, length, length_of, new_database, option_map, pos, refl, remove, rows_with_security, slice_get, subst, sym, with_all, with_cells, with_local, with_security, writings_in, ℕ, ℤ, ◌+◌, ◌<◌, ◌^◌, ◌∙◌, ◌≡◌}
 use Rattle.couch_json.specs.Value.{Value}
 use Rattle.tables.proofs.Lookups.{database_there}
 use Rattle.tables.proofs.LocalChanges.{written_store}
@@ -86,11 +87,13 @@ module _ (new : Database) (name : List ℕ) where
         let here = subst (AreDue all name number sequence) (sym same) due in
         let w = (writes here).0 in
         let known_row : Some (found_in here.row) ≡ Some (known_values k) =
-        ap (option_map found_in) (sym here.first) ∙ ap₂ (λ (t : Trees) n. option_map found_in (slice_get (filter (is_named n) (t dbs_tree)) 0)) same (sym named) ∙ known in
+        ap (option_map found_in) (sym here.first) ∙ ap₂ (λ (t : Trees) n. option_map found_in (slice_get (filter (is_named n) (t dbs_tree)) 0)) same (sym named) ∙ known.row in
         let values : found_in here.row ≡ known_values k = inside _ _ known_row in
         let count : length_of here.row + length (writings_in (database_of old.trees here.row) all) ≡ sequence + length all = ap₂ ◌+◌ here.counted (length-writings_in (database_of old.trees here.row) all) in
-        ap (λ n. option_map found_in (slice_get (filter (is_named n) (new.trees dbs_tree)) 0)) named ∙ ap (option_map found_in) w.row
-        ∙ (λ i. Some ((values i).0, (values i).1, count i))
+        record {
+          row = ap (λ n. option_map found_in (slice_get (filter (is_named n) (new.trees dbs_tree)) 0)) named ∙ ap (option_map found_in) w.row ∙ (λ i. Some ((values i).0, (values i).1, count i));
+          counts = uncounted new.trees (at_sequence (sequence + length all) k) refl refl;
+        }
 
 -- what is known after it, of what was known before
 pub known_after : (trees : Trees) (known : Option KnownDatabase) (name : List ℕ) (sequence : ℕ) (r : Option KnownDatabase)

@@ -1,14 +1,14 @@
 -- The parts of a page that are made of the rows of a list, of histories and of what is counted.
 -- This server's own: pages are those of `store`, rows are read by the words of `tables`.
-use Rattle.std.specs.Prelude.{◌≡◌, ◌<◌, ◌^◌, ◌⊎◌, ℕ, ℤ, pos, negsuc, Option, Some, option_map, List, filter, map}
-use Rattle.std.specs.List.{AllByRecursion}
+use Rattle.std.specs.Prelude.{◌≡◌, ◌<◌, ◌^◌, ◌⊎◌, ℕ, ℤ, Bool, pos, negsuc, Option, Some, option_map, List, filter, map}
+use Rattle.std.specs.List.{AllByRecursion, count_by}
 use Rattle.tree.specs.History.{HistoryContent, leaves}
 use Rattle.store.specs.Pages.{SequencePage, SequenceRow, if_counted, later_rows, sequence_page}
 use Rattle.store.specs.declared.listing.SeqRange.{SeqRange}
 use Rattle.sqlite_value.specs.Order.{Row}
 use Rattle.sqlite_trees.specs.Tree.{Trees}
 use Rattle.sqlite_keyed.specs.Lists.{sort_by}
-use Rattle.tables.specs.Listings.{IsListedDocument, listed_counts, listed_sequence, sequence_row}
+use Rattle.tables.specs.Listings.{IsListedDocument, has_mark, listed_counts, listed_mark, listed_sequence, sequence_row}
 use Rattle.tables.specs.Rows.{by_id, by_sequence, is_in, listed_document}
 use Rattle.tables.specs.Schema.{docs_tree}
 
@@ -19,6 +19,10 @@ listed_by_id trees db = map listed_document (sort_by by_id (filter (is_in db) (t
 -- and by sequence
 abbrev pub listed_by_sequence : Trees → ℤ → List Row
 listed_by_sequence trees db = map listed_document (sort_by by_sequence (filter (is_in db) (trees docs_tree)))
+
+-- how many documents of a database have a winner that is deleted, or is not, as it is asked for
+abbrev pub all_count : Trees → ℤ → Bool → ℕ
+all_count trees db deleted = count_by (λ s. has_mark deleted (listed_mark s)) (listed_by_sequence trees db)
 
 -- the page by sequence of such rows, with winners alone
 abbrev pub winners_page : SeqRange → ℕ → List Row → SequencePage

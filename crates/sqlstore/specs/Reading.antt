@@ -1,6 +1,6 @@
 -- What the rows of databases and names say, and when they are intact.
 -- This server's own: rows are read by the words of `tables`.
-use Rattle.std.specs.Prelude.{◌≡◌, ℕ, ◌-◌, ℤ, IsTrue, List, length, filter, slice_get, Some}
+use Rattle.std.specs.Prelude.{◌≡◌, ℕ, ◌-◌, ℤ, Bool, if◌then◌else◌, IsTrue, List, length, filter, slice_get, Option, None, Some}
 use Rattle.couch_json.specs.Value as json
 use Rattle.couch_json.specs.View.{view}
 use Rattle.store.specs.DatabaseName.{is_database_name}
@@ -11,6 +11,7 @@ use Rattle.sqlite_trees.specs.Tree.{Trees}
 use Rattle.tables.specs.Schema.{dbs_tree}
 use Rattle.tables.specs.Shown.{revision_shown}
 use Rattle.tree.specs.Revision.{Revision}
+use Rattle.sqlstore.specs.declared.document_count.DocumentCount.{DocumentCount}
 use Rattle.sqlstore.specs.declared.known_database.KnownDatabase.{KnownDatabase}
 
 -- the number, the security object and the sequence of a database
@@ -32,9 +33,17 @@ numbers_in r = (number_of r, length_of r)
 abbrev pub known_values : KnownDatabase → FoundValues
 known_values k = (k.found.number, view k.found.security, k.found.sequence)
 
--- the same, with this sequence
+-- what is known after documents were written: the same, with this sequence, and no count
 abbrev pub at_sequence : ℕ → KnownDatabase → KnownDatabase
-at_sequence sequence k = record k { found = record k.found { sequence = sequence } }
+at_sequence sequence k = record k { found = record k.found { sequence = sequence }; live = None; deleted = None }
+
+-- the count of the documents whose winner is marked so
+abbrev pub count_kept : Bool → KnownDatabase → Option DocumentCount
+count_kept deleted k = if deleted then k.deleted else k.live
+
+-- the same database, with this count
+abbrev pub with_count : Bool → DocumentCount → KnownDatabase → KnownDatabase
+with_count deleted count k = if deleted then record k { deleted = Some count } else record k { live = Some count }
 
 -- of what a query shows of its row
 abbrev pub found_shown : Row → FoundValues

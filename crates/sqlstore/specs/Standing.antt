@@ -1,6 +1,6 @@
 -- What a store keeps true of its connection: as the store opened it, as the last change left it, and as it is.
 -- This server's own: facts hold where the disk returned what was written, and where the tables were laid out and the rows of indexes sound when they were opened.
-use Rattle.std.specs.Prelude.{◌≡◌, false, filter, None, Option, option_map, slice_get, Some, IsTrue, ⊤}
+use Rattle.std.specs.Prelude.{◌≡◌, Bool, false, filter, IfSome, None, Option, option_map, slice_get, Some, IsTrue, ⊤}
 use Rattle.sqlite_trees.specs.declared.store.Store.{Ghosts}
 use Rattle.sqlite.specs.Held.{Held, state}
 use Rattle.sqlite.specs.State.{HasCleanDisk}
@@ -10,13 +10,19 @@ use Rattle.tables.specs.Rows.{is_named}
 use Rattle.tables.specs.Schema.{dbs_tree}
 use Rattle.index.specs.Indexed.{IsIndexed}
 use Rattle.transactions.specs.Indexing.{IsIndexedStore}
-use Rattle.sqlstore.specs.Reading.{found_in, known_values}
+use Rattle.sqlstore.specs.Listing.{all_count}
+use Rattle.sqlstore.specs.Reading.{count_kept, found_in, known_values}
 use Rattle.sqlstore.specs.declared.known_database.KnownDatabase.{KnownDatabase}
 
--- what is known of a database is what its row says
+-- what is known of a database is what its row says, and each count that is known is that of its documents
+pub record IsKnownDatabase (trees : Trees) (k : KnownDatabase) : Type 0 where
+  pub row : option_map found_in (slice_get (filter (is_named k.name) (trees dbs_tree)) 0) ≡ Some (known_values k)
+  pub counts : (deleted : Bool) → IfSome (count_kept deleted k) (λ c. c.value ≡ all_count trees k.found.number deleted)
+
+-- the same, where something is known
 abbrev pub IsKnown : Trees → Option KnownDatabase → Type 0
 IsKnown trees None = ⊤
-IsKnown trees (Some k) = option_map found_in (slice_get (filter (is_named k.name) (trees dbs_tree)) 0) ≡ Some (known_values k)
+IsKnown trees (Some k) = IsKnownDatabase trees k
 
 module _ {S : Type 0} (g : Ghosts S) where
   -- The tables are laid out as the last change left them, and the rows of indexes are those of what is stored. An open connection has

@@ -2,6 +2,7 @@
 #![tactic(auto)]
 
 mod database_names;
+mod document_count;
 mod fault;
 mod first_rows;
 mod id_bounds;

@@ -6,6 +6,7 @@ mod by_sequence;
 mod calls;
 mod changing;
 mod committing;
+mod counting;
 mod find;
 mod listing_rows;
 mod one_document;

@@ -1,12 +1,11 @@
 //! The pages by id, which the rows of documents between two bounds list.
 
-use crate::fault::{judge_answer, judge_index};
+use crate::fault::judge_answer;
 use crate::id_bounds::{above_all_ids, high_id_bound, low_id_bound};
 use crate::listings::read_id_rows;
 use crate::sql_store::SqlStore;
 use crate::sql_store::by_key::counts_of;
 use crate::sql_store::page_rows::limit_of;
-use index::read_count;
 use sqlite::{Alter, Row};
 use std::cmp::min;
 use store::{IdRange, IdRow, PageById, RowCounts, StoreFault};
@@ -14,11 +13,11 @@ use tables::documents;
 use transactions::integer_of;
 
 impl<S: Alter> SqlStore<S> {
-    ghost use Rattle.std.specs.Prelude.{◌≡◌, ◌∷◌, ◌<◌, ◌≤◌, ◌^◌, ◌-◌, [], IfOk, IfSome, Some, drop, false, is_some, length, min, true};
+    ghost use Rattle.std.specs.Prelude.{◌≡◌, ◌<◌, ◌≤◌, ◌^◌, ◌-◌, IfOk, IfSome, Some, drop, false, is_some, length, min, true};
     ghost use Rattle.std.specs.List.{count_by};
     ghost use Rattle.store.specs.Pages.{id_page, if_counted, is_before_start, row_counts, rows_within, up_to_limit};
     ghost use Rattle.store.specs.PageStructs.{IsCounted, id_page_of};
-    ghost use Rattle.tables.specs.Listings.{live_range, live_rows, marked_count, shown_count};
+    ghost use Rattle.tables.specs.Listings.{live_range, live_rows};
     ghost use Rattle.tables.specs.Schema.{docs_tree};
     ghost use Rattle.sqlstore.specs.ById.{IsHighIdBound, IsLiveRangeOf, IsLowIdBound};
     ghost use Rattle.sqlstore.specs.Listing.{listed_by_id};
@@ -77,37 +76,6 @@ impl<S: Alter> SqlStore<S> {
         }
     }
 
-    /// Returns one row, which tells how many documents have a winner that is marked so, and an id between
-    /// two bounds.
-    fn marked_row(
-        &mut self,
-        db: &i64,
-        deleted: bool,
-        low: &[u8],
-        high: &[u8],
-    ) -> Result<Vec<Row>, StoreFault>
-        ensures { Finds S.Store (λ trees rows. rows.items ≡ shown_count (marked_count db.now deleted low.now high.now (trees docs_tree)) ∷ []) self.old self.new result }
-    {
-        let rows = documents::count_documents(&mut self.conn, db, deleted, low, high);
-        judge_answer(&mut self.faults, &mut self.fetched, rows)
-    }
-
-    /// Counts the documents whose winner is marked so, and whose id lies between two bounds.
-    pub(crate) fn count_marked(
-        &mut self,
-        db: &i64,
-        deleted: bool,
-        low: &[u8],
-        high: &[u8],
-    ) -> Result<u64, StoreFault>
-        ensures answer { Answers S.Store self.old self.new (λ n. n) (Some (marked_count db.now deleted low.now high.now (trees_of S.Store self.old docs_tree))) result }
-        ensures bounded { IfOk result (λ n. n < 2 ^ 63 - 1) }
-        ensures stands { Stands S.Store self.old self.new }
-    {
-        let rows = self.marked_row(db, deleted, low, high)?;
-        judge_index(&mut self.faults, read_count(&rows))
-    }
-
     // ---- a page
 
     /// Lists the rows of a page by id, between two bounds.
@@ -148,6 +116,9 @@ impl<S: Alter> SqlStore<S> {
         ensures bounded { IfOk result (λ n. n < 2 ^ 63 - 1) }
         ensures stands { Stands S.Store self.old self.new }
     {
+        if range.start.is_none() {
+            return Ok(0);
+        }
         if range.descending {
             let end = above_all_ids(self.alloc)?;
             return self.count_marked(db, false, high, &end);
@@ -198,9 +169,7 @@ impl<S: Alter> SqlStore<S> {
         if !range.counted {
             return Ok(None);
         }
-        let end = above_all_ids(self.alloc)?;
-        let start = Vec::new(self.alloc);
-        let total = self.count_marked(db, false, &start, &end)?;
+        let total = self.count_all(db, false)?;
         let skipped = self.count_skipped_ids(db, low, high, range)?;
         let before = self.count_ids_before(db, low, high, range)?;
         Ok(Some(counts_of(before, skipped, total)))

@@ -1,45 +1,20 @@
 //! The pages of the database of a number.
 
 use crate::first_rows::last_of_path;
-use crate::id_bounds::above_all_ids;
 use crate::listings::read_page_by_sequence;
 use crate::sql_store::SqlStore;
 use sqlite::Alter;
-use store::{DocumentCounts, PageBySeq, SeqRange, SeqRow, StoreFault};
+use store::{PageBySeq, SeqRange, SeqRow, StoreFault};
 use tree::{DocId, Rev};
 
 impl<S: Alter> SqlStore<S> {
-    ghost use Rattle.std.specs.Prelude.{◌≡◌, ◌<◌, ◌^◌, IfOk, IfSome, Some, is_some, map};
-    ghost use Rattle.store.specs.Pages.{if_counted};
+    ghost use Rattle.std.specs.Prelude.{◌≡◌, ◌<◌, ◌^◌, IfOk, Some, map};
     ghost use Rattle.store.specs.PageStructs.{IsBounded, sequence_page_of, sequence_row_of, sequence_rows};
-    ghost use Rattle.tables.specs.Listings.{listed_counts};
     ghost use Rattle.tables.specs.Rows.{history_in};
     ghost use Rattle.tables.specs.Schema.{revs_tree};
     ghost use Rattle.tree.specs.History.{leaves};
     ghost use Rattle.sqlstore.specs.Listing.{listed_by_sequence, page_with_leaves, winners_page, with_leaves};
     ghost use Rattle.sqlstore.specs.Model.{Answers, Stands, trees_of};
-
-    /// Counts the documents of a database, where that is asked for.
-    fn count_documents(
-        &mut self,
-        number: &i64,
-        counted: bool,
-    ) -> Result<Option<DocumentCounts>, StoreFault>
-        ensures answer { Answers S.Store self.old self.new (λ counts. counts)
-            (Some (if_counted counted (listed_counts (listed_by_sequence (trees_of S.Store self.old) number.now)))) result }
-        ensures counted { IfOk result (λ counts. is_some counts ≡ counted) }
-        ensures bounded { IfOk result (λ counts. IfSome counts (λ c. (c.documents < 2 ^ 63) × (c.deleted < 2 ^ 63))) }
-        ensures stands { Stands S.Store self.old self.new }
-    {
-        if !counted {
-            return Ok(None);
-        }
-        let start = Vec::new(self.alloc);
-        let end = above_all_ids(self.alloc)?;
-        let documents = self.count_marked(number, false, &start, &end)?;
-        let deleted = self.count_marked(number, true, &start, &end)?;
-        Ok(Some(DocumentCounts { documents, deleted }))
-    }
 
     /// Finds the documents at their sequences, each with its winner alone, cut by a range.
     pub(crate) fn find_page_by_sequence(

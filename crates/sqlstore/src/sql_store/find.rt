@@ -7,7 +7,7 @@ use sqlite::Alter;
 use store::{DbName, StoreFault};
 
 impl<S: Alter> SqlStore<S> {
-    ghost use Rattle.std.specs.Prelude.{◌≡◌, ◌<◌, ◌^◌, IfOk, IfSome, filter, option_map, slice_get};
+    ghost use Rattle.std.specs.Prelude.{◌≡◌, ◌<◌, ◌^◌, IfOk, IfSome, Some, filter, option_map, slice_get};
     ghost use Rattle.tables.specs.Rows.{is_named};
     ghost use Rattle.tables.specs.Schema.{dbs_tree};
     ghost use Rattle.sqlstore.specs.Model.{Answers, Stands, is_honest, trees_of};
@@ -32,13 +32,18 @@ impl<S: Alter> SqlStore<S> {
     fn read_database(&mut self, name: &DbName) -> Result<KnownDatabase, StoreFault>
         ensures answer { Answers S.Store self.old self.new known_values
             (option_map found_in (slice_get (filter (is_named name.now) (trees_of S.Store self.old dbs_tree)) 0)) result }
-        ensures named { IfOk result (λ known. known.name ≡ name.now) }
+        ensures known { is_honest S.Store self.new → IfOk result (λ known. ∥ IsKnown (trees_of S.Store self.old) (Some known) ∥₁) }
         ensures stands { Stands S.Store self.old self.new }
     {
         let rows = self.database_rows(name.as_str().as_bytes())?;
         let found = first_database(self.alloc, &rows)?;
         let name = name.copy(self.alloc)?;
-        Ok(KnownDatabase { name, found })
+        Ok(KnownDatabase {
+            name,
+            found,
+            live: None,
+            deleted: None,
+        })
     }
 
     /// Finds what the row of the database of this name says: it is known already, or else read.
@@ -46,7 +51,7 @@ impl<S: Alter> SqlStore<S> {
     pub(crate) fn know(&mut self, name: &DbName) -> Result<KnownDatabase, StoreFault>
         ensures answer { Answers S.Store self.old self.new known_values
             (option_map found_in (slice_get (filter (is_named name.now) (trees_of S.Store self.old dbs_tree)) 0)) result }
-        ensures named { IfOk result (λ known. known.name ≡ name.now) }
+        ensures known { is_honest S.Store self.new → IfOk result (λ known. ∥ IsKnown (trees_of S.Store self.old) (Some known) ∥₁) }
         ensures stands { Stands S.Store self.old self.new }
     {
         match self.take_known(name) {

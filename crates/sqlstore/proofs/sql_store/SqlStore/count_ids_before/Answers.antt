@@ -1,11 +1,19 @@
 use Rattle.sqlstore.proofs.Common.{Coded-set, coded_ℕ}
-use Rattle.sqlstore.proofs.IdRows.{first_down, first_up}
+use Rattle.sqlstore.proofs.IdRows.{first_down, first_up, none_before}
 use Rattle.sqlstore.proofs.KeyEntries.{answers_as}
-use Rattle.sqlstore.proofs.Lemmas.{ap, false, laid, trees_of, was_honest, ∥∥₁_elim, ◌∙◌}
+use Rattle.sqlstore.proofs.Lemmas.{None, Some, ap, false, laid, rules, trees_of, was_honest, ∥∥₁_elim, ◌∙◌, ◌≡◌}
 use Rattle.sqlstore.specs.Model.{fault_count, is_honest}
 use Rattle.tables.specs.Listings.{marked_count}
 use Rattle.tables.specs.Schema.{docs_tree}
 use Rattle.sqlstore.proofs.sql_store.SqlStore.count_ids_before.Goals as goal
+
+pub returns-then-is_none-clause-answer : goal.returns-then-is_none-clause-answer
+returns-then-is_none-clause-answer g c honest =
+    let s = c.args.self.now in
+    let trees = trees_of g.S.Store s in
+    let none : c.args.range.now.start ≡ None = search rules in
+    ap Some
+    (∥∥₁_elim (laid g.S.Store s honest) (Coded-set coded_ℕ _ _) (λ l. none_before trees c.args.db.now l c.args.range.now none))
 
 pub returns-then-range-clause-answer : goal.returns-then-range-clause-answer
 returns-then-range-clause-answer g c =

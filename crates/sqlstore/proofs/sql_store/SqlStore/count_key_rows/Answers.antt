@@ -1,14 +1,13 @@
 use Rattle.index.specs.Places.{AreEntriesAt}
 use Rattle.index.specs.Rows.{count_of}
-use Rattle.sqlstore.proofs.Common.{Option, Result, StoreFault, Trees, if_counted}
+use Rattle.sqlstore.proofs.Common.{Option, Result, StoreFault, if_counted}
 use Rattle.store.specs.KeyPages.{key_counts}
 use Rattle.sqlstore.proofs.KeyEntries.{counts_made, entries_before, fault_of}
 use Rattle.sqlstore.specs.ByKey.{AnswersOf}
 use Rattle.sqlstore.specs.Model.{fault_count, is_honest}
 use Rattle.store.specs.declared.listing.RowCounts.{RowCounts}
-use Rattle.sqlstore.proofs.Lemmas.{Err, Some, ap, inside, rules, stands_same, stands_then, subst, sym, trees_of, was_honest, ℕ, ◌∙◌, ◌≡◌}
-use Rattle.std.proofs.Common.{ap₂, ◌+◌, ◌≤◌}
-use Rattle.store.proofs.PageStructs.{smaller}
+use Rattle.sqlstore.proofs.Lemmas.{Err, Some, ap, inside, rules, stands_then, subst, sym, trees_of, was_honest, ℕ, ◌∙◌, ◌≡◌}
+use Rattle.std.proofs.Common.{ap₂}
 use Rattle.tables.specs.Schema.{entries_tree}
 use Rattle.sqlstore.proofs.sql_store.SqlStore.count_key_rows.Goals as goal
 

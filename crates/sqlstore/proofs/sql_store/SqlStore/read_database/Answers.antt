@@ -1,5 +1,6 @@
-use Rattle.sqlstore.proofs.Lemmas.{Answers, Err, FoundValues, KnownDatabase, List, Option, answered, ap, database_read, dbs_tree, filter, found_in, is_named, known_values, map, option_map, refused, rules, shown_database, slice_get, subst, sym, trees_of, was_honest, ℕ, ◌∙◌, ◌≡◌}
+use Rattle.sqlstore.proofs.Lemmas.{Answers, Err, FoundValues, KnownDatabase, List, None, Option, answered, ap, database_read, dbs_tree, filter, found_in, is_named, known_values, map, option_map, refl, refused, rules, shown_database, slice_get, subst, sym, trees_of, was_honest, ℕ, ◌∙◌, ◌≡◌}
 use Rattle.couch_json.specs.View.{view}
+use Rattle.sqlstore.proofs.KnownCounts.{uncounted}
 use Rattle.tables.specs.declared.decode.FoundDatabase.{FoundDatabase}
 use Rattle.sqlstore.proofs.sql_store.SqlStore.read_database.Goals as goal
 
@@ -25,3 +26,13 @@ returns-clause-answer g c honest =
     let shown = λ (n : List ℕ). map shown_database (filter (is_named n) (trees_of g.S.Store s dbs_tree)) in
     (database_read g.S.Store s c.args.name.now _ was (c.deref.ensures.value ∙ c.in_ok-rows.ensures.found honest ∙ ap shown (c.as_bytes.ensures.value ∙ c.as_str.ensures.text))).1
     ∙ c.in_ok-found.ensures
+
+pub returns-clause-known : goal.returns-clause-known
+returns-clause-known g c honest =
+    let trees = trees_of g.S.Store c.args.self.now in
+    let named : c.in_ok-name.name ≡ c.args.name.now = search rules in
+    let k : KnownDatabase = record { name = c.in_ok-name.name; found = c.in_ok-found.found; live = None; deleted = None } in
+    ∣ record {
+      row = ap (λ (n : List ℕ). option_map found_in (slice_get (filter (is_named n) (trees dbs_tree)) 0)) named ∙ returns-clause-answer g c honest;
+      counts = uncounted trees k refl refl;
+    } ∣₁

@@ -1,8 +1,8 @@
-use Rattle.sqlstore.proofs.Lemmas.{KnownDatabase, answered, found_in, known_so, known_values, laid, not_found, reads, rules, security_intact, security_there, there, trees_of, was_honest, ∥∥₁_elim}
+use Rattle.sqlstore.proofs.Lemmas.{KnownDatabase, Some, answered, found_in, known_so, known_values, laid, not_found, reads, rules, security_intact, security_there, there, trees_of, was_honest, ∥∥₁_elim}
 use Rattle.sqlstore.proofs.sql_store.calls.SqlStoreStore.security.Goals as goal
 
 pub invariant_of-self : goal.invariant_of-self
-invariant_of-self g c = record { standing = known_so g.S.Store c.args.self.now c.know.new.self c.args.name.now c.in_ok-known.known c.know.ensures.stands c.in_ok-known.ensures.named c.in_ok-known.ensures.answer }
+invariant_of-self g c = record { standing = known_so g.S.Store c.args.self.now c.know.new.self (Some c.in_ok-known.known) c.know.ensures.stands c.in_ok-known.ensures.known }
 
 pub returns-in_err-known-clause-answer : goal.returns-in_err-known-clause-answer
 returns-in_err-known-clause-answer g c = not_found {X = KnownDatabase} g.S.Store c.args.self.now c.know.new.self c.args.name.now found_in known_values _ _ _ _ c.in_err-known.ensures.answer (search rules)
