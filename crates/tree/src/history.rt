@@ -1,4 +1,4 @@
-ghost use Rattle.std.specs.Prelude.{◌≡◌, ◌≢◌, ◌++◌, Option, Some, None, Result, Ok, Err, IfOk, IfErr, OnOk, OnErr, IsTrue, MatchOption, option_copied, option_map, slice_get};
+ghost use Rattle.std.specs.Prelude.{◌≡◌, ◌≢◌, ◌++◌, Option, Some, None, Result, Ok, Err, IfOk, IfErr, OnOk, OnErr, IsTrue, MatchOption, length, option_copied, option_map, slice_get};
 ghost use Rattle.std.specs.FinMap as map;
 ghost use Rattle.couch_json.specs.View.{view};
 ghost use Rattle.tree.specs.Write.{counts_down, head, is_whole};
@@ -300,7 +300,28 @@ impl History {
         }
     }
 
-    fn put_entry(&mut self, rev: Rev, entry: Entry) -> Got<()>
+    /// Counts its known revisions.
+    pub(crate) fn count(&self) -> usize
+        ensures { result ≡ length (map.entries self.now) }
+    {
+        self.nodes().len()
+    }
+
+    /// Returns its known revisions in their order, each with what is known of it.
+    pub(crate) fn into_rows(self) -> Got<Vec<(Rev, Entry)>>
+        ensures { IfOk result (λ rows. rows.items ≡ map.entries self) }
+    {
+        let History {
+            alloc,
+            nodes,
+            parents: _,
+            live: _,
+        } = self;
+        Ok(nodes.into_iter().collect(alloc)?)
+    }
+
+    /// Takes in one revision; a known one keeps what is known of it.
+    pub(crate) fn put_entry(&mut self, rev: Rev, entry: Entry) -> Got<()>
         ensures ok { OnOk result (self.new ≡ with_new self.old rev entry) }
         ensures err { OnErr result (self.new ≡ self.old) }
     {

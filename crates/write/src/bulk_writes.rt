@@ -32,7 +32,7 @@ use couch_json::{Got, Json, NoMemory};
 use std::alloc::Global;
 use std::collections::BTreeMap;
 use store::{DbName, Store, Write};
-use tree::{DocId, History};
+use tree::{DocId, History, PackedHistory};
 
 /// Plans what becomes of documents that are written together. It reads the store and changes nothing.
 ///
@@ -113,7 +113,7 @@ fn judge_all<S: Store>(
 fn judge_one(
     alloc: Global,
     terms: &Terms,
-    histories: &mut BTreeMap<DocId, History>,
+    histories: &mut BTreeMap<DocId, PackedHistory>,
     writes: &mut Vec<Write>,
     new_edits: bool,
     again: bool,
@@ -175,7 +175,7 @@ fn append(writes: &mut Vec<Write>, write: Option<Write>) -> Got<()>
 fn settle(
     alloc: Global,
     terms: &Terms,
-    histories: &mut BTreeMap<DocId, History>,
+    histories: &mut BTreeMap<DocId, PackedHistory>,
     new_edits: bool,
     again: bool,
     document: Json,
@@ -193,7 +193,7 @@ fn settle(
     let Some(id) = read_id(alloc, &document)? else {
         return Err(WriteFault::BadDocument);
     };
-    let history = take_history(histories, &id);
+    let history = take_history(alloc, histories, &id)?;
     if again {
         judge_and_keep(alloc, terms, histories, id, history, new_edits, document)
     } else {
@@ -205,7 +205,7 @@ fn settle(
 fn judge_and_keep(
     alloc: Global,
     terms: &Terms,
-    histories: &mut BTreeMap<DocId, History>,
+    histories: &mut BTreeMap<DocId, PackedHistory>,
     id: DocId,
     history: History,
     new_edits: bool,
@@ -221,7 +221,7 @@ fn judge_and_keep(
 {
     let mut history = history;
     let outcome = judge_in(alloc, terms, &mut history, &id, new_edits, document);
-    put_history(histories, id, history)?;
+    put_history(alloc, histories, id, history)?;
     outcome
 }
 

@@ -1,6 +1,6 @@
 //! The histories of the documents that are written together, by id.
 
-ghost use Rattle.std.specs.Prelude.{◌≡◌, IfErr, OnOk, OnErr, Some, None};
+ghost use Rattle.std.specs.Prelude.{◌≡◌, IfErr, IfOk, OnOk, OnErr, Some, None};
 ghost use Rattle.std.specs.FinMap as map;
 ghost use Rattle.couch_json.specs.View.{view};
 ghost use Rattle.tree.specs.History.{with_write};
@@ -18,7 +18,7 @@ use couch_json::{Got, Json};
 use std::alloc::Global;
 use std::collections::BTreeMap;
 use store::{DbName, Store, Write};
-use tree::{DocId, History};
+use tree::{DocId, History, PackedHistory};
 
 /// Puts the stored history of a document in, where it isn't there yet.
 pub(crate) fn load<S: Store>(
@@ -26,7 +26,7 @@ pub(crate) fn load<S: Store>(
     store: &mut S,
     db: &DbName,
     document: &Json,
-    histories: &mut BTreeMap<DocId, History>,
+    histories: &mut BTreeMap<DocId, PackedHistory>,
 ) -> Result<(), WriteFault>
     ensures ok { S.is_honest store.new → OnOk result ((d : Database) → map.get (S.contents store.old) db.now ≡ Some d
         → seen_in (history_at d) histories.new ≡ seen_in (history_at d) histories.old) }
@@ -42,32 +42,38 @@ pub(crate) fn load<S: Store>(
         return Ok(());
     }
     let history = store.history(db, &id)?;
-    put_history(histories, id, history)?;
+    put_history(alloc, histories, id, history)?;
     Ok(())
 }
 
 /// Takes the history of a document out.
-pub(crate) fn take_history(histories: &mut BTreeMap<DocId, History>, id: &DocId) -> History
+pub(crate) fn take_history(
+    alloc: Global,
+    histories: &mut BTreeMap<DocId, PackedHistory>,
+    id: &DocId,
+) -> Got<History>
     requires { IsHeld histories.old (Some id.now) }
-    ensures value { (stored : Histories) → result ≡ seen_in stored histories.old id.now }
+    ensures value { IfOk result (λ taken. (stored : Histories) → taken ≡ seen_in stored histories.old id.now) }
     ensures others { (stored : Histories) (history : _) → with_history (seen_in stored histories.new) id.now history ≡ with_history (seen_in stored histories.old) id.now history }
 {
     match histories.remove(id) {
-        Some(history) => history,
+        Some(packed) => packed.unpack(alloc),
         None => unreachable!(),
     }
 }
 
 /// Puts the history of a document in.
 pub(crate) fn put_history(
-    histories: &mut BTreeMap<DocId, History>,
+    alloc: Global,
+    histories: &mut BTreeMap<DocId, PackedHistory>,
     id: DocId,
     history: History,
 ) -> Got<()>
     ensures value { OnOk result ((stored : Histories) → seen_in stored histories.new ≡ with_history (seen_in stored histories.old) id history) }
     ensures held { OnOk result (IsHeld histories.new (Some id)) }
 {
-    drop(histories.insert(id, history)?);
+    let packed = PackedHistory::pack(alloc, history)?;
+    drop(histories.insert(id, packed)?);
     Ok(())
 }
 
