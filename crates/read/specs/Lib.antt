@@ -3,6 +3,7 @@ pub mod Information
 pub mod Listing
 pub mod Views
 pub mod Changes
+pub mod ChangesSoFar
 pub mod Differences
 pub mod DifferencesAsked
 pub mod OpenRevisions

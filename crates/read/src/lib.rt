@@ -9,6 +9,7 @@
 #![tactic(auto)]
 
 mod change_list;
+mod change_pages;
 mod differences;
 mod document;
 mod fault;
