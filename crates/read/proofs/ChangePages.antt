@@ -1,11 +1,11 @@
 -- Rows that ascend, taken page by page, are the rows.
-use Rattle.std.proofs.Common.{◌≡◌, ℕ, zero, suc, ◌-◌, ◌<◌, ◌≤◌, List, [], ◌∷◌, ◌++◌, AllPairs, Bool, true, false, cond, filter, length, map, min, nat_lt, take, drop, Option, Some, None, refl, sym, ap, ◌∙◌, subst, arith, append_assoc}
+use Rattle.std.proofs.Common.{◌≡◌, ℕ, zero, suc, ◌-◌, ◌<◌, ◌≤◌, List, [], ◌∷◌, ◌++◌, AllPairs, Bool, true, false, cond, length, map, min, nat_lt, take, drop, Option, Some, None, refl, sym, ap, ◌∙◌, subst, arith, append_assoc}
 use Rattle.std.proofs.lemmas.Bool.Decides.{nat_tests}
 use Rattle.std.proofs.lemmas.List.{map-append, take-append-drop}
 use Rattle.std.proofs.Math.Seq.{take-nil}
 use Rattle.std.specs.Prelude.{⊤, codes, pos}
 use Rattle.std.specs.FinMap.{entries}
-use Rattle.couch_json.specs.Value.{Value, whole, array, object, no_members, member}
+use Rattle.couch_json.specs.Value.{whole, array, object, no_members, member}
 use Rattle.couch_json.specs.View.{items_of}
 use Rattle.store.specs.Database.{Database}
 use Rattle.store.specs.Pages.{SequenceRow, in_sequence, last_sequence, rows_of, up_to_limit}
@@ -90,9 +90,9 @@ again s e (x ∷ xs) le =
       | false ↦ λ is. again s e xs le ∙ sym (ap (λ b. cond b (x ∷ later_than e xs) (later_than e xs)) (is_not_less e x.sequence (omega (arith, not_above s x.sequence is, le))))
     ] refl
 
-take_parts : (l k : ℕ) (rows : List SequenceRow) → k ≤ l → take l rows ≡ take k rows ++ take (l - length (take k rows)) (drop k rows)
+pub take_parts : {X : Type 0} (l k : ℕ) (rows : List X) → k ≤ l → take l rows ≡ take k rows ++ take (l - length (take k rows)) (drop k rows)
 take_parts l zero rows le = ap (λ n. take n rows) (omega arith)
-take_parts l (suc k) [] le = take-nil {A = SequenceRow} l ∙ sym (take-nil {A = SequenceRow} (l - 0))
+take_parts l (suc k) [] le = take-nil l ∙ sym (take-nil (l - 0))
 take_parts zero (suc k) (y ∷ ys) le = absurd (omega (arith, le))
 take_parts (suc l) (suc k) (y ∷ ys) le =
     ap (λ rs. y ∷ rs) (take_parts l k ys (omega (arith, le))) ∙ ap (λ n. y ∷ (take k ys ++ take n (drop k ys))) (omega arith)

@@ -1,6 +1,7 @@
 pub mod Answers
 pub mod Information
 pub mod Listing
+pub mod RowsSoFar
 pub mod Views
 pub mod Changes
 pub mod ChangesSoFar

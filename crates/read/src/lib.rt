@@ -15,6 +15,7 @@ mod document;
 mod fault;
 mod information;
 mod listing;
+mod listing_pages;
 mod local_document;
 mod numbers;
 mod open_revisions;

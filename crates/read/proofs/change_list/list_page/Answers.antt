@@ -1,12 +1,11 @@
 -- The rows of a page, as the store gives them, are the next of those that are still to come.
-use Rattle.std.proofs.Common.{◌≡◌, ◌≤◌, ◌<◌, Some, ap, arith, false, min, option_map, sym, take, ◌∙◌}
+use Rattle.std.proofs.Common.{◌≡◌, Some, ap, arith, false, min, option_map, sym, take, ◌∙◌}
 use Rattle.std.proofs.lemmas.List.{length-map}
-use Rattle.store.specs.Database.{Database}
 use Rattle.store.specs.Pages.{SequencePage, last_sequence, page_by_sequence}
 use Rattle.store.specs.PageStructs.{sequence_page_of, sequence_row_of, sequence_rows}
 use Rattle.store.specs.declared.listing.SeqRange.{SeqRange}
 use Rattle.tree.proofs.Shown.{inside}
-use Rattle.read.specs.ChangesSoFar.{later_than, left_after, page_size}
+use Rattle.read.specs.ChangesSoFar.{later_than, left_after}
 use Rattle.read.proofs.ChangePages.{advanced, all_rows, ended}
 use Rattle.read.proofs.change_list.list_page.Goals as goal
 
