@@ -12,8 +12,6 @@ use Rattle.std.specs.Option.{option_to_list}
 use Rattle.std.specs.Ordering.{nat_cmp, ordering_then}
 use Rattle.couch_json.specs.Collation.{collation}
 use Rattle.couch_json.specs.Value.{Value, Items, no_items, array}
-use Rattle.couch_json.specs.View.{view}
-use Rattle.couch_json.specs.declared.value.Json.{Json}
 use Rattle.selector.specs.Truth.{selector_matches}
 use Rattle.tree.proofs.Kept.{true_from_T}
 use Rattle.tree.proofs.SortedEntries.{less}
@@ -23,7 +21,6 @@ use Rattle.store.proofs.Listings.{Entry, In}
 use Rattle.store.specs.Database.{Database, history_in}
 use Rattle.store.specs.Indexes.{IndexPlace, field_values, index_over, place_order, put_at_values, put_in_index, queried_document, shown_by}
 use Rattle.store.specs.PlaceOrder.{place_order_total}
-use Rattle.store.specs.Plain.{place_views}
 use Rattle.store.specs.Pages.{live_rev, live_rows, with_row}
 use Rattle.store.specs.declared.listing.IdRow.{IdRow}
 use Rattle.find.proofs.Filtered.{HasKeys, filter-put, keys_put, put_front}

@@ -1,5 +1,5 @@
 -- A document goes into the part.
-use Rattle.std.proofs.Common.{◌≡◌, ℕ, suc, List, [], ◌∷◌, ◌++◌, take, drop, append_assoc, sym, ap, ◌∙◌}
+use Rattle.std.proofs.Common.{◌≡◌, ℕ, suc, List, [], ◌∷◌, ◌++◌, take, drop, append_assoc, sym, ◌∙◌}
 use Rattle.couch_json.specs.Value.{Value}
 
 pub one_taken : (skip limit left : ℕ) (before after : List Value) (d : Value) (rest : List Value) → skip ≡ 0 → limit ≡ suc left → after ≡ before ++ d ∷ []

@@ -1,1 +1,3 @@
 pub mod Outlines
+pub mod ChangePages
+pub mod ListingPages

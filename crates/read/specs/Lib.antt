@@ -1,8 +1,10 @@
 pub mod Answers
 pub mod Information
 pub mod Listing
+pub mod RowsSoFar
 pub mod Views
 pub mod Changes
+pub mod ChangesSoFar
 pub mod Differences
 pub mod DifferencesAsked
 pub mod OpenRevisions

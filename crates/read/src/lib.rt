@@ -9,11 +9,13 @@
 #![tactic(auto)]
 
 mod change_list;
+mod change_pages;
 mod differences;
 mod document;
 mod fault;
 mod information;
 mod listing;
+mod listing_pages;
 mod local_document;
 mod numbers;
 mod open_revisions;

@@ -1,17 +1,21 @@
 //! A database's documents, listed by id.
 
-ghost use Rattle.std.specs.Prelude.{◌≡◌, ◌≢◌, ◌≤◌, ◌<◌, ◌^◌, map as each, IfOk, IfErr, Ok, option_map, pos};
+ghost use Rattle.std.specs.Prelude.{◌≡◌, ◌≢◌, ◌≤◌, ◌<◌, ◌^◌, ◌++◌, [], map as each, IfOk, IfErr, None, OnOk, Ok, Some, false, is_some, option_map, pos, true};
 ghost use Rattle.std.specs.FinMap as map;
 ghost use Rattle.couch_json.specs.Value.{whole};
 ghost use Rattle.couch_json.specs.View.{view};
 ghost use Rattle.store.specs.Calls.{OnlyReads};
-ghost use Rattle.read.specs.Answers.{AnswersValue};
+ghost use Rattle.store.specs.Database.{Database};
+ghost use Rattle.read.specs.Answers.{AnswersValue, Stops};
 ghost use Rattle.read.specs.Listing.{document_listing, listing_of, revision_object, row_object};
+ghost use Rattle.read.specs.RowsSoFar.{IsCountable, completed, page_size, rows_to_come, rows_wanted};
 
 use crate::fault::ReadFault;
+use crate::listing_pages::RowsSoFar;
 use crate::numbers::whole;
 use couch_json::{ArrayText, Got, Json, JsonText, ObjectText, put_member};
 use std::alloc::Global;
+use std::cmp::min;
 use std::collections::BTreeMap;
 use store::{DbName, IdRange, IdRow, RowCounts, Store};
 use tree::Rev;
@@ -32,15 +36,126 @@ pub fn all_docs<S: Store>(
     ensures only { IfErr result (λ fault. fault ≢ ReadFault.Memory → ((cause : _) → fault ≢ ReadFault.Store cause) → ⊥) }
     ensures reads { OnlyReads S.Store store.old store.new }
 {
-    let counted = IdRange {
+    let (mut so_far, counts) = begin_listing(alloc, store, db, range)?;
+    list_rows(alloc, store, db, &mut so_far)?;
+    Ok(write_listing(alloc, so_far.into_rows(), counts)?)
+}
+
+/// Begins the listing of a range, of which no row has come yet, and counts the rows.
+fn begin_listing<S: Store>(
+    alloc: Global,
+    store: &mut S,
+    db: &DbName,
+    range: IdRange,
+) -> Result<(RowsSoFar, RowCounts), ReadFault>
+    ensures there { S.is_honest store.new → IfOk result (λ _. is_some (map.get (S.contents store.old) db.now) ≡ true) }
+    ensures ok { S.is_honest store.new → IfOk result (λ begun. (d : Database) → map.get (S.contents store.old) db.now ≡ Some d
+        → IsCountable d × (listing_of (completed begun.0 (rows_to_come begun.0 d)) begun.1 ≡ document_listing range d)) }
+    ensures counts { IfOk result (λ begun. (begun.1.offset ≤ begun.1.total) × (begun.1.total < 2 ^ 63)) }
+    ensures stops { IfErr result (Stops S.Store store.old store.new (map.get (S.contents store.old) db.now ≡ None)) }
+    ensures reads { OnlyReads S.Store store.old store.new }
+{
+    let left = rows_wanted(range.limit);
+    let nothing = IdRange {
+        limit: Some(0),
         counted: true,
         ..range
     };
-    let page = store.page_by_id(db, &counted)?;
-    match page.counts {
-        Some(counts) => Ok(write_listing(alloc, write_rows(alloc, &page.rows)?, counts)?),
-        None => unreachable!(),
+    let page = store.page_by_id(db, &nothing)?;
+    let Some(counts) = page.counts else {
+        unreachable!()
+    };
+    let rows = ArrayText::new(alloc)?;
+    let range = IdRange {
+        counted: false,
+        ..nothing
+    };
+    Ok((RowsSoFar { range, left, rows }, counts))
+}
+
+/// Returns how many rows are wanted at most.
+fn rows_wanted(limit: Option<u64>) -> u64
+    ensures { result ≡ rows_wanted limit }
+{
+    match limit {
+        Some(limit) => limit,
+        None => 18_446_744_073_709_551_615,
     }
+}
+
+/// Lists the rows that are still to come.
+fn list_rows<S: Store>(
+    alloc: Global,
+    store: &mut S,
+    db: &DbName,
+    so_far: &mut RowsSoFar,
+) -> Result<(), ReadFault>
+    ensures ok { S.is_honest store.new → OnOk result ((d : Database) → map.get (S.contents store.old) db.now ≡ Some d → IsCountable d
+        → completed so_far.new [] ≡ completed so_far.old (rows_to_come so_far.old d)) }
+    ensures stops { IfErr result (Stops S.Store store.old store.new (map.get (S.contents store.old) db.now ≡ None)) }
+    ensures reads { OnlyReads S.Store store.old store.new }
+{
+    let mut more = true;
+    while more {
+        more = list_page(alloc, store, db, so_far)?;
+    }
+    Ok(())
+}
+
+/// Lists the rows of the next page, and tells whether there were any.
+fn list_page<S: Store>(
+    alloc: Global,
+    store: &mut S,
+    db: &DbName,
+    so_far: &mut RowsSoFar,
+) -> Result<bool, ReadFault>
+    ensures ok { S.is_honest store.new → IfOk result (λ _. (d : Database) → map.get (S.contents store.old) db.now ≡ Some d → IsCountable d
+        → completed so_far.new (rows_to_come so_far.new d) ≡ completed so_far.old (rows_to_come so_far.old d)) }
+    ensures end { S.is_honest store.new → IfOk result (λ more. more ≡ false → (d : Database) → map.get (S.contents store.old) db.now ≡ Some d → IsCountable d
+        → rows_to_come so_far.new d ≡ []) }
+    ensures onward { IfOk result (λ more. more ≡ true → so_far.new.left < so_far.old.left) }
+    ensures stops { IfErr result (Stops S.Store store.old store.new (map.get (S.contents store.old) db.now ≡ None)) }
+    ensures reads { OnlyReads S.Store store.old store.new }
+{
+    if so_far.left == 0 {
+        return Ok(false);
+    }
+    if so_far.range.skip >= 1 << 63 {
+        return Ok(false);
+    }
+    let most = page_size(so_far.range.skip, so_far.left);
+    so_far.range.limit = Some(most);
+    let page = store.page_by_id(db, &so_far.range)?;
+    let count = page.rows.len() as u64;
+    if count == 0 {
+        return Ok(false);
+    }
+    if count > most {
+        return Ok(false);
+    }
+    push_rows(alloc, &page.rows, &mut so_far.rows)?;
+    so_far.range.skip += count;
+    so_far.left -= count;
+    Ok(true)
+}
+
+/// Returns how many rows the next page has at most, where so many are passed over and so many are
+/// wanted. Pages grow, so that all in all at most three times the rows are passed over.
+fn page_size(skip: u64, left: u64) -> u64
+    requires { skip < 2 ^ 63 }
+    ensures { result ≡ page_size skip left }
+{
+    min(left, 1_000 + skip / 2)
+}
+
+/// Writes the objects of rows, in order.
+fn push_rows(alloc: Global, rows: &[IdRow], values: &mut ArrayText) -> Got<()>
+    ensures { OnOk result (values.new ≡ values.old ++ each row_object rows.now) }
+{
+    for row in rows {
+        values.push(alloc, &build_row(alloc, row)?)?;
+    }
+    Ok(())
 }
 
 /// Writes the object of a listing.
@@ -57,17 +172,6 @@ pub(crate) fn write_listing(alloc: Global, rows: ArrayText, counts: RowCounts) -
         .with(alloc, "rows", rows)?
         .with(alloc, "total_rows", total)?
         .end()
-}
-
-/// Writes the objects of rows, in order.
-fn write_rows(alloc: Global, rows: &[IdRow]) -> Got<ArrayText>
-    ensures { IfOk result (λ values. values ≡ each row_object rows.now) }
-{
-    let mut values = ArrayText::new(alloc)?;
-    for row in rows {
-        values.push(alloc, &build_row(alloc, row)?)?;
-    }
-    Ok(values)
 }
 
 /// Builds the object of a row.

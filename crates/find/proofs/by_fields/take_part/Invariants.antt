@@ -1,4 +1,4 @@
-use Rattle.std.proofs.Common.{◌≡◌, drop, map, take}
+use Rattle.std.proofs.Common.{◌≡◌, drop, take}
 use Rattle.std.specs.Vec.Iter.{into_iter_items}
 use Rattle.find.specs.Matching.{completion}
 use Rattle.find.proofs.by_fields.take_part.Given as goal
