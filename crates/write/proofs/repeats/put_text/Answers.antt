@@ -1,4 +1,4 @@
-use Rattle.std.proofs.Common.{◌≡◌, ◌∙◌, Some, ap, option_copied, sym}
+use Rattle.std.proofs.Common.{◌∙◌, ap, option_copied, sym}
 use Rattle.std.specs.Prelude.{codes}
 use Rattle.couch_json.specs.View.{view}
 use Rattle.write.specs.Document.{member_text}
