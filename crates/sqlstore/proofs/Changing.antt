@@ -1,5 +1,5 @@
 -- What a change of a store leaves.
-use Rattle.sqlstore.proofs.Common.{Bool, ChangesWhole, Database, Err, Ghosts, HasCleanDisk, Held, Holds, IsStanding, IsStore, IsTrue, KnownDatabase, Moves, None, Ok, OnErr, OnOk, Option, Result, Some, SqlStore, Stands, WasStore, ap, arith, contents_in, contents_of, false, is_honest, is_some, refl, state, subst, sym, ∥∥₁_elim, ∥∥₁_map, ◌∙◌, ◌≡◌}
+use Rattle.sqlstore.proofs.Common.{Bool, ChangesWhole, Database, Err, Ghosts, HasCleanDisk, Held, Holds, IsKnown, IsStanding, IsStore, IsTrue, KnownDatabase, Moves, None, Ok, OnErr, OnOk, Option, Result, Some, SqlStore, Stands, WasStore, ap, arith, contents_in, contents_of, false, is_honest, is_some, refl, state, subst, sym, ∥∥₁_elim, ∥∥₁_map, ∥∥₁_prop, ◌∙◌, ◌≡◌}
 use Rattle.transactions.proofs.Committing.{on_err}
 use Rattle.transactions.specs.Endings.{Turns}
 use Rattle.sqlstore.proofs.Standing.{indexed_store}
@@ -7,49 +7,66 @@ use Rattle.transactions.specs.Indexing.{IsIndexedStore}
 use Rattle.index.specs.Indexed.{IsIndexed}
 
 module _ {S : Type 0} (g : Ghosts S) (old new origin last : Held S) (turns : Turns g old new) {known : Option KnownDatabase} (s : IsStanding g old origin last known) where
-  -- a transaction that was undone leaves a store standing
-  pub undone : (IsIndexedStore (state g old).now → (state g old).now.trees ≡ (state g last).now.trees → HasCleanDisk (state g new) → WasStore g origin → IsTrue (state g new).is_open
+  abbrev Known : Type 0
+  Known = IsKnown (state g last).now.trees known
+
+  -- a transaction that was undone leaves a store standing, where what is known may be what tells that it was
+  pub undone_knowing : (Known → IsIndexedStore (state g old).now → (state g old).now.trees ≡ (state g last).now.trees → HasCleanDisk (state g new) → WasStore g origin → IsTrue (state g new).is_open
       → ((state g new).now ≡ (state g old).committed) × ((state g new).committed ≡ (state g old).committed)) → IsStanding g new origin last known
-  undone left = record {
+  undone_knowing left = record {
     idle = turns.idle;
     unlimited = turns.limit ∙ s.unlimited;
-    held = λ clean is. ∥∥₁_map (s.held (turns.clean clean) is) (λ h.
+    held = λ clean is. ∥∥₁_elim (s.known_so (turns.clean clean) is) ∥∥₁_prop (λ k. ∥∥₁_map (s.held (turns.clean clean) is) (λ h.
         let same = λ (up : IsTrue (state g new).is_open). h.now (turns.was_open clean up) in
-        let settled = λ (up : IsTrue (state g new).is_open). left (subst IsIndexedStore (sym (same up)) (indexed_store h)) (ap (λ (d : Database). d.trees) (same up)) clean is up in
+        let settled = λ (up : IsTrue (state g new).is_open). left k (subst IsIndexedStore (sym (same up)) (indexed_store h)) (ap (λ (d : Database). d.trees) (same up)) clean is up in
         record {
           store = h.store;
           indexed = h.indexed;
           now = λ up. (settled up).0 ∙ h.committed (turns.was_open clean up);
           committed = λ up. (settled up).1 ∙ h.committed (turns.was_open clean up);
-        });
+        }));
     known_so = λ clean is. s.known_so (turns.clean clean) is;
   }
 
+  pub undone : (IsIndexedStore (state g old).now → (state g old).now.trees ≡ (state g last).now.trees → HasCleanDisk (state g new) → WasStore g origin → IsTrue (state g new).is_open
+      → ((state g new).now ≡ (state g old).committed) × ((state g new).committed ≡ (state g old).committed)) → IsStanding g new origin last known
+  undone left = undone_knowing (λ _. left)
+
   -- One that was committed makes a store of one, and this of its rows. So the store stands on the new ones, and it is so of those that the last change left.
   module _ (done : HasCleanDisk (state g new) → IsTrue (state g old).is_open × IsTrue (state g new).is_open × ((state g new).now ≡ (state g new).committed)) (P : Database → Type 0)
-      (makes : HasCleanDisk (state g new) → HasCleanDisk (state g old) → WasStore g origin → IsIndexedStore (state g old).now → (state g old).now.trees ≡ (state g last).now.trees
+      (makes : Known → HasCleanDisk (state g new) → HasCleanDisk (state g old) → WasStore g origin → IsIndexedStore (state g old).now → (state g old).now.trees ≡ (state g last).now.trees
       → IsIndexedStore (state g new).now × P (state g old).now) where
-    made : HasCleanDisk (state g new) → WasStore g origin → Holds g old last → IsIndexedStore (state g new).now × P (state g last).now
-    made clean is h =
+    made : Known → HasCleanDisk (state g new) → WasStore g origin → Holds g old last → IsIndexedStore (state g new).now × P (state g last).now
+    made k clean is h =
         let same = h.now (done clean).0 in
-        let m = makes clean (turns.clean clean) is (subst IsIndexedStore (sym same) (indexed_store h)) (ap (λ (d : Database). d.trees) same) in
+        let m = makes k clean (turns.clean clean) is (subst IsIndexedStore (sym same) (indexed_store h)) (ap (λ (d : Database). d.trees) same) in
         (m.0, subst P same m.1)
 
-    pub stands : (next : Held S) → next ≡ new → IsStanding g new origin next None
-    stands next is_new = record {
+    pub stands_knowing : (next : Held S) → next ≡ new → IsStanding g new origin next None
+    stands_knowing next is_new = record {
       idle = turns.idle;
       unlimited = turns.limit ∙ s.unlimited;
-      held = λ clean is. ∥∥₁_map (s.held (turns.clean clean) is) (λ h. record {
-        store = subst (λ x. IsStore (state g x).now) (sym is_new) (made clean is h).0.store;
-        indexed = subst (λ x. IsIndexed (state g x).now.trees) (sym is_new) (made clean is h).0.indexed;
+      held = λ clean is. ∥∥₁_elim (s.known_so (turns.clean clean) is) ∥∥₁_prop (λ k. ∥∥₁_map (s.held (turns.clean clean) is) (λ h. record {
+        store = subst (λ x. IsStore (state g x).now) (sym is_new) (made k clean is h).0.store;
+        indexed = subst (λ x. IsIndexed (state g x).now.trees) (sym is_new) (made k clean is h).0.indexed;
         now = λ up. ap (λ x. (state g x).now) (sym is_new);
         committed = λ up. sym (done clean).2 ∙ ap (λ x. (state g x).now) (sym is_new);
-      });
+      }));
       known_so = λ clean is. ∣ tt ∣₁;
     }
 
+    pub told_knowing : IsProp (P (state g last).now) → HasCleanDisk (state g new) → WasStore g origin → P (state g last).now
+    told_knowing prop clean is = ∥∥₁_elim (s.known_so (turns.clean clean) is) prop (λ k. ∥∥₁_elim (s.held (turns.clean clean) is) prop (λ h. (made k clean is h).1))
+
+  -- the same, whatever is known
+  module _ (done : HasCleanDisk (state g new) → IsTrue (state g old).is_open × IsTrue (state g new).is_open × ((state g new).now ≡ (state g new).committed)) (P : Database → Type 0)
+      (makes : HasCleanDisk (state g new) → HasCleanDisk (state g old) → WasStore g origin → IsIndexedStore (state g old).now → (state g old).now.trees ≡ (state g last).now.trees
+      → IsIndexedStore (state g new).now × P (state g old).now) where
+    pub stands : (next : Held S) → next ≡ new → IsStanding g new origin next None
+    stands = stands_knowing done P (λ _. makes)
+
     pub told : IsProp (P (state g last).now) → HasCleanDisk (state g new) → WasStore g origin → P (state g last).now
-    told prop clean is = ∥∥₁_elim (s.held (turns.clean clean) is) prop (λ h. (made clean is h).1)
+    told = told_knowing done P (λ _. makes)
 
 pub on_ok : {X F P : Type 0} (r : Result X F) → P → OnOk r P
 on_ok (Ok x) p = p

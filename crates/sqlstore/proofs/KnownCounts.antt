@@ -1,7 +1,7 @@
--- What is known of a database after its documents were counted.
+-- What is known of a database after its documents were counted, and without its indexes.
 use Rattle.sqlstore.proofs.Common.{Bool, IfSome, KnownDatabase, None, Option, Trees, false, subst, sym, true, ◌≡◌}
 use Rattle.sqlstore.specs.Listing.{all_count}
-use Rattle.sqlstore.specs.Reading.{count_kept, with_count}
+use Rattle.sqlstore.specs.Reading.{count_kept, with_count, without_indexes}
 use Rattle.sqlstore.specs.Standing.{IsKnownDatabase}
 use Rattle.sqlstore.specs.declared.document_count.DocumentCount.{DocumentCount}
 
@@ -14,8 +14,13 @@ pub known_counted : (trees : Trees) (k : KnownDatabase) (deleted : Bool) (count 
 known_counted trees k true count known is = record {
   row = known.row;
   counts = λ d. elim d as (λ b. IfSome (count_kept b (with_count true count k)) (λ (c : DocumentCount). c.value ≡ all_count trees k.found.number b)) [ true ↦ is | false ↦ known.counts false ];
+  indexes = known.indexes;
 }
 known_counted trees k false count known is = record {
   row = known.row;
   counts = λ d. elim d as (λ b. IfSome (count_kept b (with_count false count k)) (λ (c : DocumentCount). c.value ≡ all_count trees k.found.number b)) [ true ↦ known.counts true | false ↦ is ];
+  indexes = known.indexes;
 }
+
+pub known_split : (trees : Trees) (k : KnownDatabase) → IsKnownDatabase trees k → IsKnownDatabase trees (without_indexes k)
+known_split trees k known = record { row = known.row; counts = known.counts; indexes = tt }

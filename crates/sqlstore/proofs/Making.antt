@@ -1,6 +1,9 @@
 -- What each change makes of the tables, whose rows are those that the last change left.
+use Rattle.index.specs.Shown.{declared}
+use Rattle.index.specs.declared.declaration.Declaration.{Declaration}
+use Rattle.transactions.specs.Indexing.{AreAllIndexes}
 use Rattle.sqlstore.proofs.KnownCounts.{uncounted}
-use Rattle.sqlstore.proofs.Common.{Addition, AreDue, Changes, Clears, Database, HasNumber, HasWritten, IfSome, IsBody, IsKnown, IsLawful, IsTrue, KnownDatabase, List, LocalDocument, None, Option, Replaces, Some, Trees, ap, ap₂, at_sequence, canonical, closed_security, contents_in, database_cells, database_of, dbs_tree, filter, found_in, get, insert, inside, is_database_name, is_document_id, is_named, is_security, known_values, length, length_of, new_database, option_map, pos, refl, remove, rows_with_security, slice_get, subst, sym, with_all, with_cells, with_local, with_security, writings_in, ℕ, ℤ, ◌+◌, ◌<◌, ◌^◌, ◌∙◌, ◌≡◌}
+use Rattle.sqlstore.proofs.Common.{Addition, AreDue, Changes, Clears, Database, FoundValues, Global, HasNumber, HasWritten, IfSome, IsBody, IsKnown, IsLawful, IsTrue, KnownDatabase, List, LocalDocument, None, Option, Replaces, Some, Trees, Vec, ap, ap₂, at_sequence, canonical, closed_security, contents_in, database_cells, database_of, dbs_tree, filter, found_in, get, insert, inside, is_database_name, is_document_id, is_named, is_security, known_values, length, length_of, map, new_database, option_map, pos, refl, remove, rows_with_security, slice_get, subst, sym, with_all, with_cells, with_local, with_security, writings_in, ℕ, ℤ, ◌+◌, ◌<◌, ◌^◌, ◌∙◌, ◌≡◌}
 use Rattle.couch_json.specs.Value.{Value}
 use Rattle.tables.proofs.Lookups.{database_there}
 use Rattle.tables.proofs.LocalChanges.{written_store}
@@ -72,18 +75,18 @@ module _ (new : Database) (name : List ℕ) where
           let made = written_store old c.mid new name there.row id document was.store there.first named body lawful small c.out c.put in
           (record { store = made.0; indexed = replaced_indexed _ _ _ _ old new was.store.schema_is c was.indexed }, made.1)
 
-    pub appends : (all : List Addition) (number : ℤ) (sequence : ℕ) → AreDue all name number sequence last
-        → ((due : AreDue all name number sequence old.trees) → HasWritten (writings_in (database_of old.trees due.row) all) name due.row old new × IsIndexed new.trees) → IsIndexedStore new × IsWritten all old
+    pub appends : {X : Type 0} (all : List Addition) (number : ℤ) (sequence : ℕ) → AreDue all name number sequence last
+        → ((due : AreDue all name number sequence old.trees) → HasWritten (writings_in (database_of old.trees due.row) all) name due.row old new × IsIndexed new.trees × X) → IsIndexedStore new × IsWritten all old
     appends all number sequence due writes =
         let here = subst (AreDue all name number sequence) (sym same) due in
         let w = (writes here).0 in
         (record { store = w.store; indexed = (writes here).1 }, ap (option_map (λ db. insert (contents_in old.trees) name (with_all db (writings_in db all)))) (database_there old.trees was.store.laid name here.row here.first) ∙ ap Some (sym w.contents))
 
-    -- what was known of the database is known of it at its new sequence
-    pub advances : (all : List Addition) (number : ℤ) (sequence : ℕ) → AreDue all name number sequence last
-        → ((due : AreDue all name number sequence old.trees) → HasWritten (writings_in (database_of old.trees due.row) all) name due.row old new × IsIndexed new.trees)
-        → (k : KnownDatabase) → k.name ≡ name → IsKnown last (Some k) → IsKnown new.trees (Some (at_sequence (sequence + length all) k))
-    advances all number sequence due writes k named known =
+    -- what was known of the database is known of it at its new sequence, with its indexes
+    pub advances : (all : List Addition) (number : ℤ) (sequence : ℕ) (to : Vec Declaration Global) → AreDue all name number sequence last
+        → ((due : AreDue all name number sequence old.trees) → HasWritten (writings_in (database_of old.trees due.row) all) name due.row old new × IsIndexed new.trees × AreAllIndexes (map declared to.items) number new.trees)
+        → (k : KnownDatabase) → k.name ≡ name → IsKnown last (Some k) → IsKnown new.trees (Some (at_sequence (sequence + length all) to k))
+    advances all number sequence to due writes k named known =
         let here = subst (AreDue all name number sequence) (sym same) due in
         let w = (writes here).0 in
         let known_row : Some (found_in here.row) ≡ Some (known_values k) =
@@ -92,12 +95,13 @@ module _ (new : Database) (name : List ℕ) where
         let count : length_of here.row + length (writings_in (database_of old.trees here.row) all) ≡ sequence + length all = ap₂ ◌+◌ here.counted (length-writings_in (database_of old.trees here.row) all) in
         record {
           row = ap (λ n. option_map found_in (slice_get (filter (is_named n) (new.trees dbs_tree)) 0)) named ∙ ap (option_map found_in) w.row ∙ (λ i. Some ((values i).0, (values i).1, count i));
-          counts = uncounted new.trees (at_sequence (sequence + length all) k) refl refl;
+          counts = uncounted new.trees (at_sequence (sequence + length all) to k) refl refl;
+          indexes = subst (λ n. AreAllIndexes (map declared to.items) n new.trees) (sym here.numbered ∙ ap (λ (v : FoundValues). v.0) values) (writes here).2;
         }
 
 -- what is known after it, of what was known before
-pub known_after : (trees : Trees) (known : Option KnownDatabase) (name : List ℕ) (sequence : ℕ) (r : Option KnownDatabase)
-    → IfSome r (λ now. (was : KnownDatabase) × (known ≡ Some was) × (was.name ≡ name) × (now ≡ at_sequence sequence was))
-    → ((was : KnownDatabase) → known ≡ Some was → was.name ≡ name → ∥ IsKnown trees (Some (at_sequence sequence was)) ∥₁) → ∥ IsKnown trees r ∥₁
-known_after trees known name sequence None h so = ∣ tt ∣₁
-known_after trees known name sequence (Some now) h so = subst (λ k. ∥ IsKnown trees (Some k) ∥₁) (sym h.3) (so h.0 h.1 h.2)
+pub known_after : (trees : Trees) (known : Option KnownDatabase) (name : List ℕ) (sequence : ℕ) (to : Vec Declaration Global) (r : Option KnownDatabase)
+    → IfSome r (λ now. (was : KnownDatabase) × (known ≡ Some was) × (was.name ≡ name) × (now ≡ at_sequence sequence to was))
+    → ((was : KnownDatabase) → known ≡ Some was → was.name ≡ name → ∥ IsKnown trees (Some (at_sequence sequence to was)) ∥₁) → ∥ IsKnown trees r ∥₁
+known_after trees known name sequence to None h so = ∣ tt ∣₁
+known_after trees known name sequence to (Some now) h so = subst (λ k. ∥ IsKnown trees (Some k) ∥₁) (sym h.3) (so h.0 h.1 h.2)

@@ -1,6 +1,7 @@
 -- What the rows of databases and names say, and when they are intact.
 -- This server's own: rows are read by the words of `tables`.
-use Rattle.std.specs.Prelude.{◌≡◌, ℕ, ◌-◌, ℤ, Bool, if◌then◌else◌, IsTrue, List, length, filter, slice_get, Option, None, Some}
+use Rattle.std.specs.Prelude.{◌≡◌, ℕ, ◌-◌, ℤ, Bool, if◌then◌else◌, IsTrue, List, length, filter, slice_get, Option, None, Some, Vec}
+use Rattle.std.specs.declared.alloc.Global.{Global}
 use Rattle.couch_json.specs.Value as json
 use Rattle.couch_json.specs.View.{view}
 use Rattle.store.specs.DatabaseName.{is_database_name}
@@ -11,6 +12,7 @@ use Rattle.sqlite_trees.specs.Tree.{Trees}
 use Rattle.tables.specs.Schema.{dbs_tree}
 use Rattle.tables.specs.Shown.{revision_shown}
 use Rattle.tree.specs.Revision.{Revision}
+use Rattle.index.specs.declared.declaration.Declaration.{Declaration}
 use Rattle.sqlstore.specs.declared.document_count.DocumentCount.{DocumentCount}
 use Rattle.sqlstore.specs.declared.known_database.KnownDatabase.{KnownDatabase}
 
@@ -33,9 +35,13 @@ numbers_in r = (number_of r, length_of r)
 abbrev pub known_values : KnownDatabase → FoundValues
 known_values k = (k.found.number, view k.found.security, k.found.sequence)
 
--- what is known after documents were written: the same, with this sequence, and no count
-abbrev pub at_sequence : ℕ → KnownDatabase → KnownDatabase
-at_sequence sequence k = record k { found = record k.found { sequence = sequence }; live = None; deleted = None }
+-- what is known after documents were written: the same, with this sequence and these indexes, and no count
+abbrev pub at_sequence : ℕ → Vec Declaration Global → KnownDatabase → KnownDatabase
+at_sequence sequence indexes k = record k { found = record k.found { sequence = sequence }; live = None; deleted = None; indexes = Some indexes }
+
+-- the same, but that no index is known
+abbrev pub without_indexes : KnownDatabase → KnownDatabase
+without_indexes k = record k { indexes = None }
 
 -- the count of the documents whose winner is marked so
 abbrev pub count_kept : Bool → KnownDatabase → Option DocumentCount

@@ -9,15 +9,17 @@ use Rattle.tables.specs.Layout.{IsStore}
 use Rattle.tables.specs.Rows.{is_named}
 use Rattle.tables.specs.Schema.{dbs_tree}
 use Rattle.index.specs.Indexed.{IsIndexed}
-use Rattle.transactions.specs.Indexing.{IsIndexedStore}
+use Rattle.transactions.specs.Indexing.{AreKnownIndexes, IsIndexedStore}
 use Rattle.sqlstore.specs.Listing.{all_count}
 use Rattle.sqlstore.specs.Reading.{count_kept, found_in, known_values}
 use Rattle.sqlstore.specs.declared.known_database.KnownDatabase.{KnownDatabase}
 
--- what is known of a database is what its row says, and each count that is known is that of its documents
+-- What is known of a database is what its row says, each count that is known is that of its documents, and its indexes, where they are
+-- known, are all that it has.
 pub record IsKnownDatabase (trees : Trees) (k : KnownDatabase) : Type 0 where
   pub row : option_map found_in (slice_get (filter (is_named k.name) (trees dbs_tree)) 0) ≡ Some (known_values k)
   pub counts : (deleted : Bool) → IfSome (count_kept deleted k) (λ c. c.value ≡ all_count trees k.found.number deleted)
+  pub indexes : AreKnownIndexes k.indexes k.found.number trees
 
 -- the same, where something is known
 abbrev pub IsKnown : Trees → Option KnownDatabase → Type 0

@@ -3,14 +3,16 @@
 ghost use Rattle.std.specs.Prelude.{◌≡◌, IfSome};
 ghost use Rattle.sqlite_trees.specs.Tree.{Trees};
 ghost use Rattle.sqlstore.specs.Listing.{all_count};
-ghost use Rattle.sqlstore.specs.Reading.{at_sequence, count_kept, with_count};
+ghost use Rattle.sqlstore.specs.Reading.{at_sequence, count_kept, with_count, without_indexes};
 ghost use Rattle.sqlstore.specs.Standing.{IsKnown};
+ghost use Rattle.transactions.specs.Indexing.{AreKnownIndexes};
 
 use crate::document_count::DocumentCount;
+use index::Declaration;
 use store::DbName;
 use tables::FoundDatabase;
 
-/// A database and what its row says, and how many documents it has.
+/// A database and what its row says, how many documents it has, and its indexes.
 #[derive(Drop)]
 pub(crate) struct KnownDatabase {
     /// Its name.
@@ -21,6 +23,8 @@ pub(crate) struct KnownDatabase {
     pub(crate) live: Option<DocumentCount>,
     /// How many have a winner that is deleted, where that was counted.
     pub(crate) deleted: Option<DocumentCount>,
+    /// Its indexes, where they were listed.
+    pub(crate) indexes: Option<Vec<Declaration>>,
 }
 
 /// The number of a database and its sequence.
@@ -43,15 +47,17 @@ impl KnownDatabase {
         }
     }
 
-    /// Makes of it what is known after documents were written and its sequence moved to this one.
-    pub(crate) fn at_sequence(self, sequence: u64) -> KnownDatabase
-        ensures { result ≡ at_sequence sequence self }
+    /// Makes of it what is known after documents were written: its sequence moved to this one, and its
+    /// indexes are these.
+    pub(crate) fn at_sequence(self, sequence: u64, indexes: Vec<Declaration>) -> KnownDatabase
+        ensures { result ≡ at_sequence sequence indexes self }
     {
         let KnownDatabase {
             name,
             mut found,
             live: _,
             deleted: _,
+            indexes: _,
         } = self;
         found.sequence = sequence;
         KnownDatabase {
@@ -59,7 +65,30 @@ impl KnownDatabase {
             found,
             live: None,
             deleted: None,
+            indexes: Some(indexes),
         }
+    }
+
+    /// Parts it from its indexes.
+    fn split(self) -> (KnownDatabase, Option<Vec<Declaration>>)
+        ensures known { result.0 ≡ without_indexes self }
+        ensures indexes { result.1 ≡ self.indexes }
+    {
+        let KnownDatabase {
+            name,
+            found,
+            live,
+            deleted,
+            indexes,
+        } = self;
+        let known = KnownDatabase {
+            name,
+            found,
+            live,
+            deleted,
+            indexes: None,
+        };
+        (known, indexes)
     }
 
     /// Returns how many documents have a winner that is marked so, where that was counted.
@@ -78,12 +107,14 @@ impl KnownDatabase {
             found,
             live,
             deleted: gone,
+            indexes,
         } = self;
         KnownDatabase {
             name,
             found,
             live: if deleted { live } else { Some(count) },
             deleted: if deleted { Some(count) } else { gone },
+            indexes,
         }
     }
 }
@@ -119,4 +150,22 @@ pub(crate) fn keep_count(
         return Some(known);
     }
     Some(known.with_count(deleted, count))
+}
+
+/// Parts what is known from the indexes of the database of this number, where it is the known one.
+pub(crate) fn take_indexes(
+    known: Option<KnownDatabase>,
+    number: &i64,
+) -> (Option<KnownDatabase>, Option<Vec<Declaration>>)
+    ensures known { (trees : Trees) → IsKnown trees known → IsKnown trees result.0 }
+    ensures indexes { (trees : Trees) → IsKnown trees known → AreKnownIndexes result.1 number.now trees }
+{
+    let Some(known) = known else {
+        return (None, None);
+    };
+    if known.found.number != *number {
+        return (Some(known), None);
+    }
+    let (known, indexes) = known.split();
+    (Some(known), indexes)
 }

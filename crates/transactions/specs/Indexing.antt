@@ -1,6 +1,7 @@
 -- A write that the index rows follow: when it is done, and what it leaves.
 -- This server's own: what index rows are to be is said by `index`, and what a write leaves of the other tables by `tables`.
-use Rattle.std.specs.Prelude.{◌≡◌, ◌+◌, ℕ, ℤ, pos, IsTrue, List, filter, map}
+use Rattle.std.specs.Prelude.{◌≡◌, ◌+◌, ℕ, ℤ, pos, IfSome, IsTrue, List, Option, Vec, filter, map}
+use Rattle.std.specs.declared.alloc.Global.{Global}
 use Rattle.sqlite.specs.Effect.{Database}
 use Rattle.sqlite.specs.Held.{Held, state}
 use Rattle.sqlite.specs.State.{HasCleanDisk}
@@ -17,7 +18,8 @@ use Rattle.index.specs.Calls.{ChangesIndexes}
 use Rattle.index.specs.Indexed.{AreIndexed, IsIndexed}
 use Rattle.index.specs.Meaning.{Declarations, Documents, declares_in, with_declared}
 use Rattle.index.specs.Rows.{is_at_home}
-use Rattle.index.specs.Shown.{Declared, declared_at}
+use Rattle.index.specs.Shown.{Declared, declared, declared_at}
+use Rattle.index.specs.declared.declaration.Declaration.{Declaration}
 use Rattle.index.specs.declared.fault.IndexFault.{IndexFault}
 use Rattle.index.specs.declared.fault.IndexFault.TheVariants as index
 use Rattle.store.specs.declared.fault.StoreFault.TheVariants.{Memory, Damaged}
@@ -35,6 +37,10 @@ pub record IsIndexedStore (db : Database) : Type 0 where
 -- these are all indexes of the database of this number
 abbrev pub AreAllIndexes : List Declared → ℤ → Trees → Type 0
 AreAllIndexes all db trees = all ≡ map declared_at (filter (is_at_home db) (trees decls_tree))
+
+-- these are all indexes of the database, where they are known
+abbrev pub AreKnownIndexes : Option (Vec Declaration Global) → ℤ → Trees → Type 0
+AreKnownIndexes known db trees = IfSome known (λ all. AreAllIndexes (map declared all.items) db trees)
 
 -- the write of a document in the database that has this row
 abbrev pub write_in : Trees → Row → Addition → DocumentWrite

@@ -19,7 +19,7 @@ ghost use Rattle.transactions.specs.Following.{HasPlaceFor, Serves};
 ghost use Rattle.transactions.specs.Inserting.{IsLawfulAddition};
 ghost use Rattle.transactions.specs.Endings.{IsDone, IsUndone, Turns};
 ghost use Rattle.transactions.specs.Reading.{HasBest};
-ghost use Rattle.transactions.specs.Indexing.{AreAllIndexes, IsIndexedStore, IsSoundIndexed};
+ghost use Rattle.transactions.specs.Indexing.{AreAllIndexes, AreKnownIndexes, IsIndexedStore, IsSoundIndexed};
 ghost use Rattle.index.specs.Indexed.{IsIndexed};
 ghost use Rattle.index.specs.Shown.{declared};
 ghost use Rattle.std.specs.Prelude.{map};
@@ -38,30 +38,34 @@ use store::Write;
 use tables::transaction_reads::{document_rows_in, revision_rows_in};
 use tree::{DocId, History};
 
-/// Does the writes of a database, all of them or none.
+/// Does the writes of a database, all of them or none. It takes the indexes of the database, where they
+/// are known, and returns those that it has then.
 pub fn commit_writes<S: Alter>(
     alloc: Global,
     conn: &mut Connection<S>,
     db: &i64,
     sequence: u64,
+    indexes: Option<Vec<Declaration>>,
     writes: &[Write],
-) -> Result<(), CommitFault>
+) -> Result<Vec<Declaration>, CommitFault>
     requires idle { conn.old.in_transaction ≡ false }
     requires room { sequence + length writes.now < 2 ^ 63 }
     ensures ok { (name : List ℕ) → HasCleanDisk (state S.Store conn.new) → IsIndexedStore (state S.Store conn.old).now
+        → AreKnownIndexes indexes db.now (state S.Store conn.old).now.trees
         → (due : AreDue (additions writes.now) name db.now sequence (state S.Store conn.old).now.trees)
-        → OnOk result (HasWritten (writings_in (database_of (state S.Store conn.old).now.trees due.row) (additions writes.now)) name due.row
-        (state S.Store conn.old).now (state S.Store conn.new).now × IsIndexed (state S.Store conn.new).now.trees) }
-    ensures err { (name : List ℕ) → IfErr result (IsUnwritten (IsSoundIndexed S.Store (λ d. AreDue (additions writes.now) name db.now sequence d.trees) conn.old conn.new)) }
+        → IfOk result (λ all. HasWritten (writings_in (database_of (state S.Store conn.old).now.trees due.row) (additions writes.now)) name due.row
+        (state S.Store conn.old).now (state S.Store conn.new).now × IsIndexed (state S.Store conn.new).now.trees × AreAllIndexes (map declared all.items) db.now (state S.Store conn.new).now.trees) }
+    ensures err { (name : List ℕ) → IfErr result (IsUnwritten (IsSoundIndexed S.Store
+        (λ d. AreKnownIndexes indexes db.now d.trees × AreDue (additions writes.now) name db.now sequence d.trees) conn.old conn.new)) }
     ensures turns { Turns S.Store conn.old conn.new }
     ensures done { IsDone S.Store conn.old conn.new result }
-    ensures undone { (name : List ℕ) → IsIndexedStore (state S.Store conn.old).now → AreDue (additions writes.now) name db.now sequence (state S.Store conn.old).now.trees
-        → IsUndone S.Store conn.old conn.new result }
+    ensures undone { (name : List ℕ) → IsIndexedStore (state S.Store conn.old).now → AreKnownIndexes indexes db.now (state S.Store conn.old).now.trees
+        → AreDue (additions writes.now) name db.now sequence (state S.Store conn.old).now.trees → IsUndone S.Store conn.old conn.new result }
 {
     let mut tx = conn.transaction();
-    write_all(alloc, &mut tx, db, sequence, writes)?;
+    let after = write_all(alloc, &mut tx, db, sequence, indexes, writes)?;
     tx.commit()?;
-    Ok(())
+    Ok(after)
 }
 
 /// Writes a document under this sequence, in a transaction. Its history is taken from those that were
@@ -288,30 +292,30 @@ pub fn integer_of(count: u64) -> i64
 }
 
 /// Does the writes of a database in turn, each under the next sequence, and has the indexes of the
-/// database, which these are, follow each of them.
+/// database, which these are, follow each of them. It returns those that it has then.
 fn write_each<S: Alter>(
     alloc: Global,
     tx: &mut Transaction<'_, S>,
     db: &i64,
     sequence: u64,
-    indexes: &mut Vec<Declaration>,
+    mut indexes: Vec<Declaration>,
     writes: &[Write],
-) -> Result<(), CommitFault>
+) -> Result<Vec<Declaration>, CommitFault>
     requires { sequence + length writes.now < 2 ^ 63 }
     ensures same_reference { tx.new.conn.ghost_name ≡ tx.old.conn.ghost_name }
     ensures ok { (name : List ℕ) → HasCleanDisk (state S.Store tx.new.conn.now) → IsIndexedStore (state S.Store tx.old.conn.now).now
-        → AreAllIndexes (map declared indexes.old.items) db.now (state S.Store tx.old.conn.now).now.trees
+        → AreAllIndexes (map declared indexes.items) db.now (state S.Store tx.old.conn.now).now.trees
         → (due : AreDue (additions writes.now) name db.now sequence (state S.Store tx.old.conn.now).now.trees)
-        → OnOk result (HasWritten (writings_in (database_of (state S.Store tx.old.conn.now).now.trees due.row) (additions writes.now)) name due.row
-        (state S.Store tx.old.conn.now).now (state S.Store tx.new.conn.now).now × IsIndexed (state S.Store tx.new.conn.now).now.trees) }
+        → IfOk result (λ all. HasWritten (writings_in (database_of (state S.Store tx.old.conn.now).now.trees due.row) (additions writes.now)) name due.row
+        (state S.Store tx.old.conn.now).now (state S.Store tx.new.conn.now).now × IsIndexed (state S.Store tx.new.conn.now).now.trees × AreAllIndexes (map declared all.items) db.now (state S.Store tx.new.conn.now).now.trees) }
     ensures err { (name : List ℕ) → IfErr result (IsUnwritten (IsSoundIndexed S.Store
-        (λ d. AreAllIndexes (map declared indexes.old.items) db.now d.trees × AreDue (additions writes.now) name db.now sequence d.trees) tx.old.conn.now tx.new.conn.now)) }
+        (λ d. AreAllIndexes (map declared indexes.items) db.now d.trees × AreDue (additions writes.now) name db.now sequence d.trees) tx.old.conn.now tx.new.conn.now)) }
     ensures kept { (name : List ℕ) → HasCleanDisk (state S.Store tx.new.conn.now) → IsIndexedStore (state S.Store tx.old.conn.now).now
-        → AreAllIndexes (map declared indexes.old.items) db.now (state S.Store tx.old.conn.now).now.trees
+        → AreAllIndexes (map declared indexes.items) db.now (state S.Store tx.old.conn.now).now.trees
         → AreDue (additions writes.now) name db.now sequence (state S.Store tx.old.conn.now).now.trees
         → KeepsCommit (state S.Store tx.old.conn.now) (state S.Store tx.new.conn.now) }
     ensures inside { (name : List ℕ) → HasCleanDisk (state S.Store tx.new.conn.now) → IsIndexedStore (state S.Store tx.old.conn.now).now
-        → AreAllIndexes (map declared indexes.old.items) db.now (state S.Store tx.old.conn.now).now.trees
+        → AreAllIndexes (map declared indexes.items) db.now (state S.Store tx.old.conn.now).now.trees
         → AreDue (additions writes.now) name db.now sequence (state S.Store tx.old.conn.now).now.trees
         → (state S.Store tx.old.conn.now).in_transaction ≡ true → OnOk result ((state S.Store tx.new.conn.now).in_transaction ≡ true) }
     ensures asks { AsksInside S.Store tx.old.conn.now tx.new.conn.now }
@@ -319,25 +323,25 @@ fn write_each<S: Alter>(
     let mut histories = BTreeMap::new(alloc);
     for (i, write) in writes.iter().enumerate() {
         let next = integer_of(sequence + i as u64 + 1);
-        write_indexed(alloc, tx, db, &next, &mut histories, indexes, write)?;
+        write_indexed(alloc, tx, db, &next, &mut histories, &mut indexes, write)?;
     }
-    Ok(())
+    Ok(indexes)
 }
 
-/// Does the writes of a database in turn, each under the next sequence, and has its indexes follow.
-fn write_all<S: Alter>(
+/// Lists the indexes of a database, and then does its writes in turn, as `write_each` does.
+fn write_listed<S: Alter>(
     alloc: Global,
     tx: &mut Transaction<'_, S>,
     db: &i64,
     sequence: u64,
     writes: &[Write],
-) -> Result<(), CommitFault>
+) -> Result<Vec<Declaration>, CommitFault>
     requires { sequence + length writes.now < 2 ^ 63 }
     ensures same_reference { tx.new.conn.ghost_name ≡ tx.old.conn.ghost_name }
     ensures ok { (name : List ℕ) → HasCleanDisk (state S.Store tx.new.conn.now) → IsIndexedStore (state S.Store tx.old.conn.now).now
         → (due : AreDue (additions writes.now) name db.now sequence (state S.Store tx.old.conn.now).now.trees)
-        → OnOk result (HasWritten (writings_in (database_of (state S.Store tx.old.conn.now).now.trees due.row) (additions writes.now)) name due.row
-        (state S.Store tx.old.conn.now).now (state S.Store tx.new.conn.now).now × IsIndexed (state S.Store tx.new.conn.now).now.trees) }
+        → IfOk result (λ all. HasWritten (writings_in (database_of (state S.Store tx.old.conn.now).now.trees due.row) (additions writes.now)) name due.row
+        (state S.Store tx.old.conn.now).now (state S.Store tx.new.conn.now).now × IsIndexed (state S.Store tx.new.conn.now).now.trees × AreAllIndexes (map declared all.items) db.now (state S.Store tx.new.conn.now).now.trees) }
     ensures err { (name : List ℕ) → IfErr result (IsUnwritten (IsSoundIndexed S.Store (λ d. AreDue (additions writes.now) name db.now sequence d.trees) tx.old.conn.now tx.new.conn.now)) }
     ensures kept { (name : List ℕ) → HasCleanDisk (state S.Store tx.new.conn.now) → IsIndexedStore (state S.Store tx.old.conn.now).now
         → AreDue (additions writes.now) name db.now sequence (state S.Store tx.old.conn.now).now.trees
@@ -347,6 +351,41 @@ fn write_all<S: Alter>(
         → (state S.Store tx.old.conn.now).in_transaction ≡ true → OnOk result ((state S.Store tx.new.conn.now).in_transaction ≡ true) }
     ensures asks { AsksInside S.Store tx.old.conn.now tx.new.conn.now }
 {
-    let mut indexes = list_declarations(alloc, tx, db)?;
-    write_each(alloc, tx, db, sequence, &mut indexes, writes)
+    let indexes = list_declarations(alloc, tx, db)?;
+    write_each(alloc, tx, db, sequence, indexes, writes)
+}
+
+/// Does the writes of a database in turn, each under the next sequence, and has its indexes follow, which
+/// these are where they are known. It returns those that it has then.
+fn write_all<S: Alter>(
+    alloc: Global,
+    tx: &mut Transaction<'_, S>,
+    db: &i64,
+    sequence: u64,
+    indexes: Option<Vec<Declaration>>,
+    writes: &[Write],
+) -> Result<Vec<Declaration>, CommitFault>
+    requires { sequence + length writes.now < 2 ^ 63 }
+    ensures same_reference { tx.new.conn.ghost_name ≡ tx.old.conn.ghost_name }
+    ensures ok { (name : List ℕ) → HasCleanDisk (state S.Store tx.new.conn.now) → IsIndexedStore (state S.Store tx.old.conn.now).now
+        → AreKnownIndexes indexes db.now (state S.Store tx.old.conn.now).now.trees
+        → (due : AreDue (additions writes.now) name db.now sequence (state S.Store tx.old.conn.now).now.trees)
+        → IfOk result (λ all. HasWritten (writings_in (database_of (state S.Store tx.old.conn.now).now.trees due.row) (additions writes.now)) name due.row
+        (state S.Store tx.old.conn.now).now (state S.Store tx.new.conn.now).now × IsIndexed (state S.Store tx.new.conn.now).now.trees × AreAllIndexes (map declared all.items) db.now (state S.Store tx.new.conn.now).now.trees) }
+    ensures err { (name : List ℕ) → IfErr result (IsUnwritten (IsSoundIndexed S.Store
+        (λ d. AreKnownIndexes indexes db.now d.trees × AreDue (additions writes.now) name db.now sequence d.trees) tx.old.conn.now tx.new.conn.now)) }
+    ensures kept { (name : List ℕ) → HasCleanDisk (state S.Store tx.new.conn.now) → IsIndexedStore (state S.Store tx.old.conn.now).now
+        → AreKnownIndexes indexes db.now (state S.Store tx.old.conn.now).now.trees
+        → AreDue (additions writes.now) name db.now sequence (state S.Store tx.old.conn.now).now.trees
+        → KeepsCommit (state S.Store tx.old.conn.now) (state S.Store tx.new.conn.now) }
+    ensures inside { (name : List ℕ) → HasCleanDisk (state S.Store tx.new.conn.now) → IsIndexedStore (state S.Store tx.old.conn.now).now
+        → AreKnownIndexes indexes db.now (state S.Store tx.old.conn.now).now.trees
+        → AreDue (additions writes.now) name db.now sequence (state S.Store tx.old.conn.now).now.trees
+        → (state S.Store tx.old.conn.now).in_transaction ≡ true → OnOk result ((state S.Store tx.new.conn.now).in_transaction ≡ true) }
+    ensures asks { AsksInside S.Store tx.old.conn.now tx.new.conn.now }
+{
+    match indexes {
+        Some(known) => write_each(alloc, tx, db, sequence, known, writes),
+        None => write_listed(alloc, tx, db, sequence, writes),
+    }
 }

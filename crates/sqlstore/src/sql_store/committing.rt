@@ -5,8 +5,9 @@ ghost use Rattle.sqlstore.specs.declared.known_database.KnownDatabase.{KnownData
 ghost use Rattle.sqlstore.specs.Reading.{at_sequence};
 
 use crate::fault::judge_write;
-use crate::known_database::KnownDatabase;
+use crate::known_database::{KnownDatabase, take_indexes};
 use crate::sql_store::SqlStore;
+use index::Declaration;
 use sqlite::Alter;
 use std::snapshot::Snapshot;
 use store::{DbName, StoreFault, Write};
@@ -23,13 +24,18 @@ pub(crate) fn has_room(sequence: u64, count: usize) -> bool
 }
 
 /// Returns what is known of the database of this name, if it is the known one, after its sequence moved to
-/// this one.
-fn advance(known: Option<KnownDatabase>, name: &DbName, sequence: u64) -> Option<KnownDatabase>
-    ensures { IfSome result (λ now. (was : KnownDatabase) × (known ≡ Some was) × (was.name ≡ name.now) × (now ≡ at_sequence sequence was)) }
+/// this one; its indexes are these.
+fn advance(
+    known: Option<KnownDatabase>,
+    name: &DbName,
+    sequence: u64,
+    indexes: Vec<Declaration>,
+) -> Option<KnownDatabase>
+    ensures { IfSome result (λ now. (was : KnownDatabase) × (known ≡ Some was) × (was.name ≡ name.now) × (now ≡ at_sequence sequence indexes was)) }
 {
     let known = known?;
     if known.name == *name {
-        Some(known.at_sequence(sequence))
+        Some(known.at_sequence(sequence, indexes))
     } else {
         None
     }
@@ -60,11 +66,19 @@ impl<S: Alter> SqlStore<S> {
         ensures kept { OnErr result (self.new.last.value ≡ self.old.last.value) }
         ensures moves { Moves S.Store self.old self.new }
     {
-        match commit_writes(self.alloc, &mut self.conn, number, sequence, writes) {
-            Ok(()) => {
+        let was = self.known.take();
+        let (known, indexes) = take_indexes(was, number);
+        match commit_writes(
+            self.alloc,
+            &mut self.conn,
+            number,
+            sequence,
+            indexes,
+            writes,
+        ) {
+            Ok(all) => {
                 self.last = Snapshot::of(&self.conn);
-                let known = self.known.take();
-                self.known = advance(known, name, sequence + writes.len() as u64);
+                self.known = advance(known, name, sequence + writes.len() as u64, all);
                 Ok(())
             }
             Err(fault) => Err(judge_write(&mut self.faults, fault)),

@@ -43,6 +43,7 @@ impl<S: Alter> SqlStore<S> {
             found,
             live: None,
             deleted: None,
+            indexes: None,
         })
     }
 

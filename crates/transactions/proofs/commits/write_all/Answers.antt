@@ -1,116 +1,48 @@
-use Rattle.transactions.proofs.Lemmas.{AreDue, CommitFault, Database, Err, HasCleanDisk, HasWritten, IfErr, IsUnwritten, KeepsCommit, OnOk, Result, additions, arith, asks_then, database_of, keeps_then, map, rules, state, subst, sym, unwritten_of, writings_in, ◌∙◌, ◌≡◌}
-use Rattle.transactions.proofs.Common.{true}
-use Rattle.transactions.proofs.IndexSteps.{rows_of}
-use Rattle.transactions.proofs.IndexRests.{refused_of}
-use Rattle.transactions.specs.Indexing.{AreAllIndexes, IsIndexedStore, IsSoundIndexed, of_index_fault}
+use Rattle.transactions.proofs.Lemmas.{AreDue, CommitFault, Database, IfErr, IsUnwritten, additions, state, subst, sym, unwritten_of}
+use Rattle.transactions.proofs.Common.{Option}
+use Rattle.transactions.specs.Indexing.{AreKnownIndexes, IsSoundIndexed}
 use Rattle.index.proofs.Going.{if_err}
-use Rattle.index.specs.Calls as index
-use Rattle.index.specs.Indexed.{IsIndexed}
-use Rattle.index.specs.Shown.{declared}
+use Rattle.index.specs.declared.declaration.Declaration.{Declaration}
+use Rattle.std.proofs.Common.{Global, Vec}
 use Rattle.transactions.proofs.commits.write_all.Goals as goal
 
-pub returns-in_err-indexes-clause-err : goal.returns-in_err-indexes-clause-err
-returns-in_err-indexes-clause-err g c name =
-    let first = c.args.tx.now.conn.now in
-    let last = c.list_declarations.new.tx.conn.now in
-    let fault = c.in_err-indexes.field-0.0 in
-    let Given : Type 0 = IsSoundIndexed g.S.Store (λ d. AreDue (additions c.args.writes.now) name c.args.db.now c.args.sequence d.trees) first last in
-    let is : c.from_residual.result ≡ Err (of_index_fault fault) = search rules in
-    subst (λ (r : Result (Unit {0}) CommitFault). IfErr r (IsUnwritten Given)) (sym is)
-    (refused_of (index.IsSound g.S.Store first last) Given fault (λ it. (it.0, λ up. rows_of _ (it.1 up).0)) c.in_err-indexes.ensures.err)
+pub returns-in-Some-clause-ok : goal.returns-in-Some-clause-ok
+returns-in-Some-clause-ok g c name clean was every due =
+    let old = state g.S.Store c.args.tx.now.conn.now in
+    c.write_each.ensures.ok name clean was (subst (λ (k : Option (Vec Declaration Global)). AreKnownIndexes k c.args.db.now old.now.trees) c.in-Some.is every) due
 
-pub returns-clause-ok : goal.returns-clause-ok
-returns-clause-ok g c name clean was due =
+pub returns-in-Some-clause-err : goal.returns-in-Some-clause-err
+returns-in-Some-clause-err g c name =
     let first = c.args.tx.now.conn.now in
-    let between = c.list_declarations.new.tx.conn.now in
     let last = c.write_each.new.tx.conn.now in
-    let old = state g.S.Store first in
-    let mid = state g.S.Store between in
-    let new = state g.S.Store last in
-    let db = c.args.db.now in
-    let all = additions c.args.writes.now in
-    let find = c.in_ok-indexes.ensures in
-    let e = c.write_each.ensures in
-    let mid-clean : HasCleanDisk mid = omega (arith, e.asks.survives.clean, clean) in
-    let stands = (find.stands was.store.schema_is mid-clean).0 in
-    let every = find.ok mid-clean (rows_of old.now was) in
-    subst (λ (d : Database). IsIndexedStore d → AreAllIndexes (map declared c.in_ok-indexes.indexes.items) db d.trees → (due : AreDue all name db c.args.sequence d.trees)
-    → OnOk c.write_each.result (HasWritten (writings_in (database_of d.trees due.row) all) name due.row d new.now × IsIndexed new.now.trees)) stands.now_is (e.ok name clean) was every due
+    subst (λ (k : Option (Vec Declaration Global)). IfErr c.write_each.result (IsUnwritten (IsSoundIndexed g.S.Store (λ d. AreKnownIndexes k c.args.db.now d.trees × AreDue (additions c.args.writes.now) name c.args.db.now c.args.sequence d.trees) first last)))
+    (sym c.in-Some.is) (c.write_each.ensures.err name)
 
-pub returns-clause-err : goal.returns-clause-err
-returns-clause-err g c name =
-    let first = c.args.tx.now.conn.now in
-    let between = c.list_declarations.new.tx.conn.now in
-    let last = c.write_each.new.tx.conn.now in
-    let old = state g.S.Store first in
-    let mid = state g.S.Store between in
-    let new = state g.S.Store last in
-    let db = c.args.db.now in
-    let all = additions c.args.writes.now in
-    let find = c.in_ok-indexes.ensures in
-    let e = c.write_each.ensures in
-    let Told : Type 0 = IsSoundIndexed g.S.Store (λ d. AreAllIndexes (map declared c.in_ok-indexes.indexes.items) db d.trees × AreDue all name db c.args.sequence d.trees) between last in
-    let Given : Type 0 = IsSoundIndexed g.S.Store (λ d. AreDue all name db c.args.sequence d.trees) first last in
-    if_err {P = IsUnwritten Told} {Q = IsUnwritten Given} c.write_each.result
-    (λ (fault : CommitFault) h.
-    unwritten_of Told Given fault
-    (λ it. (
-      it.0,
-      λ up.
-          let mid-clean : HasCleanDisk mid = omega (arith, e.asks.survives.clean, it.0) in
-          let had = it.1 (find.asks.was_open mid-clean up) in
-          let stands = (find.stands had.0.store.schema_is mid-clean).0 in
-          let every = find.ok mid-clean (rows_of old.now had.0) in
-          subst (λ (d : Database). IsIndexedStore d × (AreAllIndexes (map declared c.in_ok-indexes.indexes.items) db d.trees × AreDue all name db c.args.sequence d.trees)) (sym stands.now_is) (had.0, (every, had.1)),
-    )) h)
-    (e.err name)
+pub returns-in-Some-clause-kept : goal.returns-in-Some-clause-kept
+returns-in-Some-clause-kept g c name clean was every due =
+    let old = state g.S.Store c.args.tx.now.conn.now in
+    c.write_each.ensures.kept name clean was (subst (λ (k : Option (Vec Declaration Global)). AreKnownIndexes k c.args.db.now old.now.trees) c.in-Some.is every) due
 
-pub returns-clause-kept : goal.returns-clause-kept
-returns-clause-kept g c name clean was due =
-    let first = c.args.tx.now.conn.now in
-    let between = c.list_declarations.new.tx.conn.now in
-    let last = c.write_each.new.tx.conn.now in
-    let old = state g.S.Store first in
-    let mid = state g.S.Store between in
-    let new = state g.S.Store last in
-    let db = c.args.db.now in
-    let all = additions c.args.writes.now in
-    let find = c.in_ok-indexes.ensures in
-    let e = c.write_each.ensures in
-    let mid-clean : HasCleanDisk mid = omega (arith, e.asks.survives.clean, clean) in
-    let stands = (find.stands was.store.schema_is mid-clean).0 in
-    let every = find.ok mid-clean (rows_of old.now was) in
-    keeps_then old mid new ((find.looks was.store.schema_is).kept mid-clean)
-    (subst (λ (d : Database). IsIndexedStore d → AreAllIndexes (map declared c.in_ok-indexes.indexes.items) db d.trees → AreDue all name db c.args.sequence d.trees → KeepsCommit mid new) stands.now_is (e.kept name clean) was every due)
+pub returns-in-Some-clause-inside : goal.returns-in-Some-clause-inside
+returns-in-Some-clause-inside g c name clean was every due =
+    let old = state g.S.Store c.args.tx.now.conn.now in
+    c.write_each.ensures.inside name clean was (subst (λ (k : Option (Vec Declaration Global)). AreKnownIndexes k c.args.db.now old.now.trees) c.in-Some.is every) due
 
-pub returns-clause-inside : goal.returns-clause-inside
-returns-clause-inside g c name clean was due within =
-    let first = c.args.tx.now.conn.now in
-    let between = c.list_declarations.new.tx.conn.now in
-    let last = c.write_each.new.tx.conn.now in
-    let old = state g.S.Store first in
-    let mid = state g.S.Store between in
-    let new = state g.S.Store last in
-    let db = c.args.db.now in
-    let all = additions c.args.writes.now in
-    let find = c.in_ok-indexes.ensures in
-    let e = c.write_each.ensures in
-    let mid-clean : HasCleanDisk mid = omega (arith, e.asks.survives.clean, clean) in
-    let stands = (find.stands was.store.schema_is mid-clean).0 in
-    let every = find.ok mid-clean (rows_of old.now was) in
-    subst (λ (d : Database). IsIndexedStore d → AreAllIndexes (map declared c.in_ok-indexes.indexes.items) db d.trees → AreDue all name db c.args.sequence d.trees → mid.in_transaction ≡ true → OnOk c.write_each.result (new.in_transaction ≡ true)) stands.now_is
-    (e.inside name clean) was every due (stands.mode ∙ within)
+pub returns-in-None-clause-ok : goal.returns-in-None-clause-ok
+returns-in-None-clause-ok g c name clean was every due = c.write_listed.ensures.ok name clean was due
 
-pub returns-clause-asks : goal.returns-clause-asks
-returns-clause-asks g c =
+pub returns-in-None-clause-err : goal.returns-in-None-clause-err
+returns-in-None-clause-err g c name =
     let first = c.args.tx.now.conn.now in
-    let between = c.list_declarations.new.tx.conn.now in
-    let last = c.write_each.new.tx.conn.now in
-    let old = state g.S.Store first in
-    let mid = state g.S.Store between in
-    let new = state g.S.Store last in
-    let db = c.args.db.now in
-    let all = additions c.args.writes.now in
-    let find = c.in_ok-indexes.ensures in
-    let e = c.write_each.ensures in
-    asks_then old mid new find.asks e.asks
+    let last = c.write_listed.new.tx.conn.now in
+    let Due : Database → Type 0 = λ d. AreDue (additions c.args.writes.now) name c.args.db.now c.args.sequence d.trees in
+    let Told : Type 0 = IsSoundIndexed g.S.Store Due first last in
+    let Given : Type 0 = IsSoundIndexed g.S.Store (λ d. AreKnownIndexes c.args.indexes c.args.db.now d.trees × Due d) first last in
+    if_err {P = IsUnwritten Told} {Q = IsUnwritten Given} c.write_listed.result (λ (fault : CommitFault) h. unwritten_of Told Given fault (λ it. (it.0, λ up. let had = it.1 up in (had.0, had.1.1))) h)
+    (c.write_listed.ensures.err name)
+
+pub returns-in-None-clause-kept : goal.returns-in-None-clause-kept
+returns-in-None-clause-kept g c name clean was every due = c.write_listed.ensures.kept name clean was due
+
+pub returns-in-None-clause-inside : goal.returns-in-None-clause-inside
+returns-in-None-clause-inside g c name clean was every due = c.write_listed.ensures.inside name clean was due

@@ -1,6 +1,8 @@
 use Rattle.transactions.proofs.Lemmas.{AreDue, AreStored, CommitFault, Err, HasBest, HasCleanDisk, HasWritten, IfErr, IsHeldOpen, IsUnwritten, Result, addition_of, additions, arith, asks_itself, asks_then, best_in_turn, database_of, further_followed, history_in, history_with, keeps_itself, keeps_then, map, may_in_turn, none_held, none_written, refl, revs_tree, rules, state, stored_further, subst, sym, take_all, to_z-of_z, unwritten_of, w64, writings_in, ◌∙◌, ◌≡◌}
 use Rattle.std.proofs.Common.{of_z, to_z}
+use Rattle.std.proofs.Common.{Global, Vec}
 use Rattle.index.specs.Shown.{declared}
+use Rattle.index.specs.declared.declaration.Declaration.{Declaration}
 use Rattle.transactions.specs.Indexing.{AreAllIndexes, IsSoundIndexed, MayBeWritten}
 use Rattle.transactions.proofs.commits.write_each.Goals as goal
 
@@ -60,9 +62,9 @@ returns-in_err-write_indexed-clause-err g c name =
     let fault = c.in_err-write_indexed.field-0.0 in
     let a = addition_of c.index-writes-i.result in
     let db = c.args.db.now in
-    let Given : Type 0 = IsSoundIndexed g.S.Store (λ d. AreAllIndexes (map declared c.args.indexes.now.items) db d.trees × AreDue (additions c.args.writes.now) name db c.args.sequence d.trees) first now in
+    let Given : Type 0 = IsSoundIndexed g.S.Store (λ d. AreAllIndexes (map declared c.args.indexes.items) db d.trees × AreDue (additions c.args.writes.now) name db c.args.sequence d.trees) first now in
     let is : c.from_residual.result ≡ Err fault = search rules in
-    subst (λ (r : Result (Unit {0}) CommitFault). IfErr r (IsUnwritten Given)) (sym is)
+    subst (λ (r : Result (Vec Declaration Global) CommitFault). IfErr r (IsUnwritten Given)) (sym is)
     (unwritten_of
     (IsHeldOpen c.loop-i.histories mid
     × IsSoundIndexed g.S.Store (λ db'. AreStored c.loop-i.histories (history_in (db'.trees revs_tree) db) × HasBest (history_with db'.trees db a) × MayBeWritten db (to_z w64 (of_z w64 c.integer_of-next.result)) a db') last now)
@@ -106,6 +108,7 @@ returns-clause-ok g c name clean was every due =
     let far = c.loop-i.invariant.so_far name clean was every due in (
       subst (λ ws. HasWritten (writings_in (database_of old.now.trees due.row) (additions ws)) name due.row old.now new.now) (take_all c.loop-i.i c.args.writes.now (omega (arith, c.loop-i-test.false))) far.0,
       far.1,
+      far.2,
     )
 
 pub returns-clause-kept : goal.returns-clause-kept

@@ -1,0 +1,118 @@
+use Rattle.transactions.proofs.Lemmas.{AreDue, CommitFault, Database, Err, HasCleanDisk, HasWritten, IfErr, IsUnwritten, KeepsCommit, OnOk, Result, additions, arith, asks_then, database_of, keeps_then, map, rules, state, subst, sym, unwritten_of, writings_in, ◌∙◌, ◌≡◌}
+use Rattle.std.proofs.Common.{Global, IfOk, Vec}
+use Rattle.index.specs.declared.declaration.Declaration.{Declaration}
+use Rattle.transactions.proofs.Common.{true}
+use Rattle.transactions.proofs.IndexSteps.{rows_of}
+use Rattle.transactions.proofs.IndexRests.{refused_of}
+use Rattle.transactions.specs.Indexing.{AreAllIndexes, IsIndexedStore, IsSoundIndexed, of_index_fault}
+use Rattle.index.proofs.Going.{if_err}
+use Rattle.index.specs.Calls as index
+use Rattle.index.specs.Indexed.{IsIndexed}
+use Rattle.index.specs.Shown.{declared}
+use Rattle.transactions.proofs.commits.write_listed.Goals as goal
+
+pub returns-in_err-indexes-clause-err : goal.returns-in_err-indexes-clause-err
+returns-in_err-indexes-clause-err g c name =
+    let first = c.args.tx.now.conn.now in
+    let last = c.list_declarations.new.tx.conn.now in
+    let fault = c.in_err-indexes.field-0.0 in
+    let Given : Type 0 = IsSoundIndexed g.S.Store (λ d. AreDue (additions c.args.writes.now) name c.args.db.now c.args.sequence d.trees) first last in
+    let is : c.from_residual.result ≡ Err (of_index_fault fault) = search rules in
+    subst (λ (r : Result (Vec Declaration Global) CommitFault). IfErr r (IsUnwritten Given)) (sym is)
+    (refused_of (index.IsSound g.S.Store first last) Given fault (λ it. (it.0, λ up. rows_of _ (it.1 up).0)) c.in_err-indexes.ensures.err)
+
+pub returns-clause-ok : goal.returns-clause-ok
+returns-clause-ok g c name clean was due =
+    let first = c.args.tx.now.conn.now in
+    let between = c.list_declarations.new.tx.conn.now in
+    let last = c.write_each.new.tx.conn.now in
+    let old = state g.S.Store first in
+    let mid = state g.S.Store between in
+    let new = state g.S.Store last in
+    let db = c.args.db.now in
+    let all = additions c.args.writes.now in
+    let find = c.in_ok-indexes.ensures in
+    let e = c.write_each.ensures in
+    let mid-clean : HasCleanDisk mid = omega (arith, e.asks.survives.clean, clean) in
+    let stands = (find.stands was.store.schema_is mid-clean).0 in
+    let every = find.ok mid-clean (rows_of old.now was) in
+    subst (λ (d : Database). IsIndexedStore d → AreAllIndexes (map declared c.in_ok-indexes.indexes.items) db d.trees → (due : AreDue all name db c.args.sequence d.trees)
+    → IfOk c.write_each.result (λ (to : Vec Declaration Global). HasWritten (writings_in (database_of d.trees due.row) all) name due.row d new.now × IsIndexed new.now.trees × AreAllIndexes (map declared to.items) db new.now.trees)) stands.now_is (e.ok name clean) was every due
+
+pub returns-clause-err : goal.returns-clause-err
+returns-clause-err g c name =
+    let first = c.args.tx.now.conn.now in
+    let between = c.list_declarations.new.tx.conn.now in
+    let last = c.write_each.new.tx.conn.now in
+    let old = state g.S.Store first in
+    let mid = state g.S.Store between in
+    let new = state g.S.Store last in
+    let db = c.args.db.now in
+    let all = additions c.args.writes.now in
+    let find = c.in_ok-indexes.ensures in
+    let e = c.write_each.ensures in
+    let Told : Type 0 = IsSoundIndexed g.S.Store (λ d. AreAllIndexes (map declared c.in_ok-indexes.indexes.items) db d.trees × AreDue all name db c.args.sequence d.trees) between last in
+    let Given : Type 0 = IsSoundIndexed g.S.Store (λ d. AreDue all name db c.args.sequence d.trees) first last in
+    if_err {P = IsUnwritten Told} {Q = IsUnwritten Given} c.write_each.result
+    (λ (fault : CommitFault) h.
+    unwritten_of Told Given fault
+    (λ it. (
+      it.0,
+      λ up.
+          let mid-clean : HasCleanDisk mid = omega (arith, e.asks.survives.clean, it.0) in
+          let had = it.1 (find.asks.was_open mid-clean up) in
+          let stands = (find.stands had.0.store.schema_is mid-clean).0 in
+          let every = find.ok mid-clean (rows_of old.now had.0) in
+          subst (λ (d : Database). IsIndexedStore d × (AreAllIndexes (map declared c.in_ok-indexes.indexes.items) db d.trees × AreDue all name db c.args.sequence d.trees)) (sym stands.now_is) (had.0, (every, had.1)),
+    )) h)
+    (e.err name)
+
+pub returns-clause-kept : goal.returns-clause-kept
+returns-clause-kept g c name clean was due =
+    let first = c.args.tx.now.conn.now in
+    let between = c.list_declarations.new.tx.conn.now in
+    let last = c.write_each.new.tx.conn.now in
+    let old = state g.S.Store first in
+    let mid = state g.S.Store between in
+    let new = state g.S.Store last in
+    let db = c.args.db.now in
+    let all = additions c.args.writes.now in
+    let find = c.in_ok-indexes.ensures in
+    let e = c.write_each.ensures in
+    let mid-clean : HasCleanDisk mid = omega (arith, e.asks.survives.clean, clean) in
+    let stands = (find.stands was.store.schema_is mid-clean).0 in
+    let every = find.ok mid-clean (rows_of old.now was) in
+    keeps_then old mid new ((find.looks was.store.schema_is).kept mid-clean)
+    (subst (λ (d : Database). IsIndexedStore d → AreAllIndexes (map declared c.in_ok-indexes.indexes.items) db d.trees → AreDue all name db c.args.sequence d.trees → KeepsCommit mid new) stands.now_is (e.kept name clean) was every due)
+
+pub returns-clause-inside : goal.returns-clause-inside
+returns-clause-inside g c name clean was due within =
+    let first = c.args.tx.now.conn.now in
+    let between = c.list_declarations.new.tx.conn.now in
+    let last = c.write_each.new.tx.conn.now in
+    let old = state g.S.Store first in
+    let mid = state g.S.Store between in
+    let new = state g.S.Store last in
+    let db = c.args.db.now in
+    let all = additions c.args.writes.now in
+    let find = c.in_ok-indexes.ensures in
+    let e = c.write_each.ensures in
+    let mid-clean : HasCleanDisk mid = omega (arith, e.asks.survives.clean, clean) in
+    let stands = (find.stands was.store.schema_is mid-clean).0 in
+    let every = find.ok mid-clean (rows_of old.now was) in
+    subst (λ (d : Database). IsIndexedStore d → AreAllIndexes (map declared c.in_ok-indexes.indexes.items) db d.trees → AreDue all name db c.args.sequence d.trees → mid.in_transaction ≡ true → OnOk c.write_each.result (new.in_transaction ≡ true)) stands.now_is
+    (e.inside name clean) was every due (stands.mode ∙ within)
+
+pub returns-clause-asks : goal.returns-clause-asks
+returns-clause-asks g c =
+    let first = c.args.tx.now.conn.now in
+    let between = c.list_declarations.new.tx.conn.now in
+    let last = c.write_each.new.tx.conn.now in
+    let old = state g.S.Store first in
+    let mid = state g.S.Store between in
+    let new = state g.S.Store last in
+    let db = c.args.db.now in
+    let all = additions c.args.writes.now in
+    let find = c.in_ok-indexes.ensures in
+    let e = c.write_each.ensures in
+    asks_then old mid new find.asks e.asks
