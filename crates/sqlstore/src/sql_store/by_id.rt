@@ -92,6 +92,9 @@ impl<S: Alter> SqlStore<S> {
             (Some (up_to_limit range.now.limit (drop range.now.skip (rows_within range.now (live_rows (listed_by_id (trees_of S.Store self.old) db.now)))))) result }
         ensures stands { Stands S.Store self.old self.new }
     {
+        if let Some(0) = range.limit {
+            return Ok(Vec::new(self.alloc));
+        }
         if range.skip >= 1 << 63 {
             // There are fewer documents than that, as many as SQLite counts.
             self.count_marked(db, false, low, high)?;

@@ -22,8 +22,8 @@ impl<S: Alter> SqlStore<S> {
     ghost use Rattle.sqlstore.specs.Listing.{AreEnoughBySequence, listed_by_sequence};
     ghost use Rattle.sqlstore.specs.Model.{Finds};
 
-    /// Returns the rows that a page by sequence needs: those behind its start up to its limit. Behind a
-    /// sequence that SQLite can't hold there are none; all are read then.
+    /// Returns the rows that a page by sequence needs: those behind its start up to its limit; none where
+    /// that is 0. Behind a sequence that SQLite can't hold there are none; all are read then.
     pub(crate) fn rows_for_page_by_sequence(
         &mut self,
         number: &i64,
@@ -31,6 +31,9 @@ impl<S: Alter> SqlStore<S> {
     ) -> Result<Vec<Row>, StoreFault>
         ensures { Finds S.Store (λ trees rows. AreEnoughBySequence range.now (listed_by_sequence trees number.now) rows.items) self.old self.new result }
     {
+        if let Some(0) = range.limit {
+            return Ok(Vec::new(self.alloc));
+        }
         if range.since >= 1 << 63 {
             return self.rows_by_sequence(number);
         }

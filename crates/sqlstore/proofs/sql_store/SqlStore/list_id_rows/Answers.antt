@@ -16,7 +16,7 @@ returns-then-range-clause-answer g c k =
     ap Some
     (∥∥₁_elim (laid g.S.Store s (was_honest g.S.Store s end c.count_marked.ensures.stands k)) (id_rows_set _ _)
     (λ l. rows_skipped trees c.args.db.now l range c.args.low.now c.args.high.now c.requires.low c.requires.high c.in_ok-count_marked.field-0 count lt far)
-    ∙ sym c.new.ensures.items)
+    ∙ sym c.new-then-range.ensures.items)
 
 pub returns-clause-answer : goal.returns-clause-answer
 returns-clause-answer g c =
