@@ -138,6 +138,11 @@ class Tables:
     def changes(self, since, limit):
         self.conn.execute("SELECT id, seq, winner, del FROM docs WHERE db = 1 AND seq > ? ORDER BY seq LIMIT ?", (since, limit)).fetchall()
 
+    def count(self):
+        """Counts the documents that are there, and those that are deleted."""
+        for deleted in (0, 1):
+            self.conn.execute("SELECT count(*) FROM docs WHERE db = 1 AND del = ?", (deleted,)).fetchall()
+
     def page(self, limit):
         self.conn.execute("SELECT count(*) FROM docs WHERE db = 1 AND del = 0").fetchall()
         self.conn.execute("SELECT id, seq, winner, del FROM docs WHERE db = 1 AND del = 0 ORDER BY id LIMIT ?", (limit,)).fetchall()
