@@ -1,5 +1,5 @@
 -- What is left to read of a key.
-use Rattle.std.proofs.Common.{◌≡◌, ◌≢◌, ◌≤◌, ◌<◌, ◌-◌, ◌*◌, ◌%◌, ◌^◌, ℕ, ℤ, zero, suc, ◌+◌, List, [], ◌∷◌, ◌++◌, length, take, drop, Bool, true, false, Option, Some, None, option_map, IsUtf8, refl, sym, ap, ap₂, subst, ◌∙◌, append_assoc, append-nil, length-append, String, Global, Vec, BTreeMap, string_bytes, arith, rules}
+use Rattle.std.proofs.Common.{◌≡◌, ◌≢◌, ◌≤◌, ◌<◌, ◌-◌, ◌*◌, ◌%◌, ◌^◌, ℕ, ℤ, zero, suc, ◌+◌, List, [], ◌∷◌, ◌++◌, length, take, drop, Bool, true, false, Option, Some, None, option_map, Result, Ok, Err, OnErr, IfErr, IsUtf8, refl, sym, ap, ap₂, subst, ◌∙◌, append_assoc, append-nil, length-append, String, Global, Vec, BTreeMap, string_bytes, arith, rules}
 use Rattle.std.specs.declared.cmp.Ordering.{Ordering}
 use Rattle.std.specs.declared.cmp.Ordering.TheVariants.{Less, Equal, Greater}
 use Rattle.std.specs.Ordering.{match_ordering, nat_cmp}
@@ -11,7 +11,6 @@ use Rattle.couch_json.specs.Range.{IsInRange}
 use Rattle.couch_json.specs.KeyFront.{FindsValue, FindsItems, FindsMembers, FindsNumber, FindsText}
 use Rattle.couch_json.specs.Value.{Value, null, truth, whole, text, array, object, Items, no_items, item, Members, no_members, member, put, depth, items_depth, members_depth}
 use Rattle.couch_json.specs.View.{view, items_view, members_view}
-use Rattle.couch_json.specs.declared.number.Number.{Number}
 use Rattle.couch_json.specs.declared.value.Json.{Json, Null, Truth, Whole, Text, Array, Object, the_lemmas}
 use Rattle.couch_json.proofs.Items.{items_after, items_after-no_items, items_after-push}
 use Rattle.couch_json.proofs.KeyOrder.{text_cons, byte_is, height_below, height_order}
@@ -125,7 +124,7 @@ view-Null = search (rules, the_lemmas)
 view-Truth : (b : Bool) → view (Truth b) ≡ truth b
 view-Truth b = search (rules, the_lemmas)
 
-view-Whole : (n : Number) → view (Whole n) ≡ whole n.value
+pub view-Whole : (n : ℤ) → view (Whole n) ≡ whole n
 view-Whole n = search (rules, the_lemmas)
 
 view-Text : (s : String Global) → view (Text s) ≡ text (string_bytes s)
@@ -143,9 +142,17 @@ finds_Truth_false limit bytes rest is = rw (is, view-Truth false) (finds_false l
 pub finds_Truth_true : (limit : ℕ) (bytes rest : List ℕ) → bytes ≡ 3 ∷ rest → FindsValue limit bytes (Some (view (Truth true), rest))
 finds_Truth_true limit bytes rest is = rw (is, view-Truth true) (finds_true limit rest)
 
-pub finds_Whole : (limit : ℕ) (bytes between rest : List ℕ) (n : Number) → bytes ≡ 4 ∷ between → FindsNumber between (Some (n.value, rest))
-    → FindsValue limit bytes (Some (view (Whole n), rest))
-finds_Whole limit bytes between rest n is found = rw (is, view-Whole n) (finds_whole limit between (Some (n.value, rest)) found)
+pub finds_Whole : (limit : ℕ) (bytes between rest : List ℕ) (v : Value) → bytes ≡ 4 ∷ between → (n : ℤ) × (v ≡ whole n) × FindsNumber between (Some (n, rest))
+    → FindsValue limit bytes (Some (v, rest))
+finds_Whole limit bytes between rest v is (n, same, found) = rw (is, same) (finds_whole limit between (Some (n, rest)) found)
+
+pub depth_whole : (v : Value) (rest between : List ℕ) → (n : ℤ) × (v ≡ whole n) × FindsNumber between (Some (n, rest)) → depth v ≡ 0
+depth_whole v rest between (n, same, found) = ap depth same
+
+-- what every fault shows, each fault shows
+pub none_in : {X E : Type 0} (r : Result X E) {P : Type 0} (Q : E → Type 0) → (P → (e : E) → Q e) → OnErr r P → IfErr r Q
+none_in (Ok x) Q f h = tt
+none_in (Err e) Q f h = f h e
 
 pub finds_Text : (limit : ℕ) (bytes between rest : List ℕ) (s : String Global) → bytes ≡ 5 ∷ between → FindsText between (Some (string_bytes s, rest))
     → FindsValue limit bytes (Some (view (Text s), rest))

@@ -1,6 +1,7 @@
 pub mod Value
 pub mod Parts
 pub mod Range
+pub mod KeptNumber
 pub mod Lawful
 pub mod Canonical
 pub mod Collation

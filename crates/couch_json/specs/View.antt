@@ -18,7 +18,7 @@ members_of (m ∷ ms) = member (string_bytes m.0) m.1 (members_of ms)
 abbrev pub view_step : Json-F Value → Value
 view_step Json-F.Null = null
 view_step (Json-F.Truth b) = truth b
-view_step (Json-F.Whole n) = whole n.value
+view_step (Json-F.Whole n) = whole n
 view_step (Json-F.Text s) = text (string_bytes s)
 view_step (Json-F.Array v) = array (items_of v.items)
 view_step (Json-F.Object m) = object (members_of m.entries)

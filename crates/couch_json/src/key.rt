@@ -54,7 +54,7 @@ fn put_value(out: &mut Vec<u8>, value: &Json) -> Got<()>
 
 /// Puts the lowest nine of the sixteen bytes of the height: no height has more.
 fn put_number(out: &mut Vec<u8>, number: Number) -> Got<()>
-    ensures { OnOk result (out.new.items ≡ out.old.items ++ number_key number.value) }
+    ensures { OnOk result (out.new.items ≡ out.old.items ++ number_key number) }
 {
     out.extend_from_slice(&height_of(number).to_be_bytes()[7..])?;
     Ok(())
@@ -62,7 +62,7 @@ fn put_number(out: &mut Vec<u8>, number: Number) -> Got<()>
 
 /// Tells how far the number lies above the least one.
 fn height_of(number: Number) -> u128
-    ensures { result ≡ height number.value }
+    ensures { result ≡ height number }
 {
     (number.value() + (1 << 63)) as u128
 }

@@ -4,7 +4,7 @@ ghost use Rattle.couch_json.specs.KeyFront.{FindsItems, FindsMembers, FindsNumbe
 ghost use Rattle.couch_json.specs.Lawful.{IsLawful};
 ghost use Rattle.couch_json.specs.Nesting.{max_open};
 ghost use Rattle.couch_json.specs.Range.{IsInRange};
-ghost use Rattle.couch_json.specs.Value.{Value, depth, items_depth, members_depth};
+ghost use Rattle.couch_json.specs.Value.{Value, depth, items_depth, members_depth, whole};
 ghost use Rattle.couch_json.specs.View.{view, items_view, members_view};
 
 use crate::key::key_bytes;
@@ -57,10 +57,7 @@ fn read_value<'a>(
         1 => Ok((Json::Null, rest)),
         2 => Ok((Json::Truth(false), rest)),
         3 => Ok((Json::Truth(true), rest)),
-        4 => {
-            let (number, rest) = read_number(rest)?;
-            Ok((Json::Whole(number), rest))
-        }
+        4 => read_number(rest),
         5 => {
             let (text, rest) = read_text(alloc, rest)?;
             Ok((Json::Text(text), rest))
@@ -84,9 +81,9 @@ fn read_value<'a>(
 }
 
 /// Reads the nine bytes of a number, and refuses those of a number above the greatest one.
-fn read_number<'a>(bytes: &'a [u8]) -> Result<(Number, &'a [u8]), KeyFault>
-    ensures value { IfOk result (λ found.
-        FindsNumber bytes.now (Some (found.0.value, found.1.now))) }
+fn read_number<'a>(bytes: &'a [u8]) -> Result<(Json, &'a [u8]), KeyFault>
+    ensures value { IfOk result (λ found. (n : ℤ) × (view found.0 ≡ whole n)
+        × FindsNumber bytes.now (Some (n, found.1.now))) }
     ensures fault { IfErr result (λ fault. fault ≡ KeyFault.NotKey) }
     ensures none { OnErr result (FindsNumber bytes.now None) }
 {
@@ -97,7 +94,7 @@ fn read_number<'a>(bytes: &'a [u8]) -> Result<(Number, &'a [u8]), KeyFault>
         return Err(KeyFault::NotKey);
     };
     match number_above(*high, u64::from_be_bytes(*low)) {
-        Some(number) => Ok((number, rest)),
+        Some(number) => Ok((Json::Whole(number), rest)),
         None => Err(KeyFault::NotKey),
     }
 }
@@ -106,7 +103,7 @@ fn read_number<'a>(bytes: &'a [u8]) -> Result<(Number, &'a [u8]), KeyFault>
 /// that is above the greatest.
 fn number_above(high: u8, low: u64) -> Option<Number>
     ensures { MatchOption result ((n : ℤ) → IsInRange n → height n ≢ high * 2 ^ 64 + low)
-        (λ number. height number.value ≡ high * 2 ^ 64 + low) }
+        (λ number. height number ≡ high * 2 ^ 64 + low) }
 {
     Number::new((i128::from(high) << 64) + i128::from(low) - (1 << 63))
 }

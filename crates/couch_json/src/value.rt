@@ -58,7 +58,7 @@ impl Json {
 
     /// Returns the number, where the value is one.
     pub fn whole(&self) -> Option<Number>
-        ensures { option_map (λ number. number.value) result ≡ whole_in (view self.now) }
+        ensures { result ≡ whole_in (view self.now) }
     {
         match self {
             Json::Whole(number) => Some(*number),

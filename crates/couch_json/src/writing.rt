@@ -52,9 +52,9 @@ fn put_value(out: &mut Writer, value: &Json) -> Got<()>
 }
 
 fn put_number(out: &mut Writer, number: Number) -> Got<()>
-    ensures tokens { OnOk result (out.new.tokens ≡ out.old.tokens ++ value_tokens (whole number.value)) }
+    ensures tokens { OnOk result (out.new.tokens ≡ out.old.tokens ++ value_tokens (whole number)) }
     ensures before { OnOk result (out.new.before ≡ out.old.before) }
-    ensures range { IsInRange number.value }
+    ensures range { IsInRange number }
 {
     let value = number.value();
     if value < 0 {

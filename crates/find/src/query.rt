@@ -91,7 +91,7 @@ fn read_count(value: Option<&Json>, absent: u64) -> Result<u64, QueryFault>
 }
 
 fn count_of(number: Number) -> Result<u64, QueryFault>
-    ensures { Reads (λ count. count) (count_in (whole number.value)) result }
+    ensures { Reads (λ count. count) (count_in (whole number)) result }
 {
     match u64::try_from(number.value()) {
         Ok(count) if count <= 9_223_372_036_854_775_807 => Ok(count),

@@ -18,7 +18,7 @@ use Rattle.store.specs.Indexes.{declared_fields, fields_in, indexes_if}
 abbrev layer : Json-F Json → Value
 layer Json-F.Null = null
 layer (Json-F.Truth b) = truth b
-layer (Json-F.Whole w) = whole w.value
+layer (Json-F.Whole w) = whole w
 layer (Json-F.Text s) = text (string_bytes s)
 layer (Json-F.Array vs) = array (items_view vs.items)
 layer (Json-F.Object m) = object (members_view m.entries)
@@ -53,7 +53,7 @@ module _ (n : List ℕ) (other : ¬ (IsUtf8 n)) where
   not_in : (l : Json-F Json) → member_of (object (indexes_if (Some (layer l)))) n ≡ None
   not_in Json-F.Null = not_any (is_index_object null)
   not_in (Json-F.Truth b) = not_any (is_index_object (truth b))
-  not_in (Json-F.Whole w) = not_any (is_index_object (whole w.value))
+  not_in (Json-F.Whole w) = not_any (is_index_object (whole w))
   not_in (Json-F.Text s) = not_any (is_index_object (text (string_bytes s)))
   not_in (Json-F.Array vs) = not_any (is_index_object (array (items_view vs.items)))
   not_in (Json-F.Object m) = not_if (is_index_object (object (members_view m.entries))) m.entries

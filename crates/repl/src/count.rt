@@ -29,7 +29,7 @@ impl Count {
 
     /// Returns the count that a number is, if it is one.
     fn of(number: Number) -> Option<Count>
-        ensures { option_map (λ c. c.value) result ≡ count_of number.value }
+        ensures { option_map (λ c. c.value) result ≡ count_of number }
     {
         match u64::try_from(number.value()) {
             Ok(value) if value <= 9_223_372_036_854_775_807 => Some(Count { value }),

@@ -69,7 +69,7 @@ fn length_of(items: &Vec<Json>) -> i128
 /// Tells whether the value is a number with that remainder. The division truncates toward zero, as that
 /// of the language does.
 fn has_remainder(division: Option<(Number, Number)>, value: &Json) -> bool
-    ensures { result ≡ has_remainder (option_map (λ p. (p.0.value, p.1.value)) division) (view value.now) }
+    ensures { result ≡ has_remainder division (view value.now) }
 {
     let (Some((divisor, remainder)), Json::Whole(number)) = (division, value) else {
         return false;

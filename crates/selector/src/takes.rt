@@ -36,7 +36,7 @@ fn is_type_name(value: &Json) -> bool
 
 /// Returns the divisor and the remainder of a list that is just these.
 pub(crate) fn division_in(value: &Json) -> Option<(Number, Number)>
-    ensures { option_map (λ p. (p.0.value, p.1.value)) result ≡ division_in (view value.now) }
+    ensures { result ≡ division_in (view value.now) }
 {
     let Json::Array(items) = value else {
         return None;
@@ -59,7 +59,7 @@ pub(crate) fn division_in(value: &Json) -> Option<(Number, Number)>
 
 /// Tells whether there is a divisor, other than 0.
 fn has_divisor(division: Option<(Number, Number)>) -> bool
-    ensures { result ≡ has_divisor (option_map (λ p. (p.0.value, p.1.value)) division) }
+    ensures { result ≡ has_divisor division }
 {
     match division {
         Some((divisor, _)) => divisor.value() != 0,

@@ -1,10 +1,11 @@
 use Rattle.std.proofs.Common.{rules, arith, ◌≡◌, ◌≢◌, ◌+◌, [], ◌∷◌, ◌++◌, IfErr, None, Err, string_bytes, subst, sym, ap, ◌∙◌}
 use Rattle.std.proofs.lemmas.List.{nil_from_length}
+use Rattle.std.proofs.lemmas.Result.{IfOk-weaker}
 use Rattle.couch_json.specs.KeyFront.{FindsItems, FindsMembers, FindsValue}
 use Rattle.couch_json.specs.Value.{put}
 use Rattle.couch_json.specs.View.{view, members_view}
 use Rattle.couch_json.specs.declared.key_fault.KeyFault.TheVariants.{Memory}
-use Rattle.couch_json.proofs.KeyReading.{first_byte, finds_Array, finds_Null, finds_Object, finds_Text, finds_Truth_false, finds_Truth_true, finds_Whole, finds_array, finds_whole, finds_none, finds_object, finds_text, ItemsLeft, items_end, items_fail, items_depth-push, items_go, items_short, MembersLeft, members_depth-put, members_end, members_fail, members_go, members_short, members_unnamed}
+use Rattle.couch_json.proofs.KeyReading.{first_byte, finds_Array, finds_Null, finds_Object, finds_Text, finds_Truth_false, finds_Truth_true, finds_Whole, depth_whole, none_in, finds_array, finds_whole, finds_none, finds_object, finds_text, ItemsLeft, items_end, items_fail, items_depth-push, items_go, items_short, MembersLeft, members_depth-put, members_end, members_fail, members_go, members_short, members_unnamed}
 use Rattle.couch_json.proofs.Objects.{members_view-insert_entry}
 use Rattle.couch_json.proofs.key_reading.+read.Goals as goal
 
@@ -128,27 +129,15 @@ read_value-returns-in_ok-members-in-7-clause-value t c =
     let found = c.in_ok-members-in-7 in
     finds_Object c.args.limit c.args.bytes.now c.in-Some.rest.now found.rest.now found.members (search rules) found.ensures.value
 
-pub read_value-returns-in_ok-number-in-4-clause-value : goal.read_value-returns-in_ok-number-in-4-clause-value
-read_value-returns-in_ok-number-in-4-clause-value t c =
-    let found = c.in_ok-number-in-4 in
-    finds_Whole c.args.limit c.args.bytes.now c.in-Some.rest.now found.rest.now found.number (search rules) found.ensures.value
-
 pub read_value-returns-in_default-clause-none : goal.read_value-returns-in_default-clause-none
 read_value-returns-in_default-clause-none t c =
     let bytes = c.args.bytes.now in
     let empty : bytes ≡ [] = nil_from_length bytes c.in_default.ensures.cases in
     λ _. rw empty (finds_none c.args.limit [] (λ e. absurd (omega (arith, e))) (λ e. absurd (omega (arith, e))) (λ e. absurd (omega (arith, e))) (λ e. absurd (omega (arith, e))) (λ e. absurd (omega (arith, e))) (λ e. absurd (omega (arith, e))) (λ e. absurd (omega (arith, e))))
 
-pub read_value-returns-in_err-number-in-4-clause-none : goal.read_value-returns-in_err-number-in-4-clause-none
-read_value-returns-in_err-number-in-4-clause-none t c =
-    let is : c.from_residual.result ≡ Err c.in_err-number-in-4.field-0.0 = search rules in
-    let starts : c.args.bytes.now ≡ 4 ∷ c.in-Some.rest.now = search rules in
-    subst (λ result. IfErr result (λ fault. fault ≢ Memory → FindsValue c.args.limit c.args.bytes.now None)) (sym is)
-    (λ _. rw starts (finds_whole c.args.limit c.in-Some.rest.now None c.in_err-number-in-4.ensures.none))
-
 pub read_value-returns-in_err-text-in-5-clause-none : goal.read_value-returns-in_err-text-in-5-clause-none
 read_value-returns-in_err-text-in-5-clause-none t c =
-    let is : c.from_residual-in_err-text-in-5.result ≡ Err c.in_err-text-in-5.field-0.0 = search rules in
+    let is : c.from_residual.result ≡ Err c.in_err-text-in-5.field-0.0 = search rules in
     let starts : c.args.bytes.now ≡ 5 ∷ c.in-Some.rest.now = search rules in
     subst (λ result. IfErr result (λ fault. fault ≢ Memory → FindsValue c.args.limit c.args.bytes.now None)) (sym is)
     (λ other. rw starts (finds_text c.args.limit c.in-Some.rest.now None (c.in_err-text-in-5.ensures.none other)))
@@ -185,3 +174,17 @@ pub read_value-returns-in_default-kind-clause-none : goal.read_value-returns-in_
 read_value-returns-in_default-kind-clause-none t c =
     let first : first_byte c.args.bytes.now ≡ c.in-Some.kind.now = search rules in
     λ _. finds_none c.args.limit c.args.bytes.now (search rules) (search rules) (search rules) (search rules) (search rules) (λ e. absurd (search rules)) (λ e. absurd (search rules))
+
+pub read_value-returns-in-4-clause-value : goal.read_value-returns-in-4-clause-value
+read_value-returns-in-4-clause-value t c =
+    let starts : c.args.bytes.now ≡ 4 ∷ c.in-Some.rest.now = search rules in
+    IfOk-weaker c.read_number.result _ _ (λ found. finds_Whole c.args.limit c.args.bytes.now c.in-Some.rest.now found.1.now (view found.0) starts) c.read_number.ensures.value
+
+pub read_value-returns-in-4-clause-depth : goal.read_value-returns-in-4-clause-depth
+read_value-returns-in-4-clause-depth t c =
+    IfOk-weaker c.read_number.result _ _ (λ found w. rw (depth_whole (view found.0) found.1.now c.in-Some.rest.now w) (omega arith)) c.read_number.ensures.value
+
+pub read_value-returns-in-4-clause-none : goal.read_value-returns-in-4-clause-none
+read_value-returns-in-4-clause-none t c =
+    let starts : c.args.bytes.now ≡ 4 ∷ c.in-Some.rest.now = search rules in
+    none_in c.read_number.result _ (λ none _ _. rw starts (finds_whole c.args.limit c.in-Some.rest.now None none)) c.read_number.ensures.none
