@@ -7,19 +7,10 @@ use Rattle.std.specs.Str.{all_ascii_digits}
 use Rattle.std.specs.Str.Parse.{ParsesUnsigned, digits_value}
 use Rattle.std.proofs.lemmas.Bool.{and_parts, cases_lt, lt-leb, ltb-true}
 use Rattle.std.proofs.lemmas.Str.Parse.{IsNumeralModel, numerals_by_value, tells_all_ascii_digits, parse_digits}
-use Rattle.clap.specs.Words.{App, Kinds, Row, Text}
+use Rattle.clap.specs.Words.{Kinds, Row, Text}
 use Rattle.command_line.specs.Plan.{asked_unless, is_numeral, number_between}
 
 -- ---- commands
-
-abbrev pub without_help : App → App
-without_help a = record a { top = record a.top { disable_help_flag = true } }
-
-abbrev pub without_help_command : App → App
-without_help_command a = record a { top = record a.top { disable_help_subcommand = true } }
-
-abbrev pub needing_a_command : App → App
-needing_a_command a = record a { top = record a.top { subcommand_required = true } }
 
 -- words that clap refuses ask for nothing
 pub asked_unless-refused : (kinds : Kinds) (command : Option (Text × List Row)) → kinds ≢ [] → asked_unless kinds command ≡ None

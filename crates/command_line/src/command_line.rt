@@ -4,8 +4,8 @@ ghost use Rattle.std.specs.Prelude.{◌≡◌, ◌≢◌, ◌≤◌, None, Some,
 ghost use Rattle.std.specs.Char.{is_ascii_digit};
 ghost use Rattle.std.specs.List.{list_all};
 ghost use Rattle.clap.specs.declared.builder.command.Command.TheViews.{out-Command as fields_of};
-ghost use Rattle.clap.specs.Words.{all_of, app_of, fault_of, first_of, found_of, kind_of, rows_of, rule_of, shape_of, subcommand_of, subcommand_rows_of};
-ghost use Rattle.command_line.specs.Plan.{admin_rule, asked_at, asked_by, command_of, at_once_in, couchd_command, file_beside, is_header_byte, is_numeral, lab_asked_by, lab_command, number_between, optional_option, port_in, required_option, serve_asked_by, serve_command, sync_asked_by, sync_command, sync_options, target_in, target_of, user_in};
+ghost use Rattle.clap.specs.Words.{all_of, app_of, fault_of, first_of, found_of, kind_of, rows_of, rule_of, shape_of, subcommand_of, subcommand_rows_of, with_rule};
+ghost use Rattle.command_line.specs.Plan.{admin_rule, asked_at, asked_by, command_of, at_once_in, bare_command, command_named, couchd_command, file_beside, is_header_byte, is_numeral, lab_asked_by, lab_command, number_between, optional_option, port_in, required_option, serve_asked_by, serve_command, sync_asked_by, sync_command, sync_options, target_in, target_of, user_in};
 
 use crate::plans::{Plan, PlanFault, SyncPlan, SyncTarget};
 use clap::error::ErrorKind;
@@ -51,17 +51,20 @@ fn parse<'a>(alloc: Global, words: &'a [String]) -> Result<ArgMatches<'a>, Error
 fn couchd_command<'a>(alloc: Global) -> Result<Command<'a>, AllocError>
     ensures { IfOk result (λ command. app_of command ≡ couchd_command) }
 {
-    let lab = lab_command(alloc)?;
-    let serve = serve_command(alloc)?;
-    let sync = sync_command(alloc)?;
-    let couchd = Command::new(alloc, "couchd")
+    let couchd = bare_command(alloc);
+    let couchd = couchd.subcommand(lab_command(alloc)?)?;
+    let couchd = couchd.subcommand(serve_command(alloc)?)?;
+    couchd.subcommand(sync_command(alloc)?)
+}
+
+/// Returns the command `couchd` as it is before its commands are added.
+fn bare_command<'a>(alloc: Global) -> Command<'a>
+    ensures { app_of result ≡ bare_command }
+{
+    Command::new(alloc, "couchd")
         .disable_help_flag(true)
         .disable_help_subcommand(true)
         .subcommand_required(true)
-        .subcommand(lab)?
-        .subcommand(serve)?
-        .subcommand(sync)?;
-    Ok(couchd)
 }
 
 /// Returns the command `lab --secret S [ADMIN]...`.
@@ -69,13 +72,9 @@ fn lab_command<'a>(alloc: Global) -> Result<Command<'a>, AllocError>
     ensures shape { IfOk result (λ command. shape_of command ≡ lab_command) }
     ensures local { IfOk result (λ command. (fields_of command).has_globals ≡ false) }
 {
-    let secret = required_option(alloc, "secret");
-    let admins = admin_words(alloc);
-    let lab = Command::new(alloc, "lab")
-        .disable_help_flag(true)
-        .arg(secret)?
-        .arg(admins)?;
-    Ok(lab)
+    let lab = plain_command(alloc, "lab");
+    let lab = add_required_option(alloc, lab, "secret")?;
+    add_admins(alloc, lab)
 }
 
 /// Returns the command `serve --secret S --file F --port P --conns N [--at-once K] [ADMIN]...`.
@@ -83,21 +82,13 @@ fn serve_command<'a>(alloc: Global) -> Result<Command<'a>, AllocError>
     ensures shape { IfOk result (λ command. shape_of command ≡ serve_command) }
     ensures local { IfOk result (λ command. (fields_of command).has_globals ≡ false) }
 {
-    let secret = required_option(alloc, "secret");
-    let file = required_option(alloc, "file");
-    let port = required_option(alloc, "port");
-    let conns = required_option(alloc, "conns");
-    let at_once = optional_option(alloc, "at-once");
-    let admins = admin_words(alloc);
-    let serve = Command::new(alloc, "serve")
-        .disable_help_flag(true)
-        .arg(secret)?
-        .arg(file)?
-        .arg(port)?
-        .arg(conns)?
-        .arg(at_once)?
-        .arg(admins)?;
-    Ok(serve)
+    let serve = plain_command(alloc, "serve");
+    let serve = add_required_option(alloc, serve, "secret")?;
+    let serve = add_required_option(alloc, serve, "file")?;
+    let serve = add_required_option(alloc, serve, "port")?;
+    let serve = add_required_option(alloc, serve, "conns")?;
+    let serve = add_optional_option(alloc, serve, "at-once")?;
+    add_admins(alloc, serve)
 }
 
 /// Returns the command `sync --secret S --session T --from F --db D [--to G | --address A]
@@ -107,16 +98,11 @@ fn sync_command<'a>(alloc: Global) -> Result<Command<'a>, AllocError>
     ensures shape { IfOk result (λ command. shape_of command ≡ sync_command) }
     ensures local { IfOk result (λ command. (fields_of command).has_globals ≡ false) }
 {
-    let to = optional_option(alloc, "to");
-    let address = optional_option(alloc, "address");
-    let user = optional_option(alloc, "user");
-    let admins = admin_words(alloc);
-    let sync = sync_options(alloc)?
-        .arg(to)?
-        .arg(address)?
-        .arg(user)?
-        .arg(admins)?;
-    Ok(sync)
+    let sync = sync_options(alloc)?;
+    let sync = add_optional_option(alloc, sync, "to")?;
+    let sync = add_optional_option(alloc, sync, "address")?;
+    let sync = add_optional_option(alloc, sync, "user")?;
+    add_admins(alloc, sync)
 }
 
 /// Returns the command `sync` with the options that have to be given.
@@ -124,19 +110,52 @@ fn sync_options<'a>(alloc: Global) -> Result<Command<'a>, AllocError>
     ensures app { IfOk result (λ command. app_of command ≡ sync_options) }
     ensures local { IfOk result (λ command. (fields_of command).has_globals ≡ false) }
 {
-    let secret = required_option(alloc, "secret");
-    let session = required_option(alloc, "session");
-    let from = required_option(alloc, "from");
-    let database = required_option(alloc, "db");
-    let target_database = required_option(alloc, "target-db");
-    let sync = Command::new(alloc, "sync")
-        .disable_help_flag(true)
-        .arg(secret)?
-        .arg(session)?
-        .arg(from)?
-        .arg(database)?
-        .arg(target_database)?;
-    Ok(sync)
+    let sync = plain_command(alloc, "sync");
+    let sync = add_required_option(alloc, sync, "secret")?;
+    let sync = add_required_option(alloc, sync, "session")?;
+    let sync = add_required_option(alloc, sync, "from")?;
+    let sync = add_required_option(alloc, sync, "db")?;
+    add_required_option(alloc, sync, "target-db")
+}
+
+/// Returns a command of this name without words, and without help.
+fn plain_command<'a>(alloc: Global, name: &'a str) -> Command<'a>
+    ensures app { app_of result ≡ command_named name.now }
+    ensures local { (fields_of result).has_globals ≡ false }
+{
+    Command::new(alloc, name).disable_help_flag(true)
+}
+
+/// Adds the argument `--NAME VALUE` to a command, which has to be given.
+fn add_required_option<'a>(
+    alloc: Global,
+    command: Command<'a>,
+    name: &'a str,
+) -> Result<Command<'a>, AllocError>
+    ensures app { IfOk result (λ after. app_of after ≡ with_rule (app_of command.entry) (required_option name.now)) }
+    ensures local { (fields_of command.entry).has_globals ≡ false → IfOk result (λ after. (fields_of after).has_globals ≡ false) }
+{
+    command.arg(required_option(alloc, name))
+}
+
+/// Adds the argument `--NAME VALUE` to a command, which may be given.
+fn add_optional_option<'a>(
+    alloc: Global,
+    command: Command<'a>,
+    name: &'a str,
+) -> Result<Command<'a>, AllocError>
+    ensures app { IfOk result (λ after. app_of after ≡ with_rule (app_of command.entry) (optional_option name.now)) }
+    ensures local { (fields_of command.entry).has_globals ≡ false → IfOk result (λ after. (fields_of after).has_globals ≡ false) }
+{
+    command.arg(optional_option(alloc, name))
+}
+
+/// Adds the argument `[ADMIN]...` to a command.
+fn add_admins<'a>(alloc: Global, command: Command<'a>) -> Result<Command<'a>, AllocError>
+    ensures app { IfOk result (λ after. app_of after ≡ with_rule (app_of command.entry) admin_rule) }
+    ensures local { (fields_of command.entry).has_globals ≡ false → IfOk result (λ after. (fields_of after).has_globals ≡ false) }
+{
+    command.arg(admin_words(alloc))
 }
 
 /// Returns the argument `--NAME VALUE`, which may be given.
