@@ -125,7 +125,7 @@ fn read_document<S: Alter>(
     ensures asks { AsksInside S.Store tx.old.conn.now tx.new.conn.now }
 {
     let rows = revision_rows_in(tx, db, id)?;
-    let history = read_history(alloc, &rows)?;
+    let history = read_history(alloc, rows)?;
     Ok(history)
 }
 

@@ -36,13 +36,13 @@ fn put_row(alloc: Global, history: &mut History, row: &Row) -> Result<(), StoreF
     Ok(())
 }
 
-/// Reads the history that the rows make.
-pub fn read_history(alloc: Global, rows: &[Row]) -> Result<History, StoreFault>
-    ensures { IsRead (λ history. history) (Some (history_shown rows.now)) (AllByRecursion IsShownRevision rows.now) result }
+/// Reads the history that the rows make. A row's memory is given back once its revision is read.
+pub fn read_history(alloc: Global, rows: Vec<Row>) -> Result<History, StoreFault>
+    ensures { IsRead (λ history. history) (Some (history_shown rows.items)) (AllByRecursion IsShownRevision rows.items) result }
 {
     let mut history = History::new(alloc);
     for row in rows {
-        put_row(alloc, &mut history, row)?;
+        put_row(alloc, &mut history, &row)?;
     }
     Ok(history)
 }
@@ -69,13 +69,13 @@ fn put_node(outline: &mut Outline, row: &Row) -> Result<(), StoreFault>
     Ok(())
 }
 
-/// Reads the outline that the rows make.
-pub fn read_outline(alloc: Global, rows: &[Row]) -> Result<Outline, StoreFault>
-    ensures { IsRead (λ outline. outline) (Some (outline_shown rows.now)) (AllByRecursion IsShownOutline rows.now) result }
+/// Reads the outline that the rows make. A row's memory is given back once its revision is read.
+pub fn read_outline(alloc: Global, rows: Vec<Row>) -> Result<Outline, StoreFault>
+    ensures { IsRead (λ outline. outline) (Some (outline_shown rows.items)) (AllByRecursion IsShownOutline rows.items) result }
 {
     let mut outline = Outline::new(alloc);
     for row in rows {
-        put_node(&mut outline, row)?;
+        put_node(&mut outline, &row)?;
     }
     Ok(outline)
 }

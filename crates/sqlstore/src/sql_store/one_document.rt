@@ -20,7 +20,7 @@ impl<S: Alter> SqlStore<S> {
         ensures stands { Stands S.Store self.old self.new }
     {
         let rows = self.revision_rows(number, id.as_str().as_bytes())?;
-        read_history(self.alloc, &rows)
+        read_history(self.alloc, rows)
     }
 
     /// Finds the same history without its bodies.
@@ -29,7 +29,7 @@ impl<S: Alter> SqlStore<S> {
         ensures stands { Stands S.Store self.old self.new }
     {
         let rows = self.outline_rows(number, id.as_str().as_bytes())?;
-        read_outline(self.alloc, &rows)
+        read_outline(self.alloc, rows)
     }
 
     /// Finds the winner of a document with its mark, if it was ever written.
