@@ -1,4 +1,4 @@
-ghost use Rattle.std.specs.Prelude.{◌≡◌, pos, option_map};
+ghost use Rattle.std.specs.Prelude.{◌≡◌, pos};
 ghost use Rattle.couch_json.specs.View.{view, items_view};
 ghost use Rattle.selector.specs.Truth.{meets, has_type, has_size, has_remainder, items_length, type_name};
 

@@ -1,4 +1,4 @@
-ghost use Rattle.std.specs.Prelude.{◌≡◌, option_map};
+ghost use Rattle.std.specs.Prelude.{◌≡◌};
 ghost use Rattle.couch_json.specs.View.{view};
 ghost use Rattle.selector.specs.Grammar.{takes, is_type_name, division_in, has_divisor};
 

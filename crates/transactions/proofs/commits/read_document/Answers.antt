@@ -7,8 +7,8 @@ returns-clause-ok g c clean store =
     let trees = (state g.S.Store c.args.tx.now.conn.now).now.trees in
     let db = c.args.db.now in
     let id = c.args.id.now in
-    history_read trees db id c.deref.result.now _ store.laid
-    (subst (IsPermutation (map shown_revision (filter (is_of db id) (trees revs_tree)))) (sym c.deref.ensures.value) (c.in_ok-rows.ensures.reads.found clean store)) c.in_ok-history.ensures
+    history_read trees db id c.in_ok-rows.rows.items _ store.laid
+    (c.in_ok-rows.ensures.reads.found clean store) c.in_ok-history.ensures
 
 pub returns-in_err-history-clause-err : goal.returns-in_err-history-clause-err
 returns-in_err-history-clause-err g c =
@@ -20,8 +20,8 @@ returns-in_err-history-clause-err g c =
     let sound : Type 0 = IsSound g.S.Store (λ _. ⊤) old c.revision_rows_in.new.tx.conn.now in
     let is : c.from_residual-in_err-history.result ≡ Err (write.Store fault) = search rules in
     subst (λ (r : Result HistoryContent CommitFault). IfErr r (IsUnwritten sound)) (sym is)
-    (lost (history_shown c.deref.result.now) _ sound fault c.in_err-history.ensures
+    (lost (history_shown c.in_ok-rows.rows.items) _ sound fault c.in_err-history.ensures
     (λ it.
     let store = (it.1 (c.in_ok-rows.ensures.reads.served it.0)).0 in
     history_intact trees (is_of db id) _ store.laid
-    (subst (IsPermutation (map shown_revision (filter (is_of db id) (trees revs_tree)))) (sym c.deref.ensures.value) (c.in_ok-rows.ensures.reads.found it.0 store))))
+    (c.in_ok-rows.ensures.reads.found it.0 store)))
