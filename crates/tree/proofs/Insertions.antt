@@ -1,23 +1,19 @@
 -- A node that comes in: the maps of the code are the lists of the model, and what came in is taken back.
-use Rattle.std.proofs.Common.{◌≡◌, ℕ, suc, ◌+◌, ◌<◌, arith, length, drop, get_or, Bool, true, false, cond, not, ◌||◌, List, [], ◌∷◌, ◌++◌, Option, Some, None, Ordering, refl, sym, ap, ◌∙◌, is_eq, append-nil}
+use Rattle.std.proofs.Common.{◌≡◌, ℕ, suc, ◌+◌, ◌<◌, arith, length, drop, get_or, Bool, true, false, cond, ◌||◌, List, [], ◌∷◌, ◌++◌, Option, Some, None, Ordering, refl, sym, ap, ◌∙◌, is_eq}
 use Rattle.std.proofs.Math.Seq.{drop-cons}
 use Rattle.std.specs.Prelude.{is_some}
-use Rattle.std.specs.List.{list_any}
 use Rattle.std.specs.declared.cmp.Ordering.TheVariants.{Less, Equal, Greater}
-use Rattle.std.specs.Ordering.{eq_by_cmp, match_ordering}
-use Rattle.std.specs.Cmp.{tied_itself, alike_right, eq_by_cmp_equiv}
+use Rattle.std.specs.Ordering.{match_ordering}
+use Rattle.std.specs.Cmp.{tied_itself}
 use Rattle.std.specs.Map.{lookup, remove_entry}
-use Rattle.std.specs.Set.{remove_key}
 use Rattle.std.specs.BTreeMap.{insert_entry, is_at}
-use Rattle.std.specs.BTreeSet.{insert_key}
 use Rattle.std.specs.FinMap.{find, put}
 use Rattle.std.specs.FinMap.Entries.{by_order}
 use Rattle.tree.specs.Revision.{Revision, revision_cmp}
 use Rattle.tree.specs.History.{is_parent_in, names}
-use Rattle.tree.specs.Nodes.{AreParents, entries_before, insertion_list, next_of, nodes_before, nodes_with, nodes_with_new, parents_before, parents_with, parents_without}
+use Rattle.tree.specs.Nodes.{Insertion, entries_before, next_of, nodes_before, nodes_with, nodes_with_new}
 use Rattle.tree.specs.declared.entry.Held.{Held}
 use Rattle.tree.specs.declared.entry.Entry.{Entry}
-use Rattle.tree.specs.declared.nodes.Insertion.{Insertion}
 use Rattle.tree.proofs.Kept.{Node, revision_cmp_total}
 
 false_not_true : false ≡ true → ⊥
@@ -64,51 +60,14 @@ remove_entry-put (x ∷ es) r e n = by (not_found r x es n).0 (remove_entry-put 
         ap (λ b. cond b (put revision_cmp r e es) (x ∷ remove_entry (is_at (revision_cmp r)) (put revision_cmp r e es))) apart
         ∙ ap (λ rest. x ∷ rest) more
 
-not_among : (p x : Revision) (ks : List Revision) → list_any (eq_by_cmp revision_cmp p) (x ∷ ks) ≡ false → (is_eq (revision_cmp p x) ≡ false) × (list_any (eq_by_cmp revision_cmp p) ks ≡ false)
-not_among p x ks = by (is_eq (revision_cmp p x)) refl
-  where
-    by : (b : Bool) → is_eq (revision_cmp p x) ≡ b → (b || list_any (eq_by_cmp revision_cmp p) ks) ≡ false → (is_eq (revision_cmp p x) ≡ false) × (list_any (eq_by_cmp revision_cmp p) ks ≡ false)
-    by true t e = absurd (false_not_true (sym e))
-    by false t e = (t, e)
-
-first_key_removed : (p : Revision) (ks : List Revision) → remove_key (is_at (revision_cmp p)) (p ∷ ks) ≡ ks
-first_key_removed p ks = ap (λ b. cond b ks (p ∷ remove_key (is_at (revision_cmp p)) ks)) (own p)
-
-pub remove_key-insert_key : (ks : List Revision) (p : Revision) → list_any (eq_by_cmp revision_cmp p) ks ≡ false → remove_key (is_at (revision_cmp p)) (insert_key revision_cmp ks p) ≡ ks
-remove_key-insert_key [] p n = first_key_removed p []
-remove_key-insert_key (x ∷ ks) p n = by (not_among p x ks n).0 (remove_key-insert_key ks p (not_among p x ks n).1) (revision_cmp p x) refl
-  where
-    by : is_eq (revision_cmp p x) ≡ false → remove_key (is_at (revision_cmp p)) (insert_key revision_cmp ks p) ≡ ks → (o : Ordering) → revision_cmp p x ≡ o → remove_key (is_at (revision_cmp p)) (match_ordering o (p ∷ x ∷ ks) (x ∷ ks) (x ∷ insert_key revision_cmp ks p)) ≡ x ∷ ks
-    by apart more Less t = first_key_removed p (x ∷ ks)
-    by apart more Equal t = absurd (false_not_true (sym apart ∙ ap is_eq t))
-    by apart more Greater t =
-        ap (λ b. cond b (insert_key revision_cmp ks p) (x ∷ remove_key (is_at (revision_cmp p)) (insert_key revision_cmp ks p))) apart
-        ∙ ap (λ rest. x ∷ rest) more
-
 -- the last that came in is taken back first
 pub nodes_before-append : (es : List Node) (is : List Insertion) (i : Insertion) → nodes_before es (is ++ i ∷ []) ≡ nodes_before (nodes_before es (i ∷ [])) is
 nodes_before-append es [] i = refl
 nodes_before-append es (j ∷ is) i = ap (remove_entry (is_at (revision_cmp j.rev))) (nodes_before-append es is i)
 
-pub parents_before-append : (ks : List Revision) (is : List Insertion) (i : Insertion) → parents_before ks (is ++ i ∷ []) ≡ parents_before (parents_before ks (i ∷ [])) is
-parents_before-append ks [] i = refl
-parents_before-append ks (j ∷ is) i = ap (λ xs. parents_without xs j.parent) (parents_before-append ks is i)
-
 pub nodes_less : (es fs : List Node) (all rest : List Insertion) (i : Insertion) (start : List Node) → all ≡ rest ++ i ∷ []
     → fs ≡ remove_entry (is_at (revision_cmp i.rev)) es → nodes_before es all ≡ start → nodes_before fs rest ≡ start
 nodes_less es fs all rest i start split is all_back = ap (λ xs. nodes_before xs rest) is ∙ sym (nodes_before-append es rest i) ∙ ap (nodes_before es) (sym split) ∙ all_back
-
-pub parents_less : (ks ls : List Revision) (all rest : List Insertion) (i : Insertion) (start : List Revision) → all ≡ rest ++ i ∷ []
-    → ls ≡ parents_without ks i.parent → parents_before ks all ≡ start → parents_before ls rest ≡ start
-parents_less ks ls all rest i start split is all_back = ap (λ xs. parents_before xs rest) is ∙ sym (parents_before-append ks rest i) ∙ ap (parents_before ks) (sym split) ∙ all_back
-
-pub nodes_back_more : (new old start : List Node) (is : List Insertion) (o : Option Insertion) → nodes_before new (insertion_list o) ≡ old → nodes_before old is ≡ start → nodes_before new (is ++ insertion_list o) ≡ start
-nodes_back_more new old start is None e h = ap (nodes_before new) (append-nil is) ∙ ap (λ xs. nodes_before xs is) e ∙ h
-nodes_back_more new old start is (Some i) e h = nodes_before-append new is i ∙ ap (λ xs. nodes_before xs is) e ∙ h
-
-pub parents_back_more : (new old start : List Revision) (is : List Insertion) (o : Option Insertion) → parents_before new (insertion_list o) ≡ old → parents_before old is ≡ start → parents_before new (is ++ insertion_list o) ≡ start
-parents_back_more new old start is None e h = ap (parents_before new) (append-nil is) ∙ ap (λ xs. parents_before xs is) e ∙ h
-parents_back_more new old start is (Some i) e h = parents_before-append new is i ∙ ap (λ xs. parents_before xs is) e ∙ h
 
 -- ---- the parents after a node came in
 
@@ -116,23 +75,6 @@ or_swap : (a b c : Bool) → (a || (b || c)) ≡ (b || (a || c))
 or_swap true true c = refl
 or_swap true false c = refl
 or_swap false b c = refl
-
-or_twice : (a b c : Bool) → a ≡ b → (b || c) ≡ (a || (b || c))
-or_twice true true c e = refl
-or_twice true false c e = absurd (false_not_true (sym e))
-or_twice false true c e = absurd (false_not_true e)
-or_twice false false c e = refl
-
-pub any-insert_key : (r p : Revision) (ks : List Revision) → list_any (eq_by_cmp revision_cmp r) (insert_key revision_cmp ks p) ≡ (eq_by_cmp revision_cmp r p || list_any (eq_by_cmp revision_cmp r) ks)
-any-insert_key r p [] = refl
-any-insert_key r p (x ∷ ks) = by (any-insert_key r p ks) (revision_cmp p x) refl
-  where
-    by : list_any (eq_by_cmp revision_cmp r) (insert_key revision_cmp ks p) ≡ (eq_by_cmp revision_cmp r p || list_any (eq_by_cmp revision_cmp r) ks) → (o : Ordering) → revision_cmp p x ≡ o
-        → list_any (eq_by_cmp revision_cmp r) (match_ordering o (p ∷ x ∷ ks) (x ∷ ks) (x ∷ insert_key revision_cmp ks p)) ≡ (eq_by_cmp revision_cmp r p || (eq_by_cmp revision_cmp r x || list_any (eq_by_cmp revision_cmp r) ks))
-    by more Less t = refl
-    by more Equal t = or_twice (eq_by_cmp revision_cmp r p) (eq_by_cmp revision_cmp r x) (list_any (eq_by_cmp revision_cmp r) ks) (ap is_eq (alike_right revision_cmp_total p x r t))
-    by more Greater t =
-        ap (λ b. eq_by_cmp revision_cmp r x || b) more ∙ or_swap (eq_by_cmp revision_cmp r x) (eq_by_cmp revision_cmp r p) (list_any (eq_by_cmp revision_cmp r) ks)
 
 pub parents-put : (r s : Revision) (e : Entry) (es : List Node) → find revision_cmp s es ≡ None → is_parent_in (put revision_cmp s e es) r ≡ (names e.parent r || is_parent_in es r)
 parents-put r s e [] n = refl
@@ -142,14 +84,6 @@ parents-put r s e (x ∷ es) n = by (not_found s x es n).0 (parents-put r s e es
     by apart more Less t = refl
     by apart more Equal t = absurd (false_not_true (sym apart ∙ ap is_eq t))
     by apart more Greater t = ap (λ b. names x.1.parent r || b) more ∙ or_swap (names x.1.parent r) (names e.parent r) (is_parent_in es r)
-
-named : (o : Option Revision) (ks : List Revision) (r : Revision) → list_any (eq_by_cmp revision_cmp r) (parents_with ks o) ≡ (names o r || list_any (eq_by_cmp revision_cmp r) ks)
-named None ks r = refl
-named (Some p) ks r = any-insert_key r p ks ∙ ap (λ b. b || list_any (eq_by_cmp revision_cmp r) ks) ((eq_by_cmp_equiv revision_cmp_total).symm r p)
-
--- the parents, with that of the new node
-pub parents_more : (ks : List Revision) (es : List Node) (s : Revision) (e : Entry) → find revision_cmp s es ≡ None → AreParents ks es → AreParents (parents_with ks e.parent) (put revision_cmp s e es)
-parents_more ks es s e n are r = named e.parent ks r ∙ ap (λ b. names e.parent r || b) (are r) ∙ sym (parents-put r s e es n)
 
 -- ---- what a call of the maps says, in these words
 
@@ -163,18 +97,8 @@ absent r es known is not_known = by (find revision_cmp r es) (sym (ap is_some (l
 pub node_new : (es : List Node) (r : Revision) (e : Entry) → find revision_cmp r es ≡ None → insert_entry revision_cmp es r e ≡ nodes_with_new es r e
 node_new es r e n = insert_entry-put es r e ∙ sym (ap (λ o. cond (is_some o) es (put revision_cmp r e es)) n)
 
-pub node_known : (es : List Node) (r : Revision) (e : Entry) (known : Bool) → known ≡ is_some (lookup (is_at (revision_cmp r)) es) → known ≡ true → es ≡ nodes_with_new es r e
-node_known es r e known is so = sym (ap (λ b. cond b es (put revision_cmp r e es)) (sym (ap is_some (lookup-find r es)) ∙ sym is ∙ so))
-
 pub node_back : (new old : List Node) (r : Revision) (e : Entry) → find revision_cmp r old ≡ None → new ≡ insert_entry revision_cmp old r e → remove_entry (is_at (revision_cmp r)) new ≡ old
 node_back new old r e n is = ap (remove_entry (is_at (revision_cmp r))) (is ∙ insert_entry-put old r e) ∙ remove_entry-put old r e n
-
-pub key_back : (new old : List Revision) (p : Revision) (added : Bool) → added ≡ not (list_any (is_at (revision_cmp p)) old) → added ≡ true → new ≡ insert_key revision_cmp old p → remove_key (is_at (revision_cmp p)) new ≡ old
-key_back new old p added is so put_in = ap (remove_key (is_at (revision_cmp p))) put_in ∙ remove_key-insert_key old p (untrue (list_any (is_at (revision_cmp p)) old) (sym is ∙ so))
-  where
-    untrue : (b : Bool) → not b ≡ true → b ≡ false
-    untrue true e = absurd (false_not_true e)
-    untrue false e = refl
 
 -- one revision of a path after another
 pub path_step : (nodes new : List Node) (path : List Revision) (last : Option Revision) (i : ℕ) (r : Revision) (parent : Option Revision) (held taken after : Option Held) (all : List Node)

@@ -1,14 +1,13 @@
 -- A history kept as its nodes in order: look-ups and writes by the nodes are those of the content.
-use Rattle.std.proofs.Common.{◌≡◌, ℕ, zero, suc, ◌+◌, ◌-◌, ◌<◌, Bool, true, false, cond, length, List, [], ◌∷◌, ◌++◌, map, Option, Some, None, refl, sym, ap, subst, ◌∙◌, arith, append_assoc, append-nil}
-use Rattle.std.specs.Prelude.{IsTrue, is_some, option_and_then, filter, reverse}
-use Rattle.std.proofs.lemmas.List.{reverse-append}
+use Rattle.std.proofs.Common.{◌≡◌, ℕ, zero, suc, ◌+◌, ◌-◌, ◌<◌, Bool, true, false, cond, length, List, [], ◌∷◌, ◌++◌, Option, Some, None, refl, sym, ap, subst, ◌∙◌, arith, append_assoc, append-nil}
+use Rattle.std.specs.Prelude.{IsTrue, is_some, option_and_then}
 use Rattle.std.specs.Cmp.{IsTotalOrder, on_total, then_total, nat_cmp_total}
 use Rattle.std.specs.Cmp.Lexicographic.{lists_total}
 use Rattle.std.specs.FinMap.{find, put, is_sorted, entries, from_sorted, entries-from_sorted, entries-insert, empty, empty_of_len, len-entries, same_entries_map, get, get-entries, get-from_sorted, insert}
 use Rattle.std.specs.FinMap.Entries.{is_sorted-put}
 use Rattle.tree.specs.Revision.{Revision, revision_cmp}
 use Rattle.tree.specs.Nodes.{nodes_with_new, nodes_with}
-use Rattle.tree.specs.History.{HistoryContent, with_new, is_leaf_in, with_entries, is_known, line, onward, parent_of}
+use Rattle.tree.specs.History.{HistoryContent, with_new, with_entries, is_known, line, onward, parent_of}
 use Rattle.tree.specs.declared.entry.Entry.{Entry}
 use Rattle.std.proofs.Math.Dec.{T}
 
@@ -45,21 +44,6 @@ entries-with_entries h (e ∷ es) = entries-with_entries (with_new h e.0 e.1) es
 pub with_nodes : (old new es : List Node) → IsTrue (is_sorted revision_cmp old) → IsTrue (is_sorted revision_cmp new) → new ≡ nodes_with old es → from_sorted {R = revision_cmp} new ≡ with_entries (from_sorted old) es
 with_nodes old new es h k e =
     same_entries_map _ _ (nodes_of new k ∙ e ∙ ap (λ nodes. nodes_with nodes es) (sym (nodes_of old h)) ∙ sym (entries-with_entries (from_sorted old) es))
-
--- ---- the leaves among nodes that are left, the last first
-
-abbrev pub leaves_among : Bool → List Node → List Node → List Revision
-leaves_among mark nodes left = map (λ e. e.0) (filter (is_leaf_in mark nodes) (reverse left))
-
--- one node less is left
-pub leaves_left : (mark : Bool) (nodes s t : List Node) (x : Node) → s ≡ t ++ x ∷ [] → leaves_among mark nodes s ≡ map (λ e. e.0) (cond (is_leaf_in mark nodes x) (x ∷ filter (is_leaf_in mark nodes) (reverse t)) (filter (is_leaf_in mark nodes) (reverse t)))
-leaves_left mark nodes s t x e = ap (λ xs. map (λ e. e.0) (filter (is_leaf_in mark nodes) xs)) (ap reverse e ∙ reverse-append t (x ∷ []))
-
-pub leaf_passed : (mark : Bool) (nodes s t : List Node) (x : Node) → s ≡ t ++ x ∷ [] → is_leaf_in mark nodes x ≡ true → leaves_among mark nodes s ≡ x.0 ∷ leaves_among mark nodes t
-leaf_passed mark nodes s t x e is = leaves_left mark nodes s t x e ∙ ap (λ b. map (λ e. e.0) (cond b (x ∷ filter (is_leaf_in mark nodes) (reverse t)) (filter (is_leaf_in mark nodes) (reverse t)))) is
-
-pub other_passed : (mark : Bool) (nodes s t : List Node) (x : Node) → s ≡ t ++ x ∷ [] → is_leaf_in mark nodes x ≡ false → leaves_among mark nodes s ≡ leaves_among mark nodes t
-other_passed mark nodes s t x e is = leaves_left mark nodes s t x e ∙ ap (λ b. map (λ e. e.0) (cond b (x ∷ filter (is_leaf_in mark nodes) (reverse t)) (filter (is_leaf_in mark nodes) (reverse t)))) is
 
 -- ---- lines and writes
 

@@ -338,6 +338,14 @@ winner_of_live h l = let x = live_first h l in x.2 ∙ sym x.3
 pub winner_of_others : (h : HistoryContent) → is_live h ≡ false → slice_get (leaves_marked true h) 0 ≡ winner h
 winner_of_others h l = ap (λ (rs : List Revision). slice_get (rs ++ leaves_marked true h) 0) (sym (none_live h l))
 
+-- the best that is not deleted tells whether one is not
+pub best_is_live : (h : HistoryContent) → is_some (slice_get (leaves_marked false h) 0) ≡ is_live h
+best_is_live h = by (is_live h) refl
+  where
+    by : (b : Bool) → is_live h ≡ b → is_some (slice_get (leaves_marked false h) 0) ≡ is_live h
+    by true l = ap is_some (live_first h l).2 ∙ sym l
+    by false l = ap (λ (rs : List Revision). is_some (slice_get rs 0)) (none_live h l) ∙ sym l
+
 -- the winner of a live history is not deleted
 pub live_winner : (h : HistoryContent) → is_live h ≡ true → (r : Revision) × (winner h ≡ Some r) × (is_deleted (held_of h r) ≡ false)
 live_winner h l = let x = live_first h l in (x.0, x.3, (marked_leaf h false x.0 x.1).marked)

@@ -1,13 +1,14 @@
 pub mod Behind
+pub mod Between
 pub mod Contents
 pub mod Continued
 pub mod Convergence
 pub mod EditText
 pub mod Insertions
 pub mod Kept
+pub mod KeptLeaves
 pub mod LawfulContents
 pub mod Leaves
-pub mod Live
 pub mod MadeRevision
 pub mod RevisionText
 pub mod Revisions

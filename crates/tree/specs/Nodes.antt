@@ -1,18 +1,16 @@
--- A history kept as the list of its nodes in the order of their revisions, beside it the list of those that are parents, and how many leaves are not deleted: what taking one in makes of these, and what taking it back.
+-- A history kept as the list of its nodes in the order of their revisions, beside it its leaves, and the parents that are no nodes: what taking nodes in makes of these, and what taking them back.
 -- No outside source decides: `proofs/Kept` ties it to the content of a history.
-use Rattle.std.specs.Prelude.{◌≡◌, ◌+◌, ◌&&◌, ℕ, Bool, true, false, not, if◌then◌else◌, List, [], ◌∷◌, Option, Some, None, is_some, IsTrue}
+use Rattle.std.specs.Prelude.{◌≡◌, Bool, true, false, not, ◌&&◌, ◌||◌, if◌then◌else◌, List, [], ◌∷◌, ◌++◌, Option, Some, None, is_some, IsTrue}
 use Rattle.std.specs.List.{list_any}
 use Rattle.std.specs.Ordering.{eq_by_cmp}
 use Rattle.std.specs.Map.{remove_entry}
-use Rattle.std.specs.Set.{remove_key}
 use Rattle.std.specs.BTreeMap.{is_at}
-use Rattle.std.specs.BTreeSet.{insert_key}
 use Rattle.std.specs.FinMap.{find, put, is_sorted}
 use Rattle.tree.specs.Revision.{Revision, revision_cmp}
-use Rattle.tree.specs.History.{is_leaf_in, is_marked, is_parent_in}
+use Rattle.tree.specs.History.{is_marked, is_parent_in, names}
 use Rattle.tree.specs.declared.entry.Held.{Held}
 use Rattle.tree.specs.declared.entry.Entry.{Entry}
-use Rattle.tree.specs.declared.nodes.Insertion.{Insertion}
+use Rattle.tree.specs.declared.marked_leaves.MarkedLeaves.{MarkedLeaves}
 
 abbrev pub nodes_with_new : List (Revision × Entry) → Revision → Entry → List (Revision × Entry)
 nodes_with_new nodes r e = if is_some (find revision_cmp r nodes) then nodes else put revision_cmp r e nodes
@@ -31,66 +29,122 @@ abbrev pub entries_before : Option Held → List Revision → Option Revision �
 entries_before d [] parent = []
 entries_before d (r ∷ rest) parent = (r, record { parent = next_of rest parent; held = d }) ∷ entries_before None rest parent
 
--- the revisions that some node has as its parent
-abbrev pub AreParents : List Revision → List (Revision × Entry) → Type 0
-AreParents parents nodes = (r : Revision) → list_any (eq_by_cmp revision_cmp r) parents ≡ is_parent_in nodes r
+-- ---- what a history keeps
 
-abbrev pub tally : Bool → ℕ
-tally true = 1
-tally false = 0
+abbrev pub has : List Revision → Revision → Bool
+has rs r = list_any (eq_by_cmp revision_cmp r) rs
 
--- how many of the nodes are so
-abbrev pub count : (Revision × Entry → Bool) → List (Revision × Entry) → ℕ
-count is_so [] = 0
-count is_so (e ∷ es) = tally (is_so e) + count is_so es
+abbrev pub is_entry_marked : Bool → Option Entry → Bool
+is_entry_marked mark None = false
+is_entry_marked mark (Some e) = is_marked mark e.held
 
--- how many leaves are not deleted
-abbrev pub live_in : List (Revision × Entry) → ℕ
-live_in nodes = count (is_leaf_in false nodes) nodes
+-- a node with this mark that is no node's parent
+abbrev pub is_leaf_at : Bool → List (Revision × Entry) → Revision → Bool
+is_leaf_at mark nodes r = is_entry_marked mark (find revision_cmp r nodes) && not (is_parent_in nodes r)
 
--- what a history keeps
-pub record AreKept (nodes : List (Revision × Entry)) (parents : List Revision) (live : ℕ) : Type 0 where
+-- some node's parent that is no node
+abbrev pub is_awaited : List (Revision × Entry) → Revision → Bool
+is_awaited nodes r = is_parent_in nodes r && not (is_some (find revision_cmp r nodes))
+
+-- the leaves that are deleted, or the others
+abbrev pub leaves_with : MarkedLeaves → Bool → List Revision
+leaves_with leaves true = leaves.deleted.keys
+leaves_with leaves false = leaves.live.keys
+
+abbrev pub HasNoLeaves : MarkedLeaves → Type 0
+HasNoLeaves leaves = (mark : Bool) → leaves_with leaves mark ≡ []
+
+abbrev pub AreLeaves : MarkedLeaves → List (Revision × Entry) → Type 0
+AreLeaves leaves nodes = (mark : Bool) (r : Revision) → has (leaves_with leaves mark) r ≡ is_leaf_at mark nodes r
+
+abbrev pub AreAwaited : List Revision → List (Revision × Entry) → Type 0
+AreAwaited awaited nodes = (r : Revision) → has awaited r ≡ is_awaited nodes r
+
+pub record AreKept (nodes : List (Revision × Entry)) (leaves : MarkedLeaves) (awaited : List Revision) : Type 0 where
   pub in_order : IsTrue (is_sorted revision_cmp nodes)
-  pub followed : AreParents parents nodes
-  pub counted : live ≡ live_in nodes
+  pub ends : AreLeaves leaves nodes
+  pub missing : AreAwaited awaited nodes
 
-abbrev pub parents_with : List Revision → Option Revision → List Revision
-parents_with parents None = parents
-parents_with parents (Some p) = insert_key revision_cmp parents p
+-- ---- how the leaves change
 
-abbrev pub parents_without : List Revision → Option Revision → List Revision
-parents_without parents None = parents
-parents_without parents (Some p) = remove_key (is_at (revision_cmp p)) parents
+abbrev pub is_mark : Bool → Bool → Bool
+is_mark true deleted = deleted
+is_mark false deleted = not deleted
 
--- a parent that is none yet
-abbrev pub new_parent : List Revision → Option Revision → Option Revision
-new_parent parents None = None
-new_parent parents (Some p) = if list_any (eq_by_cmp revision_cmp p) parents then None else Some p
+-- new has the leaves of old, and r with this mark where b says so
+abbrev pub AddsLeaf : Bool → Bool → Revision → MarkedLeaves → MarkedLeaves → Type 0
+AddsLeaf b deleted r old new = (mark : Bool) (s : Revision) → has (leaves_with new mark) s ≡ ((b && is_mark mark deleted && eq_by_cmp revision_cmp r s) || has (leaves_with old mark) s)
 
--- a new node is a leaf that is not deleted, beside these parents
-abbrev pub is_live_new : List Revision → Revision → Entry → Bool
-is_live_new parents r e = is_marked false e.held && not (list_any (eq_by_cmp revision_cmp r) parents)
+-- new has the leaves of old that are not so
+abbrev pub LosesLeaves : (Revision → Bool) → MarkedLeaves → MarkedLeaves → Type 0
+LosesLeaves is_gone old new = (mark : Bool) (r : Revision) → has (leaves_with new mark) r ≡ (has (leaves_with old mark) r && not (is_gone r))
 
-abbrev pub is_live_entry : Option Entry → Bool
-is_live_entry None = false
-is_live_entry (Some e) = is_marked false e.held
+abbrev pub HasSameLeaves : MarkedLeaves → MarkedLeaves → Type 0
+HasSameLeaves old new = (mark : Bool) (r : Revision) → has (leaves_with new mark) r ≡ has (leaves_with old mark) r
 
--- the revision is a node that is not deleted
-abbrev pub is_live_at : List (Revision × Entry) → Option Revision → Bool
-is_live_at nodes None = false
-is_live_at nodes (Some r) = is_live_entry (find revision_cmp r nodes)
+-- new has those of old that are not so
+abbrev pub Loses : (Revision → Bool) → List Revision → List Revision → Type 0
+Loses is_gone old new = (r : Revision) → has new r ≡ (has old r && not (is_gone r))
 
--- what came in, if anything did
-abbrev pub insertion_list : Option Insertion → List Insertion
-insertion_list None = []
-insertion_list (Some i) = i ∷ []
+-- a node that comes in is a leaf: nobody awaits it, and none follows it
+abbrev pub is_new_leaf : List (Revision × Entry) → List Revision → Revision → Bool → Bool
+is_new_leaf nodes awaited r is_followed = not (is_some (find revision_cmp r nodes)) && not is_followed && not (has awaited r)
+
+-- new has what old has, and this parent where it is no node
+abbrev pub Awaits : List (Revision × Entry) → Option Revision → List Revision → List Revision → Type 0
+Awaits nodes parent old new = (r : Revision) → has new r ≡ (has old r || (names parent r && not (is_some (find revision_cmp r nodes))))
+
+-- ---- what came in
+
+-- a node that came in, and its parent
+pub record Insertion : Type 0 where
+  pub rev : Revision
+  pub parent : Option Revision
+
+abbrev pub insertion_of : Revision → Entry → Insertion
+insertion_of r e = record { rev = r; parent = e.parent }
+
+-- one that came in, if it did
+abbrev pub insertions_of : Bool → Revision → Option Revision → List Insertion
+insertions_of true r parent = record { rev = r; parent = parent } ∷ []
+insertions_of false r parent = []
+
+-- those of a path that came in, where the last follows this parent
+abbrev pub insertions_in : List Bool → List Revision → Option Revision → List Insertion
+insertions_in [] path parent = []
+insertions_in (b ∷ bs) [] parent = []
+insertions_in (b ∷ bs) (r ∷ rest) parent = insertions_of b r (next_of rest parent) ++ insertions_in bs rest parent
+
+-- one of these is r
+abbrev pub is_new : List Insertion → Revision → Bool
+is_new is r = list_any (λ i. eq_by_cmp revision_cmp i.rev r) is
+
+-- one of these has r as its parent
+abbrev pub is_followed : List Insertion → Revision → Bool
+is_followed is r = list_any (λ i. names i.parent r) is
 
 -- the nodes before these came in, the last of them taken back first
 abbrev pub nodes_before : List (Revision × Entry) → List Insertion → List (Revision × Entry)
 nodes_before nodes [] = nodes
 nodes_before nodes (i ∷ is) = remove_entry (is_at (revision_cmp i.rev)) (nodes_before nodes is)
 
--- the parents before them
-abbrev pub parents_before : List Revision → List Insertion → List Revision
-parents_before parents [] = parents
-parents_before parents (i ∷ is) = parents_without (parents_before parents is) i.parent
+-- Nodes came in. Without those that the new ones follow, the leaves are leaves; without the new ones, what is awaited is awaited.
+pub record AreUnsettled (nodes : List (Revision × Entry)) (leaves : MarkedLeaves) (awaited : List Revision) (is : List Insertion) : Type 0 where
+  pub in_order : IsTrue (is_sorted revision_cmp nodes)
+  pub ends : (mark : Bool) (r : Revision) → (has (leaves_with leaves mark) r && not (is_followed is r)) ≡ is_leaf_at mark nodes r
+  pub missing : (r : Revision) → (has awaited r && not (is_new is r)) ≡ is_awaited nodes r
+
+-- Without what came in, there is what there was.
+pub record CanGoBack (old nodes : List (Revision × Entry)) (leaves : MarkedLeaves) (awaited : List Revision) (is : List Insertion) : Type 0 where
+  pub before : nodes_before nodes is ≡ old
+  pub ends : (mark : Bool) (r : Revision) → (has (leaves_with leaves mark) r && not (is_new is r)) ≡ is_leaf_at mark old r
+  pub missing : AreAwaited awaited old
+
+-- Some of a path came in, and the next of the path is `next`: it is the parent of the last, if `is_open`.
+pub record IsBetween (old nodes : List (Revision × Entry)) (leaves : MarkedLeaves) (awaited : List Revision) (is : List Insertion) (is_open : Bool) (next : Option Revision) : Type 0 where
+  pub back : CanGoBack old nodes leaves awaited is
+  pub in_order : IsTrue (is_sorted revision_cmp nodes)
+  pub known : (r : Revision) → is_some (find revision_cmp r nodes) ≡ (is_some (find revision_cmp r old) || is_new is r)
+  pub ends : (mark : Bool) (r : Revision) → (has (leaves_with leaves mark) r && not (is_followed is r)) ≡ is_leaf_at mark nodes r
+  pub parents : (r : Revision) → find revision_cmp r nodes ≡ None → is_parent_in nodes r ≡ (has awaited r || is_followed is r)
+  pub unknown : (r : Revision) → find revision_cmp r nodes ≡ None → is_followed is r ≡ (is_open && names next r)

@@ -7,6 +7,7 @@ ghost use Rattle.tree.specs.Outline.{marked_winner, outline_of};
 
 use crate::body::Body;
 use crate::entry::{Entry, Held};
+use crate::marked_leaves::MarkedLeaves;
 use crate::marked_rev::MarkedRev;
 use crate::nodes;
 use crate::placement::{Placed, TreeFault};
@@ -25,10 +26,10 @@ pub struct History {
     alloc: Global,
     /// The known revisions, each with its entry.
     nodes: BTreeMap<Rev, Entry>,
-    /// Those that some known revision has as its parent.
-    parents: BTreeSet<Rev>,
-    /// How many leaves are not deleted.
-    live: usize,
+    /// Those that no known revision has as its parent.
+    leaves: MarkedLeaves,
+    /// The parents that are not known, since rows come in any order.
+    awaited: BTreeSet<Rev>,
 }
 
 // Written out, so that callers do not prove again how each part is dropped.
@@ -37,8 +38,8 @@ impl Drop for History {
         let History {
             alloc: _,
             nodes: _,
-            parents: _,
-            live: _,
+            leaves: _,
+            awaited: _,
         } = self;
     }
 }
@@ -55,7 +56,7 @@ impl Model for History {
 
     ghost view = { λ h. map.from_sorted h.nodes.entries };
 
-    ghost invariant = { λ h. AreKept h.nodes.entries h.parents.keys h.live };
+    ghost invariant = { λ h. AreKept h.nodes.entries h.leaves h.awaited.keys };
 }
 
 impl History {
@@ -66,8 +67,8 @@ impl History {
         History {
             alloc,
             nodes: BTreeMap::new(alloc),
-            parents: BTreeSet::new(alloc),
-            live: 0,
+            leaves: MarkedLeaves::new(alloc),
+            awaited: BTreeSet::new(alloc),
         }
     }
 
@@ -138,8 +139,8 @@ impl History {
         nodes::put_path(
             alloc,
             &mut self.nodes,
-            &mut self.parents,
-            &mut self.live,
+            &mut self.leaves,
+            &mut self.awaited,
             path,
             parent,
             held,
@@ -176,10 +177,9 @@ impl History {
     pub fn winner(&self) -> Option<&Rev>
         ensures { option_copied result ≡ winner self.now }
     {
-        if self.is_live() {
-            self.best_leaf(false)
-        } else {
-            self.best_leaf(true)
+        match self.best_leaf(false) {
+            Some(rev) => Some(rev),
+            None => self.best_leaf(true),
         }
     }
 
@@ -187,7 +187,7 @@ impl History {
     pub fn is_live(&self) -> bool
         ensures { result ≡ is_live self.now }
     {
-        self.live > 0
+        self.best_leaf(false).is_some()
     }
 
     /// Returns all leaves, the winner first, and so on in the order by which it is picked.
@@ -256,7 +256,7 @@ impl History {
     pub fn is_leaf(&self, rev: &Rev) -> bool
         ensures { result ≡ is_leaf self.now rev.now }
     {
-        self.knows(rev) && !self.has_child(rev)
+        self.leaves.contains(rev)
     }
 
     /// Tells whether a revision stands in the path of some write.
@@ -314,8 +314,8 @@ impl History {
         let History {
             alloc,
             nodes,
-            parents: _,
-            live: _,
+            leaves: _,
+            awaited: _,
         } = self;
         Ok(nodes.into_iter().collect(alloc)?)
     }
@@ -325,13 +325,13 @@ impl History {
         ensures ok { OnOk result (self.new ≡ with_new self.old rev entry) }
         ensures err { OnErr result (self.new ≡ self.old) }
     {
-        drop(nodes::put_new(
+        nodes::put_new(
             &mut self.nodes,
-            &mut self.parents,
-            &mut self.live,
+            &mut self.leaves,
+            &mut self.awaited,
             rev,
             entry,
-        )?);
+        )?;
         Ok(())
     }
 
@@ -348,29 +348,11 @@ impl History {
         self.nodes().get(rev)
     }
 
-    fn has_child(&self, rev: &Rev) -> bool
-        ensures { result ≡ has_child self.now rev.now }
-    {
-        self.parents.contains(rev)
-    }
-
-    /// Tells whether the node has this mark and is no node's parent.
-    fn is_leaf_marked(&self, rev: &Rev, entry: &Entry, deleted: bool) -> bool
-        ensures { result ≡ is_leaf_in deleted (map.entries self.now) (rev.now, entry.now) }
-    {
-        entry.is_marked(deleted) && !self.has_child(rev)
-    }
-
     /// Returns the greatest leaf with this mark.
     fn best_leaf(&self, deleted: bool) -> Option<&Rev>
         ensures { option_copied result ≡ slice_get (leaves_marked deleted self.now) 0 }
     {
-        for (rev, entry) in self.nodes().iter().rev() {
-            if self.is_leaf_marked(rev, entry, deleted) {
-                return Some(rev);
-            }
-        }
-        None
+        self.leaves.with_mark(deleted).iter().next_back()
     }
 
     /// Returns the leaves with this mark, the greatest first.
@@ -378,10 +360,8 @@ impl History {
         ensures { IfOk result (λ revs. revs.items ≡ leaves_marked deleted self.now) }
     {
         let mut leaves = Vec::new(self.alloc);
-        for (rev, entry) in self.nodes().iter().rev() {
-            if self.is_leaf_marked(rev, entry, deleted) {
-                leaves.push(*rev)?;
-            }
+        for rev in self.leaves.with_mark(deleted).iter().rev() {
+            leaves.push(*rev)?;
         }
         Ok(leaves)
     }

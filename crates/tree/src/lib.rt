@@ -16,6 +16,7 @@ mod document_id;
 mod entry;
 mod history;
 pub mod laws;
+mod marked_leaves;
 mod marked_rev;
 mod next_revision;
 mod nodes;

@@ -1,9 +1,8 @@
 use Rattle.std.proofs.Common.{◌≡◌, ◌++◌}
-use Rattle.std.specs.FinMap as map
+use Rattle.std.specs.Prelude.{reverse}
 use Rattle.tree.specs.History.{leaves_marked}
-use Rattle.tree.proofs.Kept.{leaves_among}
 use Rattle.tree.proofs.history.History.leaves_marked.Given as goal
 
--- the leaves so far, and those among the nodes that are left, are all
+-- the leaves so far, and those that are left, are all
 abbrev pub invariant-loop-rev : goal.invariant-loop-rev
-invariant-loop-rev l = l.leaves.items ++ leaves_among l.deleted (map.entries l.self) l.rev-iterator.iter ≡ leaves_marked l.deleted l.self
+invariant-loop-rev l = l.leaves.items ++ reverse l.rev-iterator.iter ≡ leaves_marked l.deleted l.self

@@ -15,7 +15,7 @@ returns-clause-ok c =
     let path = c.args.path.now in
     let held = λ (v : Value). Some (record { deleted = c.args.deleted; body = v }) in
     let entries = λ (v : Value). entries_before (held v) path c.known_parent-parent.result in
-    with_nodes c.self.inside.nodes.entries c.put_path.new.nodes.entries (entries c.new-body.result) c.self.invariant.in_order c.put_path.ensures.sorted c.in_ok-put_path.ensures.ok
+    with_nodes c.self.inside.nodes.entries c.put_path.new.nodes.entries (entries c.new-body.result) c.self.invariant.in_order c.put_path.ensures.kept.in_order c.in_ok-put_path.ensures.ok
     ∙ ap (λ (h : HistoryContent). with_entries h (entries c.new-body.result)) c.self.view_is
     ∙ ap (λ (v : Value). with_entries old (entries v)) (c.new-body.ensures ∙ c.in_ok-copy.ensures)
     ∙ ap (λ (o : Option Revision). with_entries old (entries_before (held (view c.args.body.now)) path o)) c.known_parent-parent.ensures
