@@ -11,7 +11,7 @@ use Rattle.store.specs.Database.{Database}
 use Rattle.store.specs.Pages.{SequenceRow, in_sequence, last_sequence, rows_of, up_to_limit}
 use Rattle.store.proofs.RowOrders.{page_ascends}
 use Rattle.read.specs.Changes.{change_object}
-use Rattle.read.specs.ChangesSoFar.{completed, later_than, left_after, page_size, rows_to_come}
+use Rattle.read.specs.ChangesSoFar.{whole_changes, later_than, left_after, page_size, rows_to_come}
 use Rattle.read.specs.declared.change_pages.ChangesSoFar.{ChangesSoFar}
 
 abbrev Rises : ℕ → List SequenceRow → Type 0
@@ -116,7 +116,7 @@ last_joined o (r ∷ rs) more = last_joined r.sequence rs more
 pub advanced : (leaves : Bool) (before after : ChangesSoFar) (rows : List SequenceRow) (last : ℕ) (d : Database)
     → rows ≡ take (page_size before.left) (later_than before.since (all_rows leaves d)) → last ≡ last_sequence (min before.since d.length) rows → before.since < last
     → after.results ≡ before.results ++ map change_object rows → after.since ≡ last → after.last ≡ last → after.left ≡ left_after before.left (length rows)
-    → completed after (rows_to_come leaves after d) ≡ completed before (rows_to_come leaves before d)
+    → whole_changes after (rows_to_come leaves after d) ≡ whole_changes before (rows_to_come leaves before d)
 advanced leaves before after rows last d are is up results since end left =
     let s = before.since in
     let all = all_rows leaves d in
@@ -136,9 +136,9 @@ advanced leaves before after rows last d are is up results since end left =
     let listed : after.results ++ map change_object come ≡ before.results ++ map change_object (rows ++ come) =
     ap (λ vs. vs ++ map change_object come) results ∙ append_assoc before.results (map change_object rows) (map change_object come)
     ∙ ap (λ vs. before.results ++ vs) (sym (map-append change_object rows come)) in
-    ap (completed after) coming
+    ap (whole_changes after) coming
     ∙ (λ i. object (member (codes "last_seq") (whole (pos (lasts i))) (member (codes "results") (array (items_of (listed i))) no_members)))
-    ∙ sym (ap (completed before) whole_rows)
+    ∙ sym (ap (whole_changes before) whole_rows)
 
 -- ---- the end
 

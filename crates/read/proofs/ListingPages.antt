@@ -1,89 +1,98 @@
--- Rows by id, taken page by page, are the rows.
-use Rattle.std.proofs.Common.{◌≡◌, ℕ, zero, suc, ◌+◌, ◌-◌, ◌<◌, ◌≤◌, ◌^◌, List, [], ◌∷◌, ◌++◌, Bool, true, false, not, length, map, take, drop, Option, Some, None, refl, sym, ap, ◌∙◌, arith, append_assoc}
-use Rattle.std.proofs.Math.ListN.{drop_of_length-le}
-use Rattle.std.proofs.Math.Seq.{take-nil}
+-- Rows that are taken page by page are the rows.
+use Rattle.std.proofs.Common.{◌≡◌, ℕ, zero, suc, ◌+◌, ◌-◌, ◌<◌, ◌≤◌, ◌^◌, List, [], ◌∷◌, ◌++◌, Bool, true, false, not, filter, length, map, min, take, drop, Option, Some, None, refl, sym, ap, subst, ◌∙◌, arith, append_assoc}
 use Rattle.std.proofs.lemmas.List.{drop-drop, length-drop, length-reverse, length-take, map-append, take_all}
 use Rattle.std.proofs.lemmas.List.Filters.{length-filter_both}
 use Rattle.std.specs.FinMap.{entries}
+use Rattle.std.specs.Prelude.{Ok, option_map}
+use Rattle.couch_json.specs.Value.{Value}
 use Rattle.store.specs.Database.{Database}
-use Rattle.store.specs.Pages.{in_direction, is_within, live_rows, rows_within, up_to_limit}
+use Rattle.store.specs.Indexes.{IndexPlace, index_rows}
+use Rattle.store.specs.KeyPages.{KeyPage, is_key_within, key_counts, key_page, key_rows_within}
+use Rattle.store.specs.Pages.{in_direction, is_within, live_rows, up_to_limit}
+use Rattle.store.specs.declared.index_page.KeyRange.{KeyRange}
 use Rattle.store.specs.declared.listing.IdRange.{IdRange}
 use Rattle.store.specs.declared.listing.IdRow.{IdRow}
-use Rattle.read.specs.Listing.{row_object}
-use Rattle.read.specs.RowsSoFar.{IsCountable, completed, page_size, rows_to_come, rows_wanted}
+use Rattle.store.specs.declared.listing.RowCounts.{RowCounts}
+use Rattle.tree.proofs.Shown.{inside}
+use Rattle.read.specs.Listing.{listing_of}
+use Rattle.read.specs.RowsSoFar.{AreCountable, whole_list, greatest_number, page_size, rows_by_fields, rows_by_id, rows_wanted}
+use Rattle.read.specs.Views.{key_row_object, view_by}
 use Rattle.read.specs.declared.listing_pages.RowsSoFar.{RowsSoFar}
 use Rattle.read.proofs.ChangePages.{take_parts}
 
-abbrev pub all_within : IdRange → Database → List IdRow
-all_within range d = rows_within range (live_rows (entries d.documents))
-
 -- ---- how many there are
 
-directed : (descending : Bool) (rows : List IdRow) → length (in_direction descending rows) ≡ length rows
+directed : {X : Type 0} (descending : Bool) (rows : List X) → length (in_direction descending rows) ≡ length rows
 directed true rows = length-reverse rows
 directed false rows = refl
 
-few : (range : IdRange) (d : Database) → IsCountable d → length (all_within range d) < 2 ^ 63
-few range d h =
-    let rows = live_rows (entries d.documents) in
-    omega (
-      arith,
-      h,
-      directed range.descending rows,
-      length-filter_both (λ (r : IdRow). is_within range r.id) (λ (r : IdRow). not (is_within range r.id)) (λ r. refl) (in_direction range.descending rows),
-    )
+fewer : {X : Type 0} (keeps : X → Bool) (rows : List X) → length (filter keeps rows) ≤ length rows
+fewer keeps rows = omega (arith, length-filter_both keeps (λ x. not (keeps x)) (λ x. refl) rows)
 
--- nothing comes behind more rows than there are
-pub far_behind : (so_far : RowsSoFar) (d : Database) → IsCountable d → 2 ^ 63 ≤ so_far.range.skip → rows_to_come so_far d ≡ []
-far_behind so_far d h far =
-    ap (take so_far.left) (drop_of_length-le (all_within so_far.range d) (omega (arith, few so_far.range d h, far))) ∙ take-nil {A = IdRow} so_far.left
+pub few_by_id : (range : IdRange) (d : Database) → AreCountable (live_rows (entries d.documents)) → AreCountable (rows_by_id range d)
+few_by_id range d h =
+    let rows = live_rows (entries d.documents) in
+    omega (arith, h, directed range.descending rows, fewer (λ (r : IdRow). is_within range r.id) (in_direction range.descending rows))
+
+pub few_by_key : (range : KeyRange) (rows : List IndexPlace) → AreCountable rows → AreCountable (key_rows_within range rows)
+few_by_key range rows h =
+    omega (arith, h, directed range.descending rows, fewer (λ (r : IndexPlace). is_key_within range r.key) (in_direction range.descending rows))
 
 -- no limit asks for all rows
-pub unlimited : (limit : Option ℕ) (skip : ℕ) (range : IdRange) (d : Database) → IsCountable d → take (rows_wanted limit) (drop skip (all_within range d)) ≡ up_to_limit limit (drop skip (all_within range d))
-unlimited None skip range d h =
-    take_all 18446744073709551615 (drop skip (all_within range d)) (omega (arith, few range d h, length-drop skip (all_within range d)))
-unlimited (Some n) skip range d h = refl
+pub unlimited : {X : Type 0} (limit : Option ℕ) (skip : ℕ) (rows : List X) → AreCountable rows → take (rows_wanted limit) (drop skip rows) ≡ up_to_limit limit (drop skip rows)
+unlimited None skip rows h = take_all greatest_number (drop skip rows) (omega (arith, h, length-drop skip rows))
+unlimited (Some n) skip rows h = refl
+
+-- ---- a list of an index
+
+-- the range with another part of its rows
+abbrev pub part_of : KeyRange → ℕ → ℕ → Bool → KeyRange
+part_of range skip most counted = record { low = range.low; high = range.high; descending = range.descending; skip = skip; limit = Some most; counted = counted }
+
+-- before any row has come, all rows are to come
+pub begun : (range : KeyRange) (d : Database) (declared : Option (List (List ℕ))) (so_far : RowsSoFar) (page : KeyPage) (counts : RowCounts)
+    → option_map (λ fields. key_page (part_of range range.skip 0 true) (index_rows fields d)) declared ≡ Some page → page.counts ≡ Some counts → counts.total < 2 ^ 63
+    → so_far ≡ record { skip = range.skip; left = rows_wanted range.limit; rows = [] }
+    → AreCountable (rows_by_fields range d declared) × (Ok (listing_of (whole_list key_row_object (rows_by_fields range d declared) so_far) counts) ≡ view_by range d declared)
+begun range d None so_far page counts paged is bounded fresh = absurd cc
+begun range d (Some fields) so_far page counts paged is bounded fresh =
+    let rows = index_rows fields d in
+    let all = key_rows_within range rows in
+    let counted : key_counts range rows ≡ counts = inside _ _ (ap (λ (p : KeyPage). p.counts) (inside _ _ paged) ∙ is) in
+    let countable : AreCountable all = few_by_key range rows (subst (λ n. n < 2 ^ 63) (sym (ap (λ (k : RowCounts). k.total) counted)) bounded) in
+    let listed : whole_list key_row_object all so_far ≡ map key_row_object (key_page range rows).rows =
+    ap (whole_list key_row_object all) fresh ∙ ap (map key_row_object) (unlimited range.limit range.skip all countable) in
+    (countable, λ i. Ok (listing_of (listed i) (sym counted i)))
+
+pub next_by_key : (range : KeyRange) (skip most : ℕ) (counted : Bool) (d : Database) (declared : Option (List (List ℕ))) (page : KeyPage)
+    → option_map (λ fields. key_page (part_of range skip most counted) (index_rows fields d)) declared ≡ Some page → page.rows ≡ take most (drop skip (rows_by_fields range d declared))
+next_by_key range skip most counted d None page paged = absurd cc
+next_by_key range skip most counted d (Some fields) page paged = sym (ap (λ (p : KeyPage). p.rows) (inside _ _ paged))
 
 -- ---- one more page
 
-drop_taken : (k : ℕ) (rows : List IdRow) → drop k rows ≡ drop (length (take k rows)) rows
+drop_taken : {X : Type 0} (k : ℕ) (rows : List X) → drop k rows ≡ drop (length (take k rows)) rows
 drop_taken zero rows = refl
 drop_taken (suc k) [] = refl
 drop_taken (suc k) (y ∷ ys) = drop_taken k ys
 
-pub advanced : (before after : RowsSoFar) (rows : List IdRow) (d : Database) → rows ≡ take (page_size before.range.skip before.left) (drop before.range.skip (all_within before.range d))
-    → all_within after.range d ≡ all_within before.range d → after.rows ≡ before.rows ++ map row_object rows → after.left ≡ before.left - length rows
-    → after.range.skip ≡ before.range.skip + length rows → completed after (rows_to_come after d) ≡ completed before (rows_to_come before d)
-advanced before after rows d are same listed left skip =
-    let s = before.range.skip in
-    let all = all_within before.range d in
-    let k = page_size s before.left in
+-- the rows of a page end where there are rows
+bounded : {X : Type 0} (k s : ℕ) (all rows : List X) → rows ≡ take k (drop s all) → AreCountable all → 0 < length rows → min (s + length rows) greatest_number ≡ s + length rows
+bounded k s all rows are h some =
+    omega (arith, ap length are, length-take k (drop s all), length-drop s all, h, some)
+
+pub advanced : {X : Type 0} (shown : X → Value) (all rows : List X) (before after : RowsSoFar) → AreCountable all → rows ≡ take (page_size before) (drop before.skip all) → 0 < length rows
+    → after.rows ≡ before.rows ++ map shown rows → after.left ≡ before.left - length rows → after.skip ≡ min (before.skip + length rows) greatest_number
+    → whole_list shown all after ≡ whole_list shown all before
+advanced shown all rows before after h are some listed left skip =
+    let s = before.skip in
+    let k = page_size before in
     let come = take (before.left - length rows) (drop (s + length rows) all) in
-    let coming : rows_to_come after d ≡ come = λ i. take (left i) (drop (skip i) (same i)) in
+    let coming : take after.left (drop after.skip all) ≡ come = λ i. take (left i) (drop ((skip ∙ bounded k s all rows are h some) i) all) in
     let behind : take (before.left - length (take k (drop s all))) (drop k (drop s all)) ≡ come =
     ap (take (before.left - length (take k (drop s all)))) (drop_taken k (drop s all) ∙ drop-drop (length (take k (drop s all))) s all)
     ∙ (λ i. take (before.left - length (sym are i)) (drop (s + length (sym are i)) all)) in
-    let whole_rows : rows_to_come before d ≡ rows ++ come =
+    let to_come : take before.left (drop s all) ≡ rows ++ come =
     take_parts before.left k (drop s all) (omega arith) ∙ (λ i. sym are i ++ behind i) in
-    ap (completed after) coming ∙ ap (λ vs. vs ++ map row_object come) listed ∙ append_assoc before.rows (map row_object rows) (map row_object come)
-    ∙ ap (λ vs. before.rows ++ vs) (sym (map-append row_object rows come)) ∙ sym (ap (completed before) whole_rows)
-
--- ---- the end
-
-none_taken : (k : ℕ) (rows : List IdRow) → 0 < k → length (take k rows) ≡ 0 → rows ≡ []
-none_taken zero rows some none = absurd (omega (arith, some))
-none_taken (suc k) [] some none = refl
-none_taken (suc k) (y ∷ ys) some none = absurd (omega (arith, none))
-
-pub ended : (so_far : RowsSoFar) (rows : List IdRow) (d : Database) → rows ≡ take (page_size so_far.range.skip so_far.left) (drop so_far.range.skip (all_within so_far.range d))
-    → 0 < so_far.left → length rows ≡ 0 → rows_to_come so_far d ≡ []
-ended so_far rows d are some none =
-    ap (take so_far.left) (none_taken (page_size so_far.range.skip so_far.left) (drop so_far.range.skip (all_within so_far.range d)) (omega (arith, some)) (sym (ap length are) ∙ none))
-    ∙ take-nil {A = IdRow} so_far.left
-
--- a page has no more rows than it may have
-pub at_most : (so_far : RowsSoFar) (rows : List IdRow) (d : Database) → rows ≡ take (page_size so_far.range.skip so_far.left) (drop so_far.range.skip (all_within so_far.range d))
-    → length rows ≤ page_size so_far.range.skip so_far.left
-at_most so_far rows d are =
-    let k = page_size so_far.range.skip so_far.left in
-    omega (arith, ap length are, length-take k (drop so_far.range.skip (all_within so_far.range d)))
+    (λ i. listed i ++ map shown (coming i)) ∙ append_assoc before.rows (map shown rows) (map shown come)
+    ∙ ap (λ vs. before.rows ++ vs) (sym (map-append shown rows come) ∙ sym (ap (map shown) to_come))

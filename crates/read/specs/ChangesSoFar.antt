@@ -28,8 +28,8 @@ abbrev pub rows_to_come : Bool → ChangesSoFar → Database → List SequenceRo
 rows_to_come leaves so_far db = up_to_limit so_far.left (later_than so_far.since (in_sequence (rows_of leaves (entries db.documents))))
 
 -- the object, once these rows have come too
-abbrev pub completed : ChangesSoFar → List SequenceRow → Value
-completed so_far rows =
+abbrev pub whole_changes : ChangesSoFar → List SequenceRow → Value
+whole_changes so_far rows =
     object
     (member (codes "last_seq") (whole (pos (last_sequence so_far.last rows)))
     (member (codes "results") (array (items_of (so_far.results ++ map change_object rows))) no_members))

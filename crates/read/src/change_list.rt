@@ -8,7 +8,7 @@ ghost use Rattle.store.specs.Database.{Database};
 ghost use Rattle.store.specs.PageStructs.{sequence_row_of, sequence_rows};
 ghost use Rattle.read.specs.Answers.{AnswersValue, Stops};
 ghost use Rattle.read.specs.Changes.{change_members, change_object, changes_in};
-ghost use Rattle.read.specs.ChangesSoFar.{completed, left_after, page_size, rows_to_come};
+ghost use Rattle.read.specs.ChangesSoFar.{whole_changes, left_after, page_size, rows_to_come};
 ghost use Rattle.read.specs.Listing.{revision_object};
 
 use crate::change_pages::ChangesSoFar;
@@ -56,7 +56,7 @@ fn begin_changes<S: Store>(
 ) -> Result<ChangesSoFar, ReadFault>
     ensures there { S.is_honest store.new → IfOk result (λ _. is_some (map.get (S.contents store.old) db.now) ≡ true) }
     ensures ok { S.is_honest store.new → IfOk result (λ so_far. (d : Database) → map.get (S.contents store.old) db.now ≡ Some d
-        → completed so_far (rows_to_come range.now.all_leaves so_far d) ≡ changes_in range.now d) }
+        → whole_changes so_far (rows_to_come range.now.all_leaves so_far d) ≡ changes_in range.now d) }
     ensures stops { IfErr result (Stops S.Store store.old store.new (map.get (S.contents store.old) db.now ≡ None)) }
     ensures reads { OnlyReads S.Store store.old store.new }
 {
@@ -85,7 +85,7 @@ fn list_changes<S: Store>(
     so_far: &mut ChangesSoFar,
 ) -> Result<(), ReadFault>
     ensures ok { S.is_honest store.new → OnOk result ((d : Database) → map.get (S.contents store.old) db.now ≡ Some d
-        → completed so_far.new [] ≡ completed so_far.old (rows_to_come all_leaves so_far.old d)) }
+        → whole_changes so_far.new [] ≡ whole_changes so_far.old (rows_to_come all_leaves so_far.old d)) }
     ensures stops { IfErr result (Stops S.Store store.old store.new (map.get (S.contents store.old) db.now ≡ None)) }
     ensures reads { OnlyReads S.Store store.old store.new }
 {
@@ -105,7 +105,7 @@ fn list_page<S: Store>(
     so_far: &mut ChangesSoFar,
 ) -> Result<bool, ReadFault>
     ensures ok { S.is_honest store.new → IfOk result (λ _. (d : Database) → map.get (S.contents store.old) db.now ≡ Some d
-        → completed so_far.new (rows_to_come all_leaves so_far.new d) ≡ completed so_far.old (rows_to_come all_leaves so_far.old d)) }
+        → whole_changes so_far.new (rows_to_come all_leaves so_far.new d) ≡ whole_changes so_far.old (rows_to_come all_leaves so_far.old d)) }
     ensures end { S.is_honest store.new → IfOk result (λ more. more ≡ false → (d : Database) → map.get (S.contents store.old) db.now ≡ Some d
         → rows_to_come all_leaves so_far.new d ≡ []) }
     ensures onward { IfOk result (λ more. more ≡ true → (so_far.old.since < so_far.new.since) × (so_far.new.since < 2 ^ 63)) }
@@ -175,7 +175,7 @@ fn push_changes(alloc: Global, rows: &[SeqRow], results: &mut ArrayText) -> Got<
 
 /// Writes the object of the changes, all of which have come.
 fn write_changes(alloc: Global, so_far: ChangesSoFar) -> Got<JsonText>
-    ensures { IfOk result (λ value. value ≡ completed so_far []) }
+    ensures { IfOk result (λ value. value ≡ whole_changes so_far []) }
 {
     let (last, results) = so_far.into_parts();
     let last = JsonText::of(alloc, &whole(last))?;

@@ -8,14 +8,13 @@ ghost use Rattle.store.specs.Calls.{OnlyReads};
 ghost use Rattle.store.specs.Database.{Database};
 ghost use Rattle.read.specs.Answers.{AnswersValue, Stops};
 ghost use Rattle.read.specs.Listing.{document_listing, listing_of, revision_object, row_object};
-ghost use Rattle.read.specs.RowsSoFar.{IsCountable, completed, page_size, rows_to_come, rows_wanted};
+ghost use Rattle.read.specs.RowsSoFar.{AreCountable, whole_list, rows_by_id};
 
 use crate::fault::ReadFault;
 use crate::listing_pages::RowsSoFar;
 use crate::numbers::whole;
 use couch_json::{ArrayText, Got, Json, JsonText, ObjectText, put_member};
 use std::alloc::Global;
-use std::cmp::min;
 use std::collections::BTreeMap;
 use store::{DbName, IdRange, IdRow, RowCounts, Store};
 use tree::Rev;
@@ -36,8 +35,8 @@ pub fn all_docs<S: Store>(
     ensures only { IfErr result (λ fault. fault ≢ ReadFault.Memory → ((cause : _) → fault ≢ ReadFault.Store cause) → ⊥) }
     ensures reads { OnlyReads S.Store store.old store.new }
 {
-    let (mut so_far, counts) = begin_listing(alloc, store, db, range)?;
-    list_rows(alloc, store, db, &mut so_far)?;
+    let (mut range, mut so_far, counts) = begin_listing(alloc, store, db, range)?;
+    list_rows(alloc, store, db, &mut range, &mut so_far)?;
     Ok(write_listing(alloc, so_far.into_rows(), counts)?)
 }
 
@@ -47,15 +46,15 @@ fn begin_listing<S: Store>(
     store: &mut S,
     db: &DbName,
     range: IdRange,
-) -> Result<(RowsSoFar, RowCounts), ReadFault>
+) -> Result<(IdRange, RowsSoFar, RowCounts), ReadFault>
     ensures there { S.is_honest store.new → IfOk result (λ _. is_some (map.get (S.contents store.old) db.now) ≡ true) }
     ensures ok { S.is_honest store.new → IfOk result (λ begun. (d : Database) → map.get (S.contents store.old) db.now ≡ Some d
-        → IsCountable d × (listing_of (completed begun.0 (rows_to_come begun.0 d)) begun.1 ≡ document_listing range d)) }
-    ensures counts { IfOk result (λ begun. (begun.1.offset ≤ begun.1.total) × (begun.1.total < 2 ^ 63)) }
+        → AreCountable (rows_by_id begun.0 d) × (listing_of (whole_list row_object (rows_by_id begun.0 d) begun.1) begun.2 ≡ document_listing range d)) }
+    ensures counts { IfOk result (λ begun. (begun.2.offset ≤ begun.2.total) × (begun.2.total < 2 ^ 63)) }
     ensures stops { IfErr result (Stops S.Store store.old store.new (map.get (S.contents store.old) db.now ≡ None)) }
     ensures reads { OnlyReads S.Store store.old store.new }
 {
-    let left = rows_wanted(range.limit);
+    let so_far = RowsSoFar::new(alloc, range.skip, range.limit)?;
     let nothing = IdRange {
         limit: Some(0),
         counted: true,
@@ -65,54 +64,46 @@ fn begin_listing<S: Store>(
     let Some(counts) = page.counts else {
         unreachable!()
     };
-    let rows = ArrayText::new(alloc)?;
     let range = IdRange {
         counted: false,
         ..nothing
     };
-    Ok((RowsSoFar { range, left, rows }, counts))
+    Ok((range, so_far, counts))
 }
 
-/// Returns how many rows are wanted at most.
-fn rows_wanted(limit: Option<u64>) -> u64
-    ensures { result ≡ rows_wanted limit }
-{
-    match limit {
-        Some(limit) => limit,
-        None => 18_446_744_073_709_551_615,
-    }
-}
-
-/// Lists the rows that are still to come.
+/// Lists the rows of a range that are still to come.
 fn list_rows<S: Store>(
     alloc: Global,
     store: &mut S,
     db: &DbName,
+    range: &mut IdRange,
     so_far: &mut RowsSoFar,
 ) -> Result<(), ReadFault>
-    ensures ok { S.is_honest store.new → OnOk result ((d : Database) → map.get (S.contents store.old) db.now ≡ Some d → IsCountable d
-        → completed so_far.new [] ≡ completed so_far.old (rows_to_come so_far.old d)) }
+    ensures ok { S.is_honest store.new → OnOk result ((d : Database) → map.get (S.contents store.old) db.now ≡ Some d → AreCountable (rows_by_id range.old d)
+        → so_far.new.rows ≡ whole_list row_object (rows_by_id range.old d) so_far.old) }
     ensures stops { IfErr result (Stops S.Store store.old store.new (map.get (S.contents store.old) db.now ≡ None)) }
     ensures reads { OnlyReads S.Store store.old store.new }
 {
     let mut more = true;
     while more {
-        more = list_page(alloc, store, db, so_far)?;
+        more = list_page(alloc, store, db, range, so_far)?;
     }
     Ok(())
 }
 
-/// Lists the rows of the next page, and tells whether there were any.
+/// Lists the rows of the next page of a range, and tells whether more may come.
 fn list_page<S: Store>(
     alloc: Global,
     store: &mut S,
     db: &DbName,
+    range: &mut IdRange,
     so_far: &mut RowsSoFar,
 ) -> Result<bool, ReadFault>
-    ensures ok { S.is_honest store.new → IfOk result (λ _. (d : Database) → map.get (S.contents store.old) db.now ≡ Some d → IsCountable d
-        → completed so_far.new (rows_to_come so_far.new d) ≡ completed so_far.old (rows_to_come so_far.old d)) }
-    ensures end { S.is_honest store.new → IfOk result (λ more. more ≡ false → (d : Database) → map.get (S.contents store.old) db.now ≡ Some d → IsCountable d
-        → rows_to_come so_far.new d ≡ []) }
+    ensures ok { S.is_honest store.new → IfOk result (λ _. (d : Database) → map.get (S.contents store.old) db.now ≡ Some d → AreCountable (rows_by_id range.old d)
+        → whole_list row_object (rows_by_id range.old d) so_far.new ≡ whole_list row_object (rows_by_id range.old d) so_far.old) }
+    ensures end { S.is_honest store.new → IfOk result (λ more. more ≡ false → (d : Database) → map.get (S.contents store.old) db.now ≡ Some d → AreCountable (rows_by_id range.old d)
+        → so_far.new.rows ≡ whole_list row_object (rows_by_id range.old d) so_far.new) }
+    ensures same { (d : Database) → rows_by_id range.new d ≡ rows_by_id range.old d }
     ensures onward { IfOk result (λ more. more ≡ true → so_far.new.left < so_far.old.left) }
     ensures stops { IfErr result (Stops S.Store store.old store.new (map.get (S.contents store.old) db.now ≡ None)) }
     ensures reads { OnlyReads S.Store store.old store.new }
@@ -120,32 +111,17 @@ fn list_page<S: Store>(
     if so_far.left == 0 {
         return Ok(false);
     }
-    if so_far.range.skip >= 1 << 63 {
-        return Ok(false);
-    }
-    let most = page_size(so_far.range.skip, so_far.left);
-    so_far.range.limit = Some(most);
-    let page = store.page_by_id(db, &so_far.range)?;
+    let most = so_far.page_size();
+    range.skip = so_far.skip;
+    range.limit = Some(most);
+    let page = store.page_by_id(db, range)?;
     let count = page.rows.len() as u64;
     if count == 0 {
         return Ok(false);
     }
-    if count > most {
-        return Ok(false);
-    }
     push_rows(alloc, &page.rows, &mut so_far.rows)?;
-    so_far.range.skip += count;
-    so_far.left -= count;
-    Ok(true)
-}
-
-/// Returns how many rows the next page has at most, where so many are passed over and so many are
-/// wanted. Pages grow, so that all in all at most three times the rows are passed over.
-fn page_size(skip: u64, left: u64) -> u64
-    requires { skip < 2 ^ 63 }
-    ensures { result ≡ page_size skip left }
-{
-    min(left, 1_000 + skip / 2)
+    so_far.count_page(count);
+    Ok(count >= most)
 }
 
 /// Writes the objects of rows, in order.

@@ -2,14 +2,14 @@ use Rattle.std.proofs.Common.{◌≡◌, ◌-◌, suc, [], Some, Bool, ℕ, true
 use Rattle.std.specs.FinMap as finite
 use Rattle.store.specs.Calls.{OnlyReads}
 use Rattle.store.specs.Database.{Database}
-use Rattle.read.specs.ChangesSoFar.{completed, rows_to_come}
+use Rattle.read.specs.ChangesSoFar.{whole_changes, rows_to_come}
 use Rattle.read.proofs.change_list.list_changes.Given as goal
 
 -- what has come, with the rows that are still to come, is the whole; where there was no page with rows, none are
 abbrev pub invariant-loop-more : goal.invariant-loop-more
 invariant-loop-more g l = record {
   listed : g.S.Store.is_honest l.store → (d : Database) → finite.get (g.S.Store.contents l.initial.store) l.db ≡ Some d
-      → completed l.so_far (rows_to_come l.all_leaves l.so_far d) ≡ completed l.initial.so_far (rows_to_come l.all_leaves l.initial.so_far d);
+      → whole_changes l.so_far (rows_to_come l.all_leaves l.so_far d) ≡ whole_changes l.initial.so_far (rows_to_come l.all_leaves l.initial.so_far d);
   last : l.more ≡ false → g.S.Store.is_honest l.store → (d : Database) → finite.get (g.S.Store.contents l.initial.store) l.db ≡ Some d → rows_to_come l.all_leaves l.so_far d ≡ [];
   reads : OnlyReads g.S.Store l.initial.store l.store;
 }

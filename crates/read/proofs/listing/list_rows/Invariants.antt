@@ -1,16 +1,19 @@
-use Rattle.std.proofs.Common.{◌≡◌, suc, [], Some, Bool, ℕ, true, false}
+use Rattle.std.proofs.Common.{◌≡◌, suc, Some, Bool, ℕ, true, false}
 use Rattle.std.specs.FinMap as finite
 use Rattle.store.specs.Calls.{OnlyReads}
 use Rattle.store.specs.Database.{Database}
-use Rattle.read.specs.RowsSoFar.{IsCountable, completed, rows_to_come}
+use Rattle.read.specs.Listing.{row_object}
+use Rattle.read.specs.RowsSoFar.{AreCountable, whole_list, rows_by_id}
 use Rattle.read.proofs.listing.list_rows.Given as goal
 
--- what has come, with the rows that are still to come, is the whole; where there was no page with rows, none are
+-- what has come, with the rows that are still to come, is the whole; behind the last page, none are
 abbrev pub invariant-loop-more : goal.invariant-loop-more
 invariant-loop-more g l = record {
-  listed : g.S.Store.is_honest l.store → (d : Database) → finite.get (g.S.Store.contents l.initial.store) l.db ≡ Some d → IsCountable d
-      → completed l.so_far (rows_to_come l.so_far d) ≡ completed l.initial.so_far (rows_to_come l.initial.so_far d);
-  last : l.more ≡ false → g.S.Store.is_honest l.store → (d : Database) → finite.get (g.S.Store.contents l.initial.store) l.db ≡ Some d → IsCountable d → rows_to_come l.so_far d ≡ [];
+  listed : g.S.Store.is_honest l.store → (d : Database) → finite.get (g.S.Store.contents l.initial.store) l.db ≡ Some d → AreCountable (rows_by_id l.initial.range d)
+      → whole_list row_object (rows_by_id l.initial.range d) l.so_far ≡ whole_list row_object (rows_by_id l.initial.range d) l.initial.so_far;
+  last : l.more ≡ false → g.S.Store.is_honest l.store → (d : Database) → finite.get (g.S.Store.contents l.initial.store) l.db ≡ Some d → AreCountable (rows_by_id l.initial.range d)
+      → l.so_far.rows ≡ whole_list row_object (rows_by_id l.initial.range d) l.so_far;
+  same : (d : Database) → rows_by_id l.range d ≡ rows_by_id l.initial.range d;
   reads : OnlyReads g.S.Store l.initial.store l.store;
 }
 
