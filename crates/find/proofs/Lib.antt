@@ -5,13 +5,14 @@ mod Ids
 mod Indexed
 mod Ordered
 mod Parts
+mod Places
 pub mod Indexing
 mod Covered
 mod Candidates
 mod KeyRanges
 mod Serving
 mod Planned
-mod Chunks
+mod ByChunk
 mod InOrder
 mod FixedFields
 mod Takings

@@ -1,31 +1,33 @@
-//! Finds over documents in any order: all that match are put at their places first.
+//! Finds over documents in any order: the places of all that match are sorted first. Then the documents of the
+//! part that is asked for are read again, so that no others are held.
 
-ghost use Rattle.std.specs.Prelude.{◌≡◌, [], IfOk, IfErr, None, OnOk, Some, drop, map as each, option_map, take};
+ghost use Rattle.std.specs.Prelude.{◌≡◌, ◌<◌, [], IfOk, IfErr, None, OnOk, Some, drop, false, map as each, is_some, option_map, take, true};
 ghost use Rattle.std.specs.FinMap as map;
 ghost use Rattle.couch_json.specs.Value.{array};
 ghost use Rattle.couch_json.specs.View.{items_view, view};
 ghost use Rattle.store.specs.Calls.{OnlyReads};
 ghost use Rattle.store.specs.Database.{Database};
-ghost use Rattle.store.specs.Indexes.{put_in_index};
-ghost use Rattle.read.specs.Answers.{Stops};
 ghost use Rattle.store.specs.Pages.{in_direction};
-ghost use Rattle.find.specs.Candidates.{put_candidates};
+ghost use Rattle.read.specs.Answers.{Stops};
+ghost use Rattle.find.specs.Candidates.{put_candidates, put_place, put_places};
 ghost use Rattle.find.specs.Matching.{match_in};
-ghost use Rattle.find.specs.Sources.{ids_in};
+ghost use Rattle.find.specs.Sources.{chunks_left, ids_in, ids_left};
 
+use crate::chunks::{Chunks, take_chunk};
+use crate::in_order::put_matches;
 use crate::matching::read_match;
 use crate::part::Part;
 use crate::query::Query;
-use crate::source::{Source, take_ids};
-use couch_json::{ArrayText, FieldPath, Got, Json, JsonText};
+use crate::source::Source;
+use couch_json::{ArrayText, FieldPath, Got, Json};
 use read::ReadFault;
 use std::alloc::Global;
-use std::collections::BTreeMap;
+use std::collections::BTreeSet;
 use store::{DbName, IndexKey, KeyRow, Store, reverse_if, values_at};
 use tree::DocId;
 
-/// Finds the documents of a source that match and have all fields of the sort, sorts them, and takes the
-/// part that is asked for.
+/// Finds the documents of a source that match and have all fields of the sort, in its order, and of them
+/// the part that is asked for.
 pub(crate) fn find_sorted<S: Store>(
     alloc: Global,
     store: &mut S,
@@ -40,68 +42,112 @@ pub(crate) fn find_sorted<S: Store>(
     ensures stops { IfErr result (Stops S.Store store.old store.new (map.get (S.contents store.old) db.now ≡ None)) }
     ensures reads { OnlyReads S.Store store.old store.new }
 {
-    let ids = take_ids(alloc, store, db, source, 0, None)?;
-    let sorted = sort_matches(alloc, store, db, &ids, query)?;
-    let documents = reverse_if(documents_of(alloc, sorted)?, query.descending);
-    Ok(take_part(alloc, documents, query)?)
+    let places = sort_matches(alloc, store, db, query, source)?;
+    let ids = list_ids(alloc, places, query.descending)?;
+    let mut part = Part::new(alloc, query)?;
+    put_matches(alloc, store, db, &ids, query, &mut part)?;
+    Ok(part.documents)
 }
 
-/// Puts the documents of these ids that match at their places.
+/// Sorts the places of the documents of a source that match.
 fn sort_matches<S: Store>(
+    alloc: Global,
+    store: &mut S,
+    db: &DbName,
+    query: &Query,
+    source: &Source,
+) -> Result<BTreeSet<KeyRow>, ReadFault>
+    ensures there { S.is_honest store.new → IfOk result (λ _. is_some (map.get (S.contents store.old) db.now) ≡ true) }
+    ensures ok { S.is_honest store.new → IfOk result (λ places. (d : Database) → map.get (S.contents store.old) db.now ≡ Some d
+        → places.keys ≡ put_places query.now.sort query.now.selector d (ids_in source.now d) []) }
+    ensures stops { IfErr result (Stops S.Store store.old store.new (map.get (S.contents store.old) db.now ≡ None)) }
+    ensures reads { OnlyReads S.Store store.old store.new }
+{
+    let mut places = BTreeSet::new(alloc);
+    let mut chunks = Chunks::new(1_000);
+    while !chunks.is_done {
+        sort_chunk(alloc, store, db, query, source, &mut chunks, &mut places)?;
+    }
+    Ok(places)
+}
+
+/// Puts in the places of the documents of the next chunk that match.
+fn sort_chunk<S: Store>(
+    alloc: Global,
+    store: &mut S,
+    db: &DbName,
+    query: &Query,
+    source: &Source,
+    chunks: &mut Chunks,
+    places: &mut BTreeSet<KeyRow>,
+) -> Result<(), ReadFault>
+    requires { chunks.old.is_done ≡ false }
+    ensures there { S.is_honest store.new → OnOk result (is_some (map.get (S.contents store.old) db.now) ≡ true) }
+    ensures ok { S.is_honest store.new → OnOk result ((d : Database) → map.get (S.contents store.old) db.now ≡ Some d
+        → put_places query.now.sort query.now.selector d (ids_left source.now chunks.new d) places.new.keys ≡ put_places query.now.sort query.now.selector d (ids_left source.now chunks.old d) places.old.keys) }
+    ensures onward { OnOk result (chunks_left chunks.new < chunks_left chunks.old) }
+    ensures stops { IfErr result (Stops S.Store store.old store.new (map.get (S.contents store.old) db.now ≡ None)) }
+    ensures reads { OnlyReads S.Store store.old store.new }
+{
+    let ids = take_chunk(alloc, store, db, source, chunks)?;
+    sort_ids(alloc, store, db, &ids, query, places)?;
+    Ok(())
+}
+
+/// Puts in the places of the documents of these ids that match.
+fn sort_ids<S: Store>(
     alloc: Global,
     store: &mut S,
     db: &DbName,
     ids: &[DocId],
     query: &Query,
-) -> Result<BTreeMap<KeyRow, JsonText>, ReadFault>
-    ensures ok { S.is_honest store.new → IfOk result (λ sorted. (d : Database) → map.get (S.contents store.old) db.now ≡ Some d
-        → sorted.entries ≡ put_candidates query.now.sort query.now.selector d ids.now []) }
+    places: &mut BTreeSet<KeyRow>,
+) -> Result<(), ReadFault>
+    ensures ok { S.is_honest store.new → OnOk result ((d : Database) → map.get (S.contents store.old) db.now ≡ Some d
+        → places.new.keys ≡ put_places query.now.sort query.now.selector d ids.now places.old.keys) }
     ensures stops { IfErr result (Stops S.Store store.old store.new (map.get (S.contents store.old) db.now ≡ None)) }
     ensures reads { OnlyReads S.Store store.old store.new }
 {
-    let mut sorted = BTreeMap::new(alloc);
     for id in ids {
-        put_match(alloc, store, db, id, query, &mut sorted)?;
+        put_match(alloc, store, db, id, query, places)?;
     }
-    Ok(sorted)
+    Ok(())
 }
 
-/// Puts a document at its place, if it matches and has one.
+/// Puts in the place of a document, if it matches and has one.
 fn put_match<S: Store>(
     alloc: Global,
     store: &mut S,
     db: &DbName,
     id: &DocId,
     query: &Query,
-    sorted: &mut BTreeMap<KeyRow, JsonText>,
+    places: &mut BTreeSet<KeyRow>,
 ) -> Result<(), ReadFault>
     ensures ok { S.is_honest store.new → OnOk result ((d : Database) → map.get (S.contents store.old) db.now ≡ Some d
-        → sorted.new.entries ≡ put_in_index query.now.sort id.now (match_in query.now.selector d id.now) sorted.old.entries) }
+        → places.new.keys ≡ put_place query.now.sort id.now (match_in query.now.selector d id.now) places.old.keys) }
     ensures stops { IfErr result (Stops S.Store store.old store.new (map.get (S.contents store.old) db.now ≡ None)) }
     ensures reads { OnlyReads S.Store store.old store.new }
 {
     if let Some(document) = read_match(alloc, store, db, id, &query.selector)? {
-        put_document(alloc, query.sort.as_slice(), id, &document, sorted)?;
+        put_place(alloc, query.sort.as_slice(), id, &document, places)?;
     }
     Ok(())
 }
 
-/// Puts a document at its place, if it has all the fields.
-fn put_document(
+/// Puts in the place of a document, if it has all the fields.
+fn put_place(
     alloc: Global,
     fields: &[FieldPath],
     id: &DocId,
     document: &Json,
-    sorted: &mut BTreeMap<KeyRow, JsonText>,
+    places: &mut BTreeSet<KeyRow>,
 ) -> Got<()>
-    ensures { OnOk result (sorted.new.entries ≡ put_in_index fields.now id.now (Some (view document.now)) sorted.old.entries) }
+    ensures { OnOk result (places.new.keys ≡ put_place fields.now id.now (Some (view document.now)) places.old.keys) }
 {
     let Some(values) = values_at(alloc, fields, document)? else {
         return Ok(());
     };
-    let place = KeyRow::new(make_key(values), id.copy(alloc)?);
-    let text = JsonText::of(alloc, document)?;
-    drop(sorted.insert(place, text)?);
+    places.insert(KeyRow::new(make_key(values), id.copy(alloc)?))?;
     Ok(())
 }
 
@@ -112,24 +158,20 @@ fn make_key(values: Vec<Json>) -> IndexKey
     IndexKey::new(Json::Array(values))
 }
 
-/// Lists the documents in the order of their places.
-fn documents_of(alloc: Global, sorted: BTreeMap<KeyRow, JsonText>) -> Got<Vec<JsonText>>
-    ensures { IfOk result (λ documents. documents.items ≡ each (λ e. e.1) sorted.entries) }
+/// Lists the ids of these places, in this direction.
+fn list_ids(alloc: Global, places: BTreeSet<KeyRow>, descending: bool) -> Got<Vec<DocId>>
+    ensures { IfOk result (λ ids. ids.items ≡ in_direction descending (each (λ p. p.id) places.keys)) }
 {
-    let mut documents = Vec::with_capacity(alloc, sorted.len())?;
-    for document in sorted.into_values() {
-        documents.push(document)?;
-    }
-    Ok(documents)
+    Ok(reverse_if(copy_ids(alloc, places)?, descending))
 }
 
-/// Takes the part of the documents that is asked for.
-fn take_part(alloc: Global, documents: Vec<JsonText>, query: &Query) -> Got<ArrayText>
-    ensures { IfOk result (λ part. part ≡ take query.now.limit (drop query.now.skip documents.items)) }
+/// Copies the ids of these places, in their order.
+fn copy_ids(alloc: Global, places: BTreeSet<KeyRow>) -> Got<Vec<DocId>>
+    ensures { IfOk result (λ ids. ids.items ≡ each (λ p. p.id) places.keys) }
 {
-    let mut part = Part::new(alloc, query)?;
-    for document in documents {
-        part.put(document)?;
+    let mut ids = Vec::with_capacity(alloc, places.len())?;
+    for place in places {
+        ids.push(place.id().copy(alloc)?)?;
     }
-    Ok(part.documents)
+    Ok(ids)
 }

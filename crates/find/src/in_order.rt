@@ -1,6 +1,6 @@
 //! Finds that read documents in the order that is asked for: no more are read than are needed.
 
-ghost use Rattle.std.specs.Prelude.{◌≡◌, ◌≤◌, ◌||◌, ◌++◌, IfOk, IfErr, List, None, OnOk, Some, drop, nat_eq, nat_lt, option_map, take};
+ghost use Rattle.std.specs.Prelude.{◌≡◌, ◌<◌, ◌++◌, IfOk, IfErr, List, None, OnOk, Some, drop, false, is_some, option_map, take, true};
 ghost use Rattle.std.specs.FinMap as map;
 ghost use Rattle.std.specs.Option.{option_to_list};
 ghost use Rattle.couch_json.specs.Value.{Value};
@@ -8,27 +8,21 @@ ghost use Rattle.store.specs.Calls.{OnlyReads};
 ghost use Rattle.store.specs.Database.{Database};
 ghost use Rattle.read.specs.Answers.{Stops};
 ghost use Rattle.find.specs.Matching.{completion, match_in, matches_at};
-ghost use Rattle.find.specs.Sources.{ids_in};
+ghost use Rattle.find.specs.Sources.{chunks_left, ids_in, ids_left};
 
+use crate::chunks::{Chunks, take_chunk};
 use crate::matching::write_match;
 use crate::part::Part;
 use crate::query::Query;
-use crate::source::{Source, take_ids};
+use crate::source::Source;
 use couch_json::ArrayText;
 use read::ReadFault;
 use std::alloc::Global;
-use std::cmp::{max, min};
 use store::{DbName, Store};
 use tree::DocId;
 
-/// Chunks have at most so many ids. What is left then is taken at once.
-const LARGEST_CHUNK: u64 = 100_000;
-
 /// Finds the documents of a source that match, in its order, and of them the part that is asked for. It
 /// stops where the part is full.
-///
-/// Ids are taken in chunks, each twice as long as the one before, since the store passes over those that
-/// were taken.
 pub(crate) fn find_in_order<S: Store>(
     alloc: Global,
     store: &mut S,
@@ -43,40 +37,41 @@ pub(crate) fn find_in_order<S: Store>(
     ensures reads { OnlyReads S.Store store.old store.new }
 {
     let mut part = Part::new(alloc, query)?;
-    let mut taken = 0;
-    let mut most = first_chunk(query);
-    while most <= LARGEST_CHUNK {
-        let ids = take_ids(alloc, store, db, source, taken, Some(most))?;
-        put_matches(alloc, store, db, &ids, query, &mut part)?;
-        if is_last(&part, ids.len() as u64, most) {
-            return Ok(part.documents);
-        }
-        taken += most;
-        most *= 2;
+    let mut chunks = Chunks::new(query.skip.saturating_add(query.limit));
+    while !chunks.is_done {
+        put_chunk(alloc, store, db, query, source, &mut chunks, &mut part)?;
     }
-    let ids = take_ids(alloc, store, db, source, taken, None)?;
-    put_matches(alloc, store, db, &ids, query, &mut part)?;
     Ok(part.documents)
 }
 
-/// Returns how many ids the first chunk has at most: as many as documents are asked for, but not too few
-/// and not too many.
-fn first_chunk(query: &Query) -> u64
-    ensures some { 1 ≤ result }
-    ensures few { result ≤ 1_000 }
+/// Puts the documents of the next chunk that match into the part. Where it is full no more chunks come.
+fn put_chunk<S: Store>(
+    alloc: Global,
+    store: &mut S,
+    db: &DbName,
+    query: &Query,
+    source: &Source,
+    chunks: &mut Chunks,
+    part: &mut Part,
+) -> Result<(), ReadFault>
+    requires { chunks.old.is_done ≡ false }
+    ensures there { S.is_honest store.new → OnOk result (is_some (map.get (S.contents store.old) db.now) ≡ true) }
+    ensures ok { S.is_honest store.new → OnOk result ((d : Database) → map.get (S.contents store.old) db.now ≡ Some d
+        → completion part.new (matches_at query.now.selector d (ids_left source.now chunks.new d)) ≡ completion part.old (matches_at query.now.selector d (ids_left source.now chunks.old d))) }
+    ensures onward { OnOk result (chunks_left chunks.new < chunks_left chunks.old) }
+    ensures stops { IfErr result (Stops S.Store store.old store.new (map.get (S.contents store.old) db.now ≡ None)) }
+    ensures reads { OnlyReads S.Store store.old store.new }
 {
-    max(8, min(1_000, query.skip.saturating_add(query.limit)))
-}
-
-/// Tells whether nothing is to be read behind a chunk of so many ids, at most so many.
-fn is_last(part: &Part, count: u64, most: u64) -> bool
-    ensures { result ≡ (nat_eq part.now.limit 0 || nat_lt count most) }
-{
-    part.is_full() || count < most
+    let ids = take_chunk(alloc, store, db, source, chunks)?;
+    put_matches(alloc, store, db, &ids, query, part)?;
+    if part.is_full() {
+        chunks.is_done = true;
+    }
+    Ok(())
 }
 
 /// Puts the documents of these ids that match into the part, until it is full.
-fn put_matches<S: Store>(
+pub(crate) fn put_matches<S: Store>(
     alloc: Global,
     store: &mut S,
     db: &DbName,

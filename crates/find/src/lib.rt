@@ -12,6 +12,7 @@
 mod by_fields;
 mod by_index;
 mod choosing;
+mod chunks;
 mod documents;
 mod fault;
 mod fixed;

@@ -1,0 +1,95 @@
+-- Places that are sorted without their documents give these again.
+use Rattle.std.proofs.Common.{◌≡◌, ℕ, Bool, List, [], ◌∷◌, ◌++◌, Option, Some, None, Ordering, append-nil, drop, map, take, refl, sym, ap, true, ◌∙◌, inl, inr}
+use Rattle.std.specs.BTreeSet.{insert_key}
+use Rattle.std.specs.FinMap.{put}
+use Rattle.std.specs.FinMap.Entries.{by_order}
+use Rattle.std.specs.Option.{option_to_list}
+use Rattle.std.specs.Prelude.{is_some}
+use Rattle.std.specs.Ordering.{match_ordering}
+use Rattle.std.specs.declared.cmp.Ordering.TheVariants.{Less, Equal, Greater}
+use Rattle.couch_json.specs.Value.{Items, Value, array}
+use Rattle.store.proofs.Directed.{options-directed}
+use Rattle.store.proofs.Listings.{In}
+use Rattle.store.specs.Database.{Database}
+use Rattle.store.specs.Indexes.{IndexPlace, field_values, place_order, put_at_values, put_in_index}
+use Rattle.store.specs.Pages.{in_direction}
+use Rattle.find.proofs.ByChunk.{none_left}
+use Rattle.find.proofs.Covered.{from_all}
+use Rattle.find.specs.Candidates.{put_candidates, put_place, put_place_at, put_places}
+use Rattle.find.specs.Matching.{completion, match_in, matches_at}
+use Rattle.find.specs.declared.part.Part.{Part}
+use Rattle.find.specs.declared.query.Query.{Query}
+
+abbrev places_of : List (IndexPlace × Value) → List IndexPlace
+places_of es = map (λ e. e.0) es
+
+-- ---- the places of candidates
+
+keys-put : {K X : Type 0} (R : K → K → Ordering) (k : K) (v : X) (es : List (K × X)) → insert_key R (map (λ e. e.0) es) k ≡ map (λ e. e.0) (put R k v es)
+keys-put R k v [] = refl
+keys-put R k v (e ∷ es) = by (keys-put R k v es) (R k e.0)
+  where
+    by : insert_key R (map (λ f. f.0) es) k ≡ map (λ f. f.0) (put R k v es) → (o : Ordering)
+        → match_ordering o (k ∷ e.0 ∷ map (λ f. f.0) es) (e.0 ∷ map (λ f. f.0) es) (e.0 ∷ insert_key R (map (λ f. f.0) es) k) ≡ map (λ f. f.0) (by_order o ((k, v) ∷ e ∷ es) ((e.0, v) ∷ es) (e ∷ put R k v es))
+    by later Less = refl
+    by later Equal = refl
+    by later Greater = ap (λ ks. e.0 ∷ ks) later
+
+place-at : (id : List ℕ) (v : Value) (o : Option Items) (es : List (IndexPlace × Value)) → put_place_at id o (places_of es) ≡ places_of (put_at_values id v o es)
+place-at id v None es = refl
+place-at id v (Some values) es = keys-put place_order (record { key = array values; id = id }) v es
+
+place : (fields : List (List ℕ)) (id : List ℕ) (o : Option Value) (es : List (IndexPlace × Value)) → put_place fields id o (places_of es) ≡ places_of (put_in_index fields id o es)
+place fields id None es = refl
+place fields id (Some v) es = place-at id v (field_values fields v) es
+
+places : (fields : List (List ℕ)) (selector : Value) (d : Database) (ids : List (List ℕ)) (es : List (IndexPlace × Value))
+    → put_places fields selector d ids (places_of es) ≡ places_of (put_candidates fields selector d ids es)
+places fields selector d [] es = refl
+places fields selector d (id ∷ ids) es =
+    ap (put_places fields selector d ids) (place fields id (match_in selector d id) es) ∙ places fields selector d ids (put_in_index fields id (match_in selector d id) es)
+
+places_append : (fields : List (List ℕ)) (selector : Value) (d : Database) (ids more : List (List ℕ)) (among : List IndexPlace)
+    → put_places fields selector d (ids ++ more) among ≡ put_places fields selector d more (put_places fields selector d ids among)
+places_append fields selector d [] more among = refl
+places_append fields selector d (id ∷ ids) more among = places_append fields selector d ids more (put_place fields id (match_in selector d id) among)
+
+-- the places of a chunk were put in
+pub chunk_sorted : (fields : List (List ℕ)) (selector : Value) (d : Database) (all ids left : List (List ℕ)) (before after : List IndexPlace) → all ≡ ids ++ left
+    → after ≡ put_places fields selector d ids before → put_places fields selector d left after ≡ put_places fields selector d all before
+chunk_sorted fields selector d all ids left before after is put =
+    ap (put_places fields selector d left) put ∙ sym (places_append fields selector d ids left before) ∙ ap (λ xs. put_places fields selector d xs before) (sym is)
+
+-- ---- their documents
+
+abbrev AreMatches : Value → Database → List (IndexPlace × Value) → Type 0
+AreMatches selector d es = (x : IndexPlace × Value) → In es x → match_in selector d x.0.id ≡ Some x.1
+
+again : (selector : Value) (d : Database) (es : List (IndexPlace × Value)) → AreMatches selector d es → matches_at selector d (map (λ p. p.id) (places_of es)) ≡ map (λ e. e.1) es
+again selector d [] h = refl
+again selector d (e ∷ es) h = λ i. option_to_list (h e (inl refl) i) ++ again selector d es (λ x j. h x (inr j)) i
+
+candidates_match : (fields : List (List ℕ)) (selector : Value) (d : Database) (ids : List (List ℕ)) → AreMatches selector d (put_candidates fields selector d ids [])
+candidates_match fields selector d ids x i =
+    elim (from_all fields selector d ids [] x i) as (λ _. match_in selector d x.0.id ≡ Some x.1) [ inl h ↦ h.0 | inr j ↦ absurd j ]
+
+read_again : (fields : List (List ℕ)) (selector : Value) (descending : Bool) (d : Database) (ids : List (List ℕ))
+    → matches_at selector d (in_direction descending (map (λ p. p.id) (put_places fields selector d ids []))) ≡ in_direction descending (map (λ e. e.1) (put_candidates fields selector d ids []))
+read_again fields selector descending d ids =
+    let es = put_candidates fields selector d ids [] in
+    options-directed (match_in selector d) descending (map (λ p. p.id) (put_places fields selector d ids []))
+    ∙ ap (λ ps. in_direction descending (matches_at selector d (map (λ p. p.id) ps))) (places fields selector d ids [])
+    ∙ ap (in_direction descending) (again selector d es (candidates_match fields selector d ids))
+
+-- the documents at the sorted places, put into the part in a direction, are the candidates in it
+pub part_read : (query : Query) (d : Database) (ids sorted : List (List ℕ)) (fresh after : Part) → sorted ≡ in_direction query.descending (map (λ p. p.id) (put_places query.sort query.selector d ids []))
+    → ((rest : List Value) → completion fresh rest ≡ take query.limit (drop query.skip rest)) → ((rest : List Value) → completion after rest ≡ completion fresh (matches_at query.selector d sorted ++ rest))
+    → take query.limit (drop query.skip (in_direction query.descending (map (λ e. e.1) (put_candidates query.sort query.selector d ids [])))) ≡ after.documents
+part_read query d ids sorted fresh after is begun put =
+    let matches : matches_at query.selector d sorted ++ [] ≡ in_direction query.descending (map (λ e. e.1) (put_candidates query.sort query.selector d ids [])) =
+    append-nil (matches_at query.selector d sorted) ∙ ap (matches_at query.selector d) is ∙ read_again query.sort query.selector query.descending d ids in
+    ap (λ vs. take query.limit (drop query.skip vs)) (sym matches) ∙ sym (begun (matches_at query.selector d sorted ++ [])) ∙ sym (put []) ∙ none_left after
+
+pub there_is : {X : Type 0} (o : Option X) → is_some o ≡ true → (x : X) × (o ≡ Some x)
+there_is None h = absurd cc
+there_is (Some x) h = (x, refl)

@@ -1,0 +1,27 @@
+-- The documents at the sorted places are what is found.
+use Rattle.std.proofs.Common.{Some, [], ap, drop, map, option_map, take, ◌++◌, ◌≡◌, ◌∙◌}
+use Rattle.std.specs.FinMap as finite
+use Rattle.store.specs.Contents.{Contents}
+use Rattle.store.specs.Database.{Database}
+use Rattle.store.specs.Pages.{in_direction}
+use Rattle.find.proofs.Places.{part_read, there_is}
+use Rattle.find.specs.Candidates.{put_candidates, put_places}
+use Rattle.find.specs.Matching.{completion, matches_at}
+use Rattle.find.specs.Sources.{ids_in}
+use Rattle.find.proofs.by_fields.find_sorted.Goals as goal
+
+pub returns-clause-ok : goal.returns-clause-ok
+returns-clause-ok g c = λ honest.
+    let query = c.args.query.now in
+    let source = c.args.source.now in
+    let name = c.args.db.now in
+    let between = c.in_ok-put_matches.ensures.reads.goes_on.honest honest in
+    let database = there_is (finite.get (g.S.Store.contents c.args.store.now) name) (c.in_ok-places.ensures.there between) in
+    let d = database.0 in
+    let later : finite.get (g.S.Store.contents c.sort_matches.new.store) name ≡ Some d = ap (λ (x : Contents). finite.get x name) (c.in_ok-places.ensures.reads.same between) ∙ database.1 in
+    let ids = c.in_ok-ids.ids.items in
+    let sorted : ids ≡ in_direction query.descending (map (λ p. p.id) (put_places query.sort query.selector d (ids_in source d) [])) =
+    c.in_ok-ids.ensures ∙ ap (λ ps. in_direction query.descending (map (λ p. p.id) ps)) (c.in_ok-places.ensures.ok between d database.1) in
+    ap (option_map (λ (e : Database). take query.limit (drop query.skip (in_direction query.descending (map (λ x. x.1) (put_candidates query.sort query.selector e (ids_in source e) [])))))) database.1
+    ∙ ap Some (part_read query d (ids_in source d) ids c.in_ok-part.part c.put_matches.new.part sorted c.in_ok-part.ensures
+    (λ rest. c.in_ok-put_matches.ensures.ok honest d later rest ∙ ap (λ xs. completion c.in_ok-part.part (matches_at query.selector d xs ++ rest)) c.deref.ensures.value))
