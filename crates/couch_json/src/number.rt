@@ -56,7 +56,11 @@ impl Number {
         ensures in_range { IsInRange result }
     {
         let distance = i128::from(self.distance);
-        if self.below_zero { -1 - distance } else { distance }
+        if self.below_zero {
+            -1 - distance
+        } else {
+            distance
+        }
     }
 }
 
