@@ -15,3 +15,4 @@ pub mod Plannings
 pub mod FollowedRules
 pub mod Settlings
 pub mod DesignRows
+pub mod IndexMembers

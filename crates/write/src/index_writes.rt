@@ -1,8 +1,8 @@
 //! Declaring indexes.
 
-ghost use Rattle.std.specs.Prelude.{◌≡◌, ◌≢◌, ◌<◌, ◌∷◌, [], true, IfOk, IfErr, IfSome, None, Ok, Err, is_some, length, map as each, option_map};
+ghost use Rattle.std.specs.Prelude.{◌≡◌, ◌≢◌, ◌<◌, ◌∷◌, [], true, IfOk, IfErr, IfSome, None, Ok, OnOk, Err, codes, is_some, length, map as each, option_map};
 ghost use Rattle.std.specs.FinMap as map;
-ghost use Rattle.couch_json.specs.Value.{null, text as text_value};
+ghost use Rattle.couch_json.specs.Value.{member_at, null, put, text as text_value};
 ghost use Rattle.couch_json.specs.View.{members_view, view};
 ghost use Rattle.tree.specs.DocumentId.{is_design_id};
 ghost use Rattle.store.specs.Calls.{OnlyReads};
@@ -145,15 +145,24 @@ fn list_texts(alloc: Global, fields: &[FieldPath]) -> Got<Vec<Json>>
 fn build_document(alloc: Global, body: Option<&Json>, name: &str, index: Json) -> Got<Json>
     ensures { IfOk result (λ document. view document ≡ with_index name.now (view index) (option_map (λ v. view v.now) body.entry)) }
 {
-    let indexes = match body {
-        Some(body) => body.member("indexes"),
-        None => None,
-    };
-    let mut indexes = copy_members(alloc, indexes)?;
-    put_member(alloc, &mut indexes, name, index)?;
     let mut members = copy_members(alloc, body)?;
+    let mut indexes = take_indexes(alloc, &mut members)?;
+    put_member(alloc, &mut indexes, name, index)?;
     put_member(alloc, &mut members, "indexes", Json::Object(indexes))?;
     Ok(Json::Object(members))
+}
+
+/// Takes out the members of the value of `indexes`, if there is one that is an object. Null stands there
+/// then.
+fn take_indexes(alloc: Global, members: &mut BTreeMap<String, Json>) -> Got<BTreeMap<String, Json>>
+    ensures value { IfOk result (λ indexes. members_view indexes.entries ≡ members_if (member_at (codes "indexes") (members_view members.old.entries))) }
+    ensures null { OnOk result (members_view members.new.entries ≡ put (codes "indexes") null (members_view members.old.entries)) }
+{
+    let name = String::from_str(alloc, "indexes")?;
+    match members.insert(name, Json::Null)? {
+        Some(indexes) => Ok(into_members(alloc, indexes)),
+        None => Ok(BTreeMap::new(alloc)),
+    }
 }
 
 /// Copies the members of a value, where there is one that is an object.
@@ -163,8 +172,15 @@ fn copy_members(alloc: Global, value: Option<&Json>) -> Got<BTreeMap<String, Jso
     let Some(value) = value else {
         return Ok(BTreeMap::new(alloc));
     };
-    match value.copy(alloc)? {
-        Json::Object(members) => Ok(members),
-        _ => Ok(BTreeMap::new(alloc)),
+    Ok(into_members(alloc, value.copy(alloc)?))
+}
+
+/// Returns the members of a value, or none where it is no object.
+fn into_members(alloc: Global, value: Json) -> BTreeMap<String, Json>
+    ensures { members_view result.entries ≡ members_if (Some (view value)) }
+{
+    match value {
+        Json::Object(members) => members,
+        _ => BTreeMap::new(alloc),
     }
 }
