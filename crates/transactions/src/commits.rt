@@ -26,7 +26,7 @@ ghost use Rattle.std.specs.Prelude.{map};
 
 use crate::commit_fault::CommitFault;
 use crate::document_write::{add_first, add_write};
-use crate::histories::{read_history, spread_rows};
+use crate::histories::read_history;
 use crate::indexing::write_indexed;
 use crate::winners::{first_winner, history_for};
 use couch_json::Got;
@@ -124,8 +124,7 @@ fn read_document<S: Alter>(
     ensures looks { LooksInside S.Store tx.old.conn.now tx.new.conn.now }
     ensures asks { AsksInside S.Store tx.old.conn.now tx.new.conn.now }
 {
-    let found = revision_rows_in(tx, db, id)?;
-    let rows = spread_rows(alloc, found)?;
+    let rows = revision_rows_in(tx, db, id)?;
     let history = read_history(alloc, rows)?;
     Ok(history)
 }

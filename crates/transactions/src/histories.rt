@@ -1,6 +1,6 @@
 //! The history that the rows of a document's revisions make.
 
-ghost use Rattle.std.specs.Prelude.{◌≡◌, IfErr, IfOk, IsPermutation, OnOk, Some, option_map};
+ghost use Rattle.std.specs.Prelude.{◌≡◌, IfErr, IfOk, OnOk, Some, option_map};
 ghost use Rattle.std.specs.List.{AllByRecursion};
 ghost use Rattle.tables.specs.Shown.{IsShownOutline, IsShownRevision};
 ghost use Rattle.couch_json.specs.Value.{null};
@@ -8,32 +8,11 @@ ghost use Rattle.couch_json.specs.View.{view};
 ghost use Rattle.tree.specs.History.{row_of, with_new};
 ghost use Rattle.transactions.specs.Reading.{IsLost, IsRead, entry_shown, history_shown, node_shown, outline_shown};
 
-use couch_json::Got;
 use sqlite::Row;
 use std::alloc::Global;
 use store::StoreFault;
 use tables::{FoundNode, FoundRevision, RowFault, read_node, read_revision};
 use tree::{History, Outline};
-
-/// Puts every other row behind the others.
-///
-/// Rows come in the order of their revisions. A map that takes in ascending keys leaves half of each node
-/// empty, and those between fill them.
-pub fn spread_rows(alloc: Global, rows: Vec<Row>) -> Got<Vec<Row>>
-    ensures { IfOk result (λ spread. IsPermutation rows.items spread.items) }
-{
-    let mut spread = Vec::with_capacity(alloc, rows.len())?;
-    let mut between = Vec::new(alloc);
-    for row in rows {
-        if between.len() < spread.len() {
-            between.push(row)?;
-        } else {
-            spread.push(row)?;
-        }
-    }
-    spread.append(&mut between)?;
-    Ok(spread)
-}
 
 /// Reads the revision of a row.
 fn read_row(alloc: Global, row: &Row) -> Result<FoundRevision, StoreFault>

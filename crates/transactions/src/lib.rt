@@ -16,7 +16,7 @@ mod winners;
 pub use changes::{add_database, begin_tables, change_security, remove_database, write_local};
 pub use commit_fault::CommitFault;
 pub use commits::{commit_writes, integer_of};
-pub use histories::{read_history, read_outline, spread_rows};
+pub use histories::{read_history, read_outline};
 pub use renewing::carry_over;
 pub use seeing::first_revision;
 pub use winners::first_winner;

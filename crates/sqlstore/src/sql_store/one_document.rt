@@ -3,7 +3,7 @@
 use crate::sql_store::SqlStore;
 use sqlite::Alter;
 use store::StoreFault;
-use transactions::{first_revision, first_winner, read_history, read_outline, spread_rows};
+use transactions::{first_revision, first_winner, read_history, read_outline};
 use tree::{DocId, Entry, History, MarkedRev, Outline, Rev};
 
 impl<S: Alter> SqlStore<S> {
@@ -19,8 +19,7 @@ impl<S: Alter> SqlStore<S> {
         ensures answer { Answers S.Store self.old self.new (λ history. history) (Some (history_in (trees_of S.Store self.old revs_tree) number.now id.now)) result }
         ensures stands { Stands S.Store self.old self.new }
     {
-        let found = self.revision_rows(number, id.as_str().as_bytes())?;
-        let rows = spread_rows(self.alloc, found)?;
+        let rows = self.revision_rows(number, id.as_str().as_bytes())?;
         read_history(self.alloc, rows)
     }
 
@@ -29,8 +28,7 @@ impl<S: Alter> SqlStore<S> {
         ensures answer { Answers S.Store self.old self.new (λ outline. outline) (Some (outline_of (history_in (trees_of S.Store self.old revs_tree) number.now id.now))) result }
         ensures stands { Stands S.Store self.old self.new }
     {
-        let found = self.outline_rows(number, id.as_str().as_bytes())?;
-        let rows = spread_rows(self.alloc, found)?;
+        let rows = self.outline_rows(number, id.as_str().as_bytes())?;
         read_outline(self.alloc, rows)
     }
 

@@ -1,5 +1,4 @@
 use Rattle.transactions.proofs.Lemmas.{CommitFault, Err, HistoryContent, IfErr, IsPermutation, IsSound, IsUnwritten, Result, filter, history_intact, history_read, history_shown, is_of, lost, map, revs_tree, rules, shown_revision, state, subst, sym, ⊤, ◌≡◌}
-use Rattle.std.proofs.lemmas.List.Sorted.{IsPermutation-trans}
 use Rattle.transactions.specs.declared.commit_fault.CommitFault.TheVariants as write
 use Rattle.transactions.proofs.commits.read_document.Goals as goal
 
@@ -9,7 +8,7 @@ returns-clause-ok g c clean store =
     let db = c.args.db.now in
     let id = c.args.id.now in
     history_read trees db id c.in_ok-rows.rows.items _ store.laid
-    (IsPermutation-trans _ _ _ (c.in_ok-found.ensures.reads.found clean store) c.in_ok-rows.ensures) c.in_ok-history.ensures
+    (c.in_ok-rows.ensures.reads.found clean store) c.in_ok-history.ensures
 
 pub returns-in_err-history-clause-err : goal.returns-in_err-history-clause-err
 returns-in_err-history-clause-err g c =
@@ -23,6 +22,6 @@ returns-in_err-history-clause-err g c =
     subst (λ (r : Result HistoryContent CommitFault). IfErr r (IsUnwritten sound)) (sym is)
     (lost (history_shown c.in_ok-rows.rows.items) _ sound fault c.in_err-history.ensures
     (λ it.
-    let store = (it.1 (c.in_ok-found.ensures.reads.served it.0)).0 in
+    let store = (it.1 (c.in_ok-rows.ensures.reads.served it.0)).0 in
     history_intact trees (is_of db id) _ store.laid
-    (IsPermutation-trans _ _ _ (c.in_ok-found.ensures.reads.found it.0 store) c.in_ok-rows.ensures)))
+    (c.in_ok-rows.ensures.reads.found it.0 store)))

@@ -1,4 +1,3 @@
-use Rattle.std.proofs.lemmas.List.Sorted.{IsPermutation-trans}
 use Rattle.sqlstore.proofs.Lemmas.{IsPermutation, List, Some, answered, ap, filter, outline_intact, outline_made, history_set, is_of, laid, map, revs_tree, subst, sym, trees_of, was_honest, ℕ, ∥∥₁_elim, ∥∥₁_map, ◌∙◌}
 use Rattle.tables.specs.Rows.{shown_outline}
 use Rattle.sqlstore.proofs.sql_store.SqlStore.find_outline.Goals as goal
@@ -14,8 +13,8 @@ returns-clause-answer g c =
     answered g.S.Store s end (λ v. v) _ _ _ c.read_outline.result c.read_outline.ensures
     (λ honest.
     let rows : ∥ IsPermutation (shown id) c.in_ok-rows.rows.items ∥₁ =
-    ∥∥₁_map (c.in_ok-found.ensures.found honest)
-    (λ same. IsPermutation-trans _ _ _ (subst (λ l. IsPermutation l c.in_ok-found.found.items) (ap shown (c.as_bytes.ensures.value ∙ c.as_str.ensures.text)) same) c.in_ok-rows.ensures) in
+    ∥∥₁_map (c.in_ok-rows.ensures.found honest)
+    (λ same. subst (λ l. IsPermutation l c.in_ok-rows.rows.items) (ap shown (c.as_bytes.ensures.value ∙ c.as_str.ensures.text)) same) in
     let lay = laid g.S.Store s (was_honest g.S.Store s end c.outline_rows.ensures.stands honest) in (
       (λ none. ∥∥₁_elim lay (λ p q. absurd p) (λ l. ∥∥₁_elim rows (λ p q. absurd p) (λ same. none (outline_intact trees (is_of n id) _ l same)))),
       ∥∥₁_elim lay (history_set _ _) (λ l. ∥∥₁_elim rows (history_set _ _) (λ same. ap Some (sym (outline_made trees n id _ l same)))),
