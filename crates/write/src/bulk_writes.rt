@@ -90,8 +90,8 @@ fn judge_all<S: Store>(
 {
     let mut repeats = mark_repeats(alloc, &documents)?;
     let mut histories = BTreeMap::new(alloc);
-    let mut writes = Vec::new(alloc);
-    let mut results = Vec::new(alloc);
+    let mut writes = Vec::with_capacity(alloc, documents.len())?;
+    let mut results = Vec::with_capacity(alloc, documents.len())?;
     for document in documents {
         load(alloc, store, db, &document, &mut histories)?;
         let again = take_mark(&mut repeats);

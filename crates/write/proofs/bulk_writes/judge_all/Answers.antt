@@ -22,7 +22,7 @@ pub loop-document-init : goal.loop-document-init
 loop-document-init g c = record {
   judged = λ honest d there.
       begun (terms_of c.args.terms.now) c.args.new_edits d (map view c.args.documents.items) _ c.new-histories.result _ _ c.new-histories.ensures.empty
-      (ap (map view) c.into_iter-document-iterator.ensures.into_iter_gives.0) (ap additions c.new-writes.ensures.items) (ap (map told_of) c.new-results.ensures.items);
+      (ap (map view) c.into_iter-document-iterator.ensures.into_iter_gives.0) (ap additions c.in_ok-writes.ensures.items) (ap (map told_of) c.in_ok-results.ensures.items);
   marks =
       let all : c.deref.result.now ≡ into_iter_items c.into_iter-document-iterator.result = search rules in
       c.in_ok-repeats.ensures ∙ ap (λ vs. reverse (repeats (map view vs))) all;
