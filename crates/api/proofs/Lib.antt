@@ -2,4 +2,5 @@ mod Apart
 pub mod Listed
 pub mod Counts
 pub mod Elements
+pub mod Bodies
 pub mod Ids

@@ -1,8 +1,13 @@
 -- What a request to write several documents together asks for.
 -- CouchDB manual, api/database/bulk-api (`docs` and `new_edits`); that no other member is taken is this server's own.
-use Rattle.std.specs.Prelude.{Bool, true, if◌then◌else◌, List, [], ◌∷◌, Option, Some, None, option_map, option_and_then, codes}
+use Rattle.std.specs.Prelude.{Result, Bool, true, if◌then◌else◌, List, [], ◌∷◌, Option, Some, None, option_map, option_and_then, codes}
 use Rattle.couch_json.specs.Parts.{has_only, items_in, truth_in}
 use Rattle.couch_json.specs.Value.{Value, Items, no_items, item, member_of}
+use Rattle.couch_http.specs.Message.{Message}
+use Rattle.api.specs.Asking.{body_of}
+use Rattle.api.specs.Refusals.{next, there_or}
+use Rattle.api.specs.declared.refusal.Refusal.{Refusal}
+use Rattle.api.specs.declared.refusal.Refusal.TheVariants.{Body}
 
 -- the documents that are to be written: as new edits, or as they stand, with the revisions that they come with
 pub record Bulk : Type 0 where
@@ -34,3 +39,7 @@ bulk_by (Some new_edits) (Some documents) = Some (record { new_edits = new_edits
 abbrev pub bulk_in : Value → Option Bulk
 bulk_in v =
     if has_only (codes "docs" ∷ codes "new_edits" ∷ []) v then bulk_by (new_edits_in (member_of v (codes "new_edits"))) (documents_in (member_of v (codes "docs"))) else None
+
+-- what the body of a request asks for, or a refusal
+abbrev pub bulk_of : Message → Result Bulk Refusal
+bulk_of m = next (body_of m) (λ value. there_or Body (bulk_in value))

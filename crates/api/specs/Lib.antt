@@ -5,6 +5,7 @@ pub mod RequestReading
 pub mod Asking
 pub mod Bulk
 pub mod BulkAsked
+pub mod BulkReading
 pub mod Queries
 pub mod Listings
 pub mod Views

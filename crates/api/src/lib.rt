@@ -11,6 +11,7 @@
 
 mod asking;
 mod bulk;
+mod bulk_reading;
 mod differences;
 mod fault;
 pub mod laws;
@@ -26,7 +27,7 @@ mod routes;
 mod views;
 
 pub use asking::{body, caller, deny, without_parameters};
-pub use bulk::{BulkAsked, bulk_in};
+pub use bulk::{BulkAsked, read_bulk};
 pub use differences::differences_in;
 pub use fault::RequestFault;
 pub use listings::{changes_query, listing_query};

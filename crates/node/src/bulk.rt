@@ -8,7 +8,7 @@ ghost use Rattle.node.specs.Works.{bulk_written, documents_written};
 use crate::bulk_reply::bulk_reply;
 use crate::draft::WriteDraft;
 use crate::early_end::EarlyEnd;
-use api::{BulkAsked, Refusal, body, bulk_in, without_parameters};
+use api::{BulkAsked, read_bulk, without_parameters};
 use auth::Caller;
 use couch_http::Request;
 use std::alloc::Global;
@@ -26,10 +26,7 @@ pub(crate) fn write_documents<S: Store>(
     ensures works { WorksIn S.Store store.old store.new name.now (documents_written caller.now (message_of request.now) name.now) result }
 {
     without_parameters(request)?;
-    let value = body(alloc, request)?;
-    let Some(asked) = bulk_in(value) else {
-        return Err(EarlyEnd::Refused(Refusal::Body));
-    };
+    let asked = read_bulk(alloc, request)?;
     write_bulk(alloc, store, caller, name, asked)
 }
 

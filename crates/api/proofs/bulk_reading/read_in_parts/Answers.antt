@@ -1,0 +1,20 @@
+use Rattle.std.proofs.Common.{◌≡◌, ◌∙◌, Some, None, Option, IsUtf8, false, refl, sym, ap, subst, rules}
+use Rattle.std.specs.Prelude.{IfSome}
+use Rattle.json.specs.Lex.{tokens}
+use Rattle.couch_json.specs.Nesting.{nests_too_deep}
+use Rattle.api.specs.Bulk.{Bulk}
+use Rattle.api.specs.BulkAsked.{bulk_asked}
+use Rattle.api.specs.BulkReading.{Asks, IsBody}
+use Rattle.api.proofs.Bodies.{asks, if_asked}
+use Rattle.api.proofs.bulk_reading.read_in_parts.Goals as goal
+
+pub returns : goal.returns
+returns c =
+    let bytes = c.args.body.now in
+    let shallow : nests_too_deep bytes ≡ false = search rules in
+    let same : c.in-Ok.text.now ≡ bytes = search rules in
+    let utf8 : IsUtf8 bytes = search rules in
+    let read : c.in_ok-reader.reader ≡ tokens c.in-Ok.text.now = search rules in
+    let body = subst (λ o. IfSome o (λ parts. IsBody c.in_ok-reader.reader parts)) c.in-Some.is c.in_ok-parts.ensures in
+    let whole = subst (λ ts. IsBody ts c.in-Some.parts) (read ∙ ap tokens same) body in
+    if_asked bytes c.in-Some.parts c.ask.result utf8 shallow whole c.ask.ensures
