@@ -29,6 +29,7 @@ use crate::replicating::admit_replicated;
 use crate::terms::{Terms, read_terms};
 use auth::Caller;
 use couch_json::{Got, Json, NoMemory};
+use packed::PackedJson;
 use std::alloc::Global;
 use std::collections::BTreeMap;
 use store::{DbName, Store, Write};
@@ -48,12 +49,12 @@ pub fn bulk<S: Store>(
     store: &mut S,
     db: &DbName,
     caller: &Caller,
-    documents: Vec<Json>,
+    documents: Vec<PackedJson>,
     new_edits: bool,
 ) -> Result<Planned, WriteFault>
     ensures there { S.is_honest store.new → IsDecided result → is_some (map.get (S.contents store.old) db.now) ≡ true }
     ensures plan { S.is_honest store.new → IfOk result (λ planned. IfThere (map.get (S.contents store.old) db.now) (λ d.
-        Plans d (list_map view documents.items) (outcomes (terms_in caller.now db.now d) new_edits (history_at d) (list_map view documents.items)) planned)) }
+        Plans d documents.items (outcomes (terms_in caller.now db.now d) new_edits (history_at d) documents.items) planned)) }
     ensures appends { IfOk result (λ planned. AreWrites planned.changes) }
     ensures own { IfOk result (λ planned. All (λ r. IsOwnOutcome r.outcome) planned.results.items) }
     ensures database { IfOk result (λ planned. planned.database ≡ db.now) }
@@ -62,12 +63,24 @@ pub fn bulk<S: Store>(
     ensures reads { OnlyReads S.Store store.old store.new }
 {
     let terms = read_terms(alloc, store, db, caller)?;
+    let documents = unpack_all(alloc, documents)?;
     let (writes, results) = judge_all(alloc, store, db, &terms, documents, new_edits)?;
     Ok(Planned {
         database: db.copy(alloc)?,
         changes: Changes::Writes(writes),
         results,
     })
+}
+
+/// Unpacks documents.
+fn unpack_all(alloc: Global, documents: Vec<PackedJson>) -> Got<Vec<Json>>
+    ensures { IfOk result (λ values. list_map view values.items ≡ documents.items) }
+{
+    let mut values = Vec::with_capacity(alloc, documents.len())?;
+    for document in documents {
+        values.push(document.unpack(alloc)?)?;
+    }
+    Ok(values)
 }
 
 /// Judges the documents one after another: the writes that are appended, and what is told of each.
