@@ -1,5 +1,5 @@
 -- What was refused on the way is refused as a whole.
-use Rattle.std.proofs.Common.{◌≡◌, ℕ, List, sym, ap, ◌∙◌, subst, Option, Some, Result, Ok, Err}
+use Rattle.std.proofs.Common.{◌≡◌, ℕ, List, refl, sym, ap, ◌∙◌, subst, Option, Some, Result, Ok, Err}
 use Rattle.std.specs.FinMap.{get}
 use Rattle.auth.specs.Callers.{Identity}
 use Rattle.couch_http.specs.Message.{Message}
@@ -9,14 +9,22 @@ use Rattle.store.specs.Contents.{Contents}
 use Rattle.store.specs.Database.{Database}
 use Rattle.tree.specs.Revision.{Revision}
 use Rattle.node.specs.Answer.{entry, database_name_of, outcome_in, task_outcome, worked, work_task}
+use Rattle.api.specs.Asking.{body_of, plain}
+use Rattle.api.specs.Bulk.{Bulk, bulk_in, bulk_of}
+use Rattle.api.specs.BulkAsked.{bulk_asked}
+use Rattle.api.specs.RequestReading.{Says}
+use Rattle.api.specs.declared.fault.RequestFault.{RequestFault}
+use Rattle.api.specs.declared.fault.RequestFault.TheVariants as request
+use Rattle.node.specs.Causes.{stop_of_request}
 use Rattle.node.specs.Drafts.{done_of, outcome_of}
 use Rattle.node.specs.Coming.{Comes}
 use Rattle.node.specs.Work.{Done, Work}
-use Rattle.api.specs.Refusals.{next}
-use Rattle.node.specs.Works.{deletion, deletion_outcome, document_deleted, edit_asked, edit_done, edit_in}
+use Rattle.api.specs.Refusals.{next, there_or}
+use Rattle.node.specs.Works.{bulk_written, documents_written, deletion, deletion_outcome, document_deleted, edit_asked, edit_done, edit_in}
 use Rattle.write.specs.Terms.{terms_in}
 use Rattle.node.specs.declared.draft.WriteDraft.{WriteDraft}
 use Rattle.api.specs.declared.refusal.Refusal.{Refusal}
+use Rattle.api.specs.declared.refusal.Refusal.TheVariants.{Body}
 use Rattle.node.specs.declared.early_end.EarlyEnd.{EarlyEnd}
 use Rattle.node.specs.declared.early_end.EarlyEnd.TheVariants.{Refused, Failed, NoRoom}
 
@@ -49,3 +57,16 @@ deletion_comes caller m name db asked rev document result own named made h =
     subst (λ (r : Result (List ℕ × Option Revision) Refusal). Comes (done_of db) result (next r (λ a. edit_done caller 200 a.0 (deletion_outcome (terms_in caller name db) db a.0 a.1)))) (sym own)
     (subst (λ (o : Option Revision). Comes (done_of db) result (edit_done caller 200 asked.0 (deletion_outcome (terms_in caller name db) db asked.0 o))) (sym named)
     (subst (λ (v : Value). Comes (done_of db) result (edit_in caller 200 name db asked.0 (Some rev) v)) made h))
+
+next_of : {A B C : Type 0} (r : Result A Refusal) (f : A → Result B Refusal) (go : B → Result C Refusal) → next r (λ a. next (f a) go) ≡ next (next r f) go
+next_of (Ok a) f go = refl
+next_of (Err refusal) f go = refl
+
+-- a request that asks for no documents to be written stops
+pub bulk_stops : (caller : Identity) (m : Message) (name : List ℕ) (db : Database) (u : Unit {0}) (fault : RequestFault) → plain m ≡ Ok u → Says bulk_asked (Err fault) (bulk_of m)
+    → Comes (done_of db) (Err (stop_of_request fault)) (documents_written caller m name db)
+bulk_stops caller m name db u (request.Refused refusal) plainly says =
+    ap (λ (r : Result (Unit {0}) Refusal). next r (λ _. next (body_of m) (λ v. next (there_or Body (bulk_in v)) (λ bulk. bulk_written caller bulk name db)))) plainly
+    ∙ next_of (body_of m) (λ v. there_or Body (bulk_in v)) (λ bulk. bulk_written caller bulk name db)
+    ∙ ap (λ (r : Result Bulk Refusal). next r (λ bulk. bulk_written caller bulk name db)) says
+bulk_stops caller m name db u request.Memory plainly says = tt
