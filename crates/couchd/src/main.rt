@@ -5,7 +5,6 @@
 use command_line::{CommandFault, Plan, plan, words_of};
 use lab::play_input;
 use server::serve_file;
-use sqlite::Unknown;
 use std::process::ExitCode;
 use sync::sync;
 
@@ -42,12 +41,11 @@ fn run(rt: &HostRuntime) -> Result<u8, CommandFault> {
                 secret.as_str(),
                 admins.as_slice(),
                 path,
-                Unknown,
                 port,
                 conns,
                 at_once,
             )?)
         }
-        Plan::Sync(plan) => Ok(sync(rt, &plan, Unknown, Unknown)?),
+        Plan::Sync(plan) => Ok(sync(rt, &plan)?),
     }
 }

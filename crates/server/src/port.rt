@@ -8,7 +8,7 @@ use crate::serving::{open_hub, serve};
 use crate::store_file::open_store;
 use command_line::ProgramFault;
 use hub::Hub;
-use sqlite::{Alter, Start};
+use sqlite::{Alter, Unknown};
 use sqlstore::SqlStore;
 use std::net::{Ipv4Addr, Net, OpenListener, SocketAddr, TcpListener, TcpStream};
 use std::time::{Clock, Duration};
@@ -18,19 +18,18 @@ use store::Store;
 const PATIENCE: u64 = 30;
 
 /// Serves the store in a file, which is opened, or made, before the port is bound.
-pub fn serve_file<S: Start>(
+pub fn serve_file(
     rt: &HostRuntime,
     secret: &str,
     admins: &[String],
     path: &str,
-    start: S,
     port: u16,
     conns: u32,
     at_once: u32,
 ) -> Result<u8, ProgramFault>
     ensures { IfOk result (λ status. status ≡ 0) }
 {
-    let store = open_store(rt, path, start)?;
+    let store = open_store(rt, path, Unknown)?;
     serve_tables(rt, secret, admins, store, port, conns, at_once)
 }
 

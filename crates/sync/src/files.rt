@@ -10,7 +10,7 @@ use couch_json::Got;
 use node::Node;
 use repl::Replication;
 use server::{open_node, open_store};
-use sqlite::{Alter, Start};
+use sqlite::{Alter, Unknown};
 use sqlstore::SqlStore;
 use std::alloc::Global;
 use std::io;
@@ -22,30 +22,23 @@ use world::World;
 /// Copies a database as the words of a command line say. The files are opened first, the source's and
 /// then the target's. Prints the report, and where standard error is a terminal it shows there how far
 /// the pass is. Returns the program's status.
-pub fn sync<F: Start>(
-    rt: &HostRuntime,
-    plan: &SyncPlan,
-    source: F,
-    target: F,
-) -> Result<u8, ProgramFault> {
+pub fn sync(rt: &HostRuntime, plan: &SyncPlan) -> Result<u8, ProgramFault> {
     let is_terminal = rt.stderr().is_terminal();
     match &plan.target {
-        SyncTarget::File(path) => sync_files(rt, plan, is_terminal, source, path, target),
-        SyncTarget::Address(address) => sync_file(rt, plan, is_terminal, source, address),
+        SyncTarget::File(path) => sync_files(rt, plan, is_terminal, path),
+        SyncTarget::Address(address) => sync_file(rt, plan, is_terminal, address),
     }
 }
 
 /// Copies a database of the store in a file to one of that in another.
-fn sync_files<F: Start>(
+fn sync_files(
     rt: &HostRuntime,
     plan: &SyncPlan,
     is_terminal: bool,
-    source: F,
     path: &str,
-    target: F,
 ) -> Result<u8, ProgramFault> {
-    let from = open_store(rt, &plan.from, source)?;
-    let to = open_store(rt, path, target)?;
+    let from = open_store(rt, &plan.from, Unknown)?;
+    let to = open_store(rt, path, Unknown)?;
     sync_tables(rt, plan, is_terminal, from, path, to)
 }
 
@@ -98,14 +91,13 @@ fn both<S: Store + Drop>(alloc: Global, first: Node<S>, second: Node<S>) -> Got<
 }
 
 /// Copies a database of the store in a file to one of the server at an address.
-fn sync_file<F: Start>(
+fn sync_file(
     rt: &HostRuntime,
     plan: &SyncPlan,
     is_terminal: bool,
-    source: F,
     address: &str,
 ) -> Result<u8, ProgramFault> {
-    let from = open_store(rt, &plan.from, source)?;
+    let from = open_store(rt, &plan.from, Unknown)?;
     sync_tables_to(rt, plan, is_terminal, from, address)
 }
 
