@@ -29,6 +29,7 @@ use crate::replicating::admit_replicated;
 use crate::terms::{Terms, read_terms};
 use auth::Caller;
 use couch_json::{Got, Json, NoMemory};
+use packed::PackedJson;
 use std::alloc::Global;
 use std::collections::BTreeMap;
 use store::{DbName, Store, Write};
@@ -41,19 +42,19 @@ use tree::{DocId, History, PackedHistory};
 /// its one revision, and which changes nothing where its revision is known. All are judged on the
 /// terms that the store has at the start: a design document among them rules none of those behind
 /// it. Their writes make one plan. `Store(NoDatabase)` comes if and only if there is no database of
-/// this name. No history is copied, and no path of an edit is walked. See the CouchDB manual,
-/// api/database/bulk-api.
+/// this name. No history is copied, no path of an edit is walked, and one document is unpacked at a
+/// time. See the CouchDB manual, api/database/bulk-api.
 pub fn bulk<S: Store>(
     alloc: Global,
     store: &mut S,
     db: &DbName,
     caller: &Caller,
-    documents: Vec<Json>,
+    documents: Vec<PackedJson>,
     new_edits: bool,
 ) -> Result<Planned, WriteFault>
     ensures there { S.is_honest store.new → IsDecided result → is_some (map.get (S.contents store.old) db.now) ≡ true }
     ensures plan { S.is_honest store.new → IfOk result (λ planned. IfThere (map.get (S.contents store.old) db.now) (λ d.
-        Plans d (list_map view documents.items) (outcomes (terms_in caller.now db.now d) new_edits (history_at d) (list_map view documents.items)) planned)) }
+        Plans d documents.items (outcomes (terms_in caller.now db.now d) new_edits (history_at d) documents.items) planned)) }
     ensures appends { IfOk result (λ planned. AreWrites planned.changes) }
     ensures own { IfOk result (λ planned. All (λ r. IsOwnOutcome r.outcome) planned.results.items) }
     ensures database { IfOk result (λ planned. planned.database ≡ db.now) }
@@ -76,13 +77,13 @@ fn judge_all<S: Store>(
     store: &mut S,
     db: &DbName,
     terms: &Terms,
-    documents: Vec<Json>,
+    documents: Vec<PackedJson>,
     new_edits: bool,
 ) -> Result<(Vec<Write>, Vec<DocumentResult>), WriteFault>
     ensures writes { S.is_honest store.new → IfOk result (λ all. (d : Database) → map.get (S.contents store.old) db.now ≡ Some d
-        → writings_in d (additions all.0.items) ≡ writes_in (outcomes (terms_of terms.now) new_edits (history_at d) (list_map view documents.items))) }
+        → writings_in d (additions all.0.items) ≡ writes_in (outcomes (terms_of terms.now) new_edits (history_at d) documents.items)) }
     ensures results { S.is_honest store.new → IfOk result (λ all. (d : Database) → map.get (S.contents store.old) db.now ≡ Some d
-        → list_map told_of all.1.items ≡ all_told (list_map view documents.items) (outcomes (terms_of terms.now) new_edits (history_at d) (list_map view documents.items))) }
+        → list_map told_of all.1.items ≡ all_told documents.items (outcomes (terms_of terms.now) new_edits (history_at d) documents.items)) }
     ensures own { IfOk result (λ all. All (λ r. IsOwnOutcome r.outcome) all.1.items) }
     ensures only { IfErr result IsOfStoreOrMemory }
     ensures passed { IfErr result (Refuses S.Store store.old store.new (map.get (S.contents store.old) db.now ≡ None) ⊥) }
@@ -95,6 +96,7 @@ fn judge_all<S: Store>(
     for document in documents {
         load(alloc, store, db, &document, &mut histories)?;
         let again = take_mark(&mut repeats);
+        let document = document.unpack(alloc)?;
         results.push(judge_one(
             alloc,
             terms,
