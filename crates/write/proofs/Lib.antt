@@ -8,6 +8,7 @@ pub mod Unruled
 pub mod WinnerLeaves
 pub mod Names
 pub mod Paths
+pub mod Ancestries
 pub mod BulkLemmas
 pub mod Judgings
 pub mod Repetitions

@@ -3,7 +3,7 @@
 use Rattle.std.specs.Prelude.{ℕ, suc, ◌==◌, Bool, true, false, not, ◌&&◌, ◌||◌, if◌then◌else◌, List, [], ◌∷◌, ℤ, pos, negsuc, Option, Some, None, option_map, option_and_then, codes, nat_eq, nat_le, bytes_eq}
 use Rattle.std.specs.List.{starts_with}
 use Rattle.couch_json.specs.Parts.{has_only, items_in, members_in, text_in, truth_in, whole_in}
-use Rattle.couch_json.specs.Value.{Value, object, Items, no_items, item, Members, no_members, member, member_of, depth}
+use Rattle.couch_json.specs.Value.{Value, null, truth, whole, text, array, object, Items, no_items, item, Members, no_members, member, member_of, depth}
 use Rattle.policy.specs.DesignDocuments.{is_design_body}
 use Rattle.store.specs.Contents.{max_body_depth}
 use Rattle.tree.specs.DocumentId.{is_design_id, is_document_id, is_local_id}
@@ -116,6 +116,20 @@ abbrev pub id_in : Value → Option (List ℕ)
 id_in document = option_and_then (λ t. id_if t) (member_text (codes "_id") document)
 
 -- ---- the history that a replicated document comes with
+
+-- members without the first of this name
+abbrev pub without_name : List ℕ → Members → Members
+without_name name no_members = no_members
+without_name name (member other v ms) = if bytes_eq name other then ms else member other v (without_name name ms)
+
+-- a value without its member of this name, where it is an object that has one
+abbrev pub without_member : List ℕ → Value → Value
+without_member name null = null
+without_member name (truth b) = truth b
+without_member name (whole n) = whole n
+without_member name (text s) = text s
+without_member name (array vs) = array vs
+without_member name (object ms) = object (without_name name ms)
 
 abbrev pub count : Items → ℕ
 count no_items = 0

@@ -1,11 +1,12 @@
 //! The history that a replicated document comes with: `_revisions`, or its one revision.
 
-ghost use Rattle.std.specs.Prelude.{◌≡◌, IfOk, option_map, option_and_then};
-ghost use Rattle.couch_json.specs.Parts.{text_in};
+ghost use Rattle.std.specs.Prelude.{◌≡◌, IfOk, List, codes, option_map, option_and_then, ℕ};
+ghost use Rattle.couch_json.specs.Parts.{items_in, text_in};
+ghost use Rattle.couch_json.specs.Value.{member_of};
 ghost use Rattle.couch_json.specs.View.{view, items_view};
 ghost use Rattle.tree.specs.Revision.{Revision, revision_of};
 ghost use Rattle.write.specs.AncestryRead.{ancestry_of};
-ghost use Rattle.write.specs.Document.{ancestry_alone, ancestry_by, ancestry_if_newest, given_revisions, is_newest, natural, number_if, path_of, revisions_in, start_in};
+ghost use Rattle.write.specs.Document.{ancestry_alone, ancestry_by, ancestry_if_newest, given_revisions, is_newest, natural, number_if, path_of, revisions_in, sent_in, start_in, without_member};
 
 use couch_json::{Got, Json};
 use std::alloc::Global;
@@ -20,13 +21,32 @@ pub(crate) struct Ancestry {
     pub(crate) path: Vec<Rev>,
 }
 
-/// Reads what `_revisions` says, where it is given: `Some(None)` where it is not of its form.
-pub(crate) fn read_given(alloc: Global, document: &Json) -> Got<Option<Option<Ancestry>>>
-    ensures { IfOk result (λ given. option_map (λ said. option_map ancestry_of said) given ≡ given_revisions (view document.now)) }
+/// Takes `_revisions` out of a document and reads what it says, where it is given: `Some(None)` where it
+/// is not of its form. Returns the rest of the document beside it, which says the same besides.
+pub(crate) fn take_given(alloc: Global, document: Json) -> Got<(Option<Option<Ancestry>>, Json)>
+    ensures given { IfOk result (λ taken. option_map (λ said. option_map ancestry_of said) taken.0 ≡ given_revisions (view document)) }
+    ensures sent { IfOk result (λ taken. (id : List ℕ) → sent_in id (view taken.1) ≡ sent_in id (view document)) }
 {
-    match document.member("_revisions") {
-        Some(value) => Ok(Some(read_revisions(alloc, value)?)),
-        None => Ok(None),
+    let (given, rest) = take_member(document, "_revisions");
+    match given {
+        Some(value) => Ok((Some(read_revisions(alloc, value)?), rest)),
+        None => Ok((None, rest)),
+    }
+}
+
+/// Takes the member of this name out of a value, where it is an object that has one. Returns the rest of
+/// the value beside it.
+fn take_member(value: Json, name: &str) -> (Option<Json>, Json)
+    ensures taken { option_map view result.0 ≡ member_of (view value) name.now }
+    ensures rest { view result.1 ≡ without_member name.now (view value) }
+{
+    match value {
+        Json::Object(members) => {
+            let mut members = members;
+            let taken = members.remove(name);
+            (taken, Json::Object(members))
+        }
+        _ => (None, value),
     }
 }
 
@@ -83,16 +103,16 @@ fn is_newest(start: u32, path: &[Rev], rev: Option<Rev>) -> bool
 }
 
 /// Reads what `_revisions` says; `None` where it is not of its form.
-fn read_revisions(alloc: Global, value: &Json) -> Got<Option<Ancestry>>
-    ensures { IfOk result (λ said. option_map ancestry_of said ≡ revisions_in (view value.now)) }
+fn read_revisions(alloc: Global, value: Json) -> Got<Option<Ancestry>>
+    ensures { IfOk result (λ said. option_map ancestry_of said ≡ revisions_in (view value)) }
 {
     if !value.has_only(&["start", "ids"]) {
         return Ok(None);
     }
-    let Some(start) = read_start(value) else {
+    let Some(start) = read_start(&value) else {
         return Ok(None);
     };
-    let Some(Json::Array(ids)) = value.member("ids") else {
+    let Some(ids) = take_ids(value) else {
         return Ok(None);
     };
     match read_path(alloc, ids)? {
@@ -121,16 +141,30 @@ fn check_number(number: i128) -> Option<u32>
     Some(number as u32)
 }
 
-/// Reads the revisions of these hashes, newest first and down to number 1.
-fn read_path(alloc: Global, ids: &[Json]) -> Got<Option<Vec<Rev>>>
-    ensures { IfOk result (λ path. option_map (λ revs. revs.items) path ≡ path_of (items_view ids.now)) }
+/// Takes the list that `ids` is; `None` where it is not given or is no list.
+fn take_ids(value: Json) -> Option<Vec<Json>>
+    ensures { option_map (λ ids. items_view ids.items) result ≡ option_and_then items_in (member_of (view value) (codes "ids")) }
 {
-    let mut path = Vec::with_capacity(alloc, ids.len())?;
-    for (i, id) in ids.iter().enumerate() {
-        let Some(rev) = revision_at(ids.len() - i, id) else {
+    let (ids, _rest) = take_member(value, "ids");
+    match ids {
+        Some(Json::Array(ids)) => Some(ids),
+        _ => None,
+    }
+}
+
+/// Reads the revisions of these hashes, newest first and down to number 1. Each hash is dropped before
+/// the next one is read.
+fn read_path(alloc: Global, ids: Vec<Json>) -> Got<Option<Vec<Rev>>>
+    ensures { IfOk result (λ path. option_map (λ revs. revs.items) path ≡ path_of (items_view ids.items)) }
+{
+    let mut number = ids.len();
+    let mut path = Vec::with_capacity(alloc, number)?;
+    for id in ids {
+        let Some(rev) = revision_at(number, &id) else {
             return Ok(None);
         };
         path.push(rev)?;
+        number -= 1;
     }
     Ok(Some(path))
 }

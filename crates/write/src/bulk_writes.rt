@@ -42,8 +42,8 @@ use tree::{DocId, History, PackedHistory};
 /// its one revision, and which changes nothing where its revision is known. All are judged on the
 /// terms that the store has at the start: a design document among them rules none of those behind
 /// it. Their writes make one plan. `Store(NoDatabase)` comes if and only if there is no database of
-/// this name. No history is copied, and no path of an edit is walked. See the CouchDB manual,
-/// api/database/bulk-api.
+/// this name. No history is copied, no path of an edit is walked, and one document is unpacked at a
+/// time. See the CouchDB manual, api/database/bulk-api.
 pub fn bulk<S: Store>(
     alloc: Global,
     store: &mut S,
@@ -63,7 +63,6 @@ pub fn bulk<S: Store>(
     ensures reads { OnlyReads S.Store store.old store.new }
 {
     let terms = read_terms(alloc, store, db, caller)?;
-    let documents = unpack_all(alloc, documents)?;
     let (writes, results) = judge_all(alloc, store, db, &terms, documents, new_edits)?;
     Ok(Planned {
         database: db.copy(alloc)?,
@@ -72,30 +71,19 @@ pub fn bulk<S: Store>(
     })
 }
 
-/// Unpacks documents.
-fn unpack_all(alloc: Global, documents: Vec<PackedJson>) -> Got<Vec<Json>>
-    ensures { IfOk result (λ values. list_map view values.items ≡ documents.items) }
-{
-    let mut values = Vec::with_capacity(alloc, documents.len())?;
-    for document in documents {
-        values.push(document.unpack(alloc)?)?;
-    }
-    Ok(values)
-}
-
 /// Judges the documents one after another: the writes that are appended, and what is told of each.
 fn judge_all<S: Store>(
     alloc: Global,
     store: &mut S,
     db: &DbName,
     terms: &Terms,
-    documents: Vec<Json>,
+    documents: Vec<PackedJson>,
     new_edits: bool,
 ) -> Result<(Vec<Write>, Vec<DocumentResult>), WriteFault>
     ensures writes { S.is_honest store.new → IfOk result (λ all. (d : Database) → map.get (S.contents store.old) db.now ≡ Some d
-        → writings_in d (additions all.0.items) ≡ writes_in (outcomes (terms_of terms.now) new_edits (history_at d) (list_map view documents.items))) }
+        → writings_in d (additions all.0.items) ≡ writes_in (outcomes (terms_of terms.now) new_edits (history_at d) documents.items)) }
     ensures results { S.is_honest store.new → IfOk result (λ all. (d : Database) → map.get (S.contents store.old) db.now ≡ Some d
-        → list_map told_of all.1.items ≡ all_told (list_map view documents.items) (outcomes (terms_of terms.now) new_edits (history_at d) (list_map view documents.items))) }
+        → list_map told_of all.1.items ≡ all_told documents.items (outcomes (terms_of terms.now) new_edits (history_at d) documents.items)) }
     ensures own { IfOk result (λ all. All (λ r. IsOwnOutcome r.outcome) all.1.items) }
     ensures only { IfErr result IsOfStoreOrMemory }
     ensures passed { IfErr result (Refuses S.Store store.old store.new (map.get (S.contents store.old) db.now ≡ None) ⊥) }
@@ -108,6 +96,7 @@ fn judge_all<S: Store>(
     for document in documents {
         load(alloc, store, db, &document, &mut histories)?;
         let again = take_mark(&mut repeats);
+        let document = document.unpack(alloc)?;
         results.push(judge_one(
             alloc,
             terms,

@@ -2,7 +2,6 @@
 
 ghost use Rattle.std.specs.Prelude.{◌≡◌, IfErr, IfOk, OnOk, OnErr, Some, None};
 ghost use Rattle.std.specs.FinMap as map;
-ghost use Rattle.couch_json.specs.View.{view};
 ghost use Rattle.tree.specs.History.{with_write};
 ghost use Rattle.store.specs.Calls.{OnlyReads};
 ghost use Rattle.store.specs.Database.{Database, history_at};
@@ -12,9 +11,10 @@ ghost use Rattle.write.specs.BulkResults.{IsHeld, seen_in, with_history};
 ghost use Rattle.write.specs.Document.{id_in};
 ghost use Rattle.write.specs.Refusing.{IsOfStoreOrMemory, Refuses};
 
-use crate::document::read_id;
+use crate::document::parse_id;
 use crate::fault::WriteFault;
-use couch_json::{Got, Json};
+use couch_json::Got;
+use packed::PackedJson;
 use std::alloc::Global;
 use std::collections::BTreeMap;
 use store::{DbName, Store, Write};
@@ -25,17 +25,17 @@ pub(crate) fn load<S: Store>(
     alloc: Global,
     store: &mut S,
     db: &DbName,
-    document: &Json,
+    document: &PackedJson,
     histories: &mut BTreeMap<DocId, PackedHistory>,
 ) -> Result<(), WriteFault>
     ensures ok { S.is_honest store.new → OnOk result ((d : Database) → map.get (S.contents store.old) db.now ≡ Some d
         → seen_in (history_at d) histories.new ≡ seen_in (history_at d) histories.old) }
-    ensures held { OnOk result (IsHeld histories.new (id_in (view document.now))) }
+    ensures held { OnOk result (IsHeld histories.new (id_in document.now)) }
     ensures only { IfErr result IsOfStoreOrMemory }
     ensures passed { IfErr result (Refuses S.Store store.old store.new (map.get (S.contents store.old) db.now ≡ None) ⊥) }
     ensures reads { OnlyReads S.Store store.old store.new }
 {
-    let Some(id) = read_id(alloc, document)? else {
+    let Some(id) = copy_id(alloc, document)? else {
         return Ok(());
     };
     if histories.contains_key(&id) {
@@ -44,6 +44,17 @@ pub(crate) fn load<S: Store>(
     let history = store.history(db, &id)?;
     put_history(alloc, histories, id, history)?;
     Ok(())
+}
+
+/// Copies the id that a document of several gives itself; `None` where it gives none, or that of a
+/// local document.
+fn copy_id(alloc: Global, document: &PackedJson) -> Got<Option<DocId>>
+    ensures { IfOk result (λ id. id ≡ id_in document.now) }
+{
+    match document.copy_text(alloc, "_id")? {
+        Some(text) => parse_id(alloc, &text),
+        None => Ok(None),
+    }
 }
 
 /// Takes the history of a document out.

@@ -4,6 +4,7 @@ ghost use Rattle.std.specs.Prelude.{◌≡◌, ◌≢◌, ◌∷◌, [], ◌<◌
 ghost use Rattle.std.specs.FinMap as map;
 ghost use Rattle.couch_json.specs.View.{view};
 ghost use Rattle.tree.specs.DocumentId.{is_local_id};
+ghost use Rattle.tree.specs.History.{HistoryContent};
 ghost use Rattle.store.specs.Calls.{OnlyReads};
 ghost use Rattle.store.specs.Contents.{IfThere};
 ghost use Rattle.store.specs.Writing.{addition_of, written_in};
@@ -16,7 +17,7 @@ ghost use Rattle.write.specs.Refusing.{IsDecided, IsOwn, Refuses};
 ghost use Rattle.write.specs.Terms.{terms_in};
 ghost use Rattle.write.specs.TermsRead.{terms_of};
 
-use crate::ancestry::{Ancestry, find_ancestry, read_given};
+use crate::ancestry::{Ancestry, find_ancestry, take_given};
 use crate::denial::{find_design_refusal, find_nearest_held, find_rule_refusal};
 use crate::document::{Sent, read_sent};
 use crate::fault::WriteFault;
@@ -28,6 +29,15 @@ use couch_json::Json;
 use std::alloc::Global;
 use store::{DbName, Store, Write};
 use tree::{DocId, History, Placed, TreeFault};
+
+/// What a replicated document says.
+#[derive(Drop)]
+struct Replica {
+    /// What it says besides its history.
+    sent: Sent,
+    /// The history that it comes with.
+    ancestry: Ancestry,
+}
 
 /// Plans what becomes of a replicated document, which is no local one. It reads the store and changes
 /// nothing.
@@ -64,9 +74,10 @@ pub fn replicated<S: Store>(
     ensures reads { OnlyReads S.Store store.old store.new }
 {
     let terms = read_terms(alloc, store, db, caller)?;
-    let history = store.history(db, id)?;
     let label = read_label(alloc, &document)?;
-    let write = admit_replicated(alloc, &terms, &history, id, document)?;
+    let replica = read_replica(alloc, &terms, id, document)?;
+    let history = store.history(db, id)?;
+    let write = place(alloc, &terms, &history, id, replica)?;
     Ok(plan_alone(alloc, db, label, write)?)
 }
 
@@ -84,7 +95,24 @@ pub(crate) fn admit_replicated(
     ensures fault { IfErr result (λ fault. fault ≢ WriteFault.Memory → replicated_outcome (terms_of terms.now) id.now history.now (view document) ≡ Err fault) }
     ensures others { IfErr result (λ fault. (fault ≢ WriteFault.Conflict) × (fault ≢ WriteFault.Generation) × ((cause : _) → fault ≢ WriteFault.Store cause)) }
 {
-    let given = read_given(alloc, &document)?;
+    let replica = read_replica(alloc, terms, id, document)?;
+    place(alloc, terms, history, id, replica)
+}
+
+/// Reads what a replicated document says, where it is a good one that the caller may write at all. It
+/// asks for no history.
+fn read_replica(
+    alloc: Global,
+    terms: &Terms,
+    id: &DocId,
+    document: Json,
+) -> Result<Replica, WriteFault>
+    ensures ok { IfOk result (λ replica. (h : HistoryContent) → replicated_outcome (terms_of terms.now) id.now h (view document)
+        ≡ placement_outcome (terms_of terms.now) id.now h replica.sent replica.ancestry.path.items (ancestry_placement h (ancestry_of replica.ancestry))) }
+    ensures fault { IfErr result (λ fault. fault ≢ WriteFault.Memory → (h : HistoryContent) → replicated_outcome (terms_of terms.now) id.now h (view document) ≡ Err fault) }
+    ensures others { IfErr result (λ fault. (fault ≢ WriteFault.Conflict) × (fault ≢ WriteFault.Generation) × ((cause : _) → fault ≢ WriteFault.Store cause)) }
+{
+    let (given, document) = take_given(alloc, document)?;
     let Some(sent) = read_sent(alloc, id, document)? else {
         return Err(WriteFault::BadDocument);
     };
@@ -94,7 +122,7 @@ pub(crate) fn admit_replicated(
     if let Some(rule) = find_design_refusal(terms, id) {
         return Err(WriteFault::Denied(rule));
     }
-    place(alloc, terms, history, id, sent, ancestry)
+    Ok(Replica { sent, ancestry })
 }
 
 /// Writes what is sent where the history has a place for this path as that of a new revision; nothing
@@ -104,16 +132,16 @@ fn place(
     terms: &Terms,
     history: &History,
     id: &DocId,
-    sent: Sent,
-    ancestry: Ancestry,
+    replica: Replica,
 ) -> Result<Option<Write>, WriteFault>
-    ensures ok { IfOk result (λ write. placement_outcome (terms_of terms.now) id.now history.now sent ancestry.path.items (ancestry_placement history.now (ancestry_of ancestry))
+    ensures ok { IfOk result (λ write. placement_outcome (terms_of terms.now) id.now history.now replica.sent replica.ancestry.path.items (ancestry_placement history.now (ancestry_of replica.ancestry))
         ≡ Ok (option_map (λ w. written_in history.now (addition_of w)) write)) }
     ensures headed { IfOk result (λ write. IfSome write (λ w. 0 < length w.path.items)) }
     ensures fault { IfErr result (λ fault. fault ≢ WriteFault.Memory
-        → placement_outcome (terms_of terms.now) id.now history.now sent ancestry.path.items (ancestry_placement history.now (ancestry_of ancestry)) ≡ Err fault) }
+        → placement_outcome (terms_of terms.now) id.now history.now replica.sent replica.ancestry.path.items (ancestry_placement history.now (ancestry_of replica.ancestry)) ≡ Err fault) }
     ensures others { IfErr result (λ fault. (fault ≢ WriteFault.Conflict) × (fault ≢ WriteFault.Generation) × ((cause : _) → fault ≢ WriteFault.Store cause)) }
 {
+    let Replica { sent, ancestry } = replica;
     match find_place(history, &ancestry) {
         Ok(Placed::Added) => {}
         Ok(Placed::Known) => return Ok(None),

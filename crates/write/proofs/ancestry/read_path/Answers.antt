@@ -1,16 +1,23 @@
-use Rattle.std.proofs.Common.{◌∙◌, ◌-◌, ap, length, sym}
-use Rattle.write.proofs.Paths.{ends, goes_on, revision_from}
+use Rattle.std.proofs.Common.{◌∙◌, ◌≡◌, ◌∷◌, ap, length, rules, sym, arith}
+use Rattle.std.specs.Vec.Iter.{into_iter_items}
+use Rattle.write.proofs.Paths.{ends, goes_on}
 use Rattle.write.proofs.ancestry.read_path.Goals as goal
 
 pub returns-in_default : goal.returns-in_default
 returns-in_default c =
-    ends c.args.ids.now c.loop-i.i c.index-ids-i.result c.loop-i.path.items c.loop-i-test.true
-    (sym c.in_default.is ∙ c.revision_at.ensures ∙ ap (revision_from (length c.args.ids.now - c.loop-i.i)) c.index-ids-i.is)
-    c.loop-i.invariant
+    let l = c.loop-id in
+    let first : into_iter_items l.id-iterator ≡ c.in-Some.id ∷ into_iter_items c.next.new.self = search rules in
+    ends c.args.ids.items (into_iter_items l.id-iterator) c.in-Some.id (into_iter_items c.next.new.self) l.number l.path.items first l.invariant.counted
+    (sym c.in_default.is ∙ c.revision_at.ensures) l.invariant.path
 
-pub loop-i-preserved : goal.loop-i-preserved
-loop-i-preserved c =
-    rw c.in_ok-push.ensures.items
-    (goes_on c.args.ids.now c.loop-i.i c.index-ids-i.result c.loop-i.path.items c.in-Some.rev c.loop-i-test.true
-    (sym c.in-Some.is ∙ c.revision_at.ensures ∙ ap (revision_from (length c.args.ids.now - c.loop-i.i)) c.index-ids-i.is)
-    c.loop-i.invariant)
+pub loop-id-preserved-in_ok-push : goal.loop-id-preserved-in_ok-push
+loop-id-preserved-in_ok-push c =
+    let l = c.loop-id in
+    let first : into_iter_items l.id-iterator ≡ c.in-Some.id ∷ into_iter_items c.next.new.self = search rules in
+    let counted : l.number ≡ length (c.in-Some.id ∷ into_iter_items c.next.new.self) = l.invariant.counted ∙ ap (λ vs. length vs) first in
+    record {
+      path = rw c.in_ok-push.ensures.items
+          (goes_on c.args.ids.items (into_iter_items l.id-iterator) c.in-Some.id (into_iter_items c.next.new.self) l.number l.path.items c.in-Some-revision_at.rev first l.invariant.counted
+          (sym c.in-Some-revision_at.is ∙ c.revision_at.ensures) l.invariant.path);
+      counted = grind (arith, counted);
+    }
