@@ -6,6 +6,7 @@ pub mod Acceptances
 pub mod Outcomes
 pub mod Unruled
 pub mod WinnerLeaves
+pub mod IndexJudgings
 pub mod Names
 pub mod Paths
 pub mod Ancestries

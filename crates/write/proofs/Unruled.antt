@@ -1,5 +1,5 @@
--- Where a database has no update rules, none refuses.
-use Rattle.std.proofs.Common.{◌≡◌, ℕ, Bool, true, false, cond, List, [], ◌∷◌, length, nat_eq, Option, None, refl, sym, ◌∙◌, arith}
+-- Where a database has no update rules, none refuses, and of a design document none ever does.
+use Rattle.std.proofs.Common.{◌≡◌, ℕ, Bool, true, false, cond, List, [], ◌∷◌, length, nat_eq, Option, None, refl, sym, ap, ◌∙◌, arith}
 use Rattle.std.proofs.lemmas.Bool.Decides.{nat_tests}
 use Rattle.std.specs.FinMap.{entries, len, len-entries}
 use Rattle.couch_json.specs.Value.{Value}
@@ -28,3 +28,7 @@ no_refusal terms id h sent rev e = by (is_design_id id)
     by : (b : Bool) → cond b None (update_verdict terms.rules v) ≡ None
     by true = refl
     by false = rw (none_broken (entries terms.rules) v (sym (len-entries terms.rules) ∙ none)) refl
+
+-- nor of a design document
+pub design_unruled : (terms : Terms) (id : List ℕ) (h : HistoryContent) (sent : Sent) (rev : Option Revision) → is_design_id id ≡ true → rule_refusal terms id h sent rev ≡ None
+design_unruled terms id h sent rev design = ap (λ b. cond b None (update_verdict terms.rules (argument (document_of id sent) (held_document id h rev) terms.caller terms.name terms.security))) design

@@ -37,10 +37,13 @@ with_index name index body = object (put (codes "indexes") (object (put name ind
 abbrev pub index_document : HistoryContent → List ℕ → List (List ℕ) → Value
 index_document h name fields = with_index name (index_value fields) (winning_body h)
 
--- the winner is not deleted and declares this index under the name; values that tie are the same
+-- the body, if there is one, declares this index under the name; values that tie are the same
+abbrev pub declares : Option Value → List ℕ → Value → Bool
+declares body name index = is_there_and (λ declared. is_eq (collation declared index)) (option_and_then (λ b. declared_index b name) body)
+
+-- the winner is not deleted and declares this index under the name
 abbrev pub has_index : HistoryContent → List ℕ → List (List ℕ) → Bool
-has_index h name fields =
-    is_there_and (λ index. is_eq (collation index (index_value fields))) (option_and_then (λ body. declared_index body name) (winning_body h))
+has_index h name fields = declares (winning_body h) name (index_value fields)
 
 -- the edit that declares the index goes on from the winner, deleted or not
 abbrev pub index_edit : Terms → List ℕ → HistoryContent → List ℕ → List (List ℕ) → DocumentOutcome

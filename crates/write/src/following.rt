@@ -153,7 +153,7 @@ fn read_followed<S: Store>(
     let Some(rev) = rev else {
         return Ok(history);
     };
-    if terms.rules.is_empty() {
+    if id.is_design() || terms.rules.is_empty() {
         return Ok(history);
     }
     let known = store.revision(db, id, &rev)?;

@@ -1,25 +1,27 @@
 //! Declaring indexes.
 
-ghost use Rattle.std.specs.Prelude.{◌≡◌, ◌≢◌, ◌<◌, ◌∷◌, [], true, IfOk, IfErr, IfSome, None, Ok, OnOk, Err, codes, is_some, length, map as each, option_map};
+ghost use Rattle.std.specs.Prelude.{◌≡◌, ◌≢◌, ◌<◌, ◌∷◌, [], true, IfOk, IfErr, IfSome, None, Ok, OnOk, Err, codes, is_some, length, map as each, option_and_then, option_map};
 ghost use Rattle.std.specs.FinMap as map;
 ghost use Rattle.couch_json.specs.Value.{member_at, null, put, text as text_value};
 ghost use Rattle.couch_json.specs.View.{members_view, view};
 ghost use Rattle.tree.specs.DocumentId.{is_design_id};
+ghost use Rattle.tree.specs.History.{winner};
 ghost use Rattle.store.specs.Calls.{OnlyReads};
 ghost use Rattle.store.specs.Contents.{IfThere};
+ghost use Rattle.store.specs.Database.{history_at};
 ghost use Rattle.store.specs.Indexes.{winning_body};
 ghost use Rattle.store.specs.Writing.{addition_of, written_in};
 ghost use Rattle.write.specs.Bulk.{writes_alone};
 ghost use Rattle.write.specs.BulkResults.{IsUnrefused, OfFirst};
-ghost use Rattle.write.specs.IndexWrites.{has_index, index_admission, index_document, index_outcome, index_value, members_if, with_index};
+ghost use Rattle.write.specs.IndexWrites.{declares, index_admission, index_outcome, index_value, members_if, with_index};
 ghost use Rattle.write.specs.Planning.{AreWrites, Plans, planned_writes};
-ghost use Rattle.write.specs.Refusing.{IsDecided, IsOwn, Refuses};
+ghost use Rattle.write.specs.Refusing.{IsDecided, IsOfStoreOrMemory, IsOwn, Refuses};
 ghost use Rattle.write.specs.Terms.{terms_in};
 ghost use Rattle.write.specs.TermsRead.{terms_of};
 
-use crate::admission::admit_edit;
 use crate::denial::find_design_refusal;
 use crate::fault::WriteFault;
+use crate::following::judge_edit;
 use crate::planned::Planned;
 use crate::planning::{Label, plan_alone};
 use crate::terms::{Terms, read_terms};
@@ -27,8 +29,8 @@ use auth::Caller;
 use couch_json::{FieldPath, Got, Json, collate, put_member};
 use std::alloc::Global;
 use std::collections::BTreeMap;
-use store::{DbName, Store, Write, find_index, find_winning_body};
-use tree::{DocId, History};
+use store::{DbName, Store, Write, find_index, take_held};
+use tree::{DocId, Entry, MarkedRev, Rev};
 
 /// Plans an index of a database: an edit of the design document that sets the member of this name of
 /// `indexes`. It reads the store and changes nothing.
@@ -64,8 +66,7 @@ pub fn put_index<S: Store>(
     ensures reads { OnlyReads S.Store store.old store.new }
 {
     let terms = read_terms(alloc, store, db, caller)?;
-    let history = store.history(db, id)?;
-    let write = admit_index(alloc, &terms, &history, id, name, fields)?;
+    let write = judge_index(alloc, store, db, &terms, id, name, fields)?;
     let label = Label {
         id: None,
         rev: None,
@@ -73,45 +74,90 @@ pub fn put_index<S: Store>(
     Ok(plan_alone(alloc, db, label, write)?)
 }
 
-/// Judges an index of a design document with this history: the write that declares it, nothing where it
-/// is declared already, or why it is refused.
-fn admit_index(
+/// Judges an index of a stored design document: the write that declares it, nothing where it is declared
+/// already, or why it is refused.
+///
+/// A design document may be large: one copy of it is read, and the new document is made of that.
+fn judge_index<S: Store>(
     alloc: Global,
+    store: &mut S,
+    db: &DbName,
     terms: &Terms,
-    history: &History,
     id: &DocId,
     name: &str,
     fields: &[FieldPath],
 ) -> Result<Option<Write>, WriteFault>
-    ensures ok { IfOk result (λ write. index_outcome (terms_of terms.now) id.now history.now name.now fields.now ≡ Ok (option_map (λ w. written_in history.now (addition_of w)) write)) }
+    ensures ok { S.is_honest store.new → IfOk result (λ write. IfThere (map.get (S.contents store.old) db.now) (λ d.
+        index_outcome (terms_of terms.now) id.now (history_at d id.now) name.now fields.now ≡ Ok (option_map (λ w. written_in (history_at d id.now) (addition_of w)) write))) }
+    ensures refused { S.is_honest store.new → IfErr result (λ fault. IsOwn fault
+        → IfThere (map.get (S.contents store.old) db.now) (λ d. index_outcome (terms_of terms.now) id.now (history_at d id.now) name.now fields.now ≡ Err fault)) }
     ensures headed { IfOk result (λ write. IfSome write (λ w. 0 < length w.path.items)) }
-    ensures fault { IfErr result (λ fault. fault ≢ WriteFault.Memory → index_outcome (terms_of terms.now) id.now history.now name.now fields.now ≡ Err fault) }
-    ensures others { IfErr result (λ fault. (fault ≢ WriteFault.BadHistory) × ((cause : _) → fault ≢ WriteFault.Store cause)) }
+    ensures edits { IfErr result (λ fault. fault ≢ WriteFault.BadHistory) }
+    ensures passed { IfErr result (Refuses S.Store store.old store.new (map.get (S.contents store.old) db.now ≡ None) ⊥) }
+    ensures reads { OnlyReads S.Store store.old store.new }
 {
     if let Some(rule) = find_design_refusal(terms, id) {
         return Err(WriteFault::Denied(rule));
     }
     let index = build_index(alloc, fields)?;
-    if has_index(alloc, history, name, &index)? {
+    let Winner { rev, body } = read_winner(store, db, id)?;
+    if declares(alloc, &body, name, &index)? {
         return Ok(None);
     }
-    let document = build_document(alloc, find_winning_body(history), name, index)?;
-    let write = admit_edit(
-        alloc,
-        terms,
-        history,
-        id,
-        history.winner().copied(),
-        document,
-    )?;
+    let document = build_document(alloc, body, name, index)?;
+    let write = judge_edit(alloc, store, db, terms, id, rev, document)?;
     Ok(Some(write))
 }
 
-/// Tells whether the winner is not deleted and declares this index under the name.
-fn has_index(alloc: Global, history: &History, name: &str, index: &Json) -> Got<bool>
-    ensures { (fields : _) → view index.now ≡ index_value fields → IfOk result (λ has. has ≡ has_index history.now name.now fields) }
+/// The winner of a document, as an edit goes on from it.
+#[derive(Drop)]
+struct Winner {
+    /// Its revision, if there is one.
+    rev: Option<Rev>,
+    /// Its body, where it is not deleted.
+    body: Option<Json>,
+}
+
+/// Reads the winner of a document. The body that is held of it is not copied.
+fn read_winner<S: Store>(store: &mut S, db: &DbName, id: &DocId) -> Result<Winner, WriteFault>
+    ensures rev { S.is_honest store.new → IfOk result (λ read. IfThere (map.get (S.contents store.old) db.now) (λ d. read.rev ≡ winner (history_at d id.now))) }
+    ensures body { S.is_honest store.new → IfOk result (λ read. IfThere (map.get (S.contents store.old) db.now) (λ d. option_map view read.body ≡ winning_body (history_at d id.now))) }
+    ensures only { IfErr result IsOfStoreOrMemory }
+    ensures passed { IfErr result (Refuses S.Store store.old store.new (map.get (S.contents store.old) db.now ≡ None) ⊥) }
+    ensures reads { OnlyReads S.Store store.old store.new }
 {
-    let Some(body) = find_winning_body(history) else {
+    let Some(MarkedRev { rev, deleted }) = store.winner(db, id)? else {
+        return Ok(Winner {
+            rev: None,
+            body: None,
+        });
+    };
+    if deleted {
+        return Ok(Winner {
+            rev: Some(rev),
+            body: None,
+        });
+    }
+    let known = store.revision(db, id, &rev)?;
+    Ok(Winner {
+        rev: Some(rev),
+        body: take_body(known),
+    })
+}
+
+/// Takes the body out of what is known of a revision, if it is there.
+fn take_body(known: Option<Entry>) -> Option<Json>
+    ensures { option_map view result ≡ option_map (λ held. held.body) (option_and_then (λ e. e.held) known) }
+{
+    let (_deleted, body) = take_held(known)?;
+    Some(body)
+}
+
+/// Tells whether a body, if there is one, declares this index under the name.
+fn declares(alloc: Global, body: &Option<Json>, name: &str, index: &Json) -> Got<bool>
+    ensures { IfOk result (λ has. has ≡ declares (option_map view body.now) name.now (view index.now)) }
+{
+    let Some(body) = body else {
         return Ok(false);
     };
     match find_index(alloc, body, name)? {
@@ -142,10 +188,10 @@ fn list_texts(alloc: Global, fields: &[FieldPath]) -> Got<Vec<Json>>
 }
 
 /// Builds the design document with this body, if there is one, and with this index.
-fn build_document(alloc: Global, body: Option<&Json>, name: &str, index: Json) -> Got<Json>
-    ensures { IfOk result (λ document. view document ≡ with_index name.now (view index) (option_map (λ v. view v.now) body.entry)) }
+fn build_document(alloc: Global, body: Option<Json>, name: &str, index: Json) -> Got<Json>
+    ensures { IfOk result (λ document. view document ≡ with_index name.now (view index) (option_map view body)) }
 {
-    let mut members = copy_members(alloc, body)?;
+    let mut members = into_members(alloc, body);
     let mut indexes = take_indexes(alloc, &mut members)?;
     put_member(alloc, &mut indexes, name, index)?;
     put_member(alloc, &mut members, "indexes", Json::Object(indexes))?;
@@ -159,28 +205,16 @@ fn take_indexes(alloc: Global, members: &mut BTreeMap<String, Json>) -> Got<BTre
     ensures null { OnOk result (members_view members.new.entries ≡ put (codes "indexes") null (members_view members.old.entries)) }
 {
     let name = String::from_str(alloc, "indexes")?;
-    match members.insert(name, Json::Null)? {
-        Some(indexes) => Ok(into_members(alloc, indexes)),
-        None => Ok(BTreeMap::new(alloc)),
-    }
+    let indexes = members.insert(name, Json::Null)?;
+    Ok(into_members(alloc, indexes))
 }
 
-/// Copies the members of a value, where there is one that is an object.
-fn copy_members(alloc: Global, value: Option<&Json>) -> Got<BTreeMap<String, Json>>
-    ensures { IfOk result (λ members. members_view members.entries ≡ members_if (option_map (λ v. view v.now) value.entry)) }
-{
-    let Some(value) = value else {
-        return Ok(BTreeMap::new(alloc));
-    };
-    Ok(into_members(alloc, value.copy(alloc)?))
-}
-
-/// Returns the members of a value, or none where it is no object.
-fn into_members(alloc: Global, value: Json) -> BTreeMap<String, Json>
-    ensures { members_view result.entries ≡ members_if (Some (view value)) }
+/// Returns the members of a value, or none where there is no value or it is no object.
+fn into_members(alloc: Global, value: Option<Json>) -> BTreeMap<String, Json>
+    ensures { members_view result.entries ≡ members_if (option_map view value) }
 {
     match value {
-        Json::Object(members) => members,
+        Some(Json::Object(members)) => members,
         _ => BTreeMap::new(alloc),
     }
 }

@@ -10,15 +10,20 @@ use Rattle.tree.specs.declared.entry.Held.{Held}
 use Rattle.write.specs.Admission.{rule_refusal}
 use Rattle.write.specs.TermsRead.{terms_of}
 use Rattle.write.proofs.FollowedRules.{followed_rule, there_is}
-use Rattle.write.proofs.Unruled.{no_refusal}
+use Rattle.write.specs.declared.document.Sent.{Sent}
+use Rattle.write.proofs.Unruled.{design_unruled, no_refusal}
+use Rattle.write.proofs.following.read_followed.Goals.{then-is_design-via-then-is_design, then-is_design-via-else-is_design+then-is_empty}
 use Rattle.write.proofs.following.read_followed.Goals as goal
 
-pub returns-then-is_empty-clause-ruled : goal.returns-then-is_empty-clause-ruled
-returns-then-is_empty-clause-ruled g c honest =
+pub returns-then-is_design-clause-ruled : goal.returns-then-is_design-clause-ruled
+returns-then-is_design-clause-ruled g c honest =
     let terms = terms_of c.args.terms.now in
-    let none = sym c.is_empty.ensures ∙ c.if-is_empty.true in
-    there_is (finite.get (g.S.Store.contents c.args.store.now) c.args.db.now) (λ d is sent.
-    no_refusal terms c.args.id.now (history_at d c.args.id.now) sent c.args.rev none ∙ sym (no_refusal terms c.args.id.now c.new-history.result sent c.args.rev none))
+    let id = c.args.id.now in
+    let unruled : (h : HistoryContent) (sent : Sent) → rule_refusal terms id h sent c.args.rev ≡ None = elim c.then-is_design.branch [
+      | then-is_design-via-then-is_design w ↦ λ h sent. design_unruled terms id h sent c.args.rev (sym c.is_design.ensures ∙ w.if-is_design.true)
+      | then-is_design-via-else-is_design+then-is_empty w ↦ λ h sent. no_refusal terms id h sent c.args.rev (sym w.is_empty.ensures ∙ w.if-is_empty.true)
+    ] in
+    there_is (finite.get (g.S.Store.contents c.args.store.now) c.args.db.now) (λ d is sent. unruled (history_at d id) sent ∙ sym (unruled c.new-history.result sent))
 
 pub returns-clause-ruled : goal.returns-clause-ruled
 returns-clause-ruled g c honest =

@@ -8,5 +8,5 @@ use Rattle.write.proofs.index_writes.build_document.Goals as goal
 pub returns : goal.returns
 returns c =
     view-Object c.put_member-2.new.members
-    ∙ with_one_more c.args.name.now (view c.args.index) (option_map (λ v. view v.now) c.args.body) _ _ _ _ _ c.in_ok-members.ensures c.in_ok-indexes.ensures.value c.in_ok-indexes.ensures.null c.in_ok-put_member.ensures.ok
+    ∙ with_one_more c.args.name.now (view c.args.index) (option_map view c.args.body) _ _ _ _ _ c.into_members-members.ensures c.in_ok-indexes.ensures.value c.in_ok-indexes.ensures.null c.in_ok-put_member.ensures.ok
     (c.in_ok-put_member-2.ensures.ok ∙ ap (λ v. put (codes "indexes") v (members_view c.take_indexes.new.members.entries)) (view-Object c.put_member.new.members))
