@@ -38,7 +38,7 @@ pub fn rebuild<S: Alter>(
     ensures err { (declares : Declarations) (sees : Documents) → IfErr result (IsRefused (WasFit S.Store (IsRebuildable declares sees db.now) tx.old.conn.now tx.new.conn.now)) }
 {
     let rows = rows_of_database(tx, db)?;
-    let stored = list_stored(alloc, &rows)?;
+    let stored = list_stored(alloc, rows)?;
     let declared = list_declared(alloc, body)?;
     let good = check_declared(alloc, body)?;
     set_names(alloc, tx, db, design, body, good, &stored)?;
@@ -55,14 +55,14 @@ fn check_declared(alloc: Global, body: Option<&Json>) -> Got<bool>
     }
 }
 
-/// Lists the names of the indexes of these rows.
-fn list_stored(alloc: Global, rows: &[Row]) -> Result<Vec<Vec<u8>>, IndexFault>
-    ensures ok { IfOk result (λ names. map (λ name. name.items) names.items ≡ map shown_name rows.now) }
-    ensures err { IfErr result (IsRefused (AllByRecursion IsShownDeclaration rows.now)) }
+/// Lists the names of the indexes of these rows. A row's memory is given back once its name is read.
+fn list_stored(alloc: Global, rows: Vec<Row>) -> Result<Vec<Vec<u8>>, IndexFault>
+    ensures ok { IfOk result (λ names. map (λ name. name.items) names.items ≡ map shown_name rows.items) }
+    ensures err { IfErr result (IsRefused (AllByRecursion IsShownDeclaration rows.items)) }
 {
     let mut names = Vec::with_capacity(alloc, rows.len())?;
     for row in rows {
-        names.push(read_name(alloc, row)?)?;
+        names.push(read_name(alloc, &row)?)?;
     }
     Ok(names)
 }

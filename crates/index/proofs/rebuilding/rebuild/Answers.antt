@@ -21,7 +21,7 @@ returns-in_err-set_names-clause-rebuilds g c declares sees =
     let db = c.args.db.now in
     let design = c.args.design.now in
     let f = declared_if (option_map {U = Value} (λ v. view v.now) c.args.body) in
-    let one = map {B = List ℕ} (λ name. name.items) c.deref-2.result.now in
+    let one = map {B = List ℕ} (λ name. name.items) c.deref.result.now in
     let reads = c.in_ok-rows.ensures.reads in
     let fault = c.in_err-set_names.field-0.0 in
     let is : c.from_residual-in_err-set_names.result ≡ Err fault = search rules in
@@ -40,8 +40,8 @@ returns-clause-rebuilds g c declares sees =
     let design = c.args.design.now in
     let body = option_map {U = Value} (λ v. view v.now) c.args.body in
     let f = declared_if (option_map {U = Value} (λ v. view v.now) c.args.body) in
-    let one = map {B = List ℕ} (λ name. name.items) c.deref-2.result.now in
-    let two = map {B = List ℕ} (λ name. name.items) c.deref-3.result.now in
+    let one = map {B = List ℕ} (λ name. name.items) c.deref.result.now in
+    let two = map {B = List ℕ} (λ name. name.items) c.deref-2.result.now in
     let reads = c.in_ok-rows.ensures.reads in
     let first = with_names declares db design f one in
     let second = with_names first db design f two in
@@ -58,8 +58,8 @@ returns-clause-rebuilds g c declares sees =
     let clean : HasCleanDisk (state g.S.Store b) = omega (arith, sets.asks.survives.clean, was) in
     let rows : HasIndexRows (state g.S.Store a).now = record { schema_is = fit.store.schema_is; decls = fit.indexed.decls; entries = fit.indexed.entries.laid } in
     let one_is : one ≡ map shown_name (map shown_declaration (filter (is_at_home db) decls)) =
-    ap (map {B = List ℕ} (λ name. name.items)) c.deref-2.ensures.value ∙ c.in_ok-stored.ensures.ok ∙ ap (map shown_name) (c.deref.ensures.value ∙ reads.found clean rows) in
-    let two_is : two ≡ declared_names body = ap (map {B = List ℕ} (λ name. name.items)) c.deref-3.ensures.value ∙ c.in_ok-declared.ensures in
+    ap (map {B = List ℕ} (λ name. name.items)) c.deref.ensures.value ∙ c.in_ok-stored.ensures.ok ∙ ap (map shown_name) (reads.found clean rows) in
+    let two_is : two ≡ declared_names body = ap (map {B = List ℕ} (λ name. name.items)) c.deref-2.ensures.value ∙ c.in_ok-declared.ensures in
     rebuilt_as second (with_declared declares db design f) sees (state g.S.Store a).now (state g.S.Store e).now
     (λ d o n. (λ j. with_names (with_names declares db design f (one_is j)) db design f (two_is j) d o n) ∙ all_declared declares db design body decls fit.indexed.declared d o n)
     (rebuilt_then first second sees (state g.S.Store a).now (state g.S.Store m).now (state g.S.Store e).now made got))
@@ -74,11 +74,11 @@ returns-in_err-stored-clause-err g c declares sees =
     let why = c.in_err-stored.field-0.0 in
     let is : c.from_residual-in_err-stored.result ≡ Err why = search rules in
     refused_as sound c.from_residual-in_err-stored.result why is
-    (refused_of (AllByRecursion IsShownDeclaration c.deref.result.now) sound why
+    (refused_of (AllByRecursion IsShownDeclaration c.in_ok-rows.rows.items) sound why
     (λ it.
     let fit = it.1 (reads.served it.0) in
     let rows : HasIndexRows (state g.S.Store a).now = record { schema_is = fit.store.schema_is; decls = fit.indexed.decls; entries = fit.indexed.entries.laid } in
-    shown_some (state g.S.Store a).now rows (is_at_home db) c.deref.result.now (c.deref.ensures.value ∙ reads.found it.0 rows)) c.in_err-stored.ensures.err)
+    shown_some (state g.S.Store a).now rows (is_at_home db) c.in_ok-rows.rows.items (reads.found it.0 rows)) c.in_err-stored.ensures.err)
 
 pub returns-in_err-set_names-clause-err : goal.returns-in_err-set_names-clause-err
 returns-in_err-set_names-clause-err g c declares sees =
@@ -107,7 +107,7 @@ returns-clause-err g c declares sees =
     let db = c.args.db.now in
     let design = c.args.design.now in
     let f = declared_if (option_map {U = Value} (λ v. view v.now) c.args.body) in
-    let one = map {B = List ℕ} (λ name. name.items) c.deref-2.result.now in
+    let one = map {B = List ℕ} (λ name. name.items) c.deref.result.now in
     let reads = c.in_ok-rows.ensures.reads in
     let first = with_names declares db design f one in
     let sets = c.in_ok-set_names.ensures.sets declares sees in
