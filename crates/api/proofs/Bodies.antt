@@ -53,10 +53,10 @@ puts_documents ts inside rest old new vs opens read less came same = record {
   given = serde.array read.are.given;
   is = ap (option_map serde.array) read.are.are;
   put = λ ms old_are. record {
-      list = Some read.are.given;
-      valued = rw came read.are.valued;
-      are = ap (serde.put docs (serde.array read.are.given)) old_are.are ∙ put_docs old_are.list old.new_edits read.are.given ∙ ap (members_of (Some read.are.given)) (sym same);
-    };
+    list = Some read.are.given;
+    valued = rw came read.are.valued;
+    are = ap (serde.put docs (serde.array read.are.given)) old_are.are ∙ put_docs old_are.list old.new_edits read.are.given ∙ ap (members_of (Some read.are.given)) (sym same);
+  };
   shorter = rw opens (omega (arith, less));
 }
 
@@ -68,10 +68,10 @@ puts_new_edits ts rest old new b first same came = record {
   given = serde.boolean b;
   is = refl;
   put = λ ms old_are. record {
-      list = old_are.list;
-      valued = rw same old_are.valued;
-      are = ap (serde.put new_edits (serde.boolean b)) old_are.are ∙ put_new_edits old_are.list old.new_edits b ∙ ap (members_of old_are.list) (sym came);
-    };
+    list = old_are.list;
+    valued = rw same old_are.valued;
+    are = ap (serde.put new_edits (serde.boolean b)) old_are.are ∙ put_new_edits old_are.list old.new_edits b ∙ ap (members_of old_are.list) (sym came);
+  };
   shorter = rw first (omega arith);
 }
 

@@ -92,12 +92,7 @@ fn read_parts(alloc: Global, reader: &mut Reader<'_>) -> Got<Option<Parts>>
 }
 
 /// Reads the value of the member of this name, and tells whether it is one that the object may have.
-fn read_part(
-    alloc: Global,
-    reader: &mut Reader<'_>,
-    name: &str,
-    parts: &mut Parts,
-) -> Got<bool>
+fn read_part(alloc: Global, reader: &mut Reader<'_>, name: &str, parts: &mut Parts) -> Got<bool>
     ensures { IfOk result (λ is_read. IsTrue is_read → PutsPart name.now reader.old parts.old reader.new parts.new) }
 {
     if name == "docs" {

@@ -10,11 +10,9 @@ use Rattle.json.proofs.Grammar.{items_end, items_more}
 use Rattle.json.proofs.Printed.Tokens.{tokens-print}
 use Rattle.json.proofs.Printed.Trees.{ArePrintable-json_tokens}
 use Rattle.serde_json.specs.Data as serde
-use Rattle.serde_json.specs.Read.{max_depth, of_items, of_json}
-use Rattle.couch_json.specs.Reading.{data_read, items_of_data, reading, value_of, value_or_fault, whole_or_fault}
-use Rattle.couch_json.specs.Value as couch
+use Rattle.serde_json.specs.Read.{max_depth, of_json}
+use Rattle.couch_json.specs.Reading.{data_read, reading, value_of, value_or_fault, whole_or_fault}
 use Rattle.couch_json.specs.Value.{Value}
-use Rattle.couch_json.specs.View.{items_of}
 use Rattle.couch_json.specs.declared.fault.JsonFault.{JsonFault}
 use Rattle.couch_json.specs.declared.fault.JsonFault.TheVariants.{Depth}
 use Rattle.couch_json.proofs.Readings.{data_read-IsUtf8}

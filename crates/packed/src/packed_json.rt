@@ -2,6 +2,9 @@ use couch_json::{Got, Json, JsonFault, NoMemory, read};
 use std::alloc::Global;
 use std::marker::Model;
 
+/// The most bytes of a text that is kept.
+const MAX_TEXT: usize = 65_536;
+
 /// A JSON value in little memory, while nothing is asked of it. Clauses see the value.
 ///
 /// An object of one member takes some nine hundred bytes, most of them room for more members, and
@@ -47,12 +50,15 @@ impl PackedJson {
     ghost use Rattle.couch_json.specs.Value.{member_of};
     ghost use Rattle.couch_json.specs.View.{view};
 
-    /// Keeps a text, where it reads as a value.
+    /// Keeps a text, where it reads as a value. Of a text of more than 64 KiB the value is kept as it is.
     pub fn from_text(alloc: Global, text: Vec<u8>) -> Result<PackedJson, JsonFault>
         ensures value { IfOk result (λ packed. reading text.items ≡ Ok packed) }
         ensures fault { IfErr result (λ fault. fault ≢ JsonFault.Memory → reading text.items ≡ Err fault) }
     {
-        drop(read(alloc, &text)?);
+        let value = read(alloc, &text)?;
+        if text.len() > MAX_TEXT {
+            return Ok(PackedJson::whole(value));
+        }
         Ok(PackedJson {
             kept: Kept::Text(text),
         })

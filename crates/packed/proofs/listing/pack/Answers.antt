@@ -1,4 +1,4 @@
-use Rattle.std.proofs.Common.{◌≡◌, ap, sym, ◌∙◌, rules}
+use Rattle.std.proofs.Common.{◌≡◌, sym, ◌∙◌, rules}
 use Rattle.std.specs.Str.{IsUtf8}
 use Rattle.std.proofs.Common.{subst}
 use Rattle.json.specs.Value.{value_view}

@@ -6,4 +6,4 @@ use Rattle.packed.proofs.packed_json.PackedJson.from_text.Goals as goal
 pub invariant_of-result : goal.invariant_of-result
 invariant_of-result c =
     let same : c.deref.result.now ≡ c.args.text.items = search rules in
-    (view c.in_ok-read.field-0, ap reading (sym same) ∙ c.in_ok-read.ensures.value)
+    (view c.in_ok-value.value, ap reading (sym same) ∙ c.in_ok-value.ensures.value)
