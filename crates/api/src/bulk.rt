@@ -13,10 +13,9 @@ use crate::bulk_reading::read_in_parts;
 use crate::fault::RequestFault;
 use crate::refusal::Refusal;
 use couch_http::Request;
-use couch_json::{Got, Json};
+use couch_json::{Got, Json, NameMap};
 use packed::PackedJson;
 use std::alloc::Global;
-use std::collections::BTreeMap;
 
 /// The most bytes of a body that is read at once.
 const MAX_AT_ONCE: usize = 65_536;
@@ -101,7 +100,7 @@ fn documents_in(value: Json) -> Option<Vec<Json>>
 }
 
 /// Returns the value at a name, taken out of the members of an object.
-fn take_member(members: BTreeMap<String, Json>, name: &str) -> Option<Json>
+fn take_member(members: NameMap<Json>, name: &str) -> Option<Json>
     ensures { option_map view result ≡ member_at name.now (members_view members.entries) }
 {
     let mut members = members;

@@ -6,10 +6,9 @@ ghost use Rattle.read.specs.DifferencesAsked.{all_asked};
 ghost use Rattle.api.specs.Listings.{differences_in, revisions_of_members};
 
 use crate::query::list_revisions;
-use couch_json::{Got, Json};
+use couch_json::{Got, Json, NameMap};
 use read::AskedRevisions;
 use std::alloc::Global;
-use std::collections::BTreeMap;
 
 /// Reads the revisions that a body asks about: an object from texts to lists of revisions; `None`
 /// where it is of another form.
@@ -23,11 +22,11 @@ pub fn differences_in(alloc: Global, value: &Json) -> Got<Option<Vec<AskedRevisi
 }
 
 /// Reads the lists of revisions of an object, in order.
-fn revisions_of(alloc: Global, members: &BTreeMap<String, Json>) -> Got<Option<Vec<AskedRevisions>>>
+fn revisions_of(alloc: Global, members: &NameMap<Json>) -> Got<Option<Vec<AskedRevisions>>>
     ensures { IfOk result (λ asked. option_map (λ all. all_asked all.items) asked ≡ revisions_of_members (members_view members.now.entries)) }
 {
     let mut asked = Vec::new(alloc);
-    for (id, value) in members.iter() {
+    for (id, value) in members.as_slice() {
         let Some(revs) = list_revisions(alloc, value)? else {
             return Ok(None);
         };

@@ -3,10 +3,9 @@ ghost use Rattle.couch_json.specs.View.{members_view, view};
 ghost use Rattle.api.specs.Refusals.{error_of, name_of_rule, reason_of, reason_of_rule, refusal_members, refusal_value, rule_of, status_of};
 
 use crate::members::put_text;
-use couch_json::{Got, Json};
+use couch_json::{Got, Json, NameMap};
 use policy::Rule;
 use std::alloc::Global;
-use std::collections::BTreeMap;
 
 /// Why a request is refused. Nothing has changed then.
 #[derive(Debug, Drop)]
@@ -142,10 +141,10 @@ impl Refusal {
     }
 
     /// Makes what is said of the refusal: `error`, `reason`, and `rule` where a rule refuses.
-    pub fn members(&self, alloc: Global) -> Got<BTreeMap<String, Json>>
+    pub fn members(&self, alloc: Global) -> Got<NameMap<Json>>
         ensures { IfOk result (λ members. members_view members.entries ≡ refusal_members self.now) }
     {
-        let mut members = BTreeMap::new(alloc);
+        let mut members = NameMap::new(alloc);
         put_text(alloc, &mut members, "error", self.error())?;
         put_text(alloc, &mut members, "reason", self.reason())?;
         if let Some(rule) = self.rule() {

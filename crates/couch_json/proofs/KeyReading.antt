@@ -1,10 +1,11 @@
 -- What is left to read of a key.
-use Rattle.std.proofs.Common.{◌≡◌, ◌≢◌, ◌≤◌, ◌<◌, ◌-◌, ◌*◌, ◌%◌, ◌^◌, ℕ, ℤ, zero, suc, ◌+◌, List, [], ◌∷◌, ◌++◌, length, take, drop, Bool, true, false, Option, Some, None, option_map, Result, Ok, Err, OnErr, IfErr, IsUtf8, refl, sym, ap, ap₂, subst, ◌∙◌, append_assoc, append-nil, length-append, String, Global, Vec, BTreeMap, string_bytes, arith, rules}
+use Rattle.std.proofs.Common.{◌≡◌, ◌≢◌, ◌≤◌, ◌<◌, ◌-◌, ◌*◌, ◌%◌, ◌^◌, ℕ, ℤ, zero, suc, ◌+◌, List, [], ◌∷◌, ◌++◌, length, take, drop, Bool, true, false, Option, Some, None, option_map, Result, Ok, Err, OnErr, IfErr, IsUtf8, refl, sym, ap, ap₂, subst, ◌∙◌, append_assoc, append-nil, length-append, String, Global, Vec, string_bytes, arith, rules}
 use Rattle.std.specs.declared.cmp.Ordering.{Ordering}
 use Rattle.std.specs.declared.cmp.Ordering.TheVariants.{Less, Equal, Greater}
 use Rattle.std.specs.Ordering.{match_ordering, nat_cmp}
 use Rattle.std.specs.Cmp.Lexicographic.{slice_cmp}
 use Rattle.std.specs.Int.{byte_at, bytes_high_first, from_be_bytes, w64}
+use Rattle.name_map.specs.Seen.{NameMap}
 use Rattle.couch_json.specs.Key.{key, height, number_key, text_key, items_key, members_key}
 use Rattle.couch_json.specs.Lawful.{AreLawfulItems, HasAscendingNames, AreLawfulMembers}
 use Rattle.couch_json.specs.Range.{IsInRange}
@@ -162,7 +163,7 @@ pub finds_Array : (limit : ℕ) (bytes between rest : List ℕ) (v : Vec Json Gl
     → FindsValue limit bytes (Some (view (Array v), rest))
 finds_Array limit bytes between rest v is found = rw (is, view-Array v) (finds_array limit between (Some (items_view v.items, rest)) found)
 
-pub finds_Object : (limit : ℕ) (bytes between rest : List ℕ) (m : BTreeMap (String Global) Json) → bytes ≡ 7 ∷ between
+pub finds_Object : (limit : ℕ) (bytes between rest : List ℕ) (m : NameMap Json) → bytes ≡ 7 ∷ between
     → FindsMembers (limit - 1) between (Some (members_view m.entries, rest)) → FindsValue limit bytes (Some (view (Object m), rest))
 finds_Object limit bytes between rest m is found = rw (is, view-Object m) (finds_object limit between (Some (members_view m.entries, rest)) found)
 

@@ -1,3 +1,4 @@
+pub mod Depths
 pub mod Items
 pub mod Objects
 pub mod Texts

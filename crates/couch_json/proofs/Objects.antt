@@ -1,5 +1,5 @@
 -- The members of an object, beside the entries of the map that holds them.
-use Rattle.std.proofs.Common.{◌≡◌, ℕ, List, [], ◌∷◌, String, Global, Option, Some, None, option_map, is_eq, cond, Bor, BTreeMap, Ordering, Less, Equal, Greater, string_bytes, string_cmp, nat_cmp, refl, sym, ap, ◌∙◌, rules}
+use Rattle.std.proofs.Common.{◌≡◌, ℕ, List, [], ◌∷◌, String, Global, Option, Some, None, option_map, is_eq, cond, Bor, Ordering, Less, Equal, Greater, string_bytes, string_cmp, nat_cmp, refl, sym, ap, ◌∙◌, rules}
 use Rattle.std.proofs.lemmas.Cmp.{nat_list_cmp_total}
 use Rattle.std.specs.Cmp.Lexicographic.{slice_cmp}
 use Rattle.std.specs.List.{AllByRecursion}
@@ -7,6 +7,7 @@ use Rattle.std.specs.List.Sorted.{IsStrictlySortedBy}
 use Rattle.std.specs.Map.{keys_of, lookup}
 use Rattle.std.specs.Ordering.{match_ordering, ordering_reverse}
 use Rattle.std.specs.BTreeMap.{insert_entry, is_at}
+use Rattle.name_map.specs.Seen.{NameMap}
 use Rattle.serde_json.specs.Data as serde
 use Rattle.couch_json.specs.Reading.{value_of, members_of_data}
 use Rattle.couch_json.specs.Value.{Value, Members, no_members, member, put, put_all, member_at, object}
@@ -99,5 +100,5 @@ pub view_of_reference : (found : Option (Bor Json)) → option_map (λ v. view v
 view_of_reference None = refl
 view_of_reference (Some v) = refl
 
-pub view-Object : (m : BTreeMap (String Global) Json) → view (Object m) ≡ object (members_view m.entries)
+pub view-Object : (m : NameMap Json) → view (Object m) ≡ object (members_view m.entries)
 view-Object m = search (rules, the_lemmas)

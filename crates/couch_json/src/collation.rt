@@ -4,8 +4,8 @@ ghost use Rattle.couch_json.specs.Collation.{collation, kind_rank, items_collati
 ghost use Rattle.couch_json.specs.View.{view, items_view, members_view};
 
 use crate::value::Json;
+use name_map::NameMap;
 use std::cmp::Ordering;
-use std::collections::BTreeMap;
 
 /// Compares two values (CouchDB manual, "Views Collation", with texts by their bytes):
 /// null, false, true, numbers, texts, arrays element by element, objects member by member.
@@ -61,11 +61,11 @@ fn collate_items(left: &Vec<Json>, right: &Vec<Json>) -> Ordering
 }
 
 #[cycle(collate)]
-fn collate_members(left: &BTreeMap<String, Json>, right: &BTreeMap<String, Json>) -> Ordering
+fn collate_members(left: &NameMap<Json>, right: &NameMap<Json>) -> Ordering
     ensures { result ≡ members_collation (members_view left.now.entries) (members_view right.now.entries) }
 {
-    let mut others = right.iter();
-    for (name, member) in left.iter() {
+    let mut others = right.as_slice().iter();
+    for (name, member) in left.as_slice() {
         let Some((other_name, other)) = others.next() else {
             return Ordering::Greater;
         };

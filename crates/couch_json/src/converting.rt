@@ -8,9 +8,9 @@ ghost use Rattle.couch_json.specs.View.{view, items_view, members_view};
 use crate::fault::JsonFault;
 use crate::number::Number;
 use crate::value::Json;
+use name_map::NameMap;
 use serde_json::{Map, Value};
 use std::alloc::Global;
-use std::collections::BTreeMap;
 
 /// Converts the value that serde_json's is, or `Number` if and only if a number is not whole or out of range.
 #[cycle(convert)]
@@ -58,16 +58,13 @@ fn convert_items(alloc: Global, source: Vec<Value>) -> Result<Vec<Json>, JsonFau
 }
 
 #[cycle(convert)]
-fn convert_members(
-    alloc: Global,
-    source: Map<String, Value>,
-) -> Result<BTreeMap<String, Json>, JsonFault>
+fn convert_members(alloc: Global, source: Map<String, Value>) -> Result<NameMap<Json>, JsonFault>
     ensures value { IfOk result (λ members. members_of_data (members_data source.entries) no_members
         ≡ Some (members_view members.entries)) }
     ensures fault { IfErr result (λ e. e ≢ JsonFault.Memory
         → (e ≡ JsonFault.Number) × (members_of_data (members_data source.entries) no_members ≡ None)) }
 {
-    let mut members = BTreeMap::new(alloc);
+    let mut members = NameMap::new(alloc);
     for (name, member) in source {
         drop(members.insert(name, convert(alloc, member)?)?);
     }

@@ -3,8 +3,8 @@ ghost use Rattle.couch_json.specs.View.{view, items_view, members_view};
 
 use crate::no_memory::Got;
 use crate::value::Json;
+use name_map::NameMap;
 use std::alloc::Global;
-use std::collections::BTreeMap;
 
 #[cycle(copy)]
 pub(crate) fn copy_value(alloc: Global, value: &Json) -> Got<Json>
@@ -32,11 +32,11 @@ fn copy_items(alloc: Global, items: &Vec<Json>) -> Got<Vec<Json>>
 }
 
 #[cycle(copy)]
-fn copy_members(alloc: Global, members: &BTreeMap<String, Json>) -> Got<BTreeMap<String, Json>>
+fn copy_members(alloc: Global, members: &NameMap<Json>) -> Got<NameMap<Json>>
     ensures { IfOk result (λ copies. members_view copies.entries ≡ members_view members.now.entries) }
 {
-    let mut copies = BTreeMap::new(alloc);
-    for (name, member) in members.iter() {
+    let mut copies = NameMap::with_capacity(alloc, members.len())?;
+    for (name, member) in members.as_slice() {
         let name = name.clone()?;
         drop(copies.insert(name, copy_value(alloc, member)?)?);
     }

@@ -7,8 +7,8 @@ use crate::no_memory::Got;
 use crate::number::Number;
 use crate::value::Json;
 use crate::walking::walk_value;
+use name_map::NameMap;
 use std::alloc::Global;
-use std::collections::BTreeMap;
 
 /// Writes the key of a value: bytes that an index may hold in its place.
 ///
@@ -93,11 +93,11 @@ fn put_items(out: &mut Vec<u8>, items: &Vec<Json>) -> Got<()>
 }
 
 #[cycle(key)]
-fn put_members(out: &mut Vec<u8>, members: &BTreeMap<String, Json>) -> Got<()>
+fn put_members(out: &mut Vec<u8>, members: &NameMap<Json>) -> Got<()>
     ensures { OnOk result (out.new.items
         ≡ out.old.items ++ members_key (members_view members.now.entries)) }
 {
-    for (name, member) in members.iter() {
+    for (name, member) in members.as_slice() {
         out.push(5)?;
         put_text(out, name.as_bytes())?;
         put_value(out, member)?;

@@ -11,8 +11,8 @@ use crate::key::key_bytes;
 use crate::key_fault::KeyFault;
 use crate::number::Number;
 use crate::value::Json;
+use name_map::NameMap;
 use std::alloc::Global;
-use std::collections::BTreeMap;
 
 /// The depth to which a value may nest whose key is read.
 const MAX_DEPTH: usize = 110;
@@ -185,14 +185,14 @@ fn read_members<'a>(
     alloc: Global,
     bytes: &'a [u8],
     limit: usize,
-) -> Result<(BTreeMap<String, Json>, &'a [u8]), KeyFault>
+) -> Result<(NameMap<Json>, &'a [u8]), KeyFault>
     ensures value { IfOk result (λ found.
         FindsMembers limit bytes.now (Some (members_view found.0.entries, found.1.now))) }
     ensures depth { IfOk result (λ found. members_depth (members_view found.0.entries) ≤ limit) }
     ensures fault { IfErr result (λ fault. fault ≢ KeyFault.Memory → fault ≡ KeyFault.NotKey) }
     ensures none { IfErr result (λ fault. fault ≢ KeyFault.Memory → FindsMembers limit bytes.now None) }
 {
-    let mut members = BTreeMap::new(alloc);
+    let mut members = NameMap::new(alloc);
     let mut rest = bytes;
     for _count in 0..bytes.len() {
         let Some((first, after)) = rest.split_first() else {

@@ -6,18 +6,13 @@ ghost use Rattle.couch_json.specs.View.{view, members_view};
 
 use crate::no_memory::Got;
 use crate::value::Json;
+use name_map::NameMap;
 use std::alloc::Global;
-use std::collections::BTreeMap;
 
 /// Puts a value at a name into the members of an object, in place of the value there.
 ///
 /// After a refusal the members are as they were.
-pub fn put_member(
-    alloc: Global,
-    members: &mut BTreeMap<String, Json>,
-    name: &str,
-    value: Json,
-) -> Got<()>
+pub fn put_member(alloc: Global, members: &mut NameMap<Json>, name: &str, value: Json) -> Got<()>
     ensures ok { OnOk result (members_view members.new.entries
         ≡ put name.now (view value) (members_view members.old.entries)) }
     ensures err { OnErr result (members_view members.new.entries ≡ members_view members.old.entries) }
@@ -27,10 +22,10 @@ pub fn put_member(
 }
 
 /// Tests whether each member has one of these names.
-pub(crate) fn are_named(members: &BTreeMap<String, Json>, names: &[&str]) -> bool
+pub(crate) fn are_named(members: &NameMap<Json>, names: &[&str]) -> bool
     ensures { result ≡ are_named (map (λ name. name.now) names.now) (members_view members.now.entries) }
 {
-    for (name, _value) in members.iter() {
+    for (name, _value) in members.as_slice() {
         if !is_among(name.as_str(), names) {
             return false;
         }

@@ -3,7 +3,7 @@ ghost use Rattle.couch_json.specs.Value.{depth, items_depth, members_depth};
 ghost use Rattle.couch_json.specs.View.{view, items_view, members_view};
 
 use crate::value::Json;
-use std::collections::BTreeMap;
+use name_map::NameMap;
 
 /// Tells whether the value nests at most `limit` deep.
 #[cycle(within)]
@@ -30,10 +30,10 @@ fn items_within(items: &Vec<Json>, limit: usize) -> bool
 }
 
 #[cycle(within)]
-fn members_within(members: &BTreeMap<String, Json>, limit: usize) -> bool
+fn members_within(members: &NameMap<Json>, limit: usize) -> bool
     ensures { IsTrue result ↔ (members_depth (members_view members.now.entries) ≤ limit) }
 {
-    for (_name, member) in members.iter() {
+    for (_name, member) in members.as_slice() {
         if !value_within(member, limit) {
             return false;
         }

@@ -5,13 +5,13 @@ use crate::members::are_named;
 use crate::nested::value_within;
 use crate::no_memory::Got;
 use crate::number::Number;
+use name_map::NameMap;
 use std::alloc::Global;
-use std::collections::BTreeMap;
 
 /// A JSON value (RFC 8259) whose numbers are whole.
 ///
 /// An object has each name once, in byte order of the names' UTF-8.
-#[derive(Debug, PartialEq, Drop)]
+#[derive(Debug, Drop)]
 pub enum Json {
     /// `null`
     Null,
@@ -24,7 +24,7 @@ pub enum Json {
     /// An array, its elements in order.
     Array(Vec<Json>),
     /// An object: a value for each of its names.
-    Object(BTreeMap<String, Json>),
+    Object(NameMap<Json>),
 }
 
 impl Json {
@@ -87,7 +87,7 @@ impl Json {
     }
 
     /// Returns the members, where the value is an object.
-    pub fn members(&self) -> Option<&BTreeMap<String, Json>>
+    pub fn members(&self) -> Option<&NameMap<Json>>
         ensures { option_map (λ members. members_view members.now.entries) result ≡ members_in (view self.now) }
     {
         match self {

@@ -2,7 +2,7 @@ ghost use Rattle.couch_json.specs.Lawful.{IsLawful, AreLawfulItems, HasAscending
 ghost use Rattle.couch_json.specs.View.{view, items_view, members_view};
 
 use crate::value::Json;
-use std::collections::BTreeMap;
+use name_map::NameMap;
 
 /// Walks the value and changes nothing: each part that it comes by is lawful.
 #[cycle(walk)]
@@ -32,11 +32,11 @@ fn walk_items(items: &Vec<Json>)
 }
 
 #[cycle(walk)]
-fn walk_members(members: &BTreeMap<String, Json>)
+fn walk_members(members: &NameMap<Json>)
     ensures names { HasAscendingNames (members_view members.now.entries) }
     ensures lawful { AreLawfulMembers (members_view members.now.entries) }
 {
-    for (name, member) in members.iter() {
+    for (name, member) in members.as_slice() {
         let _name = name.as_str();
         walk_value(member);
     }

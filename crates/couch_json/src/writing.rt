@@ -12,8 +12,8 @@ use crate::no_memory::Got;
 use crate::number::Number;
 use crate::value::Json;
 use json::Writer;
+use name_map::NameMap;
 use std::alloc::Global;
-use std::collections::BTreeMap;
 
 /// Writes the canonical text of the value, compact and in UTF-8, with no line end.
 ///
@@ -81,7 +81,7 @@ fn put_items(out: &mut Writer, items: &Vec<Json>) -> Got<()>
 }
 
 #[cycle(put)]
-fn put_members(out: &mut Writer, members: &BTreeMap<String, Json>) -> Got<()>
+fn put_members(out: &mut Writer, members: &NameMap<Json>) -> Got<()>
     ensures tokens { OnOk result (out.new.tokens
         ≡ out.old.tokens ++ value_tokens (object (members_view members.now.entries))) }
     ensures before { OnOk result (out.new.before ≡ out.old.before) }
@@ -89,7 +89,7 @@ fn put_members(out: &mut Writer, members: &BTreeMap<String, Json>) -> Got<()>
     ensures lawful { OnOk result (AreLawfulMembers (members_view members.now.entries)) }
 {
     out.begin_object()?;
-    for (name, member) in members.iter() {
+    for (name, member) in members.as_slice() {
         out.key(name.as_str())?;
         put_value(out, member)?;
     }

@@ -9,11 +9,10 @@ ghost use Rattle.read.specs.Answers.{Stops};
 use crate::fixed::are_fixed;
 use crate::query::Query;
 use crate::ranges::{are_same, are_there};
-use couch_json::{FieldPath, Got, Json, NoMemory, PathFault};
+use couch_json::{FieldPath, Got, Json, NameMap, NoMemory, PathFault};
 use read::ReadFault;
 use selector::Bounds;
 use std::alloc::Global;
-use std::collections::BTreeMap;
 use store::{DbName, IdRow, Store, design_range, find_winning_body, read_winning};
 use tree::{DocId, History};
 
@@ -122,11 +121,11 @@ fn choose_declared(
 fn choose_named(
     alloc: Global,
     design: &DocId,
-    indexes: &BTreeMap<String, Json>,
+    indexes: &NameMap<Json>,
     query: &Query,
 ) -> Got<Option<IndexName>> {
     let mut chosen = None;
-    for (name, index) in indexes.iter() {
+    for (name, index) in indexes.as_slice() {
         let fit = fit_declared(alloc, index, query)?;
         if fit == Fit::InOrder || (fit == Fit::Narrow && chosen.is_none()) {
             chosen = Some(IndexName {

@@ -7,9 +7,8 @@ ghost use Rattle.find.specs.Reading.{Reads};
 
 use crate::fault::QueryFault;
 use crate::sort_fields::SortFields;
-use couch_json::{FieldPath, Json, PathFault};
+use couch_json::{FieldPath, Json, NameMap, PathFault};
 use std::alloc::Global;
-use std::collections::BTreeMap;
 
 /// Returns the entries of a sort, which has to be a list; where there is none, it has none.
 pub(crate) fn sort_entries(sort: Option<&Json>) -> Result<&[Json], QueryFault>
@@ -115,10 +114,10 @@ fn parts_of(entry: &Json) -> Option<(&str, &str)>
 }
 
 /// Returns the name and the value of the one member, where there is no other.
-fn sole_member(members: &BTreeMap<String, Json>) -> Option<(&str, &Json)>
+fn sole_member(members: &NameMap<Json>) -> Option<(&str, &Json)>
     ensures { option_map (λ m. (m.0.now, view m.1.now)) result ≡ sole_member (members_view members.now.entries) }
 {
-    let mut members = members.iter();
+    let mut members = members.as_slice().iter();
     let (name, value) = members.next()?;
     match members.next() {
         Some(_) => None,

@@ -16,12 +16,11 @@ use crate::declarations::rows_of_database;
 use crate::declaring::set_index;
 use crate::fault::IndexFault;
 use crate::reading::read_paths;
-use couch_json::{FieldPath, Got, Json};
+use couch_json::{FieldPath, Got, Json, NameMap};
 use policy::check_indexes;
 use sqlite::{Alter, Row, Transaction};
 use sqlite_value::value::ValueRef;
 use std::alloc::Global;
-use std::collections::BTreeMap;
 use std::str;
 
 /// Lets the indexes of a design document be those that its body declares, or none where it has no body:
@@ -103,11 +102,11 @@ fn list_declared(alloc: Global, body: Option<&Json>) -> Got<Vec<Vec<u8>>>
 }
 
 /// Lists the names of members.
-fn list_names(alloc: Global, members: &BTreeMap<String, Json>) -> Got<Vec<Vec<u8>>>
+fn list_names(alloc: Global, members: &NameMap<Json>) -> Got<Vec<Vec<u8>>>
     ensures { IfOk result (λ names. map (λ name. name.items) names.items ≡ names_of (members_view members.now.entries)) }
 {
     let mut names = Vec::new(alloc);
-    for (name, _index) in members.iter() {
+    for (name, _index) in members.as_slice() {
         names.push(copy_bytes(alloc, name.as_bytes())?)?;
     }
     Ok(names)

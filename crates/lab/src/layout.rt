@@ -7,10 +7,9 @@ ghost use Rattle.lab.specs.Scene.{HasOneMore};
 use crate::fault::LineFault;
 use crate::lab_store::LabStore;
 use crate::named::{Named, place_of};
-use couch_json::{Json, NoMemory};
+use couch_json::{Json, NameMap, NoMemory};
 use policy::{Security, SecurityFault};
 use std::alloc::Global;
-use std::collections::BTreeMap;
 use store::{DbName, Store};
 
 /// The nodes that a script has named so far, with their databases.
@@ -74,7 +73,7 @@ fn open_to_all<S: LabStore>(alloc: Global, store: &mut S, name: &DbName) -> Resu
 fn open_security(alloc: Global) -> Result<Security, NoMemory>
     ensures { IfOk result (λ security. security ≡ object no_members) }
 {
-    let value = Json::Object(BTreeMap::new(alloc));
+    let value = Json::Object(NameMap::new(alloc));
     match Security::read(alloc, &value) {
         Ok(security) => Ok(security),
         Err(SecurityFault::Shape) => Err(NoMemory),

@@ -9,9 +9,8 @@ ghost use Rattle.node.specs.Bulk.{bulk_reply, edit_listed, failed_members, failu
 
 use api::{Refusal, deny, put_text};
 use auth::Caller;
-use couch_json::{ArrayText, Got, Json, JsonText, put_member};
+use couch_json::{ArrayText, Got, Json, JsonText, NameMap, put_member};
 use std::alloc::Global;
-use std::collections::BTreeMap;
 use tree::Rev;
 use write::{DocumentResult, Outcome, WriteFault};
 
@@ -89,11 +88,7 @@ fn failure_listed(
 }
 
 /// Says of an edit that was made its id and the new revision.
-pub(crate) fn made_members(
-    alloc: Global,
-    id: &Option<String>,
-    rev: &Rev,
-) -> Got<BTreeMap<String, Json>>
+pub(crate) fn made_members(alloc: Global, id: &Option<String>, rev: &Rev) -> Got<NameMap<Json>>
     ensures { IfOk result (λ members. members_view members.entries ≡ made_members (option_map string_bytes id.now) rev.now) }
 {
     let mut members = known_members(alloc, id)?;
@@ -102,10 +97,10 @@ pub(crate) fn made_members(
 }
 
 /// Says of a document that is there its id.
-pub(crate) fn known_members(alloc: Global, id: &Option<String>) -> Got<BTreeMap<String, Json>>
+pub(crate) fn known_members(alloc: Global, id: &Option<String>) -> Got<NameMap<Json>>
     ensures { IfOk result (λ members. members_view members.entries ≡ known_members (option_map string_bytes id.now)) }
 {
-    let mut members = BTreeMap::new(alloc);
+    let mut members = NameMap::new(alloc);
     put_text_or_null(alloc, &mut members, "id", id)?;
     put_member(alloc, &mut members, "ok", Json::Truth(true))?;
     Ok(members)
@@ -117,7 +112,7 @@ fn failed_members(
     caller: &Caller,
     id: &Option<String>,
     fault: WriteFault,
-) -> Got<BTreeMap<String, Json>>
+) -> Got<NameMap<Json>>
     ensures { IfOk result (λ members. members_view members.entries ≡ failed_members caller.now (option_map string_bytes id.now) fault) }
 {
     let mut members = refusal_of_edit(caller, fault).members(alloc)?;
@@ -141,7 +136,7 @@ pub fn refusal_of_edit(caller: &Caller, fault: WriteFault) -> Refusal
 /// Puts a text at a name into the members of an object, or null.
 fn put_text_or_null(
     alloc: Global,
-    members: &mut BTreeMap<String, Json>,
+    members: &mut NameMap<Json>,
     name: &str,
     text: &Option<String>,
 ) -> Got<()>

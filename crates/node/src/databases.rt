@@ -18,11 +18,10 @@ use crate::early_end::EarlyEnd;
 use api::{Page, Refusal, RequestFault, RequestMethod, database_name, deny, without_parameters};
 use auth::Caller;
 use couch_http::Request;
-use couch_json::{ArrayText, Got, Json, JsonText, put_member};
+use couch_json::{ArrayText, Got, Json, JsonText, NameMap, put_member};
 use policy::{Action, Security, refusal};
 use read::info;
 use std::alloc::Global;
-use std::collections::BTreeMap;
 use store::{DbName, Store, StoreFault};
 
 /// Reads what a database says of itself.
@@ -152,7 +151,7 @@ fn list_names(alloc: Global, names: &[DbName]) -> Got<ArrayText>
 pub(crate) fn done(alloc: Global) -> Got<JsonText>
     ensures { IfOk result (λ value. value ≡ done) }
 {
-    let mut members = BTreeMap::new(alloc);
+    let mut members = NameMap::new(alloc);
     put_member(alloc, &mut members, "ok", Json::Truth(true))?;
     JsonText::of(alloc, &Json::Object(members))
 }

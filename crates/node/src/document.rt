@@ -27,10 +27,9 @@ use api::{
 };
 use auth::Caller;
 use couch_http::Request;
-use couch_json::{Got, Json, JsonText, put_member};
+use couch_json::{Got, Json, JsonText, NameMap, put_member};
 use read::{ReadFault, get, open_revs};
 use std::alloc::Global;
-use std::collections::BTreeMap;
 use store::{DbName, Store};
 use tree::{DocId, Rev};
 use write::{DocumentResult, Outcome, WriteFault, edit, judge_unnamed_deletion};
@@ -151,7 +150,7 @@ fn refuse_deletion<S: Store>(store: &mut S, caller: &Caller, name: &DbName, id: 
 fn deletion(alloc: Global) -> Got<Json>
     ensures { IfOk result (λ document. view document ≡ deletion) }
 {
-    let mut members = BTreeMap::new(alloc);
+    let mut members = NameMap::new(alloc);
     put_member(alloc, &mut members, "_deleted", Json::Truth(true))?;
     Ok(Json::Object(members))
 }

@@ -18,10 +18,9 @@ use crate::early_end::EarlyEnd;
 use api::{Refusal, body, put_text, without_parameters};
 use auth::Caller;
 use couch_http::Request;
-use couch_json::{Got, Json, JsonText};
+use couch_json::{Got, Json, JsonText, NameMap};
 use find::{Index, QueryFault};
 use std::alloc::Global;
-use std::collections::BTreeMap;
 use store::{DbName, Store};
 use write::{DocumentResult, Outcome, WriteFault, put_index};
 
@@ -104,7 +103,7 @@ fn index_reply(alloc: Global, index: &Index, created: bool) -> Got<JsonText>
     ensures { IfOk result (λ value. value ≡ index_reply (index_asked index.now).design (index_asked index.now).name created) }
 {
     let result = if created { "created" } else { "exists" };
-    let mut members = BTreeMap::new(alloc);
+    let mut members = NameMap::new(alloc);
     put_text(alloc, &mut members, "id", index.design.as_str())?;
     put_text(alloc, &mut members, "name", &index.name)?;
     put_text(alloc, &mut members, "result", result)?;

@@ -9,9 +9,8 @@ ghost use Rattle.api.specs.Asking.{plain};
 
 use api::{RequestFault, put_text, without_parameters};
 use couch_http::Request;
-use couch_json::{Got, Json, JsonText};
+use couch_json::{Got, Json, JsonText, NameMap};
 use std::alloc::Global;
-use std::collections::BTreeMap;
 
 /// Says who answers here.
 pub(crate) fn tell_welcome(alloc: Global, request: &Request) -> Result<JsonText, RequestFault>
@@ -24,7 +23,7 @@ pub(crate) fn tell_welcome(alloc: Global, request: &Request) -> Result<JsonText,
 fn welcome(alloc: Global) -> Got<JsonText>
     ensures { IfOk result (λ value. value ≡ welcome) }
 {
-    let mut members = BTreeMap::new(alloc);
+    let mut members = NameMap::new(alloc);
     put_text(alloc, &mut members, "couchdb", "Welcome")?;
     put_text(alloc, &mut members, "version", "3-profile")?;
     JsonText::of(alloc, &Json::Object(members))

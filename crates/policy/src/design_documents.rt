@@ -5,10 +5,9 @@ ghost use Rattle.couch_json.specs.View.{view, items_view, members_view};
 ghost use Rattle.policy.specs.DesignDocuments.{are_fields, are_indexes, are_paths, is_design_body, is_field_count, is_field_list, is_index, is_index_name, is_index_object, is_path, is_rule};
 ghost use Rattle.policy.specs.Security.{is_absent_or};
 
-use couch_json::{FieldPath, Got, Json, NoMemory, PathFault};
+use couch_json::{FieldPath, Got, Json, NameMap, NoMemory, PathFault};
 use selector::{RuleSelector, SelectorFault};
 use std::alloc::Global;
-use std::collections::BTreeMap;
 
 /// Tests whether a design document may have this body: whether its `validate_doc_update`, if it has
 /// one, is the selector of a rule, and its `indexes`, if it has them, are of their form.
@@ -57,10 +56,10 @@ pub fn check_indexes(alloc: Global, indexes: Option<&Json>) -> Got<bool>
     }
 }
 
-fn are_indexes(alloc: Global, indexes: &BTreeMap<String, Json>) -> Got<bool>
+fn are_indexes(alloc: Global, indexes: &NameMap<Json>) -> Got<bool>
     ensures { IfOk result (λ good. good ≡ are_indexes (members_view indexes.now.entries)) }
 {
-    for (name, index) in indexes.iter() {
+    for (name, index) in indexes.as_slice() {
         if !is_index_name(name.as_str()) || !is_index(alloc, index)? {
             return Ok(false);
         }

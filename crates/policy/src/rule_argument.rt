@@ -8,9 +8,8 @@ ghost use Rattle.policy.specs.Argument.{argument_with, name_value, new_document,
 
 use crate::security::Security;
 use auth::Caller;
-use couch_json::{Got, Json, put_member};
+use couch_json::{Got, Json, NameMap, put_member};
 use std::alloc::Global;
-use std::collections::BTreeMap;
 use tree::DocId;
 
 /// Builds the argument of the update rules of a database: an object with `newDoc`, `oldDoc` (null
@@ -32,7 +31,7 @@ pub fn argument(
         Some(old) => old,
         None => Json::Null,
     };
-    let mut members = BTreeMap::new(alloc);
+    let mut members = NameMap::new(alloc);
     put_member(alloc, &mut members, "newDoc", new)?;
     put_member(alloc, &mut members, "oldDoc", old)?;
     put_member(alloc, &mut members, "secObj", security.value().copy(alloc)?)?;
@@ -61,12 +60,12 @@ pub fn show_new(alloc: Global, id: &DocId, deleted: bool, body: &Json) -> Got<Js
 }
 
 /// Copies the members of a body.
-fn copy_members(alloc: Global, body: &Json) -> Got<BTreeMap<String, Json>>
+fn copy_members(alloc: Global, body: &Json) -> Got<NameMap<Json>>
     ensures { IfOk result (λ members. members_view members.entries ≡ members_in (view body.now)) }
 {
     match body.copy(alloc)? {
         Json::Object(members) => Ok(members),
-        _ => Ok(BTreeMap::new(alloc)),
+        _ => Ok(NameMap::new(alloc)),
     }
 }
 
@@ -75,7 +74,7 @@ fn build_user_context(alloc: Global, caller: &Caller, db: &str) -> Got<Json>
     ensures { IfOk result (λ value. view value ≡ user_context caller.now db.now) }
 {
     let db = String::from_str(alloc, db)?;
-    let mut members = BTreeMap::new(alloc);
+    let mut members = NameMap::new(alloc);
     put_member(alloc, &mut members, "db", Json::Text(db))?;
     put_member(alloc, &mut members, "name", build_name(alloc, caller)?)?;
     put_member(

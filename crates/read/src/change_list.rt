@@ -15,10 +15,9 @@ use crate::change_pages::ChangesSoFar;
 use crate::fault::ReadFault;
 use crate::listing::build_revision;
 use crate::numbers::whole;
-use couch_json::{ArrayText, Got, Json, JsonText, ObjectText, put_member};
+use couch_json::{ArrayText, Got, Json, JsonText, NameMap, ObjectText, put_member};
 use std::alloc::Global;
 use std::cmp::min;
-use std::collections::BTreeMap;
 use store::{DbName, PageBySeq, SeqRange, SeqRow, Store};
 use tree::Rev;
 
@@ -199,12 +198,12 @@ fn build_change(alloc: Global, row: &SeqRow) -> Got<Json>
 }
 
 /// Builds what each row says.
-fn build_members(alloc: Global, row: &SeqRow) -> Got<BTreeMap<String, Json>>
+fn build_members(alloc: Global, row: &SeqRow) -> Got<NameMap<Json>>
     requires { row.now.sequence < 2 ^ 63 }
     ensures { IfOk result (λ members. members_view members.entries ≡ change_members (sequence_row_of row.now)) }
 {
     let id = String::from_str(alloc, row.id.as_str())?;
-    let mut members = BTreeMap::new(alloc);
+    let mut members = NameMap::new(alloc);
     put_member(
         alloc,
         &mut members,

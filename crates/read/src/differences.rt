@@ -12,9 +12,8 @@ ghost use Rattle.read.specs.Differences.{history_by, missing_texts, revision_dif
 ghost use Rattle.read.specs.DifferencesAsked.{all_asked, revisions_asked};
 
 use crate::fault::ReadFault;
-use couch_json::{Got, Json, JsonText, put_member};
+use couch_json::{Got, Json, JsonText, NameMap, put_member};
 use std::alloc::Global;
-use std::collections::BTreeMap;
 use store::{DbName, Store};
 use tree::{DocId, IdFault, Outline, Rev};
 
@@ -60,13 +59,13 @@ fn find_differences<S: Store>(
     store: &mut S,
     db: &DbName,
     asked: &[AskedRevisions],
-) -> Result<BTreeMap<String, Json>, ReadFault>
+) -> Result<NameMap<Json>, ReadFault>
     ensures ok { S.is_honest store.new → IfOk result (λ members. (d : Database) → map.get (S.contents store.old) db.now ≡ Some d
         → members_view members.entries ≡ with_differences d no_members (all_asked asked.now)) }
     ensures stops { IfErr result (Stops S.Store store.old store.new (map.get (S.contents store.old) db.now ≡ None)) }
     ensures reads { OnlyReads S.Store store.old store.new }
 {
-    let mut members = BTreeMap::new(alloc);
+    let mut members = NameMap::new(alloc);
     for document in asked {
         put_difference(alloc, store, db, document, &mut members)?;
     }
@@ -80,7 +79,7 @@ fn put_difference<S: Store>(
     store: &mut S,
     db: &DbName,
     asked: &AskedRevisions,
-    members: &mut BTreeMap<String, Json>,
+    members: &mut NameMap<Json>,
 ) -> Result<(), ReadFault>
     ensures ok { S.is_honest store.new → OnOk result ((d : Database) → map.get (S.contents store.old) db.now ≡ Some d
         → members_view members.new.entries ≡ with_difference d (members_view members.old.entries) (revisions_asked asked.now)) }
@@ -126,18 +125,13 @@ fn find_missing(alloc: Global, outline: &Outline, revs: &[Rev]) -> Got<Vec<Json>
 }
 
 /// Puts what is missing of a document at its id, if anything is.
-fn put_missing(
-    alloc: Global,
-    members: &mut BTreeMap<String, Json>,
-    id: &str,
-    missing: Vec<Json>,
-) -> Got<()>
+fn put_missing(alloc: Global, members: &mut NameMap<Json>, id: &str, missing: Vec<Json>) -> Got<()>
     ensures ok { OnOk result (members_view members.new.entries ≡ with_missing id.now (each view missing.items) (members_view members.old.entries)) }
 {
     if missing.is_empty() {
         return Ok(());
     }
-    let mut object = BTreeMap::new(alloc);
+    let mut object = NameMap::new(alloc);
     put_member(alloc, &mut object, "missing", Json::Array(missing))?;
     put_member(alloc, members, id, Json::Object(object))
 }

@@ -6,9 +6,8 @@ ghost use Rattle.read.specs.Information.{information, information_by};
 
 use crate::fault::ReadFault;
 use crate::numbers::whole;
-use couch_json::{Got, Json, JsonText, put_member};
+use couch_json::{Got, Json, JsonText, NameMap, put_member};
 use std::alloc::Global;
-use std::collections::BTreeMap;
 use store::{DbName, DocumentCounts, SeqRange, Store};
 
 /// Tells what a database says of itself: an object with `db_name`, `doc_count`, `doc_del_count` and
@@ -48,7 +47,7 @@ fn build_information(
     ensures { IfOk result (λ value. value ≡ information_by db.now counts.documents counts.deleted sequence) }
 {
     let name = String::from_str(alloc, db.as_str())?;
-    let mut members = BTreeMap::new(alloc);
+    let mut members = NameMap::new(alloc);
     put_member(alloc, &mut members, "db_name", Json::Text(name))?;
     put_member(alloc, &mut members, "doc_count", whole(counts.documents))?;
     put_member(alloc, &mut members, "doc_del_count", whole(counts.deleted))?;

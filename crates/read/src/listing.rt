@@ -13,9 +13,8 @@ ghost use Rattle.read.specs.RowsSoFar.{AreCountable, whole_list, rows_by_id};
 use crate::fault::ReadFault;
 use crate::listing_pages::RowsSoFar;
 use crate::numbers::whole;
-use couch_json::{ArrayText, Got, Json, JsonText, ObjectText, put_member};
+use couch_json::{ArrayText, Got, Json, JsonText, NameMap, ObjectText, put_member};
 use std::alloc::Global;
-use std::collections::BTreeMap;
 use store::{DbName, IdRange, IdRow, RowCounts, Store};
 use tree::Rev;
 
@@ -156,7 +155,7 @@ fn build_row(alloc: Global, row: &IdRow) -> Got<Json>
 {
     let id = String::from_str(alloc, row.id.as_str())?;
     let key = String::from_str(alloc, row.id.as_str())?;
-    let mut members = BTreeMap::new(alloc);
+    let mut members = NameMap::new(alloc);
     put_member(alloc, &mut members, "id", Json::Text(id))?;
     put_member(alloc, &mut members, "key", Json::Text(key))?;
     put_member(
@@ -172,7 +171,7 @@ fn build_row(alloc: Global, row: &IdRow) -> Got<Json>
 pub(crate) fn build_revision(alloc: Global, rev: &Rev) -> Got<Json>
     ensures { IfOk result (λ value. view value ≡ revision_object rev.now) }
 {
-    let mut members = BTreeMap::new(alloc);
+    let mut members = NameMap::new(alloc);
     put_member(alloc, &mut members, "rev", Json::Text(rev.text(alloc)?))?;
     Ok(Json::Object(members))
 }

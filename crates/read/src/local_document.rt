@@ -9,9 +9,8 @@ ghost use Rattle.read.specs.Answers.{AnswersValue};
 ghost use Rattle.read.specs.Local.{local_document, shown_local};
 
 use crate::fault::ReadFault;
-use couch_json::{Got, Json, JsonText, put_member};
+use couch_json::{Got, Json, JsonText, NameMap, put_member};
 use std::alloc::Global;
-use std::collections::BTreeMap;
 use store::{DbName, LocalDocument, Store};
 use tree::DocId;
 
@@ -47,11 +46,11 @@ fn show_local(alloc: Global, id: &DocId, document: LocalDocument) -> Got<JsonTex
 }
 
 /// Takes the members out of a body.
-fn take_members(alloc: Global, body: Json) -> BTreeMap<String, Json>
+fn take_members(alloc: Global, body: Json) -> NameMap<Json>
     ensures { members_view result.entries ≡ members_in (view body) }
 {
     match body {
         Json::Object(members) => members,
-        _ => BTreeMap::new(alloc),
+        _ => NameMap::new(alloc),
     }
 }

@@ -10,9 +10,8 @@ ghost use Rattle.read.specs.OpenRevisions.{asked_revisions, element, open_revisi
 
 use crate::fault::ReadFault;
 use crate::shown::{read_paths, read_shown};
-use couch_json::{ArrayText, Got, Json, JsonText, put_member};
+use couch_json::{ArrayText, Got, Json, JsonText, NameMap, put_member};
 use std::alloc::Global;
-use std::collections::BTreeMap;
 use store::{DbName, Store};
 use tree::{DocId, Outline, Rev};
 
@@ -109,7 +108,7 @@ fn build_element(alloc: Global, rev: &Rev, document: Option<Json>) -> Got<Json>
 fn label(alloc: Global, label: &str, value: Json) -> Got<Json>
     ensures { IfOk result (λ labelled. view labelled ≡ object (member label.now (view value) no_members)) }
 {
-    let mut members = BTreeMap::new(alloc);
+    let mut members = NameMap::new(alloc);
     put_member(alloc, &mut members, label, value)?;
     Ok(Json::Object(members))
 }

@@ -3,15 +3,14 @@ ghost use Rattle.couch_json.specs.Value.{text};
 ghost use Rattle.couch_json.specs.View.{view, members_view};
 ghost use Rattle.read.specs.Path.{revisions_of, with_paths};
 
-use couch_json::{Got, Json, Number, put_member};
+use couch_json::{Got, Json, NameMap, Number, put_member};
 use std::alloc::Global;
-use std::collections::BTreeMap;
 use tree::{Outline, Rev};
 
 /// Puts the path of a known revision into the members of its document, where the paths are given.
 pub(crate) fn put_revisions(
     alloc: Global,
-    members: &mut BTreeMap<String, Json>,
+    members: &mut NameMap<Json>,
     paths: &Option<Outline>,
     rev: &Rev,
 ) -> Got<()>
@@ -30,7 +29,7 @@ pub(crate) fn put_revisions(
 fn revisions(alloc: Global, rev: &Rev, path: &[Rev]) -> Got<Json>
     ensures { IfOk result (λ value. view value ≡ revisions_of rev.now path.now) }
 {
-    let mut members = BTreeMap::new(alloc);
+    let mut members = NameMap::new(alloc);
     put_member(
         alloc,
         &mut members,

@@ -10,10 +10,9 @@ ghost use Rattle.repl.specs.Joined.{after_commas};
 ghost use Rattle.repl.specs.Listed.{revisions_of};
 
 use crate::revisions::DocumentRevisions;
-use couch_json::{Got, Json, canon, put_member};
+use couch_json::{Got, Json, NameMap, canon, put_member};
 use form_urlencoded::Serializer;
 use std::alloc::Global;
-use std::collections::BTreeMap;
 
 /// Makes the query that opens revisions of a document.
 pub fn open_query(alloc: Global, revisions: &[String]) -> Got<String>
@@ -30,7 +29,7 @@ pub fn open_query(alloc: Global, revisions: &[String]) -> Got<String>
 pub fn compare_body(alloc: Global, listed: &[DocumentRevisions]) -> Got<Json>
     ensures { IfOk result (λ body. view body ≡ revisions_value (map revisions_of listed.now)) }
 {
-    let mut members = BTreeMap::new(alloc);
+    let mut members = NameMap::new(alloc);
     for document in listed {
         let revisions = list_texts(alloc, &document.revisions)?;
         put_member(alloc, &mut members, document.id.as_str(), revisions)?;

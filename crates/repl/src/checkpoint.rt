@@ -15,7 +15,7 @@ use crate::config::{Config, User};
 use crate::count::Count;
 use crate::element::{Shape, read_each};
 use crate::members::{count_at, put_text, text_at};
-use couch_json::{Got, Json, canon, put_member};
+use couch_json::{Got, Json, NameMap, canon, put_member};
 use md5::{Digest, Md5};
 use std::alloc::Global;
 use std::collections::BTreeMap;
@@ -190,7 +190,7 @@ pub fn next_checkpoint(
         ≡ next_checkpoint session.now sequence.value (map session_of older.now) (option_map string_bytes rev.now)) }
 {
     let history = Json::Array(next_history(alloc, session, sequence, older)?);
-    let mut members = BTreeMap::new(alloc);
+    let mut members = NameMap::new(alloc);
     put_member(alloc, &mut members, "history", history)?;
     put_text(alloc, &mut members, "session_id", session)?;
     put_member(alloc, &mut members, "source_last_seq", sequence.to_json())?;
@@ -199,11 +199,7 @@ pub fn next_checkpoint(
 }
 
 /// Puts the revision that is replaced, if there is one.
-fn put_revision(
-    alloc: Global,
-    members: &mut BTreeMap<String, Json>,
-    rev: &Option<String>,
-) -> Got<()>
+fn put_revision(alloc: Global, members: &mut NameMap<Json>, rev: &Option<String>) -> Got<()>
     ensures { OnOk result (members_view members.new.entries
         ≡ with_revision (option_map string_bytes rev.now) (members_view members.old.entries)) }
 {
@@ -268,7 +264,7 @@ fn push_others(
 fn session_value(alloc: Global, session: &str, sequence: Count) -> Got<Json>
     ensures { IfOk result (λ s. view s ≡ session_value (record { session = session.now; sequence = sequence.value })) }
 {
-    let mut members = BTreeMap::new(alloc);
+    let mut members = NameMap::new(alloc);
     put_member(alloc, &mut members, "recorded_seq", sequence.to_json())?;
     put_text(alloc, &mut members, "session_id", session)?;
     Ok(Json::Object(members))

@@ -6,9 +6,8 @@ ghost use Rattle.couch_json.specs.View.{members_view, view};
 ghost use Rattle.repl.specs.Shapes.{count_at, text_at};
 
 use crate::count::Count;
-use couch_json::{Got, Json, put_member};
+use couch_json::{Got, Json, NameMap, put_member};
 use std::alloc::Global;
-use std::collections::BTreeMap;
 
 /// Returns the text of a member, if it is one.
 pub fn text_at<'a>(value: &'a Json, name: &str) -> Option<&'a str>
@@ -31,12 +30,7 @@ pub fn count_at(value: &Json, name: &str) -> Option<Count>
 }
 
 /// Puts a text at a name into the members of an object.
-pub fn put_text(
-    alloc: Global,
-    members: &mut BTreeMap<String, Json>,
-    name: &str,
-    text: &str,
-) -> Got<()>
+pub fn put_text(alloc: Global, members: &mut NameMap<Json>, name: &str, text: &str) -> Got<()>
     ensures { OnOk result (members_view members.new.entries
         ≡ put name.now (text_value text.now) (members_view members.old.entries)) }
 {

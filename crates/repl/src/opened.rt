@@ -13,9 +13,9 @@ use crate::replies::value_in;
 use crate::revisions::DocumentRevisions;
 use crate::shapes::texts_at;
 use crate::why::Why;
-use couch_json::{Got, Json};
+use couch_json::{Got, Json, NameMap};
 use std::alloc::Global;
-use std::collections::{BTreeMap, VecDeque};
+use std::collections::VecDeque;
 
 /// A revision that was opened.
 #[derive(Drop)]
@@ -71,10 +71,10 @@ fn has_missing_lists(alloc: Global, value: &Json) -> Got<bool>
 }
 
 /// Tells whether each member has a list of missing revisions.
-fn are_missing_lists(alloc: Global, members: &BTreeMap<String, Json>) -> Got<bool>
+fn are_missing_lists(alloc: Global, members: &NameMap<Json>) -> Got<bool>
     ensures { IfOk result (λ lists. lists ≡ are_missing_lists (members_view members.now.entries)) }
 {
-    for (_id, value) in members.iter() {
+    for (_id, value) in members.as_slice() {
         if texts_at(alloc, value, "missing")?.is_none() {
             return Ok(false);
         }
@@ -214,7 +214,7 @@ fn lost_in(alloc: Global, value: &Json) -> Got<Option<OpenedRevision>>
 pub fn missing_report(alloc: Global, id: &str, revision: &str) -> Got<Json>
     ensures { IfOk result (λ report. view report ≡ missing_report id.now revision.now) }
 {
-    let mut members = BTreeMap::new(alloc);
+    let mut members = NameMap::new(alloc);
     put_text(alloc, &mut members, "error", "missing")?;
     put_text(alloc, &mut members, "id", id)?;
     put_text(alloc, &mut members, "reason", "missing")?;

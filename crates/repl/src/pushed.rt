@@ -12,9 +12,8 @@ use crate::members::{put_text, text_at};
 use crate::replies::value_in;
 use crate::shapes::{label_at, rule_in};
 use crate::why::Why;
-use couch_json::{Got, Json, put_member};
+use couch_json::{Got, Json, NameMap, put_member};
 use std::alloc::Global;
-use std::collections::BTreeMap;
 
 /// Reads the reply to a push: what is reported of the failures, in order.
 pub fn documents_pushed(alloc: Global, status: u16, body: &[u8]) -> Got<Result<Vec<Json>, Why>>
@@ -83,7 +82,7 @@ fn failure_report(
     ensures { IfOk result (λ report. view report
         ≡ failure_report error.now (option_copied id.entry) reason.now (option_copied rev.entry) (option_copied rule.entry)) }
 {
-    let mut members = BTreeMap::new(alloc);
+    let mut members = NameMap::new(alloc);
     put_text(alloc, &mut members, "error", error)?;
     put_label(alloc, &mut members, "id", id)?;
     put_text(alloc, &mut members, "reason", reason)?;
@@ -93,12 +92,7 @@ fn failure_report(
 }
 
 /// Puts a text at a name, and null where there is none.
-fn put_label(
-    alloc: Global,
-    members: &mut BTreeMap<String, Json>,
-    name: &str,
-    label: Option<&str>,
-) -> Got<()>
+fn put_label(alloc: Global, members: &mut NameMap<Json>, name: &str, label: Option<&str>) -> Got<()>
     ensures { OnOk result (members_view members.new.entries
         ≡ put name.now (label_value (option_copied label.entry)) (members_view members.old.entries)) }
 {
@@ -109,7 +103,7 @@ fn put_label(
 }
 
 /// Puts the rule, if there is one.
-fn put_rule(alloc: Global, members: &mut BTreeMap<String, Json>, rule: Option<&str>) -> Got<()>
+fn put_rule(alloc: Global, members: &mut NameMap<Json>, rule: Option<&str>) -> Got<()>
     ensures { OnOk result (members_view members.new.entries
         ≡ with_rule (option_copied rule.entry) (members_view members.old.entries)) }
 {

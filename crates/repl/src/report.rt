@@ -3,9 +3,8 @@ ghost use Rattle.couch_json.specs.Value.{whole as whole_value};
 ghost use Rattle.couch_json.specs.View.{view};
 
 use crate::count::Count;
-use couch_json::{Got, Json, Number, canon, put_member};
+use couch_json::{Got, Json, NameMap, Number, canon, put_member};
 use std::alloc::Global;
-use std::collections::BTreeMap;
 
 /// Says what a pass did.
 #[derive(Debug)]
@@ -69,7 +68,7 @@ impl Report {
         ensures { IfOk result (λ v. view v ≡ summary_value (report_of self.now)) }
     {
         let refused = Json::Array(copy_values(alloc, &self.refused)?);
-        let mut members = BTreeMap::new(alloc);
+        let mut members = NameMap::new(alloc);
         put_member(alloc, &mut members, "last_seq", whole(self.last_seq))?;
         put_member(alloc, &mut members, "refused", refused)?;
         put_member(alloc, &mut members, "sent", whole(self.sent))?;

@@ -9,9 +9,8 @@ use crate::fault::SelectorFault;
 use crate::operator::{Operator, operator_named};
 use crate::selector::{BareValue, Condition, Field, Selector};
 use crate::takes::takes;
-use couch_json::{FieldPath, Json, PathFault};
+use couch_json::{FieldPath, Json, NameMap, PathFault};
 use std::alloc::Global;
-use std::collections::BTreeMap;
 
 /// How many selector objects may nest.
 const MAX_LEVEL: usize = 32;
@@ -43,7 +42,7 @@ pub(crate) fn parse_selector(
 #[cycle(parse)]
 fn parse_members(
     alloc: Global,
-    members: &BTreeMap<String, Json>,
+    members: &NameMap<Json>,
     in_rule: bool,
     level: usize,
 ) -> Result<Vec<Condition>, SelectorFault>
@@ -54,7 +53,7 @@ fn parse_members(
         → members_fault in_rule (members_view members.now.entries) level ≡ Some e) }
 {
     let mut conditions = Vec::new(alloc);
-    for (name, value) in members.iter() {
+    for (name, value) in members.as_slice() {
         conditions.push(parse_member(alloc, name, value, in_rule, level)?)?;
     }
     Ok(conditions)

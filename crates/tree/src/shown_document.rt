@@ -6,9 +6,8 @@ ghost use Rattle.tree.specs.ShownDocument.{members_in, shown_document, shown_mem
 
 use crate::document_id::DocId;
 use crate::revision::Rev;
-use couch_json::{Got, Json, put_member};
+use couch_json::{Got, Json, NameMap, put_member};
 use std::alloc::Global;
-use std::collections::BTreeMap;
 
 /// Shows a revision as a document: its body with `_id`, `_rev`, and `_deleted` where it is deleted.
 ///
@@ -26,7 +25,7 @@ pub fn show_members(
     rev: &Rev,
     deleted: bool,
     body: &Json,
-) -> Got<BTreeMap<String, Json>>
+) -> Got<NameMap<Json>>
     ensures { IfOk result (λ members. members_view members.entries
         ≡ shown_members id.now rev.now (record { deleted = deleted; body = view body.now })) }
 {
@@ -41,11 +40,11 @@ pub fn show_members(
 }
 
 /// Copies the members of a body.
-fn members_of(alloc: Global, body: &Json) -> Got<BTreeMap<String, Json>>
+fn members_of(alloc: Global, body: &Json) -> Got<NameMap<Json>>
     ensures { IfOk result (λ members. members_view members.entries ≡ members_in (view body.now)) }
 {
     match body.copy(alloc)? {
         Json::Object(members) => Ok(members),
-        _ => Ok(BTreeMap::new(alloc)),
+        _ => Ok(NameMap::new(alloc)),
     }
 }

@@ -1,11 +1,10 @@
 use crate::security::security_of;
 use crate::texts::{canonical, edit_of, first_word, say, text_of, value_of};
 use crate::users::Users;
-use couch_json::Json;
+use couch_json::{Json, NameMap};
 use policy::{RuleSet, argument, check_design, show_new};
 use rows::{Kind, RowsFault};
 use std::alloc::Global;
-use std::collections::BTreeMap;
 use tree::{DocId, IdFault, Rev, show};
 
 /// The design documents of one database a table, none at its start.
@@ -30,7 +29,7 @@ impl Rules {
         Rules {
             alloc,
             users: Users::new(alloc),
-            security: Json::Object(BTreeMap::new(alloc)),
+            security: Json::Object(NameMap::new(alloc)),
             documents: Vec::new(alloc),
         }
     }

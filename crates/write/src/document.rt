@@ -4,10 +4,9 @@ ghost use Rattle.std.specs.Prelude.{◌≡◌, IfOk, option_map, string_bytes};
 ghost use Rattle.couch_json.specs.View.{view, members_view};
 ghost use Rattle.write.specs.Document.{are_allowed, body_for, body_in, fits_id, id_if, id_in, is_allowed, is_body_for, is_document_member, is_special, mark_in, member_text, revision_in, sent_in, without_special, words_in};
 
-use couch_json::{Got, Json, NoMemory};
+use couch_json::{Got, Json, NameMap, NoMemory};
 use policy::check_design;
 use std::alloc::Global;
-use std::collections::BTreeMap;
 use tree::{Body, DocId, IdFault, Rev};
 
 /// The most that a body may nest.
@@ -95,10 +94,10 @@ fn strip(alloc: Global, document: Json) -> Option<Json>
     Some(body)
 }
 
-fn are_allowed(members: &BTreeMap<String, Json>) -> bool
+fn are_allowed(members: &NameMap<Json>) -> bool
     ensures { result ≡ are_allowed (members_view members.now.entries) }
 {
-    for (name, _value) in members.iter() {
+    for (name, _value) in members.as_slice() {
         if !is_allowed(name) {
             return false;
         }
@@ -126,24 +125,21 @@ fn is_document_member(name: &str) -> bool
 }
 
 /// Returns the members that are not special.
-pub(crate) fn without_special(
-    alloc: Global,
-    members: BTreeMap<String, Json>,
-) -> BTreeMap<String, Json>
+pub(crate) fn without_special(alloc: Global, members: NameMap<Json>) -> NameMap<Json>
     ensures { members_view result.entries ≡ without_special (members_view members.entries) }
 {
     let mut members = members;
-    members.retain(|name, _value| !is_special(name));
+    members.retain(|(name, _value)| !is_special(name));
     without_room(alloc, members)
 }
 
 /// Returns the same members. Where there are none they take no memory: a map keeps its room when the
 /// last member goes.
-fn without_room(alloc: Global, members: BTreeMap<String, Json>) -> BTreeMap<String, Json>
+fn without_room(alloc: Global, members: NameMap<Json>) -> NameMap<Json>
     ensures { result.entries ≡ members.entries }
 {
     if members.is_empty() {
-        BTreeMap::new(alloc)
+        NameMap::new(alloc)
     } else {
         members
     }

@@ -26,9 +26,8 @@ use crate::planned::Planned;
 use crate::planning::{Label, plan_alone};
 use crate::terms::{Terms, read_terms};
 use auth::Caller;
-use couch_json::{FieldPath, Got, Json, collate, put_member};
+use couch_json::{FieldPath, Got, Json, NameMap, collate, put_member};
 use std::alloc::Global;
-use std::collections::BTreeMap;
 use store::{DbName, Store, Write, find_index, take_held};
 use tree::{DocId, Entry, MarkedRev, Rev};
 
@@ -171,7 +170,7 @@ fn build_index(alloc: Global, fields: &[FieldPath]) -> Got<Json>
     ensures { IfOk result (λ index. view index ≡ index_value fields.now) }
 {
     let texts = list_texts(alloc, fields)?;
-    let mut members = BTreeMap::new(alloc);
+    let mut members = NameMap::new(alloc);
     put_member(alloc, &mut members, "fields", Json::Array(texts))?;
     Ok(Json::Object(members))
 }
@@ -200,7 +199,7 @@ fn build_document(alloc: Global, body: Option<Json>, name: &str, index: Json) ->
 
 /// Takes out the members of the value of `indexes`, if there is one that is an object. Null stands there
 /// then.
-fn take_indexes(alloc: Global, members: &mut BTreeMap<String, Json>) -> Got<BTreeMap<String, Json>>
+fn take_indexes(alloc: Global, members: &mut NameMap<Json>) -> Got<NameMap<Json>>
     ensures value { IfOk result (λ indexes. members_view indexes.entries ≡ members_if (member_at (codes "indexes") (members_view members.old.entries))) }
     ensures null { OnOk result (members_view members.new.entries ≡ put (codes "indexes") null (members_view members.old.entries)) }
 {
@@ -210,11 +209,11 @@ fn take_indexes(alloc: Global, members: &mut BTreeMap<String, Json>) -> Got<BTre
 }
 
 /// Returns the members of a value, or none where there is no value or it is no object.
-fn into_members(alloc: Global, value: Option<Json>) -> BTreeMap<String, Json>
+fn into_members(alloc: Global, value: Option<Json>) -> NameMap<Json>
     ensures { members_view result.entries ≡ members_if (option_map view value) }
 {
     match value {
         Some(Json::Object(members)) => members,
-        _ => BTreeMap::new(alloc),
+        _ => NameMap::new(alloc),
     }
 }

@@ -13,9 +13,8 @@ ghost use Rattle.write.specs.Refusing.{IsDecided, IsOfStoreOrMemory, IsOwn, Refu
 use crate::document::{MAX_BODY_DEPTH, fits_id, is_special, without_special};
 use crate::fault::WriteFault;
 use crate::planned::{Changes, Planned};
-use couch_json::{Got, Json};
+use couch_json::{Got, Json, NameMap};
 use std::alloc::Global;
-use std::collections::BTreeMap;
 use store::{DbName, LocalDocument, Store};
 use tree::{Body, DocId};
 
@@ -142,10 +141,10 @@ fn strip_local(alloc: Global, document: Json) -> Option<Json>
     Some(body)
 }
 
-fn are_local_allowed(members: &BTreeMap<String, Json>) -> bool
+fn are_local_allowed(members: &NameMap<Json>) -> bool
     ensures { result ≡ are_local_allowed (members_view members.now.entries) }
 {
-    for (name, _value) in members.iter() {
+    for (name, _value) in members.as_slice() {
         if !is_local_allowed(name) {
             return false;
         }

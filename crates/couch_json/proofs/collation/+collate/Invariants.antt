@@ -11,4 +11,4 @@ invariant-collate_items-loop-item l =
 abbrev pub invariant-collate_members-loop-name : goal.invariant-collate_members-loop-name
 invariant-collate_members-loop-name l =
     members_collation (members_view l.left.entries) (members_view l.right.entries)
-    ≡ members_collation (members_view l.name-iterator) (members_view l.others)
+    ≡ members_collation (members_view (drop l.name-index l.name-items)) (members_view l.others.rest.now)

@@ -11,6 +11,6 @@ invariant-items_within-loop-item l = record {
 
 abbrev pub invariant-members_within-loop-name : goal.invariant-members_within-loop-name
 invariant-members_within-loop-name l = record {
-  more : members_depth (members_view l._name-iterator) ≤ members_depth (members_view l.members.entries);
-  enough : members_depth (members_view l._name-iterator) ≤ l.limit → members_depth (members_view l.members.entries) ≤ l.limit;
+  more : members_depth (members_view (drop l._name-index l._name-items)) ≤ members_depth (members_view l.members.entries);
+  enough : members_depth (members_view (drop l._name-index l._name-items)) ≤ l.limit → members_depth (members_view l.members.entries) ≤ l.limit;
 }

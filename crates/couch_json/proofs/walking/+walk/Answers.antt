@@ -1,5 +1,11 @@
+use Rattle.std.proofs.Common.{arith}
+use Rattle.couch_json.proofs.Depths.{entry_below}
 use Rattle.couch_json.proofs.Objects.{ascending}
+use Rattle.couch_json.proofs.value.Json.TheLaws.{the_size}
 use Rattle.couch_json.proofs.walking.+walk.Goals as goal
 
 pub walk_members-returns-clause-names : goal.walk_members-returns-clause-names
-walk_members-returns-clause-names t c = ascending c.args.members.now.entries c.iter-name-items.ensures.ordered
+walk_members-returns-clause-names t c = ascending c.args.members.now.entries c.as_slice-name-items.ensures.ordered
+
+pub walk_members-walk_value-requires : goal.walk_members-walk_value-requires
+walk_members-walk_value-requires t c = (omega (arith, c.decreases, entry_below the_size _ _ _ _ c.as_slice-name-items.ensures.entries c.loop-name-test.true c.loop-name-item.is), tt)

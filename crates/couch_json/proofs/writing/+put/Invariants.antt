@@ -13,7 +13,7 @@ invariant-put_items-loop-item l = record {
 
 abbrev pub invariant-put_members-loop-name : goal.invariant-put_members-loop-name
 invariant-put_members-loop-name l = record {
-  written : l.out.tokens ++ object_tokens (members_view l.name-iterator) ≡ l.initial.out.tokens ++ object_tokens (members_view l.members.entries);
+  written : l.out.tokens ++ object_tokens (members_view (drop l.name-index l.name-items)) ≡ l.initial.out.tokens ++ object_tokens (members_view l.members.entries);
   before : l.out.before ≡ l.initial.out.before;
-  lawful : AreLawfulMembers (members_view l.name-iterator) → AreLawfulMembers (members_view l.members.entries);
+  lawful : AreLawfulMembers (members_view (drop l.name-index l.name-items)) → AreLawfulMembers (members_view l.members.entries);
 }

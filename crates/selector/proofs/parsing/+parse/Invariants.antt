@@ -6,8 +6,8 @@ use Rattle.selector.proofs.parsing.+parse.Given as goal
 
 abbrev pub invariant-parse_members-loop-name : goal.invariant-parse_members-loop-name
 invariant-parse_members-loop-name l = record {
-  members : members_then l.conditions.items (members_view l.name-iterator) ≡ members_view l.members.entries;
-  fault : members_fault l.in_rule (members_view l.members.entries) l.level ≡ members_fault l.in_rule (members_view l.name-iterator) l.level;
+  members : members_then l.conditions.items (members_view (drop l.name-index l.name-items)) ≡ members_view l.members.entries;
+  fault : members_fault l.in_rule (members_view l.members.entries) l.level ≡ members_fault l.in_rule (members_view (drop l.name-index l.name-items)) l.level;
 }
 
 abbrev pub invariant-parse_items-loop-item : goal.invariant-parse_items-loop-item

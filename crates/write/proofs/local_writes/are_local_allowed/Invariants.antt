@@ -1,7 +1,7 @@
-use Rattle.std.proofs.Common.{◌≡◌}
+use Rattle.std.proofs.Common.{◌≡◌, drop}
 use Rattle.couch_json.specs.View.{members_view}
 use Rattle.write.specs.LocalWrites.{are_local_allowed}
 use Rattle.write.proofs.local_writes.are_local_allowed.Given as goal
 
 abbrev pub invariant-loop-name : goal.invariant-loop-name
-invariant-loop-name l = are_local_allowed (members_view l.name-iterator) ≡ are_local_allowed (members_view l.members.entries)
+invariant-loop-name l = are_local_allowed (members_view (drop l.name-index l.name-items)) ≡ are_local_allowed (members_view l.members.entries)

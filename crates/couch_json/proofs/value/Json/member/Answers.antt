@@ -8,5 +8,5 @@ pub returns-in-Object : goal.returns-in-Object
 returns-in-Object c =
     let name = c.args.name.now in
     let members = c.in-Object.members in
-    view_of_reference c.get.result ∙ ap (option_map view) c.get.ensures.value ∙ view-lookup name members.entries
+    view_of_reference c.get.result ∙ ap (option_map view) c.get.ensures ∙ view-lookup name members.entries
     ∙ sym (ap (λ v. member_of (view v) name) c.in-Object.is ∙ ap (λ v. member_of v name) (view-Object members))
