@@ -3,6 +3,8 @@ pub mod Items
 pub mod Objects
 pub mod Texts
 pub mod Readings
+pub mod Turns
+pub mod TokensRead
 pub mod ReadingBack
 pub mod Said
 pub mod Words

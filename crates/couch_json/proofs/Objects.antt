@@ -8,8 +8,6 @@ use Rattle.std.specs.Map.{keys_of, lookup}
 use Rattle.std.specs.Ordering.{match_ordering, ordering_reverse}
 use Rattle.std.specs.BTreeMap.{insert_entry, is_at}
 use Rattle.name_map.specs.Seen.{NameMap}
-use Rattle.serde_json.specs.Data as serde
-use Rattle.couch_json.specs.Reading.{value_of, members_of_data}
 use Rattle.couch_json.specs.Value.{Value, Members, no_members, member, put, put_all, member_at, object}
 use Rattle.couch_json.specs.Lawful.{IsBefore, HasAscendingNames}
 use Rattle.couch_json.specs.View.{view, members_view}
@@ -75,13 +73,6 @@ put_all_onto (member name v ms) done h =
 -- ascending members, put one after another, are those members
 pub put_all-no_members : (ms : Members) → HasAscendingNames ms → put_all ms no_members ≡ ms
 put_all-no_members ms h = put_all_onto ms no_members h
-
--- ---- members that serde_json read
-
--- one more member that has a value
-pub next_member : (es fs : List Entry) (name : String Global) (d : serde.Data) (ds : serde.Members) (v : Json) → value_of d ≡ Some (view v) → fs ≡ insert_entry string_cmp es name v
-    → members_of_data (serde.member (string_bytes name) d ds) (members_view es) ≡ members_of_data ds (members_view fs)
-next_member es fs name d ds v is inserted = rw (is, inserted, members_view-insert_entry)
 
 -- ---- a member by its name
 

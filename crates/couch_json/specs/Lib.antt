@@ -8,6 +8,7 @@ pub mod Collation
 pub mod View
 pub mod Nesting
 pub mod Reading
+pub mod Parsing
 pub mod Written
 pub mod Said
 pub mod FieldPath

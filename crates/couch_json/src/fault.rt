@@ -1,4 +1,5 @@
 use crate::no_memory::NoMemory;
+use json::Invalid;
 use std::alloc::{AllocError, AllocFailed};
 use thiserror::Error;
 
@@ -50,5 +51,16 @@ impl<T: Drop> From<AllocFailed<T>> for JsonFault {
 
     fn from(_failed: AllocFailed<T>) -> JsonFault {
         JsonFault::Memory
+    }
+}
+
+impl From<Invalid> for JsonFault {
+    ghost use Rattle.std.specs.Prelude.{◌≡◌};
+    ghost use Rattle.couch_json.specs.declared.fault.JsonFault.TheVariants.{Syntax};
+
+    ghost from_gives = { λ _ fault. fault ≡ Syntax };
+
+    fn from(_invalid: Invalid) -> JsonFault {
+        JsonFault::Syntax
     }
 }

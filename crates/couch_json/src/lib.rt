@@ -10,7 +10,6 @@
 
 mod array_text;
 mod collation;
-mod converting;
 mod copying;
 mod fault;
 mod field_path;
@@ -25,7 +24,9 @@ mod nested;
 mod nesting;
 mod no_memory;
 mod number;
+mod numeral;
 mod object_text;
+mod parsing;
 mod reading;
 mod value;
 mod walking;

@@ -1,15 +1,16 @@
-ghost use Rattle.std.specs.Prelude.{◌≡◌, ◌≢◌, IfOk, IfErr, Some, None, Ok, Err};
-ghost use Rattle.serde_json.specs.View.{view as data_view};
-ghost use Rattle.couch_json.specs.Reading.{reading, data_read};
+ghost use Rattle.std.specs.Prelude.{◌≡◌, ◌≢◌, option_map, IfOk, IfErr, Some, None, Ok, Err};
+ghost use Rattle.couch_json.specs.Reading.{reading, data_read, value_of};
 ghost use Rattle.couch_json.specs.View.{view};
 
-use crate::converting::convert;
 use crate::fault::JsonFault;
 use crate::nesting::check_nesting;
+use crate::parsing::read_value;
 use crate::value::Json;
-use serde_json::Value;
-use serde_json::error::Category;
+use json::{Reader, Scratch};
 use std::alloc::Global;
+
+/// How deep a value may nest by serde_json's own limit.
+const MAX_DEPTH: usize = 127;
 
 /// Reads the value that the bytes have as a JSON text, or the first fault that applies:
 ///
@@ -27,20 +28,28 @@ pub fn read(alloc: Global, bytes: &[u8]) -> Result<Json, JsonFault>
     if check_nesting(bytes) {
         return Err(JsonFault::Depth);
     }
-    convert(alloc, parse(alloc, bytes)?)
+    match read_whole(alloc, bytes)? {
+        Some(value) => Ok(value),
+        None => Err(JsonFault::Number),
+    }
 }
 
-/// Reads what serde_json reads: `Syntax` if and only if it reads nothing.
-fn parse(alloc: Global, bytes: &[u8]) -> Result<Value, JsonFault>
-    ensures value { IfOk result (λ v. data_read bytes.now ≡ Some (data_view v)) }
+/// Reads all of the bytes as one value. `None` says that they were read, and that a number of the value
+/// is not whole or out of range.
+fn read_whole(alloc: Global, bytes: &[u8]) -> Result<Option<Json>, JsonFault>
+    ensures read { IfOk result (λ found. option_map value_of (data_read bytes.now)
+        ≡ Some (option_map view found)) }
     ensures fault { IfErr result (λ e. e ≢ JsonFault.Memory
         → (e ≡ JsonFault.Syntax) × (data_read bytes.now ≡ None)) }
 {
-    match Value::from_slice(alloc, bytes) {
-        Ok(value) => Ok(value),
-        Err(error) => match error.classify() {
-            Category::Memory => Err(JsonFault::Memory),
-            _ => Err(JsonFault::Syntax),
-        },
+    let Ok(text) = str::from_utf8(bytes) else {
+        return Err(JsonFault::Syntax);
+    };
+    let mut scratch = Scratch::new(alloc);
+    let mut reader = Reader::new(text, &mut scratch)?;
+    let found = read_value(alloc, &mut reader, MAX_DEPTH)?;
+    match reader.next() {
+        Some(_) => Err(JsonFault::Syntax),
+        None => Ok(found),
     }
 }
