@@ -1,7 +1,7 @@
 //! Several documents that are written together.
 
 ghost use Rattle.std.specs.FinMap as map;
-ghost use Rattle.std.specs.Prelude.{◌≡◌, ◌≢◌, ◌++◌, ◌<◌, [], All, IfOk, IfErr, IfSome, OnErr, OnOk, Ok, Err, Some, is_some, true, length, map as list_map, option_map};
+ghost use Rattle.std.specs.Prelude.{◌≡◌, ◌≢◌, ◌++◌, ◌<◌, [], All, IfOk, IfErr, IfSome, OnErr, OnOk, Ok, Err, Some, None, is_some, true, length, map as list_map, option_map};
 ghost use Rattle.std.specs.Option.{option_to_list};
 ghost use Rattle.store.specs.Calls.{OnlyReads};
 ghost use Rattle.store.specs.Contents.{IfThere};

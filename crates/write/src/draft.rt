@@ -41,7 +41,7 @@ pub(crate) enum Request {
     Forbidden(Rule),
 }
 
-/// Reads a document of several, of a replicated one also its path. It asks for no history.
+/// Reads a document of several; of a replicated one it makes the path too. It asks for no history.
 pub(crate) fn read_draft(
     alloc: Global,
     terms: &Terms,
