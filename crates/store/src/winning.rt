@@ -41,6 +41,6 @@ pub fn read_winning<S: Store>(
 pub fn take_held(known: Option<Entry>) -> Option<(bool, Json)>
     ensures { option_map (λ h. record { deleted = h.0; body = view h.1 }) result ≡ option_and_then (λ e. e.held) known }
 {
-    let held = known?.held?;
+    let held = known?.into_held()?;
     Some((held.deleted, held.body.into_json()))
 }

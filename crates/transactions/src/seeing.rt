@@ -41,10 +41,7 @@ pub fn first_revision(alloc: Global, rows: &[Row]) -> Result<Option<Entry>, Stor
                 parent,
                 held,
             },
-        ) => Ok(Some(Entry {
-            parent,
-            held: hold(held),
-        })),
+        ) => Ok(Some(Entry::new(alloc, parent, hold(held))?)),
         Err(RowFault::Memory) => Err(StoreFault::Memory),
         Err(RowFault::Damaged) => Err(StoreFault::Damaged),
     }

@@ -1,10 +1,12 @@
 ghost use Rattle.std.specs.Prelude.{◌≡◌, IfOk};
+ghost use Rattle.couch_json.specs.View.{view};
 ghost use Rattle.tree.specs.History.{is_marked, same_parent};
 ghost use Rattle.tree.specs.Outline.{bare, held_bare};
 
 use crate::body::Body;
 use crate::revision::Rev;
 use couch_json::{Got, Json};
+use sqlite_items::Boxed;
 use std::alloc::Global;
 
 /// What a write brought for the revision that it made.
@@ -21,11 +23,20 @@ pub struct Held {
 pub struct Entry {
     /// The revision before it, or `None` at a root.
     pub parent: Option<Rev>,
-    /// What its write brought, or `None` where it only came inside a path.
-    pub held: Option<Held>,
+    /// What its write brought, or `None` where it only came inside a path. Most of a long path came
+    /// so: a box keeps their entries small.
+    pub held: Option<Boxed<Held>>,
 }
 
 impl Held {
+    /// Makes what a write with this mark and this body brought, in a box.
+    pub(crate) fn boxed(alloc: Global, deleted: bool, body: &Json) -> Got<Boxed<Held>>
+        ensures { IfOk result (λ held. held ≡ record { deleted = deleted; body = view body.now }) }
+    {
+        let body = Body::new(body.copy(alloc)?);
+        Ok(Boxed::new(alloc, Held { deleted, body })?)
+    }
+
     /// Makes an equal one of its own.
     pub fn copy(&self, alloc: Global) -> Got<Held>
         ensures { IfOk result (λ held. held ≡ self.now) }
@@ -48,32 +59,45 @@ impl Held {
 }
 
 impl Entry {
+    /// Makes what is known of a revision with this parent, of which this is held.
+    pub fn new(alloc: Global, parent: Option<Rev>, held: Option<Held>) -> Got<Entry>
+        ensures { IfOk result (λ entry. entry ≡ record { parent = parent; held = held }) }
+    {
+        let held = match held {
+            Some(held) => Some(Boxed::new(alloc, held)?),
+            None => None,
+        };
+        Ok(Entry { parent, held })
+    }
+
+    /// Returns what is held, taken out.
+    pub fn into_held(self) -> Option<Held>
+        ensures { result ≡ self.held }
+    {
+        let held = self.held?;
+        Some(held.into_inner())
+    }
+
     /// Makes an equal one of its own.
     pub fn copy(&self, alloc: Global) -> Got<Entry>
         ensures { IfOk result (λ entry. entry ≡ self.now) }
     {
         let held = match &self.held {
-            Some(held) => Some(held.copy(alloc)?),
+            Some(held) => Some(held.get().copy(alloc)?),
             None => None,
         };
-        Ok(Entry {
-            parent: self.parent,
-            held,
-        })
+        Entry::new(alloc, self.parent, held)
     }
 
     /// Makes one with the same parent and the same mark, and null for the body.
-    pub(crate) fn without_body(&self) -> Entry
-        ensures { result ≡ bare self.now }
+    pub(crate) fn without_body(&self, alloc: Global) -> Got<Entry>
+        ensures { IfOk result (λ entry. entry ≡ bare self.now) }
     {
         let held = match &self.held {
-            Some(held) => Some(held.without_body()),
+            Some(held) => Some(held.get().without_body()),
             None => None,
         };
-        Entry {
-            parent: self.parent,
-            held,
-        }
+        Entry::new(alloc, self.parent, held)
     }
 
     /// Tells whether it is deleted, or not, as the mark says.
@@ -81,7 +105,7 @@ impl Entry {
         ensures { result ≡ is_marked deleted self.now.held }
     {
         match &self.held {
-            Some(held) => held.deleted == deleted,
+            Some(held) => held.get().deleted == deleted,
             None => !deleted,
         }
     }

@@ -89,7 +89,7 @@ impl History {
     {
         let mut copy = History::new(self.alloc);
         for (rev, entry) in self.nodes().iter() {
-            copy.put_entry(*rev, entry.without_body())?;
+            copy.put_entry(*rev, entry.without_body(self.alloc)?)?;
         }
         Ok(copy)
     }
@@ -133,8 +133,7 @@ impl History {
         ensures err { OnErr result (self.new ≡ self.old) }
     {
         let alloc = self.alloc;
-        let body = Body::new(body.copy(alloc)?);
-        let held = Held { deleted, body };
+        let held = Held::boxed(alloc, deleted, body)?;
         let parent = self.known_parent(parent);
         nodes::put_path(
             alloc,
@@ -169,7 +168,8 @@ impl History {
             }),
             None => None,
         };
-        self.put_entry(rev, Entry { parent, held })
+        let entry = Entry::new(self.alloc, parent, held)?;
+        self.put_entry(rev, entry)
     }
 
     /// Returns the winning leaf, if anything was written: one that is not deleted before one that is, then
@@ -216,7 +216,7 @@ impl History {
         ensures { MatchOption result (held_of self.now rev.now ≡ None)
             (λ held. held_of self.now rev.now ≡ Some (record { deleted = held.0; body = view held.1.now })) }
     {
-        let held = self.entry(rev)?.held.as_ref()?;
+        let held = self.entry(rev)?.held.as_ref()?.get();
         Some((held.deleted, held.body.json()))
     }
 

@@ -14,6 +14,7 @@ use crate::entry::{Entry, Held};
 use crate::marked_leaves::MarkedLeaves;
 use crate::revision::Rev;
 use couch_json::{Got, NoMemory};
+use sqlite_items::Boxed;
 use std::alloc::Global;
 use std::collections::{BTreeMap, BTreeSet};
 
@@ -26,7 +27,7 @@ pub(crate) fn put_path(
     awaited: &mut BTreeSet<Rev>,
     path: &[Rev],
     parent: Option<Rev>,
-    held: Held,
+    held: Boxed<Held>,
 ) -> Got<()>
     requires kept { AreKept nodes.old.entries leaves.old awaited.old.keys }
     ensures ok { OnOk result (nodes.new.entries ≡ nodes_with nodes.old.entries (entries_before (Some held) path.now parent)) }
@@ -50,7 +51,7 @@ fn put_nodes(
     awaited: &mut BTreeSet<Rev>,
     path: &[Rev],
     parent: Option<Rev>,
-    held: Held,
+    held: Boxed<Held>,
     came_in: &mut Vec<bool>,
 ) -> Got<()>
     requires kept { AreKept nodes.old.entries leaves.old awaited.old.keys }

@@ -14,11 +14,13 @@ use Rattle.store.specs.Writing.{addition_of, written_in}
 use Rattle.store.specs.declared.write.Write.{Write}
 use Rattle.write.specs.Admission.{history_with}
 use Rattle.write.specs.Bulk.{DocumentOutcome, Histories, after, document_outcome, outcome_by_id, with_write_in}
+use Rattle.write.specs.Drafts.{request_outcome}
 use Rattle.write.specs.BulkResults.{AgreeAt, brought, held_or, seen_in, with_history}
 use Rattle.write.specs.Document.{id_if, id_in, is_bulk_id, is_same_text, member_text}
 use Rattle.write.specs.Repeats.{IsKept, is_named, is_named_if_any}
-use Rattle.write.proofs.Names.{judged-named}
 use Rattle.write.specs.Terms.{Terms}
+use Rattle.write.specs.declared.draft.Request.{Request}
+use Rattle.write.proofs.Names.{request-named}
 
 or_cond : (b : Bool) (stored h : HistoryContent) (o : Option HistoryContent) → held_or stored (cond b (Some h) o) ≡ cond b h (held_or stored o)
 or_cond true stored h o = refl
@@ -95,20 +97,20 @@ pub brought_at : (old : Histories) (id : List ℕ) (h : HistoryContent) (w : Opt
 brought_at old id h None is own = refl
 brought_at old id h (Some w) is own = ap (λ (g : HistoryContent). Some (written_in g (addition_of w))) (is ∙ ap old (sym (own (written_in h (addition_of w)) refl)))
 
-pub judged_seen : (terms : Terms) (new_edits : Bool) (old : Histories) (id : List ℕ) (h : HistoryContent) (document : Value) (w : Option Write) → h ≡ old id
-    → document_outcome terms new_edits id h document ≡ Ok (option_map (λ (x : Write). written_in h (addition_of x)) w)
-    → document_outcome terms new_edits id (old id) document ≡ Ok (option_map (brought old) w)
-judged_seen terms new_edits old id h document w is became =
-    ap (λ g. document_outcome terms new_edits id g document) (sym is) ∙ became
-    ∙ ap Ok (brought_at old id h w is (λ v e. judged-named terms new_edits id h document v (became ∙ ap Ok e)))
+pub judged_seen : (terms : Terms) (old : Histories) (id : List ℕ) (h : HistoryContent) (request : Request) (w : Option Write) → h ≡ old id
+    → request_outcome terms id h request ≡ Ok (option_map (λ (x : Write). written_in h (addition_of x)) w)
+    → request_outcome terms id (old id) request ≡ Ok (option_map (brought old) w)
+judged_seen terms old id h request w is became =
+    ap (λ g. request_outcome terms id g request) (sym is) ∙ became
+    ∙ ap Ok (brought_at old id h w is (λ v e. request-named terms id h request v (became ∙ ap Ok e)))
 
-pub seen_after : (terms : Terms) (new_edits : Bool) (old mid new : Histories) (id : List ℕ) (h k : HistoryContent) (document : Value) (w : Option Write)
+pub seen_after : (terms : Terms) (old mid new : Histories) (id : List ℕ) (h k : HistoryContent) (request : Request) (w : Option Write)
     → h ≡ old id → ((g : HistoryContent) → with_history mid id g ≡ with_history old id g) → new ≡ with_history mid id k
-    → document_outcome terms new_edits id h document ≡ Ok (option_map (λ (x : Write). written_in h (addition_of x)) w)
+    → request_outcome terms id h request ≡ Ok (option_map (λ (x : Write). written_in h (addition_of x)) w)
     → k ≡ history_with h (option_map (λ (x : Write). written_in h (addition_of x)) w)
     → new ≡ after old (Ok (option_map (brought old) w))
-seen_after terms new_edits old mid new id h k document w is others put became taken_in =
-    let named = λ (v : DocumentWrite) (e : option_map (λ (x : Write). written_in h (addition_of x)) w ≡ Some v). judged-named terms new_edits id h document v (became ∙ ap Ok e) in
+seen_after terms old mid new id h k request w is others put became taken_in =
+    let named = λ (v : DocumentWrite) (e : option_map (λ (x : Write). written_in h (addition_of x)) w ≡ Some v). request-named terms id h request v (became ∙ ap Ok e) in
     put ∙ others k ∙ ap (with_history old id) (taken_in ∙ ap (λ g. history_with g (option_map (λ (x : Write). written_in h (addition_of x)) w)) is)
     ∙ put_taken old id (option_map (λ (x : Write). written_in h (addition_of x)) w) named
     ∙ ap (λ o. after old (Ok o)) (brought_at old id h w is named)
@@ -157,11 +159,6 @@ pub outcome_agrees : (terms : Terms) (new_edits : Bool) (h g : Histories) (docum
     → outcome_by_id terms new_edits h document i ≡ outcome_by_id terms new_edits g document i
 outcome_agrees terms new_edits h g document None same = refl
 outcome_agrees terms new_edits h g document (Some id) same = ap (λ (x : HistoryContent). document_outcome terms new_edits id x document) same
-
-pub outcome_named : (terms : Terms) (new_edits : Bool) (h : Histories) (document : Value) (i : Option (List ℕ)) (v : DocumentWrite)
-    → outcome_by_id terms new_edits h document i ≡ Ok (Some v) → i ≡ Some v.id
-outcome_named terms new_edits h document None v e = absurd cc
-outcome_named terms new_edits h document (Some id) v e = ap Some (sym (judged-named terms new_edits id (h id) document v e))
 
 pub after_agrees : (h g : Histories) (o : DocumentOutcome) (k : List ℕ) → h k ≡ g k → after h o k ≡ after g o k
 after_agrees h g (Ok (Some w)) k same = ap (λ (x : HistoryContent). cond (is_of k w) (with_write x w.write) x) same

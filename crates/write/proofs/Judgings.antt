@@ -1,6 +1,6 @@
 -- Documents that are judged one after another: what is seen, written and told after each.
 use Rattle.std.proofs.Common.{◌≡◌, ◌≢◌, ℕ, Bool, true, false, List, [], ◌∷◌, ◌++◌, Option, Some, None, option_map, Result, Ok, Err, IfOk, IfErr, OnErr, refl, ap, sym, ◌∙◌, subst, append_assoc, append-nil}
-use Rattle.std.specs.Prelude.{codes, is_some}
+use Rattle.std.specs.Prelude.{codes, is_some, string_bytes}
 use Rattle.std.specs.BTreeMap.{BTreeMap, get}
 use Rattle.std.specs.Option.{option_to_list}
 use Rattle.std.specs.Ordering.{nat_cmp}
@@ -13,17 +13,20 @@ use Rattle.store.specs.Writing.{Addition, addition_of, additions, written_in, wr
 use Rattle.store.specs.declared.write.Write.{Write}
 use Rattle.store.proofs.Contents.{with_all-append, writings_in-append}
 use Rattle.write.specs.Admission.{history_with}
-use Rattle.write.specs.Bulk.{DocumentOutcome, Histories, Told, after, all_told, document_outcome, outcome_by_id, outcome_in, outcome_told, outcomes, put_before, result_told, writes_in}
-use Rattle.write.specs.BulkResults.{AgreeAt, brought, held_or, seen_in, with_history}
+use Rattle.write.specs.Bulk.{DocumentOutcome, Histories, Told, after, all_told, outcome_in, outcome_told, outcomes, put_before, result_told, writes_in}
+use Rattle.write.specs.BulkResults.{AgreeAt, brought, held_or, seen_in, told_as, with_history}
+use Rattle.write.specs.Drafts.{outcome_asked, request_outcome}
 use Rattle.write.specs.Repeats.{IsKept, is_named, is_named_if_any}
 use Rattle.write.specs.Document.{id_in, member_text}
 use Rattle.write.specs.Terms.{Terms}
+use Rattle.write.specs.declared.draft.Request.{Request}
 use Rattle.write.specs.declared.fault.WriteFault.{WriteFault}
 use Rattle.write.specs.declared.fault.WriteFault.TheVariants.{Memory}
 use Rattle.write.specs.declared.planned.Outcome.{Outcome}
+use Rattle.write.specs.declared.planning.Label.{Label}
 use Rattle.write.proofs.Acceptances.{after_is, db_after}
 use Rattle.write.proofs.BulkLemmas.{after_agrees, after_elsewhere, agree_at, first_named, judged_seen, kept_is_other, load_seen, named_again, named_behind, outcome_agrees, seen_after, seen_still, still_elsewhere}
-use Rattle.write.proofs.Names.{judged-named}
+use Rattle.write.proofs.Names.{request-named}
 
 -- ---- the stored history of a document, put in
 
@@ -38,13 +41,13 @@ stored_seen m n id d h there at is absent put =
 
 -- ---- a document judged by its history, which is taken out and put back
 
-pub settle_ok : (terms : Terms) (new_edits : Bool) (m : BTreeMap (List ℕ) HistoryContent) (id : List ℕ) (h : HistoryContent) (document : Value) (r : Result (Option Write) WriteFault)
-    → id_in document ≡ Some id → ((stored : Histories) → h ≡ seen_in stored m id)
-    → IfOk r (λ w. document_outcome terms new_edits id h document ≡ Ok (option_map (λ x. written_in h (addition_of x)) w))
-    → IfOk r (λ w. (stored : Histories) → outcome_in terms new_edits (seen_in stored m) document ≡ Ok (option_map (brought (seen_in stored m)) w))
-settle_ok terms new_edits m id h document (Ok w) named value became =
-    λ stored. ap (outcome_by_id terms new_edits (seen_in stored m) document) named ∙ judged_seen terms new_edits (seen_in stored m) id h document w (value stored) became
-settle_ok terms new_edits m id h document (Err fault) named value became = tt
+pub settle_ok : (terms : Terms) (m : BTreeMap (List ℕ) HistoryContent) (own : Option (List ℕ)) (id : List ℕ) (h : HistoryContent) (request : Request) (r : Result (Option Write) WriteFault)
+    → own ≡ Some id → ((stored : Histories) → h ≡ seen_in stored m id)
+    → IfOk r (λ w. request_outcome terms id h request ≡ Ok (option_map (λ x. written_in h (addition_of x)) w))
+    → IfOk r (λ w. (stored : Histories) → outcome_asked terms (seen_in stored m) request own ≡ Ok (option_map (brought (seen_in stored m)) w))
+settle_ok terms m own id h request (Ok w) named value became =
+    λ stored. ap (outcome_asked terms (seen_in stored m) request) named ∙ judged_seen terms (seen_in stored m) id h request w (value stored) became
+settle_ok terms m own id h request (Err fault) named value became = tt
 
 -- it is put in with its write
 pub taken_in_put : (m n : BTreeMap (List ℕ) HistoryContent) (id : List ℕ) (h k : HistoryContent) (r : Result (Option Write) WriteFault)
@@ -62,28 +65,28 @@ unchanged_put m n id h k (Ok w) put same = tt
 unchanged_put m n id h k (Err fault) put same = λ other stored. put stored ∙ ap (with_history (seen_in stored m) id) same
 
 -- and then it is what is seen
-pub settle_kept : (terms : Terms) (new_edits again : Bool) (m mid n : BTreeMap (List ℕ) HistoryContent) (own : Option (List ℕ)) (id : List ℕ) (h : HistoryContent) (document : Value) (r : Result (Option Write) WriteFault)
+pub settle_kept : (terms : Terms) (again : Bool) (m mid n : BTreeMap (List ℕ) HistoryContent) (own : Option (List ℕ)) (id : List ℕ) (h : HistoryContent) (request : Request) (r : Result (Option Write) WriteFault)
     → ((stored : Histories) → h ≡ seen_in stored m id)
     → ((stored : Histories) (g : HistoryContent) → with_history (seen_in stored mid) id g ≡ with_history (seen_in stored m) id g)
-    → IfOk r (λ w. document_outcome terms new_edits id h document ≡ Ok (option_map (λ x. written_in h (addition_of x)) w))
+    → IfOk r (λ w. request_outcome terms id h request ≡ Ok (option_map (λ x. written_in h (addition_of x)) w))
     → IfOk r (λ w. (stored : Histories) → seen_in stored n ≡ with_history (seen_in stored mid) id (history_with h (option_map (λ x. written_in h (addition_of x)) w)))
     → IfOk r (λ w. (stored : Histories) (k : List ℕ) → IsKept again own k → seen_in stored n k ≡ after (seen_in stored m) (Ok (option_map (brought (seen_in stored m)) w)) k)
-settle_kept terms new_edits again m mid n own id h document (Ok w) value others became put =
+settle_kept terms again m mid n own id h request (Ok w) value others became put =
     λ stored k kept. ap (λ (hs : Histories). hs k)
-    (seen_after terms new_edits (seen_in stored m) (seen_in stored mid) (seen_in stored n) id h (history_with h (option_map (λ x. written_in h (addition_of x)) w)) document w (value stored) (others stored) (put stored) became refl)
-settle_kept terms new_edits again m mid n own id h document (Err fault) value others became put = tt
+    (seen_after terms (seen_in stored m) (seen_in stored mid) (seen_in stored n) id h (history_with h (option_map (λ x. written_in h (addition_of x)) w)) request w (value stored) (others stored) (put stored) became refl)
+settle_kept terms again m mid n own id h request (Err fault) value others became put = tt
 
 -- the history is dropped
-pub settle_dropped : (terms : Terms) (new_edits again : Bool) (m mid : BTreeMap (List ℕ) HistoryContent) (own : Option (List ℕ)) (id : List ℕ) (h : HistoryContent) (document : Value) (r : Result (Option Write) WriteFault)
+pub settle_dropped : (terms : Terms) (again : Bool) (m mid : BTreeMap (List ℕ) HistoryContent) (own : Option (List ℕ)) (id : List ℕ) (h : HistoryContent) (request : Request) (r : Result (Option Write) WriteFault)
     → own ≡ Some id → again ≡ false
     → ((stored : Histories) (g : HistoryContent) → with_history (seen_in stored mid) id g ≡ with_history (seen_in stored m) id g)
-    → IfOk r (λ w. document_outcome terms new_edits id h document ≡ Ok (option_map (λ x. written_in h (addition_of x)) w))
+    → IfOk r (λ w. request_outcome terms id h request ≡ Ok (option_map (λ x. written_in h (addition_of x)) w))
     → IfOk r (λ w. (stored : Histories) (k : List ℕ) → IsKept again own k → seen_in stored mid k ≡ after (seen_in stored m) (Ok (option_map (brought (seen_in stored m)) w)) k)
-settle_dropped terms new_edits again m mid own id h document (Ok w) named last others became =
+settle_dropped terms again m mid own id h request (Ok w) named last others became =
     λ stored k kept.
     still_elsewhere (seen_in stored m) (seen_in stored mid) id k (others stored) (kept_is_other own id k again named last kept)
-    ∙ sym (after_elsewhere (seen_in stored m) id k h w (λ v e. judged-named terms new_edits id h document v (became ∙ ap Ok e)) (kept_is_other own id k again named last kept))
-settle_dropped terms new_edits again m mid own id h document (Err fault) named last others became = tt
+    ∙ sym (after_elsewhere (seen_in stored m) id k h w (λ v e. request-named terms id h request v (became ∙ ap Ok e)) (kept_is_other own id k again named last kept))
+settle_dropped terms again m mid own id h request (Err fault) named last others became = tt
 
 pub settle_same_kept : (again : Bool) (m mid n : BTreeMap (List ℕ) HistoryContent) (own : Option (List ℕ)) (id : List ℕ) (h : HistoryContent) (r : Result (Option Write) WriteFault)
     → ((stored : Histories) → h ≡ seen_in stored m id)
@@ -109,6 +112,11 @@ pub told_is : (document : Value) (o : DocumentOutcome) (x : Outcome) (t : Told) 
     → t ≡ record { id = id; rev = rev; outcome = x } → result_told document o ≡ t
 told_is document o x t id rev is_id is_rev is_outcome is =
     (λ i. record { id = sym is_id i; rev = sym is_rev i; outcome = is_outcome i }) ∙ sym is
+
+pub told_asked : (label : Label) (o : DocumentOutcome) (x : Outcome) (t : Told) → outcome_told o ≡ x
+    → t ≡ record { id = option_map string_bytes label.id; rev = option_map string_bytes label.rev; outcome = x } → told_as label o ≡ t
+told_asked label o x t is_outcome is =
+    (λ i. record { id = option_map string_bytes label.id; rev = option_map string_bytes label.rev; outcome = is_outcome i }) ∙ sym is
 
 -- the revision of a write, by the history of its own id
 pub told_brought : (histories : Histories) (w : Option Write) (x : Outcome) → ((h : HistoryContent) → outcome_told (Ok (option_map (λ v. written_in h (addition_of v)) w)) ≡ x)
@@ -215,6 +223,25 @@ judged_next terms new_edits again d all documents left v m l n writes more resul
           ∙ ap (λ vs. results ++ all_told vs (outcomes terms new_edits (history_at e) vs)) (sym first)
           ∙ so_far.results;
     }
+
+-- one document more, by what was read of it
+pub judged_draft : (terms : Terms) (new_edits again : Bool) (d : Database) (all documents left : List Value) (v : Value) (label : Label) (own : Option (List ℕ)) (request : Request) (m l n : BTreeMap (List ℕ) HistoryContent) (writes more : List Addition) (results others : List Told) (t : Told)
+    → documents ≡ v ∷ left → IsJudged terms new_edits d all documents m writes results → seen_in (history_at d) l ≡ seen_in (history_at d) m → again ≡ is_named_if_any (member_text (codes "_id") v) left
+    → own ≡ id_in v → option_map string_bytes label.id ≡ member_text (codes "_id") v → option_map string_bytes label.rev ≡ member_text (codes "_rev") v
+    → ((hs : Histories) → outcome_in terms new_edits hs v ≡ outcome_asked terms hs request own)
+    → ((stored : Histories) → told_as label (outcome_asked terms (seen_in stored l) request own) ≡ t)
+    → ((stored : Histories) (id : List ℕ) → IsKept again own id → seen_in stored n id ≡ after (seen_in stored l) (outcome_asked terms (seen_in stored l) request own) id)
+    → ((stored : Histories) (e : Database) → AgreeAt own (seen_in stored l) (history_at (with_all e (writings_in e writes)))
+    → writings_in e more ≡ writings_in e writes ++ put_before (outcome_asked terms (seen_in stored l) request own) [])
+    → others ≡ results ++ t ∷ [] → IsJudged terms new_edits d all left n more others
+judged_draft terms new_edits again d all documents left v label own request m l n writes more results others t first so_far loaded comes is_own is_id is_rev is_asked is_told becomes written last =
+    judged_next terms new_edits again d all documents left v m l n writes more results others t first so_far loaded comes
+    (λ stored. told_is v (outcome_in terms new_edits (seen_in stored l) v) (outcome_told (outcome_asked terms (seen_in stored l) request own)) t (option_map string_bytes label.id) (option_map string_bytes label.rev) is_id is_rev
+    (ap outcome_told (is_asked (seen_in stored l))) (sym (is_told stored)))
+    (λ stored id kept. becomes stored id (λ e. kept (sym is_own ∙ e)) ∙ ap (λ (o : DocumentOutcome). after (seen_in stored l) o id) (sym (is_asked (seen_in stored l))))
+    (λ stored e agree. written stored e (subst (λ (i : Option (List ℕ)). AgreeAt i (seen_in stored l) (history_at (with_all e (writings_in e writes)))) (sym is_own) agree)
+    ∙ ap (λ (o : DocumentOutcome). writings_in e writes ++ put_before o []) (sym (is_asked (seen_in stored l))))
+    last
 
 -- nothing is left
 pub judged_writes : (terms : Terms) (new_edits : Bool) (d : Database) (all left : List Value) (m : BTreeMap (List ℕ) HistoryContent) (writes : List Addition) (results : List Told)

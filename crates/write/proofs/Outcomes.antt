@@ -28,7 +28,7 @@ use Rattle.write.specs.declared.fault.WriteFault.TheVariants.{Conflict, Denied, 
 
 -- ---- by a rule or without one
 
-undenied : {A : Type 0} (o : Option Rule) (r : Result A WriteFault) (v : A) → unless_denied o r ≡ Ok v → r ≡ Ok v
+pub undenied : {A : Type 0} (o : Option Rule) (r : Result A WriteFault) (v : A) → unless_denied o r ≡ Ok v → r ≡ Ok v
 undenied None r v e = e
 undenied (Some rule) r v e = absurd cc
 

@@ -8,6 +8,7 @@ pub mod Admission
 pub mod Denials
 pub mod Bulk
 pub mod BulkResults
+pub mod Drafts
 pub mod Repeats
 pub mod Planning
 pub mod Settling

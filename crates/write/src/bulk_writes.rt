@@ -3,15 +3,14 @@
 ghost use Rattle.std.specs.FinMap as map;
 ghost use Rattle.std.specs.Prelude.{◌≡◌, ◌≢◌, ◌++◌, ◌<◌, [], All, IfOk, IfErr, IfSome, OnErr, OnOk, Ok, Err, Some, None, is_some, true, length, map as list_map, option_map};
 ghost use Rattle.std.specs.Option.{option_to_list};
-ghost use Rattle.couch_json.specs.View.{view};
 ghost use Rattle.store.specs.Calls.{OnlyReads};
 ghost use Rattle.store.specs.Contents.{IfThere};
 ghost use Rattle.store.specs.Database.{Database, history_at, with_all};
 ghost use Rattle.store.specs.Writing.{addition_of, additions, writings_in, written_in};
 ghost use Rattle.write.specs.Admission.{history_with};
-ghost use Rattle.write.specs.Bulk.{Histories, after, all_told, document_outcome, outcome_in, outcomes, put_before, result_told, writes_in};
-ghost use Rattle.write.specs.BulkResults.{AgreeAt, IsHeld, IsOwnOutcome, brought, seen_in, told_of, with_history};
-ghost use Rattle.write.specs.Document.{id_in};
+ghost use Rattle.write.specs.Bulk.{Histories, after, all_told, outcomes, put_before, writes_in};
+ghost use Rattle.write.specs.BulkResults.{AgreeAt, IsHeld, IsOwnOutcome, brought, seen_in, told_as, told_of, with_history};
+ghost use Rattle.write.specs.Drafts.{outcome_asked, request_outcome};
 ghost use Rattle.write.specs.Planning.{AreWrites, Plans};
 ghost use Rattle.write.specs.Repeats.{IsKept};
 ghost use Rattle.write.specs.Refusing.{IsDecided, IsOfStoreOrMemory, Refuses};
@@ -19,16 +18,16 @@ ghost use Rattle.write.specs.Terms.{terms_in};
 ghost use Rattle.write.specs.TermsRead.{terms_of};
 
 use crate::admission::admit_edit;
-use crate::document::read_id;
+use crate::draft::{Draft, Request, read_draft};
 use crate::fault::WriteFault;
 use crate::histories::{load, put_history, take_history, take_in};
 use crate::planned::{Changes, DocumentResult, Outcome, Planned};
-use crate::planning::{read_label, tell_outcome, tell_result};
+use crate::planning::{tell_outcome, tell_result};
 use crate::repeats::{mark_repeats, take_mark};
-use crate::replicating::admit_replicated;
+use crate::replicating::place;
 use crate::terms::{Terms, read_terms};
 use auth::Caller;
-use couch_json::{Got, Json, NoMemory};
+use couch_json::{Got, NoMemory};
 use packed::PackedJson;
 use std::alloc::Global;
 use std::collections::BTreeMap;
@@ -43,7 +42,7 @@ use tree::{DocId, History, PackedHistory};
 /// terms that the store has at the start: a design document among them rules none of those behind
 /// it. Their writes make one plan. `Store(NoDatabase)` comes if and only if there is no database of
 /// this name. No history is copied, no path of an edit is walked, and one document is unpacked at a
-/// time. See the CouchDB manual, api/database/bulk-api.
+/// time. The path of a replicated one is made before its history is read. See the CouchDB manual, api/database/bulk-api.
 pub fn bulk<S: Store>(
     alloc: Global,
     store: &mut S,
@@ -94,18 +93,11 @@ fn judge_all<S: Store>(
     let mut writes = Vec::with_capacity(alloc, documents.len())?;
     let mut results = Vec::with_capacity(alloc, documents.len())?;
     for document in documents {
-        load(alloc, store, db, &document, &mut histories)?;
-        let again = take_mark(&mut repeats);
         let document = document.unpack(alloc)?;
-        results.push(judge_one(
-            alloc,
-            terms,
-            &mut histories,
-            &mut writes,
-            new_edits,
-            again,
-            document,
-        )?)?;
+        let draft = read_draft(alloc, terms, new_edits, document)?;
+        load(alloc, store, db, &draft.id, &mut histories)?;
+        let again = take_mark(&mut repeats);
+        results.push(judge_one(alloc, terms, &mut histories, &mut writes, again, draft)?)?;
     }
     Ok((writes, results))
 }
@@ -117,21 +109,20 @@ fn judge_one(
     terms: &Terms,
     histories: &mut BTreeMap<DocId, PackedHistory>,
     writes: &mut Vec<Write>,
-    new_edits: bool,
     again: bool,
-    document: Json,
+    draft: Draft,
 ) -> Got<DocumentResult>
-    requires { IsHeld histories.old (id_in (view document)) }
-    ensures told { IfOk result (λ r. (stored : Histories) → result_told (view document) (outcome_in (terms_of terms.now) new_edits (seen_in stored histories.old) (view document)) ≡ told_of r) }
+    requires { IsHeld histories.old draft.id }
+    ensures told { IfOk result (λ r. (stored : Histories) → told_as draft.label (outcome_asked (terms_of terms.now) (seen_in stored histories.old) draft.request draft.id) ≡ told_of r) }
     ensures own { IfOk result (λ r. IsOwnOutcome r.outcome) }
-    ensures histories { OnOk result ((stored : Histories) (id : _) → IsKept again (id_in (view document)) id → seen_in stored histories.new id
-        ≡ after (seen_in stored histories.old) (outcome_in (terms_of terms.now) new_edits (seen_in stored histories.old) (view document)) id) }
-    ensures writes { OnOk result ((stored : Histories) (d : Database) → AgreeAt (id_in (view document)) (seen_in stored histories.old) (history_at (with_all d (writings_in d (additions writes.old.items))))
+    ensures histories { OnOk result ((stored : Histories) (id : _) → IsKept again draft.id id → seen_in stored histories.new id
+        ≡ after (seen_in stored histories.old) (outcome_asked (terms_of terms.now) (seen_in stored histories.old) draft.request draft.id) id) }
+    ensures writes { OnOk result ((stored : Histories) (d : Database) → AgreeAt draft.id (seen_in stored histories.old) (history_at (with_all d (writings_in d (additions writes.old.items))))
         → writings_in d (additions writes.new.items)
-        ≡ writings_in d (additions writes.old.items) ++ put_before (outcome_in (terms_of terms.now) new_edits (seen_in stored histories.old) (view document)) []) }
+        ≡ writings_in d (additions writes.old.items) ++ put_before (outcome_asked (terms_of terms.now) (seen_in stored histories.old) draft.request draft.id) []) }
 {
-    let label = read_label(alloc, &document)?;
-    match settle(alloc, terms, histories, new_edits, again, document) {
+    let Draft { label, id, request } = draft;
+    match settle(alloc, terms, histories, again, id, request) {
         Ok(write) => {
             let outcome = tell_outcome(&write);
             append(writes, write)?;
@@ -178,28 +169,28 @@ fn settle(
     alloc: Global,
     terms: &Terms,
     histories: &mut BTreeMap<DocId, PackedHistory>,
-    new_edits: bool,
     again: bool,
-    document: Json,
+    id: Option<DocId>,
+    request: Request,
 ) -> Result<Option<Write>, WriteFault>
-    requires { IsHeld histories.old (id_in (view document)) }
-    ensures ok { IfOk result (λ write. (stored : Histories) → outcome_in (terms_of terms.now) new_edits (seen_in stored histories.old) (view document)
+    requires { IsHeld histories.old id }
+    ensures ok { IfOk result (λ write. (stored : Histories) → outcome_asked (terms_of terms.now) (seen_in stored histories.old) request id
         ≡ Ok (option_map (brought (seen_in stored histories.old)) write)) }
     ensures headed { IfOk result (λ write. IfSome write (λ w. 0 < length w.path.items)) }
-    ensures histories { IfOk result (λ write. (stored : Histories) (id : _) → IsKept again (id_in (view document)) id → seen_in stored histories.new id
-        ≡ after (seen_in stored histories.old) (Ok (option_map (brought (seen_in stored histories.old)) write)) id) }
-    ensures fault { IfErr result (λ fault. fault ≢ WriteFault.Memory → (stored : Histories) → outcome_in (terms_of terms.now) new_edits (seen_in stored histories.old) (view document) ≡ Err fault) }
-    ensures same { IfErr result (λ fault. fault ≢ WriteFault.Memory → (stored : Histories) (id : _) → IsKept again (id_in (view document)) id → seen_in stored histories.new id ≡ seen_in stored histories.old id) }
+    ensures histories { IfOk result (λ write. (stored : Histories) (own : _) → IsKept again id own → seen_in stored histories.new own
+        ≡ after (seen_in stored histories.old) (Ok (option_map (brought (seen_in stored histories.old)) write)) own) }
+    ensures fault { IfErr result (λ fault. fault ≢ WriteFault.Memory → (stored : Histories) → outcome_asked (terms_of terms.now) (seen_in stored histories.old) request id ≡ Err fault) }
+    ensures same { IfErr result (λ fault. fault ≢ WriteFault.Memory → (stored : Histories) (own : _) → IsKept again id own → seen_in stored histories.new own ≡ seen_in stored histories.old own) }
     ensures others { IfErr result (λ fault. (cause : _) → fault ≢ WriteFault.Store cause) }
 {
-    let Some(id) = read_id(alloc, &document)? else {
+    let Some(id) = id else {
         return Err(WriteFault::BadDocument);
     };
     let history = take_history(alloc, histories, &id)?;
     if again {
-        judge_and_keep(alloc, terms, histories, id, history, new_edits, document)
+        judge_and_keep(alloc, terms, histories, id, history, request)
     } else {
-        judge(alloc, terms, &history, &id, new_edits, document)
+        judge(alloc, terms, &history, &id, request)
     }
 }
 
@@ -210,19 +201,18 @@ fn judge_and_keep(
     histories: &mut BTreeMap<DocId, PackedHistory>,
     id: DocId,
     history: History,
-    new_edits: bool,
-    document: Json,
+    request: Request,
 ) -> Result<Option<Write>, WriteFault>
-    ensures ok { IfOk result (λ write. document_outcome (terms_of terms.now) new_edits id history (view document) ≡ Ok (option_map (λ w. written_in history (addition_of w)) write)) }
+    ensures ok { IfOk result (λ write. request_outcome (terms_of terms.now) id history request ≡ Ok (option_map (λ w. written_in history (addition_of w)) write)) }
     ensures headed { IfOk result (λ write. IfSome write (λ w. 0 < length w.path.items)) }
     ensures kept { IfOk result (λ write. (stored : Histories) → seen_in stored histories.new
         ≡ with_history (seen_in stored histories.old) id (history_with history (option_map (λ w. written_in history (addition_of w)) write))) }
-    ensures fault { IfErr result (λ fault. fault ≢ WriteFault.Memory → document_outcome (terms_of terms.now) new_edits id history (view document) ≡ Err fault) }
+    ensures fault { IfErr result (λ fault. fault ≢ WriteFault.Memory → request_outcome (terms_of terms.now) id history request ≡ Err fault) }
     ensures same { IfErr result (λ fault. fault ≢ WriteFault.Memory → (stored : Histories) → seen_in stored histories.new ≡ with_history (seen_in stored histories.old) id history) }
     ensures others { IfErr result (λ fault. (cause : _) → fault ≢ WriteFault.Store cause) }
 {
     let mut history = history;
-    let outcome = judge_in(alloc, terms, &mut history, &id, new_edits, document);
+    let outcome = judge_in(alloc, terms, &mut history, &id, request);
     put_history(alloc, histories, id, history)?;
     outcome
 }
@@ -233,39 +223,42 @@ fn judge_in(
     terms: &Terms,
     history: &mut History,
     id: &DocId,
-    new_edits: bool,
-    document: Json,
+    request: Request,
 ) -> Result<Option<Write>, WriteFault>
-    ensures ok { IfOk result (λ write. document_outcome (terms_of terms.now) new_edits id.now history.old (view document) ≡ Ok (option_map (λ w. written_in history.old (addition_of w)) write)) }
+    ensures ok { IfOk result (λ write. request_outcome (terms_of terms.now) id.now history.old request ≡ Ok (option_map (λ w. written_in history.old (addition_of w)) write)) }
     ensures headed { IfOk result (λ write. IfSome write (λ w. 0 < length w.path.items)) }
     ensures taken_in { IfOk result (λ write. history.new ≡ history_with history.old (option_map (λ w. written_in history.old (addition_of w)) write)) }
-    ensures fault { IfErr result (λ fault. fault ≢ WriteFault.Memory → document_outcome (terms_of terms.now) new_edits id.now history.old (view document) ≡ Err fault) }
+    ensures fault { IfErr result (λ fault. fault ≢ WriteFault.Memory → request_outcome (terms_of terms.now) id.now history.old request ≡ Err fault) }
     ensures err { OnErr result (history.new ≡ history.old) }
     ensures others { IfErr result (λ fault. (cause : _) → fault ≢ WriteFault.Store cause) }
 {
-    let write = judge(alloc, terms, history, id, new_edits, document)?;
+    let write = judge(alloc, terms, history, id, request)?;
     if let Some(write) = &write {
         take_in(history, write)?;
     }
     Ok(write)
 }
 
-/// Judges a document by this history, as a new edit or as a replicated write.
+/// Judges what a document asks for by this history.
 fn judge(
     alloc: Global,
     terms: &Terms,
     history: &History,
     id: &DocId,
-    new_edits: bool,
-    document: Json,
+    request: Request,
 ) -> Result<Option<Write>, WriteFault>
-    ensures ok { IfOk result (λ write. document_outcome (terms_of terms.now) new_edits id.now history.now (view document) ≡ Ok (option_map (λ w. written_in history.now (addition_of w)) write)) }
+    ensures ok { IfOk result (λ write. request_outcome (terms_of terms.now) id.now history.now request ≡ Ok (option_map (λ w. written_in history.now (addition_of w)) write)) }
     ensures headed { IfOk result (λ write. IfSome write (λ w. 0 < length w.path.items)) }
-    ensures fault { IfErr result (λ fault. fault ≢ WriteFault.Memory → document_outcome (terms_of terms.now) new_edits id.now history.now (view document) ≡ Err fault) }
+    ensures fault { IfErr result (λ fault. fault ≢ WriteFault.Memory → request_outcome (terms_of terms.now) id.now history.now request ≡ Err fault) }
     ensures others { IfErr result (λ fault. (cause : _) → fault ≢ WriteFault.Store cause) }
 {
-    if new_edits {
-        return Ok(Some(admit_edit(alloc, terms, history, id, None, document)?));
+    match request {
+        Request::Edit(document) => {
+            let write = admit_edit(alloc, terms, history, id, None, document)?;
+            Ok(Some(write))
+        }
+        Request::Replicate(replica) => place(alloc, terms, history, id, replica),
+        Request::Bad => Err(WriteFault::BadDocument),
+        Request::Forbidden(rule) => Err(WriteFault::Denied(rule)),
     }
-    admit_replicated(alloc, terms, history, id, document)
 }

@@ -191,7 +191,7 @@ pub(crate) fn read_id(alloc: Global, document: &Json) -> Got<Option<DocId>>
 }
 
 /// Parses the id of a document that is no local one.
-pub(crate) fn parse_id(alloc: Global, text: &str) -> Got<Option<DocId>>
+fn parse_id(alloc: Global, text: &str) -> Got<Option<DocId>>
     ensures { IfOk result (λ id. id ≡ id_if text.now) }
 {
     let id = match DocId::new(alloc, text) {

@@ -8,53 +8,39 @@ ghost use Rattle.store.specs.Database.{Database, history_at};
 ghost use Rattle.store.specs.Writing.{addition_of, written_in};
 ghost use Rattle.write.specs.Bulk.{Histories};
 ghost use Rattle.write.specs.BulkResults.{IsHeld, seen_in, with_history};
-ghost use Rattle.write.specs.Document.{id_in};
 ghost use Rattle.write.specs.Refusing.{IsOfStoreOrMemory, Refuses};
 
-use crate::document::parse_id;
 use crate::fault::WriteFault;
 use couch_json::Got;
-use packed::PackedJson;
 use std::alloc::Global;
 use std::collections::BTreeMap;
 use store::{DbName, Store, Write};
 use tree::{DocId, History, PackedHistory};
 
-/// Puts the stored history of a document in, where it isn't there yet.
+/// Puts the stored history of the document of this id in, if there is one and it isn't there yet.
 pub(crate) fn load<S: Store>(
     alloc: Global,
     store: &mut S,
     db: &DbName,
-    document: &PackedJson,
+    id: &Option<DocId>,
     histories: &mut BTreeMap<DocId, PackedHistory>,
 ) -> Result<(), WriteFault>
     ensures ok { S.is_honest store.new → OnOk result ((d : Database) → map.get (S.contents store.old) db.now ≡ Some d
         → seen_in (history_at d) histories.new ≡ seen_in (history_at d) histories.old) }
-    ensures held { OnOk result (IsHeld histories.new (id_in document.now)) }
+    ensures held { OnOk result (IsHeld histories.new id.now) }
     ensures only { IfErr result IsOfStoreOrMemory }
     ensures passed { IfErr result (Refuses S.Store store.old store.new (map.get (S.contents store.old) db.now ≡ None) ⊥) }
     ensures reads { OnlyReads S.Store store.old store.new }
 {
-    let Some(id) = copy_id(alloc, document)? else {
+    let Some(id) = id else {
         return Ok(());
     };
-    if histories.contains_key(&id) {
+    if histories.contains_key(id) {
         return Ok(());
     }
-    let history = store.history(db, &id)?;
-    put_history(alloc, histories, id, history)?;
+    let history = store.history(db, id)?;
+    put_history(alloc, histories, id.copy(alloc)?, history)?;
     Ok(())
-}
-
-/// Copies the id that a document of several gives itself; `None` where it gives none, or that of a
-/// local document.
-fn copy_id(alloc: Global, document: &PackedJson) -> Got<Option<DocId>>
-    ensures { IfOk result (λ id. id ≡ id_in document.now) }
-{
-    match document.copy_text(alloc, "_id")? {
-        Some(text) => parse_id(alloc, &text),
-        None => Ok(None),
-    }
 }
 
 /// Takes the history of a document out.

@@ -17,6 +17,7 @@ mod bulk_writes;
 mod deleting;
 mod denial;
 mod document;
+mod draft;
 mod editing;
 mod fault;
 mod following;

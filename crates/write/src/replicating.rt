@@ -32,11 +32,11 @@ use tree::{DocId, History, Placed, TreeFault};
 
 /// What a replicated document says.
 #[derive(Drop)]
-struct Replica {
+pub(crate) struct Replica {
     /// What it says besides its history.
-    sent: Sent,
+    pub(crate) sent: Sent,
     /// The history that it comes with.
-    ancestry: Ancestry,
+    pub(crate) ancestry: Ancestry,
 }
 
 /// Plans what becomes of a replicated document, which is no local one. It reads the store and changes
@@ -81,27 +81,9 @@ pub fn replicated<S: Store>(
     Ok(plan_alone(alloc, db, label, write)?)
 }
 
-/// Judges a replicated document by this history: its write, nothing where its revision is known, or
-/// why it is refused.
-pub(crate) fn admit_replicated(
-    alloc: Global,
-    terms: &Terms,
-    history: &History,
-    id: &DocId,
-    document: Json,
-) -> Result<Option<Write>, WriteFault>
-    ensures ok { IfOk result (λ write. replicated_outcome (terms_of terms.now) id.now history.now (view document) ≡ Ok (option_map (λ w. written_in history.now (addition_of w)) write)) }
-    ensures headed { IfOk result (λ write. IfSome write (λ w. 0 < length w.path.items)) }
-    ensures fault { IfErr result (λ fault. fault ≢ WriteFault.Memory → replicated_outcome (terms_of terms.now) id.now history.now (view document) ≡ Err fault) }
-    ensures others { IfErr result (λ fault. (fault ≢ WriteFault.Conflict) × (fault ≢ WriteFault.Generation) × ((cause : _) → fault ≢ WriteFault.Store cause)) }
-{
-    let replica = read_replica(alloc, terms, id, document)?;
-    place(alloc, terms, history, id, replica)
-}
-
 /// Reads what a replicated document says, where it is a good one that the caller may write at all. It
 /// asks for no history.
-fn read_replica(
+pub(crate) fn read_replica(
     alloc: Global,
     terms: &Terms,
     id: &DocId,
@@ -111,6 +93,7 @@ fn read_replica(
         ≡ placement_outcome (terms_of terms.now) id.now h replica.sent replica.ancestry.path.items (ancestry_placement h (ancestry_of replica.ancestry))) }
     ensures fault { IfErr result (λ fault. fault ≢ WriteFault.Memory → (h : HistoryContent) → replicated_outcome (terms_of terms.now) id.now h (view document) ≡ Err fault) }
     ensures others { IfErr result (λ fault. (fault ≢ WriteFault.Conflict) × (fault ≢ WriteFault.Generation) × ((cause : _) → fault ≢ WriteFault.Store cause)) }
+    ensures unplaced { IfErr result (λ fault. fault ≢ WriteFault.BadHistory) }
 {
     let (given, document) = take_given(alloc, document)?;
     let Some(sent) = read_sent(alloc, id, document)? else {
@@ -127,7 +110,7 @@ fn read_replica(
 
 /// Writes what is sent where the history has a place for this path as that of a new revision; nothing
 /// where the revision is known.
-fn place(
+pub(crate) fn place(
     alloc: Global,
     terms: &Terms,
     history: &History,

@@ -15,7 +15,7 @@ use Rattle.write.specs.Repeats.{is_named_if_any, repeats}
 use Rattle.write.specs.TermsRead.{terms_of}
 use Rattle.write.specs.declared.planned.DocumentResult.{DocumentResult}
 use Rattle.write.proofs.Repetitions.{marks_cons}
-use Rattle.write.proofs.Judgings.{begun, judged_next, judged_results, judged_writes}
+use Rattle.write.proofs.Judgings.{begun, judged_draft, judged_results, judged_writes}
 use Rattle.write.proofs.bulk_writes.judge_all.Goals as goal
 
 pub loop-document-init : goal.loop-document-init
@@ -42,12 +42,14 @@ loop-document-preserved g c =
     record {
       judged = λ honest d there.
           let before = c.in_ok-load.ensures.reads.goes_on.honest honest in
-          judged_next (terms_of c.args.terms.now) c.args.new_edits c.take_mark-again.result d c.args.documents.items (into_iter_items l.document-iterator) left document
+          judged_draft (terms_of c.args.terms.now) c.args.new_edits c.take_mark-again.result d c.args.documents.items (into_iter_items l.document-iterator) left document
+          c.in_ok-draft.draft.label c.in_ok-draft.draft.id c.in_ok-draft.draft.request
           l.histories c.load.new.histories c.judge_one.new.histories (additions l.writes.items) (additions c.judge_one.new.writes.items)
           (map told_of l.results.items) (map told_of c.push.new.self.items) (told_of c.in_ok-judge_one.field-0)
           first (l.invariant.judged before d there)
           (c.in_ok-load.ensures.ok honest d (ap (λ (x : Contents). finite.get x c.args.db.now) (l.invariant.reads.same before) ∙ there))
           mark.0
+          c.in_ok-draft.ensures.id c.in_ok-draft.ensures.label_id c.in_ok-draft.ensures.label_rev c.in_ok-draft.ensures.outcome
           c.in_ok-judge_one.ensures.told c.in_ok-judge_one.ensures.histories c.in_ok-judge_one.ensures.writes
           (ap (map told_of) c.in_ok-push.ensures.items ∙ map-append told_of l.results.items (c.in_ok-judge_one.field-0 ∷ []));
       marks = mark.1;

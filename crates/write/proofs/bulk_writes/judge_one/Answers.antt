@@ -1,16 +1,15 @@
 use Rattle.std.proofs.Common.{◌∙◌, ap, sym}
-use Rattle.couch_json.specs.View.{view}
-use Rattle.write.specs.Bulk.{DocumentOutcome, after, outcome_in, outcome_told}
+use Rattle.write.specs.Bulk.{DocumentOutcome, after, outcome_told}
 use Rattle.write.specs.BulkResults.{seen_in}
-use Rattle.write.specs.Document.{id_in}
+use Rattle.write.specs.Drafts.{outcome_asked}
 use Rattle.write.specs.TermsRead.{terms_of}
-use Rattle.write.proofs.BulkLemmas.{outcome_named}
-use Rattle.write.proofs.Judgings.{pushed, told_brought, told_is}
+use Rattle.write.proofs.Names.{asked-named}
+use Rattle.write.proofs.Judgings.{pushed, told_asked, told_brought}
 use Rattle.write.proofs.bulk_writes.judge_one.Goals as goal
 
 pub returns-in_ok-append-in-Ok-clause-told : goal.returns-in_ok-append-in-Ok-clause-told
 returns-in_ok-append-in-Ok-clause-told c = λ stored.
-    told_is (view c.args.document) _ c.tell_outcome-outcome.result _ _ _ c.in_ok-label.ensures.id c.in_ok-label.ensures.rev
+    told_asked c.args.draft.label _ c.tell_outcome-outcome.result _
     (ap outcome_told (c.in-Ok.ensures.ok stored) ∙ told_brought (seen_in stored c.args.histories.now) c.in-Ok.write _ c.tell_outcome-outcome.ensures.told)
     c.tell_result.ensures.label
 
@@ -21,9 +20,9 @@ returns-in_ok-append-in-Ok-clause-histories c = λ stored id kept.
 
 pub returns-in_ok-append-in-Ok-clause-writes : goal.returns-in_ok-append-in-Ok-clause-writes
 returns-in_ok-append-in-Ok-clause-writes c = λ stored d agree.
-    pushed (seen_in stored c.args.histories.now) d c.args.writes.now.items c.append.new.writes.items c.in-Ok.write (id_in (view c.args.document))
-    (outcome_in (terms_of c.args.terms.now) c.args.new_edits (seen_in stored c.args.histories.now) (view c.args.document)) (c.in-Ok.ensures.ok stored) c.in_ok-append-in-Ok.ensures
-    (outcome_named (terms_of c.args.terms.now) c.args.new_edits (seen_in stored c.args.histories.now) (view c.args.document) (id_in (view c.args.document))) agree
+    pushed (seen_in stored c.args.histories.now) d c.args.writes.now.items c.append.new.writes.items c.in-Ok.write c.args.draft.id
+    (outcome_asked (terms_of c.args.terms.now) (seen_in stored c.args.histories.now) c.args.draft.request c.args.draft.id) (c.in-Ok.ensures.ok stored) c.in_ok-append-in-Ok.ensures
+    (asked-named (terms_of c.args.terms.now) (seen_in stored c.args.histories.now) c.args.draft.request c.args.draft.id) agree
 
 pub returns-in_ok-outcome-in-Err-clause-histories : goal.returns-in_ok-outcome-in-Err-clause-histories
 returns-in_ok-outcome-in-Err-clause-histories c = λ stored id kept.
