@@ -74,7 +74,7 @@ fn pack_whole(alloc: Global, documents: Vec<Json>) -> Got<Vec<PackedJson>>
 {
     let mut packed = Vec::with_capacity(alloc, documents.len())?;
     for document in documents {
-        packed.push(PackedJson::whole(document))?;
+        packed.push(PackedJson::from_value(document))?;
     }
     Ok(packed)
 }

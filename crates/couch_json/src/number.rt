@@ -4,8 +4,6 @@ ghost use Rattle.couch_json.specs.Range.{IsInRange};
 use std::marker::Model;
 
 /// A whole number from -2^63 to 2^64 - 1: the numbers that this store keeps.
-///
-/// It takes 16 bytes and stands at multiples of 8, so that a [`crate::Json`] takes 32.
 #[derive(Clone, Copy, Debug, PartialEq, Eq)]
 pub struct Number {
     /// Whether the number is below zero.

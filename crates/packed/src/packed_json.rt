@@ -57,7 +57,7 @@ impl PackedJson {
     {
         let value = read(alloc, &text)?;
         if text.len() > MAX_TEXT {
-            return Ok(PackedJson::whole(value));
+            return Ok(PackedJson::from_value(value));
         }
         Ok(PackedJson {
             kept: Kept::Text(text),
@@ -65,7 +65,7 @@ impl PackedJson {
     }
 
     /// Keeps a value as it is.
-    pub fn whole(value: Json) -> PackedJson
+    pub fn from_value(value: Json) -> PackedJson
         ensures { result ≡ view value }
     {
         PackedJson {
