@@ -7,8 +7,7 @@ const MAX_TEXT: usize = 65_536;
 
 /// A JSON value in little memory, while nothing is asked of it. Clauses see the value.
 ///
-/// An object of one member takes some nine hundred bytes, most of them room for more members, and
-/// its text takes a dozen.
+/// Each member of an object takes some hundred bytes, and its text takes a dozen.
 pub struct PackedJson {
     kept: Kept,
 }
