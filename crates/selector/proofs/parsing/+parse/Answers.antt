@@ -1,4 +1,5 @@
 use Rattle.std.proofs.Common.{◌≡◌, ◌∷◌, ◌++◌, ◌+◌, [], None, false, drop, length, nat_eq, string_bytes, sym, ap, ◌∙◌, arith, rules}
+use Rattle.std.proofs.lemmas.List.{drop_all}
 use Rattle.couch_json.specs.View.{view, items_view, members_view}
 use Rattle.couch_json.specs.Value.{member, no_members}
 use Rattle.couch_json.proofs.Depths.{entry_below, left_from}
@@ -50,4 +51,4 @@ parse_items-loop-item-init t c =
 
 pub parse_members-parse_member-requires : goal.parse_members-parse_member-requires
 parse_members-parse_member-requires t c =
-    (omega (arith, c.decreases, entry_below the_size _ _ _ _ c.as_slice-name-items.ensures.entries c.loop-name-test.true c.loop-name-item.is), tt)
+    (omega (arith, c.decreases, entry_below the_size _ _ _ _ c.as_slice-name-items.ensures.entries c.loop-name-test.true c.loop-name-item.is), omega arith)
