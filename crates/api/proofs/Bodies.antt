@@ -1,22 +1,21 @@
 -- A body that is read member by member.
-use Rattle.std.proofs.Common.{◌≡◌, ◌≤◌, ◌<◌, ◌-◌, ℕ, List, [], ◌∷◌, Bool, true, false, cond, Option, Some, None, option_and_then, option_map, Result, Ok, Err, IsUtf8, codes, length, refl, sym, ap, ◌∙◌, arith}
-use Rattle.std.specs.Prelude.{⊤, IfSome, unwrap_or}
+use Rattle.std.proofs.Common.{◌≡◌, ◌≤◌, ◌<◌, ◌-◌, ℕ, List, [], ◌∷◌, Bool, true, false, Option, Some, None, option_and_then, option_map, IsUtf8, codes, length, refl, sym, ap, ◌∙◌, arith}
+use Rattle.std.specs.Prelude.{IfSome, unwrap_or}
 use Rattle.json.specs.Token.{Token}
 use Rattle.json.specs.Lex.{tokens}
 use Rattle.json.specs.Json as json
 use Rattle.json.specs.Json.{parse_map, read_key, members, value}
 use Rattle.json.proofs.Grammar.{members_end, members_more, value-begin_array, value-begin_object, value_is}
 use Rattle.serde_json.specs.Data as serde
-use Rattle.serde_json.specs.Read.{converted, max_depth, of_items, of_json, of_members, read}
+use Rattle.serde_json.specs.Read.{converted, max_depth, of_json, of_members, read}
 use Rattle.couch_json.specs.Nesting.{nests_too_deep}
-use Rattle.couch_json.specs.Reading.{data_read, items_of_data, reading, value_of, value_or_fault, whole_or_fault}
+use Rattle.couch_json.specs.Reading.{data_read, items_of_data, value_of, value_or_fault, whole_or_fault}
 use Rattle.couch_json.specs.Value as couch
 use Rattle.couch_json.specs.Value.{Value}
 use Rattle.couch_json.specs.View.{items_of}
-use Rattle.couch_json.specs.declared.fault.JsonFault.TheVariants.{Depth}
 use Rattle.couch_json.proofs.Readings.{data_read-IsUtf8}
 use Rattle.couch_json.proofs.ReadingBack.{whole_tree}
-use Rattle.packed.specs.Listing.{AreRead, AreTrees}
+use Rattle.packed.specs.Listing.{AreRead}
 use Rattle.api.specs.Bulk.{Bulk, bulk_in}
 use Rattle.api.specs.BulkAsked.{bulk_asked}
 use Rattle.api.specs.declared.bulk.BulkAsked.{BulkAsked}

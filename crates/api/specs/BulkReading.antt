@@ -1,7 +1,6 @@
 -- What the members of a body that were read one by one are, in the words of the libraries that say what a JSON text is.
 -- RFC 8259, section 4, as serde_json reads it; CouchDB manual, api/database/bulk-api.
 use Rattle.std.specs.Prelude.{◌≡◌, ◌<◌, ℕ, Bool, List, [], ◌∷◌, Option, Some, None, Ok, codes, length, option_map, unwrap_or, true, ⊤}
-use Rattle.std.specs.declared.vec.Vec.{Vec}
 use Rattle.json.specs.Token.{Token}
 use Rattle.json.specs.Json as json
 use Rattle.serde_json.specs.Data as serde

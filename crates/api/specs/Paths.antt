@@ -1,6 +1,6 @@
 -- The parts of a path, and what a part says once its escapes are read.
 -- RFC 3986, sections 2.1 and 3.3 (escapes, segments); CouchDB manual, api/basics (names in paths are escaped).
-use Rattle.std.specs.Prelude.{ℕ, ◌==◌, Bool, ◌&&◌, not, List, ◌∷◌, ◌++◌, Option, Some, None, option_map, option_and_then, if◌then◌else◌, slice_get}
+use Rattle.std.specs.Prelude.{ℕ, ◌==◌, Bool, not, List, ◌∷◌, ◌++◌, Option, Some, None, option_map, option_and_then, if◌then◌else◌, slice_get}
 use Rattle.std.specs.List.{slice_split}
 use Rattle.std.specs.Str.{is_utf8}
 use Rattle.percent_encoding.specs.Percent.{percent_decode}

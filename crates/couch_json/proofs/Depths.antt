@@ -1,5 +1,5 @@
 -- The entries of a map, one after another, and that their values are less deep than what holds them.
-use Rattle.std.proofs.Common.{◌≡◌, ℕ, zero, suc, ◌<◌, ◌≤◌, ◌+◌, max, List, [], ◌∷◌, length, drop, get_or, refl, ap, ◌∙◌, String, Global, sym, subst, arith}
+use Rattle.std.proofs.Common.{◌≡◌, ℕ, zero, suc, ◌<◌, ◌≤◌, ◌+◌, List, [], ◌∷◌, length, drop, get_or, ap, ◌∙◌, String, Global, sym, subst, arith}
 use denote.Param.Weighed.{most}
 use Rattle.std.specs.Map.{values_of}
 

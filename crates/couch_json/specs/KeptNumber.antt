@@ -1,6 +1,6 @@
 -- How a number is kept: whether it is below zero, and how far it stands above 0 or below -1.
 -- No outside source decides; that it keeps each number exactly is proved here.
-use Rattle.std.specs.Prelude.{◌≡◌, ◌≤◌, ◌^◌, ◌-◌, ℕ, ℤ, pos, negsuc, Bool, true, false, if◌then◌else◌, refl}
+use Rattle.std.specs.Prelude.{◌≡◌, ℕ, ℤ, pos, negsuc, Bool, true, false, if◌then◌else◌, refl}
 use Rattle.couch_json.specs.Range.{IsInRange}
 use Rattle.couch_json.specs.declared.number.Number.TheInside.{Inside}
 

@@ -1,11 +1,9 @@
-use Rattle.std.proofs.Common.{◌≡◌, ◌∙◌, Some, None, Option, IsUtf8, false, refl, sym, ap, subst, rules}
+use Rattle.std.proofs.Common.{◌≡◌, ◌∙◌, IsUtf8, false, ap, subst, rules}
 use Rattle.std.specs.Prelude.{IfSome}
 use Rattle.json.specs.Lex.{tokens}
 use Rattle.couch_json.specs.Nesting.{nests_too_deep}
-use Rattle.api.specs.Bulk.{Bulk}
-use Rattle.api.specs.BulkAsked.{bulk_asked}
-use Rattle.api.specs.BulkReading.{Asks, IsBody}
-use Rattle.api.proofs.Bodies.{asks, if_asked}
+use Rattle.api.specs.BulkReading.{IsBody}
+use Rattle.api.proofs.Bodies.{if_asked}
 use Rattle.api.proofs.bulk_reading.read_in_parts.Goals as goal
 
 pub returns : goal.returns

@@ -1,4 +1,4 @@
-use Rattle.std.proofs.Common.{◌≡◌, ◌<◌, length, refl, Some, None, rules}
+use Rattle.std.proofs.Common.{◌≡◌, refl, Some, None, rules}
 use Rattle.json.specs.Json.{read_key}
 use Rattle.json.proofs.Grammar.{read_key-shorter}
 use Rattle.api.specs.BulkReading.{PutsPart}

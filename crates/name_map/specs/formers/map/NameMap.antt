@@ -1,7 +1,7 @@
 -- `NameMap` as a type that may hold the type that holds it, by its values.
 use Rattle.std.specs.Prelude.{◌≡◌, List, [], ◌∷◌, String}
-use mathlib.Core.Path.{refl, sym, ap, subst}
-use mathlib.Core.Former.{Former, this, const, list, via, children}
+use mathlib.Core.Path.{refl, sym, subst}
+use mathlib.Core.Former.{Former, this, list, via, children}
 use denote.RattleType.{RattleType}
 use denote.HoleLaws.{Alike}
 use denote.HolePlaces.{Recodes, struct_places, stays, laid}
@@ -15,7 +15,7 @@ use Rattle.std.specs.contracts.alloc.Global as heap
 use Rattle.std.specs.contracts.string.String as text
 use Rattle.std.specs.contracts.impls.GlobalAllocator.TheImpl.{ghosts}
 use Rattle.std.specs.List.Sorted.{IsStrictlySortedBy, IsStrictlySortedBy-prop}
-use Rattle.std.specs.Map.{keys_of, values_of}
+use Rattle.std.specs.Map.{values_of}
 use Rattle.std.specs.Prelude.{string_cmp}
 use Rattle.std.specs.formers.vec.Vec as vec
 use Rattle.std_collections.specs.Layout.Former.{entry, on_value, entries_puts, values_listed, keys_on_values, entries_recoded}

@@ -1,7 +1,7 @@
 use Rattle.std.proofs.Common.{◌≡◌, ◌∷◌, ◌++◌, ◌+◌, [], None, false, drop, length, nat_eq, string_bytes, sym, ap, ◌∙◌, arith, rules}
 use Rattle.std.proofs.lemmas.List.{drop_all}
 use Rattle.couch_json.specs.View.{view, items_view, members_view}
-use Rattle.couch_json.specs.Value.{member, no_members}
+use Rattle.couch_json.specs.Value.{member}
 use Rattle.couch_json.proofs.Depths.{entry_below, left_from}
 use Rattle.couch_json.proofs.value.Json.TheLaws.{the_size}
 use Rattle.selector.specs.Grammar.{first, member_fault, selector_fault, list_fault, members_fault, items_fault}

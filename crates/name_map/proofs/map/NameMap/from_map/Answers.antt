@@ -1,4 +1,4 @@
-use Rattle.std.proofs.Common.{◌≡◌, ◌++◌, [], ◌∷◌, append_assoc, append-nil, subst, sym, ap, ◌∙◌}
+use Rattle.std.proofs.Common.{◌++◌, [], ◌∷◌, append_assoc, append-nil, subst, sym, ap, ◌∙◌}
 use Rattle.name_map.proofs.Entries.{Ascends}
 use Rattle.name_map.proofs.map.NameMap.from_map.Goals as goal
 

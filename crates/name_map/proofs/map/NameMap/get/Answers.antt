@@ -1,7 +1,7 @@
-use Rattle.std.proofs.Common.{◌<◌, ◌≤◌, ◌≡◌, length, Some, sym, subst, ap, ap₂, ◌∙◌, string_bytes, rules, arith}
-use Rattle.std.specs.BTreeMap.{insert_entry, is_at}
-use Rattle.std.specs.Map.{keys_of, lookup, remove_entry}
-use Rattle.name_map.specs.Places.{FitsAt, StandsAt, order}
+use Rattle.std.proofs.Common.{◌≡◌, Some, sym, subst, ap, ◌∙◌, arith}
+use Rattle.std.specs.BTreeMap.{is_at}
+use Rattle.std.specs.Map.{lookup}
+use Rattle.name_map.specs.Places.{StandsAt, order}
 use Rattle.name_map.proofs.Searches.{lookup_missing, lookup_standing, standing_within}
 use Rattle.name_map.proofs.map.NameMap.get.Goals as goal
 

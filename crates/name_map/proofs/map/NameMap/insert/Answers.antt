@@ -1,7 +1,7 @@
-use Rattle.std.proofs.Common.{◌<◌, ◌≤◌, ◌≡◌, length, Some, sym, subst, ap, ap₂, ◌∙◌, string_bytes, rules, arith}
+use Rattle.std.proofs.Common.{◌≡◌, Some, sym, subst, ap, ap₂, ◌∙◌, string_bytes, arith}
 use Rattle.std.specs.BTreeMap.{insert_entry, is_at}
-use Rattle.std.specs.Map.{keys_of, lookup, remove_entry}
-use Rattle.name_map.specs.Places.{FitsAt, StandsAt, order}
+use Rattle.std.specs.Map.{keys_of, lookup}
+use Rattle.name_map.specs.Places.{FitsAt, StandsAt}
 use Rattle.std.proofs.Common.{set, string_cmp}
 use Rattle.std.specs.List.Sorted.{IsStrictlySortedBy}
 use Rattle.name_map.proofs.Entries.{Ascends, insert_ascends}
