@@ -5,7 +5,7 @@ use Rattle.couch_json.specs.View.{items_of, items_view, view}
 use Rattle.couch_json.specs.declared.value.Json.{Json, Array, the_lemmas}
 use Rattle.api.specs.Bulk.{documents_of, elements}
 
-pub elements_of : (vs : List Value) → elements (items_of vs) ≡ vs
+elements_of : (vs : List Value) → elements (items_of vs) ≡ vs
 elements_of [] = refl
 elements_of (v ∷ vs) = ap (λ rest. v ∷ rest) (elements_of vs)
 

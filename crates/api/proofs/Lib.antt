@@ -2,5 +2,4 @@ mod Apart
 pub mod Listed
 pub mod Counts
 pub mod Elements
-pub mod Bodies
 pub mod Ids

@@ -5,7 +5,6 @@ pub mod RequestReading
 pub mod Asking
 pub mod Bulk
 pub mod BulkAsked
-pub mod BulkReading
 pub mod Queries
 pub mod Listings
 pub mod Views

@@ -1,6 +1,6 @@
 //! What a request to write several documents together asks for (CouchDB manual, api/database/bulk-api).
 
-ghost use Rattle.std.specs.Prelude.{◌≡◌, ◌++◌, IfOk, option_map, map as list_map, codes};
+ghost use Rattle.std.specs.Prelude.{◌≡◌, option_map, map as list_map, codes};
 ghost use Rattle.couch_http.specs.Message.{message_of};
 ghost use Rattle.couch_json.specs.Value.{member_at, member_of};
 ghost use Rattle.couch_json.specs.View.{members_view, view};
@@ -9,16 +9,11 @@ ghost use Rattle.api.specs.BulkAsked.{bulk_asked};
 ghost use Rattle.api.specs.RequestReading.{Says};
 
 use crate::asking::body;
-use crate::bulk_reading::read_in_parts;
 use crate::fault::RequestFault;
 use crate::refusal::Refusal;
 use couch_http::Request;
-use couch_json::{Got, Json, NameMap};
-use packed::PackedJson;
+use couch_json::{Json, NameMap};
 use std::alloc::Global;
-
-/// The most bytes of a body that is read at once.
-const MAX_AT_ONCE: usize = 65_536;
 
 /// Documents that are to be written together.
 #[derive(Drop)]
@@ -26,57 +21,33 @@ pub struct BulkAsked {
     /// Whether as new edits, and not with the revisions that they come with.
     pub new_edits: bool,
     /// The documents, in order.
-    pub documents: Vec<PackedJson>,
+    pub documents: Vec<Json>,
 }
 
 /// Reads what a body asks to be written, where it is an object of `docs` and `new_edits` alone.
-///
-/// A body of at most 64 KiB is read at once, which takes less time. Of a longer one each document is
-/// read and packed before the next one, which takes less memory.
 pub fn read_bulk(alloc: Global, request: &Request) -> Result<BulkAsked, RequestFault>
     ensures { Says bulk_asked result (bulk_of (message_of request.now)) }
 {
-    if request.body.len() > MAX_AT_ONCE {
-        if let Some(asked) = read_in_parts(alloc, &request.body)? {
-            return Ok(asked);
-        }
-    }
     let value = body(alloc, request)?;
-    match bulk_in(alloc, value)? {
+    match bulk_in(value) {
         Some(asked) => Ok(asked),
         None => Err(RequestFault::Refused(Refusal::Body)),
     }
 }
 
 /// Takes what a value asks to be written.
-fn bulk_in(alloc: Global, value: Json) -> Got<Option<BulkAsked>>
-    ensures { IfOk result (λ asked. option_map bulk_asked asked ≡ bulk_in (view value)) }
+fn bulk_in(value: Json) -> Option<BulkAsked>
+    ensures { option_map bulk_asked result ≡ bulk_in (view value) }
 {
     if !value.has_only(&["docs", "new_edits"]) {
-        return Ok(None);
+        return None;
     }
-    let Some(new_edits) = new_edits_in(value.member("new_edits")) else {
-        return Ok(None);
-    };
-    let Some(documents) = documents_in(value) else {
-        return Ok(None);
-    };
-    let documents = pack_whole(alloc, documents)?;
-    Ok(Some(BulkAsked {
+    let new_edits = new_edits_in(value.member("new_edits"))?;
+    let documents = documents_in(value)?;
+    Some(BulkAsked {
         new_edits,
         documents,
-    }))
-}
-
-/// Packs documents as they are.
-fn pack_whole(alloc: Global, documents: Vec<Json>) -> Got<Vec<PackedJson>>
-    ensures { IfOk result (λ packed. packed.items ≡ list_map view documents.items) }
-{
-    let mut packed = Vec::with_capacity(alloc, documents.len())?;
-    for document in documents {
-        packed.push(PackedJson::from_value(document))?;
-    }
-    Ok(packed)
+    })
 }
 
 /// Tells what `new_edits` says, true where it is not given; `None` where it is neither true nor false.

@@ -11,7 +11,6 @@
 
 mod asking;
 mod bulk;
-mod bulk_reading;
 mod differences;
 mod fault;
 pub mod laws;

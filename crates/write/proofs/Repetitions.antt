@@ -1,9 +1,11 @@
 -- Marks of documents by whether their `_id` comes again, the last document's first.
-use Rattle.std.proofs.Common.{◌≡◌, ◌||◌, ℕ, Bool, true, false, cond, List, [], ◌∷◌, ◌++◌, Global, Option, Some, String, string_bytes, string_cmp, reverse, refl, ap, sym, ◌∙◌}
-use Rattle.std.specs.Prelude.{bytes_eq, codes}
-use Rattle.std.specs.BTreeSet.{BTreeSet, Updates}
+use Rattle.std.proofs.Common.{◌≡◌, ◌||◌, ℕ, Bor, Bool, true, false, cond, List, [], ◌∷◌, ◌++◌, Option, Some, reverse, refl, ap, sym, ◌∙◌}
+use Rattle.std.specs.Prelude.{codes}
+use Rattle.std.specs.BTreeSet.{BTreeSet, contains}
+use Rattle.std.specs.Ordering.{is_eq, nat_cmp}
+use Rattle.std.specs.Cmp.Lexicographic.{slice_cmp}
 use Rattle.std.proofs.lemmas.List.{reverse-append}
-use Rattle.std.proofs.lemmas.Map.Text.{btree_set_updates_text}
+use Rattle.std.proofs.lemmas.Map.Text.{is_eq-slice_cmp}
 use Rattle.couch_json.specs.Value.{Value}
 use Rattle.write.specs.Document.{is_same_text, member_text}
 use Rattle.write.specs.Repeats.{has_text, is_named_if_any, repeats}
@@ -13,10 +15,13 @@ true_or true c = refl
 true_or false c = refl
 
 -- the set has the text that was put in
-pub put_named : (old new : BTreeSet (String Global)) (own : String Global) (i : Option (List ℕ)) → Updates string_cmp old new own true → i ≡ Some (string_bytes own)
+pub put_named : (old new : BTreeSet (Bor (List ℕ))) (own : Bor (List ℕ)) (i : Option (List ℕ))
+    → ((q : Bor (List ℕ)) → contains (λ x y. slice_cmp nat_cmp x.now y.now) new q
+    ≡ cond (is_eq (slice_cmp nat_cmp own.now q.now)) true (contains (λ x y. slice_cmp nat_cmp x.now y.now) old q)) → i ≡ Some own.now
     → (text : List ℕ) → has_text new text ≡ (is_same_text text i || has_text old text)
 put_named old new own i updates is text =
-    btree_set_updates_text (string_bytes own) old new true updates text ∙ true_or (bytes_eq (string_bytes own) text) (has_text old text)
+    updates (record own { now = text }) ∙ true_or (is_eq (slice_cmp nat_cmp own.now text)) (has_text old text)
+    ∙ ap (λ (b : Bool). b || has_text old text) (is_eq-slice_cmp own.now text)
     ∙ ap (λ (x : Option (List ℕ)). is_same_text text x || has_text old text) (sym is)
 
 -- the mark of one document more is the last

@@ -1,9 +1,11 @@
 -- Which of several documents have an `_id` that a later one has too.
 -- This crate's own: it says of which documents the code keeps the history while it judges the others.
-use Rattle.std.specs.Prelude.{◌≡◌, ℕ, Bool, true, false, List, [], ◌∷◌, Option, Some, None, String, codes}
-use Rattle.std.specs.BTreeSet.{BTreeSet, contains_text}
+use Rattle.std.specs.Prelude.{◌≡◌, ℕ, Bool, true, false, List, [], ◌∷◌, Option, Some, None, codes}
+use Rattle.std.specs.Borrow.{Bor}
+use Rattle.std.specs.BTreeSet.{BTreeSet, contains_by}
 use Rattle.std.specs.List.{list_any}
-use Rattle.std.specs.declared.alloc.Global.{Global}
+use Rattle.std.specs.Ordering.{nat_cmp}
+use Rattle.std.specs.Cmp.Lexicographic.{slice_cmp}
 use Rattle.couch_json.specs.Value.{Value}
 use Rattle.write.specs.Document.{is_same_text, member_text}
 
@@ -22,11 +24,11 @@ repeats [] = []
 repeats (v ∷ vs) = is_named_if_any (member_text (codes "_id") v) vs ∷ repeats vs
 
 -- a set of texts has this one
-abbrev pub has_text : BTreeSet (String Global) → List ℕ → Bool
-has_text texts text = contains_text texts text
+abbrev pub has_text : BTreeSet (Bor (List ℕ)) → List ℕ → Bool
+has_text texts text = contains_by (λ t. slice_cmp nat_cmp text t.now) texts
 
 -- the same of the `_id` of a document, where it is a text
-abbrev pub has_text_if_any : BTreeSet (String Global) → Option (List ℕ) → Bool
+abbrev pub has_text_if_any : BTreeSet (Bor (List ℕ)) → Option (List ℕ) → Bool
 has_text_if_any texts None = false
 has_text_if_any texts (Some text) = has_text texts text
 

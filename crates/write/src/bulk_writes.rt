@@ -3,6 +3,7 @@
 ghost use Rattle.std.specs.FinMap as map;
 ghost use Rattle.std.specs.Prelude.{◌≡◌, ◌≢◌, ◌++◌, ◌<◌, [], All, IfOk, IfErr, IfSome, OnErr, OnOk, Ok, Err, Some, None, is_some, true, length, map as list_map, option_map};
 ghost use Rattle.std.specs.Option.{option_to_list};
+ghost use Rattle.couch_json.specs.View.{view};
 ghost use Rattle.store.specs.Calls.{OnlyReads};
 ghost use Rattle.store.specs.Contents.{IfThere};
 ghost use Rattle.store.specs.Database.{Database, history_at, with_all};
@@ -27,8 +28,7 @@ use crate::repeats::{mark_repeats, take_mark};
 use crate::replicating::place;
 use crate::terms::{Terms, read_terms};
 use auth::Caller;
-use couch_json::{Got, NoMemory};
-use packed::PackedJson;
+use couch_json::{Got, Json, NoMemory};
 use std::alloc::Global;
 use std::collections::BTreeMap;
 use store::{DbName, Store, Write};
@@ -41,19 +41,19 @@ use tree::{DocId, History, PackedHistory};
 /// its one revision, and which changes nothing where its revision is known. All are judged on the
 /// terms that the store has at the start: a design document among them rules none of those behind
 /// it. Their writes make one plan. `Store(NoDatabase)` comes if and only if there is no database of
-/// this name. No history is copied, no path of an edit is walked, and one document is unpacked at a
-/// time. The path of a replicated one is made before its history is read. See the CouchDB manual, api/database/bulk-api.
+/// this name. No history is copied, and no path of an edit is walked. The path of a replicated
+/// document is made before its history is read. See the CouchDB manual, api/database/bulk-api.
 pub fn bulk<S: Store>(
     alloc: Global,
     store: &mut S,
     db: &DbName,
     caller: &Caller,
-    documents: Vec<PackedJson>,
+    documents: Vec<Json>,
     new_edits: bool,
 ) -> Result<Planned, WriteFault>
     ensures there { S.is_honest store.new → IsDecided result → is_some (map.get (S.contents store.old) db.now) ≡ true }
     ensures plan { S.is_honest store.new → IfOk result (λ planned. IfThere (map.get (S.contents store.old) db.now) (λ d.
-        Plans d documents.items (outcomes (terms_in caller.now db.now d) new_edits (history_at d) documents.items) planned)) }
+        Plans d (list_map view documents.items) (outcomes (terms_in caller.now db.now d) new_edits (history_at d) (list_map view documents.items)) planned)) }
     ensures appends { IfOk result (λ planned. AreWrites planned.changes) }
     ensures own { IfOk result (λ planned. All (λ r. IsOwnOutcome r.outcome) planned.results.items) }
     ensures database { IfOk result (λ planned. planned.database ≡ db.now) }
@@ -76,13 +76,13 @@ fn judge_all<S: Store>(
     store: &mut S,
     db: &DbName,
     terms: &Terms,
-    documents: Vec<PackedJson>,
+    documents: Vec<Json>,
     new_edits: bool,
 ) -> Result<(Vec<Write>, Vec<DocumentResult>), WriteFault>
     ensures writes { S.is_honest store.new → IfOk result (λ all. (d : Database) → map.get (S.contents store.old) db.now ≡ Some d
-        → writings_in d (additions all.0.items) ≡ writes_in (outcomes (terms_of terms.now) new_edits (history_at d) documents.items)) }
+        → writings_in d (additions all.0.items) ≡ writes_in (outcomes (terms_of terms.now) new_edits (history_at d) (list_map view documents.items))) }
     ensures results { S.is_honest store.new → IfOk result (λ all. (d : Database) → map.get (S.contents store.old) db.now ≡ Some d
-        → list_map told_of all.1.items ≡ all_told documents.items (outcomes (terms_of terms.now) new_edits (history_at d) documents.items)) }
+        → list_map told_of all.1.items ≡ all_told (list_map view documents.items) (outcomes (terms_of terms.now) new_edits (history_at d) (list_map view documents.items))) }
     ensures own { IfOk result (λ all. All (λ r. IsOwnOutcome r.outcome) all.1.items) }
     ensures only { IfErr result IsOfStoreOrMemory }
     ensures passed { IfErr result (Refuses S.Store store.old store.new (map.get (S.contents store.old) db.now ≡ None) ⊥) }
@@ -93,7 +93,6 @@ fn judge_all<S: Store>(
     let mut writes = Vec::with_capacity(alloc, documents.len())?;
     let mut results = Vec::with_capacity(alloc, documents.len())?;
     for document in documents {
-        let document = document.unpack(alloc)?;
         let draft = read_draft(alloc, terms, new_edits, document)?;
         load(alloc, store, db, &draft.id, &mut histories)?;
         let again = take_mark(&mut repeats);

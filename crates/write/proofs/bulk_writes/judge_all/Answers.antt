@@ -21,11 +21,11 @@ use Rattle.write.proofs.bulk_writes.judge_all.Goals as goal
 pub loop-document-init : goal.loop-document-init
 loop-document-init g c = record {
   judged = λ honest d there.
-      begun (terms_of c.args.terms.now) c.args.new_edits d c.args.documents.items _ c.new-histories.result _ _ c.new-histories.ensures.empty
-      c.into_iter-document-iterator.ensures.into_iter_gives.0 (ap additions c.in_ok-writes.ensures.items) (ap (map told_of) c.in_ok-results.ensures.items);
+      begun (terms_of c.args.terms.now) c.args.new_edits d (map view c.args.documents.items) _ c.new-histories.result _ _ c.new-histories.ensures.empty
+      (ap (map view) c.into_iter-document-iterator.ensures.into_iter_gives.0) (ap additions c.in_ok-writes.ensures.items) (ap (map told_of) c.in_ok-results.ensures.items);
   marks =
       let all : c.deref.result.now ≡ into_iter_items c.into_iter-document-iterator.result = search rules in
-      c.in_ok-repeats.ensures ∙ ap (λ vs. reverse (repeats vs)) all;
+      c.in_ok-repeats.ensures ∙ ap (λ vs. reverse (repeats (map view vs))) all;
   own = grind (arith, common_steps);
   reads = reads_nothing g.S.Store c.args.store.now;
 }
@@ -34,19 +34,18 @@ pub loop-document-preserved : goal.loop-document-preserved
 loop-document-preserved g c =
     let l = c.loop-document in
     let left = into_iter_items c.next.new.self in
-    let document = view c.in_ok-document.document in
-    let next : into_iter_items l.document-iterator ≡ c.in-Some.document ∷ left = search rules in
-    let first : into_iter_items l.document-iterator ≡ document ∷ left = next ∙ ap (λ v. v ∷ left) (sym c.in_ok-document.ensures) in
-    let mark = c.take_mark-again.ensures (reverse (repeats left)) (is_named_if_any (member_text (codes "_id") document) left)
-    (l.invariant.marks ∙ ap (λ vs. reverse (repeats vs)) first ∙ marks_cons document left) in
+    let document = view c.in-Some.document in
+    let first : into_iter_items l.document-iterator ≡ c.in-Some.document ∷ left = search rules in
+    let mark = c.take_mark-again.ensures (reverse (repeats (map view left))) (is_named_if_any (member_text (codes "_id") document) (map view left))
+    (l.invariant.marks ∙ ap (λ vs. reverse (repeats (map view vs))) first ∙ marks_cons document (map view left)) in
     record {
       judged = λ honest d there.
           let before = c.in_ok-load.ensures.reads.goes_on.honest honest in
-          judged_draft (terms_of c.args.terms.now) c.args.new_edits c.take_mark-again.result d c.args.documents.items (into_iter_items l.document-iterator) left document
+          judged_draft (terms_of c.args.terms.now) c.args.new_edits c.take_mark-again.result d (map view c.args.documents.items) (map view (into_iter_items l.document-iterator)) (map view left) document
           c.in_ok-draft.draft.label c.in_ok-draft.draft.id c.in_ok-draft.draft.request
           l.histories c.load.new.histories c.judge_one.new.histories (additions l.writes.items) (additions c.judge_one.new.writes.items)
           (map told_of l.results.items) (map told_of c.push.new.self.items) (told_of c.in_ok-judge_one.field-0)
-          first (l.invariant.judged before d there)
+          (ap (map view) first) (l.invariant.judged before d there)
           (c.in_ok-load.ensures.ok honest d (ap (λ (x : Contents). finite.get x c.args.db.now) (l.invariant.reads.same before) ∙ there))
           mark.0
           c.in_ok-draft.ensures.id c.in_ok-draft.ensures.label_id c.in_ok-draft.ensures.label_rev c.in_ok-draft.ensures.outcome
@@ -62,12 +61,12 @@ pub returns-clause-writes : goal.returns-clause-writes
 returns-clause-writes g c = λ honest d there.
     let l = c.loop-document in
     let none : into_iter_items l.document-iterator ≡ [] = grind (arith, common_steps) in
-    judged_writes (terms_of c.args.terms.now) c.args.new_edits d c.args.documents.items (into_iter_items l.document-iterator) l.histories (additions l.writes.items) (map told_of l.results.items)
-    none (l.invariant.judged honest d there)
+    judged_writes (terms_of c.args.terms.now) c.args.new_edits d (map view c.args.documents.items) (map view (into_iter_items l.document-iterator)) l.histories (additions l.writes.items) (map told_of l.results.items)
+    (ap (map view) none) (l.invariant.judged honest d there)
 
 pub returns-clause-results : goal.returns-clause-results
 returns-clause-results g c = λ honest d there.
     let l = c.loop-document in
     let none : into_iter_items l.document-iterator ≡ [] = grind (arith, common_steps) in
-    judged_results (terms_of c.args.terms.now) c.args.new_edits d c.args.documents.items (into_iter_items l.document-iterator) l.histories (additions l.writes.items) (map told_of l.results.items)
-    none (l.invariant.judged honest d there)
+    judged_results (terms_of c.args.terms.now) c.args.new_edits d (map view c.args.documents.items) (map view (into_iter_items l.document-iterator)) l.histories (additions l.writes.items) (map told_of l.results.items)
+    (ap (map view) none) (l.invariant.judged honest d there)
