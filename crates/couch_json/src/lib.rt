@@ -42,7 +42,6 @@ pub use key_fault::KeyFault;
 pub use key_reading::key_of;
 pub use members::{is_among, put_member};
 pub use name_map::NameMap;
-pub use nesting::check_nesting;
 pub use no_memory::{Got, NoMemory};
 pub use number::Number;
 pub use object_text::ObjectText;

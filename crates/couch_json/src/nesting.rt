@@ -13,7 +13,7 @@ enum Place {
 }
 
 /// Tells whether more than 110 brackets and braces are ever open, outside of strings.
-pub fn check_nesting(bytes: &[u8]) -> bool
+pub(crate) fn check_nesting(bytes: &[u8]) -> bool
     ensures { result ≡ nests_too_deep bytes.now }
 {
     let mut place = Place::Outside;
