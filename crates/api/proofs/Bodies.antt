@@ -19,7 +19,7 @@ use Rattle.packed.specs.Listing.{AreRead}
 use Rattle.api.specs.Bulk.{Bulk, bulk_in}
 use Rattle.api.specs.BulkAsked.{bulk_asked}
 use Rattle.api.specs.declared.bulk.BulkAsked.{BulkAsked}
-use Rattle.api.specs.BulkReading.{AreMembers, AreParts, Asks, IsBody, IsList, PutsPart, listed, members_of, parts_ask}
+use Rattle.api.specs.BulkReading.{AreMembers, AreParts, Asks, IsBody, IsList, PutsPart, members_of, part_documents, parts_ask}
 use Rattle.api.specs.declared.bulk_reading.Parts.{Parts}
 use Rattle.api.proofs.Elements.{elements_of}
 
@@ -45,7 +45,7 @@ put_new_edits (Some es) (Some a) b = refl
 
 -- a list of documents takes its place
 pub puts_documents : (ts inside rest : List Token) (old new : Parts) (vs : List Value) → ts ≡ Token.begin_array ∷ inside → AreRead inside vs rest → length rest < length inside
-    → listed new ≡ Some vs → new.new_edits ≡ old.new_edits → PutsPart docs ts old rest new
+    → part_documents new ≡ Some vs → new.new_edits ≡ old.new_edits → PutsPart docs ts old rest new
 puts_documents ts inside rest old new vs opens read less came same = record {
   tree = json.array read.trees;
   read = ap (value 126) opens ∙ value-begin_array 126 inside (omega arith) ∙ ap (parse_map json.array) read.read;
@@ -169,7 +169,7 @@ asks_by (Some ds) (Some vs) b bulk valued e = (value_with vs b, value_of_members
 pub asks : (text : List ℕ) (parts : Parts) (bulk : Bulk) → IsUtf8 text → nests_too_deep text ≡ false → IsBody (tokens text) parts → parts_ask parts ≡ Some bulk → Asks text bulk
 asks text parts bulk utf8 shallow body asked =
     let are = body.are.are in
-    let found = asks_by are.list (listed parts) parts.new_edits bulk are.valued asked in
+    let found = asks_by are.list (part_documents parts) parts.new_edits bulk are.valued asked in
     record {
       value = found.0;
       is = rw shallow (ap value_or_fault (data_of_body text parts body utf8) ∙ ap (λ ms. whole_or_fault (value_of (serde.object ms))) are.are ∙ ap whole_or_fault found.1);

@@ -18,12 +18,12 @@ pub record Asks (bytes : List ℕ) (bulk : Bulk) : Type 0 where
   pub asked : bulk_in value ≡ Some bulk
 
 -- the documents, where there are some
-abbrev pub listed : Parts → Option (List Value)
-listed parts = option_map (λ documents. documents.items) parts.documents
+abbrev pub part_documents : Parts → Option (List Value)
+part_documents parts = option_map (λ documents. documents.items) parts.documents
 
 -- what the members ask for, where there are documents
 abbrev pub parts_ask : Parts → Option Bulk
-parts_ask parts = option_map (λ documents. record { new_edits = unwrap_or parts.new_edits true; documents = documents }) (listed parts)
+parts_ask parts = option_map (λ documents. record { new_edits = unwrap_or parts.new_edits true; documents = documents }) (part_documents parts)
 
 -- the data are a list of these values, or there is neither
 abbrev pub IsList : Option serde.Items → Option (List Value) → Type 0
@@ -42,7 +42,7 @@ members_of (Some ds) (Some b) = serde.member (codes "docs") (serde.array ds) (se
 -- the members are those that were read
 pub record AreMembers (parts : Parts) (ms : serde.Members) : Type 0 where
   pub list : Option serde.Items
-  pub valued : IsList list (listed parts)
+  pub valued : IsList list (part_documents parts)
   pub are : ms ≡ members_of list parts.new_edits
 
 -- the tokens begin with a value that takes its place among the members under this name, and these are behind it
