@@ -1,7 +1,7 @@
 //! A store in files, one of which stops at some call.
 
 use crate::first_version::{FILLING, VIEW, turn_back};
-use crate::local_client::{FAILED, node, reply_to, root_request, shown};
+use crate::local_client::{FAILED, node, reply_to, root_request, show_all};
 use couch_http::Request;
 use sqlite::{Alter, Connection, FileStore, Files, Options};
 use sqlite_disk::{Crash, Disk, Fuse, Memory};
@@ -132,7 +132,7 @@ fn ask(
 /// Returns all that the store over a connection shows.
 fn shown_in_tables<S: Alter + Drop>(alloc: Global, conn: Connection<S>) -> Result<String, Fail> {
     match SqlStore::open(alloc, conn) {
-        Ok(store) => shown(alloc, &mut node(alloc, store)?),
+        Ok(store) => show_all(alloc, &mut node(alloc, store)?),
         Err((_fault, _conn)) => Err(Fail::from("it is not opened")),
     }
 }
@@ -146,7 +146,7 @@ fn shown_by(alloc: Global, image: &Image) -> Result<String, Fail> {
 }
 
 /// Returns files in which the filling stands.
-fn filled(alloc: Global) -> Result<Image, Fail> {
+fn fill_files(alloc: Global) -> Result<Image, Fail> {
     let mut image = Image {
         log: Vec::new(alloc),
         db: Vec::new(alloc),
@@ -275,7 +275,7 @@ fn try_each_call(rt: &impl Abort, alloc: Global, trial: &Trial, is_log: bool) ->
 #[test]
 fn each_disk_stop(rt: HostRuntime) -> Result<(), Fail> {
     let alloc = rt.alloc();
-    let image = filled(alloc)?;
+    let image = fill_files(alloc)?;
     for (line, body) in REQUESTS {
         let trial = make_trial(alloc, &image, line, body)?;
         assert!(rt; trial.wanted.as_str().starts_with("20"), "{line}");
@@ -350,7 +350,7 @@ fn carry_over_at_each_call(
 #[test]
 fn each_disk_stop_of_carrying_over(rt: HostRuntime) -> Result<(), Fail> {
     let alloc = rt.alloc();
-    let image = turn_files_back(alloc, &filled(alloc)?)?;
+    let image = turn_files_back(alloc, &fill_files(alloc)?)?;
     for is_log in [true, false] {
         let calls = carry_over_at_each_call(&rt, alloc, &image, is_log)?;
         assert!(rt; calls > 0);

@@ -95,7 +95,7 @@ const SHOWN: [&str; 14] = [
 ];
 
 /// Returns all that requests of the admin show, which are good requests.
-pub fn shown<S: Store + Drop>(alloc: Global, node: &mut Node<S>) -> Result<String, Fail> {
+pub fn show_all<S: Store + Drop>(alloc: Global, node: &mut Node<S>) -> Result<String, Fail> {
     let mut all = String::new(alloc);
     for line in SHOWN {
         let text = reply_to(alloc, node, &root_request(alloc, line, "")?)?;

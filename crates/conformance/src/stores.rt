@@ -1,4 +1,4 @@
-use crate::local_client::{DESIGN, FAILED, node, reply, reply_to, root_request, shown, store};
+use crate::local_client::{DESIGN, FAILED, node, reply, reply_to, root_request, show_all, store};
 use std::alloc::Global;
 use std::test::Fail;
 use store::{DbName, FailStore, FullStore, PlainStore, Store};
@@ -34,7 +34,7 @@ const REQUESTS: [(&str, &str); 16] = [
 ];
 
 /// Returns a store with a design document and a document.
-fn filled(alloc: Global) -> Result<PlainStore, Fail> {
+fn fill_store(alloc: Global) -> Result<PlainStore, Fail> {
     let mut node = node(alloc, store(alloc)?)?;
     for (line, body) in [("PUT /db/_design/d", DESIGN), ("PUT /db/a", r#"{"v":1}"#)] {
         if node.handle(&root_request(alloc, line, body)?).status() != 201 {
@@ -51,14 +51,14 @@ fn each_store_call(rt: HostRuntime) -> Result<(), Fail> {
     let alloc = rt.alloc();
     for (line, body) in REQUESTS {
         let request = root_request(alloc, line, body)?;
-        let mut whole = node(alloc, filled(alloc)?)?;
-        let before = shown(alloc, &mut whole)?;
+        let mut whole = node(alloc, fill_store(alloc)?)?;
+        let before = show_all(alloc, &mut whole)?;
         let wanted = reply_to(alloc, &mut whole, &request)?;
         assert!(rt; wanted.as_str().starts_with("20"), "{line}: {wanted}");
-        let after = shown(alloc, &mut whole)?;
+        let after = show_all(alloc, &mut whole)?;
         let mut failures = 0;
         for k in 1..1_000 {
-            let mut failing = node(alloc, FailStore::new(filled(alloc)?, k))?;
+            let mut failing = node(alloc, FailStore::new(fill_store(alloc)?, k))?;
             let mut told = reply_to(alloc, &mut failing, &request)?;
             let store = failing.into_store();
             if store.faults() == 0 {
@@ -67,11 +67,11 @@ fn each_store_call(rt: HostRuntime) -> Result<(), Fail> {
             failures = k;
             let mut failing = node(alloc, store)?;
             if told.as_str() == FAILED {
-                assert_eq!(rt; shown(alloc, &mut failing)?, before, "{line}, call {k}");
+                assert_eq!(rt; show_all(alloc, &mut failing)?, before, "{line}, call {k}");
                 told = reply_to(alloc, &mut failing, &request)?;
             }
             assert_eq!(rt; told, wanted, "{line}, call {k}");
-            assert_eq!(rt; shown(alloc, &mut failing)?, after, "{line}, call {k}");
+            assert_eq!(rt; show_all(alloc, &mut failing)?, after, "{line}, call {k}");
             assert_eq!(rt; failing.into_store().faults(), 1);
         }
         assert!(rt;

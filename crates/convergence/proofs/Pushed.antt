@@ -36,7 +36,7 @@ use Rattle.repl.specs.Configuration.{database_of}
 use Rattle.passes.proofs.Comparing.{value_was}
 use Rattle.passes.proofs.Judged.{never, read_out, there_never, work_out}
 use Rattle.passes.proofs.Spellings.{leads_into}
-use Rattle.passes.specs.Spelled.{replicated}
+use Rattle.passes.specs.Spelled.{replica_bulk}
 use Rattle.convergence.specs.Appended.{Appends, IsSaidBy, IsSaidByOne, KeepsDocuments}
 use Rattle.convergence.specs.Written.{Becomes, PushesAppendWhatIsSaid}
 use Rattle.convergence.proofs.Quiet.{elements_back, nowhere, put_becomes, put_elsewhere, same_documents}
@@ -92,8 +92,8 @@ record HasPushed (a : Contents) (m : Message) (documents : List Value) (change :
 abbrev HasBodyOf : Message → Value → Type 0
 HasBodyOf m v = (w : Value) → body_of m ≡ Ok w → w ≡ v
 
-asked_back : (vs : List Value) → bulk_in (documents_value vs) ≡ Some (replicated vs)
-asked_back vs = ap (λ (xs : List Value). Some (replicated xs)) (elements_back vs)
+asked_back : (vs : List Value) → bulk_in (documents_value vs) ≡ Some (replica_bulk vs)
+asked_back vs = ap (λ (xs : List Value). Some (replica_bulk xs)) (elements_back vs)
 
 never_index : (caller : auth.Identity) (m : Message) (name : List ℕ) (db : Database) (d : Done) (documents : List Value) → HasBodyOf m (documents_value documents) → index_written caller m name db ≡ Ok d → ⊥
 never_index caller m name db d documents body e =
@@ -113,9 +113,9 @@ at_page BulkDocuments caller a m documents task o body e f =
     let l = went (body_of m) (λ value. next (there_or Body (bulk_in value)) (λ bulk. bulk_written caller bulk w.name w.db)) w.done p.then in
     let b = went (there_or Body (bulk_in l.first)) (λ bulk. bulk_written caller bulk w.name w.db) w.done l.then in
     let terms = terms_in caller w.name w.db in
-    let bulk : replicated documents ≡ b.first =
-    (let k : Some (replicated documents) ≡ Some b.first = sym (asked_back documents) ∙ ap bulk_in (sym (body l.first l.was)) ∙ was_named Body (bulk_in l.first) b.first b.was in cc) in
-    let done : bulk_done caller (replicated documents) (outcomes terms false (history_at w.db) documents) ≡ w.done =
+    let bulk : replica_bulk documents ≡ b.first =
+    (let k : Some (replica_bulk documents) ≡ Some b.first = sym (asked_back documents) ∙ ap bulk_in (sym (body l.first l.was)) ∙ was_named Body (bulk_in l.first) b.first b.was in cc) in
+    let done : bulk_done caller (replica_bulk documents) (outcomes terms false (history_at w.db) documents) ≡ w.done =
     ap (λ (x : Bulk). bulk_done caller x (outcomes terms x.new_edits (history_at w.db) x.documents)) bulk
     ∙ same {A = Done} (bulk_done caller b.first (outcomes terms b.first.new_edits (history_at w.db) b.first.documents)) w.done b.then in
     inr (record {

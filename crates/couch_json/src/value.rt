@@ -11,7 +11,7 @@ use std::alloc::Global;
 /// A JSON value (RFC 8259) whose numbers are whole.
 ///
 /// An object has each name once, in byte order of the names' UTF-8.
-#[derive(Debug, Drop)]
+#[derive(Debug, PartialEq, Drop)]
 pub enum Json {
     /// `null`
     Null,

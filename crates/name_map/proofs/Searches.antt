@@ -7,7 +7,7 @@ use Rattle.std.specs.Map.{keys_of, lookup, remove_entry}
 use Rattle.std.specs.Ordering.{ordering_index}
 use Rattle.std.specs.BTreeMap.{insert_entry, is_at}
 use Rattle.std.proofs.lemmas.Cmp.{nat_list_cmp_total}
-use Rattle.name_map.specs.Places.{FitsAt, StandsAt, compared, order}
+use Rattle.name_map.specs.Places.{FitsAt, StandsAt, entry_order, order}
 use Rattle.name_map.proofs.Entries.{Entries, Ascends, turned}
 
 -- ---- what a look-up finds
@@ -75,7 +75,7 @@ name_at P (e ∷ es) (suc i) d h lt = name_at P es i d h.1 (omega arith)
 below_same : (k l name : List ℕ) → slice_cmp nat_cmp k l ≡ Less → slice_cmp nat_cmp l name ≡ Equal → slice_cmp nat_cmp name k ≡ Greater
 below_same k l name less same = sym (nat_list_cmp_total.congr l name k same) ∙ turned k l Less less
 
-standing : {X : Type 0} (name : List ℕ) (es : Entries X) (i : ℕ) → Ascends es → i < length es → HoldsAt (λ e. compared name e ≡ Equal) es i → StandsAt name es i
+standing : {X : Type 0} (name : List ℕ) (es : Entries X) (i : ℕ) → Ascends es → i < length es → HoldsAt (λ e. entry_order name e ≡ Equal) es i → StandsAt name es i
 unfolding IsStrictlySortedBy
 standing name [] i s lt h = absurd (omega arith)
 standing name (e ∷ es) zero s lt h = turned (string_bytes e.0) name Equal (h e)
@@ -83,7 +83,7 @@ standing name (e ∷ es) (suc i) s lt h =
     let k = (get_or es i e).0 in
     (below_same (string_bytes e.0) (string_bytes k) name (name_at (λ k. string_cmp e.0 k ≡ Less) es i e s.0 (omega arith)) (h e), standing name es i s.1 (omega arith) h)
 
-fitting : {X : Type 0} (name : List ℕ) (es : Entries X) (i : ℕ) → i ≤ length es → AllWithin (λ e. compared name e ≡ Less) es 0 i → AllWithin (λ e. compared name e ≡ Greater) es i (length es) → FitsAt name es i
+fitting : {X : Type 0} (name : List ℕ) (es : Entries X) (i : ℕ) → i ≤ length es → AllWithin (λ e. entry_order name e ≡ Less) es 0 i → AllWithin (λ e. entry_order name e ≡ Greater) es i (length es) → FitsAt name es i
 fitting name [] zero le low high = tt
 fitting name [] (suc i) le low high = absurd (omega arith)
 fitting name (e ∷ es) zero le low high =
@@ -101,16 +101,16 @@ rises_by k l name Greater less h =
     let above : slice_cmp nat_cmp l name ≡ Greater = turned name l Less (nat_list_cmp_total.trans name k l (turned k name Greater h) less) in
     rw above (omega arith)
 
-rises_from : {X : Type 0} (name : List ℕ) (es : Entries X) (i j : ℕ) (d : String Global × X) → Ascends es → i ≤ j → j < length es → ordering_index (compared name (get_or es i d)) ≤ ordering_index (compared name (get_or es j d))
+rises_from : {X : Type 0} (name : List ℕ) (es : Entries X) (i j : ℕ) (d : String Global × X) → Ascends es → i ≤ j → j < length es → ordering_index (entry_order name (get_or es i d)) ≤ ordering_index (entry_order name (get_or es j d))
 unfolding IsStrictlySortedBy
 rises_from name [] i j d s le lt = absurd (omega arith)
 rises_from name (e ∷ es) zero zero d s le lt = omega arith
 rises_from name (e ∷ es) zero (suc j) d s le lt =
-    rises_by (string_bytes e.0) (string_bytes (get_or es j d).0) name (compared name e) (name_at (λ k. string_cmp e.0 k ≡ Less) es j d s.0 (omega arith)) refl
+    rises_by (string_bytes e.0) (string_bytes (get_or es j d).0) name (entry_order name e) (name_at (λ k. string_cmp e.0 k ≡ Less) es j d s.0 (omega arith)) refl
 rises_from name (e ∷ es) (suc i) zero d s le lt = absurd (omega arith)
 rises_from name (e ∷ es) (suc i) (suc j) d s le lt = rises_from name es i j d s.1 (omega arith) (omega arith)
 
-pub searched : {X : Type 0} (name : List ℕ) (es : Entries X) → Ascends es → (r : Result ℕ ℕ) → IsSearchInRange r (length es) → IsBinarySearchResult (compared name) es r
+pub searched : {X : Type 0} (name : List ℕ) (es : Entries X) → Ascends es → (r : Result ℕ ℕ) → IsSearchInRange r (length es) → IsBinarySearchResult (entry_order name) es r
     → IfOk r (StandsAt name es) × IfErr r (FitsAt name es)
 searched name es s (Ok i) lt h = (standing name es i s lt h, tt)
 searched name es s (Err i) le h = let parts = h (λ j k d ge lt. rises_from name es j k d s ge lt) in (tt, fitting name es i le parts.0 parts.1)

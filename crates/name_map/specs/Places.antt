@@ -11,8 +11,8 @@ abbrev pub order : List ℕ → String Global → Ordering
 order name other = slice_cmp nat_cmp name (string_bytes other)
 
 -- how an entry's name stands to this one
-abbrev pub compared : {X : Type 0} → List ℕ → String Global × X → Ordering
-compared name e = slice_cmp nat_cmp (string_bytes e.0) name
+abbrev pub entry_order : {X : Type 0} → List ℕ → String Global × X → Ordering
+entry_order name e = slice_cmp nat_cmp (string_bytes e.0) name
 
 -- the entry at this place has the name, and those before it have lesser ones
 abbrev pub StandsAt : {X : Type 0} → List ℕ → List (String Global × X) → ℕ → Type 0

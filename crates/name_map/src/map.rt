@@ -5,11 +5,10 @@ ghost use Rattle.std.specs.List.Retain.{IsFiltered};
 ghost use Rattle.std.specs.List.Sorted.{IsStrictlySortedBy};
 ghost use Rattle.std.specs.Map.{keys_of, lookup, remove_entry};
 ghost use Rattle.std.specs.Option.{option_copied};
-ghost use Rattle.name_map.specs.Places.{FitsAt, StandsAt, compared, order};
+ghost use Rattle.name_map.specs.Places.{FitsAt, StandsAt, entry_order, order};
 
 use std::alloc::{AllocError, Global};
 use std::cmp::Ordering;
-use std::collections::BTreeMap;
 use std::marker::Model;
 use std::mem;
 
@@ -40,6 +39,22 @@ impl<V> Model for NameMap<V> {
     ghost view = { λ m. record { entries = m.entries.items } };
 
     ghost invariant = { λ m. IsStrictlySortedBy string_cmp (keys_of m.entries.items) };
+}
+
+// Two maps are equal if and only if they have the same names with equal values.
+impl<V: PartialEq> PartialEq for NameMap<V> {
+    ghost use Rattle.std.specs.Prelude.{◌&&◌, string_eq};
+    ghost use Rattle.std.specs.Cmp.{and_per, on_per, partial_equiv_from_equiv};
+    ghost use Rattle.std.specs.Cmp.Lexicographic.{lists_per, pointwise};
+    ghost use Rattle.std.specs.String.{string_eq_equiv};
+
+    ghost eq = { λ m n. pointwise (λ p q. string_eq p.0 q.0 && V.eq p.1 q.1) m.entries n.entries };
+
+    ghost laws = { on_per (λ m. m.entries) (lists_per (and_per (on_per (λ p. p.0) (partial_equiv_from_equiv string_eq_equiv)) (on_per (λ p. p.1) V.laws))) };
+
+    fn eq(&self, other: &NameMap<V>) -> bool {
+        self.entries == other.entries
+    }
 }
 
 impl<V> NameMap<V> {
@@ -100,24 +115,13 @@ impl<V> NameMap<V> {
     {
         self.entries.binary_search_by(
             |entry: &(String, V)| -> Ordering
-                ensures { result ≡ compared name.entry.now entry.now }
+                ensures { result ≡ entry_order name.entry.now entry.now }
             { entry.0.as_str().cmp(name) },
         )
     }
 }
 
 impl<V: Drop> NameMap<V> {
-    /// Moves the names of a map with their values.
-    pub fn from_map(alloc: Global, map: BTreeMap<String, V>) -> Result<NameMap<V>, AllocError>
-        ensures { IfOk result (λ made. made.entries ≡ map.entries) }
-    {
-        let mut entries = Vec::with_capacity(alloc, map.len())?;
-        for entry in map {
-            entries.push(entry)?;
-        }
-        Ok(NameMap { entries })
-    }
-
     /// Puts a value at a name, and returns the value that was there. The name that was there stays. In
     /// order of the names this takes little time; else it moves all that stand behind it.
     ///

@@ -29,14 +29,14 @@ use Rattle.repl.specs.Configuration.{database_of}
 use Rattle.passes.proofs.Comparing.{value_was}
 use Rattle.passes.proofs.Judged.{Worked, judged, never, read_out, work_out}
 use Rattle.passes.proofs.Spellings.{leads_into}
-use Rattle.passes.specs.Spelled.{DocumentsArePushed, replicated}
+use Rattle.passes.specs.Spelled.{DocumentsArePushed, replica_bulk}
 
 elements_back : (vs : List Value) → elements (items_of vs) ≡ vs
 elements_back [] = refl
 elements_back (v ∷ vs) = ap (λ (xs : List Value). v ∷ xs) (elements_back vs)
 
-asked_back : (vs : List Value) → bulk_in (documents_value vs) ≡ Some (replicated vs)
-asked_back vs = ap (λ (xs : List Value). Some (replicated xs)) (elements_back vs)
+asked_back : (vs : List Value) → bulk_in (documents_value vs) ≡ Some (replica_bulk vs)
+asked_back vs = ap (λ (xs : List Value). Some (replica_bulk xs)) (elements_back vs)
 
 index_status : (caller : auth.Identity) (id name : List ℕ) (r : DocumentOutcome) (d : Done) → index_done caller id name r ≡ Ok d → d.status ≡ 200
 index_status caller id name (Ok w) d e = sym (ap (λ (x : Done). x.status) (same {A = Done} _ d e))
@@ -83,8 +83,8 @@ pushed_by c a k side documents small lawful ok =
     let l = went (body_of m) (λ value. next (there_or Body (bulk_in value)) (λ bulk. bulk_written caller bulk w.name w.db)) w.done p.then in
     let b = went (there_or Body (bulk_in l.first)) (λ bulk. bulk_written caller bulk w.name w.db) w.done l.then in
     let body : documents_value documents ≡ l.first = what_was_read (documents_value documents) l.first lawful (value_was (reading m.body) l.first l.was) in
-    let bulk : replicated documents ≡ b.first = (let e : Some (replicated documents) ≡ Some b.first = sym (asked_back documents) ∙ ap bulk_in body ∙ was_named Body (bulk_in l.first) b.first b.was in cc) in
-    let done : bulk_done caller (replicated documents) (outcomes (terms_in caller w.name w.db) false (history_at w.db) documents) ≡ w.done =
+    let bulk : replica_bulk documents ≡ b.first = (let e : Some (replica_bulk documents) ≡ Some b.first = sym (asked_back documents) ∙ ap bulk_in body ∙ was_named Body (bulk_in l.first) b.first b.was in cc) in
+    let done : bulk_done caller (replica_bulk documents) (outcomes (terms_in caller w.name w.db) false (history_at w.db) documents) ≡ w.done =
     ap (λ (x : Bulk). bulk_done caller x (outcomes (terms_in caller w.name w.db) x.new_edits (history_at w.db) x.documents)) bulk ∙ same {A = Done} _ w.done b.then in
     record {
       db = w.db;
@@ -92,5 +92,5 @@ pushed_by c a k side documents small lawful ok =
       asks = j.asks;
       there = ap (get a) into ∙ w.there;
       is = j.told ∙ w.is ∙ ap (outcome_in w.name) (sym done)
-          ∙ ap (λ (n : List ℕ). outcome_in n (bulk_done caller (replicated documents) (outcomes (terms_in caller n w.db) false (history_at w.db) documents))) (sym into);
+          ∙ ap (λ (n : List ℕ). outcome_in n (bulk_done caller (replica_bulk documents) (outcomes (terms_in caller n w.db) false (history_at w.db) documents))) (sym into);
     }

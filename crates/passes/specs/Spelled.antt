@@ -89,8 +89,8 @@ RevisionsAreOpened =
 -- ---- pushed documents
 
 -- these documents, as they stand: each brings its revision along
-abbrev pub replicated : List Value → Bulk
-replicated documents = record { new_edits = false; documents = documents }
+abbrev pub replica_bulk : List Value → Bulk
+replica_bulk documents = record { new_edits = false; documents = documents }
 
 -- Each of these documents is judged in the database of this name as one that brings its revision, on the terms of the one who asks, and those
 -- that are accepted are appended.
@@ -99,7 +99,7 @@ pub record IsPushed (c : auth.Configuration) (a : Contents) (m : Message) (name 
   pub caller : auth.Identity
   pub asks : asker c m ≡ Ok caller
   pub there : get a name ≡ Some db
-  pub is : o ≡ outcome_in name (bulk_done caller (replicated documents) (outcomes (terms_in caller name db) false (history_at db) documents))
+  pub is : o ≡ outcome_in name (bulk_done caller (replica_bulk documents) (outcomes (terms_in caller name db) false (history_at db) documents))
 
 -- where a push is answered with 201, each document is judged
 abbrev pub DocumentsArePushed : Type 0

@@ -4,7 +4,7 @@ use Rattle.couch_json.specs.FieldPath.{value_at}
 use Rattle.couch_json.specs.Parts.{is_object, is_there_and}
 use Rattle.couch_json.specs.Value.{Value, null, Members, no_members, member}
 use Rattle.couch_json.specs.View.{view}
-use Rattle.selector.specs.Bounds.{AreJust, IsInside, contain, reached}
+use Rattle.selector.specs.Bounds.{AreJust, IsInside, contain, path_value}
 use Rattle.selector.specs.Operators.{operator_named}
 use Rattle.selector.specs.Truth.{is_true, meets, member_truth, truths}
 use Rattle.selector.specs.View.{name_of, value_of}
@@ -25,7 +25,7 @@ member_truth-bare : (root : Value) (name : List ℕ) (v : Value) (truth_at : Opt
 member_truth-bare root name v truth_at truths_at current none bare = rw (none, bare)
 
 pub IsInside-FieldIs : (c : Condition) (f : Field) (b : BareValue) → c ≡ FieldIs f b → (path : Option (List ℕ)) (this result : Bounds) → AreJust (view b.json) this
-    → ((current : Option Value) → contain this (option_and_then (value_at f.path) current) ≡ true → contain result (reached path current) ≡ true)
+    → ((current : Option Value) → contain this (option_and_then (value_at f.path) current) ≡ true → contain result (path_value path current) ≡ true)
     → IsInside (λ root. member_truth root (operator_named (name_of c)) (name_of c) (value_of c) (is_true root (value_of c)) (truths root (value_of c))) path result
 IsInside-FieldIs c f b is path this result just reaches root current holds =
     let v = view b.json in

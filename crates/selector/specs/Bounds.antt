@@ -48,10 +48,10 @@ abbrev pub is_no_lower : Value → Bool → Value → Bool → Bool
 is_no_lower v inside w other_inside = match_ordering (collation v w) false (inside || not other_inside) true
 
 -- what the path reaches from the current value, or that value itself where there is no path
-abbrev pub reached : Option (List ℕ) → Option Value → Option Value
-reached None current = current
-reached (Some path) current = option_and_then (value_at path) current
+abbrev pub path_value : Option (List ℕ) → Option Value → Option Value
+path_value None current = current
+path_value (Some path) current = option_and_then (value_at path) current
 
 -- wherever this is true, under a root, of the current value, the bounds contain what the path reaches from it
 abbrev pub IsInside : (Value → Option Value → Bool) → Option (List ℕ) → Bounds → Type 0
-IsInside truth path bounds = (root : Value) (current : Option Value) → truth root current ≡ true → contain bounds (reached path current) ≡ true
+IsInside truth path bounds = (root : Value) (current : Option Value) → truth root current ≡ true → contain bounds (path_value path current) ≡ true

@@ -4,7 +4,7 @@ ghost use Rattle.couch_json.specs.FieldPath.{value_at};
 ghost use Rattle.couch_json.specs.Parts.{is_object, is_there_and};
 ghost use Rattle.couch_json.specs.Value.{Value, Items, object, member, no_members};
 ghost use Rattle.couch_json.specs.View.{view, items_of, items_view};
-ghost use Rattle.selector.specs.Bounds.{AreJust, IsInside, contain, is_above, is_below, is_no_higher, is_no_lower, reached};
+ghost use Rattle.selector.specs.Bounds.{AreJust, IsInside, contain, is_above, is_below, is_no_higher, is_no_lower, path_value};
 ghost use Rattle.selector.specs.Operators.{operator_named};
 ghost use Rattle.selector.specs.Truth.{is_among, is_true, item_truths, meets, member_truth, truths};
 ghost use Rattle.selector.specs.View.{name_of, value_of};
@@ -116,7 +116,7 @@ fn bounds_of_some<'a>(selectors: &'a Vec<Selector>, path: Option<&FieldPath>) ->
 fn bounds_by_field<'a>(field: &Field, bounds: Bounds<'a>, path: Option<&FieldPath>) -> Bounds<'a>
     ensures inside { (current : Option Value)
         → contain bounds.entry (option_and_then (value_at field.now.path) current) ≡ true
-        → contain result (reached (option_map (λ p. p.now) path.entry) current) ≡ true }
+        → contain result (path_value (option_map (λ p. p.now) path.entry) current) ≡ true }
     ensures same { option_map (λ p. p.now) path.entry ≡ Some field.now.path → result ≡ bounds.entry }
 {
     match path {
@@ -132,7 +132,7 @@ fn bounds_by_field<'a>(field: &Field, bounds: Bounds<'a>, path: Option<&FieldPat
 /// Returns bounds of the field, if these are bounds of the current value.
 fn bounds_here<'a>(bounds: Bounds<'a>, path: Option<&FieldPath>) -> Bounds<'a>
     ensures { (current : Option Value) → contain bounds.entry current ≡ true
-        → contain result (reached (option_map (λ p. p.now) path.entry) current) ≡ true }
+        → contain result (path_value (option_map (λ p. p.now) path.entry) current) ≡ true }
 {
     match path {
         Some(_) => Bounds::Any,

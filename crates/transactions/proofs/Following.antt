@@ -15,7 +15,7 @@ use Rattle.tree.proofs.Leaves.{leaf_is_childless, winner_is_best}
 use Rattle.tree.proofs.Revisions.{same, tied}
 use Rattle.tree.proofs.Shown.{inside}
 use Rattle.tree.specs.History.{IsBetter, held_of, is_deleted, is_leaf, keeps_parents, line, onward, parent_of, placement, with_new, winner}
-use Rattle.tree.specs.Outline.{marked}
+use Rattle.tree.specs.Outline.{marked_revision}
 use Rattle.tree.specs.Write.{is_whole}
 use Rattle.tree.specs.declared.marked_rev.MarkedRev.{MarkedRev}
 use Rattle.tree.specs.declared.placement.Placed.TheVariants.{Added, Known}
@@ -314,6 +314,6 @@ one_there [] is = absurd (cc)
 one_there (x ∷ []) is = (x, refl)
 one_there (x ∷ y ∷ xs) is = absurd (omega (arith, is))
 
-pub marked_is : (h : HistoryContent) (o : Option Revision) (m : MarkedRev) → Some m ≡ option_map (marked h) o → o ≡ Some m.rev
+pub marked_is : (h : HistoryContent) (o : Option Revision) (m : MarkedRev) → Some m ≡ option_map (marked_revision h) o → o ≡ Some m.rev
 marked_is h None m is = absurd (cc)
-marked_is h (Some r) m is = ap (λ (n : MarkedRev). Some n.rev) (sym (inside m (marked h r) is))
+marked_is h (Some r) m is = ap (λ (n : MarkedRev). Some n.rev) (sym (inside m (marked_revision h r) is))

@@ -8,7 +8,7 @@ use Rattle.couch_json.specs.declared.value.Json.{Json}
 use Rattle.store.specs.Winning.{single, single_by, winner_alone}
 use Rattle.tree.proofs.Shown.{inside}
 use Rattle.tree.specs.History.{HistoryContent, held_of, row_of, winner, with_new}
-use Rattle.tree.specs.Outline.{marked, marked_winner}
+use Rattle.tree.specs.Outline.{marked_revision, marked_winner}
 use Rattle.tree.specs.declared.entry.Held.{Held}
 use Rattle.tree.specs.declared.marked_rev.MarkedRev.{MarkedRev}
 use Rattle.std.specs.Ordering.{eq_by_cmp}
@@ -48,7 +48,7 @@ pub alone_is : (h : HistoryContent) (m : MarkedRev) (known : Option Entry) (e : 
     → option_map (λ d. record { deleted = d.0; body = d.1 }) e ≡ option_and_then (λ (x : Entry). x.held) known → with_new finite.empty m.rev (row_of None e) ≡ winner_alone h
 alone_is h m known e won is held = by (winner h) refl won
   where
-    by : (w : Option Revision) → winner h ≡ w → option_map (marked h) w ≡ Some m → with_new finite.empty m.rev (row_of None e) ≡ single_by h w
+    by : (w : Option Revision) → winner h ≡ w → option_map (marked_revision h) w ≡ Some m → with_new finite.empty m.rev (row_of None e) ≡ single_by h w
     by None at up = absurd (cc)
     by (Some r) at up =
         let rev : m.rev ≡ r = ap (λ (x : MarkedRev). x.rev) (sym (inside _ _ up)) in

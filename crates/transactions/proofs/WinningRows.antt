@@ -21,7 +21,7 @@ use Rattle.tables.specs.Rows.{entry_of, is_gone, listed_document, revision_of}
 use Rattle.tree.proofs.Kept.{revision_cmp_total}
 use Rattle.tree.proofs.Shown.{inside}
 use Rattle.tree.specs.History.{winner}
-use Rattle.tree.specs.Outline.{marked, marked_winner}
+use Rattle.tree.specs.Outline.{marked_revision, marked_winner}
 use Rattle.tree.specs.Revision.{revision_cmp}
 use Rattle.tree.specs.contracts.marked_rev.MarkedRev as marked_rev
 use Rattle.tree.specs.declared.entry.Entry.{Entry}
@@ -39,7 +39,7 @@ module _ (trees : Trees) (db : ℤ) (id : List ℕ) (l : IsLaid trees) where
       let w = stored_winner trees l.revs r k in
       ap (option_map (λ v. record { rev = v; deleted = is_gone r })) (sym (won trees l.revs r k) ∙ w.1)
       ∙ ap (λ b. Some (record { rev = w.0; deleted = b })) (k.gone w.0 w.1)
-      ∙ sym (ap (option_map (marked H)) w.1)
+      ∙ sym (ap (option_map (marked_revision H)) w.1)
 
   -- the row of a document is one of its own, and it has a winner
   one_row : (r : Row) → filter (is_of db id) (trees docs_tree) ≡ r ∷ [] → (winner_shown (listed_document r) ≡ marked_winner (history_in (trees revs_tree) db id)) × (is_some (winner (history_in (trees revs_tree) db id)) ≡ true)
@@ -58,7 +58,7 @@ module _ (trees : Trees) (db : ℤ) (id : List ℕ) (l : IsLaid trees) where
   winner_first : (rows : List Row) → filter (is_of db id) (trees docs_tree) ≡ rows → (rows ≡ []) ⊎ ((r : Row) × (rows ≡ r ∷ [])) → option_and_then winner_shown (slice_get (map listed_document rows) 0) ≡ marked_winner (history_in (trees revs_tree) db id)
   winner_first rows is (inl none) =
       ap (λ rs. option_and_then winner_shown (slice_get (map listed_document rs) 0)) none
-      ∙ sym (ap marked_winner (nothing_written (is ∙ none)) ∙ ap (option_map (marked finite.empty)) no_winner)
+      ∙ sym (ap marked_winner (nothing_written (is ∙ none)) ∙ ap (option_map (marked_revision finite.empty)) no_winner)
   winner_first rows is (inr (r, one)) =
       ap (λ rs. option_and_then winner_shown (slice_get (map listed_document rs) 0)) one ∙ (one_row r (is ∙ one)).0
 
@@ -89,7 +89,7 @@ module _ (trees : Trees) (db : ℤ) (id : List ℕ) (l : IsLaid trees) where
   pub never_written : marked_winner (history_in (trees revs_tree) db id) ≡ None → history_in (trees revs_tree) db id ≡ finite.empty
   never_written none = nothing_written (no_row (unmarked (winner (history_in (trees revs_tree) db id)) none))
     where
-      unmarked : (o : Option Revision) → option_map (marked (history_in (trees revs_tree) db id)) o ≡ None → o ≡ None
+      unmarked : (o : Option Revision) → option_map (marked_revision (history_in (trees revs_tree) db id)) o ≡ None → o ≡ None
       unmarked None is = refl
       unmarked (Some r) is = absurd (cc)
 

@@ -26,9 +26,9 @@ abbrev pub outline_of : HistoryContent → HistoryContent
 outline_of h = from_entries (all_bare (entries h))
 
 -- the revision with the mark that the history has of it
-abbrev pub marked : HistoryContent → Revision → MarkedRev
-marked h r = record { rev = r; deleted = is_deleted (held_of h r) }
+abbrev pub marked_revision : HistoryContent → Revision → MarkedRev
+marked_revision h r = record { rev = r; deleted = is_deleted (held_of h r) }
 
 -- the winner, with its mark
 abbrev pub marked_winner : HistoryContent → Option MarkedRev
-marked_winner h = option_map (marked h) (winner h)
+marked_winner h = option_map (marked_revision h) (winner h)

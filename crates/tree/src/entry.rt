@@ -30,7 +30,7 @@ pub struct Entry {
 
 impl Held {
     /// Makes what a write with this mark and this body brought, in a box.
-    pub(crate) fn boxed(alloc: Global, deleted: bool, body: &Json) -> Got<Boxed<Held>>
+    pub(crate) fn allocate(alloc: Global, deleted: bool, body: &Json) -> Got<Boxed<Held>>
         ensures { IfOk result (λ held. held ≡ record { deleted = deleted; body = view body.now }) }
     {
         let body = Body::new(body.copy(alloc)?);

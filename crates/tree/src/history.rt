@@ -133,7 +133,7 @@ impl History {
         ensures err { OnErr result (self.new ≡ self.old) }
     {
         let alloc = self.alloc;
-        let held = Held::boxed(alloc, deleted, body)?;
+        let held = Held::allocate(alloc, deleted, body)?;
         let parent = self.known_parent(parent);
         nodes::put_path(
             alloc,

@@ -1,7 +1,7 @@
 //! `TEXT`: its canonical text, or the fault by which it is no JSON.
 
 use crate::texts::canonical;
-use couch_json::{Json, JsonFault, collate, read};
+use couch_json::{Json, JsonFault, read};
 use rows::RowsFault;
 use std::alloc::Global;
 
@@ -16,7 +16,7 @@ pub fn answer(alloc: Global, question: &[u8]) -> Result<Vec<u8>, RowsFault> {
 /// Answers with the text of a value, which its copy has too.
 fn show(alloc: Global, value: &Json) -> Result<Vec<u8>, RowsFault> {
     let copy = value.copy(alloc)?;
-    if collate(&copy, value).is_ne() {
+    if copy != *value {
         return Err(RowsFault::Refused("the copy differs"));
     }
     canonical(alloc, &copy)

@@ -2,7 +2,7 @@
 //! `value of BYTES`: the value whose key they are, or `NotKey`.
 
 use crate::texts::{canonical, text_of, value_of};
-use couch_json::{Json, KeyFault, collate, key_bytes, key_of};
+use couch_json::{Json, KeyFault, key_bytes, key_of};
 use rows::RowsFault;
 use std::alloc::Global;
 
@@ -21,7 +21,7 @@ pub fn answer(alloc: Global, question: &[u8]) -> Result<Vec<u8>, RowsFault> {
 /// Answers with the key of a value, which has to read back.
 fn write_key(alloc: Global, value: &Json) -> Result<Vec<u8>, RowsFault> {
     let key = key_bytes(alloc, value)?;
-    if collate(&read_key(alloc, &key)?, value).is_ne() {
+    if read_key(alloc, &key)? != *value {
         return Err(RowsFault::Refused("the key reads back as another value"));
     }
     show(alloc, &key)

@@ -4,7 +4,7 @@ use Rattle.std.specs.Prelude.{IsTrue, MatchOption, option_map, ◌⊎◌}
 use Rattle.tree.proofs.Leaves.{winner_is_best}
 use Rattle.tree.proofs.Shown.{inside}
 use Rattle.tree.specs.History.{HistoryContent, IsBetter, is_leaf, winner}
-use Rattle.tree.specs.Outline.{marked, marked_winner}
+use Rattle.tree.specs.Outline.{marked_revision, marked_winner}
 use Rattle.tree.specs.Revision.{Revision}
 use Rattle.tree.specs.declared.marked_rev.MarkedRev.{MarkedRev}
 
@@ -12,11 +12,11 @@ module _ (h : HistoryContent) where
   best : (o : Option Revision) → winner h ≡ o → MatchOption o ((r : Revision) → IsTrue (is_leaf h r) → ⊥) (λ r. IsTrue (is_leaf h r) × ((s : Revision) → IsTrue (is_leaf h s) → (s ≡ r) ⊎ IsBetter h r s))
   best o is = subst (λ o. MatchOption o ((r : Revision) → IsTrue (is_leaf h r) → ⊥) (λ r. IsTrue (is_leaf h r) × ((s : Revision) → IsTrue (is_leaf h s) → (s ≡ r) ⊎ IsBetter h r s))) is (winner_is_best h)
 
-  marked_is : (o : Option Revision) (m : MarkedRev) → Some m ≡ option_map (marked h) o → o ≡ Some m.rev
+  marked_is : (o : Option Revision) (m : MarkedRev) → Some m ≡ option_map (marked_revision h) o → o ≡ Some m.rev
   marked_is None m is = absurd (cc)
-  marked_is (Some r) m is = ap (λ (n : MarkedRev). Some n.rev) (sym (inside m (marked h r) is))
+  marked_is (Some r) m is = ap (λ (n : MarkedRev). Some n.rev) (sym (inside m (marked_revision h r) is))
 
-  unmarked : (o : Option Revision) → None ≡ option_map (marked h) o → o ≡ None
+  unmarked : (o : Option Revision) → None ≡ option_map (marked_revision h) o → o ≡ None
   unmarked None is = refl
   unmarked (Some r) is = absurd (cc)
 

@@ -1,5 +1,5 @@
 -- `NameMap` as a type that may hold the type that holds it, by its values.
-use Rattle.std.specs.Prelude.{◌≡◌, List, [], ◌∷◌, String}
+use Rattle.std.specs.Prelude.{◌≡◌, ◌&&◌, List, [], ◌∷◌, String, string_cmp, string_eq}
 use mathlib.Core.Path.{refl, sym, subst}
 use mathlib.Core.Former.{Former, this, list, via, children}
 use denote.RattleType.{RattleType}
@@ -11,12 +11,14 @@ use denote.Hole.Fix.{over}
 use denote.Param.Weighed.{Weighed, most}
 use denote.Model.Placed.{view_places}
 use Rattle.std.specs.declared.alloc.Global.{Global}
+use Rattle.std.specs.declared.cmp.PartialEq as eq
 use Rattle.std.specs.contracts.alloc.Global as heap
 use Rattle.std.specs.contracts.string.String as text
 use Rattle.std.specs.contracts.impls.GlobalAllocator.TheImpl.{ghosts}
+use Rattle.std.specs.Cmp.Lexicographic.{pointwise}
+use Rattle.std.specs.Cmp.Derive.Mapped.{pointwise-map}
 use Rattle.std.specs.List.Sorted.{IsStrictlySortedBy, IsStrictlySortedBy-prop}
 use Rattle.std.specs.Map.{values_of}
-use Rattle.std.specs.Prelude.{string_cmp}
 use Rattle.std.specs.formers.vec.Vec as vec
 use Rattle.std_collections.specs.Layout.Former.{entry, on_value, entries_puts, values_listed, keys_on_values, entries_recoded}
 use Rattle.name_map.specs.Seen.{NameMap}
@@ -65,3 +67,9 @@ module _ (R S : RattleType) (h : R.Denot → S.Denot) where
 
   pub the_codes_placed : Recodes R S h → Recodes (C.the_row R) (C.the_row S) ((the_former this).map R.Denot S.Denot h)
   the_codes_placed e m = entries_recoded name_row R S h e m.entries
+
+module _ (X Y : Type 0) (h : X → Y) where
+  pub the_eq_natural : (V : eq.Ghosts Y) (m n : NameMap X)
+      → pointwise (λ p q. string_eq p.0 q.0 && V.eq p.1 q.1) ((the_former this).map X Y h m).entries ((the_former this).map X Y h n).entries
+      ≡ pointwise (λ p q. string_eq p.0 q.0 && V.eq (h p.1) (h q.1)) m.entries n.entries
+  the_eq_natural V m n = pointwise-map (on_value h) (λ p q. string_eq p.0 q.0 && V.eq p.1 q.1) m.entries n.entries

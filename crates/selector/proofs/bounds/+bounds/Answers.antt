@@ -4,7 +4,7 @@ use Rattle.std.specs.List.{list_all, list_any}
 use Rattle.couch_json.specs.Parts.{is_object}
 use Rattle.couch_json.specs.Value.{Value, depth}
 use Rattle.couch_json.specs.View.{items_of}
-use Rattle.selector.specs.Bounds.{contain, reached}
+use Rattle.selector.specs.Bounds.{contain, path_value}
 use Rattle.selector.specs.Operators.{operator_named}
 use Rattle.selector.specs.Truth.{are_true, is_true, item_truths, member_truth, truths}
 use Rattle.selector.specs.View.{members_of, name_of, value_of}
@@ -29,8 +29,8 @@ bounds_in-loop-condition-preserved t c =
     let left : (root : Value) (current : Option Value) → is_true root c.args.selector.now current ≡ true → are_true root (members_of (this ∷ rest)) current ≡ true =
     λ root current h. subst (λ left. are_true root (members_of left) current ≡ true) steps (l.invariant.left root current h) in
     record {
-      inside = λ root current h. c.overlap-bounds.ensures.contain (reached path current)
-          ∙ both_true (contain l.bounds (reached path current)) (contain c.bounds_of.result (reached path current)) (l.invariant.inside root current h)
+      inside = λ root current h. c.overlap-bounds.ensures.contain (path_value path current)
+          ∙ both_true (contain l.bounds (path_value path current)) (contain c.bounds_of.result (path_value path current)) (l.invariant.inside root current h)
           (c.bounds_of.ensures.inside root current (first_true (truth root current) (are_true root (members_of rest) current) (left root current h)));
       left = λ root current h. second_true (truth root current) (are_true root (members_of rest) current) (left root current h);
       one = λ p b is_path none bare alone. OneMember-step p b (name_of this) (value_of this) (members_of rest) l.bounds c.bounds_of.result c.overlap-bounds.result c.overlap-bounds.ensures.any
@@ -69,8 +69,8 @@ bounds_of_all-loop-selector-preserved t c =
     → list_all (λ b. b) (item_truths root (items_of (this ∷ rest)) current) ≡ true =
     λ root current h. subst (λ left. list_all (λ b. b) (item_truths root (items_of left) current) ≡ true) steps (l.invariant.left root current h) in
     record {
-      inside = λ root current h. c.overlap-bounds.ensures.contain (reached path current)
-          ∙ both_true (contain l.bounds (reached path current)) (contain c.bounds_in.result (reached path current)) (l.invariant.inside root current h)
+      inside = λ root current h. c.overlap-bounds.ensures.contain (path_value path current)
+          ∙ both_true (contain l.bounds (path_value path current)) (contain c.bounds_in.result (path_value path current)) (l.invariant.inside root current h)
           (c.bounds_in.ensures.inside root current (first_true (is_true root this current) (others root current) (left root current h)));
       left = λ root current h. second_true (is_true root this current) (others root current) (left root current h);
     }
@@ -84,7 +84,7 @@ bounds_of_some-loop-selector-preserved t c =
     let path = option_map (λ p. p.now) c.args.path in
     let steps : drop l.selector-index items ≡ this ∷ rest = grind (arith, common_steps) in
     λ root current h.
-    let field = reached path current in
+    let field = path_value path current in
     hull_step (hull_contain l.hull field) (is_true root this current) (list_any (λ b. b) (item_truths root (items_of rest) current)) (contain c.hull_of.result field)
     (c.hull_of.ensures.first field) (λ holds. c.hull_of.ensures.second field (c.bounds_in.ensures.inside root current holds))
     (subst (λ left. hull_contain l.hull field || list_any (λ b. b) (item_truths root (items_of left) current) ≡ true) steps (l.invariant root current h))
@@ -96,6 +96,6 @@ bounds_of_some-returns-in-Some t c =
     let path = option_map (λ p. p.now) c.args.path in
     let none : rest ≡ [] = grind (arith, common_steps) in
     λ root current h.
-    hull_end l.hull c.in-Some.bounds (reached path current) (list_any (λ b. b) (item_truths root (items_of rest) current)) c.in-Some.is
+    hull_end l.hull c.in-Some.bounds (path_value path current) (list_any (λ b. b) (item_truths root (items_of rest) current)) c.in-Some.is
     (ap (λ rest. list_any (λ b. b) (item_truths root (items_of rest) current)) none)
     (l.invariant root current (ap (λ items. list_any (λ b. b) (item_truths root (items_of items) current)) c.deref-selector-items.ensures.value ∙ h))

@@ -4,13 +4,13 @@ use Rattle.std.specs.FinMap as finite
 use Rattle.std.specs.Prelude.{is_some}
 use Rattle.transactions.specs.Following.{HasPlaceFor}
 use Rattle.tree.specs.History.{winner}
-use Rattle.tree.specs.Outline.{marked, marked_winner}
+use Rattle.tree.specs.Outline.{marked_revision, marked_winner}
 use Rattle.transactions.proofs.commits.write_served.Goals as goal
 
 none_marked : (h : HistoryContent) → is_some (winner h) ≡ false → marked_winner h ≡ None
 none_marked h none = by (winner h) none
   where
-    by : (o : Option Revision) → is_some o ≡ false → option_map (marked h) o ≡ None
+    by : (o : Option Revision) → is_some o ≡ false → option_map (marked_revision h) o ≡ None
     by None is = refl
     by (Some r) is = absurd (cc)
 
