@@ -18,15 +18,15 @@ use store::{IndexKey, KeyRow};
 use tables::{RowFault, id_at, whole_at};
 use tree::DocId;
 
-/// Reads the rows of an index that its entries show.
-pub fn read_entries(alloc: Global, rows: &[Row]) -> Result<Vec<KeyRow>, IndexFault>
-    ensures spots { IfOk result (λ read. map spot_of read.items ≡ map spot_shown rows.now) }
+/// Reads the rows of an index that its entries show. A row's memory is given back once it is read.
+pub fn read_entries(alloc: Global, rows: Vec<Row>) -> Result<Vec<KeyRow>, IndexFault>
+    ensures spots { IfOk result (λ read. map spot_of read.items ≡ map spot_shown rows.items) }
     ensures lawful { IfOk result (λ read. AllByRecursion (λ p. IsLawful p.key) read.items) }
-    ensures err { IfErr result (IsRefused (AllByRecursion IsShownEntry rows.now)) }
+    ensures err { IfErr result (IsRefused (AllByRecursion IsShownEntry rows.items)) }
 {
     let mut read = Vec::with_capacity(alloc, rows.len())?;
     for row in rows {
-        read.push(read_entry(alloc, row)?)?;
+        read.push(read_entry(alloc, &row)?)?;
     }
     Ok(read)
 }

@@ -1,4 +1,4 @@
-//! What the rows of a list of documents say, as rows of a page.
+//! What the rows of a list of documents say, as rows of a page. A row's memory is given back once it is read.
 
 ghost use Rattle.std.specs.Prelude.{◌≡◌, ◌<◌, ◌^◌, All, IfErr, IfOk, IfSome, Some, is_some, map};
 ghost use Rattle.std.specs.List.{AllByRecursion};
@@ -17,10 +17,10 @@ use tables::{ListedDocument, RowFault, read_listed_document};
 /// Reads the rows of a page by id, up to its limit.
 pub(crate) fn read_id_rows(
     alloc: Global,
-    rows: &[Row],
+    rows: Vec<Row>,
     limit: Option<u64>,
 ) -> Result<Vec<IdRow>, StoreFault>
-    ensures { IsRead (λ read. read.items) (Some (up_to_limit limit (live_rows rows.now))) (AllByRecursion IsListedDocument rows.now) result }
+    ensures { IsRead (λ read. read.items) (Some (up_to_limit limit (live_rows rows.items))) (AllByRecursion IsListedDocument rows.items) result }
 {
     let live = read_live_rows(alloc, rows)?;
     Ok(cut_to_limit(live, limit))
@@ -30,14 +30,14 @@ pub(crate) fn read_id_rows(
 /// that has these documents.
 pub(crate) fn read_page_by_sequence(
     alloc: Global,
-    rows: &[Row],
+    rows: Vec<Row>,
     sequence: u64,
     counts: Option<DocumentCounts>,
     range: &SeqRange,
 ) -> Result<PageBySeq, StoreFault>
     requires bounded { (sequence < 2 ^ 63) × IfSome counts (λ c. (c.documents < 2 ^ 63) × (c.deleted < 2 ^ 63)) }
     requires counted { is_some counts ≡ range.now.counted }
-    ensures page { IsRead sequence_page_of (Some (sequence_page range.now sequence counts (map sequence_row rows.now))) (AllByRecursion IsSequenceRow rows.now) result }
+    ensures page { IsRead sequence_page_of (Some (sequence_page range.now sequence counts (map sequence_row rows.items))) (AllByRecursion IsSequenceRow rows.items) result }
     ensures bounded { IfOk result (IsBounded range.now) }
 {
     let read = read_sequence_rows(alloc, rows)?;
@@ -77,12 +77,12 @@ fn read_live_row(alloc: Global, row: &Row) -> Result<Option<IdRow>, StoreFault>
 }
 
 /// Reads the rows of a listing by id.
-fn read_live_rows(alloc: Global, rows: &[Row]) -> Result<Vec<IdRow>, StoreFault>
-    ensures { IsRead (λ live. live.items) (Some (live_rows rows.now)) (AllByRecursion IsListedDocument rows.now) result }
+fn read_live_rows(alloc: Global, rows: Vec<Row>) -> Result<Vec<IdRow>, StoreFault>
+    ensures { IsRead (λ live. live.items) (Some (live_rows rows.items)) (AllByRecursion IsListedDocument rows.items) result }
 {
     let mut live = Vec::new(alloc);
     for row in rows {
-        if let Some(one) = read_live_row(alloc, row)? {
+        if let Some(one) = read_live_row(alloc, &row)? {
             live.push(one)?;
         }
     }
@@ -112,13 +112,13 @@ fn read_sequence_row(alloc: Global, row: &Row) -> Result<SeqRow, StoreFault>
 }
 
 /// Reads the rows of a listing by sequence, each with its winner alone.
-fn read_sequence_rows(alloc: Global, rows: &[Row]) -> Result<Vec<SeqRow>, StoreFault>
-    ensures read { IsRead (λ read. sequence_rows read.items) (Some (map sequence_row rows.now)) (AllByRecursion IsSequenceRow rows.now) result }
+fn read_sequence_rows(alloc: Global, rows: Vec<Row>) -> Result<Vec<SeqRow>, StoreFault>
+    ensures read { IsRead (λ read. sequence_rows read.items) (Some (map sequence_row rows.items)) (AllByRecursion IsSequenceRow rows.items) result }
     ensures bounded { IfOk result (λ read. All (λ r. r.sequence < 2 ^ 63) read.items) }
 {
     let mut read = Vec::with_capacity(alloc, rows.len())?;
     for row in rows {
-        read.push(read_sequence_row(alloc, row)?)?;
+        read.push(read_sequence_row(alloc, &row)?)?;
     }
     Ok(read)
 }

@@ -101,7 +101,7 @@ impl<S: Alter> SqlStore<S> {
             return Ok(Vec::new(self.alloc));
         }
         let rows = self.live_rows(db, low, high, range)?;
-        read_id_rows(self.alloc, &rows, range.limit)
+        read_id_rows(self.alloc, rows, range.limit)
     }
 
     /// Counts the rows of a list by id that come before a range, in its direction.

@@ -141,11 +141,11 @@ impl<S: Alter> SqlStore<S> {
         judge_index(&mut self.faults, read_count(&rows))
     }
 
-    /// Reads the rows of an index that its entries show.
-    fn read_key_rows(&mut self, rows: &[Row]) -> Result<Vec<KeyRow>, StoreFault>
-        ensures spots { IfOk result (λ read. map spot_of read.items ≡ map spot_shown rows.now) }
+    /// Reads the rows of an index that its entries show. A row's memory is given back once it is read.
+    fn read_key_rows(&mut self, rows: Vec<Row>) -> Result<Vec<KeyRow>, StoreFault>
+        ensures spots { IfOk result (λ read. map spot_of read.items ≡ map spot_shown rows.items) }
         ensures lawful { IfOk result (λ read. AllByRecursion (λ p. IsLawful p.key) read.items) }
-        ensures told { IfErr result (IsUncommitted self.old.faults self.new.faults (AllByRecursion IsShownEntry rows.now)) }
+        ensures told { IfErr result (IsUncommitted self.old.faults self.new.faults (AllByRecursion IsShownEntry rows.items)) }
         ensures stands { Stands S.Store self.old self.new }
     {
         let read = read_entries(self.alloc, rows);
@@ -172,7 +172,7 @@ impl<S: Alter> SqlStore<S> {
             return Ok(Vec::new(self.alloc));
         }
         let rows = self.entry_rows(declaration, low, high, range)?;
-        let read = self.read_key_rows(&rows)?;
+        let read = self.read_key_rows(rows)?;
         Ok(cut_to_limit(read, range.limit))
     }
 

@@ -31,7 +31,7 @@ impl<S: Alter> SqlStore<S> {
     {
         let counts = self.count_documents(number, range.counted)?;
         let rows = self.rows_for_page_by_sequence(number, range)?;
-        read_page_by_sequence(self.alloc, &rows, sequence, counts, range)
+        read_page_by_sequence(self.alloc, rows, sequence, counts, range)
     }
 
     /// Finds all leaves of a document, best first. Where all its revisions are one path, no row of the

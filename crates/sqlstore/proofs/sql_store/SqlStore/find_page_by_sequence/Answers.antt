@@ -1,4 +1,4 @@
-use Rattle.sqlstore.proofs.Lemmas.{AllByRecursion, IsSequenceRow, Some, Trees, answered, ap, inside, laid, listed_by_sequence, map, sequence_page, sequence_page_of, sequence_row, sequences_intact, stands_same, subst, sym, trees_of, was_honest, ∥∥₁_elim, ◌∙◌}
+use Rattle.sqlstore.proofs.Lemmas.{Some, Trees, answered, ap, inside, laid, listed_by_sequence, sequence_page_of, sequences_intact, stands_same, subst, trees_of, was_honest, ∥∥₁_elim}
 use Rattle.sqlstore.proofs.Enough.{page_of_enough}
 use Rattle.sqlstore.proofs.sql_store.SqlStore.find_page_by_sequence.Goals as goal
 
@@ -13,11 +13,10 @@ returns-clause-answer g c =
     answered g.S.Store s end sequence_page_of _ _ _ c.read_page_by_sequence.result c.read_page_by_sequence.ensures.page
     (λ honest.
     let at_mid = was_honest g.S.Store mid end c.rows_for_page_by_sequence.ensures.stands honest in
-    let rows = c.deref.ensures.value in
     let same = stands_same g.S.Store s mid c.count_documents.ensures.stands in
     let enough = subst (λ (t : Trees). Rattle.sqlstore.specs.Listing.AreEnoughBySequence range (listed_by_sequence t n) c.in_ok-rows.rows.items) same (c.in_ok-rows.ensures.found honest) in
     let counts = inside _ _ (c.in_ok-counts.ensures.answer at_mid) in
     let lay = laid g.S.Store s (was_honest g.S.Store s mid c.count_documents.ensures.stands at_mid) in (
-      λ none. ∥∥₁_elim lay (λ p q. absurd p) (λ l. none (subst (AllByRecursion IsSequenceRow) (sym rows) (enough.intact (sequences_intact trees n l)))),
-      ap Some (page_of_enough range c.args.sequence (listed_by_sequence trees n) c.in_ok-rows.rows.items c.in_ok-counts.counts enough counts ∙ ap (λ r. sequence_page range c.args.sequence c.in_ok-counts.counts (map sequence_row r)) (sym rows)),
+      λ none. ∥∥₁_elim lay (λ p q. absurd p) (λ l. none (enough.intact (sequences_intact trees n l))),
+      ap Some (page_of_enough range c.args.sequence (listed_by_sequence trees n) c.in_ok-rows.rows.items c.in_ok-counts.counts enough counts),
     ))

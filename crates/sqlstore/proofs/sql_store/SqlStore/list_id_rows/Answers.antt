@@ -1,7 +1,6 @@
 use Rattle.sqlstore.proofs.IdRows.{rows_intact, rows_read, rows_skipped}
 use Rattle.sqlstore.proofs.ListedRows.{id_rows_set}
-use Rattle.sqlstore.proofs.Lemmas.{AllByRecursion, IsListedDocument, Some, answered, ap, arith, inside, laid, live_rows, subst, sym, trees_of, was_honest, ∥∥₁_elim, ◌<◌, ◌^◌, ◌∙◌, ◌≤◌}
-use Rattle.sqlstore.proofs.Common.{up_to_limit}
+use Rattle.sqlstore.proofs.Lemmas.{Some, answered, ap, arith, inside, laid, sym, trees_of, was_honest, ∥∥₁_elim, ◌<◌, ◌^◌, ◌∙◌, ◌≤◌}
 use Rattle.sqlstore.proofs.sql_store.SqlStore.list_id_rows.Goals as goal
 
 pub returns-then-range-clause-answer : goal.returns-then-range-clause-answer
@@ -27,9 +26,8 @@ returns-clause-answer g c =
     let given = c.in_ok-rows.rows.items in
     answered g.S.Store s end (λ rows. rows.items) _ _ _ c.read_id_rows.result c.read_id_rows.ensures
     (λ honest.
-    let rows = c.deref.ensures.value in
     let found = c.in_ok-rows.ensures.found honest in
     let lay = laid g.S.Store s (was_honest g.S.Store s end c.live_rows.ensures.stands honest) in (
-      λ none. ∥∥₁_elim lay (λ p q. absurd p) (λ l. none (subst (AllByRecursion IsListedDocument) (sym rows) (rows_intact trees c.args.db.now l range c.args.low.now c.args.high.now c.requires.low c.requires.high given found))),
-      ap Some (∥∥₁_elim lay (id_rows_set _ _) (λ l. rows_read trees c.args.db.now l range c.args.low.now c.args.high.now c.requires.low c.requires.high given found) ∙ ap (λ r. up_to_limit range.limit (live_rows r)) (sym rows)),
+      λ none. ∥∥₁_elim lay (λ p q. absurd p) (λ l. none (rows_intact trees c.args.db.now l range c.args.low.now c.args.high.now c.requires.low c.requires.high given found)),
+      ap Some (∥∥₁_elim lay (id_rows_set _ _) (λ l. rows_read trees c.args.db.now l range c.args.low.now c.args.high.now c.requires.low c.requires.high given found)),
     ))

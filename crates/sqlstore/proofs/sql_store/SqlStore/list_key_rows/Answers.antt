@@ -1,7 +1,7 @@
 use Rattle.std.specs.List.{AllByRecursion}
-use Rattle.index.specs.Places.{AreEntriesAt, IsShownEntry, spot_shown}
+use Rattle.index.specs.Places.{AreEntriesAt, IsShownEntry}
 use Rattle.sqlstore.proofs.KeyEntries.{answers_by, entries_before, fault_of, range_shown, rows_read, rows_skipped}
-use Rattle.sqlstore.proofs.Lemmas.{Err, List, Some, ap, arith, inside, map, rules, stands_then, subst, sym, trees_of, was_honest, ◌<◌, ◌^◌, ◌∙◌, ◌≡◌, ◌≤◌}
+use Rattle.sqlstore.proofs.Lemmas.{Err, List, Some, ap, arith, inside, rules, stands_then, subst, sym, trees_of, was_honest, ◌<◌, ◌^◌, ◌∙◌, ◌≡◌, ◌≤◌}
 use Rattle.sqlstore.proofs.Common.{Global, IndexPlace, Result, SqlStore, StoreFault, Vec, drop, up_to_limit}
 use Rattle.store.specs.KeyPages.{key_rows_within}
 use Rattle.sqlstore.specs.ByKey.{AnswersOf}
@@ -29,7 +29,7 @@ returns-in_err-read-clause-answer g c places lows highs =
     let n = c.args.declaration.now in
     let view : Vec KeyRow Global → List IndexPlace = λ rows. rows.items in
     let Is : SqlStore g.row.S.Denot g.S.Store → Type 0 = λ x. is_honest g.S.Store x × AreEntriesAt n places (trees_of g.S.Store x entries_tree) in
-    let intact : Type 0 = AllByRecursion IsShownEntry c.deref.result.now in
+    let intact : Type 0 = AllByRecursion IsShownEntry c.in_ok-rows.rows.items in
     let fault = c.in_err-read.field-0.0 in
     let is : c.from_residual-in_err-read.result ≡ Err fault = search rules in
     let asked = up_to_limit c.args.range.now.limit (drop c.args.range.now.skip (key_rows_within c.args.range.now places)) in
@@ -39,9 +39,8 @@ returns-in_err-read-clause-answer g c places lows highs =
     (answers_by Is (fault_count g.S.Store) mid end view (Some asked) intact (Err fault) tt c.in_err-read.ensures.told
     (λ k none.
     none
-    (subst (AllByRecursion IsShownEntry) (sym c.deref.ensures.value)
     (range_shown n places (trees_of g.S.Store s entries_tree) (entries_before g.S.Store s end n places stood k.1) c.args.range.now c.args.low.now c.args.high.now lows highs c.in_ok-rows.rows.items
-    (c.in_ok-rows.ensures.found (was_honest g.S.Store mid end c.read_key_rows.ensures.stands k.0)))))))
+    (c.in_ok-rows.ensures.found (was_honest g.S.Store mid end c.read_key_rows.ensures.stands k.0))))))
 
 pub returns-clause-answer : goal.returns-clause-answer
 returns-clause-answer g c places lows highs k =
@@ -53,4 +52,4 @@ returns-clause-answer g c places lows highs k =
     let h = entries_before g.S.Store s end n places stood k.1 in
     ap Some
     (rows_read n places (trees_of g.S.Store s entries_tree) h c.args.range.now c.args.low.now c.args.high.now lows highs c.in_ok-rows.rows.items c.in_ok-read.read.items c.cut_to_limit.result.items
-    (c.in_ok-rows.ensures.found (was_honest g.S.Store mid end c.read_key_rows.ensures.stands k.0)) c.in_ok-read.ensures.lawful (c.in_ok-read.ensures.spots ∙ ap (map spot_shown) c.deref.ensures.value) c.cut_to_limit.ensures)
+    (c.in_ok-rows.ensures.found (was_honest g.S.Store mid end c.read_key_rows.ensures.stands k.0)) c.in_ok-read.ensures.lawful c.in_ok-read.ensures.spots c.cut_to_limit.ensures)
