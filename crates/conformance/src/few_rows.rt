@@ -102,10 +102,10 @@ fn few_rows(rt: HostRuntime) -> Result<(), Fail> {
     let (told, mut store) = ask(alloc, store, "POST /db/_bulk_docs", pushed.as_str())?;
     assert_eq!(rt; told.as_str(), "201 []");
     for (line, body, wanted) in REQUESTS {
-        let before = store.count_fetched();
+        let before = store.fetched();
         let (told, after) = ask(alloc, store, line, body)?;
         assert_eq!(rt; told.as_str(), wanted, "{line}");
-        let taken = after.count_fetched().saturating_sub(before);
+        let taken = after.fetched().saturating_sub(before);
         assert!(rt; taken <= 40, "{line}: {taken} rows");
         store = after;
     }

@@ -2,7 +2,7 @@
 //! gives them.
 //!
 //! [`Cutter::feed`] takes the pieces of a stream and gives the requests that they complete;
-//! [`Response::make`] makes a reply. A row of the tests: a stream, and what was read of it.
+//! [`Response::made`] makes a reply. A row of the tests: a stream, and what was read of it.
 //!
 //! ```rows
 //! > PUT /db/b HTTP/1.1\r\nHost: 127.0.0.1:39175\r\nAccept-Encoding: identity\r\n

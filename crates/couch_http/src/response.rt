@@ -61,7 +61,7 @@ impl Response {
     /// The status is one of the thirteen that have a phrase here (RFC 9110, section 15): 200, 201, 400, 401, 403,
     /// 404, 405, 409, 412, 413, 500, 501 and 503. The body is the value's canonical text. `Memory` is the one
     /// refusal.
-    pub fn make(alloc: Global, status: u16, value: &Json, last: bool) -> Result<Response, HttpFault>
+    pub fn made(alloc: Global, status: u16, value: &Json, last: bool) -> Result<Response, HttpFault>
         ensures reply { IfOk result (λ reply. reply ≡ reply_of status (canonical (view value.now)) last) }
         ensures lawful { OnOk result (IsLawful (view value.now)) }
         ensures refused { IfErr result (λ fault. fault ≡ HttpFault.Memory) }
@@ -99,7 +99,7 @@ impl Response {
     }
 
     /// Makes a reply that needs no memory.
-    pub fn make_fixed(fixed: Fixed) -> Response
+    pub fn fixed(fixed: Fixed) -> Response
         ensures { result ≡ fixed_reply fixed }
     {
         match fixed {

@@ -316,7 +316,7 @@ impl Conversation {
         requires owed { self.old.owed ≡ [] }
         ensures { Owes (standing_at self.new.stage self.new.owed) true farewell }
     {
-        let farewell = Response::make_fixed(Fixed::NoRoom { last: true });
+        let farewell = Response::fixed(Fixed::NoRoom { last: true });
         self.stage = if self.owed.add(farewell.bytes()) {
             ConversationStage::Last
         } else {

@@ -40,5 +40,5 @@ pub fn add_refusal(ending: Ending, list: &mut Vec<Response>)
         Ending::Fault(HttpFault::TooLarge) => Fixed::TooLarge,
         _ => return,
     };
-    list.push_reserved(Response::make_fixed(fixed));
+    list.push_reserved(Response::fixed(fixed));
 }

@@ -137,7 +137,7 @@ fn write_replies<W: Write>(writer: &mut W, replies: &Replies) -> Option<ServiceE
 fn write_farewell<W: Write>(writer: &mut W) -> ServiceEnd
     ensures { (whole : Bool) × (result ≡ end_after_farewell whole) × Takes (W.contents writer.old) (W.contents writer.new) farewell whole }
 {
-    let farewell = Response::make_fixed(Fixed::NoRoom { last: true });
+    let farewell = Response::fixed(Fixed::NoRoom { last: true });
     if write_bytes(writer, farewell.bytes()) {
         ServiceEnd::Memory
     } else {

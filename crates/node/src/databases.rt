@@ -114,7 +114,7 @@ fn name_to_govern(alloc: Global, caller: &Caller, request: &Request) -> Result<D
 fn require_server_admin(alloc: Global, caller: &Caller) -> Result<(), RequestFault>
     ensures { Says (λ nothing. nothing) result (administration caller.now) }
 {
-    let closed = Security::build_closed(alloc)?;
+    let closed = Security::closed(alloc)?;
     match refusal(Action::Administer, caller, &closed) {
         Some(rule) => Err(RequestFault::Refused(deny(caller, rule))),
         None => Ok(()),

@@ -44,8 +44,8 @@ pub(crate) fn handle<S: Store>(
     match reply(alloc, store, auth, routes, request) {
         Ok(reply) => reply,
         Err(EarlyEnd::Refused(refusal)) => refusal_reply(alloc, &refusal, request.last),
-        Err(EarlyEnd::Failed) => Response::make_fixed(Fixed::Store { last: request.last }),
-        Err(EarlyEnd::NoRoom) => Response::make_fixed(Fixed::NoRoom { last: request.last }),
+        Err(EarlyEnd::Failed) => Response::fixed(Fixed::Store { last: request.last }),
+        Err(EarlyEnd::NoRoom) => Response::fixed(Fixed::NoRoom { last: request.last }),
     }
 }
 
@@ -232,7 +232,7 @@ fn refusal_reply(alloc: Global, refusal: &Refusal, last: bool) -> Response
 {
     match refusal_made(alloc, refusal, last) {
         Ok(reply) => reply,
-        Err(NoMemory) => Response::make_fixed(Fixed::NoRoom { last }),
+        Err(NoMemory) => Response::fixed(Fixed::NoRoom { last }),
     }
 }
 

@@ -79,7 +79,7 @@ impl Security {
     }
 
     /// Builds the security object of a new database: server admins alone are its admins and members.
-    pub fn build_closed(alloc: Global) -> Got<Security>
+    pub fn closed(alloc: Global) -> Got<Security>
         ensures { IfOk result (λ security. security ≡ closed_security) }
     {
         let json = closed_value(alloc)?;

@@ -233,7 +233,7 @@ impl Replication {
     }
 
     /// Takes in the reply to what the pass asked. After a refusal the pass is as it was.
-    pub fn take_reply(&mut self, response: &Response) -> Got<()>
+    pub fn answered(&mut self, response: &Response) -> Got<()>
         ensures ok { OnOk result (pass_of self.new ≡ answered_of (pass_of self.old) response.now.status response.now.body) }
         ensures err { OnErr result (pass_of self.new ≡ pass_of self.old) }
     {

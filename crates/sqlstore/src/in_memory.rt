@@ -55,8 +55,8 @@ impl MemoryStore {
     }
 
     /// Returns how many rows the queries of reading calls have taken since the store was opened.
-    pub fn count_fetched(&self) -> u64 {
-        self.store.count_fetched()
+    pub fn fetched(&self) -> u64 {
+        self.store.fetched()
     }
 }
 

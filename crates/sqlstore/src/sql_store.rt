@@ -159,7 +159,7 @@ impl<S: Alter + Drop> SqlStore<S> {
 
     /// Returns how many rows the queries of reading calls have taken since the store was opened; it stays
     /// at 2^64 - 1. Those that a change takes in its transaction are not counted.
-    pub fn count_fetched(&self) -> u64 {
+    pub fn fetched(&self) -> u64 {
         self.fetched
     }
 }

@@ -57,7 +57,7 @@ pub(crate) fn add(alloc: Global, databases: &mut Databases, name: &DbName) -> Go
 {
     let database = PlainDatabase {
         writes: Vec::new(alloc),
-        security: Security::build_closed(alloc)?,
+        security: Security::closed(alloc)?,
         locals: BTreeMap::new(alloc),
     };
     databases.push((name.copy(alloc)?, database))?;

@@ -123,7 +123,7 @@ fn ask_source<S: Store + Drop>(
     ensures onward { GoesOn S.Store node.old.store node.new.store }
 {
     let reply = node.handle(request);
-    pass.take_reply(&reply)
+    pass.answered(&reply)
 }
 
 /// Has the peer answer a request, and the pass take the reply in, or its loss.
@@ -137,7 +137,7 @@ fn ask_target<P: Peer>(
     ensures err { OnErr result (pass_of pass.new ≡ pass_of pass.old) }
 {
     match peer.answer(alloc, request)? {
-        Some(reply) => pass.take_reply(&reply),
+        Some(reply) => pass.answered(&reply),
         None => {
             pass.lost();
             Ok(())

@@ -14,7 +14,7 @@ pub fn answer(alloc: Global, question: &[u8]) -> Result<Vec<u8>, RowsFault> {
         return build_reply(alloc, word, rest);
     }
     match fixed_of(rest) {
-        Some(fixed) => bytes(alloc, &Response::make_fixed(fixed)),
+        Some(fixed) => bytes(alloc, &Response::fixed(fixed)),
         None => Err(RowsFault::Refused("no such fixed reply")),
     }
 }
@@ -29,7 +29,7 @@ fn build_reply(alloc: Global, status: &str, rest: &str) -> Result<Vec<u8>, RowsF
         None => (false, rest),
     };
     let value = value_of(alloc, value)?;
-    match Response::make(alloc, status, &value, last) {
+    match Response::made(alloc, status, &value, last) {
         Ok(reply) => bytes_at(alloc, status, &reply),
         Err(HttpFault::Memory) => Err(RowsFault::Memory),
         Err(_) => Err(RowsFault::Refused("another fault")),

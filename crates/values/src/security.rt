@@ -39,7 +39,7 @@ impl Verdicts {
     /// Returns a copy of the security object of a text.
     fn security(&self, text: &str) -> Result<Security, RowsFault> {
         let security = match text {
-            "closed" => Security::build_closed(self.alloc)?,
+            "closed" => Security::closed(self.alloc)?,
             _ => security_of(self.alloc, &value_of(self.alloc, text)?)?,
         };
         Ok(security.copy(self.alloc)?)

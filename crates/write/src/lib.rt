@@ -1,7 +1,7 @@
 //! Writing: what becomes of an edit, and the plan that makes it so (CouchDB manual,
 //! api/document/common and api/database/bulk-api).
 //!
-//! [`edit`], [`replicate`], [`bulk`], [`put_index`] and [`put_local`] plan, and [`apply`] changes the store.
+//! [`edit`], [`replicated`], [`bulk`], [`put_index`] and [`put_local`] plan, and [`apply`] changes the store.
 //! Rows of the tests:
 //!
 //! ```rows
@@ -40,6 +40,6 @@ pub use fault::WriteFault;
 pub use index_writes::put_index;
 pub use local_writes::put_local;
 pub use planned::{Changes, DocumentResult, Outcome, Planned};
-pub use replicating::replicate;
+pub use replicating::replicated;
 pub use securing::put_security;
 pub use terms::{Terms, read_terms};

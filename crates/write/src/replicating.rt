@@ -51,7 +51,7 @@ pub(crate) struct Replica {
 /// update rule does not hold, by the first such rule; `Store(NoDatabase)` if and only if there is no
 /// database of this name, and before these. See the CouchDB manual, api/document/common and
 /// replication/conflicts.
-pub fn replicate<S: Store>(
+pub fn replicated<S: Store>(
     alloc: Global,
     store: &mut S,
     db: &DbName,

@@ -42,7 +42,7 @@ impl<S: Alter> SqlStore<S> {
         ensures kept { OnErr result (self.new.last.value ≡ self.old.last.value) }
         ensures moves { Moves S.Store self.old self.new }
     {
-        let security = Security::build_closed(self.alloc)?;
+        let security = Security::closed(self.alloc)?;
         let text = canon(self.alloc, security.value())?;
         self.known = None;
         match add_database(&mut self.conn, name.as_str().as_bytes(), text.as_str()) {

@@ -9,7 +9,7 @@ use Rattle.write.specs.TermsRead.{terms_of}
 use Rattle.write.proofs.Acceptances.{replicated_alone_acceptable}
 use Rattle.write.proofs.Names.{replicated-named}
 use Rattle.write.proofs.Plannings.{one_made, one_plan, one_refused, own_refusal}
-use Rattle.write.proofs.replicating.replicate.Goals as goal
+use Rattle.write.proofs.replicating.replicated.Goals as goal
 
 pub returns-clause-ok : goal.returns-clause-ok
 returns-clause-ok g c = λ honest.

@@ -1,7 +1,7 @@
 use Rattle.std.proofs.Common.{refl}
 use Rattle.std.specs.Fmt.{digits}
 use Rattle.couch_http.specs.Reply.{status_line, type_line, length_line, close_line}
-use Rattle.couch_http.proofs.response.Response.make_fixed.Goals as goal
+use Rattle.couch_http.proofs.response.Response.fixed.Goals as goal
 
 pub returns-in-Syntax : goal.returns-in-Syntax
 unfolding digits status_line type_line length_line close_line
