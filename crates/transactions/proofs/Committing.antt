@@ -14,6 +14,7 @@ use Rattle.tables.proofs.DocumentWrites.{acceptable_in_turn, one_more_written}
 use Rattle.tables.proofs.Lookups.{database_there}
 use Rattle.transactions.specs.Following.{HasPlaceFor, Serves}
 use Rattle.transactions.specs.Indexing.{IsFollowed, MayBeWritten, write_in}
+use Rattle.transactions.specs.Placed.{IsPlacedWrite}
 use Rattle.transactions.proofs.IndexSteps.{written_still}
 use Rattle.transactions.specs.declared.commit_fault.CommitFault.TheVariants as write
 use Rattle.transactions.proofs.Following.{serves_itself}
@@ -79,11 +80,11 @@ module _ (a b c : State) (first : Database) (same : a.committed ≡ first) (kept
 -- ---- one write more
 
 -- the write of a document by a history that serves, over the rows as they were
-pub document_written : (r : Row) (a : Addition) (k : HistoryContent) (old mid new : Database) → mid ≡ old → IsStore old → Serves a (history_in (old.trees revs_tree) (number_of r) a.id) k
-    → (IsStore mid → Serves a (history_in (mid.trees revs_tree) (number_of r) a.id) k → IsWrite r (written_in (history_in (mid.trees revs_tree) (number_of r) a.id) a) mid new)
-    → IsWrite r (written_in (history_in (old.trees revs_tree) (number_of r) a.id) a) old new
-document_written r a k old mid new same store serves writes =
-    let Is : Database → Type 0 = λ d. IsStore d → Serves a (history_in (d.trees revs_tree) (number_of r) a.id) k → IsWrite r (written_in (history_in (d.trees revs_tree) (number_of r) a.id) a) d new in
+pub document_written : (db sequence : ℤ) (a : Addition) (k : HistoryContent) (old mid new : Database) → mid ≡ old → IsStore old → Serves a (history_in (old.trees revs_tree) db a.id) k
+    → (IsStore mid → Serves a (history_in (mid.trees revs_tree) db a.id) k → IsPlacedWrite db sequence (written_in (history_in (mid.trees revs_tree) db a.id) a) mid new)
+    → IsPlacedWrite db sequence (written_in (history_in (old.trees revs_tree) db a.id) a) old new
+document_written db sequence a k old mid new same store serves writes =
+    let Is : Database → Type 0 = λ d. IsStore d → Serves a (history_in (d.trees revs_tree) db a.id) k → IsPlacedWrite db sequence (written_in (history_in (d.trees revs_tree) db a.id) a) d new in
     subst Is same writes store serves
 
 -- a history that is the document's own serves

@@ -11,5 +11,6 @@ pub mod Following
 pub mod Redeclared
 pub mod DocumentWriting
 pub mod Committing
+pub mod Ahead
 pub mod HeldHistories
 pub mod Lemmas

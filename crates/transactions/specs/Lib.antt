@@ -6,4 +6,5 @@ pub mod Following
 pub mod Commits
 pub mod Histories
 pub mod Indexing
+pub mod Placed
 pub mod Renewing

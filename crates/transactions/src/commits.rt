@@ -2,7 +2,7 @@
 
 ghost use Rattle.std.specs.FinMap as finite;
 ghost use Rattle.tree.specs.History.{winner};
-ghost use Rattle.std.specs.Prelude.{◌≡◌, ◌+◌, ◌<◌, ◌^◌, ℕ, IsTrue, List, None, false, length, pos, IfErr, IfOk, IfSome, OnOk, true, ⊤};
+ghost use Rattle.std.specs.Prelude.{◌≡◌, ◌+◌, ◌<◌, ◌^◌, ℕ, IsTrue, List, None, false, length, pos, IfErr, IfOk, IfSome, OnOk, true, ⊤, []};
 ghost use Rattle.sqlite.specs.Held.{state};
 ghost use Rattle.sqlite.specs.State.{HasCleanDisk, KeepsCommit};
 ghost use Rattle.sqlite_value.specs.Order.{Row};
@@ -18,6 +18,7 @@ ghost use Rattle.transactions.specs.Histories.{AreStored, IsHeldOpen, IsWith, Is
 ghost use Rattle.transactions.specs.Following.{HasPlaceFor, Serves};
 ghost use Rattle.transactions.specs.Inserting.{IsLawfulAddition};
 ghost use Rattle.transactions.specs.Endings.{IsDone, IsUndone, Turns};
+ghost use Rattle.transactions.specs.Placed.{ArePlain, IsPlacedWrite};
 ghost use Rattle.transactions.specs.Reading.{HasBest};
 ghost use Rattle.transactions.specs.Indexing.{AreAllIndexes, AreKnownIndexes, IsIndexedStore, IsSoundIndexed};
 ghost use Rattle.index.specs.Indexed.{IsIndexed};
@@ -27,7 +28,7 @@ ghost use Rattle.std.specs.Prelude.{map};
 use crate::commit_fault::CommitFault;
 use crate::document_write::{add_first, add_write};
 use crate::histories::read_history;
-use crate::indexing::write_indexed;
+use crate::indexing::{are_none, write_indexed};
 use crate::winners::{first_winner, history_for};
 use couch_json::Got;
 use index::{Declaration, list_declarations};
@@ -35,6 +36,7 @@ use sqlite::{Alter, Connection, Transaction};
 use std::alloc::Global;
 use std::collections::BTreeMap;
 use store::Write;
+use tables::databases::advance_database;
 use tables::transaction_reads::{document_rows_in, revision_rows_in};
 use tree::{DocId, History};
 
@@ -68,10 +70,48 @@ pub fn commit_writes<S: Alter>(
     Ok(after)
 }
 
-/// Writes a document under this sequence, in a transaction. Its history is taken from those that were
+/// Writes a document under this sequence, in a transaction, and leaves the sequence of the database to the
+/// caller. Its history is taken from those that were
 /// read, or else read as far as the write asks; where it is there as a whole it is put back as it is after
 /// the write.
-pub(crate) fn write_document<S: Alter>(
+fn write_document<S: Alter>(
+    alloc: Global,
+    tx: &mut Transaction<'_, S>,
+    db: &i64,
+    sequence: &i64,
+    histories: &mut BTreeMap<DocId, History>,
+    write: &Write,
+) -> Result<(), CommitFault>
+    ensures same_reference { tx.new.conn.ghost_name ≡ tx.old.conn.ghost_name }
+    ensures ok { HasCleanDisk (state S.Store tx.new.conn.now) → IsStore (state S.Store tx.old.conn.now).now
+        → AreStored histories.old (history_in ((state S.Store tx.old.conn.now).now.trees revs_tree) db.now)
+        → HasPlaceFor (history_in ((state S.Store tx.old.conn.now).now.trees revs_tree) db.now (addition_of write.now).id) (addition_of write.now)
+        → OnOk result (IsPlacedWrite db.now sequence.now (written_in (history_in ((state S.Store tx.old.conn.now).now.trees revs_tree) db.now (addition_of write.now).id) (addition_of write.now))
+        (state S.Store tx.old.conn.now).now (state S.Store tx.new.conn.now).now) }
+    ensures after { HasCleanDisk (state S.Store tx.new.conn.now) → IsStore (state S.Store tx.old.conn.now).now
+        → AreStored histories.old (history_in ((state S.Store tx.old.conn.now).now.trees revs_tree) db.now)
+        → OnOk result (IsWithin histories.old (addition_of write.now).id
+        (with_addition (history_in ((state S.Store tx.old.conn.now).now.trees revs_tree) db.now (addition_of write.now).id) (addition_of write.now)) histories.new) }
+    ensures lawful { OnOk result (IsLawfulAddition (addition_of write.now)) }
+    ensures inside { HasCleanDisk (state S.Store tx.new.conn.now) → OnOk result (IsTrue (state S.Store tx.new.conn.now).is_open × ((state S.Store tx.new.conn.now).in_transaction ≡ true)) }
+    ensures err { IfErr result (IsUnwritten (IsHeldOpen histories.old (state S.Store tx.old.conn.now)
+        × IsSound S.Store (λ trees. AreStored histories.old (history_in (trees revs_tree) db.now) × HasBest (history_with trees db.now (addition_of write.now))) tx.old.conn.now tx.new.conn.now)) }
+    ensures looks { LooksInside S.Store tx.old.conn.now tx.new.conn.now }
+    ensures asks { AsksInside S.Store tx.old.conn.now tx.new.conn.now }
+{
+    if let Some(history) = histories.remove(&write.id) {
+        let history = write_known(alloc, tx, db, sequence, history, write)?;
+        put_history(alloc, histories, &write.id, history)?;
+        return Ok(());
+    }
+    if let Some(history) = write_unread(alloc, tx, db, sequence, write)? {
+        put_history(alloc, histories, &write.id, history)?;
+    }
+    Ok(())
+}
+
+/// Writes a document as `write_document` does, and moves the sequence of the database to this one.
+pub(crate) fn write_next<S: Alter>(
     alloc: Global,
     tx: &mut Transaction<'_, S>,
     db: &i64,
@@ -97,14 +137,8 @@ pub(crate) fn write_document<S: Alter>(
     ensures looks { LooksInside S.Store tx.old.conn.now tx.new.conn.now }
     ensures asks { AsksInside S.Store tx.old.conn.now tx.new.conn.now }
 {
-    if let Some(history) = histories.remove(&write.id) {
-        let history = write_known(alloc, tx, db, sequence, history, write)?;
-        put_history(alloc, histories, &write.id, history)?;
-        return Ok(());
-    }
-    if let Some(history) = write_unread(alloc, tx, db, sequence, write)? {
-        put_history(alloc, histories, &write.id, history)?;
-    }
+    write_document(alloc, tx, db, sequence, histories, write)?;
+    advance_database(tx, db, sequence)?;
     Ok(())
 }
 
@@ -167,10 +201,9 @@ fn write_known<S: Alter>(
     write: &Write,
 ) -> Result<History, CommitFault>
     ensures same_reference { tx.new.conn.ghost_name ≡ tx.old.conn.ghost_name }
-    ensures ok { (r : Row) → HasCleanDisk (state S.Store tx.new.conn.now) → IsStore (state S.Store tx.old.conn.now).now
-        → Serves (addition_of write.now) (history_in ((state S.Store tx.old.conn.now).now.trees revs_tree) (number_of r) (addition_of write.now).id) history
-        → db.now ≡ number_of r → sequence.now ≡ pos (length_of r + 1)
-        → OnOk result (IsWrite r (written_in (history_in ((state S.Store tx.old.conn.now).now.trees revs_tree) (number_of r) (addition_of write.now).id) (addition_of write.now))
+    ensures ok { HasCleanDisk (state S.Store tx.new.conn.now) → IsStore (state S.Store tx.old.conn.now).now
+        → Serves (addition_of write.now) (history_in ((state S.Store tx.old.conn.now).now.trees revs_tree) db.now (addition_of write.now).id) history
+        → OnOk result (IsPlacedWrite db.now sequence.now (written_in (history_in ((state S.Store tx.old.conn.now).now.trees revs_tree) db.now (addition_of write.now).id) (addition_of write.now))
         (state S.Store tx.old.conn.now).now (state S.Store tx.new.conn.now).now) }
     ensures after { IfOk result (λ after. after ≡ with_addition history (addition_of write.now)) }
     ensures err { IfErr result (IsUnwritten (HasBest (with_addition history (addition_of write.now)))) }
@@ -195,11 +228,10 @@ fn write_served<S: Alter>(
 ) -> Result<(), CommitFault>
     requires { winner history ≡ None → history ≡ finite.empty }
     ensures same_reference { tx.new.conn.ghost_name ≡ tx.old.conn.ghost_name }
-    ensures ok { (r : Row) → HasCleanDisk (state S.Store tx.new.conn.now) → IsStore (state S.Store tx.old.conn.now).now
-        → HasPlaceFor (history_in ((state S.Store tx.old.conn.now).now.trees revs_tree) (number_of r) (addition_of write.now).id) (addition_of write.now)
-        → Serves (addition_of write.now) (history_in ((state S.Store tx.old.conn.now).now.trees revs_tree) (number_of r) (addition_of write.now).id) history
-        → db.now ≡ number_of r → sequence.now ≡ pos (length_of r + 1)
-        → OnOk result (IsWrite r (written_in (history_in ((state S.Store tx.old.conn.now).now.trees revs_tree) (number_of r) (addition_of write.now).id) (addition_of write.now))
+    ensures ok { HasCleanDisk (state S.Store tx.new.conn.now) → IsStore (state S.Store tx.old.conn.now).now
+        → HasPlaceFor (history_in ((state S.Store tx.old.conn.now).now.trees revs_tree) db.now (addition_of write.now).id) (addition_of write.now)
+        → Serves (addition_of write.now) (history_in ((state S.Store tx.old.conn.now).now.trees revs_tree) db.now (addition_of write.now).id) history
+        → OnOk result (IsPlacedWrite db.now sequence.now (written_in (history_in ((state S.Store tx.old.conn.now).now.trees revs_tree) db.now (addition_of write.now).id) (addition_of write.now))
         (state S.Store tx.old.conn.now).now (state S.Store tx.new.conn.now).now) }
     ensures err { IfErr result (IsUnwritten (HasBest (with_addition history (addition_of write.now)))) }
     ensures lawful { OnOk result (IsLawfulAddition (addition_of write.now)) }
@@ -222,9 +254,8 @@ fn write_read<S: Alter>(
     write: &Write,
 ) -> Result<History, CommitFault>
     ensures same_reference { tx.new.conn.ghost_name ≡ tx.old.conn.ghost_name }
-    ensures ok { (r : Row) → HasCleanDisk (state S.Store tx.new.conn.now) → IsStore (state S.Store tx.old.conn.now).now
-        → db.now ≡ number_of r → sequence.now ≡ pos (length_of r + 1)
-        → OnOk result (IsWrite r (written_in (history_in ((state S.Store tx.old.conn.now).now.trees revs_tree) (number_of r) (addition_of write.now).id) (addition_of write.now))
+    ensures ok { HasCleanDisk (state S.Store tx.new.conn.now) → IsStore (state S.Store tx.old.conn.now).now
+        → OnOk result (IsPlacedWrite db.now sequence.now (written_in (history_in ((state S.Store tx.old.conn.now).now.trees revs_tree) db.now (addition_of write.now).id) (addition_of write.now))
         (state S.Store tx.old.conn.now).now (state S.Store tx.new.conn.now).now) }
     ensures after { HasCleanDisk (state S.Store tx.new.conn.now) → IsStore (state S.Store tx.old.conn.now).now
         → IfOk result (λ after. after ≡ with_addition (history_in ((state S.Store tx.old.conn.now).now.trees revs_tree) db.now (addition_of write.now).id) (addition_of write.now)) }
@@ -248,10 +279,9 @@ fn write_unread<S: Alter>(
     write: &Write,
 ) -> Result<Option<History>, CommitFault>
     ensures same_reference { tx.new.conn.ghost_name ≡ tx.old.conn.ghost_name }
-    ensures ok { (r : Row) → HasCleanDisk (state S.Store tx.new.conn.now) → IsStore (state S.Store tx.old.conn.now).now
-        → HasPlaceFor (history_in ((state S.Store tx.old.conn.now).now.trees revs_tree) (number_of r) (addition_of write.now).id) (addition_of write.now)
-        → db.now ≡ number_of r → sequence.now ≡ pos (length_of r + 1)
-        → OnOk result (IsWrite r (written_in (history_in ((state S.Store tx.old.conn.now).now.trees revs_tree) (number_of r) (addition_of write.now).id) (addition_of write.now))
+    ensures ok { HasCleanDisk (state S.Store tx.new.conn.now) → IsStore (state S.Store tx.old.conn.now).now
+        → HasPlaceFor (history_in ((state S.Store tx.old.conn.now).now.trees revs_tree) db.now (addition_of write.now).id) (addition_of write.now)
+        → OnOk result (IsPlacedWrite db.now sequence.now (written_in (history_in ((state S.Store tx.old.conn.now).now.trees revs_tree) db.now (addition_of write.now).id) (addition_of write.now))
         (state S.Store tx.old.conn.now).now (state S.Store tx.new.conn.now).now) }
     ensures after { HasCleanDisk (state S.Store tx.new.conn.now) → IsStore (state S.Store tx.old.conn.now).now
         → IfOk result (λ found. IfSome found (λ after. after ≡ with_addition (history_in ((state S.Store tx.old.conn.now).now.trees revs_tree) db.now (addition_of write.now).id) (addition_of write.now))) }
@@ -328,7 +358,93 @@ fn write_each<S: Alter>(
     Ok(indexes)
 }
 
-/// Lists the indexes of a database, and then does its writes in turn, as `write_each` does.
+/// Tells whether none of the writes is of a design document.
+fn are_plain(writes: &[Write]) -> bool
+    ensures { IsTrue result → ArePlain (additions writes.now) }
+{
+    for write in writes {
+        if write.id.is_design() {
+            return false;
+        }
+    }
+    true
+}
+
+/// Does the writes of a database without indexes in turn, none of which is of a design document. The
+/// database goes to the last of their sequences first, by one statement for all of them.
+fn write_plain<S: Alter>(
+    alloc: Global,
+    tx: &mut Transaction<'_, S>,
+    db: &i64,
+    sequence: u64,
+    writes: &[Write],
+) -> Result<(), CommitFault>
+    requires some { 0 < length writes.now }
+    requires room { sequence + length writes.now < 2 ^ 63 }
+    ensures same_reference { tx.new.conn.ghost_name ≡ tx.old.conn.ghost_name }
+    ensures ok { (name : List ℕ) → HasCleanDisk (state S.Store tx.new.conn.now) → IsIndexedStore (state S.Store tx.old.conn.now).now
+        → AreAllIndexes [] db.now (state S.Store tx.old.conn.now).now.trees → ArePlain (additions writes.now)
+        → (due : AreDue (additions writes.now) name db.now sequence (state S.Store tx.old.conn.now).now.trees)
+        → OnOk result (HasWritten (writings_in (database_of (state S.Store tx.old.conn.now).now.trees due.row) (additions writes.now)) name due.row
+        (state S.Store tx.old.conn.now).now (state S.Store tx.new.conn.now).now × IsIndexed (state S.Store tx.new.conn.now).now.trees × AreAllIndexes [] db.now (state S.Store tx.new.conn.now).now.trees) }
+    ensures err { (name : List ℕ) → ArePlain (additions writes.now) → IfErr result (IsUnwritten (IsSoundIndexed S.Store
+        (λ d. AreAllIndexes [] db.now d.trees × AreDue (additions writes.now) name db.now sequence d.trees) tx.old.conn.now tx.new.conn.now)) }
+    ensures kept { (name : List ℕ) → HasCleanDisk (state S.Store tx.new.conn.now) → IsIndexedStore (state S.Store tx.old.conn.now).now
+        → AreAllIndexes [] db.now (state S.Store tx.old.conn.now).now.trees → ArePlain (additions writes.now)
+        → AreDue (additions writes.now) name db.now sequence (state S.Store tx.old.conn.now).now.trees
+        → KeepsCommit (state S.Store tx.old.conn.now) (state S.Store tx.new.conn.now) }
+    ensures inside { (name : List ℕ) → HasCleanDisk (state S.Store tx.new.conn.now) → IsIndexedStore (state S.Store tx.old.conn.now).now
+        → AreAllIndexes [] db.now (state S.Store tx.old.conn.now).now.trees → ArePlain (additions writes.now)
+        → AreDue (additions writes.now) name db.now sequence (state S.Store tx.old.conn.now).now.trees
+        → (state S.Store tx.old.conn.now).in_transaction ≡ true → OnOk result ((state S.Store tx.new.conn.now).in_transaction ≡ true) }
+    ensures asks { AsksInside S.Store tx.old.conn.now tx.new.conn.now }
+{
+    advance_database(tx, db, &integer_of(sequence + writes.len() as u64))?;
+    let mut histories = BTreeMap::new(alloc);
+    for (i, write) in writes.iter().enumerate() {
+        let next = integer_of(sequence + i as u64 + 1);
+        write_document(alloc, tx, db, &next, &mut histories, write)?;
+    }
+    Ok(())
+}
+
+/// Does the writes of a database as `write_each` does. Where there are no indexes to follow several
+/// writes, the sequence of the database is moved but once.
+fn write_bulk<S: Alter>(
+    alloc: Global,
+    tx: &mut Transaction<'_, S>,
+    db: &i64,
+    sequence: u64,
+    indexes: Vec<Declaration>,
+    writes: &[Write],
+) -> Result<Vec<Declaration>, CommitFault>
+    requires { sequence + length writes.now < 2 ^ 63 }
+    ensures same_reference { tx.new.conn.ghost_name ≡ tx.old.conn.ghost_name }
+    ensures ok { (name : List ℕ) → HasCleanDisk (state S.Store tx.new.conn.now) → IsIndexedStore (state S.Store tx.old.conn.now).now
+        → AreAllIndexes (map declared indexes.items) db.now (state S.Store tx.old.conn.now).now.trees
+        → (due : AreDue (additions writes.now) name db.now sequence (state S.Store tx.old.conn.now).now.trees)
+        → IfOk result (λ all. HasWritten (writings_in (database_of (state S.Store tx.old.conn.now).now.trees due.row) (additions writes.now)) name due.row
+        (state S.Store tx.old.conn.now).now (state S.Store tx.new.conn.now).now × IsIndexed (state S.Store tx.new.conn.now).now.trees × AreAllIndexes (map declared all.items) db.now (state S.Store tx.new.conn.now).now.trees) }
+    ensures err { (name : List ℕ) → IfErr result (IsUnwritten (IsSoundIndexed S.Store
+        (λ d. AreAllIndexes (map declared indexes.items) db.now d.trees × AreDue (additions writes.now) name db.now sequence d.trees) tx.old.conn.now tx.new.conn.now)) }
+    ensures kept { (name : List ℕ) → HasCleanDisk (state S.Store tx.new.conn.now) → IsIndexedStore (state S.Store tx.old.conn.now).now
+        → AreAllIndexes (map declared indexes.items) db.now (state S.Store tx.old.conn.now).now.trees
+        → AreDue (additions writes.now) name db.now sequence (state S.Store tx.old.conn.now).now.trees
+        → KeepsCommit (state S.Store tx.old.conn.now) (state S.Store tx.new.conn.now) }
+    ensures inside { (name : List ℕ) → HasCleanDisk (state S.Store tx.new.conn.now) → IsIndexedStore (state S.Store tx.old.conn.now).now
+        → AreAllIndexes (map declared indexes.items) db.now (state S.Store tx.old.conn.now).now.trees
+        → AreDue (additions writes.now) name db.now sequence (state S.Store tx.old.conn.now).now.trees
+        → (state S.Store tx.old.conn.now).in_transaction ≡ true → OnOk result ((state S.Store tx.new.conn.now).in_transaction ≡ true) }
+    ensures asks { AsksInside S.Store tx.old.conn.now tx.new.conn.now }
+{
+    if are_none(&indexes) && writes.len() > 1 && are_plain(writes) {
+        write_plain(alloc, tx, db, sequence, writes)?;
+        return Ok(indexes);
+    }
+    write_each(alloc, tx, db, sequence, indexes, writes)
+}
+
+/// Lists the indexes of a database, and then does its writes in turn, as `write_bulk` does.
 fn write_listed<S: Alter>(
     alloc: Global,
     tx: &mut Transaction<'_, S>,
@@ -352,7 +468,7 @@ fn write_listed<S: Alter>(
     ensures asks { AsksInside S.Store tx.old.conn.now tx.new.conn.now }
 {
     let indexes = list_declarations(alloc, tx, db)?;
-    write_each(alloc, tx, db, sequence, indexes, writes)
+    write_bulk(alloc, tx, db, sequence, indexes, writes)
 }
 
 /// Does the writes of a database in turn, each under the next sequence, and has its indexes follow, which
@@ -385,7 +501,7 @@ fn write_all<S: Alter>(
     ensures asks { AsksInside S.Store tx.old.conn.now tx.new.conn.now }
 {
     match indexes {
-        Some(known) => write_each(alloc, tx, db, sequence, known, writes),
+        Some(known) => write_bulk(alloc, tx, db, sequence, known, writes),
         None => write_listed(alloc, tx, db, sequence, writes),
     }
 }

@@ -1,6 +1,6 @@
 //! One write of a document, as statements of a transaction.
 
-ghost use Rattle.std.specs.Prelude.{◌≡◌, ◌+◌, ◌∷◌, [], not, pos, None, Some, IfErr, IfOk, OnOk, string_bytes, ⊤};
+ghost use Rattle.std.specs.Prelude.{◌≡◌, ◌∷◌, [], not, None, Some, IfErr, IfOk, OnOk, string_bytes, ⊤};
 ghost use Rattle.std.specs.FinMap as map;
 ghost use Rattle.std.specs.Prelude.{IsTrue};
 ghost use Rattle.std.specs.List.{AllByRecursion, list_any};
@@ -13,10 +13,8 @@ ghost use Rattle.sqlite_value.specs.declared.value.Value.TheVariants.{Text};
 ghost use Rattle.tables.specs.Calls.{Proceeds, Stays};
 ghost use Rattle.store.specs.Plain.{with_addition};
 ghost use Rattle.store.specs.Writing.{addition_of, written_in};
-ghost use Rattle.sqlite_value.specs.Order.{Row};
-ghost use Rattle.tables.specs.Edits.{IsWrite};
 ghost use Rattle.tables.specs.Layout.{AreDocumentRows, IsStore};
-ghost use Rattle.tables.specs.Rows.{history_in, is_of, length_of, number_of, parent_cell};
+ghost use Rattle.tables.specs.Rows.{history_in, is_of, parent_cell};
 ghost use Rattle.tables.specs.Schema.{docs_tree, revs_tree, schema};
 ghost use Rattle.tree.specs.History.{behind};
 ghost use Rattle.tree.specs.Nodes.{entries_before};
@@ -25,6 +23,7 @@ ghost use Rattle.tree.specs.Write.{head};
 ghost use Rattle.transactions.specs.Commits.{IsUnwritten};
 ghost use Rattle.transactions.specs.Following.{HasPlaceFor, Serves};
 ghost use Rattle.transactions.specs.Inserting.{InsertsAll, IsBest, IsLawfulAddition, IsPlaced, entries_of, unknown_in};
+ghost use Rattle.transactions.specs.Placed.{IsPlacedWrite};
 ghost use Rattle.transactions.specs.Reading.{HasBest, IsMissed};
 
 use crate::commit_fault::CommitFault;
@@ -33,12 +32,12 @@ use couch_json::canon;
 use sqlite::{Alter, Error, Transaction};
 use std::alloc::Global;
 use store::Write;
-use tables::databases::advance_database;
 use tables::documents::{advance_document, insert_document};
 use tables::revisions::insert_revision;
 use tree::{History, Rev, find_next};
 
-/// Does one write of a document, whose history says what the write asks of the one before it.
+/// Does one write of a document, whose history says what the write asks of the one before it. The
+/// sequence of the database is left to the caller.
 pub(crate) fn add_write<S: Alter>(
     alloc: Global,
     tx: &mut Transaction<'_, S>,
@@ -48,10 +47,9 @@ pub(crate) fn add_write<S: Alter>(
     write: &Write,
 ) -> Result<(), CommitFault>
     ensures same_reference { tx.new.conn.ghost_name ≡ tx.old.conn.ghost_name }
-    ensures ok { (r : Row) → HasCleanDisk (state S.Store tx.new.conn.now) → IsStore (state S.Store tx.old.conn.now).now
-        → Serves (addition_of write.now) (history_in ((state S.Store tx.old.conn.now).now.trees revs_tree) (number_of r) (addition_of write.now).id) history.old
-        → db.now ≡ number_of r → sequence.now ≡ pos (length_of r + 1)
-        → OnOk result (IsWrite r (written_in (history_in ((state S.Store tx.old.conn.now).now.trees revs_tree) (number_of r) (addition_of write.now).id) (addition_of write.now))
+    ensures ok { HasCleanDisk (state S.Store tx.new.conn.now) → IsStore (state S.Store tx.old.conn.now).now
+        → Serves (addition_of write.now) (history_in ((state S.Store tx.old.conn.now).now.trees revs_tree) db.now (addition_of write.now).id) history.old
+        → OnOk result (IsPlacedWrite db.now sequence.now (written_in (history_in ((state S.Store tx.old.conn.now).now.trees revs_tree) db.now (addition_of write.now).id) (addition_of write.now))
         (state S.Store tx.old.conn.now).now (state S.Store tx.new.conn.now).now) }
     ensures after { OnOk result (history.new ≡ with_addition history.old (addition_of write.now)) }
     ensures err { IfErr result (IsUnwritten (HasBest (with_addition history.old (addition_of write.now)))) }
@@ -65,12 +63,12 @@ pub(crate) fn add_write<S: Alter>(
     let (text, deleted) = best_of(alloc, history)?;
     let id = write.id.as_str().as_bytes();
     place_document(tx, db, id, sequence, text.as_str(), deleted, is_new)?;
-    advance_database(tx, db, sequence)?;
     Ok(())
 }
 
 /// Does the first write of a document, whose history is empty, and leaves it so. The newest revision of
-/// the path is the winner then, so no history is made of it.
+/// the path is the winner then, so no history is made of it. The sequence of the database is left to the
+/// caller.
 pub(crate) fn add_first<S: Alter>(
     alloc: Global,
     tx: &mut Transaction<'_, S>,
@@ -80,11 +78,10 @@ pub(crate) fn add_first<S: Alter>(
     write: &Write,
 ) -> Result<(), CommitFault>
     ensures same_reference { tx.new.conn.ghost_name ≡ tx.old.conn.ghost_name }
-    ensures ok { (r : Row) → HasCleanDisk (state S.Store tx.new.conn.now) → IsStore (state S.Store tx.old.conn.now).now
-        → Serves (addition_of write.now) (history_in ((state S.Store tx.old.conn.now).now.trees revs_tree) (number_of r) (addition_of write.now).id) history.now
+    ensures ok { HasCleanDisk (state S.Store tx.new.conn.now) → IsStore (state S.Store tx.old.conn.now).now
+        → Serves (addition_of write.now) (history_in ((state S.Store tx.old.conn.now).now.trees revs_tree) db.now (addition_of write.now).id) history.now
         → history.now ≡ map.empty → HasPlaceFor map.empty (addition_of write.now)
-        → db.now ≡ number_of r → sequence.now ≡ pos (length_of r + 1)
-        → OnOk result (IsWrite r (written_in (history_in ((state S.Store tx.old.conn.now).now.trees revs_tree) (number_of r) (addition_of write.now).id) (addition_of write.now))
+        → OnOk result (IsPlacedWrite db.now sequence.now (written_in (history_in ((state S.Store tx.old.conn.now).now.trees revs_tree) db.now (addition_of write.now).id) (addition_of write.now))
         (state S.Store tx.old.conn.now).now (state S.Store tx.new.conn.now).now) }
     ensures err { IfErr result (IsUnwritten (HasBest (with_addition map.empty (addition_of write.now)))) }
     ensures lawful { OnOk result (IsLawfulAddition (addition_of write.now)) }
@@ -95,7 +92,6 @@ pub(crate) fn add_first<S: Alter>(
     let text = newest_of(alloc, write)?;
     let id = write.id.as_str().as_bytes();
     place_document(tx, db, id, sequence, text.as_str(), write.deleted, true)?;
-    advance_database(tx, db, sequence)?;
     Ok(())
 }
 

@@ -24,7 +24,7 @@ ghost use Rattle.transactions.specs.Indexing.{IsRedeclared};
 
 use crate::changes::clear_database;
 use crate::commit_fault::CommitFault;
-use crate::commits::write_document;
+use crate::commits::write_next;
 use crate::seeing::{find_winning, see_document};
 use index::{Declaration, drop_db, list_declarations, rebuild, refresh_indexes};
 use sqlite::{Alter, Transaction};
@@ -71,7 +71,7 @@ pub(crate) fn write_seen<S: Alter>(
     ensures asks { AsksInside S.Store tx.old.conn.now tx.new.conn.now }
 {
     let before = see_document(alloc, tx, db, &write.id)?;
-    write_document(alloc, tx, db, sequence, histories, write)?;
+    write_next(alloc, tx, db, sequence, histories, write)?;
     let after = see_document(alloc, tx, db, &write.id)?;
     let id = write.id.as_str().as_bytes();
     refresh_indexes(alloc, tx, db, indexes, id, before.as_ref(), after.as_ref())?;
@@ -132,7 +132,7 @@ pub(crate) fn write_design<S: Alter>(
         → KeepsCommit (state S.Store tx.old.conn.now) (state S.Store tx.new.conn.now) }
     ensures asks { AsksInside S.Store tx.old.conn.now tx.new.conn.now }
 {
-    write_document(alloc, tx, db, sequence, histories, write)?;
+    write_next(alloc, tx, db, sequence, histories, write)?;
     redeclare(alloc, tx, db, &write.id)
 }
 
@@ -178,12 +178,13 @@ pub(crate) fn write_indexed<S: Alter>(
         return Ok(());
     }
     if are_none(indexes) {
-        return write_document(alloc, tx, db, sequence, histories, write);
+        return write_next(alloc, tx, db, sequence, histories, write);
     }
     write_seen(alloc, tx, db, sequence, histories, indexes, write)
 }
 
-fn are_none(indexes: &[Declaration]) -> bool
+/// Tells whether there are no indexes.
+pub(crate) fn are_none(indexes: &[Declaration]) -> bool
     ensures { result ≡ (length indexes.now == 0) }
 {
     indexes.is_empty()

@@ -9,24 +9,24 @@ use Rattle.transactions.proofs.commits.write_all.Goals as goal
 pub returns-in-Some-clause-ok : goal.returns-in-Some-clause-ok
 returns-in-Some-clause-ok g c name clean was every due =
     let old = state g.S.Store c.args.tx.now.conn.now in
-    c.write_each.ensures.ok name clean was (subst (λ (k : Option (Vec Declaration Global)). AreKnownIndexes k c.args.db.now old.now.trees) c.in-Some.is every) due
+    c.write_bulk.ensures.ok name clean was (subst (λ (k : Option (Vec Declaration Global)). AreKnownIndexes k c.args.db.now old.now.trees) c.in-Some.is every) due
 
 pub returns-in-Some-clause-err : goal.returns-in-Some-clause-err
 returns-in-Some-clause-err g c name =
     let first = c.args.tx.now.conn.now in
-    let last = c.write_each.new.tx.conn.now in
-    subst (λ (k : Option (Vec Declaration Global)). IfErr c.write_each.result (IsUnwritten (IsSoundIndexed g.S.Store (λ d. AreKnownIndexes k c.args.db.now d.trees × AreDue (additions c.args.writes.now) name c.args.db.now c.args.sequence d.trees) first last)))
-    (sym c.in-Some.is) (c.write_each.ensures.err name)
+    let last = c.write_bulk.new.tx.conn.now in
+    subst (λ (k : Option (Vec Declaration Global)). IfErr c.write_bulk.result (IsUnwritten (IsSoundIndexed g.S.Store (λ d. AreKnownIndexes k c.args.db.now d.trees × AreDue (additions c.args.writes.now) name c.args.db.now c.args.sequence d.trees) first last)))
+    (sym c.in-Some.is) (c.write_bulk.ensures.err name)
 
 pub returns-in-Some-clause-kept : goal.returns-in-Some-clause-kept
 returns-in-Some-clause-kept g c name clean was every due =
     let old = state g.S.Store c.args.tx.now.conn.now in
-    c.write_each.ensures.kept name clean was (subst (λ (k : Option (Vec Declaration Global)). AreKnownIndexes k c.args.db.now old.now.trees) c.in-Some.is every) due
+    c.write_bulk.ensures.kept name clean was (subst (λ (k : Option (Vec Declaration Global)). AreKnownIndexes k c.args.db.now old.now.trees) c.in-Some.is every) due
 
 pub returns-in-Some-clause-inside : goal.returns-in-Some-clause-inside
 returns-in-Some-clause-inside g c name clean was every due =
     let old = state g.S.Store c.args.tx.now.conn.now in
-    c.write_each.ensures.inside name clean was (subst (λ (k : Option (Vec Declaration Global)). AreKnownIndexes k c.args.db.now old.now.trees) c.in-Some.is every) due
+    c.write_bulk.ensures.inside name clean was (subst (λ (k : Option (Vec Declaration Global)). AreKnownIndexes k c.args.db.now old.now.trees) c.in-Some.is every) due
 
 pub returns-in-None-clause-ok : goal.returns-in-None-clause-ok
 returns-in-None-clause-ok g c name clean was every due = c.write_listed.ensures.ok name clean was due

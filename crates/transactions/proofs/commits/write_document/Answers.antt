@@ -1,12 +1,12 @@
-use Rattle.transactions.proofs.Lemmas.{addition_of, ap, history_in, left_within, number_of, own_serves, put_again, revs_tree, state, sym, with_addition, with_within, ◌∙◌}
+use Rattle.transactions.proofs.Lemmas.{addition_of, ap, history_in, left_within, own_serves, put_again, revs_tree, state, sym, with_addition, with_within, ◌∙◌}
 use Rattle.transactions.proofs.commits.write_document.Goals as goal
 
 pub returns-in-Some-clause-ok : goal.returns-in-Some-clause-ok
-returns-in-Some-clause-ok g c r clean store stored place numbered at =
+returns-in-Some-clause-ok g c clean store stored place =
     let revs = (state g.S.Store c.args.tx.now.conn.now).now.trees revs_tree in
     let a = addition_of c.args.write.now in
     let known = stored a.id c.in-Some.history (sym c.remove.ensures.value ∙ c.in-Some.is) in
-    c.in_ok-history.ensures.ok r clean store (own_serves a (history_in revs (number_of r) a.id) c.in-Some.history (known ∙ ap (λ n. history_in revs n a.id) numbered)) numbered at
+    c.in_ok-history.ensures.ok clean store (own_serves a (history_in revs c.args.db.now a.id) c.in-Some.history known)
 
 pub returns-in-Some-clause-after : goal.returns-in-Some-clause-after
 returns-in-Some-clause-after g c clean store stored =

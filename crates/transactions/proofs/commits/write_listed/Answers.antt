@@ -25,35 +25,35 @@ pub returns-clause-ok : goal.returns-clause-ok
 returns-clause-ok g c name clean was due =
     let first = c.args.tx.now.conn.now in
     let between = c.list_declarations.new.tx.conn.now in
-    let last = c.write_each.new.tx.conn.now in
+    let last = c.write_bulk.new.tx.conn.now in
     let old = state g.S.Store first in
     let mid = state g.S.Store between in
     let new = state g.S.Store last in
     let db = c.args.db.now in
     let all = additions c.args.writes.now in
     let find = c.in_ok-indexes.ensures in
-    let e = c.write_each.ensures in
+    let e = c.write_bulk.ensures in
     let mid-clean : HasCleanDisk mid = omega (arith, e.asks.survives.clean, clean) in
     let stands = (find.stands was.store.schema_is mid-clean).0 in
     let every = find.ok mid-clean (rows_of old.now was) in
     subst (λ (d : Database). IsIndexedStore d → AreAllIndexes (map declared c.in_ok-indexes.indexes.items) db d.trees → (due : AreDue all name db c.args.sequence d.trees)
-    → IfOk c.write_each.result (λ (to : Vec Declaration Global). HasWritten (writings_in (database_of d.trees due.row) all) name due.row d new.now × IsIndexed new.now.trees × AreAllIndexes (map declared to.items) db new.now.trees)) stands.now_is (e.ok name clean) was every due
+    → IfOk c.write_bulk.result (λ (to : Vec Declaration Global). HasWritten (writings_in (database_of d.trees due.row) all) name due.row d new.now × IsIndexed new.now.trees × AreAllIndexes (map declared to.items) db new.now.trees)) stands.now_is (e.ok name clean) was every due
 
 pub returns-clause-err : goal.returns-clause-err
 returns-clause-err g c name =
     let first = c.args.tx.now.conn.now in
     let between = c.list_declarations.new.tx.conn.now in
-    let last = c.write_each.new.tx.conn.now in
+    let last = c.write_bulk.new.tx.conn.now in
     let old = state g.S.Store first in
     let mid = state g.S.Store between in
     let new = state g.S.Store last in
     let db = c.args.db.now in
     let all = additions c.args.writes.now in
     let find = c.in_ok-indexes.ensures in
-    let e = c.write_each.ensures in
+    let e = c.write_bulk.ensures in
     let Told : Type 0 = IsSoundIndexed g.S.Store (λ d. AreAllIndexes (map declared c.in_ok-indexes.indexes.items) db d.trees × AreDue all name db c.args.sequence d.trees) between last in
     let Given : Type 0 = IsSoundIndexed g.S.Store (λ d. AreDue all name db c.args.sequence d.trees) first last in
-    if_err {P = IsUnwritten Told} {Q = IsUnwritten Given} c.write_each.result
+    if_err {P = IsUnwritten Told} {Q = IsUnwritten Given} c.write_bulk.result
     (λ (fault : CommitFault) h.
     unwritten_of Told Given fault
     (λ it. (
@@ -71,14 +71,14 @@ pub returns-clause-kept : goal.returns-clause-kept
 returns-clause-kept g c name clean was due =
     let first = c.args.tx.now.conn.now in
     let between = c.list_declarations.new.tx.conn.now in
-    let last = c.write_each.new.tx.conn.now in
+    let last = c.write_bulk.new.tx.conn.now in
     let old = state g.S.Store first in
     let mid = state g.S.Store between in
     let new = state g.S.Store last in
     let db = c.args.db.now in
     let all = additions c.args.writes.now in
     let find = c.in_ok-indexes.ensures in
-    let e = c.write_each.ensures in
+    let e = c.write_bulk.ensures in
     let mid-clean : HasCleanDisk mid = omega (arith, e.asks.survives.clean, clean) in
     let stands = (find.stands was.store.schema_is mid-clean).0 in
     let every = find.ok mid-clean (rows_of old.now was) in
@@ -89,30 +89,30 @@ pub returns-clause-inside : goal.returns-clause-inside
 returns-clause-inside g c name clean was due within =
     let first = c.args.tx.now.conn.now in
     let between = c.list_declarations.new.tx.conn.now in
-    let last = c.write_each.new.tx.conn.now in
+    let last = c.write_bulk.new.tx.conn.now in
     let old = state g.S.Store first in
     let mid = state g.S.Store between in
     let new = state g.S.Store last in
     let db = c.args.db.now in
     let all = additions c.args.writes.now in
     let find = c.in_ok-indexes.ensures in
-    let e = c.write_each.ensures in
+    let e = c.write_bulk.ensures in
     let mid-clean : HasCleanDisk mid = omega (arith, e.asks.survives.clean, clean) in
     let stands = (find.stands was.store.schema_is mid-clean).0 in
     let every = find.ok mid-clean (rows_of old.now was) in
-    subst (λ (d : Database). IsIndexedStore d → AreAllIndexes (map declared c.in_ok-indexes.indexes.items) db d.trees → AreDue all name db c.args.sequence d.trees → mid.in_transaction ≡ true → OnOk c.write_each.result (new.in_transaction ≡ true)) stands.now_is
+    subst (λ (d : Database). IsIndexedStore d → AreAllIndexes (map declared c.in_ok-indexes.indexes.items) db d.trees → AreDue all name db c.args.sequence d.trees → mid.in_transaction ≡ true → OnOk c.write_bulk.result (new.in_transaction ≡ true)) stands.now_is
     (e.inside name clean) was every due (stands.mode ∙ within)
 
 pub returns-clause-asks : goal.returns-clause-asks
 returns-clause-asks g c =
     let first = c.args.tx.now.conn.now in
     let between = c.list_declarations.new.tx.conn.now in
-    let last = c.write_each.new.tx.conn.now in
+    let last = c.write_bulk.new.tx.conn.now in
     let old = state g.S.Store first in
     let mid = state g.S.Store between in
     let new = state g.S.Store last in
     let db = c.args.db.now in
     let all = additions c.args.writes.now in
     let find = c.in_ok-indexes.ensures in
-    let e = c.write_each.ensures in
+    let e = c.write_bulk.ensures in
     asks_then old mid new find.asks e.asks

@@ -1,4 +1,4 @@
-use Rattle.transactions.proofs.Lemmas.{HistoryContent, addition_of, ap, history_in, never_written, number_of, revs_tree, rules, state, subst, sym, ◌∙◌, ◌≡◌}
+use Rattle.transactions.proofs.Lemmas.{HistoryContent, addition_of, ap, history_in, never_written, revs_tree, rules, state, subst, sym, ◌∙◌, ◌≡◌}
 use Rattle.transactions.proofs.Common.{None, Option, Revision, Some, false, option_map, refl}
 use Rattle.std.specs.FinMap as finite
 use Rattle.std.specs.Prelude.{is_some}
@@ -15,10 +15,11 @@ none_marked h none = by (winner h) none
     by (Some r) is = absurd (cc)
 
 pub returns-then-is_none-clause-ok : goal.returns-then-is_none-clause-ok
-returns-then-is_none-clause-ok g c r clean store place serves numbered at =
+returns-then-is_none-clause-ok g c clean store place serves =
     let old = state g.S.Store c.args.tx.now.conn.now in
+    let db = c.args.db.now in
     let a = addition_of c.args.write.now in
-    let h = history_in (old.now.trees revs_tree) (number_of r) a.id in
+    let h = history_in (old.now.trees revs_tree) db a.id in
     let none : winner c.args.history ≡ None = search rules in
-    let new : h ≡ finite.empty = never_written old.now.trees (number_of r) a.id store.laid (none_marked h (sym serves.begins ∙ ap is_some none)) in
-    c.add_first.ensures.ok r clean store serves (c.requires none) (subst (λ (k : HistoryContent). HasPlaceFor k a) new place) numbered at
+    let new : h ≡ finite.empty = never_written old.now.trees db a.id store.laid (none_marked h (sym serves.begins ∙ ap is_some none)) in
+    c.add_first.ensures.ok clean store serves (c.requires none) (subst (λ (k : HistoryContent). HasPlaceFor k a) new place)

@@ -1,7 +1,8 @@
-use Rattle.transactions.proofs.Lemmas.{CommitFault, Database, Err, HasBest, HasCleanDisk, HistoryContent, IfErr, IsSound, IsStore, IsUnwritten, Result, addition_of, arith, document_written, history_in, history_with, number_of, revs_tree, rules, state, subst, sym, unwritten_of, with_addition, written_in, ◌≡◌}
-use Rattle.transactions.proofs.Common.{IsWrite, Option, Trees, ℤ}
+use Rattle.transactions.proofs.Lemmas.{CommitFault, Database, Err, HasBest, HasCleanDisk, HistoryContent, IfErr, IsSound, IsStore, IsUnwritten, Result, addition_of, arith, document_written, history_in, history_with, revs_tree, rules, state, subst, sym, unwritten_of, with_addition, written_in, ◌≡◌}
+use Rattle.transactions.proofs.Common.{Option, Trees}
 use Rattle.std.specs.Prelude.{IfSome}
 use Rattle.transactions.specs.Following.{HasPlaceFor, Serves}
+use Rattle.transactions.specs.Placed.{IsPlacedWrite}
 use Rattle.transactions.proofs.commits.write_unread.Goals as goal
 
 pub returns-in_err-write_read-in-None-clause-err : goal.returns-in_err-write_read-in-None-clause-err
@@ -25,30 +26,31 @@ returns-in_err-write_read-in-None-clause-err g c =
     )) e.err)
 
 pub returns-in_ok-write_served-in-Some-clause-ok : goal.returns-in_ok-write_served-in-Some-clause-ok
-returns-in_ok-write_served-in-Some-clause-ok g c r clean store place numbered at =
+returns-in_ok-write_served-in-Some-clause-ok g c clean store place =
     let old = state g.S.Store c.args.tx.now.conn.now in
     let mid = state g.S.Store c.read_followed.new.tx.conn.now in
     let new = state g.S.Store c.write_served.new.tx.conn.now in
+    let db = c.args.db.now in
     let a = addition_of c.args.write.now in
     let e = c.in_ok-write_served-in-Some.ensures in
     let was : HasCleanDisk mid = omega (arith, e.proceeds.survives.clean, clean) in
     let same : mid.now ≡ old.now = (c.in_ok-history.ensures.stands store.schema_is was).0.now_is in
-    let Given : ℤ → Type 0 = λ n. HasPlaceFor (history_in (old.now.trees revs_tree) n a.id) a → IfSome c.in_ok-history.field-0 (Serves a (history_in (old.now.trees revs_tree) n a.id)) in
-    let told = subst Given numbered (c.in_ok-history.ensures.ok was store) place in
-    let serves = subst (λ (o : Option HistoryContent). IfSome o (Serves a (history_in (old.now.trees revs_tree) (number_of r) a.id))) c.in-Some.is told in
-    document_written r a c.in-Some.history old.now mid.now new.now same store serves (λ is s. e.ok r clean is (subst (λ (d : Database). HasPlaceFor (history_in (d.trees revs_tree) (number_of r) a.id) a) (sym same) place) s numbered at)
+    let told = c.in_ok-history.ensures.ok was store place in
+    let serves = subst (λ (o : Option HistoryContent). IfSome o (Serves a (history_in (old.now.trees revs_tree) db a.id))) c.in-Some.is told in
+    document_written db c.args.sequence.now a c.in-Some.history old.now mid.now new.now same store serves (λ is s. e.ok clean is (subst (λ (d : Database). HasPlaceFor (history_in (d.trees revs_tree) db a.id) a) (sym same) place) s)
 
 pub returns-in_ok-write_read-in-None-clause-ok : goal.returns-in_ok-write_read-in-None-clause-ok
-returns-in_ok-write_read-in-None-clause-ok g c r clean store place numbered at =
+returns-in_ok-write_read-in-None-clause-ok g c clean store place =
     let old = state g.S.Store c.args.tx.now.conn.now in
     let mid = state g.S.Store c.read_followed.new.tx.conn.now in
     let new = state g.S.Store c.write_read.new.tx.conn.now in
+    let db = c.args.db.now in
     let a = addition_of c.args.write.now in
     let e = c.in_ok-write_read-in-None.ensures in
     let was : HasCleanDisk mid = omega (arith, e.asks.survives.clean, clean) in
     let same : mid.now ≡ old.now = (c.in_ok-history.ensures.stands store.schema_is was).0.now_is in
-    let Is : Database → Type 0 = λ d. IsStore d → IsWrite r (written_in (history_in (d.trees revs_tree) (number_of r) a.id) a) d new.now in
-    subst Is same (λ is. e.ok r clean is numbered at) store
+    let Is : Database → Type 0 = λ d. IsStore d → IsPlacedWrite db c.args.sequence.now (written_in (history_in (d.trees revs_tree) db a.id) a) d new.now in
+    subst Is same (e.ok clean) store
 
 pub returns-in_ok-write_read-in-None-clause-after : goal.returns-in_ok-write_read-in-None-clause-after
 returns-in_ok-write_read-in-None-clause-after g c clean store =

@@ -1,19 +1,17 @@
-use Rattle.transactions.proofs.Lemmas.{CommitFault, HasCleanDisk, IsBest, IsPlaced, Ok, addition_of, ap, arith, behind, entries_of, refl, revs_keyed, rules, state, string_bytes, subst, sym, unknown_in, with_addition, with_write, ◌++◌, ◌∙◌, ◌≡◌}
-use Rattle.transactions.proofs.Common.{docs_tree, history_in, is_of, not, revs_tree}
+use Rattle.transactions.proofs.Lemmas.{HasCleanDisk, IsBest, IsPlaced, addition_of, ap, arith, behind, entries_of, revs_keyed, rules, state, string_bytes, subst, sym, unknown_in, with_addition, with_write, ◌++◌, ◌∙◌, ◌≡◌}
+use Rattle.transactions.proofs.Common.{docs_tree, is_of, not}
 use Rattle.std.specs.List.{list_any}
 use Rattle.std.specs.Prelude.{is_some}
 use Rattle.tree.specs.History.{winner}
-use Rattle.transactions.proofs.DocumentWriting.{dbs_fit, docs_fit, row_there, schema_after, schema_placed, written}
+use Rattle.transactions.proofs.DocumentWriting.{docs_fit, placed_write, row_there, schema_after}
 use Rattle.transactions.proofs.document_write.add_write.Goals as goal
 
 pub returns-clause-ok : goal.returns-clause-ok
-returns-clause-ok g c r clean store serves numbered at =
+returns-clause-ok g c clean store serves =
     let old = state g.S.Store c.args.tx.now.conn.now in
     let inserted = state g.S.Store c.insert_revisions.new.tx.conn.now in
     let placed = state g.S.Store c.place_document.new.tx.conn.now in
-    let new = state g.S.Store c.advance_database.new.tx.conn.now in
-    let second : HasCleanDisk placed = omega (arith, c.advance_database.ensures.alters.proceeds.survives.clean, clean) in
-    let first : HasCleanDisk inserted = omega (arith, c.place_document.ensures.proceeds.survives.clean, second) in
+    let first : HasCleanDisk inserted = omega (arith, c.place_document.ensures.proceeds.survives.clean, clean) in
     let db = c.args.db.now in
     let text = c.as_str-2.result.now in
     let deleted = c.in_ok-text.deleted in
@@ -29,9 +27,7 @@ returns-clause-ok g c r clean store serves numbered at =
     let named = c.as_bytes-id.ensures.value ∙ c.as_str.ensures.text in
     let there : list_any (is_of db c.as_bytes-id.result.now) (inserted.now.trees docs_tree) ≡ not c.is_none-is_new.result =
     ap (λ i. list_any (is_of db i) (inserted.now.trees docs_tree)) named
-    ∙ row_there es db a.id old.now inserted.now store revisions ∙ ap (λ n. is_some (winner (history_in (old.now.trees revs_tree) n a.id))) numbered ∙ sym serves.begins ∙ search rules in
+    ∙ row_there es db a.id old.now inserted.now store revisions ∙ sym serves.begins ∙ search rules in
     let document = subst (λ i. IsPlaced db i c.args.sequence.now text deleted inserted.now placed.now) named
-    (c.in_ok-place_document.ensures.ok second (schema_after es db a.id old.now inserted.now store revisions) (docs_fit es db a.id old.now inserted.now store revisions) there) in
-    written k a text deleted {X = Unit {0}} {E = CommitFault} (Ok tt) r db c.args.sequence.now a.id old.now inserted.now placed.now new.now serves numbered at refl revisions best document
-    (c.in_ok-advance_database.ensures.alters.ok clean (schema_placed es db a.id old.now inserted.now store revisions c.args.sequence.now text deleted placed.now document)
-    (dbs_fit es db a.id old.now inserted.now store revisions c.args.sequence.now text deleted placed.now document))
+    (c.in_ok-place_document.ensures.ok clean (schema_after es db a.id old.now inserted.now store revisions) (docs_fit es db a.id old.now inserted.now store revisions) there) in
+    placed_write k a text deleted db c.args.sequence.now old.now inserted.now placed.now serves revisions best document

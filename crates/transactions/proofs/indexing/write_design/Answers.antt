@@ -10,11 +10,11 @@ use Rattle.transactions.proofs.indexing.write_design.Goals as goal
 pub returns-clause-ok : goal.returns-clause-ok
 returns-clause-ok g c clean was design stored due =
     let old = state g.S.Store c.args.tx.now.conn.now in
-    let put = state g.S.Store c.write_document.new.tx.conn.now in
+    let put = state g.S.Store c.write_next.new.tx.conn.now in
     let end = state g.S.Store c.redeclare.new.tx.conn.now in
     let db = c.args.db.now in
     let a = addition_of c.args.write.now in
-    let w = c.in_ok-write_document.ensures in
+    let w = c.in_ok-write_next.ensures in
     let put-clean : HasCleanDisk put = omega (arith, c.redeclare.ensures.asks.survives.clean, clean) in
     let s = c.redeclare.ensures.steps (declares_in old.now.trees) (sees_in old.now.trees) design in
     let write = w.ok due.row put-clean was.store stored due.placed due.numbered due.at in
@@ -25,22 +25,22 @@ returns-clause-ok g c clean was design stored due =
 pub returns-clause-after : goal.returns-clause-after
 returns-clause-after g c clean store stored =
     let old = state g.S.Store c.args.tx.now.conn.now in
-    let put = state g.S.Store c.write_document.new.tx.conn.now in
+    let put = state g.S.Store c.write_next.new.tx.conn.now in
     let end = state g.S.Store c.redeclare.new.tx.conn.now in
     let db = c.args.db.now in
     let a = addition_of c.args.write.now in
-    let w = c.in_ok-write_document.ensures in
+    let w = c.in_ok-write_next.ensures in
     let put-clean : HasCleanDisk put = omega (arith, c.redeclare.ensures.asks.survives.clean, clean) in
     on_done c.redeclare.result (w.after put-clean store stored)
 
 pub returns-clause-inside : goal.returns-clause-inside
 returns-clause-inside g c clean was design stored due =
     let old = state g.S.Store c.args.tx.now.conn.now in
-    let put = state g.S.Store c.write_document.new.tx.conn.now in
+    let put = state g.S.Store c.write_next.new.tx.conn.now in
     let end = state g.S.Store c.redeclare.new.tx.conn.now in
     let db = c.args.db.now in
     let a = addition_of c.args.write.now in
-    let w = c.in_ok-write_document.ensures in
+    let w = c.in_ok-write_next.ensures in
     let put-clean : HasCleanDisk put = omega (arith, c.redeclare.ensures.asks.survives.clean, clean) in
     let s = c.redeclare.ensures.steps (declares_in old.now.trees) (sees_in old.now.trees) design in
     let write = w.ok due.row put-clean was.store stored due.placed due.numbered due.at in
@@ -51,22 +51,22 @@ returns-clause-inside g c clean was design stored due =
 pub returns-clause-served : goal.returns-clause-served
 returns-clause-served g c clean =
     let old = state g.S.Store c.args.tx.now.conn.now in
-    let put = state g.S.Store c.write_document.new.tx.conn.now in
+    let put = state g.S.Store c.write_next.new.tx.conn.now in
     let end = state g.S.Store c.redeclare.new.tx.conn.now in
     let db = c.args.db.now in
     let a = addition_of c.args.write.now in
-    let w = c.in_ok-write_document.ensures in
+    let w = c.in_ok-write_next.ensures in
     let put-clean : HasCleanDisk put = omega (arith, c.redeclare.ensures.asks.survives.clean, clean) in
     on_done c.redeclare.result (w.asks.was_open put-clean (w.inside put-clean).0)
 
 pub returns-clause-kept : goal.returns-clause-kept
 returns-clause-kept g c clean was design stored due =
     let old = state g.S.Store c.args.tx.now.conn.now in
-    let put = state g.S.Store c.write_document.new.tx.conn.now in
+    let put = state g.S.Store c.write_next.new.tx.conn.now in
     let end = state g.S.Store c.redeclare.new.tx.conn.now in
     let db = c.args.db.now in
     let a = addition_of c.args.write.now in
-    let w = c.in_ok-write_document.ensures in
+    let w = c.in_ok-write_next.ensures in
     let put-clean : HasCleanDisk put = omega (arith, c.redeclare.ensures.asks.survives.clean, clean) in
     let s = c.redeclare.ensures.steps (declares_in old.now.trees) (sees_in old.now.trees) design in
     let write = w.ok due.row put-clean was.store stored due.placed due.numbered due.at in
@@ -76,23 +76,23 @@ returns-clause-kept g c clean was design stored due =
 
 pub returns-clause-asks : goal.returns-clause-asks
 returns-clause-asks g c =
-    asks_then (state g.S.Store c.args.tx.now.conn.now) (state g.S.Store c.write_document.new.tx.conn.now) (state g.S.Store c.redeclare.new.tx.conn.now) c.in_ok-write_document.ensures.asks c.redeclare.ensures.asks
+    asks_then (state g.S.Store c.args.tx.now.conn.now) (state g.S.Store c.write_next.new.tx.conn.now) (state g.S.Store c.redeclare.new.tx.conn.now) c.in_ok-write_next.ensures.asks c.redeclare.ensures.asks
 
 pub returns-clause-err : goal.returns-clause-err
 returns-clause-err g c design =
     let first = c.args.tx.now.conn.now in
     let last = c.redeclare.new.tx.conn.now in
     let old = state g.S.Store first in
-    let put = state g.S.Store c.write_document.new.tx.conn.now in
+    let put = state g.S.Store c.write_next.new.tx.conn.now in
     let histories = c.args.histories.now in
     let db = c.args.db.now in
     let a = addition_of c.args.write.now in
-    let w = c.in_ok-write_document.ensures in
+    let w = c.in_ok-write_next.ensures in
     let Fit : Database → Type 0 = IsRebuildable (declares_in old.now.trees) (sees_in old.now.trees) db in
     let Given : Type 0 = IsHeldOpen histories old × IsSoundIndexed g.S.Store (λ db'. AreStored histories (history_in (db'.trees revs_tree) db) × HasBest (history_with db'.trees db a) × MayBeWritten db c.args.sequence.now a db') first last in
-    if_err {P = IsUnwritten (WasFit g.S.Store Fit c.write_document.new.tx.conn.now last)} {Q = IsUnwritten Given} c.redeclare.result
+    if_err {P = IsUnwritten (WasFit g.S.Store Fit c.write_next.new.tx.conn.now last)} {Q = IsUnwritten Given} c.redeclare.result
     (λ (e : CommitFault) h.
-    unwritten_of (WasFit g.S.Store Fit c.write_document.new.tx.conn.now last) Given e
+    unwritten_of (WasFit g.S.Store Fit c.write_next.new.tx.conn.now last) Given e
     (λ it. (
       it.1.0,
       λ up.

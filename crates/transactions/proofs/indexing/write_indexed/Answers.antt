@@ -44,10 +44,10 @@ returns-then-is_design-clause-after g c clean store stored =
 pub returns-then-are_none-clause-ok : goal.returns-then-are_none-clause-ok
 returns-then-are_none-clause-ok g c clean was every stored due =
     let old = (state g.S.Store c.args.tx.now.conn.now).now in
-    let new = (state g.S.Store c.write_document.new.tx.conn.now).now in
+    let new = (state g.S.Store c.write_next.new.tx.conn.now).now in
     let a = addition_of c.args.write.now in
     let items = c.args.indexes.now.items in
     let plain : is_design_id a.id ≡ false = sym c.is_design.ensures ∙ c.if-is_design.false in
     let none : map declared items ≡ [] = no_items declared items (ap (λ xs. length xs == 0) (sym c.deref.ensures.value) ∙ sym c.are_none.ensures ∙ c.if-are_none.true) in
-    on_ok c.write_document.result (λ write. plain_followed due.row a c.args.db.now (map declared items) old new was every none plain due.numbered write)
-    (c.write_document.ensures.ok due.row clean was.store stored due.placed due.numbered due.at)
+    on_ok c.write_next.result (λ write. plain_followed due.row a c.args.db.now (map declared items) old new was every none plain due.numbered write)
+    (c.write_next.ensures.ok due.row clean was.store stored due.placed due.numbered due.at)

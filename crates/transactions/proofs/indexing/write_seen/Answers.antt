@@ -14,18 +14,18 @@ use Rattle.tables.specs.Schema.{entries_tree}
 use Rattle.transactions.proofs.Common.{Row, filter, map}
 use Rattle.transactions.proofs.indexing.write_seen.Goals as goal
 
-pub returns-in_err-write_document-clause-err : goal.returns-in_err-write_document-clause-err
-returns-in_err-write_document-clause-err g c =
+pub returns-in_err-write_next-clause-err : goal.returns-in_err-write_next-clause-err
+returns-in_err-write_next-clause-err g c =
     let old = c.args.tx.now.conn.now in
     let mid = c.see_document.new.tx.conn.now in
-    let end = c.write_document.new.tx.conn.now in
+    let end = c.write_next.new.tx.conn.now in
     let histories = c.args.histories.now in
     let a = addition_of c.args.write.now in
-    let fault = c.in_err-write_document.field-0.0 in
-    let e = c.in_err-write_document.ensures in
+    let fault = c.in_err-write_next.field-0.0 in
+    let e = c.in_err-write_next.ensures in
     let Stored : Trees → Type 0 = λ trees. AreStored histories (history_in (trees revs_tree) c.args.db.now) × HasBest (history_with trees c.args.db.now a) in
     let Given : Type 0 = IsHeldOpen histories (state g.S.Store old) × IsSoundIndexed g.S.Store (λ db'. AreStored histories (history_in (db'.trees revs_tree) c.args.db.now) × HasBest (history_with db'.trees c.args.db.now a) × MayBeWritten c.args.db.now c.args.sequence.now a db') old end in
-    let is : c.from_residual-in_err-write_document.result ≡ Err fault = search rules in
+    let is : c.from_residual-in_err-write_next.result ≡ Err fault = search rules in
     subst (λ (r : Result (Unit {0}) CommitFault). IfErr r (IsUnwritten Given)) (sym is)
     (unwritten_of (IsHeldOpen histories (state g.S.Store mid) × IsSound g.S.Store Stored mid end) Given fault
     (λ it.
@@ -40,13 +40,13 @@ pub returns-in_err-after-clause-err : goal.returns-in_err-after-clause-err
 returns-in_err-after-clause-err g c =
     let old = c.args.tx.now.conn.now in
     let mid = c.see_document.new.tx.conn.now in
-    let put = c.write_document.new.tx.conn.now in
+    let put = c.write_next.new.tx.conn.now in
     let end = c.see_document-2.new.tx.conn.now in
     let histories = c.args.histories.now in
     let a = addition_of c.args.write.now in
     let fault = c.in_err-after.field-0.0 in
     let e = c.in_err-after.ensures in
-    let w = c.in_ok-write_document.ensures in
+    let w = c.in_ok-write_next.ensures in
     let Given : Type 0 = IsHeldOpen histories (state g.S.Store old) × IsSoundIndexed g.S.Store (λ db'. AreStored histories (history_in (db'.trees revs_tree) c.args.db.now) × HasBest (history_with db'.trees c.args.db.now a) × MayBeWritten c.args.db.now c.args.sequence.now a db') old end in
     let is : c.from_residual-in_err-after.result ≡ Err fault = search rules in
     subst (λ (r : Result (Unit {0}) CommitFault). IfErr r (IsUnwritten Given)) (sym is)
@@ -65,13 +65,13 @@ pub returns-clause-ok : goal.returns-clause-ok
 returns-clause-ok g c clean was every plain stored due =
     let old = state g.S.Store c.args.tx.now.conn.now in
     let mid = state g.S.Store c.see_document.new.tx.conn.now in
-    let put = state g.S.Store c.write_document.new.tx.conn.now in
+    let put = state g.S.Store c.write_next.new.tx.conn.now in
     let look = state g.S.Store c.see_document-2.new.tx.conn.now in
     let end = state g.S.Store c.refresh_indexes.new.tx.conn.now in
     let histories = c.args.histories.now in
     let db = c.args.db.now in
     let a = addition_of c.args.write.now in
-    let w = c.in_ok-write_document.ensures in
+    let w = c.in_ok-write_next.ensures in
     let e = c.in_ok-refresh_indexes.ensures in
     let look-clean : HasCleanDisk look = omega (arith, e.proceeds.survives.clean, clean) in
     let put-clean : HasCleanDisk put = omega (arith, c.in_ok-after.ensures.asks.survives.clean, look-clean) in
@@ -97,29 +97,29 @@ pub returns-clause-after : goal.returns-clause-after
 returns-clause-after g c clean store stored =
     let old = state g.S.Store c.args.tx.now.conn.now in
     let mid = state g.S.Store c.see_document.new.tx.conn.now in
-    let put = state g.S.Store c.write_document.new.tx.conn.now in
+    let put = state g.S.Store c.write_next.new.tx.conn.now in
     let look = state g.S.Store c.see_document-2.new.tx.conn.now in
     let histories = c.args.histories.now in
     let db = c.args.db.now in
     let a = addition_of c.args.write.now in
-    let w = c.in_ok-write_document.ensures in
+    let w = c.in_ok-write_next.ensures in
     let look-clean : HasCleanDisk look = omega (arith, c.in_ok-refresh_indexes.ensures.proceeds.survives.clean, clean) in
     let put-clean : HasCleanDisk put = omega (arith, c.in_ok-after.ensures.asks.survives.clean, look-clean) in
     let mid-clean : HasCleanDisk mid = omega (arith, w.asks.survives.clean, put-clean) in
     let same : mid.now ≡ old.now = (c.in_ok-before.ensures.stands store.schema_is mid-clean).0.now_is in
-    subst (λ (d : Database). IsStore d → AreStored histories (history_in (d.trees revs_tree) db) → IsWithin histories a.id (with_addition (history_in (d.trees revs_tree) db a.id) a) c.write_document.new.histories) same
+    subst (λ (d : Database). IsStore d → AreStored histories (history_in (d.trees revs_tree) db) → IsWithin histories a.id (with_addition (history_in (d.trees revs_tree) db a.id) a) c.write_next.new.histories) same
     (w.after put-clean) store stored
 
 pub returns-clause-inside : goal.returns-clause-inside
 returns-clause-inside g c clean store stored due =
     let old = state g.S.Store c.args.tx.now.conn.now in
     let mid = state g.S.Store c.see_document.new.tx.conn.now in
-    let put = state g.S.Store c.write_document.new.tx.conn.now in
+    let put = state g.S.Store c.write_next.new.tx.conn.now in
     let look = state g.S.Store c.see_document-2.new.tx.conn.now in
     let histories = c.args.histories.now in
     let db = c.args.db.now in
     let a = addition_of c.args.write.now in
-    let w = c.in_ok-write_document.ensures in
+    let w = c.in_ok-write_next.ensures in
     let e = c.in_ok-refresh_indexes.ensures in
     let look-clean : HasCleanDisk look = omega (arith, e.proceeds.survives.clean, clean) in
     let put-clean : HasCleanDisk put = omega (arith, c.in_ok-after.ensures.asks.survives.clean, look-clean) in
@@ -135,13 +135,13 @@ pub returns-clause-kept : goal.returns-clause-kept
 returns-clause-kept g c clean store stored due =
     let old = state g.S.Store c.args.tx.now.conn.now in
     let mid = state g.S.Store c.see_document.new.tx.conn.now in
-    let put = state g.S.Store c.write_document.new.tx.conn.now in
+    let put = state g.S.Store c.write_next.new.tx.conn.now in
     let look = state g.S.Store c.see_document-2.new.tx.conn.now in
     let end = state g.S.Store c.refresh_indexes.new.tx.conn.now in
     let histories = c.args.histories.now in
     let db = c.args.db.now in
     let a = addition_of c.args.write.now in
-    let w = c.in_ok-write_document.ensures in
+    let w = c.in_ok-write_next.ensures in
     let e = c.in_ok-refresh_indexes.ensures in
     let look-clean : HasCleanDisk look = omega (arith, e.proceeds.survives.clean, clean) in
     let put-clean : HasCleanDisk put = omega (arith, c.in_ok-after.ensures.asks.survives.clean, look-clean) in
@@ -159,13 +159,13 @@ pub returns-in_err-refresh_indexes-clause-kept : goal.returns-in_err-refresh_ind
 returns-in_err-refresh_indexes-clause-kept g c clean store stored due =
     let old = state g.S.Store c.args.tx.now.conn.now in
     let mid = state g.S.Store c.see_document.new.tx.conn.now in
-    let put = state g.S.Store c.write_document.new.tx.conn.now in
+    let put = state g.S.Store c.write_next.new.tx.conn.now in
     let look = state g.S.Store c.see_document-2.new.tx.conn.now in
     let end = state g.S.Store c.refresh_indexes.new.tx.conn.now in
     let histories = c.args.histories.now in
     let db = c.args.db.now in
     let a = addition_of c.args.write.now in
-    let w = c.in_ok-write_document.ensures in
+    let w = c.in_ok-write_next.ensures in
     let e = c.in_err-refresh_indexes.ensures in
     let look-clean : HasCleanDisk look = omega (arith, e.proceeds.survives.clean, clean) in
     let put-clean : HasCleanDisk put = omega (arith, c.in_ok-after.ensures.asks.survives.clean, look-clean) in
@@ -183,12 +183,12 @@ pub returns-in_err-after-clause-kept : goal.returns-in_err-after-clause-kept
 returns-in_err-after-clause-kept g c clean store stored due =
     let old = state g.S.Store c.args.tx.now.conn.now in
     let mid = state g.S.Store c.see_document.new.tx.conn.now in
-    let put = state g.S.Store c.write_document.new.tx.conn.now in
+    let put = state g.S.Store c.write_next.new.tx.conn.now in
     let look = state g.S.Store c.see_document-2.new.tx.conn.now in
     let histories = c.args.histories.now in
     let db = c.args.db.now in
     let a = addition_of c.args.write.now in
-    let w = c.in_ok-write_document.ensures in
+    let w = c.in_ok-write_next.ensures in
     let e = c.in_err-after.ensures in
     let put-clean : HasCleanDisk put = omega (arith, e.asks.survives.clean, clean) in
     let mid-clean : HasCleanDisk mid = omega (arith, w.asks.survives.clean, put-clean) in

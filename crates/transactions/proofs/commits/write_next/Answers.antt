@@ -1,0 +1,17 @@
+use Rattle.transactions.proofs.Lemmas.{HasCleanDisk, addition_of, arith, asks_changed, asks_then, history_in, proceeds_then, revs_tree, state, subst, sym}
+use Rattle.transactions.proofs.DocumentWriting.{dbs_fit, moved_write, schema_placed}
+use Rattle.transactions.specs.Following.{HasPlaceFor}
+use Rattle.transactions.proofs.commits.write_next.Goals as goal
+
+pub returns-clause-ok : goal.returns-clause-ok
+returns-clause-ok g c r clean store stored place numbered at =
+    let old = state g.S.Store c.args.tx.now.conn.now in
+    let mid = state g.S.Store c.write_document.new.tx.conn.now in
+    let new = state g.S.Store c.advance_database.new.tx.conn.now in
+    let db = c.args.db.now in
+    let a = addition_of c.args.write.now in
+    let e = c.in_ok-advance_database.ensures.alters in
+    let was : HasCleanDisk mid = omega (arith, e.proceeds.survives.clean, clean) in
+    let write = c.in_ok-write_document.ensures.ok was store stored (subst (λ n. HasPlaceFor (history_in (old.now.trees revs_tree) n a.id) a) (sym numbered) place) in
+    moved_write r a db c.args.sequence.now old.now mid.now new.now numbered at write
+    (e.ok clean (schema_placed _ db a.id old.now write.inserted store write.revisions _ _ _ mid.now write.places) (dbs_fit _ db a.id old.now write.inserted store write.revisions _ _ _ mid.now write.places))
