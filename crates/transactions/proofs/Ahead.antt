@@ -4,7 +4,6 @@ use Rattle.std.specs.FinMap as finite
 use Rattle.std.specs.Prelude.{◌≤◌, eqb, if◌then◌else◌}
 use Rattle.std.proofs.Math.Logic.{∥∥₁_map}
 use Rattle.sqlite_keyed.proofs.ListLemmas.{all_weaker}
-use Rattle.sqlite_schema.specs.declared.table.Table.{Table}
 use Rattle.index.proofs.Alike.{same_rows}
 use Rattle.index.proofs.Common.{all_of}
 use Rattle.index.specs.Rows.{is_at_home}
@@ -31,7 +30,7 @@ use Rattle.transactions.specs.Placed.{ArePlain, IsAhead, IsPlacedWrite, with_dat
 
 -- a row that is moved twice stands where it was moved to last
 moved_twice : (n s t : ℤ) (rows : List Row) → rows_at_sequence n t (rows_at_sequence n s rows) ≡ rows_at_sequence n t rows
-moved_twice n s t rows = map-map moved_to moved_from rows ∙ map_same _ (λ r. moved_to (moved_from r)) one rows
+moved_twice n s t rows = map-map moved_to moved_from rows ∙ map_same (λ r. moved_to (moved_from r)) moved_to one rows
   where
     moved_to : Row → Row
     moved_to r = if has_number n r then row_at_sequence t r else r
@@ -135,7 +134,7 @@ changes_behind back tree rows a b same h = record {
 
 inserted_behind : (back : List Row) (es : List (Revision × Entry)) (db : ℤ) (id : List ℕ) (a c : Database) → AreInserted es db id a c → AreInserted es db id (with_databases back a) (with_databases back c)
 inserted_behind back [] db id a c h = ap (with_databases back) h
-inserted_behind back (e ∷ es) db id a c h = (with_databases back h.0, (changes_behind back revs_tree _ a h.0 refl h.1.0, inserted_behind back es db id h.0 c h.1.1))
+inserted_behind back (e ∷ es) db id a c h = (with_databases back h.0, changes_behind back revs_tree _ a h.0 refl h.1, inserted_behind back es db id h.0 c h.2)
 
 -- the rows of databases alone
 databases_moved : (rows now : List Row) (d : Database) → Changes dbs_tree now (with_databases rows d) (with_databases now d)
@@ -197,6 +196,24 @@ first_ahead all name r old now was found every change =
       none = every ∙ ap (λ rows. map declared_at (filter (is_at_home (number_of r)) rows)) (sym (left.decls (omega arith)));
     }
 
+-- the same, as the database and the sequence are told
+pub start_ahead : (ws : List Write) (name : List ℕ) (db : ℤ) (sequence : ℕ) (last : ℤ) (old now : Database) → IsIndexedStore old → AreAllIndexes [] db old.trees → last ≡ pos (sequence + length ws)
+    → (due : AreDue (additions ws) name db sequence old.trees) → Changes dbs_tree (rows_at_sequence db last (old.trees dbs_tree)) old now → IsAhead (additions ws) [] name due.row old now
+start_ahead ws name db sequence last old now was every at due change =
+    let all = additions ws in
+    let number : sequence + length ws ≡ length_of due.row + length all = omega (arith, due.counted, length-map ws addition_of) in
+    let to : ℤ = pos (length_of due.row + length all) in
+    first_ahead all name due.row old now was due.first (subst (λ n. AreAllIndexes [] n old.trees) (sym due.numbered) every)
+    (subst (λ n. Changes dbs_tree (rows_at_sequence n to (old.trees dbs_tree)) old now) (sym due.numbered)
+    (subst (λ s. Changes dbs_tree (rows_at_sequence db s (old.trees dbs_tree)) old now) (at ∙ ap pos number) change))
+
+-- while writes are done, the tables are a store
+pub still_store : (ws : List Write) (i : ℕ) (name : List ℕ) (db : ℤ) (sequence : ℕ) (old mid : Database) → i < length ws → sequence + length ws < 2 ^ 63
+    → (due : AreDue (additions ws) name db sequence old.trees) → IsAhead (additions ws) (additions (take i ws)) name due.row old mid → IsStore mid
+still_store ws i name db sequence old mid lt room due h =
+    let count = length-map ws addition_of in
+    ahead_store (additions ws) (additions (take i ws)) name due.row old mid h (omega (arith, count, length-map (take i ws) addition_of, length-take i ws, lt)) (omega (arith, due.counted, count, room))
+
 -- the path of the next write has its place
 pub place_ahead : (ws : List Write) (i : ℕ) (w : Write) (name : List ℕ) (db : ℤ) (sequence : ℕ) (next : ℤ) (old mid : Database) → i < length ws → w ≡ get_or ws i w → sequence + length ws < 2 ^ 63 → next ≡ pos (sequence + i + 1)
     → (due : AreDue (additions ws) name db sequence old.trees) → IsAhead (additions ws) (additions (take i ws)) name due.row old mid → HasPlaceFor (history_in (mid.trees revs_tree) db (addition_of w).id) (addition_of w)
@@ -223,21 +240,21 @@ next_ahead ws i w name db sequence next old mid new lt is room at plain due h la
     let grown : length (additions (take (i + 1) ws)) ≡ i + 1 = omega (arith, length-map (take (i + 1) ws) addition_of, length-take (i + 1) ws, lt) in
     let number : sequence + i + 1 ≡ length_of r + length before + 1 = omega (arith, due.counted, count) in
     let to : ℤ = pos (length_of r + length before + 1) in
-    let then = rows_at_sequence n to h.back in
+    let behind = rows_at_sequence n to h.back in
     let placed : IsPlacedWrite n to (written_in (history_in (mid.trees revs_tree) n a.id) a) mid new =
     subst (λ d. IsPlacedWrite d to (written_in (history_in (mid.trees revs_tree) d a.id) a) mid new) (sym due.numbered)
     (subst (λ s. IsPlacedWrite db s (written_in (history_in (mid.trees revs_tree) db a.id) a) mid new) (at ∙ ap pos number) write) in
-    let whole : IsWrite row (written_in (history_in (mid.trees revs_tree) n a.id) a) (with_databases h.back mid) (with_databases then new) = write_behind h.back row _ mid new placed in
+    let whole : IsWrite row (written_in (history_in (mid.trees revs_tree) n a.id) a) (with_databases h.back mid) (with_databases behind new) = write_behind h.back row _ mid new placed in
     let last : length_of r + length (additions (take (i + 1) ws)) ≡ length_of r + length before + 1 = omega (arith, grown, count) in
-    let followed = plain_followed row a n [] (with_databases h.back mid) (with_databases then new)
+    let followed = plain_followed row a n [] (with_databases h.back mid) (with_databases behind new)
     (record { store = h.written.store; indexed = same_rows mid.trees (with_databases h.back mid).trees refl refl refl h.indexed }) h.none refl
     (ap (λ (x : Write). is_design_id (addition_of x).id) is ∙ plain_at ws i w lt plain) refl whole in
     record {
-      back = then;
-      written = further ws i w name db sequence old (with_databases h.back mid) (with_databases then new) lt is room due h.written lawful whole;
+      back = behind;
+      written = further ws i w name db sequence old (with_databases h.back mid) (with_databases behind new) lt is room due h.written lawful whole;
       ahead = placed_dbs n to _ mid new h.written.store.schema_is placed ∙ h.ahead ∙ sym (moved_twice n to (pos (length_of r + length (additions ws))) h.back);
-      moved = λ some. ap (λ (k : ℕ). rows_at_sequence n (pos k) then) last ∙ moved_twice n to to h.back;
-      indexed = same_rows (with_databases then new).trees new.trees refl refl refl followed.0.indexed;
+      moved = λ some. ap (λ (k : ℕ). rows_at_sequence n (pos k) behind) last ∙ moved_twice n to to h.back;
+      indexed = same_rows (with_databases behind new).trees new.trees refl refl refl followed.0.indexed;
       none = followed.1;
     }
 

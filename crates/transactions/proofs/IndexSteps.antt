@@ -54,7 +54,7 @@ same_tables old new is h =
 pub store_still : (old new : sqlite.Database) → IsStore old → ChangesIndexes old new → IsStore new
 store_still old new is h = store_of old.trees new (h.schema ∙ is.schema_is) (same_tables old new is.schema_is h) is.laid
 
-database_still : (a b : Trees) (r : Row) → AreSame a b → database_of b r ≡ database_of a r
+pub database_still : (a b : Trees) (r : Row) → AreSame a b → database_of b r ≡ database_of a r
 database_still a b r same =
     λ i. record { length = length_of r; security = security_of r; locals = locals_in (same.locals i) (number_of r); documents = documents_in (same.docs i) (same.revs i) (number_of r) }
 

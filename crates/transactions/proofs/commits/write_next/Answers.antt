@@ -1,4 +1,4 @@
-use Rattle.transactions.proofs.Lemmas.{HasCleanDisk, addition_of, arith, asks_changed, asks_then, history_in, proceeds_then, revs_tree, state, subst, sym}
+use Rattle.transactions.proofs.Lemmas.{HasCleanDisk, addition_of, arith, history_in, revs_tree, state, subst, sym}
 use Rattle.transactions.proofs.DocumentWriting.{dbs_fit, moved_write, schema_placed}
 use Rattle.transactions.specs.Following.{HasPlaceFor}
 use Rattle.transactions.proofs.commits.write_next.Goals as goal
@@ -15,3 +15,8 @@ returns-clause-ok g c r clean store stored place numbered at =
     let write = c.in_ok-write_document.ensures.ok was store stored (subst (λ n. HasPlaceFor (history_in (old.now.trees revs_tree) n a.id) a) (sym numbered) place) in
     moved_write r a db c.args.sequence.now old.now mid.now new.now numbered at write
     (e.ok clean (schema_placed _ db a.id old.now write.inserted store write.revisions _ _ _ mid.now write.places) (dbs_fit _ db a.id old.now write.inserted store write.revisions _ _ _ mid.now write.places))
+
+pub returns-clause-after : goal.returns-clause-after
+returns-clause-after g c clean store stored =
+    let was : HasCleanDisk (state g.S.Store c.write_document.new.tx.conn.now) = omega (arith, c.in_ok-advance_database.ensures.alters.proceeds.survives.clean, clean) in
+    c.in_ok-write_document.ensures.after was store stored
