@@ -1,5 +1,5 @@
 -- Writes of a database that stands at the last of their sequences from the first of them on.
-use Rattle.transactions.proofs.Common.{Addition, AllByRecursion, AreDue, AreInserted, Bool, Changes, Database, Entry, HasWritten, IsLaid, IsLawfulAddition, IsStore, IsWrite, List, Revision, Row, Some, Trees, [], addition_of, additions, ap, arith, cond, contents_in, database_of, db_of, dbs_tree, docs_tree, drop, false, filter, get_or, has_number, history_in, length, length-map, length-take, length_of, map, map-map, new_entries, number_of, pos, refl, revs_tree, row_after, rows_at_sequence, schema, slice_get, subst, suc, sym, take, true, writings_in, written_in, ℕ, ℤ, ◌+◌, ◌<◌, ◌^◌, ◌∙◌, ◌∷◌, ◌≡◌, ◌≢◌}
+use Rattle.transactions.proofs.Common.{Addition, AreDue, AreInserted, Bool, Changes, Database, Entry, HasWritten, IsLaid, IsLawfulAddition, IsStore, IsWrite, List, Revision, Row, Some, Trees, [], addition_of, additions, ap, arith, cond, contents_in, database_of, db_of, dbs_tree, docs_tree, false, filter, get_or, has_number, history_in, length, length-map, length-take, length_of, map, map-map, new_entries, number_of, pos, refl, revs_tree, row_after, rows_at_sequence, schema, slice_get, subst, suc, sym, take, true, writings_in, written_in, ℕ, ℤ, ◌+◌, ◌<◌, ◌^◌, ◌∙◌, ◌∷◌, ◌≡◌, ◌≢◌}
 use Rattle.std.specs.FinMap as finite
 use Rattle.std.specs.Prelude.{◌≤◌, eqb, if◌then◌else◌}
 use Rattle.std.proofs.Math.Logic.{∥∥₁_map}
@@ -13,7 +13,7 @@ use Rattle.store.specs.Database.{DocumentWrite}
 use Rattle.store.specs.Lawful.{AreLawful, IsLawful}
 use Rattle.store.specs.declared.write.Write.{Write}
 use Rattle.tables.proofs.Changed.{all_changed, contents_changed, longer, names_changed, number_stays, numbered_changed}
-use Rattle.tables.proofs.Common.{IsDatabaseNumber, IsDatabaseRow, IsDocumentRow, IsLocalRow, IsRevisionRow, database_row, eqb_tells, id_of, inl, inr, is_named, lawful_insert, locals_tree, map_same, name_of, row_at_sequence, security_text}
+use Rattle.tables.proofs.Common.{IsDatabaseNumber, IsDatabaseRow, IsDocumentRow, IsLocalRow, IsRevisionRow, database_row, eqb_tells, inl, inr, is_named, lawful_insert, locals_tree, map_same, name_of, row_at_sequence, security_text}
 use Rattle.tables.proofs.DocumentWriteSteps.{revisions_changed}
 use Rattle.tables.proofs.DocumentWrites.{none_written}
 use Rattle.tables.proofs.Lookups.{database_there}

@@ -1,4 +1,4 @@
--- A write of a document that doesn't move the sequence of its database, and writes whose database stands at the last of their sequences from the first of them on.
+-- A write of a document that doesn't move the sequence of its database, and such writes in a database that stands at the last of their sequences already.
 -- This server's own: what a write makes of the other tables is said by `tables`.
 use Rattle.std.specs.Prelude.{◌≡◌, ◌+◌, ◌<◌, ℕ, ℤ, List, [], cond, eqb, false, length, pos, Some}
 use Rattle.std.specs.List.{AllByRecursion}
@@ -17,16 +17,16 @@ use Rattle.index.specs.Indexed.{IsIndexed}
 use Rattle.transactions.specs.Indexing.{AreAllIndexes}
 
 -- the history of the write's document, with the write
-abbrev pub history_made : Database → ℤ → DocumentWrite → HistoryContent
-history_made old db w = with_write (history_in (old.trees revs_tree) db w.id) w.write
+abbrev pub history_after_write : Database → ℤ → DocumentWrite → HistoryContent
+history_after_write old db w = with_write (history_in (old.trees revs_tree) db w.id) w.write
 
 -- the statements of the write in the database of this number, under this sequence, but for the one that moves the sequence of the database
 pub record IsPlacedWrite (db sequence : ℤ) (w : DocumentWrite) (old new : Database) : Type 0 where
   pub inserted : Database
   pub best : Revision
   pub revisions : AreInserted (new_entries (history_in (old.trees revs_tree) db w.id) w.write) db w.id old inserted
-  pub best_is : winner (history_made old db w) ≡ Some best
-  pub places : Changes docs_tree (rows_with_document db w.id sequence (text_of best) (is_deleted (held_of (history_made old db w) best)) (inserted.trees docs_tree)) inserted new
+  pub best_is : winner (history_after_write old db w) ≡ Some best
+  pub places : Changes docs_tree (rows_with_document db w.id sequence (text_of best) (is_deleted (held_of (history_after_write old db w) best)) (inserted.trees docs_tree)) inserted new
 
 -- none is a write of a design document
 abbrev pub ArePlain : List Addition → Type 0

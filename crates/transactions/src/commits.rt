@@ -70,10 +70,9 @@ pub fn commit_writes<S: Alter>(
     Ok(after)
 }
 
-/// Writes a document under this sequence, in a transaction, and leaves the sequence of the database to the
-/// caller. Its history is taken from those that were
+/// Writes a document under this sequence, in a transaction. Its history is taken from those that were
 /// read, or else read as far as the write asks; where it is there as a whole it is put back as it is after
-/// the write.
+/// the write. The sequence of the database is left to the caller.
 fn write_document<S: Alter>(
     alloc: Global,
     tx: &mut Transaction<'_, S>,
@@ -110,7 +109,7 @@ fn write_document<S: Alter>(
     Ok(())
 }
 
-/// Writes a document as `write_document` does, and moves the sequence of the database to this one.
+/// Writes a document as `write_document` does, and moves the sequence of its database to this one.
 pub(crate) fn write_next<S: Alter>(
     alloc: Global,
     tx: &mut Transaction<'_, S>,
@@ -371,7 +370,7 @@ fn are_plain(writes: &[Write]) -> bool
 }
 
 /// Does the writes of a database without indexes in turn, none of which is of a design document. The
-/// database goes to the last of their sequences first, by one statement for all of them.
+/// sequence of the database is moved to the last of theirs first, once for all of them.
 fn write_plain<S: Alter>(
     alloc: Global,
     tx: &mut Transaction<'_, S>,
@@ -408,8 +407,8 @@ fn write_plain<S: Alter>(
     Ok(())
 }
 
-/// Does the writes of a database as `write_each` does. Where there are no indexes to follow several
-/// writes, the sequence of the database is moved but once.
+/// Does the writes of a database as `write_each` does. Where there are several, and no index has to
+/// follow them, the sequence of the database is moved once.
 fn write_bulk<S: Alter>(
     alloc: Global,
     tx: &mut Transaction<'_, S>,

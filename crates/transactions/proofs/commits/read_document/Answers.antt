@@ -1,4 +1,4 @@
-use Rattle.transactions.proofs.Lemmas.{CommitFault, Err, HistoryContent, IfErr, IsPermutation, IsSound, IsUnwritten, Result, filter, history_intact, history_read, history_shown, is_of, lost, map, revs_tree, rules, shown_revision, state, subst, sym, ⊤, ◌≡◌}
+use Rattle.transactions.proofs.Lemmas.{CommitFault, Err, HistoryContent, IfErr, IsSound, IsUnwritten, Result, history_intact, history_read, history_shown, is_of, lost, rules, state, subst, sym, ⊤, ◌≡◌}
 use Rattle.transactions.specs.declared.commit_fault.CommitFault.TheVariants as write
 use Rattle.transactions.proofs.commits.read_document.Goals as goal
 

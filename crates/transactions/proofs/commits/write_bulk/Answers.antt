@@ -1,4 +1,4 @@
-use Rattle.transactions.proofs.Lemmas.{AreDue, CommitFault, Err, IfErr, IsUnwritten, Result, additions, ap, map, rules, state, subst, sym, unwritten_of, ◌∙◌, ◌≡◌}
+use Rattle.transactions.proofs.Lemmas.{AreDue, CommitFault, Err, IfErr, IsUnwritten, Result, additions, ap, map, rules, subst, sym, unwritten_of, ◌∙◌, ◌≡◌}
 use Rattle.std.proofs.Common.{Global, Vec}
 use Rattle.std.specs.Prelude.{◌==◌}
 use Rattle.index.specs.Shown.{declared}

@@ -1,4 +1,4 @@
-use Rattle.transactions.proofs.Lemmas.{AreDue, AreStored, CommitFault, Err, HasBest, HasCleanDisk, HasWritten, IfErr, IsHeldOpen, IsSound, IsUnwritten, Result, addition_of, additions, arith, asks_changed, asks_then, best_in_turn, database_of, history_in, history_with, keeps_then, none_held, revs_tree, rules, state, stored_further, subst, to_z-of_z, unwritten_of, sym, take_all, w64, writings_in, ◌∙◌, ◌≡◌}
+use Rattle.transactions.proofs.Lemmas.{AreDue, AreStored, CommitFault, Err, HasBest, HasCleanDisk, IfErr, IsHeldOpen, IsSound, IsUnwritten, Result, addition_of, additions, arith, asks_changed, asks_then, best_in_turn, history_in, history_with, keeps_then, none_held, revs_tree, rules, state, stored_further, subst, to_z-of_z, unwritten_of, sym, take_all, w64, ◌∙◌, ◌≡◌}
 use Rattle.transactions.proofs.Common.{Trees, [], length-map}
 use Rattle.tables.proofs.Tables.{databases_laid}
 use Rattle.transactions.proofs.Ahead.{last_ahead, next_ahead, place_ahead, start_ahead, still_store}
@@ -15,15 +15,14 @@ loop-i-init g c =
       same = c.in_ok-advance_database.ensures.same_reference;
       asks = asks_changed old new e.proceeds;
       held = λ clean. none_held _ c.new-histories.result c.new-histories.ensures.empty;
-      so_far = λ name clean was every plain due.
-          (
-            start_ahead c.args.writes.now name c.args.db.now c.args.sequence _ old.now new.now was every (to_z-of_z {w = w64} {z = c.integer_of.result} (record { sfits = c.integer_of.type_inv }) ∙ c.integer_of.ensures) due
-                (e.ok clean was.store.schema_is (databases_laid old.now.trees was.store.laid)),
-            e.proceeds.kept clean,
-            none_held _ c.new-histories.result c.new-histories.ensures.empty,
-            (λ up. (e.inside clean).is_open),
-            (λ within. (e.inside clean).inside),
-          );
+      so_far = λ name clean was every plain due. (
+        start_ahead c.args.writes.now name c.args.db.now c.args.sequence _ old.now new.now was every (to_z-of_z {w = w64} {z = c.integer_of.result} (record { sfits = c.integer_of.type_inv }) ∙ c.integer_of.ensures) due
+            (e.ok clean was.store.schema_is (databases_laid old.now.trees was.store.laid)),
+        e.proceeds.kept clean,
+        none_held _ c.new-histories.result c.new-histories.ensures.empty,
+        (λ up. (e.inside clean).is_open),
+        (λ within. (e.inside clean).inside),
+      );
     }
 
 pub loop-i-preserved : goal.loop-i-preserved

@@ -1,6 +1,5 @@
 use Rattle.transactions.proofs.Lemmas.{HasCleanDisk, IsBest, IsPlaced, addition_of, ap, arith, entries_of, revs_keyed, state, string_bytes, subst, sym, unknown_in, with_addition, ◌∙◌, ◌≡◌}
 use Rattle.transactions.proofs.Common.{docs_tree, false, is_of}
-use Rattle.std.specs.FinMap as finite
 use Rattle.std.specs.List.{list_any}
 use Rattle.std.specs.Prelude.{is_some}
 use Rattle.store.proofs.Winnings.{no_winner}

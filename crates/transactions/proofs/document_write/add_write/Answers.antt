@@ -1,8 +1,6 @@
 use Rattle.transactions.proofs.Lemmas.{HasCleanDisk, IsBest, IsPlaced, addition_of, ap, arith, behind, entries_of, revs_keyed, rules, state, string_bytes, subst, sym, unknown_in, with_addition, with_write, ◌++◌, ◌∙◌, ◌≡◌}
 use Rattle.transactions.proofs.Common.{docs_tree, is_of, not}
 use Rattle.std.specs.List.{list_any}
-use Rattle.std.specs.Prelude.{is_some}
-use Rattle.tree.specs.History.{winner}
 use Rattle.transactions.proofs.DocumentWriting.{docs_fit, placed_write, row_there, schema_after}
 use Rattle.transactions.proofs.document_write.add_write.Goals as goal
 

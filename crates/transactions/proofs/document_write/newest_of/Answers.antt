@@ -1,4 +1,4 @@
-use Rattle.transactions.proofs.Common.{None, Option, Revision, Some, addition_of, ap, rules, slice_get, string_bytes, sym, ◌∙◌, ◌≡◌}
+use Rattle.transactions.proofs.Common.{None, Some, addition_of, ap, slice_get, string_bytes, sym, ◌∙◌, ◌≡◌}
 use Rattle.std.specs.Prelude.{option_copied}
 use Rattle.transactions.proofs.FirstWrites.{first_best, no_first}
 use Rattle.transactions.proofs.document_write.newest_of.Goals as goal
