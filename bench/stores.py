@@ -102,18 +102,19 @@ class Tables:
         self.conn.execute("PRAGMA synchronous=FULL")
 
     def write(self, name, body):
-        """Runs the statements by which a server writes a new document, in a transaction."""
+        """Runs the statements by which a server writes a new document, in a transaction, but for the one
+        that moves the database's sequence."""
         run = self.conn.execute
         self.sequence += 1
         digest = hashlib.md5(body.encode()).hexdigest()
         self.look_up(name)
         run("INSERT INTO revs (db, id, n, hash, parent, held, del, body) VALUES (1, ?, 1, ?, NULL, 1, 0, ?)", (name, digest, body))
         run("INSERT INTO docs (db, id, seq, winner, del) VALUES (1, ?, ?, ?, 0)", (name, self.sequence, f"1-{digest}"))
-        run("UPDATE dbs SET seq = ? WHERE num = 1", (self.sequence,))
 
     def commit(self, names, body):
         """Writes new documents in one transaction, and asks for nothing else."""
         self.conn.execute("BEGIN IMMEDIATE")
+        self.conn.execute("UPDATE dbs SET seq = ? WHERE num = 1", (self.sequence + len(names),))
         for name in names:
             self.write(name, body)
         self.conn.execute("COMMIT")
