@@ -2,7 +2,7 @@
 
 ghost use Rattle.std.specs.FinMap as finite;
 ghost use Rattle.tree.specs.History.{winner};
-ghost use Rattle.std.specs.Prelude.{◌≡◌, ◌+◌, ◌<◌, ◌^◌, ℕ, IsTrue, List, None, false, length, pos, IfErr, IfOk, IfSome, OnOk, true, ⊤, []};
+ghost use Rattle.std.specs.Prelude.{◌≡◌, ◌↔◌, ◌+◌, ◌<◌, ◌^◌, ℕ, IsTrue, List, None, false, length, pos, IfErr, IfOk, IfSome, OnOk, true, ⊤, []};
 ghost use Rattle.sqlite.specs.Held.{state};
 ghost use Rattle.sqlite.specs.State.{HasCleanDisk, KeepsCommit};
 ghost use Rattle.sqlite_value.specs.Order.{Row};
@@ -359,7 +359,7 @@ fn write_each<S: Alter>(
 
 /// Tells whether none of the writes is of a design document.
 fn are_plain(writes: &[Write]) -> bool
-    ensures { IsTrue result → ArePlain (additions writes.now) }
+    ensures { IsTrue result ↔ ArePlain (additions writes.now) }
 {
     for write in writes {
         if write.id.is_design() {

@@ -12,7 +12,7 @@ pub returns-in_err-write_plain-clause-err : goal.returns-in_err-write_plain-clau
 returns-in_err-write_plain-clause-err g c name =
     let items = c.args.indexes.items in
     let none : map declared items ≡ [] = no_items declared items (ap (λ xs. length xs == 0) (sym c.deref.ensures.value) ∙ sym c.are_none.ensures ∙ c.if-are_none.true) in
-    let plain = c.are_plain.ensures c.if-are_plain.true in
+    let plain = c.are_plain.ensures.0 c.if-are_plain.true in
     let first = c.args.tx.now.conn.now in
     let last = c.write_plain.new.tx.conn.now in
     let db = c.args.db.now in
@@ -28,14 +28,14 @@ pub returns-in_err-write_plain-clause-kept : goal.returns-in_err-write_plain-cla
 returns-in_err-write_plain-clause-kept g c name clean was every due =
     let items = c.args.indexes.items in
     let none : map declared items ≡ [] = no_items declared items (ap (λ xs. length xs == 0) (sym c.deref.ensures.value) ∙ sym c.are_none.ensures ∙ c.if-are_none.true) in
-    let plain = c.are_plain.ensures c.if-are_plain.true in
+    let plain = c.are_plain.ensures.0 c.if-are_plain.true in
     c.in_err-write_plain.ensures.kept name clean was (sym none ∙ every) plain due
 
 pub returns-then-are_plain-clause-ok : goal.returns-then-are_plain-clause-ok
 returns-then-are_plain-clause-ok g c name clean was every due =
     let items = c.args.indexes.items in
     let none : map declared items ≡ [] = no_items declared items (ap (λ xs. length xs == 0) (sym c.deref.ensures.value) ∙ sym c.are_none.ensures ∙ c.if-are_none.true) in
-    let plain = c.are_plain.ensures c.if-are_plain.true in
+    let plain = c.are_plain.ensures.0 c.if-are_plain.true in
     let done = c.in_ok-write_plain.ensures.ok name clean was (sym none ∙ every) plain due in
     (done.0, done.1, none ∙ done.2)
 
@@ -43,12 +43,12 @@ pub returns-then-are_plain-clause-kept : goal.returns-then-are_plain-clause-kept
 returns-then-are_plain-clause-kept g c name clean was every due =
     let items = c.args.indexes.items in
     let none : map declared items ≡ [] = no_items declared items (ap (λ xs. length xs == 0) (sym c.deref.ensures.value) ∙ sym c.are_none.ensures ∙ c.if-are_none.true) in
-    let plain = c.are_plain.ensures c.if-are_plain.true in
+    let plain = c.are_plain.ensures.0 c.if-are_plain.true in
     c.in_ok-write_plain.ensures.kept name clean was (sym none ∙ every) plain due
 
 pub returns-then-are_plain-clause-inside : goal.returns-then-are_plain-clause-inside
 returns-then-are_plain-clause-inside g c name clean was every due within =
     let items = c.args.indexes.items in
     let none : map declared items ≡ [] = no_items declared items (ap (λ xs. length xs == 0) (sym c.deref.ensures.value) ∙ sym c.are_none.ensures ∙ c.if-are_none.true) in
-    let plain = c.are_plain.ensures c.if-are_plain.true in
+    let plain = c.are_plain.ensures.0 c.if-are_plain.true in
     c.in_ok-write_plain.ensures.inside name clean was (sym none ∙ every) plain due within
