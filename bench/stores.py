@@ -8,15 +8,13 @@ import sqlite3
 import subprocess
 import sys
 
-sys.path.append(os.path.join(os.path.dirname(os.path.dirname(os.path.abspath(__file__))), "tools"))
+TOP = os.path.dirname(os.path.dirname(os.path.abspath(__file__)))
+sys.path.append(f"{TOP}/tools")
 
-from server import ADMIN, SECRET, message, proxy_lines
+from lib.server import ADMIN, SECRET, message, proxy_lines
 
-TABLES = [
-    "CREATE TABLE dbs (num INTEGER PRIMARY KEY, name BLOB NOT NULL UNIQUE, sec TEXT NOT NULL, seq INTEGER NOT NULL) STRICT",
-    "CREATE TABLE docs (db INTEGER NOT NULL, id BLOB NOT NULL, seq INTEGER NOT NULL, winner TEXT NOT NULL, del INTEGER NOT NULL, PRIMARY KEY (db, id), UNIQUE (db, seq)) STRICT",
-    "CREATE TABLE revs (db INTEGER NOT NULL, id BLOB NOT NULL, n INTEGER NOT NULL, hash TEXT NOT NULL, parent TEXT, held INTEGER NOT NULL, del INTEGER NOT NULL, body TEXT, PRIMARY KEY (db, id, n, hash)) STRICT",
-]
+with open(f"{TOP}/crates/tables/src/create.rt", encoding="utf-8") as code:
+    TABLES = re.findall(r'"(CREATE TABLE (?:dbs|docs|revs) [^"]*)"', code.read())
 
 
 class Served:

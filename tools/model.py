@@ -1,16 +1,16 @@
-"""Answers requests as docs/PROFILE.md says, in plain python: what tools/fuzz_passes, disk_check and index_check compare with.
+"""Answers requests as docs/PROFILE.md says, in plain python: what fuzz_passes, disk_check, index_check and documents compare with.
 
 It was written from the page, and has nothing of the program. What it doesn't know it isn't asked: requests
-have lawful names and ids, bodies that are JSON, and the parameters that a client or a pass sends. A body and
-a reply are bytes, so no value is held by two.
+have lawful ids, and selectors and bodies of the shape that is asked for. A user is the text of a name, which
+may have roles (`User`), or None. A body and a reply are bytes, so no value is held by two.
 """
 import hashlib
 import json
 import re
 from urllib.parse import parse_qs, unquote
 
-from keys import is_path, order_of, values_at
-from server import ADMIN, text_of
+from lib.keys import is_path, order_of, values_at
+from lib.server import ADMIN, text_of
 
 MISSING = (404, "not_found", "missing")
 CONFLICT = (409, "conflict", "Document update conflict.")
@@ -18,8 +18,8 @@ BAD_DOCUMENT = (400, "doc_validation", "Bad document.")
 BAD_HISTORY = (400, "bad_history", "Bad revision history.")
 BAD_BODY = (400, "bad_request", "body")
 
-# The update rules that a design document may have here, as selectors, and what they say of the new document, the
-# old one or None, and the caller's name.
+# Update rules, as selectors, and what they say of the new document, the old one or None, and the caller's name, said
+# apart from what selectors mean. Any other rule is tried as a selector.
 RULES = [
     ({"newDoc.bad": {"$exists": False}}, lambda new, old, name: "bad" not in new),
     ({"newDoc._deleted": {"$exists": False}}, lambda new, old, name: "_deleted" not in new),
@@ -35,6 +35,18 @@ RULES = [
     ({"newDoc.owner": {"$sameAs": "userCtx.name"}}, lambda new, old, name: "owner" in new and new["owner"] == name),
 ]
 HOLDS = {text_of(selector): holds for selector, holds in RULES}
+
+
+class User(str):
+    """The name of a user with roles."""
+
+    roles = ()
+
+
+def roles_of(user):
+    """Returns the roles of a user; the admin has one more."""
+    roles = list(getattr(user, "roles", ()))
+    return roles + ["_admin"] * (user == ADMIN and "_admin" not in roles)
 
 
 class Refusal(Exception):
@@ -151,7 +163,7 @@ def sent_by(identifier, document):
     is_bad = document.get("_id", identifier) != identifier or "_rev" in document and not is_revision(revision)
     is_bad = is_bad or not isinstance(deleted, bool) or set(document) - set(body) - {"_id", "_rev", "_deleted", "_revisions"}
     is_design = identifier.startswith("_design/")
-    is_bad = is_bad or is_design and "validate_doc_update" in body and text_of(body["validate_doc_update"]) not in HOLDS
+    is_bad = is_bad or is_design and not isinstance(body.get("validate_doc_update", {}), dict)
     is_bad = is_bad or is_design and not are_indexes(body.get("indexes", {}))
     if is_bad:
         raise Refusal(*BAD_DOCUMENT)
@@ -186,26 +198,62 @@ COMPARED = {
 }
 
 
-def is_true(selector, current):
-    """Tells whether a selector is true of a value: a list of it alone, or an empty one where it is missing."""
+TYPES = {type(None): "null", bool: "boolean", int: "number", str: "string", list: "array", dict: "object"}
+
+
+def has_all(value, wanted):
+    """Tells whether a value is a list with each of these, of which there are some."""
+    found = [order_of(one) for one in value] if isinstance(value, list) else []
+    return bool(wanted) and all(order_of(one) in found for one in wanted)
+
+
+def is_true(selector, current, whole=None):
+    """Tells whether a selector is true of a value: a list of it alone, or an empty one where it is missing.
+
+    Of a rule `whole` is what it is asked of as a whole, where `$sameAs` looks.
+    """
     if not isinstance(selector, dict):
         selector = {"$eq": selector}
-    return all(is_met(name, argument, current) for name, argument in selector.items())
+    return all(is_met(name, argument, current, whole) for name, argument in selector.items())
 
 
-def is_met(name, argument, current):
+def is_met(name, argument, current, whole):
     """Tells whether one member of a selector is true."""
     if name == "$and":
-        return all(is_true(one, current) for one in argument)
+        return all(is_true(one, current, whole) for one in argument)
     if name == "$or":
-        return any(is_true(one, current) for one in argument)
+        return any(is_true(one, current, whole) for one in argument)
     if name == "$not":
-        return not is_true(argument, current)
+        return not is_true(argument, current, whole)
     if name == "$exists":
         return bool(current) == argument
+    if name == "$type":
+        return bool(current) and TYPES[type(current[0])] == argument
+    if name == "$all":
+        return bool(current) and has_all(current[0], argument)
+    if name == "$sameAs":
+        return bool(current) and [order_of(one) for one in values_at([argument], whole) or []] == [order_of(current[0])]
     if name in COMPARED:
         return bool(current) and COMPARED[name](order_of(current[0]), order_of(argument))
-    return is_true(argument, values_at([name], current[0]) or [] if current else [])
+    return is_true(argument, values_at([name], current[0]) or [] if current else [], whole)
+
+
+def part_of(rows, query):
+    """Returns the reply with the rows of a list that a query asks for; the list goes up."""
+    is_down = query.get("descending") == "true"
+    rows = rows[::-1] if is_down else rows
+
+    def distance(row, bound):
+        """Tells whether a row stands before a bound, at it or behind it, in the direction asked for: -1, 0 or 1."""
+        key, other = order_of(row["key"]), order_of(json.loads(query[bound]))
+        return ((key > other) - (key < other)) * (-1 if is_down else 1)
+
+    started = [row for row in rows if "startkey" not in query or distance(row, "startkey") >= 0]
+    last = -1 if query.get("inclusive_end") == "false" else 0
+    within = [row for row in started if "endkey" not in query or distance(row, "endkey") <= last]
+    skip = min(int(query.get("skip", 0)), len(within))
+    shown = within[skip:][: int(query.get("limit", len(rows)))]
+    return 200, {"offset": len(rows) - len(started) + skip, "rows": shown, "total_rows": len(rows)}
 
 
 class Database:
@@ -218,10 +266,11 @@ class Database:
     # ---- who may do what
 
     def names(self, user, part):
-        return user is not None and user in self.security.get(part, {}).get("names", [])
+        named = self.security.get(part, {})
+        return user is not None and (user in named.get("names", []) or any(role in named.get("roles", []) for role in roles_of(user)))
 
     def is_admin(self, user):
-        return user == ADMIN or self.names(user, "admins")
+        return "_admin" in roles_of(user) or self.names(user, "admins")
 
     def is_member(self, user):
         members = self.security.get("members", {})
@@ -234,8 +283,17 @@ class Database:
             if identifier.startswith("_design/") and not document.is_deleted():
                 rule = document.held[document.winner()][1].get("validate_doc_update")
                 if rule is not None:
-                    found[identifier] = HOLDS[text_of(rule)]
+                    found[identifier] = HOLDS.get(text_of(rule)) or self.rule_of(rule)
         return found
+
+    def rule_of(self, selector):
+        """Returns what a rule says of the new document, the old one and the user."""
+
+        def holds(new, old, user):
+            whole = {"newDoc": new, "oldDoc": old, "secObj": self.security, "userCtx": {"name": user, "roles": roles_of(user)}}
+            return is_true(selector, [whole], whole)
+
+        return holds
 
     # ---- writes
 
@@ -322,10 +380,9 @@ class Database:
         deleted = sum(document.is_deleted() for document in self.documents.values())
         return 200, {"db_name": name, "doc_count": len(self.documents) - deleted, "doc_del_count": deleted, "update_seq": self.sequence}
 
-    def all_docs(self):
+    def all_docs(self, query):
         there = sorted((one for one, document in self.documents.items() if not document.is_deleted()), key=str.encode)
-        rows = [{"id": one, "key": one, "value": {"rev": self.documents[one].winner()}} for one in there]
-        return 200, {"offset": 0, "rows": rows, "total_rows": len(rows)}
+        return part_of([{"id": one, "key": one, "value": {"rev": self.documents[one].winner()}} for one in there], query)
 
     def changes(self, query):
         since, results = int(query.get("since", 0)), []
@@ -359,20 +416,7 @@ class Database:
         if name not in self.declared(identifier):
             raise Refusal(*MISSING)
         places = self.places(self.declared(identifier)[name]["fields"])
-        is_down = query.get("descending") == "true"
-        rows = [{"id": one, "key": key, "value": None} for key, one in (reversed(places) if is_down else places)]
-
-        def distance(row, bound):
-            """Tells whether a row stands before a bound, at it or behind it, in the direction asked for: -1, 0 or 1."""
-            key, other = order_of(row["key"]), order_of(json.loads(query[bound]))
-            return ((key > other) - (key < other)) * (-1 if is_down else 1)
-
-        started = [row for row in rows if "startkey" not in query or distance(row, "startkey") >= 0]
-        last = -1 if query.get("inclusive_end") == "false" else 0
-        within = [row for row in started if "endkey" not in query or distance(row, "endkey") <= last]
-        skip = min(int(query.get("skip", 0)), len(within))
-        shown = within[skip:][: int(query.get("limit", len(rows)))]
-        return 200, {"offset": len(rows) - len(started) + skip, "rows": shown, "total_rows": len(rows)}
+        return part_of([{"id": one, "key": key, "value": None} for key, one in places], query)
 
     def find(self, asked):
         """Returns the documents that match a selector, in an order, in part: each document is looked at."""
@@ -415,11 +459,12 @@ class Database:
             asked = document.leaves() if query["open_revs"] == "all" else json.loads(query["open_revs"])
             paths = query.get("revs") == "true"
             return 200, [{"ok": document.shown(identifier, one, paths)} if one in document.held else {"missing": one} for one in asked]
-        if not document.parents:
+        revision, paths = query.get("rev"), query.get("revs") == "true"
+        if not document.parents or revision and revision not in document.held:
             raise Refusal(*MISSING)
-        if document.is_deleted():
+        if not revision and document.is_deleted():
             raise Refusal(404, "not_found", "deleted")
-        return 200, document.shown(identifier, document.winner())
+        return 200, document.shown(identifier, revision or document.winner(), paths)
 
     def write(self, user, identifier, query, value):
         revision, deleted, body = sent_by(identifier, value)
@@ -454,6 +499,51 @@ class Database:
 
 # ---- nodes
 
+RANGE = {"descending", "endkey", "inclusive_end", "limit", "skip", "startkey"}
+# For each page the methods that it has, with the parameters that each takes.
+PAGES = {
+    "_all_dbs": {"GET": set()},
+    "database": {"GET": set(), "PUT": set(), "DELETE": set()},
+    "_security": {"GET": set(), "PUT": set()},
+    "_all_docs": {"GET": RANGE},
+    "_changes": {"GET": {"limit", "since", "style"}},
+    "_bulk_docs": {"POST": set()},
+    "_revs_diff": {"POST": set()},
+    "_find": {"POST": set()},
+    "_index": {"POST": set()},
+    "_view": {"GET": RANGE},
+    "_local": {"GET": set(), "PUT": set()},
+    "document": {"GET": {"open_revs", "rev", "revs"}, "PUT": {"rev"}, "DELETE": {"rev"}},
+}
+
+
+def page_of(parts):
+    """Returns the name of the page of a path."""
+    if len(parts) == 1:
+        return parts[0] if parts[0] == "_all_dbs" else "database"
+    if parts[3:4] == ["_view"]:
+        return "_view"
+    return parts[1] if parts[1] in PAGES else "document"
+
+
+def refuse_early(method, parts, query):
+    """Refuses another method, another name of a database, and another parameter than a page has."""
+    page = PAGES[page_of(parts)]
+    if method not in page:
+        raise Refusal(405, "method_not_allowed", "method")
+    if parts[0] != "_all_dbs" and not re.fullmatch(r"[a-z][a-z0-9_$()+-]{0,63}", parts[0]):
+        raise Refusal(400, "illegal_database_name", "name")
+    if not set(parse_qs(query, keep_blank_values=True)) <= page[method]:
+        raise Refusal(400, "bad_request", "query")
+
+
+def value_of(body):
+    """Returns the value of a body, where there is one."""
+    try:
+        return json.loads(body) if body else None
+    except json.JSONDecodeError:
+        raise Refusal(400, "bad_request", "JSON") from None
+
 
 class Node:
     """A node: its databases by name."""
@@ -467,7 +557,8 @@ class Node:
         parts = [unquote(part) for part in path.split("/")[1:]]
         asked = {name: values[0] for name, values in parse_qs(query).items()}
         try:
-            status, value = self.work(user, method, parts, asked, json.loads(body) if body else None)
+            refuse_early(method, parts, query)
+            status, value = self.work(user, method, parts, asked, value_of(body))
         except Refusal as refusal:
             status, value = refusal.status, refusal.value
         return status, text_of(value)
@@ -492,7 +583,7 @@ class Node:
         if parts[1] == "_bulk_docs":
             return database.bulk(user, value)
         if parts[1] == "_all_docs":
-            return database.all_docs()
+            return database.all_docs(query)
         if parts[1] == "_changes":
             return database.changes(query)
         if parts[1] == "_index":

@@ -3,7 +3,7 @@ import hashlib
 import json
 from urllib.parse import quote
 
-from server import text_of
+from lib.server import text_of
 
 GREATEST = 2**63 - 1
 SESSIONS = 50

@@ -122,7 +122,7 @@ impl Auth {
             name.as_str(),
             self.admins.as_slice(),
         )?;
-        Ok(Caller::with_roles(name, roles))
+        Ok(Caller::with_roles(self.alloc, name, roles)?)
     }
 
     /// Tells whether the name isn't empty and a token came that is the name's, byte by byte.

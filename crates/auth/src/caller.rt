@@ -1,6 +1,10 @@
-ghost use Rattle.std.specs.Prelude.{◌≡◌, map, option_copied, string_bytes};
+ghost use Rattle.std.specs.Prelude.{◌≡◌, IfOk, map, option_copied, string_bytes};
+ghost use Rattle.auth.specs.Roles.{is_among};
 
+use crate::roles::collect_roles;
+use couch_json::Got;
 use std::alloc::Global;
+use std::collections::BTreeSet;
 use std::marker::Model;
 
 /// Who calls: a name, or none for an anonymous caller, and roles.
@@ -11,22 +15,31 @@ use std::marker::Model;
 pub struct Caller {
     name: Option<String>,
     roles: Vec<String>,
+    /// The same roles, each once, to be looked up.
+    known: BTreeSet<String>,
 }
 
 // Written out, so that callers do not prove again how each part is dropped.
 impl Drop for Caller {
     fn drop(self) {
-        let Caller { name: _, roles: _ } = self;
+        let Caller {
+            name: _,
+            roles: _,
+            known: _,
+        } = self;
     }
 }
 
 impl Model for Caller {
     ghost use Rattle.std.specs.Prelude.{map, option_map, string_bytes};
     ghost use Rattle.auth.specs.Callers.{Identity};
+    ghost use Rattle.auth.specs.KnownRoles.{HasRoles};
 
     ghost Value = { Identity };
 
     ghost view = { λ c. record { name = option_map string_bytes c.name; roles = map string_bytes c.roles.items } };
+
+    ghost invariant = { λ c. HasRoles c.known (map string_bytes c.roles.items) };
 }
 
 impl Caller {
@@ -39,6 +52,7 @@ impl Caller {
         Caller {
             name: None,
             roles: Vec::new(alloc),
+            known: BTreeSet::new(alloc),
         }
     }
 
@@ -59,13 +73,23 @@ impl Caller {
         self.roles.as_slice()
     }
 
-    /// Makes the user of this name with these roles.
-    pub(crate) fn with_roles(name: String, roles: Vec<String>) -> Caller
-        ensures { result ≡ record { name = Some (string_bytes name); roles = map string_bytes roles.items } }
+    /// Tells whether the caller has the role. It takes about as long as the logarithm of how many roles
+    /// the caller has.
+    pub fn has_role(&self, role: &str) -> bool
+        ensures { result ≡ is_among role.now self.now.roles }
     {
-        Caller {
+        self.known.contains(role)
+    }
+
+    /// Makes the user of this name with these roles.
+    pub(crate) fn with_roles(alloc: Global, name: String, roles: Vec<String>) -> Got<Caller>
+        ensures { IfOk result (λ caller. caller ≡ record { name = Some (string_bytes name); roles = map string_bytes roles.items }) }
+    {
+        let known = collect_roles(alloc, &roles)?;
+        Ok(Caller {
             name: Some(name),
             roles,
-        }
+            known,
+        })
     }
 }

@@ -1,8 +1,10 @@
 ghost use Rattle.std.specs.Prelude.{◌≡◌, ◌==◌, [], ◌∷◌, ◌++◌, length, map, if◌then◌else◌, IfOk, OnOk, string_bytes};
+ghost use Rattle.auth.specs.KnownRoles.{HasRoles};
 ghost use Rattle.auth.specs.Roles.{without_blanks, roles_in, is_among, roles_of};
 
 use couch_json::Got;
 use std::alloc::Global;
+use std::collections::BTreeSet;
 
 /// The role of server admins.
 pub(crate) const ADMIN_ROLE: &str = "_admin";
@@ -52,6 +54,17 @@ pub(crate) fn add_admin_role(
         roles.push(String::from_str(alloc, ADMIN_ROLE)?)?;
     }
     Ok(())
+}
+
+/// Collects the roles into a set of them.
+pub(crate) fn collect_roles(alloc: Global, roles: &[String]) -> Got<BTreeSet<String>>
+    ensures { IfOk result (λ known. HasRoles known (map string_bytes roles.now)) }
+{
+    let mut known = BTreeSet::new(alloc);
+    for role in roles {
+        known.insert(role.clone()?)?;
+    }
+    Ok(known)
 }
 
 /// Tells whether the text is among the texts.

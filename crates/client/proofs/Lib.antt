@@ -1,1 +1,3 @@
+pub mod Logs
 pub mod Reading
+pub mod Written

@@ -1,16 +1,20 @@
-ghost use Rattle.std.specs.Prelude.{◌≡◌, ◌<◌, ℕ, Bool, IfOk, List, length};
+ghost use Rattle.std.specs.Prelude.{◌≡◌, ◌++◌, ◌∷◌, [], ◌<◌, Bool, IfOk, List, ℕ, length};
 ghost use Rattle.std.specs.Io.KnownBytes.{Consumes};
 ghost use Rattle.couch_http.specs.Message.{message_of};
 ghost use Rattle.couch_http.specs.RequestText.{request_text};
 ghost use Rattle.streams.specs.Writing.{Takes};
 ghost use Rattle.client.specs.Exchange.{Exchanges, IsTurn, Reads};
+ghost use Rattle.client.specs.Streams.{outcomes_of};
+ghost use Rattle.client.specs.declared.outcome.Outcome.{Outcome};
 
+use crate::logged::Logged;
+use crate::outcome::Outcome;
 use crate::turn::Turn;
+use crate::writing::write_logged;
 use couch_http::{HttpFault, ReplyCutter, Request, Response, request_bytes};
 use couch_json::{Got, NoMemory};
 use std::alloc::Global;
 use std::io::{Read, Write};
-use streams::write_bytes;
 
 /// How many bytes are read at a time at most.
 const PIECE: usize = 8_192;
@@ -22,26 +26,33 @@ const READS: u64 = 1_048_576;
 /// byte, a read failed, there was nothing more to read, the bytes are no reply, or it isn't whole after
 /// 1,048,576 reads of up to 8,192 bytes (RFC 9112).
 ///
-/// Where the request isn't written whole nothing is read. What comes behind the reply is dropped.
+/// A read or a write that is interrupted is made again. Where the request isn't written whole nothing is
+/// read. What comes behind the reply is dropped.
 pub fn exchange<R: Read, W: Write>(
     alloc: Global,
     request: &Request,
-    reader: &mut R,
-    writer: &mut W,
+    reader: &mut Logged<R>,
+    writer: &mut Logged<W>,
 ) -> Got<Option<Response>>
-    ensures wrote { (all : Bool) × Takes (W.contents writer.old) (W.contents writer.new) (request_text (message_of request.now)) all }
-    ensures reply { IfOk result (Exchanges (request_text (message_of request.now)) (R.remaining reader.old) (R.remaining reader.new) (W.contents writer.old) (W.contents writer.new)) }
+    ensures wrote { (all : Bool) × Takes (W.contents writer.old.stream) (W.contents writer.new.stream) (request_text (message_of request.now)) all }
+    ensures reply { IfOk result (Exchanges (request_text (message_of request.now))
+        (record { bytes = R.remaining reader.old.stream; log = outcomes_of reader.old.log.items })
+        (record { bytes = R.remaining reader.new.stream; log = outcomes_of reader.new.log.items })
+        (record { bytes = W.contents writer.old.stream; log = outcomes_of writer.old.log.items })
+        (record { bytes = W.contents writer.new.stream; log = outcomes_of writer.new.log.items })) }
 {
     let bytes = request_bytes(alloc, request)?;
-    if !write_bytes(writer, &bytes) {
+    if !write_logged(writer, &bytes) {
         return Ok(None);
     }
     read_reply(alloc, reader)
 }
 
 /// Reads a reply, which is `None` where it won't come.
-fn read_reply<R: Read>(alloc: Global, reader: &mut R) -> Got<Option<Response>>
-    ensures { IfOk result (Reads (R.remaining reader.old) (R.remaining reader.new)) }
+fn read_reply<R: Read>(alloc: Global, reader: &mut Logged<R>) -> Got<Option<Response>>
+    ensures { IfOk result (Reads
+        (record { bytes = R.remaining reader.old.stream; log = outcomes_of reader.old.log.items })
+        (record { bytes = R.remaining reader.new.stream; log = outcomes_of reader.new.log.items })) }
 {
     let mut cutter = ReplyCutter::new(alloc);
     let mut room = [0; PIECE];
@@ -55,22 +66,30 @@ fn read_reply<R: Read>(alloc: Global, reader: &mut R) -> Got<Option<Response>>
     Ok(None)
 }
 
-/// Reads one piece of a reply, and takes it in.
-fn read_piece<R: Read>(reader: &mut R, room: &mut [u8], cutter: &mut ReplyCutter) -> Got<Turn>
+/// Reads one piece of a reply, and takes it in. Where the read is interrupted nothing has come.
+fn read_piece<R: Read>(
+    reader: &mut Logged<R>,
+    room: &mut [u8],
+    cutter: &mut ReplyCutter,
+) -> Got<Turn>
     requires { 0 < length room.old }
     ensures room { length room.new ≡ length room.old }
-    ensures turn { (piece : List ℕ) × Consumes (R.remaining reader.old) (R.remaining reader.new) piece × IfOk result (λ turn. IsTurn cutter.old piece turn cutter.new) }
+    ensures turn { (outcome : Outcome) × (piece : List ℕ)
+        × (outcomes_of reader.new.log.items ≡ outcomes_of reader.old.log.items ++ outcome ∷ [])
+        × Consumes (R.remaining reader.old.stream) (R.remaining reader.new.stream) piece
+        × IfOk result (λ turn. IsTurn cutter.old outcome piece turn cutter.new) }
 {
     match reader.read(room) {
-        Ok(0) => Ok(Turn::Lost),
-        Ok(count) => take_reply_piece(cutter, &room[..count]),
-        Err(_) => Ok(Turn::Lost),
+        Outcome::Bytes(0) => Ok(Turn::Lost),
+        Outcome::Bytes(count) => take_reply_piece(cutter, &room[..count]),
+        Outcome::Interrupted => Ok(Turn::Waits),
+        Outcome::Failed => Ok(Turn::Lost),
     }
 }
 
 /// Takes in one piece of a reply.
 fn take_reply_piece(cutter: &mut ReplyCutter, piece: &[u8]) -> Got<Turn>
-    ensures { IfOk result (λ turn. IsTurn cutter.old piece.now turn cutter.new) }
+    ensures { (outcome : Outcome) → IfOk result (λ turn. IsTurn cutter.old outcome piece.now turn cutter.new) }
 {
     match cutter.feed(piece) {
         Ok(Some(reply)) => Ok(Turn::Whole(reply)),

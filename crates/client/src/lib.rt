@@ -2,6 +2,12 @@
 #![tactic(auto)]
 
 mod exchanging;
+mod logged;
+mod outcome;
 mod turn;
+mod writing;
 
 pub use exchanging::exchange;
+pub use logged::Logged;
+pub use outcome::Outcome;
+pub use writing::write_logged;

@@ -14,8 +14,13 @@ pub enum CommandFault {
 }
 
 impl CommandFault {
+    ghost use Rattle.std.specs.Prelude.{◌≡◌};
+    ghost use Rattle.command_line.specs.Statuses.{status_of};
+
     /// Returns the status that the program ends with: 2 where the command line is invalid, else 1.
-    pub fn status(self) -> u8 {
+    pub fn status(self) -> u8
+        ensures { result ≡ status_of self }
+    {
         match self {
             CommandFault::Plan(PlanFault::Usage) => 2,
             CommandFault::Plan(PlanFault::Memory) | CommandFault::Program(_) => 1,
@@ -24,12 +29,22 @@ impl CommandFault {
 }
 
 impl From<PlanFault> for CommandFault {
+    ghost use Rattle.std.specs.Prelude.{◌≡◌};
+    ghost use Rattle.command_line.specs.declared.command_fault.CommandFault.TheVariants.{Plan};
+
+    ghost from_gives = { λ fault given. given ≡ Plan fault };
+
     fn from(fault: PlanFault) -> CommandFault {
         CommandFault::Plan(fault)
     }
 }
 
 impl From<ProgramFault> for CommandFault {
+    ghost use Rattle.std.specs.Prelude.{◌≡◌};
+    ghost use Rattle.command_line.specs.declared.command_fault.CommandFault.TheVariants.{Program};
+
+    ghost from_gives = { λ fault given. given ≡ Program fault };
+
     fn from(fault: ProgramFault) -> CommandFault {
         CommandFault::Program(fault)
     }

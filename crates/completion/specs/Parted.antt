@@ -23,7 +23,7 @@ PlaysHaveOneOutcome =
     (old new other : Network Contents) (hs : List Happening) (seen told : List Sight) → PlaysBy (Serves Steps) old hs seen new → PlaysBy (Serves Steps) old hs told other
     → (seen ≡ told) × (new ≡ other)
 
--- Events that are played in two calls have the outcome of one call with both lists, where each request was served.
+-- It makes no difference whether events are played in one call or in two, where each request was served.
 abbrev pub TwoCallsAreOne : Type 0
 TwoCallsAreOne =
     (a b c d : Network Contents) (earlier later : List Happening) (seen others all : List Sight) → PlaysBy (Serves Steps) a earlier seen b → PlaysBy (Serves Steps) b later others c
@@ -74,12 +74,35 @@ abbrev pub with_pass : {S : Type 0} → Transfer → Network S → Network S
 with_pass t old = record old { transfers = old.transfers ++ t ∷ [] }
 
 -- What was played before a connection was opened is what is played after it was opened.
-abbrev pub OpeningChangesNothing : {S : Type 0} → StepOf S → Type 0
-OpeningChangesNothing {S} step =
+abbrev pub OpeningChangesNothingBy : {S : Type 0} → HandlingOf S → Type 0
+OpeningChangesNothingBy {S} handling =
     (node : ℕ) (old new : Network S) (hs : List Happening) (seen : List Sight) → length old.homes ≡ old.connections.opened → AreKnown old.connections old.transfers hs
-    → Plays step old hs seen new → Plays step (with_home node old) hs seen (with_home node new)
+    → PlaysBy handling old hs seen new → PlaysBy handling (with_home node old) hs seen (with_home node new)
 
 -- What was played before a pass was started is what is played after it was started.
+abbrev pub StartingChangesNothingBy : {S : Type 0} → HandlingOf S → Type 0
+StartingChangesNothingBy {S} handling =
+    (t : Transfer) (old new : Network S) (hs : List Happening) (seen : List Sight) → PlaysBy handling old hs seen new → PlaysBy handling (with_pass t old) hs seen (with_pass t new)
+
+-- the same where each node takes steps of this kind, whoever asks
+abbrev pub OpeningChangesNothing : {S : Type 0} → StepOf S → Type 0
+OpeningChangesNothing step = OpeningChangesNothingBy (λ who. IsHandled step)
+
 abbrev pub StartingChangesNothing : {S : Type 0} → StepOf S → Type 0
-StartingChangesNothing {S} step =
-    (t : Transfer) (old new : Network S) (hs : List Happening) (seen : List Sight) → Plays step old hs seen new → Plays step (with_pass t old) hs seen (with_pass t new)
+StartingChangesNothing step = StartingChangesNothingBy (λ who. IsHandled step)
+
+-- ---- two calls, and what is added between
+
+-- It makes no difference whether a connection is opened before two calls or between them, and whether these are one, where each request was
+-- served. Requests and replies of passes may be lost.
+abbrev pub OpeningMayComeBetween : Type 0
+OpeningMayComeBetween =
+    (node : ℕ) (a b c d : Network Contents) (earlier later : List Happening) (seen others all : List Sight) → length a.homes ≡ a.connections.opened → AreKnown a.connections a.transfers earlier
+    → PlaysBy (Serves Steps) a earlier seen b → PlaysBy (Serves Steps) (with_home node b) later others c → PlaysBy (Serves Steps) (with_home node a) (earlier ++ later) all d
+    → (all ≡ seen ++ others) × (d ≡ c)
+
+-- The same of a pass that is started.
+abbrev pub StartingMayComeBetween : Type 0
+StartingMayComeBetween =
+    (t : Transfer) (a b c d : Network Contents) (earlier later : List Happening) (seen others all : List Sight) → PlaysBy (Serves Steps) a earlier seen b
+    → PlaysBy (Serves Steps) (with_pass t b) later others c → PlaysBy (Serves Steps) (with_pass t a) (earlier ++ later) all d → (all ≡ seen ++ others) × (d ≡ c)

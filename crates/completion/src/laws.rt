@@ -9,7 +9,9 @@ ghost use Rattle.repl.specs.Passes.{first_pass};
 ghost use Rattle.world.specs.Network.{AreHonest, Network, Transfer, over_databases};
 ghost use Rattle.completion.specs.Courses.{CallsArrange, CoursesWithoutRemovals, DonePassesHaveListedInCourses, DonePassesOweNothingInCourses, RoundsCoverInCourses};
 ghost use Rattle.completion.specs.Finished.{Begins, DonePassesHaveListed, DonePassesOweNothing, IsTold};
-ghost use Rattle.completion.specs.Parted.{OpeningChangesNothing, PlaysHaveOneOutcome, SightsTellService, StartingChangesNothing, TwoCallsAreOne, TwoCallsAreSeenAsOne, with_pass};
+ghost use Rattle.completion.specs.Parted.{OpeningChangesNothing, OpeningChangesNothingBy, OpeningMayComeBetween};
+ghost use Rattle.completion.specs.Parted.{StartingChangesNothing, StartingChangesNothingBy, StartingMayComeBetween};
+ghost use Rattle.completion.specs.Parted.{PlaysHaveOneOutcome, Serves, SightsTellService, TwoCallsAreOne, TwoCallsAreSeenAsOne, with_pass};
 ghost use Rattle.completion.specs.Reported.{PassesGoByTurns, ReportsAreToldInCourses, StartsAreReadInCourses, StopsHaveCausesInCourses, TurnsAreSeen};
 ghost use Rattle.completion.specs.Requests.{RunsThatKeep, RunsThatServe};
 
@@ -66,7 +68,7 @@ pub fn passes_report_what_was_told<S: Store>()
     ensures stops_of_databases { StopsHaveCausesInCourses Steps }
 {}
 
-/// Events that are played in two calls have the outcome of one call with both lists, where each request is
+/// States that it makes no difference whether events are played in one call or in two, where each request is
 /// served: none is answered with 500 or 503. Where no reply is lost, what is seen tells whether that is so.
 pub fn two_calls_are_one()
     ensures calls { TwoCallsAreOne }
@@ -80,12 +82,22 @@ pub fn sights_tell_service<S: Store>()
     ensures databases { SightsTellService Steps }
 {}
 
-/// A connection that is opened, or a pass that is started, after some events changes nothing of them.
+/// A connection that is opened, or a pass that is started, after some events changes nothing of them. So it is
+/// of served events too.
 pub fn additions_change_nothing<S: Store>()
     ensures opening { OpeningChangesNothing (StoreSteps S.Store) }
     ensures starting { StartingChangesNothing (StoreSteps S.Store) }
     ensures opening_of_databases { OpeningChangesNothing Steps }
     ensures starting_of_databases { StartingChangesNothing Steps }
+    ensures opening_where_served { OpeningChangesNothingBy (Serves (StoreSteps S.Store)) }
+    ensures starting_where_served { StartingChangesNothingBy (Serves (StoreSteps S.Store)) }
+{}
+
+/// A connection may be opened, or a pass started, between two calls: it makes no difference to playing all
+/// events in one call after that, where each request is served, whatever is lost of passes.
+pub fn additions_may_come_between()
+    ensures opening { OpeningMayComeBetween }
+    ensures starting { StartingMayComeBetween }
 {}
 
 /// A run in which both databases of a pass stay there is one that keeps them, and one in which each request

@@ -99,7 +99,7 @@ fn prepare<S: Store + Drop>(alloc: Global, store: S) -> Result<(Hub<S>, Vec<Requ
 }
 
 /// Asks for something, and once more where memory ran out.
-fn handle_again<S: Store + Drop>(hub: &mut Hub<S>, request: &Request) -> Response {
+pub fn handle_again<S: Store + Drop>(hub: &mut Hub<S>, request: &Request) -> Response {
     let reply = hub.handle(request);
     if reply.status() == 503 && reply.body() == MEMORY {
         return hub.handle(request);
@@ -108,7 +108,7 @@ fn handle_again<S: Store + Drop>(hub: &mut Hub<S>, request: &Request) -> Respons
 }
 
 /// Opens a connection, and once more where memory ran out.
-fn open_again<S: Store + Drop>(hub: &mut Hub<S>) -> Result<u64, HubFault> {
+pub fn open_again<S: Store + Drop>(hub: &mut Hub<S>) -> Result<u64, HubFault> {
     match hub.open() {
         Err(HubFault::Memory) => hub.open(),
         opened => opened,
@@ -116,7 +116,7 @@ fn open_again<S: Store + Drop>(hub: &mut Hub<S>) -> Result<u64, HubFault> {
 }
 
 /// Feeds a piece, and once more where memory ran out.
-fn feed_again<S: Store + Drop>(
+pub fn feed_again<S: Store + Drop>(
     hub: &mut Hub<S>,
     conn: u64,
     piece: &[u8],
@@ -127,8 +127,8 @@ fn feed_again<S: Store + Drop>(
     }
 }
 
-/// Feeds a piece that completes a request, and the whole request where that was answered by want of memory.
-fn feed_request<S: Store + Drop>(
+/// Feeds a piece that completes a request, and the whole request where that was answered by the 503.
+pub fn feed_request<S: Store + Drop>(
     hub: &mut Hub<S>,
     conn: u64,
     piece: &[u8],
@@ -170,7 +170,7 @@ fn play<S: Store + Drop>(
 }
 
 /// Prints why there is no first step.
-fn tell(rt: &HostRuntime, fail: Fail) -> Result<(), Fail> {
+pub fn tell(rt: &HostRuntime, fail: Fail) -> Result<(), Fail> {
     let failed: Result<(), Fail> = Err(fail);
     let _status = failed.report(rt);
     Ok(())

@@ -21,21 +21,62 @@ const OPTIONS: Options = Options {
     seed: 7,
 };
 
-/// What is asked of files that stop: a bulk of two documents, another declaration of the index, another
-/// local document and security object, and a database that is made or removed.
-const REQUESTS: [(&str, &str); 6] = [
+/// What is asked of files that stop, and the reply, said by `tools/model.py`: a bulk of two documents,
+/// another declaration of the index, another local document and security object, and a database that is
+/// made or removed.
+const REQUESTS: [(&str, &str, &str); 6] = [
     (
         "POST /db/_bulk_docs",
         r#"{"docs":[{"_id":"a","v":1},{"_id":"b","v":2}]}"#,
+        r#"201 [{"id":"a","ok":true,"rev":"1-16dd5aa7b10d32bc038d45f5c7f9f929"},{"id":"b","ok":true,"rev":"1-d04dee28564c4bc58752cca93ab2ecf9"}]"#,
     ),
     (
         "POST /db/_bulk_docs",
         r#"{"docs":[{"_id":"_design/d","_rev":"2-e","_revisions":{"start":2,"ids":["e","d"]},"indexes":{"v":{"fields":["w","v"]}}}],"new_edits":false}"#,
+        r#"201 []"#,
     ),
-    ("PUT /db/_local/l", r#"{"_rev":"0-1","at":2}"#),
-    ("PUT /db/_security", r#"{"members":{"names":["bob"]}}"#),
-    ("PUT /new", ""),
-    ("DELETE /db", ""),
+    (
+        "PUT /db/_local/l",
+        r#"{"_rev":"0-1","at":2}"#,
+        r#"201 {"id":"_local/l","ok":true,"rev":"0-2"}"#,
+    ),
+    (
+        "PUT /db/_security",
+        r#"{"members":{"names":["bob"]}}"#,
+        r#"200 {"ok":true}"#,
+    ),
+    ("PUT /new", "", r#"201 {"ok":true}"#),
+    ("DELETE /db", "", r#"200 {"ok":true}"#),
+];
+
+/// A bulk under an index that `_index` declares.
+const BULK: (&str, &str, &str) = (
+    "POST /db/_bulk_docs",
+    r#"{"docs":[{"_id":"a","a":1},{"_id":"b","a":1}]}"#,
+    r#"201 [{"id":"a","ok":true,"rev":"1-38f69caadd65f34faf421973db53fd5b"},{"id":"b","ok":true,"rev":"1-38f69caadd65f34faf421973db53fd5b"}]"#,
+);
+
+/// What is written before that bulk, by the admin `root`.
+const INDEXED: [(&str, &str); 2] = [
+    ("PUT /db", ""),
+    (
+        "POST /db/_index",
+        r#"{"ddoc":"i","index":{"fields":["a"]},"name":"p"}"#,
+    ),
+];
+
+/// What is shown of it, without the bulk and with it: all of one or all of the other.
+const SHOWN: [(&str, &str, &str); 2] = [
+    (
+        "GET /db",
+        r#"200 {"db_name":"db","doc_count":1,"doc_del_count":0,"update_seq":1}"#,
+        r#"200 {"db_name":"db","doc_count":3,"doc_del_count":0,"update_seq":3}"#,
+    ),
+    (
+        "GET /db/_design/i/_view/p",
+        r#"200 {"offset":0,"rows":[],"total_rows":0}"#,
+        r#"200 {"offset":0,"rows":[{"id":"a","key":[1],"value":null},{"id":"b","key":[1],"value":null}],"total_rows":2}"#,
+    ),
 ];
 
 /// The bytes of a log and of its file.
@@ -80,6 +121,20 @@ fn files_with(
         log: file_with(alloc, &image.log, log_calls)?,
         db: file_with(alloc, &image.db, db_calls)?,
     })
+}
+
+/// Makes files with these bytes, of which the log, or the other, takes so many calls.
+fn files_that_stop(
+    alloc: Global,
+    image: &Image,
+    is_log: bool,
+    calls: u64,
+) -> Result<Files<Stopping>, Fail> {
+    if is_log {
+        files_with(alloc, image, calls, u64::MAX)
+    } else {
+        files_with(alloc, image, u64::MAX, calls)
+    }
 }
 
 /// Opens the files, if they may be used, or gives them back.
@@ -145,16 +200,16 @@ fn shown_by(alloc: Global, image: &Image) -> Result<String, Fail> {
     }
 }
 
-/// Returns files in which the filling stands.
-fn fill_files(alloc: Global) -> Result<Image, Fail> {
+/// Returns files in which these requests of the admin `root` were answered.
+fn fill_files(alloc: Global, requests: &[(&str, &str)]) -> Result<Image, Fail> {
     let mut image = Image {
         log: Vec::new(alloc),
         db: Vec::new(alloc),
     };
-    for (line, body) in FILLING {
+    for (line, body) in requests {
         let files = files_with(alloc, &image, u64::MAX, u64::MAX)?;
         let (told, files) = ask(alloc, files, &root_request(alloc, line, body)?)?;
-        if !told.ok_or("it does not open")?.as_str().starts_with("201") {
+        if !told.ok_or("it does not open")?.as_str().starts_with("20") {
             return Err(Fail::from("not written"));
         }
         image = image_of(alloc, &files)?;
@@ -257,12 +312,7 @@ fn try_each_call(rt: &impl Abort, alloc: Global, trial: &Trial, is_log: bool) ->
     let mut killed = not_after(alloc, trial)?;
     let mut lost = not_after(alloc, trial)?;
     for calls in 0..1_000 {
-        let (log_calls, db_calls) = if is_log {
-            (calls, u64::MAX)
-        } else {
-            (u64::MAX, calls)
-        };
-        let files = files_with(alloc, &trial.image, log_calls, db_calls)?;
+        let files = files_that_stop(alloc, &trial.image, is_log, calls)?;
         if try_files(rt, alloc, trial, files, &mut killed, &mut lost)? {
             return Ok(calls);
         }
@@ -275,15 +325,83 @@ fn try_each_call(rt: &impl Abort, alloc: Global, trial: &Trial, is_log: bool) ->
 #[test]
 fn each_disk_stop(rt: HostRuntime) -> Result<(), Fail> {
     let alloc = rt.alloc();
-    let image = fill_files(alloc)?;
-    for (line, body) in REQUESTS {
+    let image = fill_files(alloc, &FILLING)?;
+    for (line, body, wanted) in REQUESTS {
         let trial = make_trial(alloc, &image, line, body)?;
-        assert!(rt; trial.wanted.as_str().starts_with("20"), "{line}");
+        assert_eq!(rt; trial.wanted.as_str(), wanted, "{line}");
         assert!(rt; trial.after != trial.before, "{line}");
         for is_log in [true, false] {
             let calls = try_each_call(&rt, alloc, &trial, is_log)?;
             assert!(rt; calls > 0, "{line}");
         }
+    }
+    Ok(())
+}
+
+/// Returns the reply to a request without a body to the store with these bytes.
+fn reply_from(alloc: Global, image: &Image, line: &str) -> Result<String, Fail> {
+    let files = files_with(alloc, image, u64::MAX, u64::MAX)?;
+    let (told, _files) = ask(alloc, files, &root_request(alloc, line, "")?)?;
+    Ok(told.ok_or("it does not open")?)
+}
+
+/// Tells whether these bytes hold the bulk under the index: all of it or nothing.
+fn holds_bulk(rt: &impl Abort, alloc: Global, image: &Image) -> Result<bool, Fail> {
+    let (line, _before, after) = SHOWN[0];
+    let is_held = reply_from(alloc, image, line)?.as_str() == after;
+    for (line, before, after) in SHOWN {
+        let wanted = if is_held { after } else { before };
+        assert_eq!(rt; reply_from(alloc, image, line)?.as_str(), wanted, "{line}");
+    }
+    Ok(is_held)
+}
+
+/// Asks files that stop for the bulk under the index, and opens what they hold then: as it is, and without
+/// all that was not synced. Tells whether they go on.
+fn try_bulk(rt: &impl Abort, alloc: Global, files: Files<Stopping>) -> Result<bool, Fail> {
+    let (line, body, wanted) = BULK;
+    let (told, mut files) = ask(alloc, files, &root_request(alloc, line, body)?)?;
+    let is_answered = match &told {
+        Some(told) => told.as_str() == wanted,
+        None => false,
+    };
+    if let Some(told) = &told {
+        assert!(rt; is_answered || told.as_str() == FAILED, "{told}");
+    }
+    let killed = holds_bulk(rt, alloc, &image_of(alloc, &files)?)?;
+    let goes_on = goes_on(&mut files.log) && goes_on(&mut files.db);
+    files.log.crash();
+    files.db.crash();
+    let lost = holds_bulk(rt, alloc, &image_of(alloc, &files)?)?;
+    assert!(rt; killed && lost || !is_answered);
+    Ok(goes_on)
+}
+
+/// Has the log or the other file stop at each call of the bulk, and returns how many calls there are.
+fn try_bulk_at_each_call(
+    rt: &impl Abort,
+    alloc: Global,
+    image: &Image,
+    is_log: bool,
+) -> Result<u64, Fail> {
+    for calls in 0..1_000 {
+        let files = files_that_stop(alloc, image, is_log, calls)?;
+        if try_bulk(rt, alloc, files)? {
+            return Ok(calls);
+        }
+    }
+    Err(Fail::from("it has no end"))
+}
+
+/// At whichever call the log or the file stops in a bulk under an index: opened again, the sequence and the
+/// rows of the index are those without the bulk or those with it, and the latter where it was answered.
+#[test]
+fn each_disk_stop_of_a_bulk(rt: HostRuntime) -> Result<(), Fail> {
+    let alloc = rt.alloc();
+    let image = fill_files(alloc, &INDEXED)?;
+    for is_log in [true, false] {
+        let calls = try_bulk_at_each_call(&rt, alloc, &image, is_log)?;
+        assert!(rt; calls > 0);
     }
     Ok(())
 }
@@ -300,13 +418,6 @@ fn turn_files_back(alloc: Global, image: &Image) -> Result<Image, Fail> {
     }
 }
 
-/// Returns what the index shows of a store with these bytes, whose files don't stop.
-fn view_of(alloc: Global, image: &Image) -> Result<String, Fail> {
-    let files = files_with(alloc, image, u64::MAX, u64::MAX)?;
-    let (told, _files) = ask(alloc, files, &root_request(alloc, VIEW.0, "")?)?;
-    Ok(told.ok_or("it does not open")?)
-}
-
 /// Opens files of version 1 that stop, and then what they hold: as it is, and without all that was not
 /// synced. Tells whether they go on.
 fn try_carrying_over(rt: &impl Abort, alloc: Global, files: Files<Stopping>) -> Result<bool, Fail> {
@@ -317,11 +428,17 @@ fn try_carrying_over(rt: &impl Abort, alloc: Global, files: Files<Stopping>) -> 
             "{told}"
         );
     }
-    assert_eq!(rt; view_of(alloc, &image_of(alloc, &files)?)?.as_str(), VIEW.1);
+    assert_eq!(rt;
+        reply_from(alloc, &image_of(alloc, &files)?, VIEW.0)?.as_str(),
+        VIEW.1
+    );
     let goes_on = goes_on(&mut files.log) && goes_on(&mut files.db);
     files.log.crash();
     files.db.crash();
-    assert_eq!(rt; view_of(alloc, &image_of(alloc, &files)?)?.as_str(), VIEW.1);
+    assert_eq!(rt;
+        reply_from(alloc, &image_of(alloc, &files)?, VIEW.0)?.as_str(),
+        VIEW.1
+    );
     Ok(goes_on)
 }
 
@@ -333,12 +450,7 @@ fn carry_over_at_each_call(
     is_log: bool,
 ) -> Result<u64, Fail> {
     for calls in 0..1_000 {
-        let (log_calls, db_calls) = if is_log {
-            (calls, u64::MAX)
-        } else {
-            (u64::MAX, calls)
-        };
-        let files = files_with(alloc, image, log_calls, db_calls)?;
+        let files = files_that_stop(alloc, image, is_log, calls)?;
         if try_carrying_over(rt, alloc, files)? {
             return Ok(calls);
         }
@@ -350,7 +462,7 @@ fn carry_over_at_each_call(
 #[test]
 fn each_disk_stop_of_carrying_over(rt: HostRuntime) -> Result<(), Fail> {
     let alloc = rt.alloc();
-    let image = turn_files_back(alloc, &fill_files(alloc)?)?;
+    let image = turn_files_back(alloc, &fill_files(alloc, &FILLING)?)?;
     for is_log in [true, false] {
         let calls = carry_over_at_each_call(&rt, alloc, &image, is_log)?;
         assert!(rt; calls > 0);

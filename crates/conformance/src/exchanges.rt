@@ -1,8 +1,8 @@
 //! Exchanges whose request isn't taken whole, and whose reply doesn't come whole.
 
-use crate::broken_streams::{Breaking, Broken, Slow};
+use crate::broken_streams::{Breaking, Broken, Halting, Slow, SlowHalting};
 use crate::local_client::request;
-use client::exchange;
+use client::{Logged, exchange};
 use couch_http::Request;
 use std::alloc::Global;
 use std::test::Fail;
@@ -30,9 +30,9 @@ fn a_reply_is_told_if_and_only_if_it_came_whole(rt: HostRuntime) -> Result<(), F
     let alloc = rt.alloc();
     let put = put(alloc)?;
     for length in 0..=RECEIVED.len() {
-        let mut reader = &RECEIVED.as_bytes()[..length];
+        let mut reader = Logged::new(&RECEIVED.as_bytes()[..length]);
         let mut written = Vec::new(alloc);
-        let reply = exchange(alloc, &put, &mut reader, &mut written)?;
+        let reply = exchange(alloc, &put, &mut reader, &mut Logged::new(&mut written))?;
         assert_eq!(rt; written.as_slice(), SENT.as_bytes());
         assert_eq!(rt; reply.is_some(), length >= LENGTH);
         let Some(reply) = reply else {
@@ -50,12 +50,12 @@ fn nothing_is_read_behind_a_write_that_fails(rt: HostRuntime) -> Result<(), Fail
     let alloc = rt.alloc();
     let put = put(alloc)?;
     for taken in 0..SENT.len() {
-        let mut reader = RECEIVED.as_bytes();
+        let mut reader = Logged::new(RECEIVED.as_bytes());
         let mut writer = Slow::new(alloc, taken);
-        let reply = exchange(alloc, &put, &mut reader, &mut writer)?;
+        let reply = exchange(alloc, &put, &mut reader, &mut Logged::new(&mut writer))?;
         assert!(rt; reply.is_none());
         assert_eq!(rt; writer.bytes.as_slice(), &SENT.as_bytes()[..taken]);
-        assert_eq!(rt; reader.len(), RECEIVED.len());
+        assert_eq!(rt; reader.stream.len(), RECEIVED.len());
     }
     Ok(())
 }
@@ -66,13 +66,28 @@ fn each_read_that_fails_ends_an_exchange(rt: HostRuntime) -> Result<(), Fail> {
     let alloc = rt.alloc();
     let put = put(alloc)?;
     for length in 0..=RECEIVED.len() {
-        let mut reader = Breaking {
+        let mut reader = Logged::new(Breaking {
             bytes: &RECEIVED.as_bytes()[..length],
-        };
+        });
         let mut written = Vec::new(alloc);
-        let reply = exchange(alloc, &put, &mut reader, &mut written)?;
+        let reply = exchange(alloc, &put, &mut reader, &mut Logged::new(&mut written))?;
         assert_eq!(rt; reply.is_some(), length >= LENGTH);
         assert_eq!(rt; written.as_slice(), SENT.as_bytes());
+    }
+    Ok(())
+}
+
+/// A read or a write that is interrupted is made again, before each byte and at the end.
+#[test]
+fn an_interrupted_call_is_made_again(rt: HostRuntime) -> Result<(), Fail> {
+    let alloc = rt.alloc();
+    let put = put(alloc)?;
+    for length in 0..=RECEIVED.len() {
+        let mut reader = Logged::new(Halting::new(&RECEIVED.as_bytes()[..length]));
+        let mut writer = SlowHalting::new(alloc, SENT.len());
+        let reply = exchange(alloc, &put, &mut reader, &mut Logged::new(&mut writer))?;
+        assert_eq!(rt; reply.is_some(), length >= LENGTH);
+        assert_eq!(rt; writer.bytes(), SENT.as_bytes());
     }
     Ok(())
 }
@@ -83,10 +98,11 @@ fn a_reply_is_lost_where_reading_fails(rt: HostRuntime) -> Result<(), Fail> {
     let alloc = rt.alloc();
     let put = put(alloc)?;
     let mut written = Vec::new(alloc);
-    let reply = exchange(alloc, &put, &mut Broken, &mut written)?;
+    let mut writer = Logged::new(&mut written);
+    let reply = exchange(alloc, &put, &mut Logged::new(Broken), &mut writer)?;
     assert!(rt; reply.is_none());
-    let mut reader = SENT.as_bytes();
-    let reply = exchange(alloc, &put, &mut reader, &mut written)?;
+    let mut reader = Logged::new(SENT.as_bytes());
+    let reply = exchange(alloc, &put, &mut reader, &mut writer)?;
     assert!(rt; reply.is_none());
     Ok(())
 }

@@ -11,6 +11,8 @@ pub mod causes;
 #[cfg(test)]
 mod disk_stops;
 #[cfg(test)]
+mod edited_files;
+#[cfg(test)]
 mod exchanges;
 #[cfg(test)]
 mod few_rows;
@@ -30,3 +32,5 @@ mod scripts;
 mod services;
 #[cfg(test)]
 mod stores;
+#[cfg(test)]
+mod worked_rows;

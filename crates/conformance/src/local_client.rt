@@ -41,8 +41,15 @@ pub const DESIGN: &str =
 /// The reply where the store failed.
 pub const FAILED: &str = r#"500 {"error":"internal_server_error","reason":"store"}"#;
 
+/// No header lines: nobody asks.
+pub const NOBODY: &str = "";
+
+/// The header lines of the user `bob`. The token is python's hmac.
+pub const BOB: &str = "X-Auth-CouchDB-UserName: bob\r\nX-Auth-CouchDB-Token: \
+a533821c1f94927364966e03c15c31c4814908a8e60237b2c1a574dbfa77b52c\r\n";
+
 /// The header lines of the admin `root`. The token is python's hmac.
-const ROOT: &str = "X-Auth-CouchDB-UserName: root\r\nX-Auth-CouchDB-Token: \
+pub const ROOT: &str = "X-Auth-CouchDB-UserName: root\r\nX-Auth-CouchDB-Token: \
 160a499b3e61e4772a8874ed075f1ae84e9c342ac24d75151e0bd3cd76e1b6fb\r\n";
 
 /// Returns a node over a store, with the secret `Jefe` and the admin `root`.
@@ -110,7 +117,7 @@ pub fn show_all<S: Store + Drop>(alloc: Global, node: &mut Node<S>) -> Result<St
 
 /// Returns a request of nobody, as it is cut from its bytes.
 pub fn request(alloc: Global, line: &str, body: &str) -> Result<Request, Fail> {
-    request_with(alloc, line, "", body)
+    request_with(alloc, line, NOBODY, body)
 }
 
 /// Returns a request of the admin `root`.
@@ -118,7 +125,8 @@ pub fn root_request(alloc: Global, line: &str, body: &str) -> Result<Request, Fa
     request_with(alloc, line, ROOT, body)
 }
 
-fn request_with(alloc: Global, line: &str, headers: &str, body: &str) -> Result<Request, Fail> {
+/// Returns a request with these header lines, as it is cut from its bytes.
+pub fn request_with(alloc: Global, line: &str, headers: &str, body: &str) -> Result<Request, Fail> {
     let length = body.len();
     let bytes = format!(in alloc;
         "{line} HTTP/1.1\r\n{headers}Content-Length: {length}\r\n\r\n{body}"

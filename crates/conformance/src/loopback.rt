@@ -2,7 +2,7 @@
 
 use crate::local_client::{node, request, store};
 use hub::{Hub, ServiceEnd, serve_connection};
-use server::{open_hub, serve};
+use server::{LoggedListener, open_hub, serve};
 use std::alloc::Global;
 use std::io::{Read, Write};
 use std::net::{Ipv4Addr, Shutdown, SocketAddr, TcpListener, TcpStream};
@@ -55,7 +55,15 @@ fn replies_over_a_socket_are_those_in_memory(rt: HostRuntime) -> Result<(), Fail
     let listener = listen(&rt)?;
     let mut client = send_requests(&rt, &listener)?;
     let patience = Duration::from_secs(PATIENCE);
-    assert_eq!(rt; serve(&mut make_hub(alloc)?, &listener, 1, patience), Ok(0));
+    assert_eq!(rt;
+        serve(
+            &mut make_hub(alloc)?,
+            &mut LoggedListener::new(&listener),
+            1,
+            patience
+        ),
+        Ok(0)
+    );
     let mut received = Vec::new(alloc);
     client.read_to_end(&mut received)?;
     let (written, end) = reply_in_memory(alloc)?;
@@ -77,7 +85,15 @@ fn a_silent_client_is_left(rt: HostRuntime) -> Result<(), Fail> {
     let listener = listen(&rt)?;
     let mut client = TcpStream::connect(&rt, listener.local_addr()?)?;
     let patience = Duration::from_millis(IMPATIENCE);
-    assert_eq!(rt; serve(&mut make_hub(alloc)?, &listener, 1, patience), Ok(0));
+    assert_eq!(rt;
+        serve(
+            &mut make_hub(alloc)?,
+            &mut LoggedListener::new(&listener),
+            1,
+            patience
+        ),
+        Ok(0)
+    );
     let mut received = Vec::new(alloc);
     client.read_to_end(&mut received)?;
     assert!(rt; received.is_empty());
@@ -103,6 +119,9 @@ fn a_client_that_reads_nothing_is_left(rt: HostRuntime) -> Result<(), Fail> {
         client.write_all(b"GET /db/a HTTP/1.1\r\n\r\n")?;
     }
     let patience = Duration::from_millis(IMPATIENCE);
-    assert_eq!(rt; serve(&mut hub, &listener, 1, patience), Ok(0));
+    assert_eq!(rt;
+        serve(&mut hub, &mut LoggedListener::new(&listener), 1, patience),
+        Ok(0)
+    );
     Ok(())
 }

@@ -1,6 +1,6 @@
-//! Connections that are served from a reader that fails, and to a writer that fails.
+//! Connections that are served from readers and to writers that fail, or are interrupted.
 
-use crate::broken_streams::{Breaking, Broken, Slow};
+use crate::broken_streams::{Breaking, Broken, Halting, Slow, SlowHalting, Stopped};
 use crate::local_client::{node, request, store};
 use hub::{Hub, ServiceEnd, serve_connection};
 use std::alloc::Global;
@@ -68,5 +68,32 @@ fn a_write_that_fails_ends_a_connection(rt: HostRuntime) -> Result<(), Fail> {
     let (bytes, end) = serve_slow(alloc, REPLY.len())?;
     assert_eq!(rt; end, ServiceEnd::EndOfInput);
     assert_eq!(rt; bytes.as_slice(), REPLY.as_bytes());
+    Ok(())
+}
+
+/// Interrupted reads and writes are made again: each request is answered, and the connection ends as it does
+/// without them.
+#[test]
+fn interrupted_reads_and_writes_are_made_again(rt: HostRuntime) -> Result<(), Fail> {
+    let alloc = rt.alloc();
+    let mut hub = Hub::new(alloc, node(alloc, store(alloc)?)?);
+    let mut writer = SlowHalting::new(alloc, REPLY.len());
+    let end = serve_connection(&mut hub, &mut Halting::new(SENT.as_bytes()), &mut writer);
+    assert_eq!(rt; end, ServiceEnd::EndOfInput);
+    assert_eq!(rt; writer.bytes(), REPLY.as_bytes());
+    Ok(())
+}
+
+/// A read or a write that is interrupted without end has failed.
+#[test]
+fn interruptions_without_end_end_a_connection(rt: HostRuntime) -> Result<(), Fail> {
+    let alloc = rt.alloc();
+    let mut hub = Hub::new(alloc, node(alloc, store(alloc)?)?);
+    let mut written = Vec::new(alloc);
+    let end = serve_connection(&mut hub, &mut Stopped, &mut written);
+    assert_eq!(rt; end, ServiceEnd::ReadFailed);
+    assert!(rt; written.is_empty());
+    let end = serve_connection(&mut hub, &mut SENT.as_bytes(), &mut Stopped);
+    assert_eq!(rt; end, ServiceEnd::WriteFailed);
     Ok(())
 }

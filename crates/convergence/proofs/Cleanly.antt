@@ -24,12 +24,12 @@ use Rattle.tree.proofs.EditText.{hash_of_bytes}
 use Rattle.tree.proofs.Leaves.{leaf_is_childless, winner_is_best}
 use Rattle.tree.proofs.RevisionText.{parts, read_gives}
 use Rattle.tree.proofs.Shown.{entry_of_known, found_stands, inside}
-use Rattle.store.specs.Database.{Database, DocumentWrite, IsKnownAt, history_at, with_all, with_one}
+use Rattle.store.specs.Database.{Database, DocumentWrite, IsKnownAt, history_at, with_one}
 use Rattle.write.specs.Admission.{base, edit_of, edit_path, extended_leaf, named_revision, revision_after, with_named_revision}
 use Rattle.write.specs.Document.{Ancestry, ancestry_alone, ancestry_by, body_for, body_in, count, fits_id, is_special, mark_in, onto, path_of, revision_in, revisions_in, sent_in, sent_with, without_special, words_in}
 use Rattle.write.specs.Terms.{Terms}
 use Rattle.write.proofs.Outcomes.{IsEdit, IsReplicated}
-use Rattle.convergence.specs.Sound.{IsReplicable, are_plain, is_plain}
+use Rattle.convergence.specs.Sound.{AreWritable, IsReplicable, are_plain, is_plain}
 use Rattle.convergence.proofs.Replicas.{after_write}
 use Rattle.convergence.proofs.Sayings.{along, given_path, kept_body, newest_given, said_of, suited}
 use Rattle.convergence.proofs.Writings.{held_in, held_known}
@@ -81,19 +81,19 @@ held_or_brought h w s d e = by (is_known h s) refl
         ap (λ (b : Bool). cond b (get h s) (find revision_cmp s (write_entries w))) (sym is) ∙ sym (entry_after_write h w s) ∙ x.1 in
         inr (inside (held_by w) d (said_of_entry w.path (Some (held_by w)) s x.0 d found (ap held_in (sym x.1) ∙ e)))
 
+-- what a clean write leaves can be written
+pub one_writable : (db : Database) (w : DocumentWrite) → AreWritable db → IsClean db w → AreWritable (with_one db w)
+one_writable db w h k id r =
+    after_write (λ x. is_known x r ≡ true → IsTrue (is_revision r)) db w id (λ e. h id r e)
+    (λ same e. ⊎_elim (λ old. h id r old) (λ in_path. ⊎_elim (λ old. h w.id r old) (λ good. good) (k.path r in_path)) (known_or_stands (history_at db id) w.write r e))
+
 pub one_stays : (db : Database) (w : DocumentWrite) → IsReplicable db → IsClean db w → IsReplicable (with_one db w)
 one_stays db w h k = record {
   plain = λ id r d.
       after_write (λ x. held_of x r ≡ Some d → is_plain d.body ≡ true) db w id (λ e. h.plain id r d e)
       (λ same e. ⊎_elim (λ old. h.plain id r d old) (λ new. ap (λ (x : Held). is_plain x.body) (sym new) ∙ k.body) (held_or_brought (history_at db id) w.write r d e));
-  writable = λ id r.
-      after_write (λ x. is_known x r ≡ true → IsTrue (is_revision r)) db w id (λ e. h.writable id r e)
-      (λ same e. ⊎_elim (λ old. h.writable id r old) (λ in_path. ⊎_elim (λ old. h.writable w.id r old) (λ good. good) (k.path r in_path)) (known_or_stands (history_at db id) w.write r e));
+  writable = one_writable db w h.writable k;
 }
-
-pub all_stay : (ws : List DocumentWrite) (db : Database) → IsReplicable db → AreClean db ws → IsReplicable (with_all db ws)
-all_stay [] db h k = h
-all_stay (w ∷ ws) db h k = all_stay ws (with_one db w) (one_stays db w h k.0) k.1
 
 -- ---- bodies
 
@@ -217,15 +217,15 @@ next_known rev deleted body parent r e = by (number_before parent == greatest_nu
     by true is k = absurd cc
     by false is k = (λ same. false≢true (sym is ∙ eq-eqb (number_before parent) greatest_number same), inside (next_revision parent deleted body) r k)
 
-pub edit_clean : (terms : Terms) (db : Database) (id : List ℕ) (query : Option Revision) (document : Value) (w : DocumentWrite) → IsReplicable db
+pub edit_clean : (terms : Terms) (db : Database) (id : List ℕ) (query : Option Revision) (document : Value) (w : DocumentWrite) → AreWritable db
     → IsEdit terms id (history_at db id) query document w → IsClean db w
-edit_clean terms db id query document w clean k =
+edit_clean terms db id query document w writable k =
     let h = history_at db id in
     let next = next_known k.sent.rev k.sent.deleted k.sent.body k.parent k.rev k.makes in
     let good : IsTrue (is_revision k.rev) =
     subst (λ (r : Revision). IsTrue (is_revision r)) next.1
     (next_good k.parent k.sent.deleted k.sent.body
-    (follow_low k.parent (λ r is. clean.writable id r (base_known h k.sent.rev r (k.follows ∙ ap (λ (o : Option Revision). Some o) is))) next.0)) in
+    (follow_low k.parent (λ r is. writable id r (base_known h k.sent.rev r (k.follows ∙ ap (λ (o : Option Revision). Some o) is))) next.0)) in
     let path : (s : Revision) → StandsIn (edit_path h k.parent k.rev) s → IsKnownAt db id s ⊎ IsTrue (is_revision s) =
     λ s i. ⊎_elim (λ e. inr (subst (λ (r : Revision). IsTrue (is_revision r)) e good)) (λ j. inl (stands_known h k.parent s j)) i in
     subst (IsClean db) (sym k.is) (record { body = edit_plain id query document k.sent.rev k.sent.deleted k.sent.body k.says; path = path })

@@ -35,11 +35,11 @@ use Rattle.convergence.proofs.Writings.{kept_held, kept_known, kept_parent}
 -- ---- documents that a pass carries
 
 -- the database shows the document as one of its revisions
-record IsShown (db : Database) (v : Value) : Type 0 where
-  id : List ℕ
-  shown : IsShownBy db id v
+pub record IsShown (db : Database) (v : Value) : Type 0 where
+  pub id : List ℕ
+  pub shown : IsShownBy db id v
 
-abbrev AreShown : Database → List Value → Type 0
+abbrev pub AreShown : Database → List Value → Type 0
 AreShown db documents = AllByRecursion (IsShown db) documents
 
 shown_more : (db : Database) (vs ws : List Value) → AreShown db vs → AreShown db ws → AreShown db (vs ++ ws)
@@ -50,7 +50,7 @@ shown_under : (db : Database) (id : List ℕ) (vs : List Value) → AllByRecursi
 shown_under db id [] h = tt
 shown_under db id (v ∷ vs) h = (record { id = id; shown = h.0 }, shown_under db id vs h.1)
 
-all_shown_still : (old new : Database) → IsSound old → KeepsAll old new → (vs : List Value) → AreShown old vs → AreShown new vs
+pub all_shown_still : (old new : Database) → IsSound old → KeepsAll old new → (vs : List Value) → AreShown old vs → AreShown new vs
 all_shown_still old new sound keeps [] h = tt
 all_shown_still old new sound keeps (v ∷ vs) h = (record { id = h.0.id; shown = shown_still old new h.0.id v sound keeps h.0.shown }, all_shown_still old new sound keeps vs h.1)
 
@@ -60,11 +60,11 @@ one_comes db sound [] w h said = absurd said
 one_comes db sound (v ∷ vs) w h (inl said) = shown_is_said db h.0.id v w sound h.0.shown said
 one_comes db sound (v ∷ vs) w h (inr said) = one_comes db sound vs w h.1 said
 
-all_come : (db : Database) → IsSound db → (vs : List Value) → AreShown db vs → (ws : List DocumentWrite) → AllByRecursion (IsSaidByOne vs) ws → AllByRecursion (ComesFrom db) ws
+pub all_come : (db : Database) → IsSound db → (vs : List Value) → AreShown db vs → (ws : List DocumentWrite) → AllByRecursion (IsSaidByOne vs) ws → AllByRecursion (ComesFrom db) ws
 all_come db sound vs h [] said = tt
 all_come db sound vs h (w ∷ ws) said = (one_comes db sound vs w h said.0, all_come db sound vs h ws said.1)
 
-pushed_shown : (db : Database) (f : Phase) (p : Pass) → AreShown db p.documents → AreShown db (pushed_in f p)
+pub pushed_shown : (db : Database) (f : Phase) (p : Pass) → AreShown db p.documents → AreShown db (pushed_in f p)
 pushed_shown db ReadSource p h = tt
 pushed_shown db ReadTarget p h = tt
 pushed_shown db ListChanges p h = tt
@@ -108,7 +108,7 @@ answered_carried db RereadTarget p status body brings h = keeps_carried db with_
 answered_carried db Done p status body brings h = h
 answered_carried db (Stopped why) p status body brings h = h
 
-carried : (db : Database) (p : Pass) (t : Turn) → BringsShown p.phase p db t → AreShown db p.documents → AreShown db (after_turn p t).documents
+pub carried : (db : Database) (p : Pass) (t : Turn) → BringsShown p.phase p db t → AreShown db p.documents → AreShown db (after_turn p t).documents
 carried db p (answered status body) brings h = answered_carried db p.phase p status body brings h
 carried db p lost brings h = lost_by (λ (q : Pass). AreShown db q.documents) p.phase p h h h
 
@@ -174,7 +174,7 @@ listed_on (Stopped why) t s s' d d' listed vs same keeps h = side_on s s' d d' l
 
 -- ---- a turn
 
-appends_keep : (documents : List Value) (old new : Database) → Appends documents old new → KeepsAll old new
+pub appends_keep : (documents : List Value) (old new : Database) → Appends documents old new → KeepsAll old new
 appends_keep documents old new a = keeps_still old (with_all old a.writes) new (all_keep a.writes old) (same_keeps (with_all old a.writes) new a.left)
 
 -- the side of the pass that has a turn, the other side, and their agreement
@@ -214,7 +214,7 @@ turned t old new waiting vs is own waits agree =
       agree = same_agree old.source (with_all old.target is.target.writes) new.source new.target is.source is.target.left replica.agree;
     }
 
-agree_back : (a b : Database) → Agree a b → Agree b a
+pub agree_back : (a b : Database) → Agree a b → Agree b a
 agree_back a b agree id = agrees_back (history_at a id) (history_at b id) (agree id)
 
 -- a pass that waits carries what it carried, and listed what it listed
@@ -257,14 +257,14 @@ went_holds c d ms now went one other agree =
 
 -- ---- each pass alone
 
-later_same : (old new : Database) → KeepsDocuments old new → IsLater old new
+pub later_same : (old new : Database) → KeepsDocuments old new → IsLater old new
 later_same old new k = record {
   grown = omega (arith, k.length);
   known = λ id r known. known_same old new (same_keeps old new k) id r known;
   unchanged = λ id early. ap (λ (ds : TextMap Document). get ds id) k.documents;
 }
 
-later_appends : (documents : List Value) (old new : Database) → Appends documents old new → IsLater old new
+pub later_appends : (documents : List Value) (old new : Database) → Appends documents old new → IsLater old new
 later_appends documents old new a = later_still old (with_all old a.writes) new (later_by_all a.writes old) (later_same (with_all old a.writes) new a.left)
 
 follows_turn : (t : Turn) (old new : Scene) → IsTurn t old new → Follows (turn t) old new
@@ -310,7 +310,7 @@ written_at db s id r known = by (get db.documents id) refl known
     by None is k = absurd (let none : get empty r ≡ None = get-empty {X = Entry} revision_cmp r in let z : false ≡ true = ap is_some (sym none) ∙ k in cc)
     by (Some d) is k = subst (λ (o : Option Document). 1 ≤ sequence_in o) (sym is) (s.sequences.positive id d is)
 
-known_or_none : (known : Bool) (id : List ℕ) (r : Revision) (refused : List Value) → refused ≡ [] → (known || is_reported id r refused) ≡ true → known ≡ true
+pub known_or_none : (known : Bool) (id : List ℕ) (r : Revision) (refused : List Value) → refused ≡ [] → (known || is_reported id r refused) ≡ true → known ≡ true
 known_or_none true id r refused none e = refl
 known_or_none false id r refused none e = ap (is_reported id r) (sym none) ∙ e
 

@@ -1,5 +1,5 @@
 -- What a request of a pass makes of its two databases at the nodes of a network.
-use Rattle.std.proofs.Common.{◌≡◌, ◌≢◌, ⊎_elim, ℕ, List, [], false, Option, Some, sym, ap, ◌∙◌, subst}
+use Rattle.std.proofs.Common.{◌≡◌, ◌≢◌, ⊎_elim, ℕ, List, [], false, Option, Some, refl, sym, ap, ◌∙◌, subst}
 use Rattle.std.specs.Prelude.{⊤}
 use Rattle.std.specs.List.{AllByRecursion, slice_get}
 use Rattle.std.specs.FinMap.{get}
@@ -23,8 +23,8 @@ use Rattle.repl.specs.declared.side.Side.TheVariants.{Source, Target}
 use Rattle.world.specs.Keeping.{IsAt}
 use Rattle.world.specs.Network.{Transfer}
 use Rattle.world.specs.Service.{IsHandled}
-use Rattle.completion.specs.Finished.{IsTold}
-use Rattle.completion.proofs.Keepings.{LawfulAt}
+use Rattle.completion.specs.Finished.{IsTold, database_at, database_of_node, found_or_new}
+use Rattle.completion.proofs.Keepings.{LawfulAt, at_found}
 use Rattle.completion.proofs.Places.{set_elsewhere, set_here}
 use Rattle.completion.proofs.Sound.{IsSound, first_texts, id_bytes, list_bytes, list_lawful, pushes_lawfully}
 use Rattle.convergence.specs.Appended.{Appends, IsShownBy, KeepsDocuments}
@@ -50,27 +50,42 @@ one_at nodes place name a b x y =
     let same : x.node ≡ y.node = one_node x.node y.node (sym x.there ∙ y.there) in
     one_database a b (sym x.holds ∙ ap (λ (n : Serving Contents). get n.store name) same ∙ y.holds)
 
+-- the database of a name at a node that is there, or a new one
+found_by : (nodes : Nodes) (place : ℕ) (name : List ℕ) (node : Serving Contents) → slice_get nodes place ≡ Some node → database_at nodes place name ≡ found_or_new (get node.store name)
+found_by nodes place name node there = ap (λ (o : Option (Serving Contents)). found_or_new (database_of_node o name)) there
+
+-- what became of a database that is there, or of a new one
+abbrev pub into : (old : Nodes) (place : ℕ) (name : List ℕ) (new : Nodes) (how : Database → Database → Type 0) → BecomesAt old place name new how → (db : Database) → database_at old place name ≡ db
+    → (now : Database) × (database_at new place name ≡ now) × how db now
+into old place name new how b db at = (database_at new place name, refl, subst (λ (x : Database). how x (database_at new place name)) at b.0)
+
 -- ---- one node handles a request
 
 module _ (old new : Nodes) (place : ℕ) (m : Message) (r : Reply) (h : IsHandled Steps old place m r new) where
   abbrev after : Serving Contents
   after = record h.node { store = h.after }
 
-  node_after : slice_get new place ≡ Some after
+  pub node_after : slice_get new place ≡ Some after
   node_after = ap (λ (xs : Nodes). slice_get xs place) h.left ∙ set_here old place h.node after h.there
 
   -- the database of a name at this node
   pub here : (name : List ℕ) (how : Database → Database → Type 0) → Becomes h.node.store name h.after how → BecomesAt old place name new how
-  here name how becomes db at =
-      let same : at.node ≡ h.node = one_node at.node h.node (sym at.there ∙ h.there) in
-      let k = becomes db (ap (λ (n : Serving Contents). get n.store name) (sym same) ∙ at.holds) in
-      (k.0, record { node = after; there = node_after; holds = k.1 }, k.2)
+  here name how becomes = (
+    subst (λ (x : Database). how x (database_at new place name)) (sym (found_by old place name h.node h.there))
+        (subst (λ (x : Database). how (found_or_new (get h.node.store name)) x) (sym (found_by new place name after node_after)) becomes.0),
+    λ db at.
+        let same : at.node ≡ h.node = one_node at.node h.node (sym at.there ∙ h.there) in
+        let k = becomes.1 db (ap (λ (n : Serving Contents). get n.store name) (sym same) ∙ at.holds) in
+        (k.0, record { node = after; there = node_after; holds = k.1 }),
+  )
 
   -- the databases of other nodes
   pub elsewhere : (q : ℕ) (name : List ℕ) → q ≢ place → BecomesAt old q name new KeepsDocuments
-  elsewhere q name apart db at =
-      let there : slice_get new q ≡ Some at.node = ap (λ (xs : Nodes). slice_get xs q) h.left ∙ set_elsewhere old place q after apart ∙ at.there in
-      (db, record { node = at.node; there = there; holds = at.holds }, same_documents db)
+  elsewhere q name apart =
+      let same : slice_get new q ≡ slice_get old q = ap (λ (xs : Nodes). slice_get xs q) h.left ∙ set_elsewhere old place q after apart in (
+        subst (λ (x : Database). KeepsDocuments (database_at old q name) x) (ap (λ (o : Option (Serving Contents)). found_or_new (database_of_node o name)) (sym same)) (same_documents (database_at old q name)),
+        λ db at. (db, record { node = at.node; there = same ∙ at.there; holds = at.holds }),
+      )
 
   -- where the step writes nowhere, no database is written
   pub anywhere : (q : ℕ) (name : List ℕ) → WritesNowhere h.node.store h.after → BecomesAt old q name new KeepsDocuments
@@ -89,17 +104,18 @@ module _ (old new : Nodes) (place : ℕ) (m : Message) (r : Reply) (h : IsHandle
 
 -- ---- a call of a pass
 
--- what becomes of a pass's two databases
+-- what becomes of a pass's two databases, and of all others
 pub record BothBecome (t : Transfer) (k : Configuration) (documents : List Value) (old new : Nodes) : Type 0 where
   pub source : BecomesAt old t.from k.source_db new KeepsDocuments
   pub target : BecomesAt old t.to k.target_db new (Appends documents)
+  pub others : (q : ℕ) (name : List ℕ) → (q ≡ t.to → name ≢ k.target_db) → BecomesAt old q name new KeepsDocuments
   pub lawful : LawfulAt old → LawfulAt new
 
 pub appends_none : (documents : List Value) (db now : Database) → KeepsDocuments db now → Appends documents db now
 appends_none documents db now k = record { writes = []; said = tt; acceptable = tt; left = k }
 
 pub becomes_more : (old new : Nodes) (place : ℕ) (name : List ℕ) (documents : List Value) → BecomesAt old place name new KeepsDocuments → BecomesAt old place name new (Appends documents)
-becomes_more old new place name documents b db at = let k = b db at in (k.0, k.1, appends_none documents db k.0 k.2)
+becomes_more old new place name documents b = (appends_none documents (database_at old place name) (database_at new place name) b.0, b.1)
 
 module _ (t : Transfer) (k : Configuration) (told : IsTold k) (apart : t.from ≡ t.to → k.source_db ≢ k.target_db) (old new : Nodes) (r : Reply) where
   pub quiet : (place : ℕ) (side : Side) (call : Call) → is_push call ≡ false → AsksLawfully call → IsHandled Steps old place (request_of k side call) r new → BothBecome t k [] old new
@@ -108,6 +124,7 @@ module _ (t : Transfer) (k : Configuration) (told : IsTold k) (apart : t.from �
       record {
         source = anywhere old new place (request_of k side call) r h t.from k.source_db nowhere;
         target = becomes_more old new t.to k.target_db [] (anywhere old new place (request_of k side call) r h t.to k.target_db nowhere);
+        others = λ q name away. anywhere old new place (request_of k side call) r h q name nowhere;
         lawful = lawful_after old new place (request_of k side call) r h;
       }
 
@@ -115,21 +132,25 @@ module _ (t : Transfer) (k : Configuration) (told : IsTold k) (apart : t.from �
   pushed documents lawful h =
       let m = request_of k Target (push_documents documents) in
       let p = push_appends h.node.configuration h.node.store k Target documents r h.after told.target_db (pushes_lawfully documents lawful) h.handled in
+      let others : (q : ℕ) (name : List ℕ) → (q ≡ t.to → name ≢ k.target_db) → BecomesAt old q name new KeepsDocuments =
+      λ q name away.
+      ⊎_elim
+      (λ e. subst (λ (x : ℕ). BecomesAt old x name new KeepsDocuments) (sym e) (here old new t.to m r h name KeepsDocuments (p.1 name (away e))))
+      (λ e. elsewhere old new t.to m r h q name e) (cases_eq q t.to) in
       record {
-        source = ⊎_elim
-            (λ e. subst (λ (x : ℕ). BecomesAt old x k.source_db new KeepsDocuments) (sym e) (here old new t.to m r h k.source_db KeepsDocuments (p.1 k.source_db (apart e))))
-            (λ e. elsewhere old new t.to m r h t.from k.source_db e) (cases_eq t.from t.to);
+        source = others t.from k.source_db apart;
         target = here old new t.to m r h k.target_db (Appends documents) p.0;
+        others = others;
         lawful = lawful_after old new t.to m r h;
       }
 
 -- ---- the documents that are opened
 
-pub opens_shown : (k : Configuration) (told : IsTold k) (place : ℕ) (p : Pass) (old new : Nodes) (r : Reply) (db : Database) → IsSound p
-    → IsHandled Steps old place (request_of k Source (open_revisions (first_of_pending p.pending))) r new → IsAt old place k.source_db db → OpensShown db p r.status r.body
-opens_shown k told place p old new r db sound h at opened e =
+pub opens_shown : (k : Configuration) (told : IsTold k) (place : ℕ) (p : Pass) (old new : Nodes) (r : Reply) → IsSound p
+    → IsHandled Steps old place (request_of k Source (open_revisions (first_of_pending p.pending))) r new → OpensShown (database_at old place k.source_db) p r.status r.body
+opens_shown k told place p old new r sound h opened e =
     let row = first_of_pending p.pending in
     let texts = first_texts p.pending sound.pending in
     let s = opened_shown h.node.configuration h.node.store k row opened r h.after told.source_db (id_bytes row texts) (list_bytes row texts) (list_lawful row texts) h.handled e in
-    let same : s.db ≡ db = one_at old place k.source_db s.db db (record { node = h.node; there = h.there; holds = s.there }) at in
+    let same : s.db ≡ database_at old place k.source_db = sym (at_found old place k.source_db s.db (record { node = h.node; there = h.there; holds = s.there })) in
     subst (λ (x : Database). AllByRecursion (IsShownBy x row.id) (documents_of opened)) same s.says

@@ -21,9 +21,9 @@ use Rattle.world.specs.Service.{HandlingOf, IsHandled}
 use Rattle.completion.specs.Finished.{ListsLastIn, database_at, database_of_node, found_or_new}
 use Rattle.completion.specs.Runs.{Run}
 use Rattle.completion.proofs.Settlements.{done_owes}
-use Rattle.convergence.specs.Replicable.{AreAllReplicable, DonePassesOweNoLeaf}
-use Rattle.convergence.specs.Sound.{IsReplicable}
-use Rattle.convergence.proofs.Replicables.{runs_keep}
+use Rattle.convergence.specs.Replicable.{AreAllWritable, DonePassesOweNoLeaf}
+use Rattle.convergence.specs.Sound.{AreWritable}
+use Rattle.convergence.proofs.Replicables.{runs_keep_writable}
 
 -- the events up to the last list
 up_to : {S : Type 0} (handling : HandlingOf S) (n : ℕ) (hs : List Happening) (old : Network S) (seen : List Sight) (new : Network S) (p : PlaysBy handling old hs seen new) (listed : Network S)
@@ -35,7 +35,7 @@ up_to handling n (h ∷ hs) old seen new (first, others, between, here, later, o
     record { happenings = h ∷ rest.happenings; seen = first ++ rest.seen; played = (first, rest.seen, between, here, rest.played, refl) }
 
 -- each leaf of a database of such a node is a revision
-leaf_writable : (nodes : List (Serving Contents)) → AreAllReplicable nodes → (place : ℕ) (name id : List ℕ) (r : Revision) → IsTrue (is_leaf (history_at (database_at nodes place name) id) r) → IsTrue (is_revision r)
+leaf_writable : (nodes : List (Serving Contents)) → AreAllWritable nodes → (place : ℕ) (name id : List ℕ) (r : Revision) → IsTrue (is_leaf (history_at (database_at nodes place name) id) r) → IsTrue (is_revision r)
 leaf_writable nodes all place name id r leaf = by (slice_get nodes place) refl leaf
   where
     known : (db : Database) → IsTrue (is_leaf (history_at db id) r) → is_known (history_at db id) r ≡ true
@@ -45,9 +45,9 @@ leaf_writable nodes all place name id r leaf = by (slice_get nodes place) refl l
     none =
         ap (λ (d : Option Document). is_known (history_in d) r) (get-empty {X = Document} (slice_cmp nat_cmp) id) ∙ ap (λ (e : Option Entry). is_some e) (get-empty {X = Entry} revision_cmp r)
 
-    found : (db : Option Database) → ((d : Database) → db ≡ Some d → IsReplicable d) → IsTrue (is_leaf (history_at (found_or_new db) id) r) → IsTrue (is_revision r)
+    found : (db : Option Database) → ((d : Database) → db ≡ Some d → AreWritable d) → IsTrue (is_leaf (history_at (found_or_new db) id) r) → IsTrue (is_revision r)
     found None rep l = absurd (false≢true (sym none ∙ known new_database l))
-    found (Some d) rep l = (rep d refl).writable id r (known d l)
+    found (Some d) rep l = rep d refl id r (known d l)
 
     by : (o : Option (Serving Contents)) → slice_get nodes place ≡ o → IsTrue (is_leaf (history_at (found_or_new (database_of_node o name)) id) r) → IsTrue (is_revision r)
     by None at l = found None (λ d e. absurd (cc)) l
@@ -57,4 +57,4 @@ pub done_owe_no_leaf : DonePassesOweNoLeaf
 done_owe_no_leaf n t start listed now later run more p q begins all kept lists at done further stands id r leaf above =
     let before = up_to (λ who. IsHandled Steps) n run.happenings start run.seen now run.played listed lists in
     done_owes n t start listed now later run more p q begins kept lists at done further stands id r
-    (leaf_writable listed.nodes (runs_keep start listed before all) t.from t.pass.configuration.source_db id r leaf) leaf above
+    (leaf_writable listed.nodes (runs_keep_writable start listed before all) t.from t.pass.configuration.source_db id r leaf) leaf above

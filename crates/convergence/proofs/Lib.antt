@@ -10,7 +10,13 @@ pub mod Opened
 pub mod Cleanly
 pub mod Replicables
 pub mod Leafless
+pub mod WritableNodes
 pub mod Handlings
 pub mod Turnings
+pub mod Others
 pub mod Plays
 pub mod Sparings
+pub mod Ways
+pub mod Growing
+pub mod Groups
+pub mod CaughtUp

@@ -1,29 +1,20 @@
 -- The documents of opened revisions are shown by the source.
-use Rattle.std.proofs.Common.{◌≡◌, ◌≤◌, inl, inr, ℕ, List, [], ◌∷◌, map, true, Option, Some, None, option_map, refl, sym, ap, ◌∙◌, subst, arith}
+use Rattle.std.proofs.Common.{◌≡◌, ℕ, List, [], ◌∷◌, map, true, Option, Some, None, option_map, refl, sym, ap, ◌∙◌, subst, arith}
 use Rattle.std.specs.List.{AllByRecursion}
-use Rattle.auth.specs.Callers as auth
-use Rattle.couch_http.specs.Message.{Message}
 use Rattle.couch_http.specs.Reply.{Reply}
-use Rattle.couch_json.specs.Lawful.{IsLawful}
 use Rattle.couch_json.specs.Reading.{reading}
-use Rattle.couch_json.specs.Value.{Value, object}
-use Rattle.couch_json.specs.View.{items_of}
+use Rattle.couch_json.specs.Value.{Value}
 use Rattle.couch_json.proofs.ReadingBack.{what_was_read}
-use Rattle.tree.specs.History.{HistoryContent, held_of}
-use Rattle.tree.specs.Revision.{Revision, text_of}
-use Rattle.tree.specs.ShownDocument.{shown_members}
+use Rattle.tree.specs.History.{held_of}
+use Rattle.tree.specs.Revision.{Revision}
 use Rattle.tree.specs.declared.entry.Held.{Held}
-use Rattle.store.specs.Contents.{Contents}
 use Rattle.store.specs.Database.{Database, history_at}
-use Rattle.read.specs.OpenRevisions.{element, open_revision, open_revisions}
-use Rattle.read.specs.Path.{with_revisions}
+use Rattle.read.specs.OpenRevisions.{open_revisions}
 use Rattle.node.specs.Answer.{Outcome, answer, with_change}
-use Rattle.node.specs.Runs.{Steps}
-use Rattle.node.specs.Step.{reply_to}
 use Rattle.repl.specs.Calls as call
 use Rattle.repl.specs.Calls.{Revisions, request_of}
-use Rattle.repl.specs.Replies.{Opened, document, documents_of, missing, opened_in}
-use Rattle.repl.specs.Shapes.{before, each_in, list_in}
+use Rattle.repl.specs.Replies.{Opened, documents_of, opened_in}
+use Rattle.repl.specs.Shapes.{list_in}
 use Rattle.repl.specs.declared.side.Side.TheVariants.{Source}
 use Rattle.passes.proofs.Elements.{all_read, read_by, shown}
 use Rattle.passes.proofs.Opening.{opened_by}

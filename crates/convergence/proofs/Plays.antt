@@ -1,5 +1,5 @@
 -- A run of a network in which two passes alone write is a crossing of the two.
-use Rattle.std.proofs.Common.{◌≡◌, ◌≢◌, ◌≤◌, ◌⊎◌, ⊎_elim, inl, inr, ℕ, Bool, true, false, List, [], ◌∷◌, ◌++◌, Option, Some, None, refl, sym, ap, ◌∙◌, subst}
+use Rattle.std.proofs.Common.{◌≡◌, ◌≢◌, ◌≤◌, ◌⊎◌, ⊎_elim, inl, inr, ℕ, List, [], ◌∷◌, ◌++◌, Option, Some, None, refl, sym, ap, ◌∙◌, subst}
 use Rattle.std.specs.Prelude.{IfSome}
 use Rattle.std.specs.Coded.{Coded-set, coded_list, coded_option}
 use Rattle.std.proofs.Math.Bool.{Bool-set}
@@ -12,33 +12,32 @@ use Rattle.tree.specs.HistoryCode.{held_code}
 use Rattle.tree.specs.Revision.{revision_code}
 use Rattle.store.specs.Database.{Database, history_at}
 use Rattle.node.specs.Runs.{Steps}
-use Rattle.hub.specs.Arrival.{Arrival, fault_on, request_on}
 use Rattle.repl.specs.Configuration.{Configuration}
-use Rattle.repl.specs.Passes.{Asked, Pass, asked_of, done, stopped_by, to_source, to_target}
+use Rattle.repl.specs.Passes.{Pass, asked_of}
 use Rattle.repl.specs.Turns.{after_turn}
 use Rattle.passes.specs.Owed.{listed_after}
-use Rattle.world.specs.Exchanging.{IsAskedBy, IsCarriedBy, IsMadeBy}
+use Rattle.world.specs.Exchanging.{IsAskedBy}
 use Rattle.world.specs.Happening.{Happening, Sight, comes, exchanges}
-use Rattle.world.specs.Keeping.{IsAt}
+use Rattle.world.specs.Keeping.{StaysAt}
 use Rattle.world.specs.Network.{Network, Transfer, transfer_at}
 use Rattle.world.specs.Playing.{HappensBy, PlaysBy}
-use Rattle.world.specs.Service.{Asker, IsAnsweredBy, IsHandled, IsServiceBy, SeenReply, by_pass, on_connection, HandlingOf}
+use Rattle.world.specs.Service.{Asker, IsHandled, HandlingOf}
 use Rattle.world.specs.declared.fate.Fate.{Fate}
-use Rattle.world.specs.declared.fate.Fate.TheVariants.{Answered, ReplyLost, RequestLost}
 use Rattle.completion.specs.Requests.{requests_of}
 use Rattle.completion.specs.Runs.{Run, RunOf}
 use Rattle.completion.proofs.Again.{run_again}
-use Rattle.completion.specs.Finished.{IsTold}
-use Rattle.completion.proofs.Keepings.{LawfulAt, all_lawful}
+use Rattle.completion.specs.Finished.{IsTold, database_at, source_of, target_of}
+use Rattle.completion.proofs.Keepings.{LawfulAt, all_lawful, lawful_at}
 use Rattle.completion.proofs.Places.{one_transfer, passed_elsewhere, passed_here}
 use Rattle.completion.proofs.Sound.{IsSound as IsSoundPass, first_sound}
 use Rattle.convergence.specs.Agreement.{HaveSameTree}
 use Rattle.convergence.specs.Appended.{KeepsDocuments}
 use Rattle.convergence.specs.Converged.{HasCopiedAll, IsPair}
 use Rattle.convergence.specs.Crossing.{Crossed, Crosses, Crossing, Move, goes_back, goes_there, others}
-use Rattle.convergence.specs.Networks.{AreAhead, AreEnds, AreOpposite, AreTheirs, BecomesAt, Course, HasEnded, IsAhead, IsArranged, IsOneOf, KeepsBoth, PassesOfANetworkConverge, Stage, StaysOrStarts, arranges, runs, AreReconcilable, CoursesKeepAgreement, CoursesKeepBoth}
+use Rattle.convergence.specs.Networks.{AreAhead, AreOpposite, AreTheirs, BecomesAt, Course, HasEnded, IsAhead, IsArranged, IsOneOf, KeepsBoth, PassesOfANetworkConverge, Stage, StaysOrStarts, arranges, runs, AreReconcilable, CoursesKeepAgreement, CoursesKeepBoth}
 use Rattle.convergence.specs.Sound.{IsReplicable, IsSound}
-use Rattle.convergence.proofs.Handlings.{Nodes, lawful_after, one_at}
+use Rattle.convergence.proofs.Handlings.{Nodes, into, lawful_after}
+use Rattle.convergence.proofs.Others.{others_asked, others_service}
 use Rattle.convergence.proofs.Quiet.{same_documents}
 use Rattle.convergence.proofs.Crossings.{keep_pair, two_converge}
 use Rattle.passes.proofs.Rounds.{turn_configured}
@@ -64,14 +63,18 @@ record Spares (t : Transfer) (old new : Nodes) : Type 0 where
 documents_still : (a b c : Database) → KeepsDocuments a b → KeepsDocuments b c → KeepsDocuments a c
 documents_still a b c h g = record { length = g.length ∙ h.length; documents = g.documents ∙ h.documents }
 
-becomes_still : (place : ℕ) (name : List ℕ) (a b c : Nodes) → BecomesAt a place name b KeepsDocuments → BecomesAt b place name c KeepsDocuments → BecomesAt a place name c KeepsDocuments
-becomes_still place name a b c first then db at =
-    let k = first db at in
-    let l = then k.0 k.1 in
-    (l.0, l.1, documents_still db k.0 l.0 k.2 l.2)
+pub stays_still : (a b c : Nodes) (place : ℕ) (name : List ℕ) → StaysAt a b place name → StaysAt b c place name → StaysAt a c place name
+stays_still a b c place name first then db at = let k = first db at in then k.0 k.1
+
+pub as_is : (a : Nodes) (place : ℕ) (name : List ℕ) → BecomesAt a place name a KeepsDocuments
+as_is a place name = (same_documents (database_at a place name), λ db at. (db, at))
+
+pub becomes_still : (place : ℕ) (name : List ℕ) (a b c : Nodes) → BecomesAt a place name b KeepsDocuments → BecomesAt b place name c KeepsDocuments → BecomesAt a place name c KeepsDocuments
+becomes_still place name a b c first then =
+    (documents_still (database_at a place name) (database_at b place name) (database_at c place name) first.0 then.0, stays_still a b c place name first.1 then.1)
 
 spares_itself : (t : Transfer) (a : Nodes) → Spares t a a
-spares_itself t a = record { lawful = λ h. h; both = (λ db at. (db, at, same_documents db), λ db at. (db, at, same_documents db)) }
+spares_itself t a = record { lawful = λ h. h; both = (as_is a t.from t.pass.configuration.source_db, as_is a t.to t.pass.configuration.target_db) }
 
 spares_still : (t : Transfer) (a b c : Nodes) → Spares t a b → Spares t b c → Spares t a c
 spares_still t a b c h g = record {
@@ -79,53 +82,11 @@ spares_still t a b c h g = record {
   both = (becomes_still t.from t.pass.configuration.source_db a b c h.both.0 g.both.0, becomes_still t.to t.pass.configuration.target_db a b c h.both.1 g.both.1);
 }
 
-module _ (p q : ℕ) (t : Transfer) where
-  spared : (who : Asker) (old : Nodes) (place : ℕ) (m : Message) (r : Reply) (new : Nodes) → (IsOneOf p q who → ⊥) → Only p q t who old place m r new → Spares t old new
-  spared who old place m r new none h = record { lawful = lawful_after old new place m r h.0; both = ⊎_elim (λ k. absurd (none k)) (λ k. k) h.1 }
+abbrev IsOther : ℕ → ℕ → Asker → Type 0
+IsOther p q who = IsOneOf p q who → ⊥
 
-  spared_answer : (homes : List ℕ) (old new : Nodes) (a : Arrival) (s : SeenReply) → IsAnsweredBy (Only p q t) homes old a s new → Spares t old new
-  spared_answer homes old new (request_on conn m) s h = spared (on_connection conn) old _ m s.reply new (λ none. none) h.1
-  spared_answer homes old new (fault_on conn f) s h = subst (λ (x : Nodes). Spares t old x) (sym h.2) (spares_itself t old)
-
-  spared_service : (homes : List ℕ) (old new : Nodes) (xs : List Arrival) (ss : List SeenReply) → IsServiceBy (Only p q t) homes old xs ss new → Spares t old new
-  spared_service homes old new [] [] h = subst (λ (x : Nodes). Spares t old x) (sym h) (spares_itself t old)
-  spared_service homes old new [] (s ∷ ss) h = absurd h
-  spared_service homes old new (x ∷ xs) [] h = absurd h
-  spared_service homes old new (x ∷ xs) (s ∷ ss) h = spares_still t old h.0 new (spared_answer homes old h.0 x s h.1) (spared_service homes h.0 new xs ss h.2)
-
-  spared_carried : (who : Asker) (fate : Fate) (old new : Nodes) (place : ℕ) (m : Message) (before : Pass) (status : ℕ) (after : Pass) → (IsOneOf p q who → ⊥)
-      → IsCarriedBy (Only p q t who) fate old place m before status new after → Spares t old new
-  spared_carried who Answered old new place m before status after none c = spared who old place m c.reply new none c.handled
-  spared_carried who ReplyLost old new place m before status after none c = spared who old place m c.reply new none c.handled
-  spared_carried who RequestLost old new place m before status after none c = subst (λ (x : Nodes). Spares t old x) (sym c.0) (spares_itself t old)
-
--- an exchange of another pass: the nodes are spared, and these two passes stay
-record Passes (t : Transfer) (p q : ℕ) (old new : Network Contents) : Type 0 where
-  spares : Spares t old.nodes new.nodes
-  there : transfer_at new.transfers p ≡ transfer_at old.transfers p
-  back : transfer_at new.transfers q ≡ transfer_at old.transfers q
-
-passes_itself : (t : Transfer) (p q : ℕ) (old new : Network Contents) → new ≡ old → Passes t p q old new
-passes_itself t p q old new e = subst (λ (x : Network Contents). Passes t p q old x) (sym e) (record { spares = spares_itself t old.nodes; there = refl; back = refl })
-
-made_passes : (p q : ℕ) (t : Transfer) (fate : Fate) (old new : Network Contents) (number : ℕ) (x : Transfer) (place : ℕ) (is_to_target : Bool) (m : Message) (seen : List Sight) → number ≢ p → number ≢ q
-    → IsMadeBy (Only p q t) fate old number x place is_to_target m seen new → Passes t p q old new
-made_passes p q t fate old new number x place is_to_target m seen not_p not_q i =
-    let nodes = ap (λ (n : Network Contents). n.nodes) i.left in
-    let transfers = ap (λ (n : Network Contents). n.transfers) i.left in
-    let none : IsOneOf p q (by_pass number fate) → ⊥ = λ k. ⊎_elim not_p not_q k in
-    record {
-      spares = subst (λ (n : Nodes). Spares t old.nodes n) (sym nodes) (spared_carried p q t (by_pass number fate) fate old.nodes i.nodes place m x.pass i.status i.after none i.carried);
-      there = ap (λ (ts : List Transfer). transfer_at ts p) transfers ∙ passed_elsewhere old.transfers number p (record x { pass = i.after }) (λ e. not_p (sym e));
-      back = ap (λ (ts : List Transfer). transfer_at ts q) transfers ∙ passed_elsewhere old.transfers number q (record x { pass = i.after }) (λ e. not_q (sym e));
-    }
-
-asked_passes : (p q : ℕ) (t : Transfer) (fate : Fate) (old new : Network Contents) (number : ℕ) (x : Transfer) (asked : Asked) (seen : List Sight) → number ≢ p → number ≢ q
-    → IsAskedBy (Only p q t) fate old number x asked seen new → Passes t p q old new
-asked_passes p q t fate old new number x (to_source m) seen not_p not_q i = made_passes p q t fate old new number x x.from false m seen not_p not_q i
-asked_passes p q t fate old new number x (to_target m) seen not_p not_q i = made_passes p q t fate old new number x x.to true m seen not_p not_q i
-asked_passes p q t fate old new number x (done s) seen not_p not_q i = passes_itself t p q old new i.1
-asked_passes p q t fate old new number x (stopped_by why s) seen not_p not_q i = passes_itself t p q old new i.1
+spared : (p q : ℕ) (t : Transfer) (who : Asker) (old : Nodes) (place : ℕ) (m : Message) (r : Reply) (new : Nodes) → IsOther p q who → Only p q t who old place m r new → Spares t old new
+spared p q t who old place m r new none h = record { lawful = lawful_after old new place m r h.0; both = ⊎_elim (λ k. absurd (none k)) (λ k. k) h.1 }
 
 -- ---- where the two passes stand
 
@@ -141,7 +102,7 @@ present t pass x there (inr none) is = absurd (let k : (let y : Option Transfer 
 here_still : (t : Transfer) (pass : Pass) (before after : Option Transfer) → after ≡ before → IsHere t pass before → IsHere t pass after
 here_still t pass before after e h = subst (IsHere t pass) (sym e) h
 
-record Stand (p q : ℕ) (t u : Transfer) (now : Network Contents) (c : Crossing) : Type 0 where
+record Stand (p q : ℕ) (t u : Transfer) (base : Nodes) (now : Network Contents) (c : Crossing) : Type 0 where
   there : IsHere t c.there (transfer_at now.transfers p)
   back : IsHere u c.back (transfer_at now.transfers q)
   there_same : c.there.configuration ≡ t.pass.configuration
@@ -149,30 +110,35 @@ record Stand (p q : ℕ) (t u : Transfer) (now : Network Contents) (c : Crossing
   there_sound : IsSoundPass c.there
   back_sound : IsSoundPass c.back
   lawful : LawfulAt now.nodes
-  one : IsAt now.nodes t.from t.pass.configuration.source_db c.one
-  other : IsAt now.nodes t.to t.pass.configuration.target_db c.other
+  one : database_at now.nodes t.from t.pass.configuration.source_db ≡ c.one
+  other : database_at now.nodes t.to t.pass.configuration.target_db ≡ c.other
+  one_stays : StaysAt base now.nodes t.from t.pass.configuration.source_db
+  other_stays : StaysAt base now.nodes t.to t.pass.configuration.target_db
 
-at_moved : (nodes : Nodes) (a b : ℕ) (k l : List ℕ) (db : Database) → a ≡ b → k ≡ l → IsAt nodes a k db → IsAt nodes b l db
-at_moved nodes a b k l db e f at = subst (λ (x : ℕ). IsAt nodes x l db) e (subst (λ (n : List ℕ). IsAt nodes a n db) f at)
+at_moved : (nodes : Nodes) (a b : ℕ) (k l : List ℕ) (db : Database) → a ≡ b → k ≡ l → database_at nodes a k ≡ db → database_at nodes b l ≡ db
+at_moved nodes a b k l db e f at = subst (λ (x : ℕ). database_at nodes x l ≡ db) e (subst (λ (n : List ℕ). database_at nodes a n ≡ db) f at)
+
+stays_moved : (old new : Nodes) (a b : ℕ) (k l : List ℕ) → a ≡ b → k ≡ l → StaysAt old new a k → StaysAt old new b l
+stays_moved old new a b k l e f stays = subst (λ (x : ℕ). StaysAt old new x l) e (subst (λ (n : List ℕ). StaysAt old new a n) f stays)
 
 -- some moves on
-record Next (p q : ℕ) (t u : Transfer) (new : Network Contents) (c : Crossing) : Type 0 where
+record Next (p q : ℕ) (t u : Transfer) (base : Nodes) (new : Network Contents) (c : Crossing) : Type 0 where
   moves : List Move
   crossing : Crossing
   crosses : Crosses moves c crossing
-  stand : Stand p q t u new crossing
+  stand : Stand p q t u base new crossing
 
 crosses_more : (ms ns : List Move) (a b c : Crossing) → Crosses ms a b → Crosses ns b c → Crosses (ms ++ ns) a c
 crosses_more [] ns a b c is then = subst (λ (x : Crossing). Crosses ns x c) is then
 crosses_more (m ∷ ms) ns a b c (between, here, later) then = (between, here, crosses_more ms ns between b c later then)
 
 -- others do what writes no document
-module _ (p q : ℕ) (t u : Transfer) where
-  others_move : (old new : Network Contents) (c : Crossing) → Stand p q t u old c → Spares t old.nodes new.nodes → transfer_at new.transfers p ≡ transfer_at old.transfers p
-      → transfer_at new.transfers q ≡ transfer_at old.transfers q → Next p q t u new c
+module _ (p q : ℕ) (t u : Transfer) (base : Nodes) where
+  others_move : (old new : Network Contents) (c : Crossing) → Stand p q t u base old c → Spares t old.nodes new.nodes → transfer_at new.transfers p ≡ transfer_at old.transfers p
+      → transfer_at new.transfers q ≡ transfer_at old.transfers q → Next p q t u base new c
   others_move old new c s spares there back =
-      let a = spares.both.0 c.one s.one in
-      let b = spares.both.1 c.other s.other in
+      let a = into old.nodes t.from t.pass.configuration.source_db new.nodes KeepsDocuments spares.both.0 c.one s.one in
+      let b = into old.nodes t.to t.pass.configuration.target_db new.nodes KeepsDocuments spares.both.1 c.other s.other in
       let after : Crossing = record c { one = a.0; other = b.0 } in
       record {
         moves = others ∷ [];
@@ -188,14 +154,16 @@ module _ (p q : ℕ) (t u : Transfer) where
           lawful = spares.lawful s.lawful;
           one = a.1;
           other = b.1;
+          one_stays = stays_still base old.nodes new.nodes t.from t.pass.configuration.source_db s.one_stays spares.both.0.1;
+          other_stays = stays_still base old.nodes new.nodes t.to t.pass.configuration.target_db s.other_stays spares.both.1.1;
         };
       }
 
-  no_move : (old new : Network Contents) (c : Crossing) → new ≡ old → Stand p q t u old c → Next p q t u new c
-  no_move old new c e s = record { moves = []; crossing = c; crosses = refl; stand = subst (λ (x : Network Contents). Stand p q t u x c) (sym e) s }
+  no_move : (old new : Network Contents) (c : Crossing) → new ≡ old → Stand p q t u base old c → Next p q t u base new c
+  no_move old new c e s = record { moves = []; crossing = c; crosses = refl; stand = subst (λ (x : Network Contents). Stand p q t u base x c) (sym e) s }
 
   -- the pass there has a turn
-  there_move : (old new : Network Contents) (c : Crossing) → p ≢ q → transfer_at old.transfers p ≡ Some (record t { pass = c.there }) → Stand p q t u old c → HasTurned p (record t { pass = c.there }) old new c.one c.other c.one_listed → Next p q t u new c
+  there_move : (old new : Network Contents) (c : Crossing) → p ≢ q → transfer_at old.transfers p ≡ Some (record t { pass = c.there }) → Stand p q t u base old c → HasTurned p (record t { pass = c.there }) old new c.one c.other c.one_listed → Next p q t u base new c
   there_move old new c apart at s h =
       let listed = listed_after c.there.phase c.one c.one_listed h.turn in
       let pass = after_turn c.there h.turn in
@@ -215,11 +183,15 @@ module _ (p q : ℕ) (t u : Transfer) where
           lawful = h.lawful;
           one = at_moved new.nodes t.from t.from c.there.configuration.source_db t.pass.configuration.source_db h.source_now refl (ap (λ (k : Configuration). k.source_db) s.there_same) h.source_at;
           other = at_moved new.nodes t.to t.to c.there.configuration.target_db t.pass.configuration.target_db h.target_now refl (ap (λ (k : Configuration). k.target_db) s.there_same) h.target_at;
+          one_stays = stays_still base old.nodes new.nodes t.from t.pass.configuration.source_db s.one_stays
+              (stays_moved old.nodes new.nodes t.from t.from c.there.configuration.source_db t.pass.configuration.source_db refl (ap (λ (k : Configuration). k.source_db) s.there_same) h.source_stays);
+          other_stays = stays_still base old.nodes new.nodes t.to t.pass.configuration.target_db s.other_stays
+              (stays_moved old.nodes new.nodes t.to t.to c.there.configuration.target_db t.pass.configuration.target_db refl (ap (λ (k : Configuration). k.target_db) s.there_same) h.target_stays);
         };
       }
 
   -- the pass back has a turn
-  back_move : (old new : Network Contents) (c : Crossing) → AreOpposite t u → p ≢ q → transfer_at old.transfers q ≡ Some (record u { pass = c.back }) → Stand p q t u old c → HasTurned q (record u { pass = c.back }) old new c.other c.one c.other_listed → Next p q t u new c
+  back_move : (old new : Network Contents) (c : Crossing) → AreOpposite t u → p ≢ q → transfer_at old.transfers q ≡ Some (record u { pass = c.back }) → Stand p q t u base old c → HasTurned q (record u { pass = c.back }) old new c.other c.one c.other_listed → Next p q t u base new c
   back_move old new c o apart at s h =
       let listed = listed_after c.back.phase c.other c.other_listed h.turn in
       let pass = after_turn c.back h.turn in
@@ -239,6 +211,10 @@ module _ (p q : ℕ) (t u : Transfer) where
           lawful = h.lawful;
           one = at_moved new.nodes u.to t.from c.back.configuration.target_db t.pass.configuration.source_db h.target_now o.to (ap (λ (k : Configuration). k.target_db) s.back_same ∙ o.target) h.target_at;
           other = at_moved new.nodes u.from t.to c.back.configuration.source_db t.pass.configuration.target_db h.source_now o.from (ap (λ (k : Configuration). k.source_db) s.back_same ∙ o.source) h.source_at;
+          one_stays = stays_still base old.nodes new.nodes t.from t.pass.configuration.source_db s.one_stays
+              (stays_moved old.nodes new.nodes u.to t.from c.back.configuration.target_db t.pass.configuration.source_db o.to (ap (λ (k : Configuration). k.target_db) s.back_same ∙ o.target) h.target_stays);
+          other_stays = stays_still base old.nodes new.nodes t.to t.pass.configuration.target_db s.other_stays
+              (stays_moved old.nodes new.nodes u.from t.to c.back.configuration.source_db t.pass.configuration.target_db o.from (ap (λ (k : Configuration). k.source_db) s.back_same ∙ o.source) h.source_stays);
         };
       }
 
@@ -246,22 +222,22 @@ module _ (p q : ℕ) (t u : Transfer) where
   handled who old place m r new h = h.0
 
   -- an exchange of the pass there
-  there_asks : (fate : Fate) (old new : Network Contents) (c : Crossing) (seen : List Sight) → AreOpposite t u → p ≢ q → transfer_at old.transfers p ≡ Some (record t { pass = c.there }) → Stand p q t u old c
-      → IsAskedBy (Only p q t) fate old p (record t { pass = c.there }) (asked_of c.there) seen new → Next p q t u new c
+  there_asks : (fate : Fate) (old new : Network Contents) (c : Crossing) (seen : List Sight) → AreOpposite t u → p ≢ q → transfer_at old.transfers p ≡ Some (record t { pass = c.there }) → Stand p q t u base old c
+      → IsAskedBy (Only p q t) fate old p (record t { pass = c.there }) (asked_of c.there) seen new → Next p q t u base new c
   there_asks fate old new c seen o apart at s i =
       let x : Transfer = record t { pass = c.there } in
       let told = subst IsTold (sym s.there_same) o.there_told in
       let distinct : t.from ≡ t.to → c.there.configuration.source_db ≢ c.there.configuration.target_db = subst (λ (k : Configuration). t.from ≡ t.to → k.source_db ≢ k.target_db) (sym s.there_same) o.apart in
-      let one : IsAt old.nodes t.from c.there.configuration.source_db c.one = subst (λ (k : Configuration). IsAt old.nodes t.from k.source_db c.one) (sym s.there_same) s.one in
-      let other : IsAt old.nodes t.to c.there.configuration.target_db c.other = subst (λ (k : Configuration). IsAt old.nodes t.to k.target_db c.other) (sym s.there_same) s.other in
+      let one : database_at old.nodes t.from c.there.configuration.source_db ≡ c.one = subst (λ (k : Configuration). database_at old.nodes t.from k.source_db ≡ c.one) (sym s.there_same) s.one in
+      let other : database_at old.nodes t.to c.there.configuration.target_db ≡ c.other = subst (λ (k : Configuration). database_at old.nodes t.to k.target_db ≡ c.other) (sym s.there_same) s.other in
       ⊎_elim
       (λ e. no_move old new c e s)
       (λ h. there_move old new c apart at s (has_turned p x old new c.one c.other c.one_listed s.lawful one other h))
       (turned (Only p q t) handled fate old new p x seen told distinct s.lawful s.there_sound c.there.phase i)
 
   -- an exchange of the pass back
-  back_asks : (fate : Fate) (old new : Network Contents) (c : Crossing) (seen : List Sight) → AreOpposite t u → p ≢ q → transfer_at old.transfers q ≡ Some (record u { pass = c.back }) → Stand p q t u old c
-      → IsAskedBy (Only p q t) fate old q (record u { pass = c.back }) (asked_of c.back) seen new → Next p q t u new c
+  back_asks : (fate : Fate) (old new : Network Contents) (c : Crossing) (seen : List Sight) → AreOpposite t u → p ≢ q → transfer_at old.transfers q ≡ Some (record u { pass = c.back }) → Stand p q t u base old c
+      → IsAskedBy (Only p q t) fate old q (record u { pass = c.back }) (asked_of c.back) seen new → Next p q t u base new c
   back_asks fate old new c seen o apart at s i =
       let x : Transfer = record u { pass = c.back } in
       let told = subst IsTold (sym s.back_same) o.back_told in
@@ -276,11 +252,11 @@ module _ (p q : ℕ) (t u : Transfer) where
       (λ h. back_move old new c o apart at s (has_turned q x old new c.other c.one c.other_listed s.lawful other one h))
       (turned (Only p q t) handled fate old new q x seen told distinct s.lawful s.back_sound c.back.phase i)
 
-  exchange_moves : (number : ℕ) (fate : Fate) (old new : Network Contents) (c : Crossing) (seen : List Sight) (x : Transfer) → AreOpposite t u → p ≢ q → Stand p q t u old c
-      → transfer_at old.transfers number ≡ Some x → IsAskedBy (Only p q t) fate old number x (asked_of x.pass) seen new → Next p q t u new c
+  exchange_moves : (number : ℕ) (fate : Fate) (old new : Network Contents) (c : Crossing) (seen : List Sight) (x : Transfer) → AreOpposite t u → p ≢ q → Stand p q t u base old c
+      → transfer_at old.transfers number ≡ Some x → IsAskedBy (Only p q t) fate old number x (asked_of x.pass) seen new → Next p q t u base new c
   exchange_moves number fate old new c seen x o apart s there i = by (cases_eq number p) (cases_eq number q)
     where
-      as_there : number ≡ p → Next p q t u new c
+      as_there : number ≡ p → Next p q t u base new c
       as_there e =
           let at = present t c.there x (transfer_at old.transfers p) s.there (ap (transfer_at old.transfers) (sym e) ∙ there) in
           let same : x ≡ record t { pass = c.there } = one_transfer x (record t { pass = c.there }) (sym there ∙ ap (transfer_at old.transfers) e ∙ at) in
@@ -288,7 +264,7 @@ module _ (p q : ℕ) (t u : Transfer) where
           (subst (λ (y : Transfer). IsAskedBy (Only p q t) fate old p y (asked_of y.pass) seen new) same
           (subst (λ (n : ℕ). IsAskedBy (Only p q t) fate old n x (asked_of x.pass) seen new) e i))
 
-      as_back : number ≡ q → Next p q t u new c
+      as_back : number ≡ q → Next p q t u base new c
       as_back e =
           let at = present u c.back x (transfer_at old.transfers q) s.back (ap (transfer_at old.transfers) (sym e) ∙ there) in
           let same : x ≡ record u { pass = c.back } = one_transfer x (record u { pass = c.back }) (sym there ∙ ap (transfer_at old.transfers) e ∙ at) in
@@ -296,18 +272,21 @@ module _ (p q : ℕ) (t u : Transfer) where
           (subst (λ (y : Transfer). IsAskedBy (Only p q t) fate old q y (asked_of y.pass) seen new) same
           (subst (λ (n : ℕ). IsAskedBy (Only p q t) fate old n x (asked_of x.pass) seen new) e i))
 
-      by : (number ≡ p) ⊎ (number ≢ p) → (number ≡ q) ⊎ (number ≢ q) → Next p q t u new c
+      by : (number ≡ p) ⊎ (number ≢ p) → (number ≡ q) ⊎ (number ≢ q) → Next p q t u base new c
       by (inl e) other = as_there e
       by (inr e) (inl f) = as_back f
-      by (inr e) (inr f) = let k = asked_passes p q t fate old new number x (asked_of x.pass) seen e f i in others_move old new c s k.spares k.there k.back
+      by (inr e) (inr f) =
+          let k = others_asked (Only p q t) (Spares t) (spares_itself t) (spares_still t) (IsOther p q) (spared p q t) fate old new number x (asked_of x.pass) seen (λ one. ⊎_elim e f one) i in
+          others_move old new c s k.nodes (k.passes p (λ same. e (sym same))) (k.passes q (λ same. f (sym same)))
 
-  event_moves : (h : Happening) (old new : Network Contents) (c : Crossing) (seen : List Sight) → AreOpposite t u → p ≢ q → Stand p q t u old c → HappensBy (Only p q t) old h seen new → Next p q t u new c
+  event_moves : (h : Happening) (old new : Network Contents) (c : Crossing) (seen : List Sight) → AreOpposite t u → p ≢ q → Stand p q t u base old c → HappensBy (Only p q t) old h seen new → Next p q t u base new c
   event_moves (comes piece) old new c seen o apart s i =
-      others_move old new c s (spared_service p q t old.homes old.nodes new.nodes i.1.arrivals i.0 i.1.served)
+      others_move old new c s
+      (others_service (Only p q t) (Spares t) (spares_itself t) (spares_still t) (IsOther p q) (spared p q t) old.homes old.nodes new.nodes i.1.arrivals i.0 (λ conn none. none) i.1.served)
       (ap (λ (ts : List Transfer). transfer_at ts p) i.1.transfers) (ap (λ (ts : List Transfer). transfer_at ts q) i.1.transfers)
   event_moves (exchanges number fate) old new c seen o apart s i = exchange_moves number fate old new c seen i.transfer o apart s i.there i.asked
 
-  play_moves : (hs : List Happening) (old new : Network Contents) (c : Crossing) (seen : List Sight) → AreOpposite t u → p ≢ q → Stand p q t u old c → PlaysBy (Only p q t) old hs seen new → Next p q t u new c
+  play_moves : (hs : List Happening) (old new : Network Contents) (c : Crossing) (seen : List Sight) → AreOpposite t u → p ≢ q → Stand p q t u base old c → PlaysBy (Only p q t) old hs seen new → Next p q t u base new c
   play_moves [] old new c seen o apart s i = no_move old new c i.1 s
   play_moves (h ∷ hs) old new c seen o apart s (first, rest, between, here, later, order) =
       let k = event_moves h old between c first o apart s here in
@@ -321,7 +300,7 @@ module _ (p q : ℕ) (t u : Transfer) where
   here_now v pass before after (inr k) (inl e) = absurd (let x : (let y : Option Transfer = None in y) ≡ Some (record v { pass = pass }) = sym k.0 ∙ e in cc)
   here_now v pass before after (inr k) (inr none) = inl (k.1 ∙ ap (λ (y : Pass). Some (record v { pass = y })) (sym none.1))
 
-  arranged_stand : (old new : Network Contents) (c : Crossing) → IsArranged p q t u old new → Stand p q t u old c → Stand p q t u new c
+  arranged_stand : (old new : Network Contents) (c : Crossing) → IsArranged p q t u old new → Stand p q t u base old c → Stand p q t u base new c
   arranged_stand old new c k s = record {
     there = here_now t c.there (transfer_at old.transfers p) (transfer_at new.transfers p) k.there s.there;
     back = here_now u c.back (transfer_at old.transfers q) (transfer_at new.transfers q) k.back s.back;
@@ -330,11 +309,13 @@ module _ (p q : ℕ) (t u : Transfer) where
     there_sound = s.there_sound;
     back_sound = s.back_sound;
     lawful = subst LawfulAt (sym k.nodes) s.lawful;
-    one = subst (λ (n : Nodes). IsAt n t.from t.pass.configuration.source_db c.one) (sym k.nodes) s.one;
-    other = subst (λ (n : Nodes). IsAt n t.to t.pass.configuration.target_db c.other) (sym k.nodes) s.other;
+    one = subst (λ (n : Nodes). database_at n t.from t.pass.configuration.source_db ≡ c.one) (sym k.nodes) s.one;
+    other = subst (λ (n : Nodes). database_at n t.to t.pass.configuration.target_db ≡ c.other) (sym k.nodes) s.other;
+    one_stays = subst (λ (n : Nodes). StaysAt base n t.from t.pass.configuration.source_db) (sym k.nodes) s.one_stays;
+    other_stays = subst (λ (n : Nodes). StaysAt base n t.to t.pass.configuration.target_db) (sym k.nodes) s.other_stays;
   }
 
-  course_moves : (ss : List Stage) (old new : Network Contents) (c : Crossing) → AreOpposite t u → p ≢ q → Stand p q t u old c → Course p q t u ss old new → Next p q t u new c
+  course_moves : (ss : List Stage) (old new : Network Contents) (c : Crossing) → AreOpposite t u → p ≢ q → Stand p q t u base old c → Course p q t u ss old new → Next p q t u base new c
   course_moves [] old new c o apart s i = no_move old new c i s
   course_moves (runs ∷ ss) old new c o apart s (between, run, theirs, later) =
       let only = only_theirs p q t old between run theirs in
@@ -346,9 +327,9 @@ module _ (p q : ℕ) (t u : Transfer) where
 -- ---- from the start to the end
 
 -- the lawful databases of the nodes, and plain bodies and revisions that can be written
-sound_at : (nodes : Nodes) (place : ℕ) (name : List ℕ) (db : Database) → LawfulAt nodes → IsAt nodes place name db → IsReplicable db → IsSound db
-sound_at nodes place name db lawful at clean =
-    let k = lawful place at.node at.there name db at.holds in
+pub sound_at : (nodes : Nodes) (place : ℕ) (name : List ℕ) → LawfulAt nodes → IsReplicable (database_at nodes place name) → IsSound (database_at nodes place name)
+sound_at nodes place name lawful clean =
+    let k = lawful_at nodes place name lawful in
     record { documents = k.documents; sequences = k.sequences; plain = clean.plain; writable = clean.writable }
 
 batch_told : (batch : Option ℕ) → IfSome batch (λ size. (1 ≤ size) × (size ≤ 1000)) → IfSome batch (λ size. 1 ≤ size)
@@ -365,9 +346,9 @@ here_first : (t : Transfer) (there : Option Transfer) → IsAhead t there → Is
 here_first t there (inl e) = inl e
 here_first t there (inr e) = inr (e, refl)
 
-stands_first : (p q : ℕ) (t u : Transfer) (old : Network Contents) (a b : Database) → AreOpposite t u → AreAhead p q t u old → LawfulAt old.nodes → AreEnds t old a b
-    → Stand p q t u old (first_crossing t u a b)
-stands_first p q t u old a b o s lawful ends = record {
+stands_first : (p q : ℕ) (t u : Transfer) (old : Network Contents) → AreOpposite t u → AreAhead p q t u old → LawfulAt old.nodes
+    → Stand p q t u old.nodes old (first_crossing t u (source_of t old) (target_of t old))
+stands_first p q t u old o s lawful = record {
   there = here_first t (transfer_at old.transfers p) s.there;
   back = here_first u (transfer_at old.transfers q) s.back;
   there_same = refl;
@@ -375,8 +356,10 @@ stands_first p q t u old a b o s lawful ends = record {
   there_sound = subst IsSoundPass (sym o.there_first) (first_sound t.pass.configuration);
   back_sound = subst IsSoundPass (sym o.back_first) (first_sound u.pass.configuration);
   lawful = lawful;
-  one = ends.source;
-  other = ends.target;
+  one = refl;
+  other = refl;
+  one_stays = λ db at. (db, at);
+  other_stays = λ db at. (db, at);
 }
 
 copied : (n : ℕ) (now : Network Contents) (t : Transfer) (p : Pass) → IsHere t p (transfer_at now.transfers n) → HasEnded n now → HasCopiedAll p
@@ -386,20 +369,18 @@ copied n now t p there ended =
     subst (λ (x : Transfer). HasCopiedAll x.pass) same ended.copied
 
 -- the two databases, and how they came to be as they are
-record Met (p q : ℕ) (t u : Transfer) (new : Network Contents) (one other : Database) : Type 0 where
+record Met (p q : ℕ) (t u : Transfer) (base : Nodes) (new : Network Contents) : Type 0 where
   moves : List Move
   now : Crossing
   went : Crossed t.pass.configuration u.pass.configuration moves now
   begins : IsPair went.first.one went.first.other
-  stand : Stand p q t u new now
-  one_is : now.one ≡ one
-  other_is : now.other ≡ other
+  stand : Stand p q t u base new now
 
-met : (p q : ℕ) (t u : Transfer) (ss : List Stage) (old new : Network Contents) (a b one other : Database) → AreOpposite t u → AreAhead p q t u old → Course p q t u ss old new → AreEnds t old a b
-    → AreReconcilable a b → AreEnds t new one other → LawfulAt old.nodes → Met p q t u new one other
-met p q t u ss old new a b one other o s course ends pair now lawful =
-    let c = first_crossing t u a b in
-    let k = course_moves p q t u ss old new c o s.two (stands_first p q t u old a b o s lawful ends) course in
+met : (p q : ℕ) (t u : Transfer) (ss : List Stage) (old new : Network Contents) → AreOpposite t u → AreAhead p q t u old → Course p q t u ss old new
+    → AreReconcilable (source_of t old) (target_of t old) → LawfulAt old.nodes → Met p q t u old.nodes new
+met p q t u ss old new o s course pair lawful =
+    let c = first_crossing t u (source_of t old) (target_of t old) in
+    let k = course_moves p q t u old.nodes ss old new c o s.two (stands_first p q t u old o s lawful) course in
     record {
       moves = k.moves;
       now = k.crossing;
@@ -414,33 +395,31 @@ met p q t u ss old new a b one other o s course ends pair now lawful =
         crosses = k.crosses;
       };
       begins = record {
-        one = sound_at old.nodes t.from t.pass.configuration.source_db a lawful ends.source pair.one;
-        other = sound_at old.nodes t.to t.pass.configuration.target_db b lawful ends.target pair.other;
+        one = sound_at old.nodes t.from t.pass.configuration.source_db lawful pair.one;
+        other = sound_at old.nodes t.to t.pass.configuration.target_db lawful pair.other;
         agree = pair.agree;
       };
       stand = k.stand;
-      one_is = one_at new.nodes t.from t.pass.configuration.source_db k.crossing.one one k.stand.one now.source;
-      other_is = one_at new.nodes t.to t.pass.configuration.target_db k.crossing.other other k.stand.other now.target;
     }
 
-met_pair : (p q : ℕ) (t u : Transfer) (new : Network Contents) (one other : Database) → Met p q t u new one other → IsPair one other
-met_pair p q t u new one other k =
+met_pair : (p q : ℕ) (t u : Transfer) (base : Nodes) (new : Network Contents) → Met p q t u base new → IsPair (source_of t new) (target_of t new)
+met_pair p q t u base new k =
     let pair = keep_pair t.pass.configuration u.pass.configuration k.moves k.now k.went k.begins in
-    subst (λ (x : Database). IsPair x other) k.one_is (subst (λ (y : Database). IsPair k.now.one y) k.other_is pair)
+    subst (λ (x : Database). IsPair x (target_of t new)) (sym k.stand.one) (subst (λ (y : Database). IsPair k.now.one y) (sym k.stand.other) pair)
 
-met_tree : (p q : ℕ) (t u : Transfer) (new : Network Contents) (one other : Database) → HasEnded p new → HasEnded q new → (id : List ℕ) → Met p q t u new one other
-    → HaveSameTree (history_at one id) (history_at other id)
-met_tree p q t u new one other there back id k =
+met_tree : (p q : ℕ) (t u : Transfer) (base : Nodes) (new : Network Contents) → HasEnded p new → HasEnded q new → (id : List ℕ) → Met p q t u base new
+    → HaveSameTree (history_at (source_of t new) id) (history_at (target_of t new) id)
+met_tree p q t u base new there back id k =
     let same : HaveSameTree (history_at k.now.one id) (history_at k.now.other id) =
     two_converge t.pass.configuration u.pass.configuration k.moves k.now k.went k.begins (copied p new t k.now.there k.stand.there there) (copied q new u k.now.back k.stand.back back) id in
-    subst (λ (x : Database). HaveSameTree (history_at x id) (history_at other id)) k.one_is
-    (subst (λ (y : Database). HaveSameTree (history_at k.now.one id) (history_at y id)) k.other_is same)
+    subst (λ (x : Database). HaveSameTree (history_at x id) (history_at (target_of t new) id)) (sym k.stand.one)
+    (subst (λ (y : Database). HaveSameTree (history_at k.now.one id) (history_at y id)) (sym k.stand.other) same)
 
 pub networks_converge : PassesOfANetworkConverge
-networks_converge p q t u ss old new a b one other o s course ends pair there back now id =
+networks_converge p q t u ss old new o s course pair there back id =
     let all = all_lawful old.nodes s.lawful in
-    let by : LawfulAt old.nodes → HaveSameTree (history_at one id) (history_at other id) =
-    λ lawful. met_tree p q t u new one other there back id (met p q t u ss old new a b one other o s course ends pair now lawful) in
+    let by : LawfulAt old.nodes → HaveSameTree (history_at (source_of t new) id) (history_at (target_of t new) id) =
+    λ lawful. met_tree p q t u old.nodes new there back id (met p q t u ss old new o s course pair lawful) in
     record {
       known = λ r. ∥∥₁_elim all (Bool-set _ _) (λ lawful. (by lawful).known r);
       parents = λ r. ∥∥₁_elim all (Coded-set (coded_option revision_code) _ _) (λ lawful. (by lawful).parents r);
@@ -450,9 +429,9 @@ networks_converge p q t u ss old new a b one other o s course ends pair there ba
     }
 
 pub networks_agree : CoursesKeepAgreement
-networks_agree p q t u ss old new a b one other o s course ends pair now =
+networks_agree p q t u ss old new o s course pair =
     let all = all_lawful old.nodes s.lawful in
-    let by : LawfulAt old.nodes → IsPair one other = λ lawful. met_pair p q t u new one other (met p q t u ss old new a b one other o s course ends pair now lawful) in
+    let by : LawfulAt old.nodes → IsPair (source_of t new) (target_of t new) = λ lawful. met_pair p q t u old.nodes new (met p q t u ss old new o s course pair lawful) in
     record {
       one = record {
         plain = λ id r d e. ∥∥₁_elim all (Bool-set _ _) (λ lawful. (by lawful).one.plain id r d e);
@@ -472,5 +451,7 @@ pub both_stay : CoursesKeepBoth
 both_stay p q t u ss old new a b o s course ends =
     ∥∥₁_map (all_lawful old.nodes s.lawful)
     (λ lawful.
-    let k = course_moves p q t u ss old new (first_crossing t u a b) o s.two (stands_first p q t u old a b o s lawful ends) course in
-    (k.crossing.one, k.crossing.other, record { source = k.stand.one; target = k.stand.other }))
+    let k = course_moves p q t u old.nodes ss old new (first_crossing t u (source_of t old) (target_of t old)) o s.two (stands_first p q t u old o s lawful) course in
+    let one = k.stand.one_stays a ends.source in
+    let other = k.stand.other_stays b ends.target in
+    (one.0, other.0, record { source = one.1; target = other.1 }))

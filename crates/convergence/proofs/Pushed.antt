@@ -37,6 +37,7 @@ use Rattle.passes.proofs.Comparing.{value_was}
 use Rattle.passes.proofs.Judged.{never, read_out, there_never, work_out}
 use Rattle.passes.proofs.Spellings.{leads_into}
 use Rattle.passes.specs.Spelled.{replica_bulk}
+use Rattle.completion.specs.Finished.{found_or_new}
 use Rattle.convergence.specs.Appended.{Appends, IsSaidBy, IsSaidByOne, KeepsDocuments}
 use Rattle.convergence.specs.Written.{Becomes, PushesAppendWhatIsSaid}
 use Rattle.convergence.proofs.Quiet.{elements_back, nowhere, put_becomes, put_elsewhere, same_documents}
@@ -153,7 +154,7 @@ nothing_appended : (documents : List Value) (db : Database) → Appends document
 nothing_appended documents db = record { writes = []; said = tt; acceptable = tt; left = same_documents db }
 
 unchanged : (a : Contents) (name : List ℕ) (documents : List Value) → Pushed a name documents a
-unchanged a name documents = (λ db at. (db, at, nothing_appended documents db), λ other apart. nowhere a other)
+unchanged a name documents = ((nothing_appended documents (found_or_new (get a name)), λ db at. (db, at)), λ other apart. nowhere a other)
 
 put_pushed : (a : Contents) (name : List ℕ) (documents : List Value) (db : Database) (terms : Terms) → get a name ≡ Some db
     → Pushed a name documents (with_change (inside name (appended (writes_in (outcomes terms false (history_at db) documents)))) a)

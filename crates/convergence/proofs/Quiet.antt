@@ -33,7 +33,7 @@ use Rattle.write.specs.Terms.{Terms, terms_in}
 use Rattle.write.specs.declared.fault.WriteFault.{WriteFault}
 use Rattle.api.specs.Asking.{asker, body_of, method_of, plain}
 use Rattle.api.specs.Bulk.{Bulk, bulk_by, bulk_in, documents_in, elements, new_edits_in}
-use Rattle.api.specs.Paths.{decoded_text, document_id_in, id_if, id_text_by, id_text_in, joined_by_slash, local_id_in, part_at, parts_of, slash, text_if}
+use Rattle.api.specs.Paths.{decoded_text, document_id_in, id_if, id_text_in, joined_by_slash, local_id_in, part_at, parts_of, slash, text_if}
 use Rattle.api.specs.Refusals.{next, there_or, true_or}
 use Rattle.api.specs.Routing.{page_of}
 use Rattle.api.specs.declared.method.RequestMethod.TheVariants.{Get, Post, Put}
@@ -50,6 +50,7 @@ use Rattle.repl.specs.Calls.{Call, Revisions, compare_revisions, list_changes, o
 use Rattle.repl.specs.Configuration.{Configuration, database_of}
 use Rattle.repl.specs.Spelling.{segment}
 use Rattle.repl.specs.declared.side.Side.{Side}
+use Rattle.completion.specs.Finished.{found_or_new}
 use Rattle.passes.proofs.Comparing.{HasBody, value_was}
 use Rattle.passes.proofs.Judged.{never, there_never}
 use Rattle.passes.proofs.Opening.{id_by_parts, id_of_parts}
@@ -118,17 +119,28 @@ get_put a name new other = get-insert nat_list_cmp_total a name new other ∙ ap
 inside_same : (d db : Database) → Some d ≡ Some db → d ≡ db
 inside_same d db e = cc
 
+-- what was there, and what is there
+pub become : (how : Database → Database → Type 0) (a b : Contents) (name : List ℕ) (was is : Option Database) → get a name ≡ was → get b name ≡ is → how (found_or_new was) (found_or_new is)
+    → ((db : Database) → was ≡ Some db → (now : Database) × (is ≡ Some now)) → Becomes a name b how
+become how a b name was is before after h stays = (
+  subst (λ (o : Option Database). how (found_or_new o) (found_or_new (get b name))) (sym before) (subst (λ (o : Option Database). how (found_or_new was) (found_or_new o)) (sym after) h),
+  λ db at. let k = stays db (sym before ∙ at) in (k.0, after ∙ k.1),
+)
+
+got_put : (a : Contents) (name : List ℕ) (new : Database) → get (insert a name new) name ≡ Some new
+got_put a name new = get_put a name new name ∙ ap (λ (b : Bool). cond b (Some new) (get a name)) ((bytes_eq-Decides name name).1 refl)
+
 -- one database is put in the place of another
 pub put_becomes : (how : Database → Database → Type 0) (a : Contents) (name : List ℕ) (old new : Database) → get a name ≡ Some old → how old new → Becomes a name (insert a name new) how
-put_becomes how a name old new there h db at =
-    (new, get_put a name new name ∙ ap (λ (b : Bool). cond b (Some new) (get a name)) ((bytes_eq-Decides name name).1 refl), subst (λ (x : Database). how x new) (inside_same old db (sym there ∙ at)) h)
+put_becomes how a name old new there h = become how a (insert a name new) name (Some old) (Some new) there (got_put a name new) h (λ db at. (new, refl))
 
 pub put_elsewhere : (a : Contents) (name : List ℕ) (new : Database) (other : List ℕ) → other ≢ name → Becomes a other (insert a name new) KeepsDocuments
-put_elsewhere a name new other apart db at = (db, get_put a name new other ∙ by (bytes_eq other name) refl, same_documents db)
+put_elsewhere a name new other apart =
+    become KeepsDocuments a (insert a name new) other (get a other) (get a other) refl (get_put a name new other ∙ by (bytes_eq other name) refl) (same_documents (found_or_new (get a other))) (λ db at. (db, at))
   where
-    by : (b : Bool) → bytes_eq other name ≡ b → cond b (Some new) (get a other) ≡ Some db
+    by : (b : Bool) → bytes_eq other name ≡ b → cond b (Some new) (get a other) ≡ get a other
     by true is = absurd (apart ((bytes_eq-Decides other name).0 is))
-    by false is = at
+    by false is = refl
 
 either_name : (a : Contents) (name : List ℕ) (old new : Database) → get a name ≡ Some old → KeepsDocuments old new → WritesNowhere a (insert a name new)
 either_name a name old new there h other = by (bytes_eq other name) refl
@@ -138,7 +150,7 @@ either_name a name old new there h other = by (bytes_eq other name) refl
     by false is = put_elsewhere a name new other (λ e. false≢true (sym is ∙ (bytes_eq-Decides other name).1 e))
 
 pub nowhere : (a : Contents) → WritesNowhere a a
-nowhere a name db at = (db, at, same_documents db)
+nowhere a name = (same_documents (found_or_new (get a name)), λ db at. (db, at))
 
 change_keeps : (a : Contents) (m : Message) (change : Change) → IsSilent change → IsMade a m change → WritesNowhere a (with_change change a)
 change_keeps a m kept quiet made = nowhere a
@@ -146,7 +158,8 @@ change_keeps a m (creation name) quiet made = λ other. by other (bytes_eq other
   where
     by : (other : List ℕ) (b : Bool) → bytes_eq other name ≡ b → Becomes a other (insert a name new_database) KeepsDocuments
     by other true is =
-        λ db at. absurd (let none : None ≡ Some db = sym made.1 ∙ ap (get a) (sym ((bytes_eq-Decides other name).0 is)) ∙ at in cc)
+        subst (λ (n : List ℕ). Becomes a n (insert a name new_database) KeepsDocuments) (sym ((bytes_eq-Decides other name).0 is))
+        (become KeepsDocuments a (insert a name new_database) name None (Some new_database) made.1 (got_put a name new_database) (same_documents new_database) (λ db at. absurd cc))
     by other false is = put_elsewhere a name new_database other (λ e. false≢true (sym is ∙ (bytes_eq-Decides other name).1 e))
 change_keeps a m (removal name) quiet made = absurd quiet
 change_keeps a m (inside name effect) quiet made =

@@ -1,6 +1,6 @@
 -- Writes that come from a database, appended to another one that agrees with it.
 use Rattle.std.proofs.Common.{◌≡◌, ◌≤◌, ◌⊎◌, ⊎_elim, ℕ, Bool, true, false, cond, List, [], ◌∷◌, Option, Some, None, refl, sym, ap, ◌∙◌, subst, inl, inr}
-use Rattle.std.specs.Prelude.{option_and_then}
+use Rattle.std.specs.Prelude.{is_some, option_and_then}
 use Rattle.std.specs.Ordering.{nat_cmp}
 use Rattle.std.specs.Cmp.Lexicographic.{slice_cmp}
 use Rattle.std.specs.List.{AllByRecursion}
@@ -21,8 +21,9 @@ use Rattle.store.proofs.Contents.{history_at-with_one}
 use Rattle.store.proofs.Lawfuls.{held_body, lawful_by_one, writes_behind}
 use Rattle.convergence.specs.Agreement.{Agrees}
 use Rattle.convergence.specs.Appended.{ComesFrom, IsReplica, KeepsDocuments}
+use Rattle.convergence.specs.Converged.{NewRevisionsKeepAgreement, WritesKeepOthersAgreement}
 use Rattle.convergence.specs.Sound.{Agree, IsSound}
-use Rattle.convergence.proofs.Writings.{IsCopied, Keeps, agrees_on, held_from, kept_known, known_from}
+use Rattle.convergence.proofs.Writings.{IsCopied, Keeps, agrees_on, held_from, kept_known, kept_parent, known_from}
 
 -- ---- sound databases
 
@@ -151,3 +152,43 @@ pub same_agree : (a b c d : Database) → KeepsDocuments a c → KeepsDocuments 
 same_agree a b c d k l agree id =
     subst (λ (h : HistoryContent). Agrees h (history_at d id)) (sym (same_history a c k id))
     (subst (λ (h : HistoryContent). Agrees (history_at a id) h) (sym (same_history b d l id)) (agree id))
+
+-- ---- a third database
+
+-- a write that comes from a database that agrees with a third one keeps the target's agreement with that
+one_third : (source target third : Database) (w : DocumentWrite) → IsSound source → Agree source target → Agree source third → Agree target third → ComesFrom source w → Agree (with_one target w) third
+one_third source target third w from agree one other c id =
+    let new = history_at (with_one target w) id in
+    record {
+      parents = λ r known there.
+          ⊎_elim
+          (λ old. kept_parent (history_at target id) new (one_keeps target w id) r old ∙ (other id).parents r old there)
+          (λ came. sym ((one_agrees source target w from agree c id).parents r came known) ∙ (one id).parents r came there)
+          (one_known source target w from c id r known);
+      held = λ r d e is there. ⊎_elim (λ old. (other id).held r d e old there) (λ came. (one id).held r d e came there) (one_held source target w from c id r d is);
+    }
+
+pub third_agrees : WritesKeepOthersAgreement
+third_agrees source target third [] from s agree one other come ok = other
+third_agrees source target third (w ∷ ws) from s agree one other come ok =
+    third_agrees source (with_one target w) third ws from (one_sound source target w from s come.0 ok.0) (one_agrees source target w from agree come.0) one
+    (one_third source target third w from agree one other come.0) come.1 ok.1
+
+-- ---- revisions that the other one doesn't know
+
+held_is_known : (o : Option Entry) (d : Held) → option_and_then (λ (e : Entry). e.held) o ≡ Some d → is_some o ≡ true
+held_is_known None d e = absurd cc
+held_is_known (Some x) d e = refl
+
+pub new_agree : NewRevisionsKeepAgreement
+new_agree old third ws agree fresh id =
+    let new = with_all old ws in
+    let keeps = all_keep ws old id in
+    record {
+      parents = λ r known there.
+          let was = fresh id r known there in
+          kept_parent (history_at old id) (history_at new id) keeps r was ∙ (agree id).parents r was there;
+      held = λ r d e is there.
+          let was = fresh id r (held_is_known (get (history_at new id) r) d is) (held_is_known (get (history_at third id) r) e there) in
+          (agree id).held r d e (ap (λ (o : Option Entry). option_and_then (λ (x : Entry). x.held) o) (sym (keeps r was)) ∙ is) there;
+    }

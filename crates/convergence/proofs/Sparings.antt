@@ -30,12 +30,15 @@ use Rattle.node.specs.Works.{difference_list, document_finds, local_written, sec
 use Rattle.node.proofs.Tasks.{IsMade, judged_right, same, went}
 use Rattle.world.specs.Network.{Transfer, transfer_at}
 use Rattle.world.specs.Service.{Asker, IsHandled}
+use Rattle.completion.specs.Finished.{found_or_new}
+use Rattle.completion.proofs.Places.{one_transfer}
 use Rattle.completion.proofs.Removals.{plays_so}
 use Rattle.convergence.specs.Appended.{KeepsDocuments}
+use Rattle.convergence.specs.Groups.{CallsArrangeForGroups, Group, IsFresh, IsOf, IsPeaceful, SparingGroups}
 use Rattle.convergence.specs.Networks.{BecomesAt, CallsArrange, IsOneOf, KeepsBoth, Spares, SparingRuns, StaysOrStarts, may_write, may_write_at}
 use Rattle.convergence.specs.Written.{Becomes, WritesNowhere}
 use Rattle.convergence.proofs.Handlings.{Nodes, anywhere, elsewhere, here}
-use Rattle.convergence.proofs.Quiet.{IsQuiet, nowhere, put_elsewhere, quiet_get, quiet_local, quiet_read, quiet_security, quiet_step, quiet_work, same_documents}
+use Rattle.convergence.proofs.Quiet.{IsQuiet, become, nowhere, put_elsewhere, quiet_get, quiet_local, quiet_read, quiet_security, quiet_step, quiet_work, same_documents}
 
 -- ---- a request of another database
 
@@ -43,11 +46,13 @@ named_same : (name : List ℕ) (o : Option (List ℕ)) (other : List ℕ) → o 
 named_same name o other is apart e = apart (is ∙ ap (λ (n : List ℕ). Some n) (sym e))
 
 removed_elsewhere : (a : Contents) (name other : List ℕ) → other ≢ name → Becomes a other (remove a name) KeepsDocuments
-removed_elsewhere a name other apart db at = (db, get-remove nat_list_cmp_total a name other ∙ by (eq_by_cmp (slice_cmp nat_cmp) other name) refl, same_documents db)
+removed_elsewhere a name other apart =
+    become KeepsDocuments a (remove a name) other (get a other) (get a other) refl (get-remove nat_list_cmp_total a name other ∙ by (eq_by_cmp (slice_cmp nat_cmp) other name) refl)
+    (same_documents (found_or_new (get a other))) (λ db at. (db, at))
   where
-    by : (b : Bool) → eq_by_cmp (slice_cmp nat_cmp) other name ≡ b → cond b None (get a other) ≡ Some db
+    by : (b : Bool) → eq_by_cmp (slice_cmp nat_cmp) other name ≡ b → cond b None (get a other) ≡ get a other
     by true is = absurd (apart ((bytes_eq-Decides other name).0 (sym (is_eq-slice_cmp other name) ∙ is)))
-    by false is = at
+    by false is = refl
 
 other_change : (a : Contents) (m : Message) (name : List ℕ) (change : Change) → database_name_in m.path ≢ Some name → IsMade a m change → Becomes a name (with_change change a) KeepsDocuments
 other_change a m name kept apart made = nowhere a name
@@ -126,6 +131,13 @@ sparing p q t old new run h =
     ))
     theirs) run.happenings old run.seen new run.played h
 
+pub sparing_groups : SparingGroups
+sparing_groups g old new run h =
+    plays_so (λ who. IsHandled Steps) (λ r. IsOf g r.who ⊎ ((place : ℕ) (name : List ℕ) → g.databases place name ≡ true → Spares place name r)) (λ r. IsOf g r.who ⊎ IsPeaceful g r.old r.new)
+    (λ who a place m r b handled ours.
+    ⊎_elim (λ one. inl one) (λ spares. inr (inl (λ q name member. spared_at who a place m r b handled q name (cases_eq q place) (spares q name member)))) ours) run.happenings old run.seen
+    new run.played h
+
 -- ---- what arranges
 
 one_more : (ts : List Transfer) (v : Transfer) (n : ℕ) → (slice_get (ts ++ v ∷ []) n ≡ slice_get ts n) ⊎ ((n ≡ length ts) × (slice_get ts n ≡ None) × (slice_get (ts ++ v ∷ []) n ≡ Some v))
@@ -142,4 +154,21 @@ pub arrange : CallsArrange
 arrange = record {
   connecting = λ p q t u old homes connections. record { nodes = refl; there = inl refl; back = inl refl };
   starting = λ p q t u v old there back. record { nodes = refl; there = started old.transfers t v p there; back = started old.transfers u v q back };
+}
+
+started_ours : (g : Group) (ts : List Transfer) (v : Transfer) (n : ℕ) (t : Transfer) → (g.passes (length ts + 1) ≡ true → IsFresh g v) → g.passes n ≡ true → transfer_at (ts ++ v ∷ []) n ≡ Some t
+    → (transfer_at ts n ≡ Some t) ⊎ IsFresh g t
+started_ours g ts v zero t fresh ours is = absurd cc
+started_ours g ts v (suc n) t fresh ours is =
+    ⊎_elim (λ e. inl (sym e ∙ is))
+    (λ k.
+    let same : v ≡ t = one_transfer v t (sym k.2 ∙ is) in
+    let number : suc n ≡ length ts + 1 = omega (arith, k.0) in
+    inr (subst (IsFresh g) same (fresh (ap g.passes (sym number) ∙ ours))))
+    (one_more ts v n)
+
+pub arrange_for_groups : CallsArrangeForGroups
+arrange_for_groups = record {
+  connecting = λ g old homes connections. record { nodes = refl; passes = λ n t ours is. inl is };
+  starting = λ g v old fresh. record { nodes = refl; passes = λ n t ours is. started_ours g old.transfers v n t fresh ours is };
 }

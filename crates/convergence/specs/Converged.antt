@@ -4,9 +4,10 @@ use Rattle.std.specs.Prelude.{◌≡◌, ℕ, List, []}
 use Rattle.std.specs.List.{AllByRecursion}
 use Rattle.couch_json.specs.Value.{Value}
 use Rattle.tree.specs.History.{content_of}
+use Rattle.tree.specs.Revision.{Revision}
 use Rattle.tree.specs.Write as tree
 use Rattle.store.specs.Contents.{AreAcceptable}
-use Rattle.store.specs.Database.{Database, DocumentWrite, history_at, with_all}
+use Rattle.store.specs.Database.{Database, DocumentWrite, IsKnownAt, history_at, with_all}
 use Rattle.repl.specs.Configuration.{Configuration}
 use Rattle.repl.specs.Passes.{Pass}
 use Rattle.repl.specs.declared.phase.Phase.TheVariants.{Done}
@@ -32,6 +33,20 @@ abbrev pub WritesKeepAgreement : Type 0
 WritesKeepAgreement =
     (source target : Database) (ws : List DocumentWrite) → IsSound source → IsSound target → Agree source target → AllByRecursion (ComesFrom source) ws
     → AreAcceptable target ws → IsReplica source target (with_all target ws)
+
+-- Where writes come from a database that agrees with a third one, and are appended in another one that agrees with both, that one still agrees
+-- with the third. So passes among any number of databases that agree, two by two, keep that.
+abbrev pub WritesKeepOthersAgreement : Type 0
+WritesKeepOthersAgreement =
+    (source target third : Database) (ws : List DocumentWrite) → IsSound source → IsSound target → Agree source target → Agree source third → Agree target third
+    → AllByRecursion (ComesFrom source) ws → AreAcceptable target ws → Agree (with_all target ws) third
+
+-- Writes by which a database comes to know only revisions that another one doesn't know keep the agreement of the two. So an edit keeps it
+-- whose revision nobody else has.
+abbrev pub NewRevisionsKeepAgreement : Type 0
+NewRevisionsKeepAgreement =
+    (old third : Database) (ws : List DocumentWrite) → Agree old third → ((id : List ℕ) (r : Revision) → IsKnownAt (with_all old ws) id r → IsKnownAt third id r → IsKnownAt old id r)
+    → Agree (with_all old ws) third
 
 -- two sound databases that agree
 pub record IsPair (a b : Database) : Type 0 where

@@ -6,3 +6,6 @@ pub mod Converged
 pub mod Written
 pub mod Replicable
 pub mod Networks
+pub mod Ways
+pub mod Groups
+pub mod CaughtUp

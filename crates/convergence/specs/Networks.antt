@@ -15,10 +15,10 @@ use Rattle.node.specs.Runs.{Steps}
 use Rattle.node.specs.Step.{Serving}
 use Rattle.hub.specs.Connections.{ConnectionTable}
 use Rattle.repl.specs.Passes.{first_pass}
-use Rattle.world.specs.Keeping.{IsAt}
+use Rattle.world.specs.Keeping.{IsAt, StaysAt}
 use Rattle.world.specs.Network.{Network, Transfer, transfer_at}
 use Rattle.world.specs.Service.{Asker, by_pass, on_connection}
-use Rattle.completion.specs.Finished.{AreAllLawful, IsTold}
+use Rattle.completion.specs.Finished.{AreAllLawful, IsTold, database_at, source_of, target_of}
 use Rattle.completion.specs.Parted.{with_pass}
 use Rattle.completion.specs.Requests.{Handled, requests_of}
 use Rattle.completion.specs.Runs.{RunOf}
@@ -27,11 +27,12 @@ use Rattle.convergence.specs.Appended.{KeepsDocuments}
 use Rattle.convergence.specs.Converged.{HasCopiedAll}
 use Rattle.convergence.specs.Sound.{Agree, IsReplicable}
 
--- the database of this name at the node of this number, where there is one, is there afterwards, and became this
+-- The database of this name at the node of this number, or a new one where there is none, became this; and where there is one, it is there
+-- afterwards.
 abbrev pub BecomesAt : List (Serving Contents) → ℕ → List ℕ → List (Serving Contents) → (Database → Database → Type 0) → Type 0
-BecomesAt old place name new how = (db : Database) → IsAt old place name db → (now : Database) × IsAt new place name now × how db now
+BecomesAt old place name new how = how (database_at old place name) (database_at new place name) × StaysAt old new place name
 
--- both databases of a pass stay, and no document is written in them
+-- both databases of a pass stay, and no document is written in them; one that is not there may be created
 abbrev pub KeepsBoth : Transfer → List (Serving Contents) → List (Serving Contents) → Type 0
 KeepsBoth t old new =
     BecomesAt old t.from t.pass.configuration.source_db new KeepsDocuments × BecomesAt old t.to t.pass.configuration.target_db new KeepsDocuments
@@ -113,10 +114,10 @@ pub record AreReconcilable (a b : Database) : Type 0 where
 -- At every moment of such a course the two databases agree, if they did at first.
 abbrev pub CoursesKeepAgreement : Type 0
 CoursesKeepAgreement =
-    (p q : ℕ) (t u : Transfer) (ss : List Stage) (old new : Network Contents) (a b one other : Database) → AreOpposite t u → AreAhead p q t u old → Course p q t u ss old new
-    → AreEnds t old a b → AreReconcilable a b → AreEnds t new one other → AreReconcilable one other
+    (p q : ℕ) (t u : Transfer) (ss : List Stage) (old new : Network Contents) → AreOpposite t u → AreAhead p q t u old → Course p q t u ss old new
+    → AreReconcilable (source_of t old) (target_of t old) → AreReconcilable (source_of t new) (target_of t new)
 
--- Through such a course both databases stay there.
+-- Through such a course both databases stay there, each from when it is there.
 abbrev pub CoursesKeepBoth : Type 0
 CoursesKeepBoth =
     (p q : ℕ) (t u : Transfer) (ss : List Stage) (old new : Network Contents) (a b : Database) → AreOpposite t u → AreAhead p q t u old → Course p q t u ss old new → AreEnds t old a b
@@ -127,8 +128,8 @@ CoursesKeepBoth =
 -- bodies are plain, revisions can be written, and the databases agree.
 abbrev pub PassesOfANetworkConverge : Type 0
 PassesOfANetworkConverge =
-    (p q : ℕ) (t u : Transfer) (ss : List Stage) (old new : Network Contents) (a b one other : Database) → AreOpposite t u → AreAhead p q t u old → Course p q t u ss old new
-    → AreEnds t old a b → AreReconcilable a b → HasEnded p new → HasEnded q new → AreEnds t new one other → (id : List ℕ) → HaveSameTree (history_at one id) (history_at other id)
+    (p q : ℕ) (t u : Transfer) (ss : List Stage) (old new : Network Contents) → AreOpposite t u → AreAhead p q t u old → Course p q t u ss old new
+    → AreReconcilable (source_of t old) (target_of t old) → HasEnded p new → HasEnded q new → (id : List ℕ) → HaveSameTree (history_at (source_of t new) id) (history_at (target_of t new) id)
 
 -- ---- which runs are such
 

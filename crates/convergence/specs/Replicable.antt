@@ -8,6 +8,7 @@ use Rattle.couch_http.specs.Message.{Message}
 use Rattle.couch_http.specs.Reply.{Reply}
 use Rattle.store.specs.Contents.{Contents}
 use Rattle.store.specs.Database.{Database, history_at, sequence_at}
+use Rattle.store.specs.declared.store.Store.{Ghosts}
 use Rattle.tree.specs.History.{is_leaf}
 use Rattle.tree.specs.Revision.{Revision}
 use Rattle.node.specs.Runs.{Steps}
@@ -15,11 +16,12 @@ use Rattle.node.specs.Step.{Serving}
 use Rattle.passes.specs.Settled.{is_settled}
 use Rattle.repl.specs.Passes.{Pass}
 use Rattle.repl.specs.declared.phase.Phase.TheVariants.{Done}
-use Rattle.world.specs.Network.{Network, Transfer}
+use Rattle.world.specs.Network.{AreHonest, Network, Transfer, over_databases}
+use Rattle.completion.specs.Courses.{Course}
 use Rattle.completion.specs.Finished.{Begins, ListsLast, source_of, target_of}
 use Rattle.completion.specs.Requests.{AreKept, requests_of}
 use Rattle.completion.specs.Runs.{RunOf, pass_at}
-use Rattle.convergence.specs.Sound.{IsReplicable}
+use Rattle.convergence.specs.Sound.{AreWritable, IsReplicable}
 
 -- each database has plain bodies, and revisions that can be written
 abbrev pub AreReplicable : Contents → Type 0
@@ -38,12 +40,38 @@ AreAllReplicable nodes = (place : ℕ) (node : Serving Contents) → slice_get n
 abbrev pub RunsKeepReplicable : Type 0
 RunsKeepReplicable = (old new : Network Contents) → RunOf Steps old new → AreAllReplicable old.nodes → AreAllReplicable new.nodes
 
--- Where the databases of all nodes are so at first, a pass that is done owes nothing: each leaf that its source had at the last list, of a
+-- ---- revisions that can be written, alone
+
+-- each known revision of each database can be written
+abbrev pub HaveWritable : Contents → Type 0
+HaveWritable contents = (name : List ℕ) (db : Database) → get contents name ≡ Some db → AreWritable db
+
+-- A store without databases has such revisions alone, and whatever a node answers, they stay so, whatever bodies are.
+pub record StepsKeepWritable : Type 0 where
+  pub none : HaveWritable empty
+  pub steps : (c : auth.Configuration) (before : Contents) (m : Message) (r : Reply) (after : Contents) → Steps c before m r after → HaveWritable before → HaveWritable after
+
+-- the databases of each node have
+abbrev pub AreAllWritable : List (Serving Contents) → Type 0
+AreAllWritable nodes = (place : ℕ) (node : Serving Contents) → slice_get nodes place ≡ Some node → HaveWritable node.store
+
+-- So it stays through a run of a network, and through a course.
+abbrev pub RunsKeepWritable : Type 0
+RunsKeepWritable = (old new : Network Contents) → RunOf Steps old new → AreAllWritable old.nodes → AreAllWritable new.nodes
+
+abbrev pub CoursesKeepWritable : Type 0
+CoursesKeepWritable = (old new : Network Contents) → Course Steps old new → AreAllWritable old.nodes → AreAllWritable new.nodes
+
+-- Where at first all revisions can be written, a pass that is done owes nothing: each leaf that its source had at the last list, of a
 -- document whose sequence is above the start, is known at the target or reported, then and later.
 abbrev pub DonePassesOweNoLeaf : Type 0
 DonePassesOweNoLeaf =
-    (n : ℕ) (t : Transfer) (start listed now later : Network Contents) (run : RunOf Steps start now) (more : RunOf Steps now later) (p q : Pass) → Begins n t start → AreAllReplicable start.nodes
+    (n : ℕ) (t : Transfer) (start listed now later : Network Contents) (run : RunOf Steps start now) (more : RunOf Steps now later) (p q : Pass) → Begins n t start → AreAllWritable start.nodes
     → AreKept t (requests_of run) → ListsLast run n listed → pass_at now.transfers n ≡ Some p → p.phase ≡ Done
     → AreKept t (requests_of more) → pass_at later.transfers n ≡ Some q
     → (id : List ℕ) (r : Revision) → IsTrue (is_leaf (history_at (source_of t listed) id) r) → p.start_seq < sequence_at (source_of t listed) id
     → is_settled (target_of t later) q.refused id r ≡ true
+
+-- Where a store is such that an honest one has revisions that can be written, so have the nodes of a network that stand on honest ones.
+abbrev pub NodesAreWritable : {S : Type 0} → Ghosts S → Type 0
+NodesAreWritable {S} g = ((s : S) → g.is_honest s → HaveWritable (g.contents s)) → (old : Network S) → AreHonest g old.nodes → AreAllWritable (over_databases g old).nodes

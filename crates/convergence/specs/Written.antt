@@ -16,13 +16,15 @@ use Rattle.repl.specs.Configuration.{Configuration, database_of}
 use Rattle.repl.specs.Replies.{Opened, documents_of, revisions_opened}
 use Rattle.repl.specs.declared.side.Side.{Side}
 use Rattle.repl.specs.declared.side.Side.TheVariants.{Source}
+use Rattle.completion.specs.Finished.{found_or_new}
 use Rattle.passes.specs.Spelled.{AreBytes}
 use Rattle.passes.specs.Told.{Reads}
 use Rattle.convergence.specs.Appended.{Appends, IsShownBy, KeepsDocuments}
 
--- the database of this name, where there is one, is there afterwards, and became this
+-- The database of this name, or a new one where there is none, became this; and where there is one, it is there afterwards.
 abbrev pub Becomes : Contents → List ℕ → Contents → (Database → Database → Type 0) → Type 0
-Becomes before name after how = (db : Database) → get before name ≡ Some db → (now : Database) × (get after name ≡ Some now) × how db now
+Becomes before name after how =
+    how (found_or_new (get before name)) (found_or_new (get after name)) × ((db : Database) → get before name ≡ Some db → (now : Database) × (get after name ≡ Some now))
 
 -- no document is written in any database
 abbrev pub WritesNowhere : Contents → Contents → Type 0

@@ -39,7 +39,7 @@ impl Model for ArrayText {
 }
 
 impl ArrayText {
-    ghost use Rattle.std.specs.Prelude.{◌≡◌, ◌++◌, ◌∷◌, [], IfOk, OnOk};
+    ghost use Rattle.std.specs.Prelude.{◌≡◌, ◌++◌, ◌∷◌, [], IfOk, OnErr, OnOk};
     ghost use Rattle.couch_json.specs.Value.{array};
     ghost use Rattle.couch_json.specs.View.{items_of, view};
 
@@ -56,14 +56,16 @@ impl ArrayText {
 
     /// Writes one more element. After a refusal the array is as it was.
     pub fn push(&mut self, alloc: Global, value: &Json) -> Got<()>
-        ensures { OnOk result (self.new ≡ self.old ++ view value.now ∷ []) }
+        ensures ok { OnOk result (self.new ≡ self.old ++ view value.now ∷ []) }
+        ensures err { OnErr result (self.new ≡ self.old) }
     {
         self.push_text(JsonText::of(alloc, value)?)
     }
 
     /// Writes one more element, whose text there is. After a refusal the array is as it was.
     pub fn push_text(&mut self, value: JsonText) -> Got<()>
-        ensures { OnOk result (self.new ≡ self.old ++ value ∷ []) }
+        ensures ok { OnOk result (self.new ≡ self.old ++ value ∷ []) }
+        ensures err { OnErr result (self.new ≡ self.old) }
     {
         let element = put_comma(value.into_string(), self.is_empty)?;
         self.text.push_str(element.as_str())?;

@@ -7,7 +7,7 @@ use Rattle.std.proofs.lemmas.List.{length-append}
 use Rattle.store.specs.declared.store.Store.{Ghosts}
 use Rattle.hub.specs.Arrival.{Piece}
 use Rattle.hub.specs.Feeding.{HubState}
-use Rattle.engine.specs.Acts.{Act, opened, brought, took, closed}
+use Rattle.engine.specs.Acts.{Act, accepted, opened, brought, took, closed}
 use Rattle.engine.specs.Bound.{OwesWithinBound}
 use Rattle.engine.specs.Desks.{Desk, Does, Runs}
 use Rattle.engine.specs.Moves.{IsSet}
@@ -60,6 +60,7 @@ module _ {S : Type 0} (g : Ghosts S) where
   piece_bounded c old new given_up now piece words t = absurd t
 
   does_bounded : (old new : Desk S) (a : Act) (words : List ℕ) → Does g old a words new → AreBounded old.standings → AreBounded new.standings
+  does_bounded old new accepted words (said, is) there = subst (λ (d : Desk S). AreBounded d.standings) (sym is) there
   does_bounded old new (opened c) words (said, next, is) there =
       subst (λ (d : Desk S). AreBounded d.standings) (sym is)
       (bounded_set old.standings (insert old.standings c (serving [])) c (Some (serving [])) (set_insert old.standings c (serving [])) (bounded_some (serving []) (omega arith)) there)

@@ -1,5 +1,5 @@
 -- What was fed, piece by piece, and what it brings.
-use Rattle.std.proofs.Common.{◌≡◌, ◌≢◌, ◌∙◌, ◌⊎◌, inl, inr, ℕ, ◌+◌, ◌<◌, ◌==◌, ◌&&◌, Bool, true, false, cond, List, [], ◌∷◌, ◌++◌, map, Option, Some, None, is_some, refl, sym, ap, ap₂, subst, append_assoc, append-nil, arith, nat_le, true≢false}
+use Rattle.std.proofs.Common.{◌≡◌, ◌≢◌, ◌∙◌, ◌⊎◌, inl, inr, ℕ, ◌+◌, ◌≤◌, ◌<◌, ◌==◌, ◌&&◌, Bool, true, false, cond, List, [], ◌∷◌, ◌++◌, map, Option, Some, None, is_some, refl, sym, ap, ap₂, subst, append_assoc, append-nil, arith, nat_le, true≢false}
 use Rattle.std.specs.Cmp.{nat_cmp_total}
 use Rattle.std.specs.FinMap.{FinMap, empty, get, get-insert, gets, insert, remove}
 use Rattle.std.specs.Ordering.{eq_by_cmp, nat_cmp}
@@ -13,55 +13,26 @@ use Rattle.couch_http.specs.Message.{Message}
 use Rattle.couch_http.specs.Reply.{Reply}
 use Rattle.couch_http.specs.Stream.{Cuts, StreamEnd, unfinished, ended, faulty}
 use Rattle.store.specs.declared.store.Store.{Ghosts}
-use Rattle.node.specs.Runs.{IsRun, Stepped, end_of, messages_of}
+use Rattle.node.specs.Runs.{Stepped, messages_of}
 use Rattle.node.specs.Step.{Serving}
 use Rattle.hub.proofs.Arrivals.{rest_other, rest_same}
 use Rattle.hub.proofs.ServiceLemmas.{ended_here, was_open}
-use Rattle.hub.specs.Answering.{Serves, StoreSteps, replies_of}
+use Rattle.hub.proofs.Serving.{serves_none, serves_then}
+use Rattle.hub.specs.Answering.{Serves, replies_of}
 use Rattle.hub.specs.Arrival.{Arrival, Arrives, Piece, fault_between, fault_on, request_on, stream_of}
 use Rattle.hub.specs.Connections.{ConnectionTable, is_open, next_connection, rest_on, was_opened, with_connection, with_rest, without}
-use Rattle.hub.specs.Endings.{rest_of}
+use Rattle.hub.specs.Endings.{last_replies, rest_of}
 use Rattle.hub.specs.Feeding.{HubState}
-use Rattle.engine.specs.Acts.{Act, opened, brought, took, closed}
+use Rattle.hub.specs.Service.{bytes_of, farewell, hub_without}
+use Rattle.engine.specs.Acts.{Act, accepted, opened, brought, took, closed, conn_of}
 use Rattle.engine.specs.Desks.{Desk, Does, Runs}
 use Rattle.engine.specs.Order.{HandlesInOrder, fed_in, requests_of}
-use Rattle.engine.specs.Standing.{Feeds, Standing, ending, given_up, serving, with_owed}
-use Rattle.engine.proofs.Deeds.{set_insert, set_remove}
+use Rattle.engine.specs.Saying.{IsSaid, SaysInOrder, replies_on}
+use Rattle.engine.specs.Standing.{Feeds, Owes, Standing, TakesPiece, ending, given_up, serving, with_owed}
+use Rattle.engine.proofs.Deeds.{set_here, set_insert, set_remove}
 use Rattle.engine.proofs.Keeping.{runs_keep}
 use Rattle.engine.proofs.Steps.{none_stands}
-use Rattle.engine.proofs.Takings.{own, other, rest_opened, set_other, without_opened}
-
--- ---- runs of requests
-
-module _ {S : Type 0} (step : S → Message → Reply → S → Type 0) where
-  run_more : (before : S) (xs ys : List (Stepped S)) → IsRun step before xs → IsRun step (end_of before xs) ys → IsRun step before (xs ++ ys)
-  run_more before [] ys h k = k
-  run_more before (x ∷ xs) ys h k = (h.0, run_more x.after xs ys h.1 k)
-
-end_more : {S : Type 0} (before : S) (xs ys : List (Stepped S)) → end_of before (xs ++ ys) ≡ end_of (end_of before xs) ys
-end_more before [] ys = refl
-end_more before (x ∷ xs) ys = end_more x.after xs ys
-
-messages_more : {S : Type 0} (xs ys : List (Stepped S)) → messages_of (xs ++ ys) ≡ messages_of xs ++ messages_of ys
-messages_more [] ys = refl
-messages_more (x ∷ xs) ys = ap (λ (ms : List Message). x.message ∷ ms) (messages_more xs ys)
-
-replies_more : {S : Type 0} (xs ys : List (Stepped S)) → replies_of (xs ++ ys) ≡ replies_of xs ++ replies_of ys
-replies_more [] ys = refl
-replies_more (x ∷ xs) ys = ap (λ (rs : List Reply). x.reply ∷ rs) (replies_more xs ys)
-
-module _ {S : Type 0} (g : Ghosts S) (c : Configuration) where
-  served_none : (s : S) → Serves g c s [] [] s
-  served_none s = record { steps = []; run = tt; requests = refl; answers = refl; ends = refl }
-
-  served_more : (a b d : S) (ms ns : List Message) (rs ss : List Reply) → Serves g c a ms rs b → Serves g c b ns ss d → Serves g c a (ms ++ ns) (rs ++ ss) d
-  served_more a b d ms ns rs ss x y = record {
-    steps = x.steps ++ y.steps;
-    run = run_more (StoreSteps g c) a x.steps y.steps x.run (subst (λ (s : S). IsRun (StoreSteps g c) s y.steps) (sym x.ends) y.run);
-    requests = messages_more x.steps y.steps ∙ ap (λ (l : List Message). l ++ messages_of y.steps) x.requests ∙ ap (λ (l : List Message). ms ++ l) y.requests;
-    answers = replies_more x.steps y.steps ∙ ap (λ (l : List Reply). l ++ replies_of y.steps) x.answers ∙ ap (λ (l : List Reply). rs ++ l) y.answers;
-    ends = end_more a x.steps y.steps ∙ ap (λ (s : S). end_of s y.steps) x.ends ∙ y.ends;
-  }
+use Rattle.engine.proofs.Takings.{nothing, own, other, piece_opened, rest_opened, set_other, without_opened}
 
 -- ---- arrivals
 
@@ -89,6 +60,112 @@ stream_own ps p conn same = stream_push ps p conn ∙ ap (λ (xs : List ℕ). st
 
 stream_other : (ps : List Piece) (p : Piece) (conn : ℕ) → conn ≢ p.conn → stream_of (ps ++ p ∷ []) conn ≡ stream_of ps conn
 stream_other ps p conn apart = stream_push ps p conn ∙ ap (λ (xs : List ℕ). stream_of ps conn ++ xs) (other p.conn conn p.bytes apart) ∙ append-nil (stream_of ps conn)
+
+-- ---- what is said
+
+-- the replies to what arrived were said to each connection
+abbrev Says : List Piece → List Arrival → List Reply → Type 0
+Says said arrivals replies = (conn : ℕ) → IsSaid (stream_of said conn) (replies_on conn arrivals replies)
+
+says_nothing : (said : List Piece) → said ≡ [] → Says said [] []
+says_nothing said none conn = inl (ap (λ (ps : List Piece). stream_of ps conn) none)
+
+says_quiet : (said others : List Piece) (arrivals : List Arrival) (replies : List Reply) (c : ℕ) (words : List ℕ) → said ≡ record { conn = c; bytes = words } ∷ others → words ≡ []
+    → Says others arrivals replies → Says said arrivals replies
+says_quiet said others arrivals replies c words is none says conn =
+    subst (λ (xs : List ℕ). IsSaid xs (replies_on conn arrivals replies))
+    (sym (ap (λ (ps : List Piece). stream_of ps conn) is ∙ ap (λ (xs : List ℕ). xs ++ stream_of others conn) (nothing (c == conn) words none))) (says conn)
+
+mine_none : {A : Type 0} (b : Bool) (xs : List A) → xs ≡ cond b [] [] ++ xs
+mine_none true xs = refl
+mine_none false xs = refl
+
+mine_more : {A : Type 0} (b : Bool) (xs ys : List A) → cond b xs [] ++ cond b ys [] ≡ cond b (xs ++ ys) []
+mine_more true xs ys = refl
+mine_more false xs ys = refl
+
+mine_bytes : (b : Bool) (rs : List Reply) → bytes_of (cond b rs []) ≡ cond b (bytes_of rs) []
+mine_bytes true rs = refl
+mine_bytes false rs = refl
+
+bytes_more : (rs ss : List Reply) → bytes_of (rs ++ ss) ≡ bytes_of rs ++ bytes_of ss
+bytes_more [] ss = refl
+bytes_more (r ∷ rs) ss = ap (λ (xs : List ℕ). r.bytes ++ xs) (bytes_more rs ss) ∙ sym (append_assoc r.bytes (bytes_of rs) (bytes_of ss))
+
+-- the replies to requests that arrive one behind the other on one connection
+replies_run : {S : Type 0} (conn c : ℕ) (steps : List (Stepped S)) (arrivals : List Arrival) (replies : List Reply)
+    → replies_on conn (map (request_on c) (messages_of steps) ++ arrivals) (replies_of steps ++ replies) ≡ cond (c == conn) (replies_of steps) [] ++ replies_on conn arrivals replies
+replies_run conn c [] arrivals replies = mine_none (c == conn) (replies_on conn arrivals replies)
+replies_run conn c (x ∷ steps) arrivals replies =
+    ap (λ (rs : List Reply). cond (c == conn) (x.reply ∷ []) [] ++ rs) (replies_run conn c steps arrivals replies)
+    ∙ sym (append_assoc (cond (c == conn) (x.reply ∷ []) []) (cond (c == conn) (replies_of steps) []) (replies_on conn arrivals replies))
+    ∙ ap (λ (rs : List Reply). rs ++ replies_on conn arrivals replies) (mine_more (c == conn) (x.reply ∷ []) (replies_of steps))
+
+replies_fault : (conn c : ℕ) (rest : List ℕ) (end : StreamEnd) (arrivals : List Arrival) (replies : List Reply)
+    → replies_on conn (fault_between c (unfinished rest) end ++ arrivals) replies ≡ cond (c == conn) (last_replies end) [] ++ replies_on conn arrivals replies
+replies_fault conn c rest (unfinished left) arrivals replies = mine_none (c == conn) (replies_on conn arrivals replies)
+replies_fault conn c rest ended arrivals replies = mine_none (c == conn) (replies_on conn arrivals replies)
+replies_fault conn c rest (faulty f) arrivals replies = refl
+
+-- a piece was fed
+replies_fed : {S : Type 0} (conn c : ℕ) (steps : List (Stepped S)) (messages : List Message) (answers : List Reply) (rest : List ℕ) (end : StreamEnd) (arrivals : List Arrival) (replies : List Reply)
+    → messages_of steps ≡ messages → replies_of steps ≡ answers
+    → replies_on conn ((map (request_on c) messages ++ fault_between c (unfinished rest) end) ++ arrivals) (answers ++ replies)
+    ≡ cond (c == conn) (answers ++ last_replies end) [] ++ replies_on conn arrivals replies
+replies_fed conn c steps messages answers rest end arrivals replies requests is =
+    ap (λ (xs : List Arrival). replies_on conn xs (answers ++ replies)) (append_assoc (map (request_on c) messages) (fault_between c (unfinished rest) end) arrivals)
+    ∙ ap₂ (λ (ms : List Message) (rs : List Reply). replies_on conn (map (request_on c) ms ++ (fault_between c (unfinished rest) end ++ arrivals)) (rs ++ replies)) (sym requests) (sym is)
+    ∙ replies_run conn c steps (fault_between c (unfinished rest) end ++ arrivals) replies
+    ∙ ap₂ (λ (rs ss : List Reply). cond (c == conn) rs [] ++ ss) is (replies_fault conn c rest end arrivals replies)
+    ∙ sym (append_assoc (cond (c == conn) answers []) (cond (c == conn) (last_replies end) []) (replies_on conn arrivals replies))
+    ∙ ap (λ (rs : List Reply). rs ++ replies_on conn arrivals replies) (mine_more (c == conn) answers (last_replies end))
+
+says_fed : {S : Type 0} (said others : List Piece) (arrivals : List Arrival) (replies : List Reply) (c : ℕ) (words : List ℕ) (list : List Reply) (messages : List Message) (answers : List Reply) (rest : List ℕ) (end : StreamEnd)
+    (steps : List (Stepped S)) → said ≡ record { conn = c; bytes = words } ∷ others → words ≡ bytes_of list → list ≡ answers ++ last_replies end → messages_of steps ≡ messages → replies_of steps ≡ answers
+    → Says others arrivals replies → Says said ((map (request_on c) messages ++ fault_between c (unfinished rest) end) ++ arrivals) (answers ++ replies)
+says_fed said others arrivals replies c words list messages answers rest end steps is told lists requests served says conn = by (says conn)
+  where
+    mine : List Reply
+    mine = cond (c == conn) (answers ++ last_replies end) []
+
+    first : cond (c == conn) words [] ≡ bytes_of mine
+    first = ap (λ (xs : List ℕ). cond (c == conn) xs []) (told ∙ ap bytes_of lists) ∙ sym (mine_bytes (c == conn) (answers ++ last_replies end))
+
+    stream : stream_of said conn ≡ bytes_of mine ++ stream_of others conn
+    stream = ap (λ (ps : List Piece). stream_of ps conn) is ∙ ap (λ (xs : List ℕ). xs ++ stream_of others conn) first
+
+    whole : bytes_of (replies_on conn ((map (request_on c) messages ++ fault_between c (unfinished rest) end) ++ arrivals) (answers ++ replies)) ≡ bytes_of mine ++ bytes_of (replies_on conn arrivals replies)
+    whole = ap bytes_of (replies_fed conn c steps messages answers rest end arrivals replies requests served) ∙ bytes_more mine (replies_on conn arrivals replies)
+
+    by : IsSaid (stream_of others conn) (replies_on conn arrivals replies)
+        → IsSaid (stream_of said conn) (replies_on conn ((map (request_on c) messages ++ fault_between c (unfinished rest) end) ++ arrivals) (answers ++ replies))
+    by (inl e) = inl (stream ∙ ap (λ (xs : List ℕ). bytes_of mine ++ xs) e ∙ sym whole)
+    by (inr e) =
+        inr (stream ∙ ap (λ (xs : List ℕ). bytes_of mine ++ xs) e ∙ sym (append_assoc (bytes_of mine) (bytes_of (replies_on conn arrivals replies)) farewell)
+        ∙ ap (λ (xs : List ℕ). xs ++ farewell) (sym whole))
+
+no_front : (xs ys : List ℕ) → xs ++ ys ≡ [] → xs ≡ []
+no_front [] ys e = refl
+no_front (x ∷ xs) ys e = absurd cc
+
+none_before : (bytes : List ℕ) (rs : List Reply) → bytes ≡ [] → IsSaid bytes rs → bytes_of rs ≡ []
+none_before bytes rs none (inl e) = sym e ∙ none
+none_before bytes rs none (inr e) = no_front (bytes_of rs) farewell (sym e ∙ none)
+
+-- the hub refused a piece, and nothing is said behind the farewell
+says_farewell : (said others : List Piece) (arrivals : List Arrival) (replies : List Reply) (c : ℕ) (words : List ℕ) → said ≡ record { conn = c; bytes = words } ∷ others → words ≡ farewell → stream_of others c ≡ []
+    → Says others arrivals replies → Says said arrivals replies
+says_farewell said others arrivals replies c words is told none says conn = by (cases_eq conn c)
+  where
+    stream : stream_of said conn ≡ cond (c == conn) words [] ++ stream_of others conn
+    stream = ap (λ (ps : List Piece). stream_of ps conn) is
+
+    by : (conn ≡ c) ⊎ (conn ≢ c) → IsSaid (stream_of said conn) (replies_on conn arrivals replies)
+    by (inl same) =
+        let nothing_more : stream_of others conn ≡ [] = ap (λ (k : ℕ). stream_of others k) same ∙ none in
+        let unsaid : bytes_of (replies_on conn arrivals replies) ≡ [] = none_before (stream_of others conn) (replies_on conn arrivals replies) nothing_more (says conn) in
+        inr (stream ∙ ap₂ (λ (xs ys : List ℕ). xs ++ ys) (own c conn words (sym same) ∙ told) nothing_more ∙ append-nil farewell ∙ ap (λ (xs : List ℕ). xs ++ farewell) (sym unsaid))
+    by (inr apart) = subst (λ (xs : List ℕ). IsSaid xs (replies_on conn arrivals replies)) (sym (stream ∙ ap (λ (xs : List ℕ). xs ++ stream_of others conn) (other c conn words apart))) (says conn)
 
 -- ---- rests
 
@@ -123,24 +200,33 @@ and_false true = refl
 and_false false = refl
 
 -- no number that was not given has a rest
-given : (t : ConnectionTable) (c : ℕ) (rest : List ℕ) → rest_on t c ≡ Some rest → t.opened < c → ⊥
-given t c rest at lt =
+not_given : (t : ConnectionTable) (c : ℕ) (rest : List ℕ) → rest_on t c ≡ Some rest → t.opened < c → ⊥
+not_given t c rest at lt =
     let high : nat_le c t.opened ≡ false = grind (arith, nat_tests) in
     (was_open t c (ap (λ (o : Option (List ℕ)). is_some o) at)).0 (ap (λ (b : Bool). nat_le 1 c && b) high ∙ and_false (nat_le 1 c))
 
 module _ {S : Type 0} (g : Ghosts S) where
-  -- each connection keeps the rest of what was fed of it, and nothing was fed of those to come
+  -- each connection keeps the rest of what was fed of it, nothing was fed of those to come, and none of these stands
   record Held (d : Desk S) (earlier : List Piece) : Type 0 where
     pub known : (c : ℕ) (s : Standing) (rest : List ℕ) → get d.standings c ≡ Some s → rest_on d.hub.connections c ≡ Some rest
         → (ms : List Message) × Cuts (stream_of earlier c) ms (unfinished rest)
     pub fresh : (c : ℕ) → d.hub.connections.opened < c → stream_of earlier c ≡ []
+    pub given : (c : ℕ) (s : Standing) → get d.standings c ≡ Some s → c ≤ d.hub.connections.opened
 
   held_opened : (old new : Desk S) (earlier : List Piece) (c : ℕ) (words : List ℕ) → Held old earlier → Does g old (opened c) words new → Held new earlier
   held_opened old new earlier c words held (said, next, is) = record {
     known = λ k s rest at on. here k s rest (sym (ap (λ (d : Desk S). get d.standings k) is) ∙ at) (sym (ap (λ (d : Desk S). rest_on d.hub.connections k) is) ∙ on) (cases_eq k c);
     fresh = λ k lt. held.fresh k (let e = ap (λ (d : Desk S). d.hub.connections.opened) is in omega (arith, e, lt));
+    given = λ k s at. let e = ap (λ (d : Desk S). d.hub.connections.opened) is in
+        let le = stands k s (sym (ap (λ (d : Desk S). get d.standings k) is) ∙ at) (cases_eq k c) in omega (arith, e, le);
   }
     where
+      stands : (k : ℕ) (s : Standing) → get (insert old.standings c (serving [])) k ≡ Some s → (k ≡ c) ⊎ (k ≢ c) → k ≤ old.hub.connections.opened + 1
+      stands k s at (inl same) = omega (arith, same, next)
+      stands k s at (inr apart) =
+          let le = held.given k s (sym (set_other old.standings (insert old.standings c (serving [])) c k (Some (serving [])) (set_insert old.standings c (serving [])) apart) ∙ at) in
+          omega (arith, le)
+
       here : (k : ℕ) (s : Standing) (rest : List ℕ) → get (insert old.standings c (serving [])) k ≡ Some s → rest_on (with_connection old.hub.connections) k ≡ Some rest → (k ≡ c) ⊎ (k ≢ c)
           → (ms : List Message) × Cuts (stream_of earlier k) ms (unfinished rest)
       here k s rest at on (inl same) =
@@ -154,12 +240,18 @@ module _ {S : Type 0} (g : Ghosts S) where
 
   -- where the hub lets a connection go
   held_gone : (old new : Desk S) (earlier : List Piece) (c : ℕ) → Held old earlier → new.hub.connections ≡ without old.hub.connections c
-      → ((k : ℕ) → k ≢ c → get new.standings k ≡ get old.standings k) → Held new earlier
-  held_gone old new earlier c held is same = record {
+      → ((k : ℕ) → k ≢ c → get new.standings k ≡ get old.standings k) → ((s : Standing) → get new.standings c ≡ Some s → c ≤ old.hub.connections.opened) → Held new earlier
+  held_gone old new earlier c held is same own = record {
     known = λ k s rest at on. here k s rest at (sym (ap (λ (t : ConnectionTable). rest_on t k) is) ∙ on) (cases_eq k c);
     fresh = λ k lt. held.fresh k (let e = ap (λ (t : ConnectionTable). t.opened) is ∙ without_opened old.hub.connections c in omega (arith, e, lt));
+    given = λ k s at. let e = ap (λ (t : ConnectionTable). t.opened) is ∙ without_opened old.hub.connections c in
+        let le = stands k s at (cases_eq k c) in omega (arith, e, le);
   }
     where
+      stands : (k : ℕ) (s : Standing) → get new.standings k ≡ Some s → (k ≡ c) ⊎ (k ≢ c) → k ≤ old.hub.connections.opened
+      stands k s at (inl eq) = let le = own s (ap (λ (q : ℕ). get new.standings q) (sym eq) ∙ at) in omega (arith, eq, le)
+      stands k s at (inr apart) = held.given k s (sym (same k apart) ∙ at)
+
       here : (k : ℕ) (s : Standing) (rest : List ℕ) → get new.standings k ≡ Some s → rest_on (without old.hub.connections c) k ≡ Some rest → (k ≡ c) ⊎ (k ≢ c)
           → (ms : List Message) × Cuts (stream_of earlier k) ms (unfinished rest)
       here k s rest at on (inl eq) =
@@ -172,8 +264,14 @@ module _ {S : Type 0} (g : Ghosts S) where
   held_still old new earlier c was now held same at is = record {
     known = λ k s rest here on. by k s rest here (sym (ap (λ (t : ConnectionTable). rest_on t k) same) ∙ on) (cases_eq k c);
     fresh = λ k lt. held.fresh k (let e = ap (λ (t : ConnectionTable). t.opened) same in omega (arith, e, lt));
+    given = λ k s here. let e = ap (λ (t : ConnectionTable). t.opened) same in let le = stands k s here (cases_eq k c) in omega (arith, e, le);
   }
     where
+      stands : (k : ℕ) (s : Standing) → get new.standings k ≡ Some s → (k ≡ c) ⊎ (k ≢ c) → k ≤ old.hub.connections.opened
+      stands k s here (inl eq) = let le = held.given c was at in omega (arith, eq, le)
+      stands k s here (inr apart) =
+          held.given k s (sym (ap (λ (m : FinMap nat_cmp Standing). get m k) is ∙ set_other old.standings (insert old.standings c now) c k (Some now) (set_insert old.standings c now) apart) ∙ here)
+
       by : (k : ℕ) (s : Standing) (rest : List ℕ) → get new.standings k ≡ Some s → rest_on old.hub.connections k ≡ Some rest → (k ≡ c) ⊎ (k ≢ c)
           → (ms : List Message) × Cuts (stream_of earlier k) ms (unfinished rest)
       by k s rest here on (inl eq) = held.known k was rest (ap (λ (q : ℕ). get old.standings q) eq ∙ at) on
@@ -188,9 +286,16 @@ module _ {S : Type 0} (g : Ghosts S) where
     known = λ k s rest here on. by k s rest here (sym (ap (λ (t : ConnectionTable). rest_on t k) feeds.fed.left) ∙ on) (cases_eq k c);
     fresh = λ k lt. let e = ap (λ (t : ConnectionTable). t.opened) feeds.fed.left ∙ rest_opened old.hub.connections c (rest_of feeds.fed.end) in
         let under : old.hub.connections.opened < k = omega (arith, e, lt) in
-        stream_other earlier (record { conn = c; bytes = piece }) k (λ eq. given old.hub.connections c feeds.fed.rest feeds.fed.was (subst (λ (q : ℕ). old.hub.connections.opened < q) eq under)) ∙ held.fresh k under;
+        stream_other earlier (record { conn = c; bytes = piece }) k (λ eq. not_given old.hub.connections c feeds.fed.rest feeds.fed.was (subst (λ (q : ℕ). old.hub.connections.opened < q) eq under)) ∙ held.fresh k under;
+    given = λ k s here. let e = ap (λ (t : ConnectionTable). t.opened) feeds.fed.left ∙ rest_opened old.hub.connections c (rest_of feeds.fed.end) in
+        let le = stands k s here (cases_eq k c) in omega (arith, e, le);
   }
     where
+      stands : (k : ℕ) (s : Standing) → get new.standings k ≡ Some s → (k ≡ c) ⊎ (k ≢ c) → k ≤ old.hub.connections.opened
+      stands k s here (inl eq) = let le = held.given c was at in omega (arith, eq, le)
+      stands k s here (inr apart) =
+          held.given k s (sym (ap (λ (m : FinMap nat_cmp Standing). get m k) is ∙ set_other old.standings (insert old.standings c now) c k (Some now) (set_insert old.standings c now) apart) ∙ here)
+
       onward : (k : ℕ) (rest : List ℕ) (end : StreamEnd) (ms ns : List Message) → rest_of end ≡ Some rest → Cuts (stream_of earlier k) ms (unfinished feeds.fed.rest) → Cuts (feeds.fed.rest ++ piece) ns end
           → (l : List Message) × Cuts (stream_of earlier k ++ piece) l (unfinished rest)
       onward k rest (unfinished left) ms ns e before cuts =
@@ -211,25 +316,138 @@ module _ {S : Type 0} (g : Ghosts S) where
           (sym (rest_other old.hub.connections c k (rest_of feeds.fed.end) apart) ∙ on) in
           (before.0, subst (λ (l : List ℕ). Cuts l before.0 (unfinished rest)) (sym (stream_other earlier (record { conn = c; bytes = piece }) k apart)) before.1)
 
-  -- these pieces bring arrivals whose requests are served in order
-  abbrev Handled : Serving S → List Piece → List Piece → S → Type 0
-  Handled node earlier pieces after =
+  -- ---- what is said
+
+  -- a connection whose number was given, and which isn't served any more
+  record IsQuiet (conn : ℕ) (d : Desk S) : Type 0 where
+    pub still : conn ≤ d.hub.connections.opened
+    pub unserved : (owed : List ℕ) → get d.standings conn ≢ Some (serving owed)
+
+  not_serving : (x : Standing) (owed left : List ℕ) → ((bytes : List ℕ) → x ≢ serving bytes) → with_owed x left ≢ serving owed
+  not_serving (serving bytes) owed left un e = un bytes refl
+  not_serving (ending bytes) owed left un e = absurd cc
+  not_serving given_up owed left un e = absurd cc
+
+  some_standing : (x y : Standing) → Some x ≡ Some y → x ≡ y
+  some_standing x y e = cc
+
+  -- it stays so, and no act says anything to it
+  quiet_does : (conn : ℕ) (old new : Desk S) (a : Act) (words : List ℕ) → IsQuiet conn old → Does g old a words new → IsQuiet conn new × (cond (conn_of a == conn) words [] ≡ [])
+  quiet_does conn old new accepted words q (said, is) = (subst (λ (d : Desk S). IsQuiet conn d) (sym is) q, nothing (0 == conn) words said)
+  quiet_does conn old new (opened c) words q (said, next, is) = (
+    record {
+      still = let e = ap (λ (d : Desk S). d.hub.connections.opened) is in let le = q.still in omega (arith, e, le);
+      unserved = λ owed at. q.unserved owed (sym (ap (λ (d : Desk S). get d.standings conn) is
+          ∙ set_other old.standings (insert old.standings c (serving [])) c conn (Some (serving [])) (set_insert old.standings c (serving [])) (λ e. let le = q.still in omega (arith, e, next, le))) ∙ at);
+    },
+    nothing (c == conn) words said,
+  )
+  quiet_does conn old new (closed c) words q (said, is) = (
+    record {
+      still = let e = ap (λ (d : Desk S). d.hub.connections.opened) is ∙ without_opened old.hub.connections c in let le = q.still in omega (arith, e, le);
+      unserved = λ owed at. by owed (sym (ap (λ (d : Desk S). get d.standings conn) is) ∙ at) (cases_eq conn c);
+    },
+    nothing (c == conn) words said,
+  )
+    where
+      by : (owed : List ℕ) → get (remove old.standings c) conn ≡ Some (serving owed) → (conn ≡ c) ⊎ (conn ≢ c) → ⊥
+      by owed at (inl same) =
+          let gone : None ≡ Some (serving owed) = sym (ap (λ (k : ℕ). get (remove old.standings c) k) same ∙ set_here old.standings (remove old.standings c) c None (set_remove old.standings c)) ∙ at in cc
+      by owed at (inr apart) = q.unserved owed (sym (set_other old.standings (remove old.standings c) c conn None (set_remove old.standings c) apart) ∙ at)
+  quiet_does conn old new (took c bytes) words q (was, left, at, owed, said, is) = (
+    record {
+      still = let e = ap (λ (d : Desk S). d.hub.connections.opened) is in let le = q.still in omega (arith, e, le);
+      unserved = λ o there. by o (sym (ap (λ (d : Desk S). get d.standings conn) is) ∙ there) (cases_eq conn c);
+    },
+    nothing (c == conn) words said,
+  )
+    where
+      by : (o : List ℕ) → get (insert old.standings c (with_owed was left)) conn ≡ Some (serving o) → (conn ≡ c) ⊎ (conn ≢ c) → ⊥
+      by o there (inl same) =
+          not_serving was o left (λ bytes e. q.unserved bytes (ap (λ (k : ℕ). get old.standings k) same ∙ at ∙ ap Some e))
+          (some_standing (with_owed was left) (serving o) (sym (ap (λ (k : ℕ). get (insert old.standings c (with_owed was left)) k) same ∙ set_here old.standings (insert old.standings c (with_owed was left)) c (Some (with_owed was left)) (set_insert old.standings c (with_owed was left))) ∙ there))
+      by o there (inr apart) =
+          q.unserved o (sym (set_other old.standings (insert old.standings c (with_owed was left)) c conn (Some (with_owed was left)) (set_insert old.standings c (with_owed was left)) apart) ∙ there)
+  quiet_does conn old new (brought c piece) words q (was, now, at, takes, is) = by (cases_eq conn c)
+    where
+      still : conn ≤ new.hub.connections.opened
+      still = let e = piece_opened g c old.hub new.hub was now piece words takes in let le = q.still in omega (arith, e, le)
+
+      passed : (x : Standing) → ((bytes : List ℕ) → x ≢ serving bytes) → TakesPiece g c old.hub x piece words new.hub now → (words ≡ []) × ((bytes : List ℕ) → now ≢ serving bytes)
+      passed (serving bytes) un t = absurd (un bytes refl)
+      passed (ending []) un (said, same, stands) = (said, λ bytes e. absurd (let x : ending [] ≡ serving bytes = sym stands ∙ e in cc))
+      passed (ending (b ∷ bs)) un t = absurd t
+      passed given_up un t = absurd t
+
+      by : (conn ≡ c) ⊎ (conn ≢ c) → IsQuiet conn new × (cond (c == conn) words [] ≡ [])
+      by (inl same) =
+          let p = passed was (λ bytes e. q.unserved bytes (ap (λ (k : ℕ). get old.standings k) same ∙ at ∙ ap Some e)) takes in (
+            record {
+              still = still;
+              unserved = λ o there. p.1 o (some_standing now (serving o) (sym (ap (λ (m : FinMap nat_cmp Standing). get m conn) is ∙ ap (λ (k : ℕ). get (insert old.standings c now) k) same ∙ set_here old.standings (insert old.standings c now) c (Some now) (set_insert old.standings c now)) ∙ there));
+            },
+            nothing (c == conn) words p.0,
+          )
+      by (inr apart) = (
+        record {
+          still = still;
+          unserved = λ o there. q.unserved o (sym (ap (λ (m : FinMap nat_cmp Standing). get m conn) is ∙ set_other old.standings (insert old.standings c now) c conn (Some now) (set_insert old.standings c now) apart) ∙ there);
+        },
+        other c conn words apart,
+      )
+
+  quiet_says : (conn : ℕ) (old new : Desk S) (acts : List Act) (said : List Piece) → IsQuiet conn old → Runs g old acts said new → stream_of said conn ≡ []
+  quiet_says conn old new [] said q (none, is) = ap (λ (ps : List Piece). stream_of ps conn) none
+  quiet_says conn old new (a ∷ acts) said q (words, others, between, does, rest, is) =
+      let first = quiet_does conn old between a words q does in
+      ap (λ (ps : List Piece). stream_of ps conn) is ∙ ap (λ (xs : List ℕ). xs ++ stream_of others conn) first.1 ∙ quiet_says conn between new acts others first.0 rest
+
+  -- so it is where the hub refused a piece
+  refused_quiet : (c : ℕ) (old new : HubState S) → new ≡ hub_without c old → c ≤ old.connections.opened → (now : Standing) (m k : FinMap nat_cmp Standing) → m ≡ insert k c now → Owes now true farewell
+      → IsQuiet c (record { hub = new; standings = m })
+  refused_quiet c old new is le now m k made owes = record {
+    still = let e = ap (λ (h : HubState S). h.connections.opened) is ∙ without_opened old.connections c in omega (arith, e, le);
+    unserved = λ o there. by now owes o (some_standing now (serving o) (sym (ap (λ (x : FinMap nat_cmp Standing). get x c) made ∙ set_here k (insert k c now) c (Some now) (set_insert k c now)) ∙ there));
+  }
+    where
+      by : (x : Standing) → Owes x true farewell → (o : List ℕ) → x ≢ serving o
+      by (serving bytes) (last, said, bound) o e = true≢false last
+      by (ending bytes) owes o e = absurd cc
+      by given_up owes o e = absurd cc
+
+  -- these pieces bring arrivals whose requests are served in order, and their replies were said
+  abbrev Handled : Serving S → List Piece → List Piece → List Piece → S → Type 0
+  Handled node earlier pieces said after =
       (arrivals : List Arrival) × (replies : List Reply) × Arrives earlier pieces arrivals × Serves g node.configuration node.store (requests_of arrivals) replies after
+      × Says said arrivals replies
+
+  -- the same behind an act by which nothing is said
+  quietly : (node : Serving S) (earlier pieces said others : List Piece) (after : S) (c : ℕ) (words : List ℕ) → said ≡ record { conn = c; bytes = words } ∷ others → words ≡ []
+      → Handled node earlier pieces others after → Handled node earlier pieces said after
+  quietly node earlier pieces said others after c words is none (arrivals, replies, arrive, serve, says) = (arrivals, replies, arrive, serve, says_quiet said others arrivals replies c words is none says)
 
   handles : (old new : Desk S) (acts : List Act) (said : List Piece) (earlier : List Piece) (runs : Runs g old acts said new) → Held old earlier → g.is_honest new.hub.node.store
-      → Handled old.hub.node earlier (fed_in g old acts said new runs) new.hub.node.store
+      → Handled old.hub.node earlier (fed_in g old acts said new runs) said new.hub.node.store
   handles old new [] said earlier (none, is) held honest =
-      ([], [], refl, subst (λ (d : Desk S). Serves g old.hub.node.configuration old.hub.node.store [] [] d.hub.node.store) (sym is) (served_none g old.hub.node.configuration old.hub.node.store))
+      ([], [], refl, subst (λ (d : Desk S). Serves g old.hub.node.configuration old.hub.node.store [] [] d.hub.node.store) (sym is) (serves_none g old.hub.node.configuration old.hub.node.store), says_nothing said none)
+  handles old new (accepted ∷ acts) said earlier (words, others, between, (quiet, is), rest, all) held honest =
+      quietly old.hub.node earlier (fed_in g between acts others new rest) said others new.hub.node.store 0 words all quiet
+      (subst (λ (n : Serving S). Handled n earlier (fed_in g between acts others new rest) others new.hub.node.store) (ap (λ (d : Desk S). d.hub.node) is)
+      (handles between new acts others earlier rest (subst (λ (d : Desk S). Held d earlier) (sym is) held) honest))
   handles old new (opened c ∷ acts) said earlier (words, others, between, (quiet, next, is), rest, all) held honest =
-      subst (λ (n : Serving S). Handled n earlier (fed_in g between acts others new rest) new.hub.node.store) (ap (λ (d : Desk S). d.hub.node) is)
-      (handles between new acts others earlier rest (held_opened old between earlier c words held (quiet, next, is)) honest)
+      quietly old.hub.node earlier (fed_in g between acts others new rest) said others new.hub.node.store c words all quiet
+      (subst (λ (n : Serving S). Handled n earlier (fed_in g between acts others new rest) others new.hub.node.store) (ap (λ (d : Desk S). d.hub.node) is)
+      (handles between new acts others earlier rest (held_opened old between earlier c words held (quiet, next, is)) honest))
   handles old new (closed c ∷ acts) said earlier (words, others, between, (quiet, is), rest, all) held honest =
-      subst (λ (n : Serving S). Handled n earlier (fed_in g between acts others new rest) new.hub.node.store) (ap (λ (d : Desk S). d.hub.node) is)
+      quietly old.hub.node earlier (fed_in g between acts others new rest) said others new.hub.node.store c words all quiet
+      (subst (λ (n : Serving S). Handled n earlier (fed_in g between acts others new rest) others new.hub.node.store) (ap (λ (d : Desk S). d.hub.node) is)
       (handles between new acts others earlier rest (held_gone old between earlier c held (ap (λ (d : Desk S). d.hub.connections) is)
-      (λ k apart. ap (λ (d : Desk S). get d.standings k) is ∙ set_other old.standings (remove old.standings c) c k None (set_remove old.standings c) apart)) honest)
+      (λ k apart. ap (λ (d : Desk S). get d.standings k) is ∙ set_other old.standings (remove old.standings c) c k None (set_remove old.standings c) apart)
+      (λ s at. absurd (let gone : None ≡ Some s = sym (ap (λ (d : Desk S). get d.standings c) is ∙ set_here old.standings (remove old.standings c) c None (set_remove old.standings c)) ∙ at in cc))) honest))
   handles old new (took c bytes ∷ acts) said earlier (words, others, between, (was, left, at, owed, quiet, is), rest, all) held honest =
-      subst (λ (n : Serving S). Handled n earlier (fed_in g between acts others new rest) new.hub.node.store) (ap (λ (d : Desk S). d.hub.node) is)
-      (handles between new acts others earlier rest (held_still old between earlier c was (with_owed was left) held (ap (λ (d : Desk S). d.hub.connections) is) at (ap (λ (d : Desk S). d.standings) is)) honest)
+      quietly old.hub.node earlier (fed_in g between acts others new rest) said others new.hub.node.store c words all quiet
+      (subst (λ (n : Serving S). Handled n earlier (fed_in g between acts others new rest) others new.hub.node.store) (ap (λ (d : Desk S). d.hub.node) is)
+      (handles between new acts others earlier rest (held_still old between earlier c was (with_owed was left) held (ap (λ (d : Desk S). d.hub.connections) is) at (ap (λ (d : Desk S). d.standings) is)) honest))
   handles old new (brought c piece ∷ acts) said earlier (words, others, between, (serving [], now, at, inl (list, last, feeds, is, owes), made), rest, all) held honest =
       let before = held.known c (serving []) feeds.fed.rest at feeds.fed.was in
       let more = handles between new acts others (earlier ++ record { conn = c; bytes = piece } ∷ []) rest (held_fed old between earlier c (serving []) now piece list last held feeds at made) honest in
@@ -255,20 +473,37 @@ module _ {S : Type 0} (g : Ghosts S) where
         ),
         subst (λ (ms : List Message). Serves g old.hub.node.configuration old.hub.node.store ms (feeds.fed.answers ++ more.1) new.hub.node.store)
             (sym (requests_more first more.0 ∙ ap (λ (ms : List Message). ms ++ requests_of more.0) (requests_first c feeds.fed.messages feeds.fed.rest feeds.fed.end)))
-            (served_more g old.hub.node.configuration old.hub.node.store between.hub.node.store new.hub.node.store feeds.fed.messages (requests_of more.0) feeds.fed.answers more.1 kept later),
+            (serves_then g old.hub.node.configuration old.hub.node.store between.hub.node.store new.hub.node.store feeds.fed.messages (requests_of more.0) feeds.fed.answers more.1 kept later),
+        says_fed said others more.0 more.1 c words list feeds.fed.messages feeds.fed.answers feeds.fed.rest feeds.fed.end kept.steps all is feeds.fed.replies kept.requests kept.answers more.4,
       )
   handles old new (brought c piece ∷ acts) said earlier (words, others, between, (serving [], now, at, inr (is, told, owes), made), rest, all) held honest =
-      subst (λ (n : Serving S). Handled n earlier (fed_in g between acts others new rest) new.hub.node.store) (ap (λ (h : HubState S). h.node) is)
+      let given = held.given c (serving []) at in
+      let quiet = refused_quiet c old.hub between.hub is given now between.standings old.standings made (subst (λ (ws : List ℕ). Owes now true ws) told owes) in
+      let more = subst (λ (n : Serving S). Handled n earlier (fed_in g between acts others new rest) others new.hub.node.store) (ap (λ (h : HubState S). h.node) is)
       (handles between new acts others earlier rest (held_gone old between earlier c held (ap (λ (h : HubState S). h.connections) is)
-      (λ k apart. ap (λ (m : FinMap nat_cmp Standing). get m k) made ∙ set_other old.standings (insert old.standings c now) c k (Some now) (set_insert old.standings c now) apart)) honest)
+      (λ k apart. ap (λ (m : FinMap nat_cmp Standing). get m k) made ∙ set_other old.standings (insert old.standings c now) c k (Some now) (set_insert old.standings c now) apart)
+      (λ s there. given)) honest) in
+      (more.0, more.1, more.2, more.3, says_farewell said others more.0 more.1 c words all told (quiet_says c between new acts others quiet rest) more.4)
   handles old new (brought c piece ∷ acts) said earlier (words, others, between, (serving (b ∷ bs), now, at, takes, made), rest, all) held honest = absurd takes
   handles old new (brought c piece ∷ acts) said earlier (words, others, between, (ending [], now, at, (quiet, is, stands), made), rest, all) held honest =
-      subst (λ (n : Serving S). Handled n earlier (fed_in g between acts others new rest) new.hub.node.store) (ap (λ (h : HubState S). h.node) is)
-      (handles between new acts others earlier rest (held_still old between earlier c (ending []) now held (ap (λ (h : HubState S). h.connections) is) at made) honest)
+      quietly old.hub.node earlier (fed_in g between acts others new rest) said others new.hub.node.store c words all quiet
+      (subst (λ (n : Serving S). Handled n earlier (fed_in g between acts others new rest) others new.hub.node.store) (ap (λ (h : HubState S). h.node) is)
+      (handles between new acts others earlier rest (held_still old between earlier c (ending []) now held (ap (λ (h : HubState S). h.connections) is) at made) honest))
   handles old new (brought c piece ∷ acts) said earlier (words, others, between, (ending (b ∷ bs), now, at, takes, made), rest, all) held honest = absurd takes
   handles old new (brought c piece ∷ acts) said earlier (words, others, between, (given_up, now, at, takes, made), rest, all) held honest = absurd takes
 
-  pub handles_all : HandlesInOrder g
-  handles_all hub acts said new runs honest =
+  all_handled : (hub : HubState S) (acts : List Act) (said : List Piece) (new : Desk S) (runs : Runs g (record { hub = hub; standings = empty }) acts said new) → g.is_honest new.hub.node.store
+      → Handled hub.node [] (fed_in g (record { hub = hub; standings = empty }) acts said new runs) said new.hub.node.store
+  all_handled hub acts said new runs honest =
       handles (record { hub = hub; standings = empty }) new acts said [] runs
-      (record { known = λ c s rest at on. let e = sym at ∙ none_stands c in absurd cc; fresh = λ c lt. refl }) honest
+      (record {
+        known = λ c s rest at on. let e = sym at ∙ none_stands c in absurd cc;
+        fresh = λ c lt. refl;
+        given = λ c s at. let e = sym at ∙ none_stands c in absurd cc;
+      }) honest
+
+  pub handles_all : HandlesInOrder g
+  handles_all hub acts said new runs honest = let h = all_handled hub acts said new runs honest in (h.0, h.1, h.2, h.3)
+
+  pub says_all : SaysInOrder g
+  says_all hub acts said new runs honest = all_handled hub acts said new runs honest

@@ -5,7 +5,7 @@ use Rattle.store.specs.Calls.{GoesOn}
 use Rattle.store.specs.declared.store.Store.{Ghosts}
 use Rattle.hub.specs.Arrival.{Piece}
 use Rattle.hub.specs.Feeding.{HubState}
-use Rattle.engine.specs.Acts.{Act, opened, brought, took, closed}
+use Rattle.engine.specs.Acts.{Act, accepted, opened, brought, took, closed}
 use Rattle.engine.specs.Desks.{Desk, Does, Runs}
 use Rattle.engine.specs.Standing.{Standing, TakesPiece, ending, given_up, serving}
 
@@ -27,6 +27,7 @@ module _ {S : Type 0} (g : Ghosts S) where
   piece_keeps conn old new given_up now piece words t = absurd t
 
   pub does_keep : (old new : Desk S) (a : Act) (words : List ℕ) → Does g old a words new → Keeps old.hub new.hub
+  does_keep old new accepted words (said, is) = same_keeps old.hub new.hub (ap (λ d. d.hub.node) is)
   does_keep old new (opened c) words (said, next, is) = same_keeps old.hub new.hub (ap (λ d. d.hub.node) is)
   does_keep old new (closed c) words (said, is) = same_keeps old.hub new.hub (ap (λ d. d.hub.node) is)
   does_keep old new (brought c piece) words (was, now, at, takes, is) = piece_keeps c old.hub new.hub was now piece words takes

@@ -12,7 +12,7 @@ use Rattle.hub.specs.Arrival.{Piece, stream_of}
 use Rattle.hub.specs.Connections.{ConnectionTable, was_opened, with_rest, without}
 use Rattle.hub.specs.Endings.{rest_of}
 use Rattle.hub.specs.Feeding.{HubState}
-use Rattle.engine.specs.Acts.{Act, opened, brought, took, closed, conn_of}
+use Rattle.engine.specs.Acts.{Act, accepted, opened, brought, took, closed, conn_of}
 use Rattle.engine.specs.Desks.{Desk, Does, Runs}
 use Rattle.engine.specs.Moves.{IsSet}
 use Rattle.engine.specs.Standing.{Owes, Standing, TakesPiece, ending, given_up, owed_by, serving, with_owed}
@@ -28,13 +28,14 @@ own c conn bytes same = grind (arith, nat_tests)
 pub other : (c conn : ℕ) (bytes : List ℕ) → conn ≢ c → cond (c == conn) bytes [] ≡ []
 other c conn bytes apart = grind (arith, nat_tests)
 
-nothing : (b : Bool) (bytes : List ℕ) → bytes ≡ [] → cond b bytes [] ≡ []
+pub nothing : (b : Bool) (bytes : List ℕ) → bytes ≡ [] → cond b bytes [] ≡ []
 nothing true bytes none = none
 nothing false bytes none = refl
 
 -- what an act takes for a connection
 took_by : Act → ℕ → List ℕ
 took_by (took c bytes) conn = cond (c == conn) bytes []
+took_by accepted conn = []
 took_by (opened c) conn = []
 took_by (brought c bytes) conn = []
 took_by (closed c) conn = []
@@ -42,6 +43,7 @@ took_by (closed c) conn = []
 took_first : (a : Act) (acts : List Act) (conn : ℕ) → stream_of (taken_of (a ∷ acts)) conn ≡ took_by a conn ++ stream_of (taken_of acts) conn
 unfolding took_by
 took_first (took c bytes) acts conn = refl
+took_first accepted acts conn = refl
 took_first (opened c) acts conn = refl
 took_first (brought c bytes) acts conn = refl
 took_first (closed c) acts conn = refl
@@ -90,7 +92,7 @@ rest_opened t c (Some rest) = refl
 rest_opened t c None = refl
 
 module _ {S : Type 0} (g : Ghosts S) where
-  piece_opened : (c : ℕ) (old new : HubState S) (was now : Standing) (piece words : List ℕ) → TakesPiece g c old was piece words new now
+  pub piece_opened : (c : ℕ) (old new : HubState S) (was now : Standing) (piece words : List ℕ) → TakesPiece g c old was piece words new now
       → new.connections.opened ≡ old.connections.opened
   piece_opened c old new (serving []) now piece words (inl (list, last, feeds, is, owes)) =
       ap (λ (t : ConnectionTable). t.opened) feeds.fed.left ∙ rest_opened old.connections c (rest_of feeds.fed.end)
@@ -140,6 +142,9 @@ module _ {S : Type 0} (g : Ghosts S) where
 
   follows : (conn : ℕ) (old new : Desk S) (a : Act) (words : List ℕ) → conn ≤ old.hub.connections.opened → Does g old a words new → Follows conn old a words new
   unfolding took_by
+  follows conn old new accepted words le (said, is) =
+      apart_flows conn old new accepted words
+      (let e = ap (λ (d : Desk S). d.hub.connections.opened) is in omega (arith, e, le)) (ap (λ (d : Desk S). get d.standings conn) is) refl (nothing (0 == conn) words said)
   follows conn old new (opened c) words le (said, next, is) =
       apart_flows conn old new (opened c) words
       (let e = ap (λ (d : Desk S). d.hub.connections.opened) is in omega (arith, e, le))
@@ -266,6 +271,9 @@ module _ {S : Type 0} (g : Ghosts S) where
       by : (b : Act) → Does g old b words between → said ≡ record { conn = conn_of b; bytes = words } ∷ others → Runs g between acts others new
           → (between.hub.connections.opened < conn → get between.standings conn ≡ None → IsPrefix (stream_of (taken_of acts) conn) (stream_of others conn))
           → IsPrefix (stream_of (taken_of (b ∷ acts)) conn) (stream_of said conn)
+      by accepted (quiet, made) e more ih =
+          on accepted (record { conn = 0; bytes = words }) (inl quiet) e refl
+          (ih (let count = ap (λ (d : Desk S). d.hub.connections.opened) made in omega (arith, count, lt)) (ap (λ (d : Desk S). get d.standings conn) made ∙ none))
       by (opened c) (quiet, next, made) e more ih = on (opened c) (record { conn = c; bytes = words }) (inl quiet) e refl (here (cases_eq conn c))
         where
           count : between.hub.connections.opened ≡ old.hub.connections.opened + 1

@@ -1,11 +1,16 @@
 -- What goes through the connections of a server.
 -- This project's own.
 use Rattle.std.specs.Prelude.{◌≡◌, ⊤, ℕ, List, [], ◌∷◌, ◌++◌, take, Option, Some, None}
+use Rattle.engine.specs.declared.flow.Accepted.{Accepted}
+use Rattle.engine.specs.declared.flow.Accepted.TheVariants.{One, Reset}
+use Rattle.engine.specs.declared.flow.Accepted.TheVariants as came
 use Rattle.engine.specs.declared.flow.Flow.{Flow}
 use Rattle.engine.specs.declared.flow.Flow.TheVariants.{Bytes, Later, Never}
 
 pub data Act : Type 0 where
-  -- a connection was accepted under this number
+  -- a connection was accepted, or would have been, had it not been reset before
+  accepted : Act
+  -- it was given this number
   opened : ℕ → Act
   -- it brought bytes
   brought : ℕ → List ℕ → Act
@@ -14,8 +19,9 @@ pub data Act : Type 0 where
   -- it was closed
   closed : ℕ → Act
 
--- the connection of an act
+-- the connection of an act; 0 stands for none yet
 abbrev pub conn_of : Act → ℕ
+conn_of accepted = 0
 conn_of (opened conn) = conn
 conn_of (brought conn bytes) = conn
 conn_of (took conn bytes) = conn
@@ -26,6 +32,13 @@ abbrev pub Logs : Option (List Act) → Option (List Act) → List Act → Type 
 Logs None new acts = ⊤
 Logs (Some xs) None acts = ⊥
 Logs (Some xs) (Some ys) acts = ys ≡ xs ++ acts
+
+-- what an accept logs
+abbrev pub accept_acts : Accepted → List Act
+accept_acts One = accepted ∷ []
+accept_acts Reset = accepted ∷ []
+accept_acts came.Later = []
+accept_acts came.Never = []
 
 -- what a read logs
 abbrev pub read_acts : ℕ → Flow → List ℕ → List Act

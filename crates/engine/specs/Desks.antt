@@ -8,7 +8,7 @@ use Rattle.hub.specs.Arrival.{Piece}
 use Rattle.hub.specs.Connections.{next_connection}
 use Rattle.hub.specs.Feeding.{HubState}
 use Rattle.hub.specs.Service.{hub_with_connection, hub_without}
-use Rattle.engine.specs.Acts.{Act, Logs, opened, brought, took, closed, conn_of}
+use Rattle.engine.specs.Acts.{Act, Logs, accepted, opened, brought, took, closed, conn_of}
 use Rattle.engine.specs.Standing.{Standing, TakesPiece, owed_by, serving, with_owed}
 
 -- a hub, and how each connection that has not been closed stands
@@ -22,6 +22,7 @@ new_desk hub = record { hub = hub; standings = empty }
 
 -- what one act does, and the words that become owed by it
 abbrev pub Does : {S : Type 0} → Ghosts S → Desk S → Act → List ℕ → Desk S → Type 0
+Does g old accepted words new = (words ≡ []) × (new ≡ old)
 Does g old (opened c) words new =
     (words ≡ []) × (c ≡ next_connection old.hub.connections)
     × (new ≡ record { hub = hub_with_connection old.hub; standings = insert old.standings c (serving []) })

@@ -2,8 +2,10 @@ pub mod Flows
 pub mod Acts
 pub mod Standing
 pub mod Desks
+pub mod Counts
 pub mod Moves
 pub mod Taking
 pub mod Bound
 pub mod Order
+pub mod Saying
 pub mod Memory

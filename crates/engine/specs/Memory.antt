@@ -9,16 +9,17 @@ use Rattle.streams.specs.Writing.{IsPrefix}
 use Rattle.hub.specs.Answering.{Serves}
 use Rattle.hub.specs.Arrival.{Arrival, Arrives, Piece, stream_of}
 use Rattle.hub.specs.Feeding.{HubState}
-use Rattle.engine.specs.Acts.{Act, opened, brought, took, closed}
+use Rattle.engine.specs.Acts.{Act, accepted, opened, brought, took, closed}
 use Rattle.engine.specs.Desks.{Runs, new_desk}
 use Rattle.engine.specs.Order.{fed_in, requests_of}
 use Rattle.engine.specs.Standing.{Standing}
 use Rattle.engine.specs.Taking.{taken_of}
 use Rattle.engine.specs.declared.log_entry.LogEntry.{LogEntry}
-use Rattle.engine.specs.declared.log_entry.LogEntry.TheVariants.{Opened, Brought, Took, Closed}
+use Rattle.engine.specs.declared.log_entry.LogEntry.TheVariants.{Accepted, Opened, Brought, Took, Closed}
 
 -- the act of an entry, with its bytes
 abbrev pub act_of : LogEntry × List ℕ → Act
+act_of (Accepted, bytes) = accepted
 act_of (Opened conn, bytes) = opened conn
 act_of (Brought conn, bytes) = brought conn bytes
 act_of (Took conn, bytes) = took conn bytes

@@ -8,7 +8,7 @@ use Rattle.store.specs.declared.store.Store.{Ghosts}
 use Rattle.hub.specs.Answering.{Serves}
 use Rattle.hub.specs.Arrival.{Arrival, Arrives, Piece, fault_on, request_on}
 use Rattle.hub.specs.Feeding.{HubState}
-use Rattle.engine.specs.Acts.{Act, opened, brought, took, closed}
+use Rattle.engine.specs.Acts.{Act, accepted, opened, brought, took, closed}
 use Rattle.engine.specs.Desks.{Desk, Runs, new_desk}
 use Rattle.engine.specs.Standing.{Standing, TakesPiece, ending, given_up, serving}
 
@@ -25,6 +25,7 @@ abbrev pub fed_in : {S : Type 0} (g : Ghosts S) (old : Desk S) (acts : List Act)
 fed_in g old [] said new runs = []
 fed_in g old (brought conn piece ∷ acts) said new (words, others, between, (was, now, at, takes, is), rest, all) =
     fed_by g conn old.hub between.hub was now piece words takes ++ fed_in g between acts others new rest
+fed_in g old (accepted ∷ acts) said new (words, others, between, does, rest, all) = fed_in g between acts others new rest
 fed_in g old (opened conn ∷ acts) said new (words, others, between, does, rest, all) = fed_in g between acts others new rest
 fed_in g old (took conn bytes ∷ acts) said new (words, others, between, does, rest, all) = fed_in g between acts others new rest
 fed_in g old (closed conn ∷ acts) said new (words, others, between, does, rest, all) = fed_in g between acts others new rest

@@ -5,13 +5,14 @@ use Rattle.store.specs.declared.store.Store.{Ghosts}
 use Rattle.streams.specs.Writing.{IsPrefix}
 use Rattle.hub.specs.Arrival.{Piece, stream_of}
 use Rattle.hub.specs.Feeding.{HubState}
-use Rattle.engine.specs.Acts.{Act, opened, brought, took, closed}
+use Rattle.engine.specs.Acts.{Act, accepted, opened, brought, took, closed}
 use Rattle.engine.specs.Desks.{Desk, Runs, new_desk}
 
 -- what all connections took, in order
 abbrev pub taken_of : List Act → List Piece
 taken_of [] = []
 taken_of (took conn bytes ∷ acts) = record { conn = conn; bytes = bytes } ∷ taken_of acts
+taken_of (accepted ∷ acts) = taken_of acts
 taken_of (opened conn ∷ acts) = taken_of acts
 taken_of (brought conn bytes ∷ acts) = taken_of acts
 taken_of (closed conn ∷ acts) = taken_of acts

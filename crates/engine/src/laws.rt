@@ -2,6 +2,7 @@
 
 ghost use Rattle.engine.specs.Bound.{OwesWithinBound};
 ghost use Rattle.engine.specs.Order.{HandlesInOrder};
+ghost use Rattle.engine.specs.Saying.{SaysInOrder};
 ghost use Rattle.engine.specs.Taking.{TakesInOrder};
 
 use store::Store;
@@ -10,6 +11,13 @@ use store::Store;
 /// brought, and of the farewell.
 pub fn takes_in_order<S: Store>()
     ensures { TakesInOrder S.Store }
+{}
+
+/// Makes sure that what was said to a connection is the bytes of the replies, in the one run of all
+/// connections, to the requests that arrived on it, the fixed reply where its stream shows a fault, and
+/// after these nothing or the farewell.
+pub fn says_in_order<S: Store>()
+    ensures { SaysInOrder S.Store }
 {}
 
 /// Makes sure that no more bytes are ever owed to a connection than may be.

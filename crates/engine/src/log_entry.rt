@@ -1,7 +1,9 @@
 /// What went through a connection in memory. The log has its bytes beside it.
 #[derive(Clone, Copy, Debug, PartialEq, Eq)]
 pub enum LogEntry {
-    /// It was accepted under this number.
+    /// It was accepted.
+    Accepted,
+    /// It was given this number.
     Opened(u64),
     /// It brought the bytes.
     Brought(u64),

@@ -1,9 +1,10 @@
 //! What a client in memory does.
 
-ghost use Rattle.std.specs.Prelude.{◌≡◌, ◌≤◌, length};
-ghost use Rattle.engine.specs.Flows.{FlowsAtMost};
+ghost use Rattle.std.specs.Prelude.{length};
+ghost use Rattle.engine.specs.Flows.{FlowsAtMost, ReadsPart};
 
 use crate::flow::Flow;
+use hub::measure_part;
 
 /// A client in memory: what it sends, and how it takes the replies.
 #[derive(Drop)]
@@ -27,9 +28,10 @@ pub struct MemoryClient {
 }
 
 impl MemoryClient {
-    /// Sends some bytes.
+    /// Sends some bytes: one part.
     pub(crate) fn send(&mut self, room: &mut [u8]) -> Flow
-        ensures { FlowsAtMost result (length room.new) }
+        ensures bound { FlowsAtMost result (length room.new) }
+        ensures part { ReadsPart result room.new }
     {
         if !self.may_pass() {
             return Flow::Never;
@@ -38,9 +40,10 @@ impl MemoryClient {
             return if self.ends { Flow::Never } else { Flow::Later };
         }
         let count = self.read_size.min(self.sends.len()).min(room.len());
-        fill(room, &self.sends[..count]);
-        self.sends.drain(..count);
-        Flow::Bytes(count, self.ends)
+        let part = measure_part(&self.sends[..count]);
+        room[..part].copy_from_slice(&self.sends[..part]);
+        self.sends.drain(..part);
+        Flow::Bytes(part, self.ends)
     }
 
     /// Takes some bytes.
@@ -67,15 +70,5 @@ impl MemoryClient {
         }
         self.calls -= 1;
         true
-    }
-}
-
-/// Writes bytes over the first ones of a room.
-fn fill(room: &mut [u8], bytes: &[u8])
-    requires { length bytes.now ≤ length room.old }
-    ensures { length room.new ≡ length room.old }
-{
-    for (place, byte) in room.iter_mut().zip(bytes) {
-        *place = *byte;
     }
 }

@@ -126,6 +126,7 @@ impl Sockets for MemorySockets {
     fn accept(&mut self) -> Accepted {
         if self.accepted < self.clients.len() {
             self.accepted += 1;
+            note(self.alloc, &mut self.entries, LogEntry::Accepted);
             Accepted::One
         } else {
             Accepted::Later

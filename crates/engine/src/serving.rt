@@ -1,11 +1,12 @@
 //! The rounds of a server of many connections.
 
-ghost use Rattle.std.specs.Prelude.{◌≡◌, [], ◌∷◌, true, false};
+ghost use Rattle.std.specs.Prelude.{◌≡◌, ◌≤◌, ◌<◌, ◌+◌, ◌-◌, ◌^◌, ℕ, [], ◌∷◌, length, true, false, OnOk};
 ghost use Rattle.store.specs.Calls.{GoesOn};
+ghost use Rattle.engine.specs.Counts.{ServesWithin};
 ghost use Rattle.engine.specs.Desks.{ServesAll};
 ghost use Rattle.hub.specs.Service.{hub_without};
 ghost use Rattle.engine.specs.Acts.{Logs, closed, opened};
-ghost use Rattle.engine.specs.Moves.{Begins, Ends, StandAlike, Turns};
+ghost use Rattle.engine.specs.Moves.{Begins, Ends, Opens, StandAlike, Turns};
 
 use crate::conversation::{Conversation, Turn};
 use crate::fault::EngineFault;
@@ -36,7 +37,8 @@ struct Conversations {
     now: u64,
 }
 
-/// Serves many connections of a hub at once, until as many were served as the limits say.
+/// Serves many connections of a hub at once, until as many were accepted as the limits say and none is open
+/// any more. One that was reset before it was accepted counts.
 ///
 /// Each whole request is handled one after the other, in the order in which their last bytes come. A
 /// connection is read only where nothing is owed to it, and closed where it is silent for too long, or
@@ -53,6 +55,7 @@ pub fn serve_all<S: Store + Drop, W: Sockets>(
 ) -> Result<(), EngineFault>
     // All that was done is told by the acts that were logged.
     ensures served { ServesAll S.Store hub.old (W.log sockets.old) hub.new (W.log sockets.new) }
+    ensures within { ServesWithin S.Store limits.now result hub.old (W.log sockets.old) hub.new (W.log sockets.new) }
     ensures configuration { hub.new.node.configuration ≡ hub.old.node.configuration }
     ensures onward { GoesOn S.Store hub.old.node.store hub.new.node.store }
 {
@@ -63,7 +66,8 @@ pub fn serve_all<S: Store + Drop, W: Sockets>(
 impl Conversations {
     /// Makes a server without connections.
     fn new(alloc: Global) -> Conversations
-        ensures { result.conversations.entries ≡ [] }
+        ensures none { result.conversations.entries ≡ [] }
+        ensures accepted { result.accepted ≡ 0 }
     {
         Conversations {
             alloc,
@@ -82,7 +86,11 @@ impl Conversations {
         sockets: &mut W,
         limits: &Limits,
     ) -> Result<(), EngineFault>
-        ensures { Turns S.Store hub.old self.old.conversations.entries (W.log sockets.old) hub.new self.new.conversations.entries (W.log sockets.new) }
+        requires accepted { self.old.accepted ≤ limits.now.conns }
+        ensures turns { Turns S.Store limits.now.at_once hub.old self.old.conversations.entries self.old.accepted (W.log sockets.old)
+            hub.new self.new.conversations.entries self.new.accepted (W.log sockets.new) }
+        ensures accepted { self.new.accepted ≤ limits.now.conns }
+        ensures ends { OnOk result ((self.new.accepted ≡ limits.now.conns) × (self.new.conversations.entries ≡ [])) }
     {
         let mut room = [0; PIECE];
         for _number in 0..u64::MAX {
@@ -102,7 +110,10 @@ impl Conversations {
         room: &mut [u8],
         limits: &Limits,
     ) -> Result<(), EngineFault>
-        ensures { Turns S.Store hub.old self.old.conversations.entries (W.log sockets.old) hub.new self.new.conversations.entries (W.log sockets.new) }
+        requires accepted { self.old.accepted ≤ limits.now.conns }
+        ensures turns { Turns S.Store limits.now.at_once hub.old self.old.conversations.entries self.old.accepted (W.log sockets.old)
+            hub.new self.new.conversations.entries self.new.accepted (W.log sockets.new) }
+        ensures accepted { self.new.accepted ≤ limits.now.conns }
     {
         let wait = self.queue.is_empty() && !self.can_accept(limits);
         let Ok(now) = sockets.wait(wait) else {
@@ -122,13 +133,17 @@ impl Conversations {
     }
 
     /// Tells whether one more connection may be accepted, and one may wait.
-    fn can_accept(&self, limits: &Limits) -> bool {
+    fn can_accept(&self, limits: &Limits) -> bool
+        ensures accepted { result ≡ true → self.entry.now.accepted < limits.now.conns }
+        ensures room { result ≡ true → length self.entry.now.conversations.entries < limits.now.at_once }
+    {
         self.waiting && self.accepted < limits.conns && self.conversations.len() < limits.at_once
     }
 
     /// Notes what the last wait reported.
     fn note_ready<W: Sockets>(&mut self, sockets: &W)
-        ensures { StandAlike self.old.conversations.entries self.new.conversations.entries }
+        ensures alike { StandAlike self.old.conversations.entries self.new.conversations.entries }
+        ensures accepted { self.new.accepted ≡ self.old.accepted }
     {
         for at in 0..REPORTS {
             match sockets.ready(at) {
@@ -141,7 +156,8 @@ impl Conversations {
 
     /// Gives a connection a turn in this round, if it has none yet.
     fn note(&mut self, conn: u64)
-        ensures { StandAlike self.old.conversations.entries self.new.conversations.entries }
+        ensures alike { StandAlike self.old.conversations.entries self.new.conversations.entries }
+        ensures accepted { self.new.accepted ≡ self.old.accepted }
     {
         let Some(conversation) = self.conversations.get_mut(&conn) else {
             return;
@@ -158,7 +174,10 @@ impl Conversations {
         sockets: &mut W,
         limits: &Limits,
     ) -> Result<(), EngineFault>
-        ensures { Turns S.Store hub.old self.old.conversations.entries (W.log sockets.old) hub.new self.new.conversations.entries (W.log sockets.new) }
+        requires accepted { self.old.accepted ≤ limits.now.conns }
+        ensures turns { Turns S.Store limits.now.at_once hub.old self.old.conversations.entries self.old.accepted (W.log sockets.old)
+            hub.new self.new.conversations.entries self.new.accepted (W.log sockets.new) }
+        ensures accepted { self.new.accepted ≤ limits.now.conns }
     {
         for _number in 0..REPORTS {
             if !self.can_accept(limits) {
@@ -175,14 +194,17 @@ impl Conversations {
         hub: &mut Hub<S>,
         sockets: &mut W,
     ) -> Result<(), EngineFault>
-        ensures { Turns S.Store hub.old self.old.conversations.entries (W.log sockets.old) hub.new self.new.conversations.entries (W.log sockets.new) }
+        requires { self.old.accepted < 2 ^ 64 - 1 }
+        ensures turns { (most : ℕ) → length self.old.conversations.entries < most → Turns S.Store most hub.old self.old.conversations.entries
+            self.old.accepted (W.log sockets.old) hub.new self.new.conversations.entries self.new.accepted (W.log sockets.new) }
+        ensures accepted { self.new.accepted ≤ self.old.accepted + 1 }
     {
         match sockets.accept() {
             Accepted::One => {
-                self.accepted = self.accepted.saturating_add(1);
+                self.accepted += 1;
                 self.add(hub, sockets);
             }
-            Accepted::Reset => self.accepted = self.accepted.saturating_add(1),
+            Accepted::Reset => self.accepted += 1,
             Accepted::Later => self.waiting = false,
             Accepted::Never => return Err(EngineFault::Socket),
         }
@@ -191,7 +213,9 @@ impl Conversations {
 
     /// Adds the connection that was accepted.
     fn add<S: Store + Drop, W: Sockets>(&mut self, hub: &mut Hub<S>, sockets: &mut W)
-        ensures { Turns S.Store hub.old self.old.conversations.entries (W.log sockets.old) hub.new self.new.conversations.entries (W.log sockets.new) }
+        ensures opens { (most : ℕ) → Opens S.Store most hub.old self.old.conversations.entries (W.log sockets.old)
+            hub.new self.new.conversations.entries (W.log sockets.new) }
+        ensures accepted { self.new.accepted ≡ self.old.accepted }
     {
         let Ok(conn) = hub.open() else {
             return;
@@ -209,6 +233,7 @@ impl Conversations {
         ensures log { Logs (W.log sockets.old) (W.log sockets.new) (opened conn ∷ []) }
         ensures begins { result ≡ true → Begins self.old.conversations.entries conn self.new.conversations.entries }
         ensures refused { result ≡ false → self.new.conversations.entries ≡ self.old.conversations.entries }
+        ensures accepted { self.new.accepted ≡ self.old.accepted }
     {
         if !sockets.name(conn) {
             return false;
@@ -224,7 +249,9 @@ impl Conversations {
         sockets: &mut W,
         room: &mut [u8],
     )
-        ensures { Turns S.Store hub.old self.old.conversations.entries (W.log sockets.old) hub.new self.new.conversations.entries (W.log sockets.new) }
+        ensures turns { (most : ℕ) → Turns S.Store most hub.old self.old.conversations.entries self.old.accepted (W.log sockets.old)
+            hub.new self.new.conversations.entries self.new.accepted (W.log sockets.new) }
+        ensures accepted { self.new.accepted ≡ self.old.accepted }
     {
         for _number in 0..self.queue.len() {
             let Some(conn) = self.queue.pop_front() else {
@@ -242,7 +269,9 @@ impl Conversations {
         conn: u64,
         room: &mut [u8],
     )
-        ensures { Turns S.Store hub.old self.old.conversations.entries (W.log sockets.old) hub.new self.new.conversations.entries (W.log sockets.new) }
+        ensures turns { (most : ℕ) → Turns S.Store most hub.old self.old.conversations.entries self.old.accepted (W.log sockets.old)
+            hub.new self.new.conversations.entries self.new.accepted (W.log sockets.new) }
+        ensures accepted { self.new.accepted ≡ self.old.accepted }
     {
         match self.turn_of(hub, sockets, conn, room) {
             Turn::Over => self.end(hub, sockets, conn),
@@ -259,7 +288,9 @@ impl Conversations {
         conn: u64,
         room: &mut [u8],
     ) -> Turn
-        ensures { Turns S.Store hub.old self.old.conversations.entries (W.log sockets.old) hub.new self.new.conversations.entries (W.log sockets.new) }
+        ensures turns { (most : ℕ) → Turns S.Store most hub.old self.old.conversations.entries self.old.accepted (W.log sockets.old)
+            hub.new self.new.conversations.entries self.new.accepted (W.log sockets.new) }
+        ensures accepted { self.new.accepted ≡ self.old.accepted }
     {
         let Some(conversation) = self.conversations.get_mut(&conn) else {
             return Turn::Later;
@@ -271,6 +302,7 @@ impl Conversations {
     /// Ends a connection.
     fn end<S: Store + Drop, W: Sockets>(&mut self, hub: &mut Hub<S>, sockets: &mut W, conn: u64)
         ensures ends { Ends self.old.conversations.entries conn self.new.conversations.entries }
+        ensures accepted { self.new.accepted ≡ self.old.accepted }
         ensures hub { hub.new ≡ hub_without conn hub.old }
         ensures log { Logs (W.log sockets.old) (W.log sockets.new) (closed conn ∷ []) }
     {
@@ -286,7 +318,9 @@ impl Conversations {
         sockets: &mut W,
         limits: &Limits,
     )
-        ensures { Turns S.Store hub.old self.old.conversations.entries (W.log sockets.old) hub.new self.new.conversations.entries (W.log sockets.new) }
+        ensures turns { (most : ℕ) → Turns S.Store most hub.old self.old.conversations.entries self.old.accepted (W.log sockets.old)
+            hub.new self.new.conversations.entries self.new.accepted (W.log sockets.new) }
+        ensures accepted { self.new.accepted ≡ self.old.accepted }
     {
         let late = self.late(limits);
         for conn in &late {

@@ -1,8 +1,8 @@
 //! What brings connections and their bytes.
 
 ghost use Rattle.std.specs.Prelude.{List, [], ◌∷◌, length, Option, None};
-ghost use Rattle.engine.specs.Acts.{Act, closed, opened, Logs, read_acts, write_acts};
-ghost use Rattle.engine.specs.Flows.{FlowsAtMost};
+ghost use Rattle.engine.specs.Acts.{Act, accept_acts, closed, opened, Logs, read_acts, write_acts};
+ghost use Rattle.engine.specs.Flows.{FlowsAtMost, ReadsPart};
 
 use crate::flow::{Accepted, Flow};
 use std::io;
@@ -24,16 +24,18 @@ pub trait Sockets {
 
     /// Accepts a connection.
     fn accept(&mut self) -> Accepted
-        ensures { Logs (log self.old) (log self.new) [] };
+        ensures { Logs (log self.old) (log self.new) (accept_acts result) };
 
     /// Gives a number to the connection that was accepted last. The answer is false where it can't be
     /// served.
     fn name(&mut self, conn: u64) -> bool
         ensures { Logs (log self.old) (log self.new) (opened conn ∷ []) };
 
-    /// Reads from a connection.
+    /// Reads from a connection: no more than the first part of what came (see `hub::measure_part`), so that
+    /// two requests end in it at most. What came behind it is for the next reads.
     fn read(&mut self, conn: u64, room: &mut [u8]) -> Flow
         ensures bound { FlowsAtMost result (length room.new) }
+        ensures part { ReadsPart result room.new }
         ensures log { Logs (log self.old) (log self.new) (read_acts conn result room.new) };
 
     /// Writes to a connection.

@@ -1,5 +1,5 @@
 -- Places that are sorted without their documents give these again.
-use Rattle.std.proofs.Common.{◌≡◌, ℕ, Bool, List, [], ◌∷◌, ◌++◌, Option, Some, None, Ordering, append-nil, drop, map, take, refl, sym, ap, true, ◌∙◌, inl, inr}
+use Rattle.std.proofs.Common.{◌≡◌, ℕ, Bool, List, [], ◌∷◌, ◌++◌, Option, Some, None, Ordering, append-nil, drop, map, reverse, take, zero, suc, refl, subst, sym, ap, true, false, ◌∙◌, inl, inr}
 use Rattle.std.specs.BTreeSet.{insert_key}
 use Rattle.std.specs.FinMap.{put}
 use Rattle.std.specs.FinMap.Entries.{by_order}
@@ -8,7 +8,8 @@ use Rattle.std.specs.Prelude.{is_some}
 use Rattle.std.specs.Ordering.{match_ordering}
 use Rattle.std.specs.declared.cmp.Ordering.TheVariants.{Less, Equal, Greater}
 use Rattle.couch_json.specs.Value.{Items, Value, array}
-use Rattle.store.proofs.Directed.{options-directed}
+use Rattle.std.proofs.lemmas.List.{reverse-reverse}
+use Rattle.store.proofs.Directed.{in_directed, map_directed}
 use Rattle.store.proofs.Listings.{In}
 use Rattle.store.specs.Database.{Database}
 use Rattle.store.specs.Indexes.{IndexPlace, field_values, place_order, put_at_values, put_in_index}
@@ -65,30 +66,43 @@ chunk_sorted fields selector d all ids left before after is put =
 abbrev AreMatches : Value → Database → List (IndexPlace × Value) → Type 0
 AreMatches selector d es = (x : IndexPlace × Value) → In es x → match_in selector d x.0.id ≡ Some x.1
 
-again : (selector : Value) (d : Database) (es : List (IndexPlace × Value)) → AreMatches selector d es → matches_at selector d (map (λ p. p.id) (places_of es)) ≡ map (λ e. e.1) es
-again selector d [] h = refl
-again selector d (e ∷ es) h = λ i. option_to_list (h e (inl refl) i) ++ again selector d es (λ x j. h x (inr j)) i
+ids-places : (es : List (IndexPlace × Value)) → map (λ p. p.id) (places_of es) ≡ map (λ e. e.0.id) es
+ids-places [] = refl
+ids-places (e ∷ es) = ap (λ ids. e.0.id ∷ ids) (ids-places es)
+
+-- without the first ones
+again : (selector : Value) (d : Database) (n : ℕ) (es : List (IndexPlace × Value)) → AreMatches selector d es → matches_at selector d (drop n (map (λ e. e.0.id) es)) ≡ drop n (map (λ e. e.1) es)
+again selector d zero [] h = refl
+again selector d zero (e ∷ es) h = λ i. option_to_list (h e (inl refl) i) ++ again selector d zero es (λ x j. h x (inr j)) i
+again selector d (suc n) [] h = refl
+again selector d (suc n) (e ∷ es) h = again selector d n es (λ x j. h x (inr j))
+
+matches_directed : (selector : Value) (d : Database) (descending : Bool) (es : List (IndexPlace × Value)) → AreMatches selector d es → AreMatches selector d (in_direction descending es)
+matches_directed selector d true es h x i = h x (subst (λ xs. In xs x) (reverse-reverse es) (in_directed true (reverse es) x i))
+matches_directed selector d false es h x i = h x i
 
 candidates_match : (fields : List (List ℕ)) (selector : Value) (d : Database) (ids : List (List ℕ)) → AreMatches selector d (put_candidates fields selector d ids [])
 candidates_match fields selector d ids x i =
     elim (from_all fields selector d ids [] x i) as (λ _. match_in selector d x.0.id ≡ Some x.1) [ inl h ↦ h.0 | inr j ↦ absurd j ]
 
-read_again : (fields : List (List ℕ)) (selector : Value) (descending : Bool) (d : Database) (ids : List (List ℕ))
-    → matches_at selector d (in_direction descending (map (λ p. p.id) (put_places fields selector d ids []))) ≡ in_direction descending (map (λ e. e.1) (put_candidates fields selector d ids []))
-read_again fields selector descending d ids =
+read_again : (fields : List (List ℕ)) (selector : Value) (descending : Bool) (d : Database) (ids : List (List ℕ)) (n : ℕ)
+    → matches_at selector d (drop n (in_direction descending (map (λ p. p.id) (put_places fields selector d ids [])))) ≡ drop n (in_direction descending (map (λ e. e.1) (put_candidates fields selector d ids [])))
+read_again fields selector descending d ids n =
     let es = put_candidates fields selector d ids [] in
-    options-directed (match_in selector d) descending (map (λ p. p.id) (put_places fields selector d ids []))
-    ∙ ap (λ ps. in_direction descending (matches_at selector d (map (λ p. p.id) ps))) (places fields selector d ids [])
-    ∙ ap (in_direction descending) (again selector d es (candidates_match fields selector d ids))
+    ap (λ ps. matches_at selector d (drop n (in_direction descending (map (λ p. p.id) ps)))) (places fields selector d ids [])
+    ∙ ap (λ xs. matches_at selector d (drop n (in_direction descending xs))) (ids-places es)
+    ∙ ap (λ xs. matches_at selector d (drop n xs)) (sym (map_directed (λ (e : IndexPlace × Value). e.0.id) descending es))
+    ∙ again selector d n (in_direction descending es) (matches_directed selector d descending es (candidates_match fields selector d ids))
+    ∙ ap (drop n) (map_directed (λ (e : IndexPlace × Value). e.1) descending es)
 
--- the documents at the sorted places, put into the part in a direction, are the candidates in it
-pub part_read : (query : Query) (d : Database) (ids sorted : List (List ℕ)) (fresh after : Part) → sorted ≡ in_direction query.descending (map (λ p. p.id) (put_places query.sort query.selector d ids []))
-    → ((rest : List Value) → completion fresh rest ≡ take query.limit (drop query.skip rest)) → ((rest : List Value) → completion after rest ≡ completion fresh (matches_at query.selector d sorted ++ rest))
+-- the documents at the sorted places behind those that are left out, put into the part in a direction, are the candidates in it
+pub part_read : (query : Query) (d : Database) (ids sorted wanted : List (List ℕ)) (fresh after : Part) → sorted ≡ in_direction query.descending (map (λ p. p.id) (put_places query.sort query.selector d ids []))
+    → wanted ≡ drop query.skip sorted → ((rest : List Value) → completion fresh rest ≡ take query.limit rest) → ((rest : List Value) → completion after rest ≡ completion fresh (matches_at query.selector d wanted ++ rest))
     → take query.limit (drop query.skip (in_direction query.descending (map (λ e. e.1) (put_candidates query.sort query.selector d ids [])))) ≡ after.documents
-part_read query d ids sorted fresh after is begun put =
-    let matches : matches_at query.selector d sorted ++ [] ≡ in_direction query.descending (map (λ e. e.1) (put_candidates query.sort query.selector d ids [])) =
-    append-nil (matches_at query.selector d sorted) ∙ ap (matches_at query.selector d) is ∙ read_again query.sort query.selector query.descending d ids in
-    ap (λ vs. take query.limit (drop query.skip vs)) (sym matches) ∙ sym (begun (matches_at query.selector d sorted ++ [])) ∙ sym (put []) ∙ none_left after
+part_read query d ids sorted wanted fresh after is left begun put =
+    let matches : matches_at query.selector d wanted ++ [] ≡ drop query.skip (in_direction query.descending (map (λ e. e.1) (put_candidates query.sort query.selector d ids []))) =
+    append-nil (matches_at query.selector d wanted) ∙ ap (matches_at query.selector d) (left ∙ ap (drop query.skip) is) ∙ read_again query.sort query.selector query.descending d ids query.skip in
+    ap (take query.limit) (sym matches) ∙ sym (begun (matches_at query.selector d wanted ++ [])) ∙ sym (put []) ∙ none_left after
 
 pub there_is : {X : Type 0} (o : Option X) → is_some o ≡ true → (x : X) × (o ≡ Some x)
 there_is None h = absurd cc

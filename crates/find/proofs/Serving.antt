@@ -12,12 +12,10 @@ same_found : (query : Query) (there : Option Database) (give : Database → List
 same_found query None give is = refl
 same_found query (Some d) give is = ap Some (is d refl)
 
--- what is found by an index that was chosen and planned by calls that only read
-pub found_planned : {S : Type 0} (g : Ghosts S) (first mid new : S) (there chosen later : Option Database) (query : Query) (give : Database → List Value) (found : List Value)
-    → OnlyReads g first mid → OnlyReads g mid new → (g.is_honest first → chosen ≡ there) → (g.is_honest mid → later ≡ chosen)
-    → (g.is_honest mid → (d : Database) → chosen ≡ Some d → give d ≡ found_documents query d)
+-- what is found by an index that was chosen by calls that only read
+pub found_planned : {S : Type 0} (g : Ghosts S) (first new : S) (there later : Option Database) (query : Query) (give : Database → List Value) (found : List Value)
+    → OnlyReads g first new → (g.is_honest first → later ≡ there) → (g.is_honest first → (d : Database) → there ≡ Some d → give d ≡ found_documents query d)
     → (g.is_honest new → option_map give later ≡ Some found) → g.is_honest new → option_map (λ d. found_documents query d) there ≡ Some found
-found_planned g first mid new there chosen later query give found planned served same still is gives honest =
-    let before = served.goes_on.honest honest in
-    let start = planned.goes_on.honest before in
-    sym (same_found query there give (λ d e. is before d (same start ∙ e))) ∙ ap (option_map give) (sym (still before ∙ same start)) ∙ gives honest
+found_planned g first new there later query give found reads still is gives honest =
+    let start = reads.goes_on.honest honest in
+    sym (same_found query there give (is start)) ∙ ap (option_map give) (sym (still start)) ∙ gives honest

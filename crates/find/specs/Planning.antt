@@ -6,12 +6,14 @@ use Rattle.couch_json.specs.FieldPath.{value_at}
 use Rattle.couch_json.specs.Value.{Items, Value, array}
 use Rattle.selector.specs.Truth.{selector_matches}
 use Rattle.tree.specs.History.{HistoryContent}
-use Rattle.store.specs.Database.{Database}
+use Rattle.store.specs.Database.{Database, history_at}
 use Rattle.store.specs.Indexes.{field_values, index_fields_at, index_fields_of}
 use Rattle.store.specs.KeyPages.{is_key_within}
+use Rattle.store.specs.Winning.{winner_alone}
 use Rattle.store.specs.declared.index_page.KeyRange.{KeyRange}
 use Rattle.find.specs.Found.{found_documents}
 use Rattle.find.specs.Indexes.{IndexAsked}
+use Rattle.find.specs.declared.choosing.Chosen.{Chosen}
 use Rattle.find.specs.declared.query.Query.{Query}
 
 -- there are such values, and the key that is the array of them lies in the range
@@ -42,6 +44,10 @@ pub record MayServe (index : IndexAsked) (range : KeyRange) (query : Query) (db 
 pub record MayServeBy (index : IndexAsked) (range : KeyRange) (query : Query) (h : HistoryContent) : Type 0 where
   pub declared : index_fields_of index.design h index.name ≡ Some index.fields
   pub covers : Covers index.fields range query
+
+-- what was read of the design document that declares a chosen index is its winner in the database
+abbrev pub IsReadIn : Chosen → Database → Type 0
+IsReadIn chosen d = chosen.history ≡ winner_alone (history_at d chosen.design)
 
 -- what is found by an index, where something is: the documents that the query finds in the database, which is there
 abbrev pub IsFound : Query → Option Database → Option (List Value) → Type 0

@@ -1,5 +1,5 @@
 //! Finds over documents in any order: the places of all that match are sorted first. Then the documents of the
-//! part that is asked for are read again, so that no others are held.
+//! part that is asked for are read again, so that no others are held. Those that it leaves out are not.
 
 ghost use Rattle.std.specs.Prelude.{◌≡◌, ◌<◌, [], IfOk, IfErr, None, OnOk, Some, drop, false, map as each, is_some, option_map, take, true};
 ghost use Rattle.std.specs.FinMap as map;
@@ -44,8 +44,9 @@ pub(crate) fn find_sorted<S: Store>(
 {
     let places = sort_matches(alloc, store, db, query, source)?;
     let ids = list_ids(alloc, places, query.descending)?;
-    let mut part = Part::new(alloc, query)?;
-    put_matches(alloc, store, db, &ids, query, &mut part)?;
+    let wanted = leave_out(&ids, query.skip);
+    let mut part = Part::new(alloc, 0, query.limit)?;
+    put_matches(alloc, store, db, wanted, query, &mut part)?;
     Ok(part.documents)
 }
 
@@ -156,6 +157,17 @@ fn make_key(values: Vec<Json>) -> IndexKey
     ensures { result ≡ array (items_view values.items) }
 {
     IndexKey::new(Json::Array(values))
+}
+
+/// Returns the ids without the first ones.
+fn leave_out(ids: &[DocId], skip: u64) -> &[DocId]
+    ensures { result.now ≡ drop skip ids.now }
+{
+    if skip < ids.len() as u64 {
+        &ids[skip as usize..]
+    } else {
+        &[]
+    }
 }
 
 /// Lists the ids of these places, in this direction.

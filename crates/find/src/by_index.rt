@@ -29,10 +29,10 @@ pub(crate) fn find_by_index<S: Store>(
     ensures stops { IfErr result (Stops S.Store store.old store.new (map.get (S.contents store.old) db.now ≡ None)) }
     ensures reads { OnlyReads S.Store store.old store.new }
 {
-    let Some(name) = choose_index(alloc, store, db, query)? else {
+    let Some(chosen) = choose_index(alloc, store, db, query)? else {
         return Ok(None);
     };
-    let Some(plan) = plan_by(alloc, store, db, name, query)? else {
+    let Some(plan) = plan_by(alloc, chosen, query)? else {
         return Ok(None);
     };
     let in_order = plan.rows.in_order;

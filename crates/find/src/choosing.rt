@@ -1,10 +1,13 @@
 //! Which index serves a find. The choice shows in no reply, so no clause speaks of it: whether the index
-//! that is chosen may serve is asked again by [`plan_by`](crate::planning::plan_by).
+//! that is chosen may serve is asked again by [`plan_by`](crate::planning::plan_by). Each design document
+//! is read once: what was read of the one that declares the index is handed over.
 
-ghost use Rattle.std.specs.Prelude.{◌≡◌, IfErr, None};
+ghost use Rattle.std.specs.Prelude.{◌≡◌, IfErr, IfOk, IfSome, None, Some};
 ghost use Rattle.std.specs.FinMap as map;
 ghost use Rattle.store.specs.Calls.{OnlyReads};
+ghost use Rattle.store.specs.Database.{Database};
 ghost use Rattle.read.specs.Answers.{Stops};
+ghost use Rattle.find.specs.Planning.{IsReadIn};
 
 use crate::fixed::are_fixed;
 use crate::query::Query;
@@ -16,13 +19,24 @@ use std::alloc::Global;
 use store::{DbName, IdRow, Store, design_range, find_winning_body, read_winning};
 use tree::{DocId, History};
 
-/// The name of an index.
+/// An index that is chosen, with what was read of the design document that declares it.
 #[derive(Drop)]
-pub(crate) struct IndexName {
-    /// The id of the design document that declares it.
+pub(crate) struct Chosen {
+    /// The id of the design document.
     pub(crate) design: DocId,
-    /// Its name there.
+    /// Its winner, as a history of its own.
+    pub(crate) history: History,
+    /// The name of the index there.
     pub(crate) name: String,
+    /// How well it serves.
+    fit: Fit,
+}
+
+/// An index of a design document, by its name there.
+#[derive(Drop)]
+struct IndexName {
+    /// Its name.
+    name: String,
     /// How well it serves.
     fit: Fit,
 }
@@ -45,7 +59,9 @@ pub(crate) fn choose_index<S: Store>(
     store: &mut S,
     db: &DbName,
     query: &Query,
-) -> Result<Option<IndexName>, ReadFault>
+) -> Result<Option<Chosen>, ReadFault>
+    ensures ok { S.is_honest store.new → IfOk result (λ chosen. (d : Database) → map.get (S.contents store.old) db.now ≡ Some d
+        → IfSome chosen (λ c. IsReadIn c d)) }
     ensures stops { IfErr result (Stops S.Store store.old store.new (map.get (S.contents store.old) db.now ≡ None)) }
     ensures reads { OnlyReads S.Store store.old store.new }
 {
@@ -61,7 +77,9 @@ fn choose_among<S: Store>(
     db: &DbName,
     rows: &[IdRow],
     query: &Query,
-) -> Result<Option<IndexName>, ReadFault>
+) -> Result<Option<Chosen>, ReadFault>
+    ensures ok { S.is_honest store.new → IfOk result (λ chosen. (d : Database) → map.get (S.contents store.old) db.now ≡ Some d
+        → IfSome chosen (λ c. IsReadIn c d)) }
     ensures stops { IfErr result (Stops S.Store store.old store.new (map.get (S.contents store.old) db.now ≡ None)) }
     ensures reads { OnlyReads S.Store store.old store.new }
 {
@@ -79,9 +97,9 @@ fn choose_among<S: Store>(
 }
 
 /// Tells how well an index serves, where there is one.
-fn fit_of(name: &Option<IndexName>) -> Fit {
-    match name {
-        Some(name) => name.fit,
+fn fit_of(chosen: &Option<Chosen>) -> Fit {
+    match chosen {
+        Some(chosen) => chosen.fit,
         None => Fit::Poor,
     }
 }
@@ -93,43 +111,42 @@ fn choose_in<S: Store>(
     db: &DbName,
     design: &DocId,
     query: &Query,
-) -> Result<Option<IndexName>, ReadFault>
+) -> Result<Option<Chosen>, ReadFault>
+    ensures ok { S.is_honest store.new → IfOk result (λ chosen. (d : Database) → map.get (S.contents store.old) db.now ≡ Some d
+        → IfSome chosen (λ c. IsReadIn c d)) }
     ensures stops { IfErr result (Stops S.Store store.old store.new (map.get (S.contents store.old) db.now ≡ None)) }
     ensures reads { OnlyReads S.Store store.old store.new }
 {
     let history = read_winning(alloc, store, db, design)?;
-    Ok(choose_declared(alloc, design, &history, query)?)
+    let Some(index) = choose_declared(alloc, &history, query)? else {
+        return Ok(None);
+    };
+    Ok(Some(Chosen {
+        design: design.copy(alloc)?,
+        history,
+        name: index.name,
+        fit: index.fit,
+    }))
 }
 
 /// Chooses an index that a design document with this history declares.
-fn choose_declared(
-    alloc: Global,
-    design: &DocId,
-    history: &History,
-    query: &Query,
-) -> Got<Option<IndexName>> {
+fn choose_declared(alloc: Global, history: &History, query: &Query) -> Got<Option<IndexName>> {
     let Some(body) = find_winning_body(history) else {
         return Ok(None);
     };
     match body.member("indexes") {
-        Some(Json::Object(indexes)) => choose_named(alloc, design, indexes, query),
+        Some(Json::Object(indexes)) => choose_named(alloc, indexes, query),
         _ => Ok(None),
     }
 }
 
 /// Chooses one of these indexes, the first by name where they serve as well.
-fn choose_named(
-    alloc: Global,
-    design: &DocId,
-    indexes: &NameMap<Json>,
-    query: &Query,
-) -> Got<Option<IndexName>> {
+fn choose_named(alloc: Global, indexes: &NameMap<Json>, query: &Query) -> Got<Option<IndexName>> {
     let mut chosen = None;
     for (name, index) in indexes.as_slice() {
         let fit = fit_declared(alloc, index, query)?;
         if fit == Fit::InOrder || (fit == Fit::Narrow && chosen.is_none()) {
             chosen = Some(IndexName {
-                design: design.copy(alloc)?,
                 name: String::from_str(alloc, name.as_str())?,
                 fit,
             });

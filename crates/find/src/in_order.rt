@@ -11,7 +11,7 @@ ghost use Rattle.find.specs.Matching.{completion, match_in, matches_at};
 ghost use Rattle.find.specs.Sources.{chunks_left, ids_in, ids_left};
 
 use crate::chunks::{Chunks, take_chunk};
-use crate::matching::write_match;
+use crate::matching::read_match;
 use crate::part::Part;
 use crate::query::Query;
 use crate::source::Source;
@@ -36,7 +36,7 @@ pub(crate) fn find_in_order<S: Store>(
     ensures stops { IfErr result (Stops S.Store store.old store.new (map.get (S.contents store.old) db.now ≡ None)) }
     ensures reads { OnlyReads S.Store store.old store.new }
 {
-    let mut part = Part::new(alloc, query)?;
+    let mut part = Part::new(alloc, query.skip, query.limit)?;
     let mut chunks = Chunks::new(query.skip.saturating_add(query.limit));
     while !chunks.is_done {
         put_chunk(alloc, store, db, query, source, &mut chunks, &mut part)?;
@@ -107,8 +107,8 @@ fn put_match<S: Store>(
     ensures stops { IfErr result (Stops S.Store store.old store.new (map.get (S.contents store.old) db.now ≡ None)) }
     ensures reads { OnlyReads S.Store store.old store.new }
 {
-    if let Some(document) = write_match(alloc, store, db, id, &query.selector)? {
-        part.put(document)?;
+    if let Some(document) = read_match(alloc, store, db, id, &query.selector)? {
+        part.put(alloc, &document)?;
     }
     Ok(())
 }

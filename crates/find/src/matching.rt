@@ -9,31 +9,12 @@ ghost use Rattle.store.specs.Indexes.{queried_document};
 ghost use Rattle.read.specs.Answers.{Stops};
 ghost use Rattle.find.specs.Matching.{if_matches, match_in};
 
-use couch_json::{Got, Json, JsonText};
+use couch_json::{Got, Json};
 use read::ReadFault;
 use selector::Selector;
 use std::alloc::Global;
 use store::{DbName, Store, read_winning, show_queried};
 use tree::{DocId, History};
-
-/// Writes a document as queries see it, if it matches. A design document is not read.
-pub(crate) fn write_match<S: Store>(
-    alloc: Global,
-    store: &mut S,
-    db: &DbName,
-    id: &DocId,
-    selector: &Selector,
-) -> Result<Option<JsonText>, ReadFault>
-    ensures ok { S.is_honest store.new → IfOk result (λ document. (d : Database) → map.get (S.contents store.old) db.now ≡ Some d
-        → document ≡ match_in selector.now d id.now) }
-    ensures stops { IfErr result (Stops S.Store store.old store.new (map.get (S.contents store.old) db.now ≡ None)) }
-    ensures reads { OnlyReads S.Store store.old store.new }
-{
-    match read_match(alloc, store, db, id, selector)? {
-        Some(document) => Ok(Some(JsonText::of(alloc, &document)?)),
-        None => Ok(None),
-    }
-}
 
 /// Reads a document as queries see it, if it matches. A design document is not read.
 #[tactic(auto, using(store::proofs::Winnings::queried_alone))]

@@ -1,9 +1,9 @@
 ghost use Rattle.std.specs.Prelude.{◌≡◌, ◌∷◌, IfOk, List, OnOk, drop, nat_eq, take};
 ghost use Rattle.couch_json.specs.Value.{Value};
+ghost use Rattle.couch_json.specs.View.{view};
 ghost use Rattle.find.specs.Matching.{completion};
 
-use crate::query::Query;
-use couch_json::{ArrayText, Got, JsonText};
+use couch_json::{ArrayText, Got, Json, JsonText};
 use std::alloc::Global;
 
 /// The part of the documents that a query asks for, as it is gathered.
@@ -18,13 +18,13 @@ pub(crate) struct Part {
 }
 
 impl Part {
-    /// Returns the part before any document has come.
-    pub(crate) fn new(alloc: Global, query: &Query) -> Got<Part>
-        ensures { IfOk result (λ part. (rest : List Value) → completion part rest ≡ take query.now.limit (drop query.now.skip rest)) }
+    /// Returns the part before any document has come: so many are left out, and so many are wanted.
+    pub(crate) fn new(alloc: Global, skip: u64, limit: u64) -> Got<Part>
+        ensures { IfOk result (λ part. (rest : List Value) → completion part rest ≡ take limit (drop skip rest)) }
     {
         Ok(Part {
-            skip: query.skip,
-            limit: query.limit,
+            skip,
+            limit,
             documents: ArrayText::new(alloc)?,
         })
     }
@@ -36,15 +36,16 @@ impl Part {
         self.limit == 0
     }
 
-    /// Takes the next document, which may be left out.
-    pub(crate) fn put(&mut self, document: JsonText) -> Got<()>
-        ensures { OnOk result ((rest : List Value) → completion self.new rest ≡ completion self.old (document ∷ rest)) }
+    /// Takes the next document, which may be left out. Of one that is left out no text is made.
+    pub(crate) fn put(&mut self, alloc: Global, document: &Json) -> Got<()>
+        ensures { OnOk result ((rest : List Value) → completion self.new rest ≡ completion self.old (view document.now ∷ rest)) }
     {
         if self.skip > 0 {
             self.skip -= 1;
         } else if self.limit > 0 {
             self.limit -= 1;
-            self.documents.push_text(document)?;
+            let text = JsonText::of(alloc, document)?;
+            self.documents.push_text(text)?;
         }
         Ok(())
     }

@@ -79,7 +79,7 @@ rest_next stream bytes rest old ms (unfinished left) held cuts = (old ++ ms, Cut
 rest_next stream bytes rest old ms ended held cuts = (old ++ ms, ended, Cuts-append stream bytes old ms rest ended held cuts, refl)
 rest_next stream bytes rest old ms (faulty f) held cuts = (old ++ ms, faulty f, Cuts-append stream bytes old ms rest (faulty f) held cuts, refl)
 
-ended_next : (stream bytes : List ℕ) (ms : List Message) (end : StreamEnd) → Cuts stream ms end → is_last end ≡ true → Cuts (stream ++ bytes) ms end
+pub ended_next : (stream bytes : List ℕ) (ms : List Message) (end : StreamEnd) → Cuts stream ms end → is_last end ≡ true → Cuts (stream ++ bytes) ms end
 ended_next stream bytes ms (unfinished rest) held last = absurd cc
 ended_next stream bytes ms ended held last = Cuts-append_ended stream bytes ms held
 ended_next stream bytes ms (faulty f) held last = Cuts-append_faulty stream bytes ms f held

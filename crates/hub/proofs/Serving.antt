@@ -61,6 +61,34 @@ serves_more g c k same before between after requests i q inside at rs r p next =
     map_more message_of requests i q inside ∙ ap (λ (x : Request). map message_of (take i requests) ++ message_of x ∷ []) (sym at) in
     rw items (serves_push g c before between after (map message_of (take i requests)) rs (message_of q) r p (subst (λ (x : Configuration). StoreSteps g x between (message_of q) r after) same next))
 
+-- ---- runs one behind the other
+
+run_more : {S : Type 0} (step : S → Message → Reply → S → Type 0) (before : S) (xs ys : List (Stepped S)) → IsRun step before xs → IsRun step (end_of before xs) ys → IsRun step before (xs ++ ys)
+run_more step before [] ys h k = k
+run_more step before (x ∷ xs) ys h k = (h.0, run_more step x.after xs ys h.1 k)
+
+end_more : {S : Type 0} (before : S) (xs ys : List (Stepped S)) → end_of before (xs ++ ys) ≡ end_of (end_of before xs) ys
+end_more before [] ys = refl
+end_more before (x ∷ xs) ys = end_more x.after xs ys
+
+messages_more : {S : Type 0} (xs ys : List (Stepped S)) → messages_of (xs ++ ys) ≡ messages_of xs ++ messages_of ys
+messages_more [] ys = refl
+messages_more (x ∷ xs) ys = ap (λ (ms : List Message). x.message ∷ ms) (messages_more xs ys)
+
+replies_more : {S : Type 0} (xs ys : List (Stepped S)) → replies_of (xs ++ ys) ≡ replies_of xs ++ replies_of ys
+replies_more [] ys = refl
+replies_more (x ∷ xs) ys = ap (λ (rs : List Reply). x.reply ∷ rs) (replies_more xs ys)
+
+pub serves_then : {S : Type 0} (g : Ghosts S) (c : Configuration) (before between after : S) (ms ns : List Message) (rs ss : List Reply)
+    → Serves g c before ms rs between → Serves g c between ns ss after → Serves g c before (ms ++ ns) (rs ++ ss) after
+serves_then {S} g c before between after ms ns rs ss x y = record {
+  steps = x.steps ++ y.steps;
+  run = run_more (StoreSteps g c) before x.steps y.steps x.run (subst (λ (s : S). IsRun (StoreSteps g c) s y.steps) (sym x.ends) y.run);
+  requests = messages_more x.steps y.steps ∙ ap (λ (l : List Message). l ++ messages_of y.steps) x.requests ∙ ap (λ (l : List Message). ms ++ l) y.requests;
+  answers = replies_more x.steps y.steps ∙ ap (λ (l : List Reply). l ++ replies_of y.steps) x.answers ∙ ap (λ (l : List Reply). rs ++ l) y.answers;
+  ends = end_more before x.steps y.steps ∙ ap (λ (s : S). end_of s y.steps) x.ends ∙ y.ends;
+}
+
 -- ---- the end of a stream
 
 refusal_is : (ending : Ending) (end : StreamEnd) → IsEnding ending end → refusal_at ending ≡ last_replies end

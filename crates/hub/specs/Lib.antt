@@ -7,3 +7,4 @@ pub mod Cutters
 pub mod Faults
 pub mod Codes
 pub mod Service
+pub mod Parts

@@ -1,32 +1,34 @@
 //! One connection, served from the bytes of a reader to those of a writer.
 
-ghost use Rattle.std.specs.Prelude.{◌≡◌, ◌≢◌, ◌≤◌, ℕ, Bool, List, length, true, false, None, Some};
+ghost use Rattle.std.specs.Prelude.{◌≡◌, ◌≢◌, ◌<◌, ◌≤◌, ℕ, Bool, List, length, true, false, None, Some};
 ghost use Rattle.store.specs.Calls.{GoesOn};
 ghost use Rattle.hub.specs.Connections.{is_open, next_connection};
+ghost use Rattle.hub.specs.Parts.{ServesPart};
 ghost use Rattle.hub.specs.Service.{IsServed, Serves, ServesOrTurnsAway, bytes_of, end_after_farewell, end_after_replies, farewell, greatest_piece, greatest_reads};
 ghost use Rattle.std.specs.Io.KnownBytes.{Appends};
 ghost use Rattle.streams.specs.Writing.{Takes};
 
 use crate::fault::HubFault;
 use crate::hub::Hub;
+use crate::parts::measure_part;
 use crate::replies::Replies;
 use crate::service_end::ServiceEnd;
 use couch_http::{Fixed, Response};
 use std::io::{Read, Write};
 use store::Store;
-use streams::write_bytes;
+use streams::{read_some, write_bytes};
 
 /// How many bytes a piece has at most.
 const PIECE: usize = 8_192;
 
-/// How many times a connection is read at most.
+/// How many times a connection is read at most. A read that is interrupted and made again counts once.
 const READS: u64 = 1_048_576;
 
 /// Serves one connection of a hub: reads pieces of up to 8,192 bytes, and writes the replies to them in
 /// order. Returns why it ended; the connection is closed then.
 ///
-/// A write that takes no byte has failed. Where memory runs out, the fixed reply with status 503 is
-/// written, and the connection ends. See RFC 9112, section 9.3.
+/// A write that takes no byte has failed. A read or a write that is interrupted is made again. Where memory
+/// runs out, the fixed reply with status 503 is written, and the connection ends. See RFC 9112, section 9.3.
 pub fn serve_connection<S: Store + Drop, R: Read, W: Write>(
     hub: &mut Hub<S>,
     reader: &mut R,
@@ -89,14 +91,15 @@ fn serve_read<S: Store + Drop, R: Read, W: Write>(
     ensures configuration { hub.new.node.configuration ≡ hub.old.node.configuration }
     ensures onward { GoesOn S.Store hub.old.node.store hub.new.node.store }
 {
-    match reader.read(room) {
+    match read_some(reader, room) {
         Ok(0) => Some(ServiceEnd::EndOfInput),
         Ok(count) => serve_piece(hub, conn, &room[..count], writer),
         Err(_) => Some(ServiceEnd::ReadFailed),
     }
 }
 
-/// Feeds a piece to an open connection, and writes the replies to it.
+/// Feeds a piece to an open connection, part by part. The replies to each part are written before the next
+/// one is fed.
 fn serve_piece<S: Store + Drop, W: Write>(
     hub: &mut Hub<S>,
     conn: u64,
@@ -105,13 +108,39 @@ fn serve_piece<S: Store + Drop, W: Write>(
 ) -> Option<ServiceEnd>
     requires open { is_open hub.old.connections conn ≡ true }
     requires size { length piece.now ≤ greatest_piece }
+    requires some { 0 < length piece.now }
     ensures served { (count : ℕ) × (result ≡ None → count ≡ 1) × (written : List ℕ) × Appends (W.contents writer.old) (W.contents writer.new) written
         × IsServed S.Store hub.old conn result count piece.now written hub.new }
     ensures reads { (result ≢ Some ServiceEnd.TooManyReads) × (result ≢ Some ServiceEnd.EndOfInput) }
     ensures configuration { hub.new.node.configuration ≡ hub.old.node.configuration }
     ensures onward { GoesOn S.Store hub.old.node.store hub.new.node.store }
 {
-    match hub.feed(conn, piece) {
+    let mut rest = piece;
+    while !rest.is_empty() {
+        let (part, others) = rest.split_at(measure_part(rest));
+        if let Some(end) = serve_part(hub, conn, part, writer) {
+            return Some(end);
+        }
+        rest = others;
+    }
+    None
+}
+
+/// Feeds a part of a piece to an open connection, and writes the replies to it.
+fn serve_part<S: Store + Drop, W: Write>(
+    hub: &mut Hub<S>,
+    conn: u64,
+    part: &[u8],
+    writer: &mut W,
+) -> Option<ServiceEnd>
+    requires { is_open hub.old.connections conn ≡ true }
+    ensures served { ServesPart S.Store hub.old conn part.now result (W.contents writer.old) (W.contents writer.new) hub.new }
+    ensures open { result ≡ None → is_open hub.new.connections conn ≡ true }
+    ensures reads { (result ≢ Some ServiceEnd.TooManyReads) × (result ≢ Some ServiceEnd.EndOfInput) }
+    ensures configuration { hub.new.node.configuration ≡ hub.old.node.configuration }
+    ensures onward { GoesOn S.Store hub.old.node.store hub.new.node.store }
+{
+    match hub.feed(conn, part) {
         Ok(replies) => write_replies(writer, &replies),
         Err(HubFault::Memory) => Some(write_farewell(writer)),
         Err(HubFault::Unknown | HubFault::Closed | HubFault::Full) => unreachable!(),

@@ -1,13 +1,15 @@
 -- What queries see of a document is what the row of its winner shows.
 use Rattle.index.proofs.Common.{AllByRecursion, Bool, List, None, Option, Row, Some, Trees, [], ap, false, filter, if◌then◌else◌, map, option_map, refl, slice_get, subst, sym, true, ℕ, ℤ, ◌∙◌, ◌∷◌, ◌≡◌}
 use Rattle.couch_json.specs.Value.{Value}
-use Rattle.index.specs.Seen.{shown_by_row, shown_by_rows}
+use Rattle.index.specs.Seen.{HasLive, ShowsLive, shown_by_row, shown_by_rows}
 use Rattle.sqlite_keyed.proofs.ListLemmas.{all-filter, all_map}
 use Rattle.std.specs.FinMap as finite
 use Rattle.std.specs.Ordering.{eq_by_cmp}
 use Rattle.std.specs.Prelude.{option_and_then}
 use Rattle.store.specs.Indexes.{queried_document, shown_by}
 use Rattle.store.specs.Pages.{live_rev, live_rev_by}
+use Rattle.store.specs.Winning.{IsHeldSo}
+use Rattle.tables.proofs.HeldWinners.{winner_is_held}
 use Rattle.tables.proofs.Laid.{shown_revisions, stored_winner}
 use Rattle.tables.proofs.ListingRows.{won}
 use Rattle.tables.proofs.RowMaps.{filter_both, get_filtered}
@@ -19,6 +21,8 @@ use Rattle.tree.proofs.Kept.{revision_cmp_total}
 use Rattle.tree.proofs.Revisions.{revision_cmp_exact}
 use Rattle.tree.specs.DocumentId.{is_design_id}
 use Rattle.tree.specs.History.{HistoryContent, held_of, is_deleted, row_of, winner}
+use Rattle.tree.proofs.Shown.{inside}
+use Rattle.tree.specs.Outline.{marked_revision, marked_winner}
 use Rattle.tree.specs.Revision.{Revision, revision_cmp, revision_read}
 use Rattle.tree.specs.ShownDocument.{shown_document}
 use Rattle.tree.specs.declared.entry.Entry.{Entry}
@@ -52,6 +56,21 @@ first_shown : (id : List ℕ) (q : Revision) (o : Option Row) → option_map (λ
 first_shown id q None = refl
 first_shown id q (Some s) = held_shown_by id q (held_shown s)
 
+-- ---- what the first row holds
+
+held_as : (o : Option (Bool × Value)) (body : Value) → option_map {U = Held} (λ (d : Bool × Value). record { deleted = d.0; body = d.1 }) o ≡ Some (record { deleted = false; body = body }) → o ≡ Some (false, body)
+held_as None body is = absurd (cc)
+held_as (Some h) body is = ap (λ (d : Held). Some (d.deleted, d.body)) (inside _ (record { deleted = false; body = body }) is)
+
+pub first_live : (rows : List Row) (body : Value) → option_and_then (λ (e : Entry). e.held) (option_map known_by_row (slice_get rows 0)) ≡ Some (record { deleted = false; body = body }) → HasLive rows
+first_live [] body is = absurd (cc)
+first_live (s ∷ rows) body is = record { row = s; first = refl; body = body; held = held_as (held_shown s) body is }
+
+pub live_is : (id : List ℕ) (q : Revision) (rows : List Row) (document : Value) → ShowsLive id q rows document → Some document ≡ shown_by_rows id q rows
+live_is id q rows document s =
+    ap Some s.shown
+    ∙ sym (ap (option_and_then (shown_by_row id q)) s.live.first ∙ ap (option_map (λ (h : Bool × Value). shown_document id q (record { deleted = h.0; body = h.1 }))) s.live.held)
+
 module _ (trees : Trees) (l : IsLaid trees) (r : Row) (k : IsDocumentRow trees r) where
   abbrev own : HistoryContent
   own = history_in (trees revs_tree) (db_of r) (id_of r)
@@ -81,3 +100,13 @@ module _ (trees : Trees) (l : IsLaid trees) (r : Row) (k : IsDocumentRow trees r
       sym (ap (λ b. if b then None else shown_by (id_of r) own (live_rev own)) plain ∙ ap (shown_by (id_of r) own) seen
       ∙ ap (λ o. option_map (λ (held : Held). shown_document (id_of r) q held) (option_and_then (λ (e : Entry). e.held) o)) (sym (revision_found trees (db_of r) (id_of r) q))
       ∙ first_shown (id_of r) q (slice_get (map shown_revision (filter (is_revision_of (db_of r) (id_of r) q) (trees revs_tree))) 0))
+
+  -- which the row of that revision holds, under no mark of deletion
+  pub winner_live : (q : Revision) → revision_read (winner_text r) ≡ Some q → is_gone r ≡ false → HasLive (map shown_revision (filter (is_revision_of (db_of r) (id_of r) q) (trees revs_tree)))
+  winner_live q spelled live =
+      let rows = map shown_revision (filter (is_revision_of (db_of r) (id_of r) q) (trees revs_tree)) in
+      let best : winner own ≡ Some q = won trees l.revs r k ∙ spelled in
+      let marked : marked_winner own ≡ Some (record { rev = q; deleted = false }) =
+      ap (option_map (marked_revision own)) best ∙ ap (λ b. Some (record { rev = q; deleted = b })) (sym (k.gone q best) ∙ live) in
+      let held = winner_is_held trees l (db_of r) (id_of r) (record { rev = q; deleted = false }) marked in
+      first_live rows held.0 (ap (option_and_then (λ (e : Entry). e.held)) (revision_found trees (db_of r) (id_of r) q) ∙ held.1)

@@ -1,6 +1,6 @@
 -- The words of the contracts, at a connection.
 -- This server's own: what a statement leaves is said by `tables`.
-use Rattle.std.specs.Prelude.{◌≡◌, ◌≢◌, ⊤, true, false, ℕ, ℤ, IsTrue, List, filter, map, Option, option_map, Result, IfOk, OnOk}
+use Rattle.std.specs.Prelude.{◌≡◌, ◌≢◌, ⊤, true, false, ℕ, ℤ, IsTrue, List, filter, map, Option, Some, option_map, Result, IfOk, OnOk}
 use Rattle.std.specs.List.{AllByRecursion}
 use Rattle.couch_json.specs.Value.{Value}
 use Rattle.couch_json.specs.View.{view}
@@ -33,10 +33,6 @@ IsRefused intact fault.Damaged = ¬ intact
 -- the disk returned what was written, and the rows of indexes of an open connection were laid out
 abbrev pub IsSound : {S : Type 0} → Ghosts S → Held S → Held S → Type 0
 IsSound g old new = HasCleanDisk (state g new) × (IsTrue (state g old).is_open → HasIndexRows (state g old).now)
-
--- the same of the whole store
-abbrev pub IsSoundStore : {S : Type 0} → Ghosts S → Held S → Held S → Type 0
-IsSoundStore g old new = HasCleanDisk (state g new) × (IsTrue (state g old).is_open → IsStore (state g old).now)
 
 -- an open transaction goes on
 abbrev pub StaysOpen : {S X E : Type 0} → Ghosts S → Held S → Held S → Result X E → Type 0
@@ -102,7 +98,7 @@ Drops g db old new r =
     → OnOk r (IsDropped declares sees db (state g old).now (state g new).now)
 
 -- What is found of a document that is neither deleted nor a design document is what queries see of it.
-abbrev pub FindsLive : {S E : Type 0} → Ghosts S → ℤ → ListedDocument → Held S → Held S → Result (Option Json) E → Type 0
+abbrev pub FindsLive : {S E : Type 0} → Ghosts S → ℤ → ListedDocument → Held S → Held S → Result Json E → Type 0
 FindsLive g db listed old new r =
     HasCleanDisk (state g new) → IsStore (state g old).now → (d : Row) → IsDocumentRow (state g old).now.trees d → db_of d ≡ db → IsListedAs d listed
-    → is_gone d ≡ false → is_design_id (id_of d) ≡ false → IfOk r (λ seen. option_map view seen ≡ sees_in (state g old).now.trees db (id_of d))
+    → is_gone d ≡ false → is_design_id (id_of d) ≡ false → IfOk r (λ seen. Some (view seen) ≡ sees_in (state g old).now.trees db (id_of d))

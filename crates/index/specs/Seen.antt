@@ -1,9 +1,13 @@
 -- What queries see of a document, as the rows of the document say it.
 -- This server's own: what a query shows of a row is said by `tables`.
-use Rattle.std.specs.Prelude.{◌≡◌, ℕ, List, Option, Some, option_map, option_and_then, slice_get}
+use Rattle.std.specs.Prelude.{◌≡◌, ℕ, ℤ, false, IsTrue, List, Option, Some, option_map, option_and_then, slice_get}
 use Rattle.couch_json.specs.Value.{Value}
+use Rattle.sqlite.specs.Held.{Held, state}
+use Rattle.sqlite.specs.State.{HasCleanDisk}
+use Rattle.sqlite_trees.specs.declared.store.Store.{Ghosts}
 use Rattle.sqlite_value.specs.Order.{Row}
-use Rattle.tables.specs.Rows.{id_of, is_gone, listed_document, winner_text}
+use Rattle.tables.specs.Layout.{IsDocumentRow, IsStore}
+use Rattle.tables.specs.Rows.{db_of, id_of, is_gone, listed_document, winner_text}
 use Rattle.tables.specs.Shown.{held_shown}
 use Rattle.tables.specs.declared.decode.ListedDocument.{ListedDocument}
 use Rattle.tree.specs.Revision.{Revision, revision_read}
@@ -26,3 +30,21 @@ pub record IsListedAs (r : Row) (d : ListedDocument) : Type 0 where
 -- the same of the row as a query shows it
 abbrev pub IsListedFrom : Row → ListedDocument → Type 0
 IsListedFrom s d = (r : Row) → s ≡ listed_document r → IsListedAs r d
+
+-- the first of the rows is there, and this body is held of it under no mark of deletion
+pub record HasLive (rows : List Row) : Type 0 where
+  pub row : Row
+  pub first : slice_get rows 0 ≡ Some row
+  pub body : Value
+  pub held : held_shown row ≡ Some (false, body)
+
+-- and this is the document that it shows
+pub record ShowsLive (id : List ℕ) (r : Revision) (rows : List Row) (document : Value) : Type 0 where
+  pub live : HasLive rows
+  pub shown : document ≡ shown_document id r (record { deleted = false; body = live.body })
+
+-- The disk returned what was written, and the tables of an open connection were laid out: with this row of a document of the database, of
+-- which that is read, and whose winner is not deleted.
+abbrev pub IsSoundLive : {S : Type 0} → Ghosts S → ℤ → ListedDocument → Row → Held S → Held S → Type 0
+IsSoundLive g db listed d old new =
+    HasCleanDisk (state g new) × (IsTrue (state g old).is_open → IsStore (state g old).now × IsDocumentRow (state g old).now.trees d × (db_of d ≡ db) × IsListedAs d listed × (is_gone d ≡ false))

@@ -69,7 +69,7 @@ fn fill_row<S: Alter>(
     }
     let seen = find_live(alloc, tx, db, &listed)?;
     let id = listed.id.as_str().as_bytes();
-    refresh_index(alloc, tx, declaration, id, None, seen.as_ref())
+    refresh_index(alloc, tx, declaration, id, None, Some(&seen))
 }
 
 /// Tells whether queries don't see the document: it is deleted, or a design document.

@@ -1,17 +1,18 @@
 //! What queries see of a document, read in a transaction.
 
-ghost use Rattle.std.specs.Prelude.{◌≡◌, IfErr, IfOk, filter, map, option_map};
+ghost use Rattle.std.specs.Prelude.{◌≡◌, ◌∷◌, [], IfErr, IfOk, filter, map, option_map};
 ghost use Rattle.std.specs.List.{AllByRecursion};
 ghost use Rattle.couch_json.specs.View.{view};
 ghost use Rattle.sqlite_keyed.specs.Lists.{sort_by};
+ghost use Rattle.sqlite_value.specs.Order as order;
 ghost use Rattle.tables.specs.Calls.{AsksInside, LooksInside, ReadsInside, Stands};
 ghost use Rattle.tables.specs.Layout.{IsStore};
 ghost use Rattle.tables.specs.Listings.{IsListedDocument};
 ghost use Rattle.tables.specs.Rows.{by_id, is_in, listed_document};
 ghost use Rattle.tables.specs.Schema.{docs_tree};
 ghost use Rattle.tables.specs.Shown.{IsShownRevision, held_shown};
-ghost use Rattle.index.specs.Calls.{FindsLive, IsRefused, IsSoundStore};
-ghost use Rattle.index.specs.Seen.{IsListedFrom, shown_by_row, shown_by_rows};
+ghost use Rattle.index.specs.Calls.{FindsLive, IsRefused};
+ghost use Rattle.index.specs.Seen.{HasLive, IsListedFrom, IsSoundLive, ShowsLive};
 
 use crate::fault::IndexFault;
 use couch_json::Json;
@@ -50,16 +51,17 @@ pub(crate) fn read_listed(alloc: Global, row: &Row) -> Result<ListedDocument, In
     }
 }
 
-/// Finds what queries see of a document of a list that is neither deleted nor a design document.
+/// Finds what queries see of a document of a list that is neither deleted nor a design document. `Damaged`
+/// comes also where the row of its winner is gone, or holds no document that is not deleted.
 pub(crate) fn find_live<S: Alter>(
     alloc: Global,
     tx: &mut Transaction<'_, S>,
     db: &i64,
     listed: &ListedDocument,
-) -> Result<Option<Json>, IndexFault>
+) -> Result<Json, IndexFault>
     ensures same_reference { tx.new.conn.ghost_name ≡ tx.old.conn.ghost_name }
     ensures finds { FindsLive S.Store db.now listed.now tx.old.conn.now tx.new.conn.now result }
-    ensures err { IfErr result (IsRefused (IsSoundStore S.Store tx.old.conn.now tx.new.conn.now)) }
+    ensures err { (d : order.Row) → IfErr result (IsRefused (IsSoundLive S.Store db.now listed.now d tx.old.conn.now tx.new.conn.now)) }
     ensures stands { Stands S.Store tx.old.conn.now tx.new.conn.now result }
     ensures looks { LooksInside S.Store tx.old.conn.now tx.new.conn.now }
     ensures asks { AsksInside S.Store tx.old.conn.now tx.new.conn.now }
@@ -69,31 +71,26 @@ pub(crate) fn find_live<S: Alter>(
     show_first(alloc, &listed.id, &listed.winner, &rows)
 }
 
-/// Shows the revision of the first row as its document, where it is held.
-fn show_first(
-    alloc: Global,
-    id: &DocId,
-    rev: &Rev,
-    rows: &[Row],
-) -> Result<Option<Json>, IndexFault>
-    ensures ok { IfOk result (λ shown. option_map view shown ≡ shown_by_rows id.now rev.now rows.now) }
-    ensures err { IfErr result (IsRefused (AllByRecursion IsShownRevision rows.now)) }
+/// Shows the revision of the first row as its document, which is not deleted.
+fn show_first(alloc: Global, id: &DocId, rev: &Rev, rows: &[Row]) -> Result<Json, IndexFault>
+    ensures ok { IfOk result (λ shown. ShowsLive id.now rev.now rows.now (view shown)) }
+    ensures err { IfErr result (IsRefused (AllByRecursion IsShownRevision rows.now × HasLive rows.now)) }
 {
     match rows.first() {
         Some(row) => show_row(alloc, id, rev, row),
-        None => Ok(None),
+        None => Err(IndexFault::Damaged),
     }
 }
 
-/// Shows the revision of a row as its document, where it is held.
-fn show_row(alloc: Global, id: &DocId, rev: &Rev, row: &Row) -> Result<Option<Json>, IndexFault>
-    ensures ok { IfOk result (λ shown. option_map view shown ≡ shown_by_row id.now rev.now row.now) }
-    ensures err { IfErr result (IsRefused (IsShownRevision row.now)) }
+/// Shows the revision of a row as its document, which is not deleted.
+fn show_row(alloc: Global, id: &DocId, rev: &Rev, row: &Row) -> Result<Json, IndexFault>
+    ensures ok { IfOk result (λ shown. ShowsLive id.now rev.now (row.now ∷ []) (view shown)) }
+    ensures err { IfErr result (IsRefused (IsShownRevision row.now × HasLive (row.now ∷ []))) }
 {
     let found = read_found(alloc, row)?;
     match &found.held {
-        Some((deleted, body)) => Ok(Some(show(alloc, id, rev, *deleted, body)?)),
-        None => Ok(None),
+        Some((false, body)) => Ok(show(alloc, id, rev, false, body)?),
+        _ => Err(IndexFault::Damaged),
     }
 }
 

@@ -1,6 +1,6 @@
 -- Each denial names the first rule that refuses, and is told to the caller as it should be.
 use Rattle.std.proofs.Common.{◌≡◌, ◌≢◌, cond, arith, ℕ, List, Bool, true, false, is_none, option_map, Option, Some, None, Result, Ok, Err, inl, inr, refl, ap, sym, ◌∙◌, subst}
-use Rattle.std.specs.Prelude.{⊤, map}
+use Rattle.std.specs.Prelude.{IsSome, is_some, ⊤, map}
 use Rattle.std.specs.FinMap.{get}
 use Rattle.auth.specs.Callers.{Configuration, Identity, caller_of}
 use Rattle.auth.specs.declared.auth_fault.AuthFault.{AuthFault}
@@ -51,7 +51,7 @@ use Rattle.api.specs.declared.refusal.Refusal.{Refusal}
 use Rattle.api.specs.declared.refusal.Refusal.TheVariants.{Unauthorized, Forbidden, Path, Method, DatabaseName, NoDatabase, Exists, Id, Query, Syntax, Body, BadDocument, BadHistory, Conflict, Generation, Missing, Deleted}
 use Rattle.node.specs.Answer.{Task, administration, permission, created, entry, admin_task, judgement, listed, database_name_of, task_outcome, removed, page_outcome, task_of, told, worked, work_task}
 use Rattle.node.proofs.Tasks.{named, same, there, went}
-use Rattle.node.specs.Denials.{IsAskedAt, IsDenied, IsDue, IsOf, IsOwn, IsToldRule, IsUnvouched, MayDeny, WritesBy, rule_denied_by}
+use Rattle.node.specs.Denials.{IsAskedAt, IsDenied, IsDue, IsOf, IsOwn, IsReached, IsToldRule, IsUnvouched, MayDeny, WritesBy, rule_denied_by}
 use Rattle.node.specs.Work.{Work, read_work}
 use Rattle.node.specs.Works.{change_list, database_read, difference_list, document_deleted, document_finds, document_list, document_read, document_written, documents_written, deletion, deletion_outcome, edit_asked, edit_done, found, index_asked_in, index_done, index_written, local_read, local_set, local_written, read_by, security_read, security_set, security_written, view_read}
 
@@ -230,7 +230,7 @@ module _ (a : Contents) (m : Message) (caller : Identity) (name : List ℕ) (db 
   -- a deletion that names no revision is denied by the condition on writing design documents alone
   unnamed_due : IsEdited a m caller name db Delete → (id : List ℕ) (rule : Rule) → edit_asked m ≡ Ok (id, None)
       → unnamed_deletion (terms_in caller name db) id ≡ Err (write.Denied rule) → IsDue a m caller rule
-  unnamed_due at id rule is denied = inr (inr (record {
+  unnamed_due at id rule is denied = inr (inr (inl (record {
     name = name;
     db = db;
     id = id;
@@ -242,7 +242,7 @@ module _ (a : Contents) (m : Message) (caller : Identity) (name : List ℕ) (db 
     leads = (is_asked m (id, None) is).leads;
     named = (is_asked m (id, None) is).named;
     due = unnamed_denied (terms_in caller name db) id rule denied;
-  }))
+  })))
 
   fair_deletion : IsEdited a m caller name db Delete → (id : List ℕ) (query : Option Revision) → edit_asked m ≡ Ok (id, query)
       → AreFair a m caller (edit_done caller 200 id (deletion_outcome (terms_in caller name db) db id query))
@@ -266,22 +266,39 @@ fair_finds a m caller db =
     (λ u is. fair_next a m caller (body_of m) _ (fair_body a m caller)
     (λ v said. fair_next a m caller (there_or Body (query_in v)) _ (fair_there a m caller Body (query_in v) refl) (λ query asked. fair_ok a m caller _)))
 
+-- the request declares an index
+record IsDeclared (m : Message) (asked : IndexAsked) : Type 0 where
+  value : Value
+  page : page_of m.path ≡ Some Index
+  method : method_of m.method ≡ Some Post
+  query : plain m ≡ Ok tt
+  body : body_of m ≡ Ok value
+  asks : index_in value ≡ Some asked
+
 -- an index is denied as a design document alone, by the security object of its database
-fair_index : (a : Contents) (m : Message) (caller : Identity) (name : List ℕ) (db : Database) (asked : IndexAsked) → MayDeny m WriteDesign → IsIn a m name db
-    → is_design_id asked.design ≡ true → AreFair a m caller (index_asked_in caller name db asked)
-fair_index a m caller name db asked may place design = by (index_admission terms db asked.design asked.name asked.fields) refl
+fair_index : (a : Contents) (m : Message) (caller : Identity) (name : List ℕ) (db : Database) (asked : IndexAsked) → IsDeclared m asked → IsIn a m name db
+    → verdict WriteDocument caller db.security ≡ None → AreFair a m caller (index_asked_in caller name db asked)
+fair_index a m caller name db asked declared place member = by (index_admission terms db asked.design asked.name asked.fields) refl
   where
     terms : Terms
     terms = terms_in caller name db
 
     due : (rule : Rule) → index_admission terms db asked.design asked.name asked.fields ≡ Err (write.Denied rule) → IsDue a m caller rule
-    due rule e = inl (record {
-      action = WriteDesign;
-      security = db.security;
-      asked = may;
-      of = record { name = name; db = db; own = place.own; there = place.there; is = refl };
-      first = (index_denied terms asked.design (history_at db asked.design) asked.name asked.fields rule design e).first;
-    })
+    due rule e = inr (inr (inr (record {
+      name = name;
+      db = db;
+      value = declared.value;
+      index = asked;
+      page = declared.page;
+      method = declared.method;
+      own = place.own;
+      there = place.there;
+      member = member;
+      query = declared.query;
+      body = declared.body;
+      asks = declared.asks;
+      due = index_denied terms asked.design (history_at db asked.design) asked.name asked.fields rule (index_in-design declared.value asked declared.asks) e;
+    })))
 
     by : (r : DocumentOutcome) → index_admission terms db asked.design asked.name asked.fields ≡ r → AreFair a m caller (index_done caller asked.design asked.name r)
     by (Ok w) is = fair_ok a m caller _
@@ -293,12 +310,15 @@ fair_index a m caller name db asked may place design = by (index_admission terms
     by (Err (write.Store fault)) is = fair_other a m caller Conflict refl
     by (Err write.Memory) is = fair_other a m caller Conflict refl
 
-fair_indexing : (a : Contents) (m : Message) (caller : Identity) (name : List ℕ) (db : Database) → MayDeny m WriteDesign → IsIn a m name db → AreFair a m caller (index_written caller m name db)
-fair_indexing a m caller name db may place =
+fair_indexing : (a : Contents) (m : Message) (caller : Identity) (name : List ℕ) (db : Database) → (page_of m.path ≡ Some Index) × (method_of m.method ≡ Some Post) → IsIn a m name db
+    → verdict WriteDocument caller db.security ≡ None → AreFair a m caller (index_written caller m name db)
+fair_indexing a m caller name db for place member =
     fair_next a m caller (plain m) _ (fair_plain a m caller)
-    (λ u is. fair_next a m caller (body_of m) _ (fair_body a m caller)
+    (λ u plainly. fair_next a m caller (body_of m) _ (fair_body a m caller)
     (λ v said. fair_next a m caller (there_or Body (index_in v)) _ (fair_there a m caller Body (index_in v) refl)
-    (λ asked is. fair_index a m caller name db asked may place (index_in-design v asked (named Body (index_in v) asked is)))))
+    (λ asked is. fair_index a m caller name db asked
+    (record { value = v; page = for.0; method = for.1; query = plainly; body = said; asks = named Body (index_in v) asked is })
+    place member)))
 
 fair_view : (a : Contents) (m : Message) (caller : Identity) (db : Database) → AreFair a m caller (view_read m db)
 fair_view a m caller db =
@@ -373,8 +393,9 @@ abbrev IsFor : Page → Option RequestMethod → Message → Type 0
 IsFor page method m = (page_of m.path ≡ Some page) × (method_of m.method ≡ method)
 
 -- so each action may deny it that these ask for
-may : (page : Page) (method : Option RequestMethod) (m : Message) → IsFor page method m → (action : Action) → IsAskedAt page method action → MayDeny m action
-may page method m is action asked = record { page = page; leads = is.0; asked = subst (λ (x : Option RequestMethod). IsAskedAt page x action) (sym is.1) asked }
+may : (page : Page) (method : Option RequestMethod) (m : Message) → IsFor page method m → (action : Action) → IsAskedAt page method action → IsReached page action m → MayDeny m action
+may page method m is action asked reached =
+    record { page = page; leads = is.0; asked = subst (λ (x : Option RequestMethod). IsAskedAt page x action) (sym is.1) asked; reached = reached }
 
 fair_task : (a : Contents) (page : Page) (method : Option RequestMethod) (caller : Identity) (m : Message) (task : Task) → IsFor page method m → task_of page method caller m ≡ Ok task → IsFairTask a m caller task
 fair_task a Welcome (Some Get) caller m task is e =
@@ -383,23 +404,23 @@ fair_task a AllDatabases (Some Get) caller m task is e =
     let k = went (administration caller) (λ _. next (plain m) (λ _. Ok listed)) task e in
     let l = went (plain m) (λ _. Ok listed) task k.then in
     subst (λ (x : Task). IsFairTask a m caller x) (same {A = Task} _ task l.then) tt
-fair_task a DatabasePage (Some Get) caller m task is e = fair_work a m caller Read (λ name. read_work (database_read m name)) task (record { asked = may DatabasePage (Some Get) m is Read refl; of = λ security own. own }) (λ name db place member. fair_read a m caller (database_read m name) db (fair_database a m caller name db)) e
+fair_task a DatabasePage (Some Get) caller m task is e = fair_work a m caller Read (λ name. read_work (database_read m name)) task (record { asked = may DatabasePage (Some Get) m is Read refl tt; of = λ security own. own }) (λ name db place member. fair_read a m caller (database_read m name) db (fair_database a m caller name db)) e
 fair_task a DatabasePage (Some Put) caller m task is e = fair_admin a m caller (λ name. created name (plain m)) task (λ name. fair_plain a m caller) e
 fair_task a DatabasePage (Some Delete) caller m task is e = fair_admin a m caller (λ name. removed name (plain m)) task (λ name. fair_plain a m caller) e
-fair_task a Security (Some Get) caller m task is e = fair_work a m caller Read (λ name. read_work (security_read m)) task (record { asked = may Security (Some Get) m is Read refl; of = λ security own. own }) (λ name db place member. fair_read a m caller (security_read m) db (fair_security a m caller db)) e
-fair_task a Security (Some Put) caller m task is e = fair_work a m caller WriteSecurity (λ name. security_written m) task (record { asked = may Security (Some Put) m is WriteSecurity refl; of = λ security own. own }) (λ name db place member. fair_securing a m caller db) e
-fair_task a BulkDocuments (Some Post) caller m task is e = fair_work a m caller WriteDocument (λ name. documents_written caller m name) task (record { asked = may BulkDocuments (Some Post) m is WriteDocument refl; of = λ security own. own }) (λ name db place member. fair_documents a m caller name db) e
-fair_task a AllDocuments (Some Get) caller m task is e = fair_work a m caller Read (λ name. read_work (document_list m)) task (record { asked = may AllDocuments (Some Get) m is Read refl; of = λ security own. own }) (λ name db place member. fair_read a m caller (document_list m) db (fair_listing a m caller db)) e
-fair_task a Changes (Some Get) caller m task is e = fair_work a m caller Read (λ name. read_work (change_list m)) task (record { asked = may Changes (Some Get) m is Read refl; of = λ security own. own }) (λ name db place member. fair_read a m caller (change_list m) db (fair_changes a m caller db)) e
-fair_task a Differences (Some Post) caller m task is e = fair_work a m caller Read (λ name. read_work (difference_list m)) task (record { asked = may Differences (Some Post) m is Read refl; of = λ security own. own }) (λ name db place member. fair_read a m caller (difference_list m) db (fair_differences a m caller db)) e
-fair_task a Document (Some Get) caller m task is e = fair_work a m caller Read (λ name. read_work (document_read m)) task (record { asked = may Document (Some Get) m is Read refl; of = λ security own. own }) (λ name db place member. fair_read a m caller (document_read m) db (fair_document a m caller db)) e
-fair_task a Document (Some Put) caller m task is e = fair_work a m caller WriteDocument (λ name. document_written caller m name) task (record { asked = may Document (Some Put) m is WriteDocument refl; of = λ security own. own }) (λ name db place member. fair_writing a m caller name db (record { place = place; member = member; page = is.0; by = is.1 })) e
-fair_task a Document (Some Delete) caller m task is e = fair_work a m caller WriteDocument (λ name. document_deleted caller m name) task (record { asked = may Document (Some Delete) m is WriteDocument refl; of = λ security own. own }) (λ name db place member. fair_deleting a m caller name db (record { place = place; member = member; page = is.0; by = is.1 })) e
-fair_task a Find (Some Post) caller m task is e = fair_work a m caller Read (λ name. read_work (document_finds m)) task (record { asked = may Find (Some Post) m is Read refl; of = λ security own. own }) (λ name db place member. fair_read a m caller (document_finds m) db (fair_finds a m caller db)) e
-fair_task a Index (Some Post) caller m task is e = fair_work a m caller WriteDocument (λ name. index_written caller m name) task (record { asked = may Index (Some Post) m is WriteDocument (inl refl); of = λ security own. own }) (λ name db place member. fair_indexing a m caller name db (may Index (Some Post) m is WriteDesign (inr refl)) place) e
-fair_task a View (Some Get) caller m task is e = fair_work a m caller Read (λ name. read_work (view_read m)) task (record { asked = may View (Some Get) m is Read refl; of = λ security own. own }) (λ name db place member. fair_read a m caller (view_read m) db (fair_view a m caller db)) e
-fair_task a LocalDocumentPage (Some Get) caller m task is e = fair_work a m caller Read (λ name. read_work (local_read m)) task (record { asked = may LocalDocumentPage (Some Get) m is Read refl; of = λ security own. own }) (λ name db place member. fair_read a m caller (local_read m) db (fair_local a m caller db)) e
-fair_task a LocalDocumentPage (Some Put) caller m task is e = fair_work a m caller Read (λ name. local_written caller m) task (record { asked = may LocalDocumentPage (Some Put) m is Read refl; of = λ security own. own }) (λ name db place member. fair_storing a m caller db) e
+fair_task a Security (Some Get) caller m task is e = fair_work a m caller Read (λ name. read_work (security_read m)) task (record { asked = may Security (Some Get) m is Read refl tt; of = λ security own. own }) (λ name db place member. fair_read a m caller (security_read m) db (fair_security a m caller db)) e
+fair_task a Security (Some Put) caller m task is e = fair_work a m caller WriteSecurity (λ name. security_written m) task (record { asked = may Security (Some Put) m is WriteSecurity refl tt; of = λ security own. own }) (λ name db place member. fair_securing a m caller db) e
+fair_task a BulkDocuments (Some Post) caller m task is e = fair_work a m caller WriteDocument (λ name. documents_written caller m name) task (record { asked = may BulkDocuments (Some Post) m is WriteDocument refl tt; of = λ security own. own }) (λ name db place member. fair_documents a m caller name db) e
+fair_task a AllDocuments (Some Get) caller m task is e = fair_work a m caller Read (λ name. read_work (document_list m)) task (record { asked = may AllDocuments (Some Get) m is Read refl tt; of = λ security own. own }) (λ name db place member. fair_read a m caller (document_list m) db (fair_listing a m caller db)) e
+fair_task a Changes (Some Get) caller m task is e = fair_work a m caller Read (λ name. read_work (change_list m)) task (record { asked = may Changes (Some Get) m is Read refl tt; of = λ security own. own }) (λ name db place member. fair_read a m caller (change_list m) db (fair_changes a m caller db)) e
+fair_task a Differences (Some Post) caller m task is e = fair_work a m caller Read (λ name. read_work (difference_list m)) task (record { asked = may Differences (Some Post) m is Read refl tt; of = λ security own. own }) (λ name db place member. fair_read a m caller (difference_list m) db (fair_differences a m caller db)) e
+fair_task a Document (Some Get) caller m task is e = fair_work a m caller Read (λ name. read_work (document_read m)) task (record { asked = may Document (Some Get) m is Read refl tt; of = λ security own. own }) (λ name db place member. fair_read a m caller (document_read m) db (fair_document a m caller db)) e
+fair_task a Document (Some Put) caller m task is e = fair_work a m caller WriteDocument (λ name. document_written caller m name) task (record { asked = may Document (Some Put) m is WriteDocument refl tt; of = λ security own. own }) (λ name db place member. fair_writing a m caller name db (record { place = place; member = member; page = is.0; by = is.1 })) e
+fair_task a Document (Some Delete) caller m task is e = fair_work a m caller WriteDocument (λ name. document_deleted caller m name) task (record { asked = may Document (Some Delete) m is WriteDocument refl tt; of = λ security own. own }) (λ name db place member. fair_deleting a m caller name db (record { place = place; member = member; page = is.0; by = is.1 })) e
+fair_task a Find (Some Post) caller m task is e = fair_work a m caller Read (λ name. read_work (document_finds m)) task (record { asked = may Find (Some Post) m is Read refl tt; of = λ security own. own }) (λ name db place member. fair_read a m caller (document_finds m) db (fair_finds a m caller db)) e
+fair_task a Index (Some Post) caller m task is e = fair_work a m caller WriteDocument (λ name. index_written caller m name) task (record { asked = may Index (Some Post) m is WriteDocument refl tt; of = λ security own. own }) (λ name db place member. fair_indexing a m caller name db is place member) e
+fair_task a View (Some Get) caller m task is e = fair_work a m caller Read (λ name. read_work (view_read m)) task (record { asked = may View (Some Get) m is Read refl tt; of = λ security own. own }) (λ name db place member. fair_read a m caller (view_read m) db (fair_view a m caller db)) e
+fair_task a LocalDocumentPage (Some Get) caller m task is e = fair_work a m caller Read (λ name. read_work (local_read m)) task (record { asked = may LocalDocumentPage (Some Get) m is Read refl tt; of = λ security own. own }) (λ name db place member. fair_read a m caller (local_read m) db (fair_local a m caller db)) e
+fair_task a LocalDocumentPage (Some Put) caller m task is e = fair_work a m caller Read (λ name. local_written caller m) task (record { asked = may LocalDocumentPage (Some Put) m is Read refl tt; of = λ security own. own }) (λ name db place member. fair_storing a m caller db) e
 fair_task a page method caller m task is e = absurd cc
 
 fair_named : (a : Contents) (m : Message) (caller : Identity) → AreFair a m caller (database_name_of m)
@@ -408,15 +429,16 @@ fair_named a m caller = fair_there a m caller DatabaseName (database_name_in m.p
 fair_work_asked : (a : Contents) (m : Message) (caller : Identity) (action : Action) (w : List ℕ → Work) → AreFair a m caller (work_task action m w)
 fair_work_asked a m caller action w = fair_next a m caller (database_name_of m) _ (fair_named a m caller) (λ name is. fair_ok a m caller _)
 
-fair_admin_asked : (a : Contents) (m : Message) (caller : Identity) (t : List ℕ → Task) → MayDeny m Administer → AreFair a m caller (admin_task caller m t)
+fair_admin_asked : (a : Contents) (m : Message) (caller : Identity) (t : List ℕ → Task) → (IsSome (database_name_in m.path) → MayDeny m Administer) → AreFair a m caller (admin_task caller m t)
 fair_admin_asked a m caller t may =
     fair_next a m caller (database_name_of m) _ (fair_named a m caller)
-    (λ name is. fair_next a m caller (administration caller) _ (fair_administration a m caller may) (λ u allowed. fair_ok a m caller _))
+    (λ name is. fair_next a m caller (administration caller) _ (fair_administration a m caller (may (ap is_some (named DatabaseName (database_name_in m.path) name is))))
+    (λ u allowed. fair_ok a m caller _))
 
 fair_page : (a : Contents) (page : Page) (method : Option RequestMethod) (caller : Identity) (m : Message) → IsFor page method m → AreFair a m caller (task_of page method caller m)
 fair_page a Welcome (Some Get) caller m for = fair_next a m caller (plain m) _ (fair_plain a m caller) (λ u is. fair_ok a m caller _)
 fair_page a AllDatabases (Some Get) caller m for =
-    fair_next a m caller (administration caller) _ (fair_administration a m caller (may _ _ m for Administer refl)) (λ u is. fair_next a m caller (plain m) _ (fair_plain a m caller) (λ v plainly. fair_ok a m caller _))
+    fair_next a m caller (administration caller) _ (fair_administration a m caller (may _ _ m for Administer refl tt)) (λ u is. fair_next a m caller (plain m) _ (fair_plain a m caller) (λ v plainly. fair_ok a m caller _))
 fair_page a DatabasePage (Some Get) caller m for = fair_work_asked a m caller Read _
 fair_page a DatabasePage (Some Put) caller m for = fair_admin_asked a m caller _ (may _ _ m for Administer refl)
 fair_page a DatabasePage (Some Delete) caller m for = fair_admin_asked a m caller _ (may _ _ m for Administer refl)

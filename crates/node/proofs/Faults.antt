@@ -4,7 +4,7 @@ use Rattle.std.specs.FinMap.{get, insert}
 use Rattle.store.specs.Calls.{OnlyReads}
 use Rattle.store.specs.Causes.{HasFailed}
 use Rattle.store.specs.Contents.{Contents}
-use Rattle.store.specs.Contents.{IfThere}
+use Rattle.store.specs.Contents.{IsThereWith}
 use Rattle.store.specs.Database.{Database, with_all}
 use Rattle.store.specs.Writing.{additions, writings_in}
 use Rattle.store.specs.declared.fault.StoreFault.TheVariants.{Memory, Failed, NoDatabase, Exists, Damaged, Full}
@@ -30,25 +30,25 @@ use Rattle.node.specs.declared.early_end.EarlyEnd.{EarlyEnd}
 use Rattle.node.specs.declared.early_end.EarlyEnd.TheVariants.{Refused, Failed as Broken, NoRoom}
 
 -- changes for which there is no room in a database that is there
-room_lacking : {S : Type 0} (g : Ghosts S) (s : S) (name : List ℕ) (changes : Changes) (o : Option Database) → is_some o ≡ true
-    → IfThere o (λ d. LacksRoomFor (g.lacks_room s) name changes d) → LacksNumbers g s (change_inside name changes o)
-room_lacking g s name changes None there h = absurd cc
-room_lacking g s name (Security v) (Some db) there h = absurd h
-room_lacking g s name (Local id document) (Some db) there h = absurd h
-room_lacking g s name (Writes ws) (Some db) there h = h
+room_lacking : {S : Type 0} (g : Ghosts S) (s : S) (name : List ℕ) (changes : Changes) (o : Option Database)
+    → IsThereWith o (λ d. LacksRoomFor (g.lacks_room s) name changes d) → LacksNumbers g s (change_inside name changes o)
+room_lacking g s name changes None h = absurd h
+room_lacking g s name (Security v) (Some db) h = absurd h
+room_lacking g s name (Local id document) (Some db) h = absurd h
+room_lacking g s name (Writes ws) (Some db) h = h
 
 -- a change that is not made, though there is a database, is not made for want of memory or has a cause
 pub change_ends : {S : Type 0} (g : Ghosts S) (old new : S) (name : List ℕ) (changes : Changes) (fault : WriteFault)
     → (g.is_honest new → is_some (get (g.contents old) name) ≡ true)
     → IsOfStoreOrMemory fault
-    → Refuses g old new (get (g.contents old) name ≡ None) (g.is_honest new → IfThere (get (g.contents old) name) (λ d. LacksRoomFor (g.lacks_room old) name changes d)) fault
+    → Refuses g old new (get (g.contents old) name ≡ None) (g.is_honest new → IsThereWith (get (g.contents old) name) (λ d. LacksRoomFor (g.lacks_room old) name changes d)) fault
     → EndsBefore g old new (change_inside name changes (get (g.contents old) name)) (stop_of_change fault)
 change_ends g old new name changes (write.Store Memory) there only h = absurd h
 change_ends g old new name changes (write.Store NoDatabase) there only h = λ honest. absurd (let none = h honest in let some = there honest in cc)
 change_ends g old new name changes (write.Store Exists) there only h = absurd h
 change_ends g old new name changes (write.Store Failed) there only h = λ honest. inl h
 change_ends g old new name changes (write.Store Damaged) there only h = λ honest. absurd (h honest)
-change_ends g old new name changes (write.Store Full) there only h = λ honest. inr (room_lacking g old name changes (get (g.contents old) name) (there honest) (h honest))
+change_ends g old new name changes (write.Store Full) there only h = λ honest. inr (room_lacking g old name changes (get (g.contents old) name) (h honest))
 change_ends g old new name changes write.BadDocument there only h = absurd (only (λ e. cc) (λ cause e. cc))
 change_ends g old new name changes (write.Denied rule) there only h = absurd (only (λ e. cc) (λ cause e. cc))
 change_ends g old new name changes write.BadHistory there only h = absurd (only (λ e. cc) (λ cause e. cc))

@@ -5,3 +5,4 @@ pub mod Tasks
 pub mod Denials
 pub mod Steps
 pub mod Hiding
+pub mod Leave

@@ -1,6 +1,6 @@
 -- Why a request is denied, and to whom: by the first rule of the written policy that the caller doesn't meet.
 -- CouchDB manual, api/basics (401 and 403), api/server/authn, api/database/security and ddocs/ddocs; that a denial names its rule is this server's own.
-use Rattle.std.specs.Prelude.{◌≡◌, ◌⊎◌, ℕ, List, map, Option, Some, None, IsSome, Ok, Err}
+use Rattle.std.specs.Prelude.{◌≡◌, ◌⊎◌, ℕ, List, map, Option, Some, None, IsSome, Ok, Err, ⊤}
 use Rattle.std.specs.FinMap.{get}
 use Rattle.auth.specs.Callers.{Configuration, Identity, caller_of}
 use Rattle.auth.specs.declared.auth_fault.AuthFault.{AuthFault}
@@ -17,7 +17,8 @@ use Rattle.store.specs.Database.{Database, history_at}
 use Rattle.tree.specs.Revision.{Revision}
 use Rattle.write.specs.Denials.{EditIsDueTo, IsDesignDenial}
 use Rattle.write.specs.Terms.{terms_in}
-use Rattle.api.specs.Asking.{asker, body_of, denial, method_of, pair_of}
+use Rattle.find.specs.Indexes.{IndexAsked, index_in}
+use Rattle.api.specs.Asking.{asker, body_of, denial, method_of, pair_of, plain}
 use Rattle.api.specs.Paths.{database_name_in, document_id_in}
 use Rattle.api.specs.Queries.{revision_query}
 use Rattle.api.specs.Routing.{page_of}
@@ -51,8 +52,8 @@ rule_denied_by Deleted = None
 
 -- ---- by the conditions of an action
 
--- The actions whose conditions may deny a page by a method: the conditions of no other action do. The declaration of an index is asked
--- as a write of documents, and then as one of its design document. A document that is a design document is asked of with its edit.
+-- The action whose conditions may deny a page by a method: the conditions of no other action do. That a design document is written is
+-- asked of with the edit of it, or with the index that is declared in it.
 abbrev pub IsAskedAt : Page → Option RequestMethod → Action → Type 0
 IsAskedAt AllDatabases (Some Get) action = action ≡ Administer
 IsAskedAt DatabasePage (Some Get) action = action ≡ Read
@@ -65,7 +66,7 @@ IsAskedAt Changes (Some Get) action = action ≡ Read
 IsAskedAt Differences (Some Post) action = action ≡ Read
 IsAskedAt Find (Some Post) action = action ≡ Read
 IsAskedAt View (Some Get) action = action ≡ Read
-IsAskedAt Index (Some Post) action = (action ≡ WriteDocument) ⊎ (action ≡ WriteDesign)
+IsAskedAt Index (Some Post) action = action ≡ WriteDocument
 IsAskedAt BulkDocuments (Some Post) action = action ≡ WriteDocument
 IsAskedAt Document (Some Get) action = action ≡ Read
 IsAskedAt Document (Some Put) action = action ≡ WriteDocument
@@ -74,11 +75,17 @@ IsAskedAt LocalDocument (Some Get) action = action ≡ Read
 IsAskedAt LocalDocument (Some Put) action = action ≡ Read
 IsAskedAt page method action = ⊥
 
+-- what comes before the conditions of an action: who creates or removes a database has to name it
+abbrev pub IsReached : Page → Action → Message → Type 0
+IsReached DatabasePage Administer m = IsSome (database_name_in m.path)
+IsReached page action m = ⊤
+
 -- the conditions of this action may deny the request: its page and method ask for it
 pub record MayDeny (m : Message) (action : Action) : Type 0 where
   pub page : Page
   pub leads : page_of m.path ≡ Some page
   pub asked : IsAskedAt page (method_of m.method) action
+  pub reached : IsReached page action m
 
 -- the security object of the database that the path leads into
 pub record IsOwn (databases : Contents) (m : Message) (security : Value) : Type 0 where
@@ -144,9 +151,30 @@ pub record IsByDeletion (databases : Contents) (m : Message) (caller : Identity)
   pub named : revision_query m.query ≡ Some None
   pub due : IsDesignDenial (terms_in caller name db) id rule
 
+-- ---- by the declaration of an index
+
+-- the rule is the first that refuses to let the caller, who may write documents, write the design document in which the body declares an
+-- index
+pub record IsByIndex (databases : Contents) (m : Message) (caller : Identity) (rule : Rule) : Type 0 where
+  pub name : List ℕ
+  pub db : Database
+  pub value : Value
+  pub index : IndexAsked
+  pub page : page_of m.path ≡ Some Index
+  pub method : method_of m.method ≡ Some Post
+  pub own : database_name_in m.path ≡ Some name
+  pub there : get databases name ≡ Some db
+  pub member : verdict WriteDocument caller db.security ≡ None
+  pub query : plain m ≡ Ok tt
+  pub body : body_of m ≡ Ok value
+  pub asks : index_in value ≡ Some index
+  pub due : IsDesignDenial (terms_in caller name db) index.design rule
+
 -- the rule refuses this caller, as the first that does
 abbrev pub IsDue : Contents → Message → Identity → Rule → Type 0
-IsDue databases m caller rule = IsByPolicy databases m caller rule ⊎ (IsByEdit databases m caller rule ⊎ IsByDeletion databases m caller rule)
+IsDue databases m caller rule =
+    IsByPolicy databases m caller rule
+    ⊎ (IsByEdit databases m caller rule ⊎ (IsByDeletion databases m caller rule ⊎ IsByIndex databases m caller rule))
 
 -- no proxy vouches for the caller whom the headers name
 pub record IsUnvouched (c : Configuration) (m : Message) (refusal : Refusal) : Type 0 where

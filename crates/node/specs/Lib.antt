@@ -9,5 +9,6 @@ pub mod Causes
 pub mod Step
 pub mod Effects
 pub mod Denials
+pub mod Leave
 pub mod Runs
 pub mod Hidden

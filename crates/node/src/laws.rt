@@ -1,19 +1,28 @@
 //! What follows from the definitions alone. Each function has an empty body: its contract is the law.
 
-ghost use Rattle.std.specs.Prelude.{◌≡◌, ◌≢◌, ◌≤◌, ℕ, List, false, true, None, Some, Err, is_none, if◌then◌else◌};
+ghost use Rattle.std.specs.Prelude.{◌≡◌, ◌≢◌, ◌≤◌, ◌∷◌, [], ℕ, List, codes, false, true, None, Some, Ok, Err, is_none, if◌then◌else◌};
 ghost use Rattle.std.specs.FinMap.{get};
 ghost use Rattle.auth.specs.Callers.{Configuration, Identity};
 ghost use Rattle.couch_http.specs.Message.{Message};
+ghost use Rattle.couch_json.specs.Value.{object};
 ghost use Rattle.policy.specs.declared.rule.Rule.{Rule};
 ghost use Rattle.store.specs.Contents.{Contents};
 ghost use Rattle.store.specs.Database.{Database};
 ghost use Rattle.store.specs.Lawful.{AreLawful};
+ghost use Rattle.tree.specs.Revision.{Revision};
+ghost use Rattle.write.specs.Admission.{edit_path, revision_after, write_at};
+ghost use Rattle.write.specs.Denials.{EditHasLeave, EditIsDueTo, ReplicationHasLeave, ReplicationIsDueTo};
+ghost use Rattle.write.specs.Document.{member_text};
+ghost use Rattle.write.specs.declared.fault.WriteFault.TheVariants.{Denied};
 ghost use Rattle.node.specs.Answer.{answer, judgement, removal, with_change};
+ghost use Rattle.node.specs.Bulk.{failed_members, failure_listed, made_members};
 ghost use Rattle.node.specs.Denials.{IsDenied, rule_denied_by};
+ghost use Rattle.node.specs.Leave.{EditMayBeMade, IsAmong, answer_with, edit_answer, histories_left, shared_terms};
 ghost use Rattle.node.specs.Effects.{IsLaterThan, IsOfAll};
 ghost use Rattle.api.specs.Asking.{denial};
 ghost use Rattle.api.specs.Paths.{database_name_in};
 ghost use Rattle.api.specs.Refusals.{name_of_rule, rule_of, status_of};
+ghost use Rattle.api.specs.declared.method.RequestMethod.TheVariants.{Put, Delete};
 ghost use Rattle.api.specs.declared.refusal.Refusal.{Refusal};
 ghost use Rattle.node.specs.Hidden.{AreAlike, AreHidden, Group, Names, is_struck};
 ghost use Rattle.node.specs.Runs.{AreServed, IsRun, Stepped, Steps, end_of, messages_of};
@@ -65,6 +74,43 @@ pub fn denials_name_the_first_refusing_rule()
     ensures statuses { (caller : Identity) (rule : Rule) → status_of (denial caller rule) ≡ (if is_none caller.name then 401 else 403) }
     ensures others { (refusal : Refusal) → rule_denied_by refusal ≡ None → (status_of refusal ≢ 401) × (status_of refusal ≢ 403) }
     ensures rule { (refusal : Refusal) (rule : Rule) → rule_denied_by refusal ≡ Some rule → rule_of refusal ≡ Some (name_of_rule rule) }
+{}
+
+/// The converse: where a denial is due, the request is refused by it, whatever else it could be refused
+/// for (`request`). A document of several that are written together is denied for itself: it makes no
+/// write, and the reply has the denial in its place (`edit`, `replicated`).
+pub fn due_denials_are_answered()
+    ensures request { (c : Configuration) (databases : Contents) (m : Message) (refusal : Refusal) (rule : Rule)
+        → IsDenied c databases m refusal rule → judgement c databases m ≡ Err refusal }
+    ensures edit { (c : Configuration) (databases : Contents) (m : Message) (rule : Rule) → (among : IsAmong c databases m true)
+        → EditIsDueTo (shared_terms among) among.id (histories_left among among.id) None among.document rule
+        → answer c databases m
+        ≡ answer_with among (Err (Denied rule)) (object (failed_members among.place.caller (Some among.id) (Denied rule)) ∷ []) }
+    ensures replicated { (c : Configuration) (databases : Contents) (m : Message) (rule : Rule) → (among : IsAmong c databases m false)
+        → ReplicationIsDueTo (shared_terms among) among.id (histories_left among among.id) among.document rule
+        → answer c databases m ≡ answer_with among (Err (Denied rule))
+        (failure_listed among.place.caller (Some among.id) (member_text (codes "_rev") among.document) (Denied rule) ∷ []) }
+{}
+
+/// What has leave and is no conflict is appended, and the reply says so. The edit of a document that
+/// has leave is accepted, where there is a further revision: 201 of a PUT (`put`), 200 of a DELETE
+/// (`deletion`), with the id and that revision. So is each document of several that are written together:
+/// its write has its place among theirs, the reply has the revision of a new edit (`edit`), and nothing of
+/// a replicated document (`replicated`).
+pub fn writes_with_leave_are_accepted()
+    ensures put { (c : Configuration) (databases : Contents) (m : Message) (edit : EditMayBeMade c databases m Put)
+        → answer c databases m ≡ edit_answer 201 edit }
+    ensures deletion { (c : Configuration) (databases : Contents) (m : Message) (edit : EditMayBeMade c databases m Delete)
+        → answer c databases m ≡ edit_answer 200 edit }
+    ensures edit { (c : Configuration) (databases : Contents) (m : Message) (rev : Revision) → (among : IsAmong c databases m true)
+        → (leave : EditHasLeave (shared_terms among) among.id (histories_left among among.id) None among.document)
+        → revision_after leave.sent leave.parent ≡ Some rev
+        → answer c databases m
+        ≡ answer_with among (Ok (Some (write_at among.id (edit_path (histories_left among among.id) leave.parent rev) leave.sent)))
+        (object (made_members (Some among.id) rev) ∷ []) }
+    ensures replicated { (c : Configuration) (databases : Contents) (m : Message) → (among : IsAmong c databases m false)
+        → (leave : ReplicationHasLeave (shared_terms among) among.id (histories_left among among.id) among.document)
+        → answer c databases m ≡ answer_with among (Ok (Some (write_at among.id leave.ancestry.path leave.sent))) [] }
 {}
 
 /// Databases that are hidden from a group of callers tell them nothing: where two states are the same but

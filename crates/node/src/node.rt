@@ -84,10 +84,10 @@ impl<S: Store + Drop> Node<S> {
         ensures { result ≡ self.store }
     {
         let Node {
-            alloc: _,
+            alloc: _alloc,
             store,
-            auth: _,
-            routes: _,
+            auth: _auth,
+            routes: _routes,
         } = self;
         store
     }

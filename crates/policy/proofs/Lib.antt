@@ -1,3 +1,5 @@
+pub mod Circumstanced
 pub mod Fields
 pub mod FirstBroken
+pub mod RolesListed
 pub mod RuleEntries

@@ -48,6 +48,15 @@ argument_with new old caller name security =
     object (member (codes "newDoc") new (member (codes "oldDoc") (value_or_null old) (member (codes "secObj") security
     (member (codes "userCtx") (user_context caller name) no_members))))
 
+-- what stands beside the documents, and is the same for all of them
+abbrev pub circumstances : Identity → List ℕ → Value → Value
+circumstances caller name security =
+    object (member (codes "secObj") security (member (codes "userCtx") (user_context caller name) no_members))
+
+-- the argument of these documents under circumstances
+abbrev pub argument_under : Value → Value → Option Value → Value
+argument_under beside new old = object (member (codes "newDoc") new (member (codes "oldDoc") (value_or_null old) (members_in beside)))
+
 -- what the rules of the database of this name, which has this security object, are asked of; null stands for an old document
 -- where there is none
 abbrev pub argument : NewDocument → Option OldDocument → Identity → List ℕ → Value → Value

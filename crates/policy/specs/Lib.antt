@@ -2,4 +2,5 @@ pub mod Security
 pub mod Verdict
 pub mod UpdateRules
 pub mod Argument
+pub mod ArgumentMembers
 pub mod DesignDocuments

@@ -47,15 +47,26 @@ fn is_named(names: &[Json], caller: &Caller) -> bool
     }
 }
 
+/// Tells whether one of the roles is the caller's. Each is looked up among those of the caller, whose
+/// list may be long too.
 fn has_role(roles: &[Json], caller: &Caller) -> bool
     ensures { result ≡ list_any (λ role. is_among role (item_texts (items_view roles.now))) caller.now.roles }
 {
-    for role in caller.roles() {
-        if has_text(roles, role.as_str()) {
+    for role in roles {
+        if is_role(role, caller) {
             return true;
         }
     }
     false
+}
+
+fn is_role(item: &Json, caller: &Caller) -> bool
+    ensures { result ≡ list_any (λ role. is_among role (option_to_list (text_in (view item.now)))) caller.now.roles }
+{
+    match item.text() {
+        Some(role) => caller.has_role(role),
+        None => false,
+    }
 }
 
 /// Tells whether the text is one of the elements.

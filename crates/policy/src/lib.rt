@@ -10,6 +10,7 @@
 #![tactic(auto)]
 
 mod action;
+mod circumstances;
 mod closed;
 mod design_documents;
 mod group;
@@ -22,6 +23,7 @@ mod update_rules;
 mod verdict;
 
 pub use action::Action;
+pub use circumstances::Circumstances;
 pub use design_documents::{check_design, check_indexes};
 pub use rule::Rule;
 pub use rule_argument::{argument, show_new};

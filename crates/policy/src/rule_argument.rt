@@ -1,7 +1,7 @@
 //! What update rules are asked of.
 
 ghost use Rattle.std.specs.Prelude.{◌≡◌, IfOk, map, option_map, string_bytes};
-ghost use Rattle.couch_json.specs.Value.{text};
+ghost use Rattle.couch_json.specs.Value.{object, text};
 ghost use Rattle.couch_json.specs.View.{view, members_view};
 ghost use Rattle.tree.specs.ShownDocument.{members_in};
 ghost use Rattle.policy.specs.Argument.{argument_with, name_value, new_document, user_context};
@@ -15,8 +15,8 @@ use tree::DocId;
 /// Builds the argument of the update rules of a database: an object with `newDoc`, `oldDoc` (null
 /// where there is none), `secObj` and `userCtx`.
 ///
-/// The new document is shown by [`show_new`], the old one by [`tree::show`]. See the CouchDB manual,
-/// ddocs/ddocs.
+/// The new document is shown by [`show_new`], the old one by [`tree::show`]. Who asks the rules of many
+/// documents makes [`Circumstances`] once. See the CouchDB manual, ddocs/ddocs.
 pub fn argument(
     alloc: Global,
     new: Json,
@@ -26,6 +26,21 @@ pub fn argument(
     security: &Security,
 ) -> Got<Json>
     ensures { IfOk result (λ value. view value ≡ argument_with (view new) (option_map view old) caller.now db.now security.now) }
+{
+    let members = build_members(alloc, new, old, caller, db, security)?;
+    Ok(Json::Object(members))
+}
+
+/// Builds the members of the argument.
+pub(crate) fn build_members(
+    alloc: Global,
+    new: Json,
+    old: Option<Json>,
+    caller: &Caller,
+    db: &str,
+    security: &Security,
+) -> Got<NameMap<Json>>
+    ensures { IfOk result (λ members. object (members_view members.entries) ≡ argument_with (view new) (option_map view old) caller.now db.now security.now) }
 {
     let old = match old {
         Some(old) => old,
@@ -41,7 +56,7 @@ pub fn argument(
         "userCtx",
         build_user_context(alloc, caller, db)?,
     )?;
-    Ok(Json::Object(members))
+    Ok(members)
 }
 
 /// Shows a document as a write would have it: its body with `_id`, and with `_deleted` where it is
@@ -63,9 +78,16 @@ pub fn show_new(alloc: Global, id: &DocId, deleted: bool, body: &Json) -> Got<Js
 fn copy_members(alloc: Global, body: &Json) -> Got<NameMap<Json>>
     ensures { IfOk result (λ members. members_view members.entries ≡ members_in (view body.now)) }
 {
-    match body.copy(alloc)? {
-        Json::Object(members) => Ok(members),
-        _ => Ok(NameMap::new(alloc)),
+    Ok(into_members(alloc, body.copy(alloc)?))
+}
+
+/// Returns the members of a value, or none where it is no object.
+pub(crate) fn into_members(alloc: Global, value: Json) -> NameMap<Json>
+    ensures { members_view result.entries ≡ members_in (view value) }
+{
+    match value {
+        Json::Object(members) => members,
+        _ => NameMap::new(alloc),
     }
 }
 

@@ -123,10 +123,5 @@ impl Security {
 pub fn is_server_admin(caller: &Caller) -> bool
     ensures { result ≡ is_server_admin caller.now }
 {
-    for role in caller.roles() {
-        if role.as_str() == "_admin" {
-            return true;
-        }
-    }
-    false
+    caller.has_role("_admin")
 }

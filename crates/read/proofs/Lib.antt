@@ -1,3 +1,4 @@
 pub mod Outlines
 pub mod ChangePages
 pub mod ListingPages
+pub mod Winners

@@ -6,10 +6,10 @@ ghost use Rattle.read.specs.Answers.{AnswersValue};
 ghost use Rattle.read.specs.Shown.{document_by, document_in, found, shown_document};
 
 use crate::fault::ReadFault;
-use crate::shown::{read_paths, read_shown};
+use crate::shown::{read_paths, read_shown, show_held};
 use couch_json::JsonText;
 use std::alloc::Global;
-use store::{DbName, Store};
+use store::{DbName, Store, read_held_winner};
 use tree::{DocId, Rev};
 
 /// Returns a document as a revision of it shows it: the body with `_id` and `_rev`, and with `_revisions`
@@ -48,13 +48,15 @@ fn read_winner<S: Store>(
     ensures answer { AnswersValue S.Store store.old store.new (option_map (λ d. document_by id.now (history_at d id.now) None revs) (map.get (S.contents store.old) db.now)) result }
     ensures reads { OnlyReads S.Store store.old store.new }
 {
-    let Some(winner) = store.winner(db, id)? else {
+    let Some(winner) = read_held_winner(store, db, id)? else {
         return Err(ReadFault::Missing);
     };
     if winner.deleted {
         return Err(ReadFault::Deleted);
     }
-    read_revision(alloc, store, db, id, &winner.rev, revs)
+    let paths = read_paths(store, db, id, revs)?;
+    let document = show_held(alloc, id, &winner.rev, false, &winner.body, &paths)?;
+    Ok(JsonText::of(alloc, &document)?)
 }
 
 /// Returns a revision of a document, deleted or not, as it is shown.

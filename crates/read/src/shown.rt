@@ -3,13 +3,14 @@ ghost use Rattle.std.specs.FinMap as map;
 ghost use Rattle.couch_json.specs.View.{view};
 ghost use Rattle.store.specs.Calls.{OnlyReads};
 ghost use Rattle.store.specs.Database.{Database, history_at};
+ghost use Rattle.tree.specs.History.{HistoryContent, held_of};
 ghost use Rattle.tree.specs.Outline.{outline_of};
 ghost use Rattle.read.specs.Answers.{Stops};
 ghost use Rattle.read.specs.Shown.{shown_document};
 
 use crate::fault::ReadFault;
 use crate::path::put_revisions;
-use couch_json::Json;
+use couch_json::{Got, Json};
 use std::alloc::Global;
 use store::{DbName, Store, take_held};
 use tree::{DocId, Outline, Rev, show_members};
@@ -55,7 +56,23 @@ pub(crate) fn read_shown<S: Store>(
     let Some((deleted, body)) = take_held(known) else {
         return Ok(None);
     };
-    let mut members = show_members(alloc, id, rev, deleted, &body)?;
+    Ok(Some(show_held(alloc, id, rev, deleted, &body, paths)?))
+}
+
+/// Builds the document that a revision is shown as, of which this is held, with its path where the paths
+/// are given.
+pub(crate) fn show_held(
+    alloc: Global,
+    id: &DocId,
+    rev: &Rev,
+    deleted: bool,
+    body: &Json,
+    paths: &Option<Outline>,
+) -> Got<Json>
+    ensures { (h : HistoryContent) → IfSome paths.now (λ outline. outline ≡ outline_of h) → held_of h rev.now ≡ Some (record { deleted = deleted; body = view body.now })
+        → IfOk result (λ document. Some (view document) ≡ shown_document id.now h rev.now (is_some paths.now)) }
+{
+    let mut members = show_members(alloc, id, rev, deleted, body)?;
     put_revisions(alloc, &mut members, paths, rev)?;
-    Ok(Some(Json::Object(members)))
+    Ok(Json::Object(members))
 }

@@ -4,3 +4,5 @@ pub mod Faultless
 pub mod Edges
 pub mod Hulls
 pub mod OneMember
+pub mod Searches
+pub mod Marks

@@ -4,3 +4,4 @@ pub mod Truth
 pub mod View
 pub mod Falls
 pub mod Bounds
+pub mod Members

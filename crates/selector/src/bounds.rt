@@ -1,16 +1,18 @@
 ghost use Rattle.std.specs.Prelude.{◌≡◌, ◌&&◌, ◌||◌, ℕ, List, Option, Some, None, true, false, option_and_then, option_map};
 ghost use Rattle.std.specs.List.{list_all, list_any};
+ghost use Rattle.std.specs.List.Sorted.{IsStrictlySortedBy};
 ghost use Rattle.couch_json.specs.FieldPath.{value_at};
 ghost use Rattle.couch_json.specs.Parts.{is_object, is_there_and};
 ghost use Rattle.couch_json.specs.Value.{Value, Items, object, member, no_members};
 ghost use Rattle.couch_json.specs.View.{view, items_of, items_view};
 ghost use Rattle.selector.specs.Bounds.{AreJust, IsInside, contain, is_above, is_below, is_no_higher, is_no_lower, path_value};
+ghost use Rattle.selector.specs.Members.{value_order};
 ghost use Rattle.selector.specs.Operators.{operator_named};
 ghost use Rattle.selector.specs.Truth.{is_among, is_true, item_truths, meets, member_truth, truths};
 ghost use Rattle.selector.specs.View.{name_of, value_of};
 ghost use Rattle.selector.specs.declared.bounds.Bounds.TheVariants.{Any};
 
-use crate::elements::elements;
+use crate::members::Members;
 use crate::operator::{ListOperator, SelectorOperator, ValueOperator};
 use crate::selector::{Condition, Field, Selector};
 use couch_json::{FieldPath, Json, collate};
@@ -63,6 +65,8 @@ fn bounds_of<'a>(condition: &'a Condition, path: Option<&FieldPath>) -> Bounds<'
         → AreJust (value_of condition.now) result }
 {
     match condition {
+        // The value lists of another field are not walked.
+        Condition::Field(field, _) if lies_elsewhere(field, path) => Bounds::Any,
         Condition::Field(field, selector) => bounds_by_field(
             field,
             bounds_in(selector, None),
@@ -74,6 +78,9 @@ fn bounds_of<'a>(condition: &'a Condition, path: Option<&FieldPath>) -> Bounds<'
         Condition::Value(operator, argument) => {
             bounds_here(bounds_by_value(*operator, argument), path)
         }
+        Condition::In(_) if path.is_some() => Bounds::Any,
+        Condition::In(members) => bounds_here(bounds_of_members(members), path),
+        Condition::NotIn(_) | Condition::All(_) => bounds_here(whole_range(), path),
         Condition::Selector(SelectorOperator::IsFalse, _) => Bounds::Any,
         Condition::Selector(SelectorOperator::SomeElement, _) => bounds_here(whole_range(), path),
         Condition::Selector(SelectorOperator::EachElement, _) => bounds_here(whole_range(), path),
@@ -109,6 +116,15 @@ fn bounds_of_some<'a>(selectors: &'a Vec<Selector>, path: Option<&FieldPath>) ->
     match hull {
         Some(bounds) => bounds,
         None => Bounds::Any,
+    }
+}
+
+fn lies_elsewhere(field: &Field, path: Option<&FieldPath>) -> bool
+    ensures { option_map (λ p. p.now) path.entry ≡ Some field.now.path → result ≡ false }
+{
+    match path {
+        Some(path) => field.path.as_str() != path.as_str(),
+        None => false,
     }
 }
 
@@ -151,23 +167,29 @@ fn bounds_by_value<'a>(operator: ValueOperator, argument: &'a Json) -> Bounds<'a
         ValueOperator::IsAtMost => Bounds::Range(None, Some(edge_at(argument, true))),
         ValueOperator::IsGreater => Bounds::Range(Some(edge_at(argument, false)), None),
         ValueOperator::IsAtLeast => Bounds::Range(Some(edge_at(argument, true)), None),
-        ValueOperator::IsIn => bounds_of_items(elements(argument)),
         _ => whole_range(),
     }
 }
 
-/// Returns bounds of a value that is among these.
-fn bounds_of_items<'a>(items: &'a [Json]) -> Bounds<'a>
-    ensures { (current : Option Value) → is_there_and (λ v. is_among v (items_view items.now)) current ≡ true
+/// Returns bounds of a value that is one of these.
+fn bounds_of_members<'a>(members: &'a Members) -> Bounds<'a>
+    ensures { (current : Option Value) → is_there_and (meets ValueOperator.IsIn members.now) current ≡ true
         → contain result current ≡ true }
 {
-    let mut hull = None;
-    for item in items {
-        hull = Some(hull_of(hull, range_of(item)));
-    }
-    match hull {
-        Some(bounds) => bounds,
-        None => whole_range(),
+    bounds_of_values(members.as_slice())
+}
+
+/// Returns bounds of a value that is among these, which stand in their order: the first and the last.
+fn bounds_of_values<'a>(values: &'a [Json]) -> Bounds<'a>
+    requires { IsStrictlySortedBy value_order values.now }
+    ensures { (current : Option Value) → is_there_and (λ v. is_among v (items_view values.now)) current ≡ true
+        → contain result current ≡ true }
+{
+    match (values.first(), values.last()) {
+        (Some(least), Some(greatest)) => {
+            Bounds::Range(Some(edge_at(least, true)), Some(edge_at(greatest, true)))
+        }
+        _ => whole_range(),
     }
 }
 

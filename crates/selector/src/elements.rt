@@ -35,7 +35,8 @@ pub(crate) fn has_all(wanted: &[Json], items: &[Json]) -> bool
     !wanted.is_empty() && are_among(wanted, items)
 }
 
-fn are_among(wanted: &[Json], items: &[Json]) -> bool
+/// Tells whether each of the values is among the elements.
+pub(crate) fn are_among(wanted: &[Json], items: &[Json]) -> bool
     ensures { result ≡ each_item (λ w. is_among w (items_view items.now)) (items_view wanted.now) }
 {
     for value in wanted {

@@ -15,6 +15,7 @@ mod fault;
 pub mod laws;
 mod matching;
 mod meeting;
+mod members;
 mod operator;
 mod parsing;
 mod rule_selector;

@@ -9,6 +9,7 @@ ghost use Rattle.selector.specs.View.{name_of, value_of};
 
 use crate::elements::elements;
 use crate::meeting::meets;
+use crate::members::Members;
 use crate::operator::{ListOperator, SelectorOperator, ValueOperator};
 use crate::selector::{Condition, Field, Selector};
 use couch_json::{Json, at, collate};
@@ -44,6 +45,9 @@ fn is_condition_true(condition: &Condition, current: Option<&Json>, root: &Json)
         Condition::Exists(true) => current.is_some(),
         Condition::Exists(false) => current.is_none(),
         Condition::Value(operator, argument) => is_met(*operator, argument, current),
+        Condition::In(members) => is_in(members, current),
+        Condition::NotIn(members) => is_not_in(members, current),
+        Condition::All(members) => has_all(members, current),
         Condition::SameAs(path) => is_same(at(root, path), current),
         Condition::Selector(SelectorOperator::IsFalse, selector) => !is_true(
             selector, current, root,
@@ -80,6 +84,36 @@ fn is_met(operator: ValueOperator, argument: &Json, current: Option<&Json>) -> b
 {
     match current {
         Some(value) => meets(operator, argument, value),
+        None => false,
+    }
+}
+
+/// Tells whether the value is there and among these.
+fn is_in(members: &Members, current: Option<&Json>) -> bool
+    ensures { result ≡ is_there_and (meets ValueOperator.IsIn members.now) (option_map (λ v. view v.now) current.entry) }
+{
+    match current {
+        Some(value) => members.contains(value),
+        None => false,
+    }
+}
+
+/// Tells whether the value is there and none of these.
+fn is_not_in(members: &Members, current: Option<&Json>) -> bool
+    ensures { result ≡ is_there_and (meets ValueOperator.IsNotIn members.now) (option_map (λ v. view v.now) current.entry) }
+{
+    match current {
+        Some(value) => !members.contains(value),
+        None => false,
+    }
+}
+
+/// Tells whether the value is there and a list with each of these.
+fn has_all(members: &Members, current: Option<&Json>) -> bool
+    ensures { result ≡ is_there_and (meets ValueOperator.HasAll members.now) (option_map (λ v. view v.now) current.entry) }
+{
+    match current {
+        Some(value) => members.are_all_in(elements(value)),
         None => false,
     }
 }

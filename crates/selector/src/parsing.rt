@@ -2,14 +2,15 @@ ghost use Rattle.std.specs.Prelude.{◌≡◌, ◌≢◌, ◌≤◌, ◌+◌, If
 ghost use Rattle.couch_json.specs.Value.{array};
 ghost use Rattle.couch_json.specs.View.{view, items_of, items_view, members_view};
 ghost use Rattle.selector.specs.Grammar.{selector_fault, list_fault, filled_fault, items_fault, members_fault, member_fault, field_fault, same_fault};
-ghost use Rattle.selector.specs.Operators.{operator_named};
+ghost use Rattle.selector.specs.Operators.{operator_named, value_operator_name};
 ghost use Rattle.selector.specs.View.{name_of, value_of, members_of};
 
 use crate::fault::SelectorFault;
-use crate::operator::{Operator, operator_named};
+use crate::members::Members;
+use crate::operator::{Operator, ValueOperator, operator_named};
 use crate::selector::{BareValue, Condition, Field, Selector};
 use crate::takes::takes;
-use couch_json::{FieldPath, Json, NameMap, PathFault};
+use couch_json::{FieldPath, Got, Json, NameMap, PathFault};
 use std::alloc::Global;
 
 /// How many selector objects may nest.
@@ -82,7 +83,7 @@ fn parse_member(
             _ => Err(SelectorFault::Argument),
         },
         Some(Operator::Value(operator)) if takes(operator, value) => {
-            Ok(Condition::Value(operator, value.copy(alloc)?))
+            Ok(parse_value(alloc, operator, value)?)
         }
         Some(Operator::Value(_)) => Err(SelectorFault::Argument),
         Some(Operator::SameAs) if in_rule => parse_same(alloc, value),
@@ -97,6 +98,19 @@ fn parse_member(
         )),
         None if name.starts_with('$') => Err(SelectorFault::Operator),
         None => parse_field(alloc, name, value, in_rule, level),
+    }
+}
+
+/// Takes the argument of an operator on a plain value.
+fn parse_value(alloc: Global, operator: ValueOperator, value: &Json) -> Got<Condition>
+    ensures name { IfOk result (λ c. name_of c ≡ value_operator_name operator) }
+    ensures value { IfOk result (λ c. value_of c ≡ view value.now) }
+{
+    match operator {
+        ValueOperator::IsIn => Ok(Condition::In(Members::of(alloc, value)?)),
+        ValueOperator::IsNotIn => Ok(Condition::NotIn(Members::of(alloc, value)?)),
+        ValueOperator::HasAll => Ok(Condition::All(Members::of(alloc, value)?)),
+        _ => Ok(Condition::Value(operator, value.copy(alloc)?)),
     }
 }
 

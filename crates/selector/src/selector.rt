@@ -6,6 +6,7 @@ ghost use Rattle.selector.specs.Operators.{operator_named};
 use crate::bounds::{Bounds, bounds_in};
 use crate::fault::SelectorFault;
 use crate::matching::is_true;
+use crate::members::Members;
 use crate::operator::{ListOperator, SelectorOperator, ValueOperator};
 use crate::parsing::parse_selector;
 use couch_json::{FieldPath, Json};
@@ -36,6 +37,12 @@ pub(crate) enum Condition {
     Exists(bool),
     /// An operator and its argument, of the shape that the operator takes.
     Value(ValueOperator, Json),
+    /// `$in`
+    In(Members),
+    /// `$nin`
+    NotIn(Members),
+    /// `$all`
+    All(Members),
     /// `$sameAs` and its path, in the selector of a rule alone.
     SameAs(FieldPath),
     /// An operator and its selector.

@@ -1,14 +1,74 @@
 -- One connection more, and none of many.
-use Rattle.std.proofs.Common.{ℕ, ◌+◌, [], None, refl, sym, subst, add-one}
+use Rattle.std.proofs.Common.{◌≡◌, ◌≢◌, ◌∙◌, ◌<◌, ◌≤◌, ℕ, ◌+◌, Bool, true, false, List, [], ◌∷◌, ◌++◌, None, refl, sym, ap, subst, arith, append_assoc, append-nil, length, length-append, true≢false}
 use Rattle.std.specs.FinMap.{empty}
+use Rattle.std.specs.Prelude.{OnErr, Result, Ok, Err}
 use Rattle.store.specs.declared.store.Store.{Ghosts}
 use Rattle.hub.specs.Feeding.{HubState}
-use Rattle.server.specs.Serving.{ServesEach, ServesMany, ServesOne}
+use Rattle.server.specs.Accepting.{AreConnections, Serves, ServesEach, ServesOne}
+use Rattle.server.specs.Serving.{ServesMany}
+use Rattle.server.specs.declared.acceptance.Acceptance.{Acceptance}
+use Rattle.server.specs.declared.acceptance.Acceptance.TheVariants.{Failed}
 
-pub serves_one_more : {S : Type 0} (g : Ghosts S) (count : ℕ) (old between new : HubState S) → ServesEach g count old between → ServesOne g between new
-    → ServesEach g (count + 1) old new
-serves_one_more g count old between new before one =
-    subst (λ (k : ℕ). ServesEach g k old new) (sym (add-one count)) (between, before, one)
+-- so many connections were accepted or reset, and served
+pub record HasServed {S : Type 0} (g : Ghosts S) (count : ℕ) (before after : List Acceptance) (old new : HubState S) : Type 0 where
+  pub accepted : List Acceptance
+  pub logged : after ≡ before ++ accepted
+  pub serves : ServesEach g accepted old new
+  pub counted : length accepted ≡ count
+  pub connections : AreConnections accepted
+
+pub has_served_none : {S : Type 0} (g : Ghosts S) (log : List Acceptance) (hub : HubState S) → HasServed g 0 log log hub hub
+has_served_none g log hub = record { accepted = []; logged = sym (append-nil log); serves = refl; counted = refl; connections = tt }
+
+serves_last : {S : Type 0} (g : Ghosts S) (accepted : List Acceptance) (a : Acceptance) (old between new : HubState S) → ServesEach g accepted old between → ServesOne g a between new
+    → ServesEach g (accepted ++ a ∷ []) old new
+serves_last {S} g [] a old between new before one = (new, subst (λ (h : HubState S). ServesOne g a h new) before one, refl)
+serves_last g (first ∷ others) a old between new before one = (before.0, before.1, serves_last g others a before.0 between new before.2 one)
+
+connections_last : (accepted : List Acceptance) (a : Acceptance) → AreConnections accepted → a ≢ Failed → AreConnections (accepted ++ a ∷ [])
+connections_last [] a before one = (one, tt)
+connections_last (first ∷ others) a before one = (before.0, connections_last others a before.1 one)
+
+module _ {S : Type 0} (g : Ghosts S) (count : ℕ) (start log after : List Acceptance) (a : Acceptance) (old between new : HubState S) where
+  more_logged : (accepted : List Acceptance) → log ≡ start ++ accepted → after ≡ log ++ a ∷ [] → after ≡ start ++ (accepted ++ a ∷ [])
+  more_logged accepted is one = one ∙ ap (λ l. l ++ a ∷ []) is ∙ append_assoc start accepted (a ∷ [])
+
+  pub serves_one_more : HasServed g count start log old between → after ≡ log ++ a ∷ [] → ServesOne g a between new → a ≢ Failed → HasServed g (count + 1) start after old new
+  serves_one_more h one serves fine = record {
+    accepted = h.accepted ++ a ∷ [];
+    logged = more_logged h.accepted h.logged one;
+    serves = serves_last g h.accepted a old between new h.serves serves;
+    counted = grind (arith, h.counted, length-append h.accepted (a ∷ []));
+    connections = connections_last h.accepted a h.connections fine;
+  }
+
+  pub serves_no_more : (conns : ℕ) → count < conns → HasServed g count start log old between → after ≡ log ++ a ∷ [] → ServesOne g a between new → a ≡ Failed
+      → Serves g conns start after false old new
+  serves_no_more conns less h one serves failed = record {
+    accepted = h.accepted ++ a ∷ [];
+    logged = more_logged h.accepted h.logged one;
+    serves = serves_last g h.accepted a old between new h.serves serves;
+    all = λ e. absurd (true≢false (sym e));
+    failed = λ _. (
+      grind (arith, less, h.counted, length-append h.accepted (a ∷ [])),
+      (h.accepted, ap (λ (last : Acceptance). h.accepted ++ last ∷ []) failed, h.connections),
+    );
+  }
+
+pub serves_all : {S : Type 0} (g : Ghosts S) (count conns : ℕ) (before after : List Acceptance) (old new : HubState S) → count ≡ conns → HasServed g count before after old new
+    → Serves g conns before after true old new
+serves_all g count conns before after old new many h = record {
+  accepted = h.accepted;
+  logged = h.logged;
+  serves = h.serves;
+  all = λ _. (h.counted ∙ many, h.connections);
+  failed = λ e. absurd (true≢false e);
+}
+
+-- what holds at a refusal, where it holds
+pub on_err : {A E X : Type 0} (r : Result A E) → X → OnErr r X
+on_err (Ok a) x = tt
+on_err (Err e) x = x
 
 -- where nothing was done
 pub serves_none : {S : Type 0} (g : Ghosts S) (hub : HubState S) → ServesMany g hub hub

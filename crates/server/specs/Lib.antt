@@ -1,2 +1,3 @@
 pub mod Serving
 pub mod StoreFile
+pub mod Accepting

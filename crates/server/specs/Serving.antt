@@ -1,6 +1,6 @@
--- What a server does to its hub: one connection after another, or many at once.
+-- What a server does to its hub: for one connection, or many at once.
 -- This project's own, over the service of one connection (RFC 9112, section 9.3) and the acts of many; which bytes a socket brings and takes no clause can say.
-use Rattle.std.specs.Prelude.{◌≡◌, ◌⊎◌, ℕ, zero, suc, List, Option}
+use Rattle.std.specs.Prelude.{ℕ, List, Option}
 use Rattle.store.specs.declared.store.Store.{Ghosts}
 use Rattle.hub.specs.Feeding.{HubState}
 use Rattle.hub.specs.Service.{ServesOrTurnsAway}
@@ -18,15 +18,6 @@ pub record Passage : Type 0 where
 -- a connection was served up to some end, or turned away
 abbrev pub WasServed : {S : Type 0} → Ghosts S → HubState S → HubState S → Type 0
 WasServed g old new = (end : ServiceEnd) × (p : Passage) × ServesOrTurnsAway g old end p.input p.rest p.output p.after new
-
--- the same; or it was reset before it was accepted, and nothing has changed
-abbrev pub ServesOne : {S : Type 0} → Ghosts S → HubState S → HubState S → Type 0
-ServesOne g old new = (new ≡ old) ⊎ WasServed g old new
-
--- so many connections, one after another
-abbrev pub ServesEach : {S : Type 0} → Ghosts S → ℕ → HubState S → HubState S → Type 0
-ServesEach g zero old new = new ≡ old
-ServesEach {S} g (suc count) old new = (between : HubState S) × ServesEach g count old between × ServesOne g between new
 
 -- many connections at once, by some acts, whatever of them was known
 abbrev pub ServesMany : {S : Type 0} → Ghosts S → HubState S → HubState S → Type 0

@@ -2,12 +2,16 @@
 //! many at once.
 #![tactic(auto)]
 
+mod acceptance;
 mod address;
+mod listening;
 mod many;
 mod port;
 mod serving;
 mod store_file;
 
+pub use acceptance::Acceptance;
+pub use listening::LoggedListener;
 pub use many::{serve_many, serve_sockets};
 pub use port::{serve_file, serve_store};
 pub use serving::{open_hub, open_node, serve};

@@ -3,6 +3,7 @@
 ghost use Rattle.std.specs.Prelude.{◌≡◌, IfOk};
 
 use crate::address::{print_address, socket_fault};
+use crate::listening::LoggedListener;
 use crate::many::serve_many;
 use crate::serving::{open_hub, serve};
 use crate::store_file::open_store;
@@ -85,7 +86,8 @@ fn serve_each<R: Net<Stream = TcpStream> + Print, S: Store + Drop>(
 {
     let listener = listen(rt, port)?;
     print_address(rt, listener.local_addr())?;
-    serve(hub, &listener, conns, Duration::from_secs(PATIENCE))
+    let mut logged = LoggedListener::new(&listener);
+    serve(hub, &mut logged, conns, Duration::from_secs(PATIENCE))
 }
 
 /// Binds a port of 127.0.0.1.

@@ -1,19 +1,21 @@
 //! A server: one connection after another.
 
-ghost use Rattle.std.specs.Prelude.{◌≡◌, ◌≢◌, ◌≤◌, ℕ, map, Err, IfErr, IfOk, OnErr, OnOk, string_bytes};
-ghost use Rattle.std.specs.IoError.{error_kind};
+ghost use Rattle.std.specs.Prelude.{◌≡◌, ◌≢◌, ◌++◌, ◌∷◌, [], IfErr, IfOk, OnErr, OnOk, false, map, string_bytes, true};
 ghost use Rattle.store.specs.Calls.{GoesOn};
 ghost use Rattle.hub.specs.Connections.{no_connections};
-ghost use Rattle.server.specs.Serving.{ServesEach, ServesOne, WasServed};
+ghost use Rattle.server.specs.Accepting.{Serves, ServesOne, acceptances_of};
+ghost use Rattle.server.specs.Serving.{WasServed};
+ghost use Rattle.server.specs.declared.acceptance.Acceptance.{Acceptance};
+ghost use Rattle.server.specs.declared.acceptance.Acceptance.TheVariants.{Failed};
 
+use crate::listening::LoggedListener;
 use auth::Auth;
 use command_line::ProgramFault;
 use hub::{Hub, ServiceEnd, serve_connection};
 use node::{Node, Routes};
 use std::alloc::Global;
-use std::io;
 use std::io::{ErrorKind, Read};
-use std::net::{OpenListener, Shutdown, SocketAddr, TcpStream};
+use std::net::{OpenListener, Shutdown, TcpStream};
 use std::time::Duration;
 use store::Store;
 
@@ -68,14 +70,15 @@ pub fn open_hub<S: Store + Drop>(
 /// The only refusal is `Socket`: a connection could not be accepted.
 pub fn serve<S: Store + Drop, L: OpenListener<Stream = TcpStream>>(
     hub: &mut Hub<S>,
-    listener: &L,
+    listener: &mut LoggedListener<'_, L>,
     conns: u32,
     patience: Duration,
 ) -> Result<u8, ProgramFault>
     ensures status { IfOk result (λ status. status ≡ 0) }
 
-    // Each connection did to the hub what the definition of the service says, and nothing else did.
-    ensures served { (count : ℕ) × (count ≤ conns) × OnOk result (count ≡ conns) × ServesEach S.Store count hub.old hub.new }
+    // So many connections were accepted, or reset before. Each did to the hub what the definition of the service says, and nothing else did.
+    ensures served { OnOk result (Serves S.Store conns (acceptances_of listener.old.log.items) (acceptances_of listener.new.log.items) true hub.old hub.new) }
+    ensures failed { OnErr result (Serves S.Store conns (acceptances_of listener.old.log.items) (acceptances_of listener.new.log.items) false hub.old hub.new) }
     ensures configuration { hub.new.node.configuration ≡ hub.old.node.configuration }
     ensures onward { GoesOn S.Store hub.old.node.store hub.new.node.store }
     ensures socket { IfErr result (λ fault. fault ≡ ProgramFault.Socket) }
@@ -89,35 +92,16 @@ pub fn serve<S: Store + Drop, L: OpenListener<Stream = TcpStream>>(
 /// Serves the next connection.
 fn serve_next<S: Store + Drop, L: OpenListener<Stream = TcpStream>>(
     hub: &mut Hub<S>,
-    listener: &L,
+    listener: &mut LoggedListener<'_, L>,
     patience: Duration,
 ) -> Result<(), ProgramFault>
-    ensures served { OnOk result (ServesOne S.Store hub.old hub.new) }
-    ensures refused { OnErr result (hub.new ≡ hub.old) }
+    ensures served { (a : Acceptance) × (acceptances_of listener.new.log.items ≡ acceptances_of listener.old.log.items ++ a ∷ [])
+        × ServesOne S.Store a hub.old hub.new × OnOk result (a ≢ Failed) × OnErr result (a ≡ Failed) }
     ensures configuration { hub.new.node.configuration ≡ hub.old.node.configuration }
     ensures onward { GoesOn S.Store hub.old.node.store hub.new.node.store }
     ensures socket { IfErr result (λ fault. fault ≡ ProgramFault.Socket) }
 {
-    let accepted = listener.accept();
-    serve_accepted(hub, accepted, patience)
-}
-
-/// Serves a connection, if one was accepted. One that was reset before is passed over.
-fn serve_accepted<S: Store + Drop>(
-    hub: &mut Hub<S>,
-    accepted: io::Result<(TcpStream, SocketAddr)>,
-    patience: Duration,
-) -> Result<(), ProgramFault>
-    ensures served { IfOk accepted (λ _. OnOk result (WasServed S.Store hub.old hub.new)) }
-    ensures fine { IfOk accepted (λ _. OnErr result ⊥) }
-    ensures passed_over { IfErr accepted (λ e. error_kind e ≡ ErrorKind.ConnectionAborted → OnErr result ⊥) }
-    ensures failed { IfErr accepted (λ e. error_kind e ≢ ErrorKind.ConnectionAborted → result ≡ Err ProgramFault.Socket) }
-    ensures unserved { IfErr accepted (λ _. hub.new ≡ hub.old) }
-    ensures configuration { hub.new.node.configuration ≡ hub.old.node.configuration }
-    ensures onward { GoesOn S.Store hub.old.node.store hub.new.node.store }
-    ensures socket { IfErr result (λ fault. fault ≡ ProgramFault.Socket) }
-{
-    match accepted {
+    match listener.accept() {
         Ok((stream, _peer)) => {
             serve_stream(hub, &stream, patience);
             Ok(())

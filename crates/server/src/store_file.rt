@@ -10,8 +10,16 @@ use command_line::ProgramFault;
 use sqlite::{Alter, Connection, Error, ErrorCode, FileFrom, FileStore, Start};
 use sqlstore::{OpenFault, SqlStore};
 use std::alloc::Global;
+use std::fs::OpenOptions;
+use std::os::unix::fs::OpenOptionsExt;
 
-/// Opens the store in a file, or makes both.
+/// The mode of a file that is made.
+const OWNER_ALONE: u32 = 0o600;
+
+/// The path that SQLite takes for memory, and that is refused.
+const NO_FILE: &str = ":memory:";
+
+/// Opens the store in a file, or makes both. A file that is made is its owner's alone.
 ///
 /// `File`: the file can't be opened or read, or it is no store of this server. `Memory`: memory ran
 /// out.
@@ -27,10 +35,26 @@ pub fn open_store<S: Start>(
     // It is a file in any case.
     ensures memory { path.now ≡ codes ":memory:" → result ≡ Err ProgramFault.File }
 {
+    make_private(rt, path);
     match Connection::open_from(rt, path, false, start) {
         Ok(conn) => open_tables(rt.alloc(), conn),
         Err((error, _left)) => Err(file_fault(error)),
     }
+}
+
+/// Makes an empty file that its owner alone may read and write, unless there is one. The library makes the
+/// log with the mode of the file.
+///
+/// Where it can't be made nothing is told: the library then doesn't open it.
+fn make_private(rt: &HostRuntime, path: &str) {
+    if path == NO_FILE {
+        return;
+    }
+    let _ = OpenOptions::new()
+        .write(true)
+        .create_new(true)
+        .mode(OWNER_ALONE)
+        .open(rt, path);
 }
 
 /// Opens the store that the tables of a connection hold, or makes the tables, whatever they stand on.

@@ -1,14 +1,19 @@
 //! The connections of a port, which are told when they are ready.
 
-use engine::{Accepted, Flow, Sockets};
+ghost use Rattle.std.specs.Prelude.{length};
+ghost use Rattle.engine.specs.Flows.{FlowsAtMost, ReadsPart};
+
+use engine::{Accepted, Backlog, Flow, Sockets};
+use hub::measure_part;
 use mio::net::{TcpListener, TcpStream};
 use mio::{Events, Interest, Poll, Token};
 use std::alloc::Global;
 use std::collections::BTreeMap;
 use std::io;
-use std::io::{ErrorKind, Read, Write};
+use std::io::ErrorKind;
 use std::net::{Ipv4Addr, Net, Shutdown, SocketAddr};
 use std::time::{Clock, Duration};
+use streams::{read_some, write_some};
 
 /// How many connections one wait reports at most.
 const REPORTS: usize = 1_024;
@@ -27,11 +32,52 @@ const ENOBUFS: i32 = 105;
 struct Socket {
     stream: TcpStream,
     ended: bool,
+    /// What was read of it, and is still to be handed over.
+    kept: Backlog,
+    /// Its stream may give more at once.
+    more: bool,
+}
+
+impl Socket {
+    /// Reads what came, hands its first part over, and keeps the rest.
+    fn read_stream(&mut self, room: &mut [u8]) -> Flow
+        ensures bound { FlowsAtMost result (length room.new) }
+        ensures part { ReadsPart result room.new }
+    {
+        match read_some(&mut self.stream, room) {
+            Ok(0) => Flow::Never,
+            Ok(count) => {
+                self.more = self.ended || count == room.len();
+                let part = measure_part(&room[..count]);
+                if self.kept.add(&room[part..count]) {
+                    Flow::Bytes(part, self.more || part < count)
+                } else {
+                    Flow::Never
+                }
+            }
+            Err(error) if error.kind() == ErrorKind::WouldBlock => Flow::Later,
+            Err(_) => Flow::Never,
+        }
+    }
+
+    /// Hands over the next part of what was kept.
+    fn take_part(&mut self, room: &mut [u8]) -> Flow
+        ensures bound { FlowsAtMost result (length room.new) }
+        ensures part { ReadsPart result room.new }
+    {
+        let bytes = self.kept.bytes();
+        let count = bytes.len().min(room.len());
+        let part = measure_part(&bytes[..count]);
+        room[..part].copy_from_slice(&bytes[..part]);
+        self.kept.take(part);
+        Flow::Bytes(part, self.more || self.kept.len() > 0)
+    }
 }
 
 /// A port of 127.0.0.1 and its connections.
 pub struct Port<'a, R: Clock> {
     rt: &'a R,
+    alloc: Global,
     poll: Poll,
     events: Events<Global>,
     listener: TcpListener,
@@ -45,6 +91,7 @@ impl<R: Clock> Drop for Port<'_, R> {
     fn drop(self) {
         let Port {
             rt: _,
+            alloc: _,
             poll: _,
             events: _,
             listener: _,
@@ -64,6 +111,7 @@ impl<'a, R: Clock + Net> Port<'a, R> {
             .register(&mut listener, Token(0), Interest::READABLE)?;
         Ok(Port {
             rt,
+            alloc,
             poll,
             events: Events::with_capacity(alloc, REPORTS)?,
             listener,
@@ -147,6 +195,8 @@ impl<R: Clock> Sockets for Port<'_, R> {
         let socket = Socket {
             stream,
             ended: false,
+            kept: Backlog::new(self.alloc),
+            more: false,
         };
         self.sockets.insert(conn, socket).is_ok()
     }
@@ -155,11 +205,10 @@ impl<R: Clock> Sockets for Port<'_, R> {
         let Some(socket) = self.sockets.get_mut(&conn) else {
             return Flow::Never;
         };
-        match socket.stream.read(room) {
-            Ok(0) => Flow::Never,
-            Ok(count) => Flow::Bytes(count, socket.ended || count == room.len()),
-            Err(error) if error.kind() == ErrorKind::WouldBlock => Flow::Later,
-            Err(_) => Flow::Never,
+        if socket.kept.len() > 0 {
+            socket.take_part(room)
+        } else {
+            socket.read_stream(room)
         }
     }
 
@@ -167,7 +216,7 @@ impl<R: Clock> Sockets for Port<'_, R> {
         let Some(socket) = self.sockets.get_mut(&conn) else {
             return Flow::Never;
         };
-        match socket.stream.write(bytes) {
+        match write_some(&mut socket.stream, bytes) {
             Ok(0) => Flow::Never,
             Ok(count) => Flow::Bytes(count, true),
             Err(error) if error.kind() == ErrorKind::WouldBlock => Flow::Later,

@@ -14,6 +14,7 @@ pub mod FoundPages
 pub mod KeyEntries
 pub mod Afterwards
 pub mod LeafRows
+pub mod LostRows
 mod OpenedAgain
 pub mod KnownCounts
 pub mod Making

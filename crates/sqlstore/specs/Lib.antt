@@ -6,3 +6,4 @@ pub mod Model
 pub mod Commits
 pub mod ById
 pub mod ByKey
+pub mod Revisions

@@ -22,5 +22,6 @@ pub mod DeclaredFields
 pub mod KeyCounts
 pub mod IndexRows
 pub mod Winnings
+pub mod HeldWinners
 pub mod FailingCalls
 pub mod DesignIds

@@ -53,3 +53,8 @@ AreAcceptable db (w ∷ ws) = IsAcceptable db w × AreAcceptable (with_one db w)
 abbrev pub IfThere : Option Database → (Database → Type 0) → Type 0
 IfThere None fact = ⊤
 IfThere (Some db) fact = fact db
+
+-- there is a database, and the fact holds of it
+abbrev pub IsThereWith : Option Database → (Database → Type 0) → Type 0
+IsThereWith None fact = ⊥
+IsThereWith (Some db) fact = fact db

@@ -2,7 +2,7 @@ ghost use Rattle.std.specs.Prelude.{◌≡◌, ◌≢◌, ◌+◌, ◌-◌, ◌^
 ghost use Rattle.std.specs.FinMap as map;
 ghost use Rattle.store.specs.Calls.{Answers, ChangesWhole, OnlyReads};
 ghost use Rattle.store.specs.Causes.{IsCaused};
-ghost use Rattle.store.specs.Contents.{AreAcceptable, IfThere, local_at, new_database, with_local, with_security};
+ghost use Rattle.store.specs.Contents.{AreAcceptable, IfThere, IsThereWith, local_at, new_database, with_local, with_security};
 ghost use Rattle.store.specs.Database.{history_at, with_all};
 ghost use Rattle.store.specs.Failing.{TakesTurn, failing_call, failures_of, one_call_later};
 ghost use Rattle.store.specs.KeyPages.{page_of_keys};
@@ -252,7 +252,7 @@ impl<S: Store + Drop> Store for FailStore<S> {
         ensures missing { S.is_honest self.new.store → result ≡ Err StoreFault.NoDatabase → map.get (S.contents self.old.store) name.now ≡ None }
         ensures others { result ≢ Err StoreFault.Exists }
         ensures caused { IfErr result (λ fault. IsCaused (⟦<FailStore<S> as Store>⟧.fault_count self.old) (⟦<FailStore<S> as Store>⟧.fault_count self.new) (S.is_honest self.new.store)
-            (S.is_honest self.new.store → IfThere (map.get (S.contents self.old.store) name.now) (λ db. S.lacks_room self.old.store name.now (writings_in db (additions writes.now)))) fault) }
+            (S.is_honest self.new.store → IsThereWith (map.get (S.contents self.old.store) name.now) (λ db. S.lacks_room self.old.store name.now (writings_in db (additions writes.now)))) fault) }
         ensures changes { ChangesWhole ⟦<FailStore<S> as Store>⟧ self.old self.new result }
         ensures turn { TakesTurn S.Store self.old self.new result }
     {

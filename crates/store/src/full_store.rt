@@ -2,7 +2,7 @@ ghost use Rattle.std.specs.Prelude.{◌≡◌, ◌≢◌, ◌⊎◌, ◌↔◌, 
 ghost use Rattle.std.specs.FinMap as map;
 ghost use Rattle.store.specs.Calls.{ChangesWhole};
 ghost use Rattle.store.specs.Causes.{IsCaused};
-ghost use Rattle.store.specs.Contents.{AreAcceptable, IfThere};
+ghost use Rattle.store.specs.Contents.{AreAcceptable, IfThere, IsThereWith};
 ghost use Rattle.store.specs.Database.{with_all};
 ghost use Rattle.store.specs.Writing.{additions, writings_in};
 
@@ -18,8 +18,8 @@ use tree::{DocId, Entry, History, MarkedRev, Outline, Rev};
 
 /// A store in which one database is full: it tries what the contract of a store says of `Full`.
 ///
-/// Each commit to the full database is refused, and changes nothing. Each other call is made on the
-/// store below.
+/// Each commit to the full database is refused, and changes nothing: by `Full`, or by what the store
+/// below says where it has no such database. Each other call is made on the store below.
 pub struct FullStore<S: Store + Drop> {
     store: S,
     full: DbName,
@@ -128,12 +128,13 @@ impl<S: Store + Drop> Store for FullStore<S> {
         ensures missing { S.is_honest self.new.store → result ≡ Err StoreFault.NoDatabase → map.get (S.contents self.old.store) name.now ≡ None }
         ensures others { result ≢ Err StoreFault.Exists }
         ensures caused { IfErr result (λ fault. IsCaused (S.fault_count self.old.store) (S.fault_count self.new.store) (S.is_honest self.new.store)
-            (S.is_honest self.new.store → IfThere (map.get (S.contents self.old.store) name.now) (λ db. ⟦<FullStore<S> as Store>⟧.lacks_room self.old name.now (writings_in db (additions writes.now)))) fault) }
+            (S.is_honest self.new.store → IsThereWith (map.get (S.contents self.old.store) name.now) (λ db. ⟦<FullStore<S> as Store>⟧.lacks_room self.old name.now (writings_in db (additions writes.now)))) fault) }
         ensures changes { ChangesWhole ⟦<FullStore<S> as Store>⟧ self.old self.new result }
-        ensures full { self.old.full ≡ name.now → result ≡ Err StoreFault.Full }
+        ensures full { self.old.full ≡ name.now → OnOk result ⊥ }
         ensures same { self.new.full ≡ self.old.full }
     {
         if is_same(&self.full, name) {
+            let _security = self.store.security(name)?;
             return Err(StoreFault::Full);
         }
         self.store.commit(name, writes)

@@ -48,5 +48,5 @@ pub use plain_id_pages::reverse_if;
 pub use plain_store::PlainStore;
 pub use range_key::RangeKey;
 pub use store::Store;
-pub use winning::{read_winning, take_held};
+pub use winning::{HeldWinner, read_held_winner, read_winning, take_held, take_winner};
 pub use write::Write;

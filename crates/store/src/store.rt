@@ -1,7 +1,7 @@
 ghost use Rattle.std.specs.Prelude.{◌≡◌, ◌≢◌, ℕ, List, IfOk, IfErr, IfSome, OnOk, Err, Some, None, is_some, true, option_map};
 ghost use Rattle.std.specs.FinMap as map;
 ghost use Rattle.store.specs.Causes.{IsCaused};
-ghost use Rattle.store.specs.Contents.{Contents, AreAcceptable, IfThere, local_at, new_database, with_local, with_security};
+ghost use Rattle.store.specs.Contents.{Contents, AreAcceptable, IfThere, IsThereWith, local_at, new_database, with_local, with_security};
 ghost use Rattle.store.specs.Database.{DocumentWrite, history_at, with_all};
 ghost use Rattle.store.specs.KeyPages.{page_of_keys};
 ghost use Rattle.store.specs.KeyPageStructs.{HasKeyCounts, key_page_in};
@@ -166,7 +166,7 @@ pub trait Store {
         ensures missing { is_honest self.new → result ≡ Err StoreFault.NoDatabase → map.get (contents self.old) name.now ≡ None }
         ensures others { result ≢ Err StoreFault.Exists }
         ensures caused { IfErr result (λ fault. IsCaused (fault_count self.old) (fault_count self.new) (is_honest self.new)
-            (is_honest self.new → IfThere (map.get (contents self.old) name.now) (λ db. lacks_room self.old name.now (writings_in db (additions writes.now)))) fault) }
+            (is_honest self.new → IsThereWith (map.get (contents self.old) name.now) (λ db. lacks_room self.old name.now (writings_in db (additions writes.now)))) fault) }
         ensures changes { ChangesWhole contents is_honest is_clean fault_count self.old self.new result };
 
     /// Returns a local document, or `None` if none of this id was written. `NoDatabase` comes if and

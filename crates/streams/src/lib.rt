@@ -1,6 +1,9 @@
-//! Bytes that are written to a stream, all of them or up to a failure.
+//! Bytes of a stream: reads and writes that are made again where they are interrupted, and bytes that are
+//! written all, or up to a failure.
 #![tactic(auto)]
 
+mod retrying;
 mod writing;
 
+pub use retrying::{read_some, write_some};
 pub use writing::write_bytes;

@@ -1,15 +1,17 @@
 ghost use Rattle.std.specs.Prelude.{◌≡◌, ◌≤◌, drop, length};
 ghost use Rattle.streams.specs.Writing.{Takes};
 
+use crate::retrying::write_some;
 use std::io::Write;
 
-/// Writes bytes, up to a write that fails or takes none. Returns whether all were written.
+/// Writes bytes, up to a write that fails or takes none; one that is interrupted is made again, as
+/// [`write_some`] says. Returns whether all were written.
 pub fn write_bytes<W: Write>(writer: &mut W, bytes: &[u8]) -> bool
     ensures { Takes (W.contents writer.old) (W.contents writer.new) bytes.now result }
 {
     let mut rest = bytes;
     while !rest.is_empty() {
-        match writer.write(rest) {
+        match write_some(writer, rest) {
             Ok(0) => return false,
             Ok(count) => rest = skip(rest, count),
             Err(_) => return false,

@@ -1,6 +1,6 @@
 //! The server that a pass copies to.
 
-use client::exchange;
+use client::{Logged, exchange};
 use couch_http::{Request, Response};
 use couch_json::{Got, NoMemory};
 use std::alloc::Global;
@@ -42,7 +42,7 @@ fn exchange_over(alloc: Global, request: &Request, stream: &TcpStream) -> Got<Op
         return Ok(None);
     }
     let _ = stream.set_nodelay(true);
-    let mut reader = stream;
-    let mut writer = stream;
+    let mut reader = Logged::new(stream);
+    let mut writer = Logged::new(stream);
     exchange(alloc, request, &mut reader, &mut writer)
 }

@@ -34,6 +34,10 @@ module _ {S X E : Type 0} {IsFit : Database → Type 0} {Is : Trees → X → Ty
     asks = asks;
   }
 
+-- the rows that a query showed, by the values that it was given
+pub shown_given : {X E : Type 0} (old new : State) (text : List ℕ) (params given : Row) (r : Result X E) (items : X → List Row) → IfOk r (λ x. Shown text params old new (items x)) → params ≡ given → IfOk r (λ x. Shown text given old new (items x))
+shown_given old new text params given r items h same = subst (λ ps. IfOk r (λ x. Shown text ps old new (items x))) same h
+
 -- a statement of a transaction alters one table
 pub alters : {S X E : Type 0} {IsFit : List Row → Type 0} {change : List Row → List Row} {r : Result X E} {params given : Row} (g : Ghosts S) (old new : Held S) (tree : ℕ) (text : List ℕ)
     → (old.schema ≡ tables.schema → IsFit ((state g old).now.trees tree) → OnOk r (Ran text given (state g old) (state g new)) → OnOk r (Changes tree (change ((state g old).now.trees tree)) (state g old).now (state g new).now))

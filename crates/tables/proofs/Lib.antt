@@ -33,6 +33,7 @@ pub mod SinglePath
 pub mod FirstPath
 pub mod Lookups
 pub mod KnownRevisions
+pub mod HeldWinners
 pub mod Changed
 pub mod Rests
 pub mod NewDatabases

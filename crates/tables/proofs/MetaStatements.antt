@@ -4,6 +4,7 @@ use Rattle.tables.proofs.Cells.{cast_null, cast_int}
 use Rattle.tables.proofs.Finds.{finds_where}
 use Rattle.tables.proofs.Queries.{program_on}
 use Rattle.tables.proofs.Writes.{IsCommand}
+use Rattle.tables.specs.Presence.{version_text}
 
 pub inserts_version : IsCommand schema (codes "INSERT INTO meta (version) VALUES (2)") (Insert 0 (Values (lit Null ∷ lit (Int (pos 2)) ∷ []) 2))
 unfolding understood everything
@@ -15,9 +16,6 @@ clears_version = record { is = refl; plain = (refl, refl); unlisted = refl }
 
 pub cast_version : cast_row meta_table (Null ∷ count 2 ∷ []) ≡ Null ∷ count 2 ∷ []
 cast_version = λ i. cast_null i ∷ cast_int (pos 2) i ∷ []
-
-abbrev pub version_text : List ℕ
-version_text = codes "SELECT version FROM meta"
 
 pub version_is : IsCommand schema version_text (Select (program_on meta_tree [] (col 1 1 ∷ []) []) (codes "version" ∷ []))
 unfolding understood everything

@@ -123,3 +123,18 @@ hash_is = record { is = refl; plain = (refl, refl); unlisted = refl }
 pub finds_hashes : {X E : Type 0} (old new : State) → IsStore old.now → (db : ℤ) (id : List ℕ) (r : Result X E) (items : X → List Row) → IfOk r (λ x. Shown hash_text (Int db ∷ Blob id ∷ []) old new (items x))
     → IfOk r (λ x. IsPermutation (map shown_hash (filter (is_of db id) (old.now.trees revs_tree))) (items x))
 finds_hashes old new is db id = finds_where old new is.schema_is hash_is (Int db ∷ Blob id ∷ []) (is_of db id) shown_hash refl (λ r. refl) (tests_id db id [] _ (revs_keyed old.now.trees is.laid))
+
+-- ---- one revision without its body
+
+abbrev pub one_outline_text : List ℕ
+one_outline_text = codes "SELECT n, hash, parent, held, del FROM revs WHERE db = ?1 AND id = ?2 AND n = ?3 AND hash = ?4"
+
+pub one_outline_is : IsCommand schema one_outline_text (Select (program_on revs_tree by_revision (col 1 3 ∷ col 1 4 ∷ col 1 5 ∷ col 1 6 ∷ col 1 7 ∷ []) []) (codes "n" ∷ codes "hash" ∷ codes "parent" ∷ codes "held" ∷ codes "del" ∷ []))
+unfolding understood everything
+one_outline_is = record { is = refl; plain = (refl, refl); unlisted = refl }
+
+pub finds_one_outline : {X E : Type 0} (old new : State) → IsStore old.now → (db : ℤ) (id : List ℕ) (q : Revision) (r : Result X E) (items : X → List Row)
+    → IfOk r (λ x. Shown one_outline_text (Int db ∷ Blob id ∷ Int (pos q.number) ∷ Text q.hash ∷ []) old new (items x)) → IfOk r (λ x. items x ≡ map shown_outline (filter (is_revision_of db id q) (old.now.trees revs_tree)))
+finds_one_outline old new is db id q =
+    finds_one old new is.schema_is one_outline_is (Int db ∷ Blob id ∷ Int (pos q.number) ∷ Text q.hash ∷ []) (is_revision_of db id q) shown_outline refl (λ r. refl)
+    (tests_revision old.now.trees db id q is.laid) (one_revision_of (old.now.trees revs_tree) is.laid.revisions_apart db id q)

@@ -1,12 +1,13 @@
 -- What a statement leaves, over the states of a connection.
 -- This server's own words: a fact holds where the disk was clean, and what a statement does to a table is said where the schema is ours.
-use Rattle.std.specs.Prelude.{◌≡◌, ℕ, List, Result, OnOk, IfOk, IsTrue}
+use Rattle.std.specs.Prelude.{◌≡◌, ℕ, ℤ, List, [], ◌∷◌, codes, Result, OnOk, IfOk, IsTrue}
 use Rattle.sqlite_value.specs.Order.{Row}
+use Rattle.sqlite_value.specs.declared.value.Value.TheVariants.{Int, Blob}
 use Rattle.sqlite_trees.specs.declared.store.Store.{Ghosts}
 use Rattle.sqlite_trees.specs.Tree.{Trees}
 use Rattle.sqlite.specs.Effect.{Database}
 use Rattle.sqlite.specs.Held.{Held, state}
-use Rattle.sqlite.specs.State.{HasCleanDisk, IsUnchanged}
+use Rattle.sqlite.specs.State.{HasCleanDisk, IsUnchanged, Shown}
 use Rattle.tables.specs.Schema.{schema}
 use Rattle.tables.specs.Steps as steps
 
@@ -63,3 +64,11 @@ pub record ReadsInside {S X E : Type 0} (g : Ghosts S) (IsFit : Database → Typ
   pub stands : Stands g old new r
   pub looks : LooksInside g old new
   pub asks : AsksInside g old new
+
+-- the query of a document's row
+abbrev pub document_query : List ℕ
+document_query = codes "SELECT id, seq, winner, del FROM docs WHERE db = ?1 AND id = ?2"
+
+-- it showed these rows of the document of this id, whatever the tables hold
+abbrev pub ShowsDocument : {S : Type 0} → Ghosts S → ℤ → List ℕ → Held S → Held S → List Row → Type 0
+ShowsDocument g db id old new rows = Shown document_query (Int db ∷ Blob id ∷ []) (state g old) (state g new) rows

@@ -22,6 +22,10 @@ has_all schema = list_all (has_table schema) table_names
 abbrev pub has_any : Schema → Bool
 has_any schema = list_any (has_table schema) table_names
 
+-- the statement that reads the version
+abbrev pub version_text : List ℕ
+version_text = codes "SELECT version FROM meta"
+
 -- what a query shows of a row of `meta`
 abbrev pub shown_version : Row → Row
 shown_version r = column r 1 ∷ []

@@ -1,8 +1,10 @@
 //! The rows of the documents.
 
-ghost use Rattle.std.specs.Prelude.{◌≡◌, ◌∷◌, [], false, not, filter, map, true};
+ghost use Rattle.std.specs.Prelude.{◌≡◌, ◌∷◌, [], IfOk, false, not, filter, map, true};
+ghost use Rattle.sqlite.specs.Held.{state};
+ghost use Rattle.sqlite.specs.State.{HasCleanDisk};
 ghost use Rattle.sqlite_keyed.specs.Lists.{sort_by};
-ghost use Rattle.tables.specs.Calls.{Alters, Reads};
+ghost use Rattle.tables.specs.Calls.{Alters, Reads, ShowsDocument};
 ghost use Rattle.tables.specs.Layout.{AreDocumentRows, AreKeyed, IsStore};
 ghost use Rattle.tables.specs.Listings.{comes_after, first_rows, live_range, marked_count, shown_count};
 ghost use Rattle.tables.specs.Rows.{by_sequence, is_in, is_of, listed_document, document_cells, rows_with_winner, with_cells};
@@ -75,7 +77,8 @@ pub fn document_rows<S: Alter>(
     db: &i64,
     id: &[u8],
 ) -> Result<Vec<Row>, Error>
-    ensures { Reads S.Store IsStore conn.old conn.new (λ trees rows. rows.items ≡ map listed_document (filter (is_of db.now id.now) (trees docs_tree))) result }
+    ensures reads { Reads S.Store IsStore conn.old conn.new (λ trees rows. rows.items ≡ map listed_document (filter (is_of db.now id.now) (trees docs_tree))) result }
+    ensures shown { HasCleanDisk (state S.Store conn.new) → IfOk result (λ rows. ShowsDocument S.Store db.now id.now conn.old conn.new rows.items) }
 {
     query(
         conn,

@@ -1,8 +1,10 @@
 //! Whether the tables are there, and their version.
 
-ghost use Rattle.std.specs.Prelude.{◌≡◌, ◌↔◌, false, true, IsPermutation, map};
+ghost use Rattle.std.specs.Prelude.{◌≡◌, ◌↔◌, [], false, true, IfErr, IsPermutation, map};
+ghost use Rattle.sqlite.specs.Held.{state};
+ghost use Rattle.sqlite.specs.State.{FailsToQuery, HasCleanDisk};
 ghost use Rattle.tables.specs.Calls.{Reads};
-ghost use Rattle.tables.specs.Presence.{has_all, has_any, has_table, shown_version, version_in, version_shown};
+ghost use Rattle.tables.specs.Presence.{has_all, has_any, has_table, shown_version, version_in, version_shown, version_text};
 ghost use Rattle.tables.specs.Schema as tables;
 ghost use Rattle.tables.specs.Schema.{meta_tree};
 
@@ -38,6 +40,7 @@ pub enum FileVersion {
 /// Tells which of the tables a schema has, by their names.
 pub fn tables_in(schema: &Schema) -> FoundTables
     ensures nothing { result ≡ FoundTables.Nothing ↔ schema.now ≡ tables.no_schema }
+    ensures others { result ≡ FoundTables.Others → has_any schema.now ≡ false }
     ensures part { result ≡ FoundTables.Part ↔ ((has_any schema.now ≡ true) × (has_all schema.now ≡ false)) }
     ensures all { result ≡ FoundTables.All ↔ has_all schema.now ≡ true }
 {
@@ -56,7 +59,9 @@ pub fn tables_in(schema: &Schema) -> FoundTables
 
 /// Reads the version of a file, which stands in the one row of `meta`.
 pub fn read_version<S: Alter>(conn: &mut Connection<S>) -> Result<FileVersion, Error>
-    ensures { Reads S.Store (λ db. db.schema ≡ tables.schema) conn.old conn.new (λ trees version. version ≡ version_in (trees meta_tree)) result }
+    ensures reads { Reads S.Store (λ db. db.schema ≡ tables.schema) conn.old conn.new (λ trees version. version ≡ version_in (trees meta_tree)) result }
+    // Nothing but that statement fails.
+    ensures failed { HasCleanDisk (state S.Store conn.new) → IfErr result (FailsToQuery version_text [] (state S.Store conn.old) (state S.Store conn.new)) }
 {
     let rows = version_rows(conn)?;
     Ok(version_of(&rows))
@@ -99,7 +104,8 @@ fn is_blank(schema: &Schema) -> bool
 }
 
 fn version_rows<S: Alter>(conn: &mut Connection<S>) -> Result<Vec<Row>, Error>
-    ensures { Reads S.Store (λ db. db.schema ≡ tables.schema) conn.old conn.new (λ trees rows. IsPermutation (map shown_version (trees meta_tree)) rows.items) result }
+    ensures reads { Reads S.Store (λ db. db.schema ≡ tables.schema) conn.old conn.new (λ trees rows. IsPermutation (map shown_version (trees meta_tree)) rows.items) result }
+    ensures failed { HasCleanDisk (state S.Store conn.new) → IfErr result (FailsToQuery version_text [] (state S.Store conn.old) (state S.Store conn.new)) }
 {
     query(conn, "SELECT version FROM meta", &[])
 }

@@ -1,10 +1,10 @@
 //! One statement at a time: a query of a connection, and a query or a change in a transaction.
 
-ghost use Rattle.std.specs.Prelude.{◌≡◌, IfOk, IsTrue, OnOk};
+ghost use Rattle.std.specs.Prelude.{◌≡◌, IfErr, IfOk, IsTrue, OnOk};
 ghost use Rattle.sqlite.specs.Given.{IsPlain};
 ghost use Rattle.sqlite.specs.Held.{state};
 ghost use Rattle.sqlite.specs.Listing.{understood};
-ghost use Rattle.sqlite.specs.State.{HasCleanDisk, IsUnchanged, Shown};
+ghost use Rattle.sqlite.specs.State.{FailsToQuery, HasCleanDisk, IsUnchanged, Shown};
 ghost use Rattle.sqlite.specs.Values.{bound};
 ghost use Rattle.tables.specs.Steps.{Asks, AsksInside, OnlyLooks, Proceeds, Ran, StaysInside};
 
@@ -36,6 +36,8 @@ pub fn query<S: Alter>(
 ) -> Result<Vec<Row>, Error>
     ensures ok { HasCleanDisk (state S.Store conn.new)
         → IfOk result (λ rows. Shown sql.now (bound params.now) (state S.Store conn.old) (state S.Store conn.new) rows.items) }
+    ensures err { HasCleanDisk (state S.Store conn.new)
+        → IfErr result (FailsToQuery sql.now (bound params.now) (state S.Store conn.old) (state S.Store conn.new)) }
     ensures stands { IsPlain (understood conn.old.schema sql.now) → HasCleanDisk (state S.Store conn.new)
         → OnOk result (IsUnchanged (state S.Store conn.old) (state S.Store conn.new)) }
     ensures looks { IsPlain (understood conn.old.schema sql.now) → OnlyLooks (state S.Store conn.old) (state S.Store conn.new) }

@@ -1,10 +1,12 @@
 //! Rows that a transaction reads before it changes them.
 
-ghost use Rattle.std.specs.Prelude.{◌≡◌, filter, map, IsPermutation};
-ghost use Rattle.tables.specs.Calls.{ReadsInside};
+ghost use Rattle.std.specs.Prelude.{◌≡◌, IfOk, filter, map, IsPermutation};
+ghost use Rattle.sqlite.specs.Held.{state};
+ghost use Rattle.sqlite.specs.State.{HasCleanDisk};
+ghost use Rattle.tables.specs.Calls.{ReadsInside, ShowsDocument};
 ghost use Rattle.tables.specs.Layout.{IsStore};
 ghost use Rattle.tables.specs.Listings.{has_id_between, named_document};
-ghost use Rattle.tables.specs.Rows.{is_of, is_revision_of, listed_document, shown_revision};
+ghost use Rattle.tables.specs.Rows.{is_of, is_revision_of, listed_document, shown_outline, shown_revision};
 ghost use Rattle.tables.specs.Schema.{docs_tree, revs_tree};
 
 use crate::statement::query_in;
@@ -35,6 +37,7 @@ pub fn document_rows_in<S: Alter>(
 ) -> Result<Vec<Row>, Error>
     ensures same_reference { tx.new.conn.ghost_name ≡ tx.old.conn.ghost_name }
     ensures reads { ReadsInside S.Store IsStore tx.old.conn.now tx.new.conn.now (λ trees rows. rows.items ≡ map listed_document (filter (is_of db.now id.now) (trees docs_tree))) result }
+    ensures shown { HasCleanDisk (state S.Store tx.new.conn.now) → IfOk result (λ rows. ShowsDocument S.Store db.now id.now tx.old.conn.now tx.new.conn.now rows.items) }
 {
     query_in(
         tx,
@@ -57,6 +60,24 @@ pub fn one_revision_rows_in<S: Alter>(
     query_in(
         tx,
         "SELECT n, hash, parent, held, del, body FROM revs WHERE db = ?1 AND id = ?2 AND n = ?3 AND hash = ?4",
+        params![db, id, number, hash],
+    )
+}
+
+/// Returns the same row without its body.
+pub fn one_outline_rows_in<S: Alter>(
+    tx: &mut Transaction<'_, S>,
+    db: &i64,
+    id: &[u8],
+    number: u32,
+    hash: &str,
+) -> Result<Vec<Row>, Error>
+    ensures same_reference { tx.new.conn.ghost_name ≡ tx.old.conn.ghost_name }
+    ensures reads { ReadsInside S.Store IsStore tx.old.conn.now tx.new.conn.now (λ trees rows. rows.items ≡ map shown_outline (filter (is_revision_of db.now id.now (record { number = number; hash = hash.now })) (trees revs_tree))) result }
+{
+    query_in(
+        tx,
+        "SELECT n, hash, parent, held, del FROM revs WHERE db = ?1 AND id = ?2 AND n = ?3 AND hash = ?4",
         params![db, id, number, hash],
     )
 }

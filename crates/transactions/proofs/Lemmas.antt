@@ -9,6 +9,7 @@ pub use Rattle.transactions.proofs.HistoryRows.{history_intact}
 pub use Rattle.transactions.proofs.Inserting.{path_inserted, path_step, placed_new, placed_there}
 pub use Rattle.transactions.proofs.Sequences.{Cleared, cleared, committed, dbs_fit, left_keyed, locals_fit, replaced, revs_fit}
 pub use Rattle.transactions.proofs.OneRevision.{alone_is, entry_set, held_both, revision_found, revision_intact}
+pub use Rattle.transactions.proofs.WinnerMarks.{lost_damaged, lost_of, outlines_intact, winner_has_mark, winner_known}
 pub use Rattle.transactions.proofs.WinningRows.{documents_intact, never_written, parents_laid, winner_found}
 pub use Rattle.transactions.proofs.HeldHistories.{left_within, with_within}
 pub use Rattle.tree.proofs.Shown.{inside}

@@ -4,6 +4,7 @@ pub mod HistoryRows
 pub mod Inserting
 pub mod WinningRows
 pub mod OneRevision
+pub mod WinnerMarks
 pub mod FirstWrites
 pub mod IndexSteps
 pub mod IndexRests

@@ -136,13 +136,12 @@ behind (p ∷ prefix) (t ∷ text) h =
     let first : t ≡ p = sym (eqb-true p t (first_so (nat_eq p t) _ h)) in
     (more.0, λ i. first i ∷ more.1 i)
 
-prefixed_between : (rest : List ℕ) → is_between (codes "_design/") (codes "_design0") (codes "_design/" ++ rest) ≡ true
-prefixed_between [] = refl
-prefixed_between (b ∷ bs) = refl
+prefixed_between : (rest : List ℕ) → is_between [] (255 ∷ []) (codes "_design/" ++ rest) ≡ true
+prefixed_between rest = refl
 
 -- each id of a design document lies between the bounds
-design_between : (id : List ℕ) → is_design_id id ≡ true → is_between (codes "_design/") (codes "_design0") id ≡ true
-design_between id h = let b = behind (codes "_design/") id (first_so _ _ h) in ap (is_between (codes "_design/") (codes "_design0")) b.1 ∙ prefixed_between b.0
+design_between : (id : List ℕ) → is_design_id id ≡ true → is_between [] (255 ∷ []) id ≡ true
+design_between id h = let b = behind (codes "_design/") id (first_so _ _ h) in ap (is_between [] (255 ∷ [])) b.1 ∙ prefixed_between b.0
 
 -- what is found among rows of a kind is found among all, if it is of that kind
 any_kept : (p q : Row → Bool) → ((r : Row) → p r ≡ true → q r ≡ true) → (rows : List Row) → list_any p (filter q rows) ≡ false → filter p rows ≡ []
@@ -155,30 +154,31 @@ any_kept p q kind (r ∷ rows) out = by (any_kept p q kind rows) (p r) refl (q r
     by more false own true other out = more (sym (ap (λ b. b || list_any p (filter q rows)) own) ∙ out)
     by more false own false other out = more out
 
-abbrev pub of_designs : Row → Bool
-of_designs = has_id_between (codes "_design/") (codes "_design0")
+-- the documents that are looked at: those whose ids are below the byte 255
+abbrev pub of_ids : Row → Bool
+of_ids = has_id_between [] (255 ∷ [])
 
 -- without those documents nothing is declared
-nothing_else : (a : Database) → IsStore a → (n : ℤ) (design name : List ℕ) → without_documents (declares_in a.trees) (filter of_designs (a.trees docs_tree)) n design name ≡ None
-nothing_else a store n design name = by (list_any (is_of n design) (filter of_designs (a.trees docs_tree))) refl
+nothing_else : (a : Database) → IsStore a → (n : ℤ) (design name : List ℕ) → without_documents (declares_in a.trees) (filter of_ids (a.trees docs_tree)) n design name ≡ None
+nothing_else a store n design name = by (list_any (is_of n design) (filter of_ids (a.trees docs_tree))) refl
   where
-    declares : list_any (is_of n design) (filter of_designs (a.trees docs_tree)) ≡ false → (b : Bool) → is_design_id design ≡ b → declares_in a.trees n design name ≡ None
+    declares : list_any (is_of n design) (filter of_ids (a.trees docs_tree)) ≡ false → (b : Bool) → is_design_id design ≡ b → declares_in a.trees n design name ≡ None
     declares out false is = undesigned design is (history_in (a.trees revs_tree) n design) name
     declares out true is =
-        let no_row = any_kept (is_of n design) of_designs (λ r own. ap (is_between (codes "_design/") (codes "_design0")) (of_these n design r own).1 ∙ design_between design is) (a.trees docs_tree) out in
+        let no_row = any_kept (is_of n design) of_ids (λ r own. ap (is_between [] (255 ∷ [])) (of_these n design r own).1 ∙ design_between design is) (a.trees docs_tree) out in
         ap (λ h. index_fields_of design h name) (nothing_written a.trees n design store.laid no_row) ∙ nothing_there design name
 
-    by : (b : Bool) → list_any (is_of n design) (filter of_designs (a.trees docs_tree)) ≡ b → (if b then None else declares_in a.trees n design name) ≡ None
+    by : (b : Bool) → list_any (is_of n design) (filter of_ids (a.trees docs_tree)) ≡ b → (if b then None else declares_in a.trees n design name) ≡ None
     by true is = refl
     by false is = declares is (is_design_id design) refl
 
-pub all_to_redeclare : (shown : List Row) (a : Database) → HasNoIndexes a → shown ≡ map named_document (filter of_designs (a.trees docs_tree)) → AreToRedeclare shown (filter of_designs (a.trees docs_tree)) a
+pub all_to_redeclare : (shown : List Row) (a : Database) → HasNoIndexes a → shown ≡ map named_document (filter of_ids (a.trees docs_tree)) → AreToRedeclare shown (filter of_ids (a.trees docs_tree)) a
 all_to_redeclare shown a fit is = record {
   store = fit.store;
-  rows = all-filter (IsDocumentRow a.trees) of_designs (a.trees docs_tree) fit.store.laid.docs;
-  apart = ascending-filter (λ c d. db_of c ≡ db_of d → id_of c ≢ id_of d) of_designs (a.trees docs_tree) fit.store.laid.ids_apart;
+  rows = all-filter (IsDocumentRow a.trees) of_ids (a.trees docs_tree) fit.store.laid.docs;
+  apart = ascending-filter (λ c d. db_of c ≡ db_of d → id_of c ≢ id_of d) of_ids (a.trees docs_tree) fit.store.laid.ids_apart;
   shown_is = is;
-  indexed = bare_indexed (without_documents (declares_in a.trees) (filter of_designs (a.trees docs_tree))) (sees_in a.trees) a.trees fit.decls fit.entries (nothing_else a fit.store);
+  indexed = bare_indexed (without_documents (declares_in a.trees) (filter of_ids (a.trees docs_tree))) (sees_in a.trees) a.trees fit.decls fit.entries (nothing_else a fit.store);
 }
 
 -- ---- what is told of them

@@ -1,6 +1,6 @@
 -- What is read of the rows that a query shows, and the history that they make.
 -- This server's own: rows are read by the words of `tables`; what is not intact is told as damaged.
-use Rattle.std.specs.Prelude.{◌≡◌, IsTrue, List, map, is_some, Option, option_map, Some, None, Result, Ok, Err, ⊤}
+use Rattle.std.specs.Prelude.{◌≡◌, Bool, IsTrue, List, map, is_some, Option, option_map, slice_get, Some, None, Result, Ok, Err, ⊤}
 use Rattle.std.specs.FinMap as finite
 use Rattle.couch_json.specs.Value.{null}
 use Rattle.store.specs.declared.fault.StoreFault.{StoreFault}
@@ -71,3 +71,9 @@ outline_shown rows = with_entries finite.empty (map node_shown rows)
 -- the winner of a document, of what a list shows of its row
 abbrev pub winner_shown : Row → Option MarkedRev
 winner_shown s = option_map (λ r. record { rev = r; deleted = listed_mark s }) (listed_winner s)
+
+-- the first row is there, and something is held of its revision under this mark
+pub record HasMark (deleted : Bool) (rows : List Row) : Type 0 where
+  pub row : Row
+  pub first : slice_get rows 0 ≡ Some row
+  pub mark : mark_shown row ≡ Some deleted

@@ -2,6 +2,7 @@
 
 ghost use Rattle.std.specs.FinMap as finite;
 ghost use Rattle.tree.specs.History.{winner};
+ghost use Rattle.tree.specs.Outline.{marked_winner};
 ghost use Rattle.std.specs.Prelude.{◌≡◌, ◌↔◌, ◌+◌, ◌<◌, ◌^◌, ℕ, IsTrue, List, None, false, length, pos, IfErr, IfOk, IfSome, OnOk, true, ⊤, []};
 ghost use Rattle.sqlite.specs.Held.{state};
 ghost use Rattle.sqlite.specs.State.{HasCleanDisk, KeepsCommit};
@@ -29,7 +30,9 @@ use crate::commit_fault::CommitFault;
 use crate::document_write::{add_first, add_write};
 use crate::histories::read_history;
 use crate::indexing::{are_none, write_indexed};
-use crate::winners::{first_winner, history_for};
+use crate::seeing::find_winner;
+use crate::winner_checks::{check_history, check_winner};
+use crate::winners::history_for;
 use couch_json::Got;
 use index::{Declaration, list_declarations};
 use sqlite::{Alter, Connection, Transaction};
@@ -37,8 +40,8 @@ use std::alloc::Global;
 use std::collections::BTreeMap;
 use store::Write;
 use tables::databases::advance_database;
-use tables::transaction_reads::{document_rows_in, revision_rows_in};
-use tree::{DocId, History};
+use tables::transaction_reads::revision_rows_in;
+use tree::{DocId, History, MarkedRev};
 
 /// Does the writes of a database, all of them or none. It takes the indexes of the database, where they
 /// are known, and returns those that it has then.
@@ -141,17 +144,20 @@ pub(crate) fn write_next<S: Alter>(
     Ok(())
 }
 
-/// Reads the history of a document within a transaction.
+/// Reads the history of a document within a transaction. It has to have the winner that the document's
+/// row names.
 fn read_document<S: Alter>(
     alloc: Global,
     tx: &mut Transaction<'_, S>,
     db: &i64,
     id: &[u8],
+    winner: &Option<MarkedRev>,
 ) -> Result<History, CommitFault>
     ensures same_reference { tx.new.conn.ghost_name ≡ tx.old.conn.ghost_name }
     ensures ok { HasCleanDisk (state S.Store tx.new.conn.now) → IsStore (state S.Store tx.old.conn.now).now
         → IfOk result (λ history. history ≡ history_in ((state S.Store tx.old.conn.now).now.trees revs_tree) db.now id.now) }
-    ensures err { IfErr result (IsUnwritten (IsSound S.Store (λ _. ⊤) tx.old.conn.now tx.new.conn.now)) }
+    ensures agrees { IfOk result (λ history. winner.now ≡ marked_winner history) }
+    ensures err { IfErr result (IsUnwritten (IsSound S.Store (λ trees. winner.now ≡ marked_winner (history_in (trees revs_tree) db.now id.now)) tx.old.conn.now tx.new.conn.now)) }
     ensures stands { Stands S.Store tx.old.conn.now tx.new.conn.now result }
     ensures served { IsServed S.Store tx.old.conn.now tx.new.conn.now result }
     ensures looks { LooksInside S.Store tx.old.conn.now tx.new.conn.now }
@@ -159,34 +165,56 @@ fn read_document<S: Alter>(
 {
     let rows = revision_rows_in(tx, db, id)?;
     let history = read_history(alloc, rows)?;
+    check_history(winner, &history)?;
     Ok(history)
 }
 
-/// Reads what a write asks of its document's history, where that is the winner alone, or nothing since
-/// the document was never written.
+/// Reads the winner of a document, and what a write asks of its history where that is the winner alone, or
+/// nothing since the document was never written. Where it is the winner alone, that has to have a row.
 fn read_followed<S: Alter>(
     alloc: Global,
     tx: &mut Transaction<'_, S>,
     db: &i64,
     write: &Write,
-) -> Result<Option<History>, CommitFault>
+) -> Result<(Option<MarkedRev>, Option<History>), CommitFault>
     ensures same_reference { tx.new.conn.ghost_name ≡ tx.old.conn.ghost_name }
+    ensures winner { HasCleanDisk (state S.Store tx.new.conn.now) → IsStore (state S.Store tx.old.conn.now).now
+        → IfOk result (λ read. read.0 ≡ marked_winner (history_in ((state S.Store tx.old.conn.now).now.trees revs_tree) db.now (addition_of write.now).id)) }
     ensures ok { HasCleanDisk (state S.Store tx.new.conn.now) → IsStore (state S.Store tx.old.conn.now).now
         → HasPlaceFor (history_in ((state S.Store tx.old.conn.now).now.trees revs_tree) db.now (addition_of write.now).id) (addition_of write.now)
-        → IfOk result (λ found. IfSome found (Serves (addition_of write.now) (history_in ((state S.Store tx.old.conn.now).now.trees revs_tree) db.now (addition_of write.now).id))) }
+        → IfOk result (λ read. IfSome read.1 (Serves (addition_of write.now) (history_in ((state S.Store tx.old.conn.now).now.trees revs_tree) db.now (addition_of write.now).id))) }
     ensures has_best { HasCleanDisk (state S.Store tx.new.conn.now) → IsStore (state S.Store tx.old.conn.now).now
         → HasBest (history_with (state S.Store tx.old.conn.now).now.trees db.now (addition_of write.now))
-        → IfOk result (λ found. IfSome found (λ history. HasBest (with_addition history (addition_of write.now)))) }
-    ensures empty { IfOk result (λ found. IfSome found (λ history. winner history ≡ None → history ≡ finite.empty)) }
+        → IfOk result (λ read. IfSome read.1 (λ history. HasBest (with_addition history (addition_of write.now)))) }
+    ensures empty { IfOk result (λ read. IfSome read.1 (λ history. winner history ≡ None → history ≡ finite.empty)) }
     ensures err { IfErr result (IsUnwritten (IsSound S.Store (λ _. ⊤) tx.old.conn.now tx.new.conn.now)) }
     ensures stands { Stands S.Store tx.old.conn.now tx.new.conn.now result }
     ensures served { IsServed S.Store tx.old.conn.now tx.new.conn.now result }
     ensures looks { LooksInside S.Store tx.old.conn.now tx.new.conn.now }
     ensures asks { AsksInside S.Store tx.old.conn.now tx.new.conn.now }
 {
-    let rows = document_rows_in(tx, db, write.id.as_str().as_bytes())?;
-    let winner = first_winner(alloc, &rows)?;
-    Ok(history_for(alloc, winner, write)?)
+    let winner = find_winner(alloc, tx, db, &write.id)?;
+    let Some(history) = history_for(alloc, copy_of(&winner), write)? else {
+        return Ok((winner, None));
+    };
+    let Some(best) = winner else {
+        return Ok((None, Some(history)));
+    };
+    check_winner(tx, db, &write.id, &best)?;
+    Ok((Some(best), Some(history)))
+}
+
+/// Returns the same winner.
+fn copy_of(winner: &Option<MarkedRev>) -> Option<MarkedRev>
+    ensures { result ≡ winner.now }
+{
+    match winner {
+        Some(winner) => Some(MarkedRev {
+            rev: winner.rev,
+            deleted: winner.deleted,
+        }),
+        None => None,
+    }
 }
 
 /// Writes a document by a history that says what the write asks of the document's own, and returns
@@ -250,6 +278,7 @@ fn write_read<S: Alter>(
     tx: &mut Transaction<'_, S>,
     db: &i64,
     sequence: &i64,
+    winner: &Option<MarkedRev>,
     write: &Write,
 ) -> Result<History, CommitFault>
     ensures same_reference { tx.new.conn.ghost_name ≡ tx.old.conn.ghost_name }
@@ -260,11 +289,11 @@ fn write_read<S: Alter>(
         → IfOk result (λ after. after ≡ with_addition (history_in ((state S.Store tx.old.conn.now).now.trees revs_tree) db.now (addition_of write.now).id) (addition_of write.now)) }
     ensures lawful { OnOk result (IsLawfulAddition (addition_of write.now)) }
     ensures inside { HasCleanDisk (state S.Store tx.new.conn.now) → OnOk result (IsTrue (state S.Store tx.new.conn.now).is_open × ((state S.Store tx.new.conn.now).in_transaction ≡ true)) }
-    ensures err { IfErr result (IsUnwritten (IsSound S.Store (λ trees. HasBest (history_with trees db.now (addition_of write.now))) tx.old.conn.now tx.new.conn.now)) }
+    ensures err { IfErr result (IsUnwritten (IsSound S.Store (λ trees. (winner.now ≡ marked_winner (history_in (trees revs_tree) db.now (addition_of write.now).id)) × HasBest (history_with trees db.now (addition_of write.now))) tx.old.conn.now tx.new.conn.now)) }
     ensures looks { LooksInside S.Store tx.old.conn.now tx.new.conn.now }
     ensures asks { AsksInside S.Store tx.old.conn.now tx.new.conn.now }
 {
-    let history = read_document(alloc, tx, db, write.id.as_str().as_bytes())?;
+    let history = read_document(alloc, tx, db, write.id.as_str().as_bytes(), winner)?;
     let after = write_known(alloc, tx, db, sequence, history, write)?;
     Ok(after)
 }
@@ -290,12 +319,13 @@ fn write_unread<S: Alter>(
     ensures looks { LooksInside S.Store tx.old.conn.now tx.new.conn.now }
     ensures asks { AsksInside S.Store tx.old.conn.now tx.new.conn.now }
 {
-    match read_followed(alloc, tx, db, write)? {
+    let (winner, followed) = read_followed(alloc, tx, db, write)?;
+    match followed {
         Some(history) => {
             write_served(alloc, tx, db, sequence, history, write)?;
             Ok(None)
         }
-        None => Ok(Some(write_read(alloc, tx, db, sequence, write)?)),
+        None => Ok(Some(write_read(alloc, tx, db, sequence, &winner, write)?)),
     }
 }
 

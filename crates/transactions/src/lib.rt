@@ -11,6 +11,7 @@ mod indexing;
 pub mod laws;
 mod renewing;
 mod seeing;
+mod winner_checks;
 mod winners;
 
 pub use changes::{add_database, begin_tables, change_security, remove_database, write_local};
@@ -19,4 +20,5 @@ pub use commits::{commit_writes, integer_of};
 pub use histories::{read_history, read_outline};
 pub use renewing::carry_over;
 pub use seeing::first_revision;
+pub use winner_checks::{check_best, check_history};
 pub use winners::first_winner;

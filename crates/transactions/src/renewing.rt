@@ -1,20 +1,22 @@
 //! A file of the first version, carried over to this one.
 
-ghost use Rattle.std.specs.Prelude.{◌≡◌, [], IfErr, IfOk, IsTrue, List, OnOk, false, true};
+ghost use Rattle.std.specs.Prelude.{◌≡◌, [], IfErr, IfOk, IsTrue, List, OnOk, false, true, ⊤};
 ghost use Rattle.sqlite.specs.Held.{state};
 ghost use Rattle.sqlite.specs.State.{HasCleanDisk};
 ghost use Rattle.sqlite_value.specs.Order as order;
 ghost use Rattle.sqlite_value.specs.Order.{bytes, column};
+ghost use Rattle.tables.specs.Calls.{AsksInside, LooksInside, Stands};
 ghost use Rattle.tables.specs.Layout.{IsFirstStore};
 ghost use Rattle.tables.specs.Rows.{whole_in};
 ghost use Rattle.tables.specs.Schema.{schema};
 ghost use Rattle.index.specs.Steps.{AreFit, Steps, WasFit};
-ghost use Rattle.transactions.specs.Commits.{IsUnwritten};
+ghost use Rattle.transactions.specs.Commits.{IsSound, IsUnwritten};
 ghost use Rattle.transactions.specs.Endings.{IsDone, IsUndone, Turns};
 ghost use Rattle.transactions.specs.Renewing.{AreRedeclared, AreToRedeclare, HasNoIndexes, IsCarriedOver, IsShownName, IsToRedeclare};
 
 use crate::commit_fault::CommitFault;
 use crate::indexing::redeclare;
+use crate::seeing::find_winning;
 use sqlite::{Alter, Connection, Row, Transaction};
 use std::alloc::Global;
 use store::StoreFault;
@@ -60,13 +62,14 @@ fn renew<S: Alter>(alloc: Global, tx: &mut Transaction<'_, S>) -> Result<(), Com
     redeclare_all(alloc, tx)
 }
 
-/// Declares what the winners of all design documents declare, where no index has a row.
+/// Declares what the winners of all design documents declare, where no index has a row, and reads the
+/// winner of each other document: it has to be stored.
 fn redeclare_all<S: Alter>(alloc: Global, tx: &mut Transaction<'_, S>) -> Result<(), CommitFault>
     ensures same_reference { tx.new.conn.ghost_name ≡ tx.old.conn.ghost_name }
     ensures steps { Steps S.Store HasNoIndexes (AreRedeclared []) tx.old.conn.now tx.new.conn.now result }
     ensures err { IfErr result (IsUnwritten (AreFit S.Store HasNoIndexes tx.old.conn.now tx.new.conn.now)) }
 {
-    let rows = rows_between_in(tx, b"_design/", b"_design0")?;
+    let rows = rows_between_in(tx, b"", b"\xff")?;
     redeclare_rows(alloc, tx, &rows)
 }
 
@@ -86,7 +89,8 @@ fn redeclare_rows<S: Alter>(
     Ok(())
 }
 
-/// Declares what the winner of the document of a row declares, if that is a design document.
+/// Declares what the winner of the document of a row declares, if that is a design document, and else reads
+/// the winner.
 fn redeclare_row<S: Alter>(
     alloc: Global,
     tx: &mut Transaction<'_, S>,
@@ -97,10 +101,28 @@ fn redeclare_row<S: Alter>(
     ensures err { (d : order.Row) (left : List order.Row) → IfErr result (IsUnwritten (AreFit S.Store (IsToRedeclare row.now d left) tx.old.conn.now tx.new.conn.now)) }
 {
     let named = read_named(alloc, row)?;
-    if !named.id.is_design() {
-        return Ok(());
+    if named.id.is_design() {
+        redeclare(alloc, tx, &named.db, &named.id)
+    } else {
+        check_stored(alloc, tx, &named.db, &named.id)
     }
-    redeclare(alloc, tx, &named.db, &named.id)
+}
+
+/// Checks that the winner of a document is stored, by reading it.
+fn check_stored<S: Alter>(
+    alloc: Global,
+    tx: &mut Transaction<'_, S>,
+    db: &i64,
+    id: &DocId,
+) -> Result<(), CommitFault>
+    ensures same_reference { tx.new.conn.ghost_name ≡ tx.old.conn.ghost_name }
+    ensures err { IfErr result (IsUnwritten (IsSound S.Store (λ _. ⊤) tx.old.conn.now tx.new.conn.now)) }
+    ensures stands { Stands S.Store tx.old.conn.now tx.new.conn.now result }
+    ensures looks { LooksInside S.Store tx.old.conn.now tx.new.conn.now }
+    ensures asks { AsksInside S.Store tx.old.conn.now tx.new.conn.now }
+{
+    let _winner = find_winning(alloc, tx, db, id)?;
+    Ok(())
 }
 
 /// Reads what names a document.

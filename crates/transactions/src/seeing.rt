@@ -22,7 +22,7 @@ use crate::winners::first_winner;
 use couch_json::Json;
 use sqlite::{Alter, Row, Transaction};
 use std::alloc::Global;
-use store::{StoreFault, show_queried, take_held};
+use store::{StoreFault, show_queried, take_winner};
 use tables::transaction_reads::{document_rows_in, one_revision_rows_in};
 use tables::{FoundRevision, RowFault, read_revision};
 use tree::{Body, DocId, Entry, Held, History, MarkedRev, Rev};
@@ -59,7 +59,7 @@ fn hold(held: Option<(bool, Json)>) -> Option<Held>
 }
 
 /// Finds the winner of a document with its mark, if it was ever written.
-fn find_winner<S: Alter>(
+pub(crate) fn find_winner<S: Alter>(
     alloc: Global,
     tx: &mut Transaction<'_, S>,
     db: &i64,
@@ -121,7 +121,8 @@ pub(crate) fn find_winning<S: Alter>(
         return Ok(history);
     };
     let known = find_revision(alloc, tx, db, id, &winner.rev)?;
-    history.put_revision(winner.rev, None, take_held(known))?;
+    let body = take_winner(known, winner.deleted)?;
+    history.put_revision(winner.rev, None, Some((winner.deleted, body)))?;
     Ok(history)
 }
 

@@ -68,8 +68,8 @@ abbrev pub AreWhole : List Write → Type 0
 AreWhole [] = ⊤
 AreWhole (w ∷ ws) = IsTrue (is_whole w.path) × AreWhole ws
 
--- In the order of acceptance: every path is whole, no head was known before its write, and no
--- revision has two parents.
+-- In the order of acceptance: the paths are whole, each write makes a revision that was not known before, and
+-- all writes agree on the parent of a revision.
 pub record IsLawful (ws : List Write) : Type 0 where
   pub whole : AreWhole ws
   pub heads_new : (before after : List Write) (w : Write) (r : Revision) → before ++ w ∷ after ≡ ws → head w.path ≡ Some r → ¬ (IsKnown before r)

@@ -80,7 +80,7 @@ pub fn behind_is_chain()
         → IsPathEnd ws (p ∷ rest) → behind (content_of ws) (Some p) ≡ p ∷ rest }
 {}
 
-/// A leaf is a known revision that is no revision's parent.
+/// States that a leaf is known, and that no revision follows it.
 pub fn leaf_is_childless()
     ensures { (h : HistoryContent) (r : Revision)
         → IsTrue (is_leaf h r) ↔ (IsTrue (is_known h r) × ((s : Revision) → parent_of h s ≢ Some r)) }

@@ -4,6 +4,7 @@ pub mod Extending
 pub mod Fitting
 pub mod Acceptances
 pub mod Outcomes
+pub mod Leave
 pub mod Unruled
 pub mod WinnerLeaves
 pub mod IndexJudgings

@@ -1,7 +1,7 @@
 ghost use Rattle.std.specs.Prelude.{◌≡◌, IfErr, OnOk, Some, None, option_map};
 ghost use Rattle.std.specs.FinMap as map;
 ghost use Rattle.store.specs.Calls.{ChangesWhole};
-ghost use Rattle.store.specs.Contents.{IfThere};
+ghost use Rattle.store.specs.Contents.{IfThere, IsThereWith};
 ghost use Rattle.write.specs.Planning.{LacksRoomFor, MayBeMade, database_after};
 ghost use Rattle.write.specs.Refusing.{IsOfStoreOrMemory, Refuses};
 
@@ -21,7 +21,7 @@ pub fn apply<S: Store>(store: &mut S, planned: Planned) -> Result<(), WriteFault
         (map.get (S.contents store.old) planned.database) ≡ Some (S.contents store.new)) }
     ensures only { IfErr result IsOfStoreOrMemory }
     ensures passed { IfErr result (Refuses S.Store store.old store.new (map.get (S.contents store.old) planned.database ≡ None)
-        (S.is_honest store.new → IfThere (map.get (S.contents store.old) planned.database) (λ d. LacksRoomFor (S.lacks_room store.old) planned.database planned.changes d))) }
+        (S.is_honest store.new → IsThereWith (map.get (S.contents store.old) planned.database) (λ d. LacksRoomFor (S.lacks_room store.old) planned.database planned.changes d))) }
     ensures changes { ChangesWhole S.Store store.old store.new result }
 {
     let Planned {

@@ -62,7 +62,7 @@ pub fn bulk<S: Store>(
     ensures reads { OnlyReads S.Store store.old store.new }
 {
     let terms = read_terms(alloc, store, db, caller)?;
-    let (writes, results) = judge_all(alloc, store, db, &terms, documents, new_edits)?;
+    let (writes, results) = judge_all(alloc, store, db, terms, documents, new_edits)?;
     Ok(Planned {
         database: db.copy(alloc)?,
         changes: Changes::Writes(writes),
@@ -70,19 +70,20 @@ pub fn bulk<S: Store>(
     })
 }
 
-/// Judges the documents one after another: the writes that are appended, and what is told of each.
+/// Judges the documents one after another, all on the same terms: the writes that are appended, and what is
+/// told of each.
 fn judge_all<S: Store>(
     alloc: Global,
     store: &mut S,
     db: &DbName,
-    terms: &Terms,
+    terms: Terms,
     documents: Vec<Json>,
     new_edits: bool,
 ) -> Result<(Vec<Write>, Vec<DocumentResult>), WriteFault>
     ensures writes { S.is_honest store.new → IfOk result (λ all. (d : Database) → map.get (S.contents store.old) db.now ≡ Some d
-        → writings_in d (additions all.0.items) ≡ writes_in (outcomes (terms_of terms.now) new_edits (history_at d) (list_map view documents.items))) }
+        → writings_in d (additions all.0.items) ≡ writes_in (outcomes (terms_of terms.entry) new_edits (history_at d) (list_map view documents.items))) }
     ensures results { S.is_honest store.new → IfOk result (λ all. (d : Database) → map.get (S.contents store.old) db.now ≡ Some d
-        → list_map told_of all.1.items ≡ all_told (list_map view documents.items) (outcomes (terms_of terms.now) new_edits (history_at d) (list_map view documents.items))) }
+        → list_map told_of all.1.items ≡ all_told (list_map view documents.items) (outcomes (terms_of terms.entry) new_edits (history_at d) (list_map view documents.items))) }
     ensures own { IfOk result (λ all. All (λ r. IsOwnOutcome r.outcome) all.1.items) }
     ensures only { IfErr result IsOfStoreOrMemory }
     ensures passed { IfErr result (Refuses S.Store store.old store.new (map.get (S.contents store.old) db.now ≡ None) ⊥) }
@@ -93,10 +94,10 @@ fn judge_all<S: Store>(
     let mut writes = Vec::with_capacity(alloc, documents.len())?;
     let mut results = Vec::with_capacity(alloc, documents.len())?;
     for document in documents {
-        let draft = read_draft(alloc, terms, new_edits, document)?;
+        let draft = read_draft(alloc, &terms, new_edits, document)?;
         load(alloc, store, db, &draft.id, &mut histories)?;
         let again = take_mark(&mut repeats);
-        results.push(judge_one(alloc, terms, &mut histories, &mut writes, again, draft)?)?;
+        results.push(judge_one(alloc, &terms, &mut histories, &mut writes, again, draft)?)?;
     }
     Ok((writes, results))
 }

@@ -28,8 +28,8 @@ use crate::terms::{Terms, read_terms};
 use auth::Caller;
 use couch_json::{FieldPath, Got, Json, NameMap, collate, put_member};
 use std::alloc::Global;
-use store::{DbName, Store, Write, find_index, take_held};
-use tree::{DocId, Entry, MarkedRev, Rev};
+use store::{DbName, HeldWinner, Store, Write, find_index, read_held_winner};
+use tree::{DocId, Rev};
 
 /// Plans an index of a database: an edit of the design document that sets the member of this name of
 /// `indexes`. It reads the store and changes nothing.
@@ -125,31 +125,16 @@ fn read_winner<S: Store>(store: &mut S, db: &DbName, id: &DocId) -> Result<Winne
     ensures passed { IfErr result (Refuses S.Store store.old store.new (map.get (S.contents store.old) db.now ≡ None) ⊥) }
     ensures reads { OnlyReads S.Store store.old store.new }
 {
-    let Some(MarkedRev { rev, deleted }) = store.winner(db, id)? else {
+    let Some(HeldWinner { rev, deleted, body }) = read_held_winner(store, db, id)? else {
         return Ok(Winner {
             rev: None,
             body: None,
         });
     };
-    if deleted {
-        return Ok(Winner {
-            rev: Some(rev),
-            body: None,
-        });
-    }
-    let known = store.revision(db, id, &rev)?;
     Ok(Winner {
         rev: Some(rev),
-        body: take_body(known),
+        body: if deleted { None } else { Some(body) },
     })
-}
-
-/// Takes the body out of what is known of a revision, if it is there.
-fn take_body(known: Option<Entry>) -> Option<Json>
-    ensures { option_map view result ≡ option_map (λ held. held.body) (option_and_then (λ e. e.held) known) }
-{
-    let (_deleted, body) = take_held(known)?;
-    Some(body)
 }
 
 /// Tells whether a body, if there is one, declares this index under the name.

@@ -1,6 +1,6 @@
 //! What follows from the definitions alone. Each function has an empty body: its contract is the law.
 
-ghost use Rattle.std.specs.Prelude.{◌≡◌, ◌↔◌, ◌⊎◌, ◌∷◌, Bool, false, true, List, ℕ, Ok, Err, Option, Some};
+ghost use Rattle.std.specs.Prelude.{◌≡◌, ◌↔◌, ◌⊎◌, ◌∷◌, ◌++◌, Bool, false, true, List, ℕ, Ok, Err, Option, Some, None};
 ghost use Rattle.couch_json.specs.Value.{Value};
 ghost use Rattle.tree.specs.History.{is_known, placement};
 ghost use Rattle.tree.specs.NextRevision.{next_revision};
@@ -11,12 +11,13 @@ ghost use Rattle.tree.specs.declared.placement.TreeFault.{TreeFault};
 ghost use Rattle.store.specs.Contents.{AreAcceptable, IsAcceptable};
 ghost use Rattle.store.specs.Database.{Database, DocumentWrite, history_at, with_all};
 ghost use Rattle.store.specs.Lawful.{IsLawful};
-ghost use Rattle.write.specs.Admission.{admission, base, edit_path, replication, unnamed_deletion};
+ghost use Rattle.write.specs.Admission.{admission, base, edit_path, replication, revision_after, unnamed_deletion, write_at};
 ghost use Rattle.write.specs.Bulk.{Histories, DocumentOutcome, outcome_in, outcomes, writes_in};
 ghost use Rattle.write.specs.Denials.{EditHasLeave, EditIsDueTo, IsDesignDenial, ReplicationHasLeave, ReplicationIsDueTo};
+ghost use Rattle.write.specs.Document.{id_in};
 ghost use Rattle.write.specs.Settling.{AreKnownOrRefused, after_all};
 ghost use Rattle.write.specs.Terms.{Terms};
-ghost use Rattle.write.specs.declared.fault.WriteFault.TheVariants.{Denied};
+ghost use Rattle.write.specs.declared.fault.WriteFault.TheVariants.{Denied, Generation};
 
 /// Of documents that are replicated together, each is refused, or the revision that it brings is
 /// known for its id once all of them are in; whatever the terms and the histories they come to.
@@ -79,6 +80,51 @@ pub fn appended_writes_have_leave()
         → admission terms db id query document ≡ Ok w → EditHasLeave terms id (history_at db id) query document }
     ensures replicated { (terms : Terms) (db : Database) (id : List ℕ) (document : Value) (w : DocumentWrite)
         → replication terms db id document ≡ Ok (Some w) → ReplicationHasLeave terms id (history_at db id) document }
+{}
+
+/// The converse of that: what has leave and is no conflict is appended. An edit that has leave is the
+/// write of its next revision (`edited`), and is refused only where there is no further one (`ended`); a
+/// replicated document that has leave is the write of its path (`replicated`). So is each document of
+/// several, whose histories are those that the documents in front of it have left.
+pub fn writes_with_leave_are_appended()
+    ensures edited { (terms : Terms) (db : Database) (id : List ℕ) (query : Option Revision) (document : Value) (rev : Revision)
+        → (leave : EditHasLeave terms id (history_at db id) query document) → revision_after leave.sent leave.parent ≡ Some rev
+        → admission terms db id query document ≡ Ok (write_at id (edit_path (history_at db id) leave.parent rev) leave.sent) }
+    ensures ended { (terms : Terms) (db : Database) (id : List ℕ) (query : Option Revision) (document : Value)
+        → (leave : EditHasLeave terms id (history_at db id) query document) → revision_after leave.sent leave.parent ≡ None
+        → admission terms db id query document ≡ Err Generation }
+    ensures replicated { (terms : Terms) (db : Database) (id : List ℕ) (document : Value)
+        → (leave : ReplicationHasLeave terms id (history_at db id) document)
+        → replication terms db id document ≡ Ok (Some (write_at id leave.ancestry.path leave.sent)) }
+    ensures edited_together { (terms : Terms) (histories : Histories) (id : List ℕ) (document : Value) (rev : Revision) → id_in document ≡ Some id
+        → (leave : EditHasLeave terms id (histories id) None document) → revision_after leave.sent leave.parent ≡ Some rev
+        → outcome_in terms true histories document ≡ Ok (Some (write_at id (edit_path (histories id) leave.parent rev) leave.sent)) }
+    ensures replicated_together { (terms : Terms) (histories : Histories) (id : List ℕ) (document : Value) → id_in document ≡ Some id
+        → (leave : ReplicationHasLeave terms id (histories id) document)
+        → outcome_in terms false histories document ≡ Ok (Some (write_at id leave.ancestry.path leave.sent)) }
+{}
+
+/// Where a denial is due, it is the outcome, and it names the rule that is due: of an edit, of a
+/// replicated document, of a deletion that names no revision, and of each document of several. So
+/// neither a conflict nor a missing generation hides a denial that is due.
+pub fn due_denials_are_answered()
+    ensures edited { (terms : Terms) (db : Database) (id : List ℕ) (query : Option Revision) (document : Value) (rule : Rule)
+        → EditIsDueTo terms id (history_at db id) query document rule → admission terms db id query document ≡ Err (Denied rule) }
+    ensures replicated { (terms : Terms) (db : Database) (id : List ℕ) (document : Value) (rule : Rule)
+        → ReplicationIsDueTo terms id (history_at db id) document rule → replication terms db id document ≡ Err (Denied rule) }
+    ensures unnamed { (terms : Terms) (id : List ℕ) (rule : Rule) → IsDesignDenial terms id rule → unnamed_deletion terms id ≡ Err (Denied rule) }
+    ensures edited_together { (terms : Terms) (histories : Histories) (id : List ℕ) (document : Value) (rule : Rule) → id_in document ≡ Some id
+        → EditIsDueTo terms id (histories id) None document rule → outcome_in terms true histories document ≡ Err (Denied rule) }
+    ensures replicated_together { (terms : Terms) (histories : Histories) (id : List ℕ) (document : Value) (rule : Rule) → id_in document ≡ Some id
+        → ReplicationIsDueTo terms id (histories id) document rule → outcome_in terms false histories document ≡ Err (Denied rule) }
+{}
+
+/// Of several documents each is judged by the histories that those in front of it have left, and by
+/// nothing behind it.
+pub fn documents_are_judged_in_order()
+    ensures { (terms : Terms) (new_edits : Bool) (histories : Histories) (front back : List Value)
+        → outcomes terms new_edits histories (front ++ back)
+        ≡ outcomes terms new_edits histories front ++ outcomes terms new_edits (after_all histories (outcomes terms new_edits histories front)) back }
 {}
 
 /// A denied document changes nothing: those behind it have the outcomes that they have without it,

@@ -47,8 +47,26 @@ impl<S: Alter> SqlStore<S> {
 
     // ---- what is stored of an index
 
-    /// Finds the declaration of an index; `None` where the design document declares none of this name.
+    /// Finds the declaration of an index; `None` where the design document declares none of this name. Where
+    /// there is one, something has to be held of the winner of the design document.
     pub(crate) fn find_declaration(
+        &mut self,
+        number: &i64,
+        design: &DocId,
+        name: &str,
+    ) -> Result<Option<Declaration>, StoreFault>
+        ensures answer { Answers S.Store self.old self.new (option_map declared) (Some (option_map declared_at (find (is_declaration_of number.now design.now name.now) (trees_of S.Store self.old decls_tree)))) result }
+        ensures stands { Stands S.Store self.old self.new }
+    {
+        let Some(declaration) = self.load_declaration(number, design, name)? else {
+            return Ok(None);
+        };
+        self.check_winner(number, design)?;
+        Ok(Some(declaration))
+    }
+
+    /// Reads the declaration of an index, if there is one of this name.
+    fn load_declaration(
         &mut self,
         number: &i64,
         design: &DocId,

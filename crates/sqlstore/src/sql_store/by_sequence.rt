@@ -47,7 +47,7 @@ impl<S: Alter> SqlStore<S> {
             revs.push(rev)?;
             return Ok(revs);
         }
-        let outline = self.find_outline(number, id)?;
+        let outline = self.load_outline(number, id)?;
         Ok(outline.leaves()?)
     }
 

@@ -1,9 +1,13 @@
 use Rattle.std.proofs.Common.{◌≡◌, length}
+use Rattle.client.specs.Streams.{outcomes_of}
 use Rattle.client.proofs.Reading.{HasRead}
 use Rattle.client.proofs.exchanging.read_reply.Given as goal
 
 abbrev pub invariant-loop-number : goal.invariant-loop-number
 invariant-loop-number g l = record {
-  read : HasRead (g.R.Read.remaining l.initial.reader) (g.R.Read.remaining l.reader) l.cutter;
+  read : HasRead
+      (record { bytes = g.R.Read.remaining l.initial.reader.stream; log = outcomes_of l.initial.reader.log.items })
+      (record { bytes = g.R.Read.remaining l.reader.stream; log = outcomes_of l.reader.log.items })
+      l._number l.cutter;
   room : length l.room ≡ 8192;
 }

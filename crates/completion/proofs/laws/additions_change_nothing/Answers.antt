@@ -1,16 +1,24 @@
 use Rattle.hub.specs.Answering.{StoreSteps}
 use Rattle.node.specs.Runs.{Steps}
+use Rattle.world.specs.Service.{IsHandled}
+use Rattle.completion.specs.Parted.{Serves}
 use Rattle.completion.proofs.Adding.{opening, starting}
 use Rattle.completion.proofs.laws.additions_change_nothing.Goals as goal
 
 pub returns-clause-opening : goal.returns-clause-opening
-returns-clause-opening g c = opening (StoreSteps g.S.Store)
+returns-clause-opening g c = opening (λ who. IsHandled (StoreSteps g.S.Store))
 
 pub returns-clause-starting : goal.returns-clause-starting
-returns-clause-starting g c = starting (StoreSteps g.S.Store)
+returns-clause-starting g c = starting (λ who. IsHandled (StoreSteps g.S.Store))
 
 pub returns-clause-opening_of_databases : goal.returns-clause-opening_of_databases
-returns-clause-opening_of_databases g c = opening Steps
+returns-clause-opening_of_databases g c = opening (λ who. IsHandled Steps)
 
 pub returns-clause-starting_of_databases : goal.returns-clause-starting_of_databases
-returns-clause-starting_of_databases g c = starting Steps
+returns-clause-starting_of_databases g c = starting (λ who. IsHandled Steps)
+
+pub returns-clause-opening_where_served : goal.returns-clause-opening_where_served
+returns-clause-opening_where_served g c = opening (Serves (StoreSteps g.S.Store))
+
+pub returns-clause-starting_where_served : goal.returns-clause-starting_where_served
+returns-clause-starting_where_served g c = starting (Serves (StoreSteps g.S.Store))

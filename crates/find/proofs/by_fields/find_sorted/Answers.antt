@@ -1,12 +1,11 @@
 -- The documents at the sorted places are what is found.
-use Rattle.std.proofs.Common.{Some, [], ap, drop, map, option_map, take, ◌++◌, ◌≡◌, ◌∙◌}
+use Rattle.std.proofs.Common.{Some, [], ap, drop, map, option_map, take, ◌≡◌, ◌∙◌}
 use Rattle.std.specs.FinMap as finite
 use Rattle.store.specs.Contents.{Contents}
 use Rattle.store.specs.Database.{Database}
 use Rattle.store.specs.Pages.{in_direction}
 use Rattle.find.proofs.Places.{part_read, there_is}
 use Rattle.find.specs.Candidates.{put_candidates, put_places}
-use Rattle.find.specs.Matching.{completion, matches_at}
 use Rattle.find.specs.Sources.{ids_in}
 use Rattle.find.proofs.by_fields.find_sorted.Goals as goal
 
@@ -22,6 +21,7 @@ returns-clause-ok g c = λ honest.
     let ids = c.in_ok-ids.ids.items in
     let sorted : ids ≡ in_direction query.descending (map (λ p. p.id) (put_places query.sort query.selector d (ids_in source d) [])) =
     c.in_ok-ids.ensures ∙ ap (λ ps. in_direction query.descending (map (λ p. p.id) ps)) (c.in_ok-places.ensures.ok between d database.1) in
+    let left : c.leave_out-wanted.result.now ≡ drop query.skip ids = c.leave_out-wanted.ensures ∙ ap (drop query.skip) c.deref.ensures.value in
     ap (option_map (λ (e : Database). take query.limit (drop query.skip (in_direction query.descending (map (λ x. x.1) (put_candidates query.sort query.selector e (ids_in source e) [])))))) database.1
-    ∙ ap Some (part_read query d (ids_in source d) ids c.in_ok-part.part c.put_matches.new.part sorted c.in_ok-part.ensures
-    (λ rest. c.in_ok-put_matches.ensures.ok honest d later rest ∙ ap (λ xs. completion c.in_ok-part.part (matches_at query.selector d xs ++ rest)) c.deref.ensures.value))
+    ∙ ap Some (part_read query d (ids_in source d) ids c.leave_out-wanted.result.now c.in_ok-part.part c.put_matches.new.part sorted left c.in_ok-part.ensures
+    (c.in_ok-put_matches.ensures.ok honest d later))

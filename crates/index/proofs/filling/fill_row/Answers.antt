@@ -9,7 +9,7 @@ use Rattle.index.proofs.Filled.{unseen_of}
 use Rattle.index.proofs.Going.{has_itself, if_err}
 use Rattle.index.proofs.Refusals.{listed_one, refused_as}
 use Rattle.index.proofs.ShownDeclarations.{refused_of}
-use Rattle.index.specs.Calls.{IsSoundStore}
+use Rattle.index.specs.Seen.{IsSoundLive}
 use Rattle.index.specs.Steps.{AreFit}
 use Rattle.tables.specs.Listings.{IsListedDocument}
 use Rattle.index.proofs.StepLemmas.{steps_key, steps_none, steps_read, steps_then}
@@ -32,10 +32,6 @@ returns-then-is_unseen-clause-fills g c d due =
     subst (λ o. HasEntries (with_key due x.number (id_of d) (key_if_seen x.fields o)) a a) (sym none)
     (has_itself (with_key due x.number (id_of d) None) a (entries_as due (with_key due x.number (id_of d) None) (a.trees entries_tree) (with_same due x.number (id_of d) None fit.none) fit.entries))) tt
 
-copied_view : (o : Option (Bor Json)) → option_map {U = Value} view (option_copied o) ≡ option_map {U = Value} (λ v. view v.now) o
-copied_view None = refl
-copied_view (Some v) = refl
-
 or_parts : (x y : Bool) → (x || y) ≡ false → (x ≡ false) × (y ≡ false)
 or_parts true y out = absurd (cc)
 or_parts false y out = (refl, out)
@@ -51,7 +47,7 @@ returns-clause-fills g c d due =
     let live : (listed.deleted || is_design_id listed.id) ≡ false = search rules in
     let parts = or_parts listed.deleted (is_design_id listed.id) live in
     let id : List ℕ = c.as_bytes-id.result.now in
-    let after = key_if_seen x.fields (option_map {U = Value} (λ v. view v.now) c.as_ref.result) in
+    let after = key_if_seen x.fields (Some (view c.in_ok-seen.seen)) in
     let read : id ≡ listed.id = c.as_bytes-id.ensures.value ∙ c.as_str.ensures.text in
     steps_then g.S.Store {E = IndexFault} (IsToFill db x c.args.row.now d due) (λ p. (p.schema ≡ schema) × AreEntriesOf due (p.trees entries_tree) × ((k : List ℕ) → due x.number k id ≡ is_key None k)) (λ p q. q ≡ p) (HasEntries (with_key due x.number id after))
     (λ p q. HasEntries (with_key due x.number (id_of d) (key_if_seen x.fields (sees_in p.trees db (id_of d)))) p q) c.args.tx.now.conn.now c.find_live.new.tx.conn.now c.refresh_index.new.tx.conn.now c.in_ok-seen.seen c.refresh_index.result
@@ -65,7 +61,7 @@ returns-clause-fills g c d due =
     (λ was fit same got.
     let as_listed = c.in_ok-listed.ensures.ok d fit.shown_is in
     let told = c.in_ok-seen.ensures.finds was fit.store d fit.row fit.own as_listed (sym as_listed.deleted ∙ parts.0) (sym (ap is_design_id as_listed.id) ∙ parts.1) in
-    let seen : option_map {U = Value} (λ v. view v.now) c.as_ref.result ≡ sees_in a.trees db (id_of d) = sym (copied_view c.as_ref.result) ∙ ap (option_map {U = Value} view) c.as_ref.ensures.value ∙ told in
+    let seen : Some (view c.in_ok-seen.seen) ≡ sees_in a.trees db (id_of d) = told in
     subst (λ i. HasEntries (with_key due x.number i (key_if_seen x.fields (sees_in a.trees db (id_of d)))) a e) (read ∙ as_listed.id)
     (subst (λ o. HasEntries (with_key due x.number id (key_if_seen x.fields o)) a e) seen (subst (λ z. HasEntries (with_key due x.number id after) z e) same got)))
 
@@ -87,9 +83,15 @@ returns-in_err-seen-clause-err g c d due =
     let db = c.args.db.now in
     let x = declared c.args.declaration.now in
     let fault = c.in_err-seen.field-0.0 in
+    let listed = c.in_ok-listed.listed in
+    let live : (listed.deleted || is_design_id listed.id) ≡ false = search rules in
+    let parts = or_parts listed.deleted (is_design_id listed.id) live in
     let is : c.from_residual-in_err-seen.result ≡ Err fault = search rules in
     refused_as (AreFit g.S.Store (IsToFill db x c.args.row.now d due) a b) c.from_residual-in_err-seen.result fault is
-    (refused_of (IsSoundStore g.S.Store a b) (AreFit g.S.Store (IsToFill db x c.args.row.now d due) a b) fault (λ it. (it.0, λ up. it.1.store)) c.in_err-seen.ensures.err)
+    (refused_of (IsSoundLive g.S.Store db listed d a b) (AreFit g.S.Store (IsToFill db x c.args.row.now d due) a b) fault
+    (λ it.
+    let as_listed = c.in_ok-listed.ensures.ok d it.1.shown_is in
+    (it.0, λ up. (it.1.store, it.1.row, it.1.own, as_listed, sym as_listed.deleted ∙ parts.0))) (c.in_err-seen.ensures.err d))
 
 pub returns-clause-err : goal.returns-clause-err
 returns-clause-err g c d due = if_err c.refresh_index.result (λ e. refused_of ⊤ _ e (λ it. tt)) c.refresh_index.ensures.err

@@ -8,19 +8,19 @@ loop-rest-init g c = record { taken = taken_none (g.W.Write.contents c.args.writ
 pub returns-in-Ok-eq0 : goal.returns-in-Ok-eq0
 returns-in-Ok-eq0 g c =
     let start = g.W.Write.contents c.args.writer.now in
-    let after = g.W.Write.contents c.write.new.self in
+    let after = g.W.Write.contents c.write_some.new.writer in
     let rest = drop c.in-Ok-eq0.field-0 c.loop-rest.rest.now in
     taken_short start after rest c.args.bytes.now
     (taken_some start (g.W.Write.contents c.loop-rest.writer) after c.loop-rest.rest.now c.args.bytes.now rest c.in-Ok-eq0.field-0 c.loop-rest.invariant.taken c.in-Ok-eq0.ensures.bytes refl)
 
 pub returns-in-Err : goal.returns-in-Err
 returns-in-Err g c =
-    taken_no_more (g.W.Write.contents c.args.writer.now) (g.W.Write.contents c.loop-rest.writer) (g.W.Write.contents c.write.new.self) c.loop-rest.rest.now c.args.bytes.now
+    taken_no_more (g.W.Write.contents c.args.writer.now) (g.W.Write.contents c.loop-rest.writer) (g.W.Write.contents c.write_some.new.writer) c.loop-rest.rest.now c.args.bytes.now
     c.loop-rest.invariant.taken c.in-Err.ensures.bytes
 
 pub loop-rest-preserved : goal.loop-rest-preserved
 loop-rest-preserved g c = record {
-  taken = taken_some (g.W.Write.contents c.args.writer.now) (g.W.Write.contents c.loop-rest.writer) (g.W.Write.contents c.write.new.self) c.loop-rest.rest.now c.args.bytes.now
+  taken = taken_some (g.W.Write.contents c.args.writer.now) (g.W.Write.contents c.loop-rest.writer) (g.W.Write.contents c.write_some.new.writer) c.loop-rest.rest.now c.args.bytes.now
       c.skip-rest.result.now c.in-Ok.count c.loop-rest.invariant.taken c.in-Ok.ensures.bytes c.skip-rest.ensures;
 }
 

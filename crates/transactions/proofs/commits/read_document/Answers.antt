@@ -1,4 +1,6 @@
-use Rattle.transactions.proofs.Lemmas.{CommitFault, Err, HistoryContent, IfErr, IsSound, IsUnwritten, Result, history_intact, history_read, history_shown, is_of, lost, rules, state, subst, sym, ⊤, ◌≡◌}
+use Rattle.transactions.proofs.Lemmas.{CommitFault, Err, HistoryContent, IfErr, IsSound, IsUnwritten, Result, ap, history_in, history_intact, history_read, history_shown, is_of, lost, lost_damaged, revs_tree, rules, state, subst, sym, ◌∙◌, ◌≡◌}
+use Rattle.transactions.proofs.Common.{Trees}
+use Rattle.tree.specs.Outline.{marked_winner}
 use Rattle.transactions.specs.declared.commit_fault.CommitFault.TheVariants as write
 use Rattle.transactions.proofs.commits.read_document.Goals as goal
 
@@ -17,7 +19,8 @@ returns-in_err-history-clause-err g c =
     let db = c.args.db.now in
     let id = c.args.id.now in
     let fault = c.in_err-history.field-0.0 in
-    let sound : Type 0 = IsSound g.S.Store (λ _. ⊤) old c.revision_rows_in.new.tx.conn.now in
+    let Agrees : Trees → Type 0 = λ ts. c.args.winner.now ≡ marked_winner (history_in (ts revs_tree) db id) in
+    let sound : Type 0 = IsSound g.S.Store Agrees old c.revision_rows_in.new.tx.conn.now in
     let is : c.from_residual-in_err-history.result ≡ Err (write.Store fault) = search rules in
     subst (λ (r : Result HistoryContent CommitFault). IfErr r (IsUnwritten sound)) (sym is)
     (lost (history_shown c.in_ok-rows.rows.items) _ sound fault c.in_err-history.ensures
@@ -25,3 +28,20 @@ returns-in_err-history-clause-err g c =
     let store = (it.1 (c.in_ok-rows.ensures.reads.served it.0)).0 in
     history_intact trees (is_of db id) _ store.laid
     (c.in_ok-rows.ensures.reads.found it.0 store)))
+
+pub returns-in_err-check_history-clause-err : goal.returns-in_err-check_history-clause-err
+returns-in_err-check_history-clause-err g c =
+    let old = c.args.tx.now.conn.now in
+    let trees = (state g.S.Store old).now.trees in
+    let db = c.args.db.now in
+    let id = c.args.id.now in
+    let fault = c.in_err-check_history.field-0.0 in
+    let Agrees : Trees → Type 0 = λ ts. c.args.winner.now ≡ marked_winner (history_in (ts revs_tree) db id) in
+    let sound : Type 0 = IsSound g.S.Store Agrees old c.revision_rows_in.new.tx.conn.now in
+    let is : c.from_residual-in_err-check_history.result ≡ Err (write.Store fault) = search rules in
+    subst (λ (r : Result HistoryContent CommitFault). IfErr r (IsUnwritten sound)) (sym is)
+    (lost_damaged sound fault c.in_err-check_history.ensures.err.0
+    (λ it.
+    let up = it.1 (c.in_ok-rows.ensures.reads.served it.0) in
+    let read = history_read trees db id c.in_ok-rows.rows.items _ up.0.laid (c.in_ok-rows.ensures.reads.found it.0 up.0) c.in_ok-history.ensures in
+    c.in_err-check_history.ensures.err.1 (up.1 ∙ ap marked_winner (sym read))))

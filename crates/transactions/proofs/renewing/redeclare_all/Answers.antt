@@ -1,6 +1,6 @@
 use Rattle.transactions.proofs.Lemmas.{filter, state, subst, sym, ◌∙◌, ◌≡◌}
 use Rattle.transactions.proofs.Common.{Error, Ok, [], docs_tree}
-use Rattle.transactions.proofs.Redeclared.{all_to_redeclare, of_designs, unwritten_then}
+use Rattle.transactions.proofs.Redeclared.{all_to_redeclare, of_ids, unwritten_then}
 use Rattle.transactions.specs.Renewing.{AreRedeclared, AreToRedeclare, HasNoIndexes}
 use Rattle.index.proofs.Going.{if_err}
 use Rattle.index.proofs.StepLemmas.{steps_read, steps_then}
@@ -14,7 +14,7 @@ returns-clause-steps g c =
     let a = (state g.S.Store first).now in
     let e = (state g.S.Store last).now in
     let rows = c.deref.result.now in
-    let docs = filter of_designs (a.trees docs_tree) in
+    let docs = filter of_ids (a.trees docs_tree) in
     let reads = c.in_ok-rows.ensures.reads in
     steps_then g.S.Store {E = Error} HasNoIndexes (AreToRedeclare rows docs) (λ p q. q ≡ p) (AreRedeclared []) (AreRedeclared []) first between last c.in_ok-rows.rows c.redeclare_rows.result
     (steps_read g.S.Store HasNoIndexes first between (Ok c.in_ok-rows.rows) reads.stands reads.looks reads.asks (λ fit. fit.store.schema_is))
@@ -29,7 +29,7 @@ returns-clause-err g c =
     let last = c.redeclare_rows.new.tx.conn.now in
     let a = (state g.S.Store first).now in
     let rows = c.deref.result.now in
-    let docs = filter of_designs (a.trees docs_tree) in
+    let docs = filter of_ids (a.trees docs_tree) in
     let reads = c.in_ok-rows.ensures.reads in
     if_err c.redeclare_rows.result
     (λ e. unwritten_then g.S.Store {E = Error} HasNoIndexes (AreToRedeclare rows docs) (λ p q. q ≡ p) first between last c.in_ok-rows.rows e

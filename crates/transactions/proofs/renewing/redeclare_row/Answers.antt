@@ -1,4 +1,5 @@
-use Rattle.transactions.proofs.Lemmas.{ap, rules, state, subst, sym, ◌∙◌, ◌≡◌}
+use Rattle.transactions.specs.Commits.{IsSound}
+use Rattle.transactions.proofs.Lemmas.{ap, rules, ⊤, state, subst, sym, ◌∙◌, ◌≡◌}
 use Rattle.transactions.proofs.Common.{Err, List, Ok, db_of, false, id_of, refl, true, ℕ, ◌∷◌}
 use Rattle.transactions.proofs.Redeclared.{named_one, redeclared, skipped, unwritten_as}
 use Rattle.transactions.proofs.Committing.{unwritten_of}
@@ -8,7 +9,7 @@ use Rattle.index.specs.Declaring.{IsRebuildable}
 use Rattle.index.specs.Meaning.{declares_in, sees_in}
 use Rattle.index.specs.Steps.{AreFit, WasFit}
 use Rattle.index.proofs.Going.{if_err}
-use Rattle.index.proofs.StepLemmas.{steps_none, steps_weaker}
+use Rattle.index.proofs.StepLemmas.{steps_read, steps_so, steps_weaker}
 use Rattle.sqlite_value.specs.Order.{bytes, column}
 use Rattle.tables.specs.Rows.{whole_in}
 use Rattle.tree.specs.DocumentId.{is_design_id}
@@ -23,15 +24,33 @@ returns-in_err-named-clause-err g c d left =
     unwritten_as Given c.from_residual.result fault is
     (unwritten_of (IsShownName c.args.row.now) Given fault (λ it. subst IsShownName (sym it.1.shown_is) (named_one (state g.S.Store a).now.trees d it.1.row)) c.in_err-named.ensures.err)
 
-pub returns-then-not-is_design-clause-steps : goal.returns-then-not-is_design-clause-steps
-returns-then-not-is_design-clause-steps g c d left =
-    let a = c.args.tx.now.conn.now in
-    let plain : is_design_id c.in_ok-named.named.id ≡ false = search rules in
-    steps_none g.S.Store (IsToRedeclare c.args.row.now d left) (AreRedeclared left) a (Ok tt)
-    (λ fit. skipped d left (state g.S.Store a).now c.args.row.now fit (ap is_design_id (ap (λ s. bytes (column s 1)) (sym fit.shown_is) ∙ sym c.in_ok-named.ensures.id) ∙ plain)) tt
-
+-- what is read of another document changes nothing, and that declares nothing
 pub returns-clause-steps : goal.returns-clause-steps
 returns-clause-steps g c d left =
+    let first = c.args.tx.now.conn.now in
+    let last = c.check_stored.new.tx.conn.now in
+    let a = (state g.S.Store first).now in
+    let b = (state g.S.Store last).now in
+    let plain : is_design_id c.in_ok-named.named.id ≡ false = search rules in
+    let Fit = IsToRedeclare c.args.row.now d left in
+    let read = c.check_stored.ensures in
+    steps_so g.S.Store Fit (λ p q. q ≡ p) (AreRedeclared left) first last c.check_stored.result
+    (steps_read g.S.Store Fit first last c.check_stored.result read.stands read.looks read.asks (λ fit. fit.store.schema_is))
+    (λ fit same.
+    subst (AreRedeclared left a) (sym same)
+    (skipped d left a c.args.row.now fit (ap is_design_id (ap (λ s. bytes (column s 1)) (sym fit.shown_is) ∙ sym c.in_ok-named.ensures.id) ∙ plain)))
+
+pub returns-clause-err : goal.returns-clause-err
+returns-clause-err g c d left =
+    let first = c.args.tx.now.conn.now in
+    let last = c.check_stored.new.tx.conn.now in
+    let Fit = IsToRedeclare c.args.row.now d left in
+    if_err c.check_stored.result
+    (λ e. unwritten_of (IsSound g.S.Store (λ _. ⊤) first last) (AreFit g.S.Store Fit first last) e
+    (λ it. (it.0, λ up. (it.1.store, tt)))) c.check_stored.ensures.err
+
+pub returns-then-is_design-clause-steps : goal.returns-then-is_design-clause-steps
+returns-then-is_design-clause-steps g c d left =
     let first = c.args.tx.now.conn.now in
     let last = c.redeclare.new.tx.conn.now in
     let a = (state g.S.Store first).now in
@@ -48,8 +67,8 @@ returns-clause-steps g c d left =
     let name : id ≡ id_of d = c.in_ok-named.ensures.id ∙ ap (λ s. bytes (column s 1)) fit.shown_is in
     redeclared d left a c.args.row.now fit b (subst (λ i. IsRedeclared declares sees (db_of d) i a b) name (subst (λ m. IsRedeclared declares sees m id a b) number made)))
 
-pub returns-clause-err : goal.returns-clause-err
-returns-clause-err g c d left =
+pub returns-then-is_design-clause-err : goal.returns-then-is_design-clause-err
+returns-then-is_design-clause-err g c d left =
     let first = c.args.tx.now.conn.now in
     let last = c.redeclare.new.tx.conn.now in
     let a = (state g.S.Store first).now in

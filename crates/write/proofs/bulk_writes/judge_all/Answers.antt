@@ -21,7 +21,7 @@ use Rattle.write.proofs.bulk_writes.judge_all.Goals as goal
 pub loop-document-init : goal.loop-document-init
 loop-document-init g c = record {
   judged = λ honest d there.
-      begun (terms_of c.args.terms.now) c.args.new_edits d (map view c.args.documents.items) _ c.new-histories.result _ _ c.new-histories.ensures.empty
+      begun (terms_of c.args.terms) c.args.new_edits d (map view c.args.documents.items) _ c.new-histories.result _ _ c.new-histories.ensures.empty
       (ap (map view) c.into_iter-document-iterator.ensures.into_iter_gives.0) (ap additions c.in_ok-writes.ensures.items) (ap (map told_of) c.in_ok-results.ensures.items);
   marks =
       let all : c.deref.result.now ≡ into_iter_items c.into_iter-document-iterator.result = search rules in
@@ -41,7 +41,7 @@ loop-document-preserved g c =
     record {
       judged = λ honest d there.
           let before = c.in_ok-load.ensures.reads.goes_on.honest honest in
-          judged_draft (terms_of c.args.terms.now) c.args.new_edits c.take_mark-again.result d (map view c.args.documents.items) (map view (into_iter_items l.document-iterator)) (map view left) document
+          judged_draft (terms_of c.args.terms) c.args.new_edits c.take_mark-again.result d (map view c.args.documents.items) (map view (into_iter_items l.document-iterator)) (map view left) document
           c.in_ok-draft.draft.label c.in_ok-draft.draft.id c.in_ok-draft.draft.request
           l.histories c.load.new.histories c.judge_one.new.histories (additions l.writes.items) (additions c.judge_one.new.writes.items)
           (map told_of l.results.items) (map told_of c.push.new.self.items) (told_of c.in_ok-judge_one.field-0)
@@ -61,12 +61,12 @@ pub returns-clause-writes : goal.returns-clause-writes
 returns-clause-writes g c = λ honest d there.
     let l = c.loop-document in
     let none : into_iter_items l.document-iterator ≡ [] = grind (arith, common_steps) in
-    judged_writes (terms_of c.args.terms.now) c.args.new_edits d (map view c.args.documents.items) (map view (into_iter_items l.document-iterator)) l.histories (additions l.writes.items) (map told_of l.results.items)
+    judged_writes (terms_of c.args.terms) c.args.new_edits d (map view c.args.documents.items) (map view (into_iter_items l.document-iterator)) l.histories (additions l.writes.items) (map told_of l.results.items)
     (ap (map view) none) (l.invariant.judged honest d there)
 
 pub returns-clause-results : goal.returns-clause-results
 returns-clause-results g c = λ honest d there.
     let l = c.loop-document in
     let none : into_iter_items l.document-iterator ≡ [] = grind (arith, common_steps) in
-    judged_results (terms_of c.args.terms.now) c.args.new_edits d (map view c.args.documents.items) (map view (into_iter_items l.document-iterator)) l.histories (additions l.writes.items) (map told_of l.results.items)
+    judged_results (terms_of c.args.terms) c.args.new_edits d (map view c.args.documents.items) (map view (into_iter_items l.document-iterator)) l.histories (additions l.writes.items) (map told_of l.results.items)
     (ap (map view) none) (l.invariant.judged honest d there)

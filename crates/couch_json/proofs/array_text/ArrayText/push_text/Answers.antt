@@ -9,8 +9,8 @@ invariant_of-self-2 c =
     (pushed _ _ _ c.self.inside.is_empty c.args.self.now c.args.value c.self.invariant c.self.view_is c.into_string.ensures.lawful
     (c.as_str.ensures.value ∙ c.in_ok-element.ensures ∙ ap (behind_comma c.self.inside.is_empty) c.into_string.ensures.text) c.in_ok-push_str.ensures.bytes)
 
-pub returns : goal.returns
-returns c =
+pub returns-clause-ok : goal.returns-clause-ok
+returns-clause-ok c =
     elements_said_by _ _ _
     (pushed _ _ _ c.self.inside.is_empty c.args.self.now c.args.value c.self.invariant c.self.view_is c.into_string.ensures.lawful
     (c.as_str.ensures.value ∙ c.in_ok-element.ensures ∙ ap (behind_comma c.self.inside.is_empty) c.into_string.ensures.text) c.in_ok-push_str.ensures.bytes)

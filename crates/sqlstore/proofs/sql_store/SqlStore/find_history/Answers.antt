@@ -1,20 +1,18 @@
-use Rattle.sqlstore.proofs.Lemmas.{IsPermutation, List, Some, answered, ap, filter, history_intact, history_made, history_set, is_of, laid, map, revs_tree, shown_revision, subst, sym, trees_of, was_honest, ℕ, ∥∥₁_elim, ∥∥₁_map, ◌∙◌}
+use Rattle.sqlstore.proofs.Lemmas.{Err, Trees, ap, history_in, inside, revs_tree, rules, stands_same, sym, trees_of, was_honest, ◌∙◌, ◌≡◌}
+use Rattle.sqlstore.proofs.LostRows.{damaged}
+use Rattle.tree.specs.Outline.{marked_winner}
 use Rattle.sqlstore.proofs.sql_store.SqlStore.find_history.Goals as goal
 
-pub returns-clause-answer : goal.returns-clause-answer
-returns-clause-answer g c =
+pub returns-in_err-check_history-clause-answer : goal.returns-in_err-check_history-clause-answer
+returns-in_err-check_history-clause-answer g c =
     let s = c.args.self.now in
-    let end = c.revision_rows.new.self in
-    let trees = trees_of g.S.Store s in
-    let n = c.args.number.now in
-    let id = c.args.id.now in
-    let shown = λ (k : List ℕ). map shown_revision (filter (is_of n k) (trees_of g.S.Store s revs_tree)) in
-    answered g.S.Store s end (λ v. v) _ _ _ c.read_history.result c.read_history.ensures
+    let mid = c.find_winner.new.self in
+    let end = c.load_history.new.self in
+    let e = c.in_err-check_history.ensures.err in
+    let is : c.from_residual-in_err-check_history.result ≡ Err c.in_err-check_history.field-0.0 = search rules in
+    damaged g.S.Store s end _ _ c.from_residual-in_err-check_history.result c.in_err-check_history.field-0.0 is e.0
     (λ honest.
-    let rows : ∥ IsPermutation (shown id) c.in_ok-rows.rows.items ∥₁ =
-    ∥∥₁_map (c.in_ok-rows.ensures.found honest)
-    (λ same. subst (λ l. IsPermutation l c.in_ok-rows.rows.items) (ap shown (c.as_bytes.ensures.value ∙ c.as_str.ensures.text)) same) in
-    let lay = laid g.S.Store s (was_honest g.S.Store s end c.revision_rows.ensures.stands honest) in (
-      (λ none. ∥∥₁_elim lay (λ p q. absurd p) (λ l. ∥∥₁_elim rows (λ p q. absurd p) (λ same. none (history_intact trees (is_of n id) _ l same)))),
-      ∥∥₁_elim lay (history_set _ _) (λ l. ∥∥₁_elim rows (history_set _ _) (λ same. ap Some (sym (history_made trees n id _ l same)))),
-    ))
+    let first = was_honest g.S.Store mid end c.load_history.ensures.stands honest in
+    let won = inside _ _ (c.in_ok-winner.ensures.answer first) in
+    let read = inside _ _ (c.in_ok-history.ensures.answer honest) in
+    e.1 (sym won ∙ ap (λ (t : Trees). marked_winner (history_in (t revs_tree) c.args.number.now c.args.id.now)) (sym (stands_same g.S.Store s mid c.find_winner.ensures.stands)) ∙ ap marked_winner read))

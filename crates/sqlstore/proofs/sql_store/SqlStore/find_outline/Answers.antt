@@ -1,21 +1,21 @@
-use Rattle.sqlstore.proofs.Lemmas.{IsPermutation, List, Some, answered, ap, filter, outline_intact, outline_made, history_set, is_of, laid, map, revs_tree, subst, sym, trees_of, was_honest, ℕ, ∥∥₁_elim, ∥∥₁_map, ◌∙◌}
-use Rattle.tables.specs.Rows.{shown_outline}
+use Rattle.sqlstore.proofs.Lemmas.{Err, Trees, ap, history_in, inside, leaf_rows_lost, revs_tree, rules, stands_same, sym, trees_of, was_honest, ◌∙◌, ◌≡◌}
+use Rattle.sqlstore.proofs.LostRows.{outline_agrees}
+use Rattle.tree.specs.Outline.{marked_winner, outline_of}
 use Rattle.sqlstore.proofs.sql_store.SqlStore.find_outline.Goals as goal
 
-pub returns-clause-answer : goal.returns-clause-answer
-returns-clause-answer g c =
+pub returns-in_err-check_outline-clause-answer : goal.returns-in_err-check_outline-clause-answer
+returns-in_err-check_outline-clause-answer g c =
     let s = c.args.self.now in
-    let end = c.outline_rows.new.self in
-    let trees = trees_of g.S.Store s in
+    let mid = c.find_winner.new.self in
+    let end = c.load_outline.new.self in
     let n = c.args.number.now in
     let id = c.args.id.now in
-    let shown = λ (k : List ℕ). map shown_outline (filter (is_of n k) (trees_of g.S.Store s revs_tree)) in
-    answered g.S.Store s end (λ v. v) _ _ _ c.read_outline.result c.read_outline.ensures
-    (λ honest.
-    let rows : ∥ IsPermutation (shown id) c.in_ok-rows.rows.items ∥₁ =
-    ∥∥₁_map (c.in_ok-rows.ensures.found honest)
-    (λ same. subst (λ l. IsPermutation l c.in_ok-rows.rows.items) (ap shown (c.as_bytes.ensures.value ∙ c.as_str.ensures.text)) same) in
-    let lay = laid g.S.Store s (was_honest g.S.Store s end c.outline_rows.ensures.stands honest) in (
-      (λ none. ∥∥₁_elim lay (λ p q. absurd p) (λ l. ∥∥₁_elim rows (λ p q. absurd p) (λ same. none (outline_intact trees (is_of n id) _ l same)))),
-      ∥∥₁_elim lay (history_set _ _) (λ l. ∥∥₁_elim rows (history_set _ _) (λ same. ap Some (sym (outline_made trees n id _ l same)))),
-    ))
+    leaf_rows_lost g.S.Store s end _ _ _ c.in_err-check_outline.field-0.0 c.from_residual-in_err-check_outline.result (search rules) c.in_err-check_outline.ensures.err
+    (λ honest none.
+    let first = was_honest g.S.Store mid end c.load_outline.ensures.stands honest in
+    let won = inside _ _ (c.in_ok-winner.ensures.answer first) in
+    let read = inside _ _ (c.in_ok-outline.ensures.answer honest) in
+    let same = stands_same g.S.Store s mid c.find_winner.ensures.stands in
+    none
+    (outline_agrees (history_in (trees_of g.S.Store s revs_tree) n id) c.in_ok-outline.outline c.in_ok-winner.winner (sym won)
+    (sym read ∙ ap (λ (t : Trees). outline_of (history_in (t revs_tree) n id)) same)))

@@ -1,22 +1,19 @@
-use Rattle.sqlstore.proofs.Lemmas.{List, Some, answered, ap, filter, laid, map, revision_found, revision_intact, revs_tree, rules, shown_revision, sym, trees_of, was_honest, ℕ, ∥∥₁_elim, ◌∙◌, ◌≡◌}
-use Rattle.std.specs.Prelude.{option_map, slice_get}
-use Rattle.transactions.specs.Reading.{known_shown}
-use Rattle.tables.specs.Rows.{is_revision_of}
-use Rattle.tree.specs.Revision.{Revision}
+use Rattle.sqlstore.proofs.Lemmas.{Trees, ap, history_in, inside, laid, revs_tree, rules, stands_same, sym, trees_of, true, was_honest, ∥∥₁_elim, ◌∙◌, ◌≡◌}
+use Rattle.tree.specs.History.{names, winner}
+use Rattle.transactions.proofs.WinnerMarks.{winner_not_bare}
 use Rattle.sqlstore.proofs.sql_store.SqlStore.find_revision.Goals as goal
 
-pub returns-clause-answer : goal.returns-clause-answer
-returns-clause-answer g c =
+pub returns-then-branch-clause-answer : goal.returns-then-branch-clause-answer
+returns-then-branch-clause-answer g c honest =
     let s = c.args.self.now in
-    let end = c.one_revision_rows.new.self in
-    let trees = trees_of g.S.Store s in
+    let mid = c.load_revision.new.self in
+    let end = c.is_winner.new.self in
     let n = c.args.number.now in
     let id = c.args.id.now in
-    let shown = λ (k : List ℕ) (q : Revision). map shown_revision (filter (is_revision_of n k q) (trees_of g.S.Store s revs_tree)) in
-    answered g.S.Store s end (λ v. v) _ _ _ c.first_revision.result c.first_revision.ensures
-    (λ honest.
-    let rows : c.deref.result.now ≡ shown id c.args.rev.now = c.deref.ensures.value ∙ c.in_ok-rows.ensures.found honest ∙ search rules in
-    let lay = laid g.S.Store s (was_honest g.S.Store s end c.one_revision_rows.ensures.stands honest) in (
-      (λ none. ∥∥₁_elim lay (λ p q. absurd p) (λ l. none (revision_intact trees _ _ l rows))),
-      ap Some (sym (ap (λ rs. option_map known_shown (slice_get rs 0)) rows ∙ revision_found trees n id c.args.rev.now)),
-    ))
+    let first = was_honest g.S.Store mid end c.is_winner.ensures.stands honest in
+    let known = sym (inside _ _ (c.in_ok-known.ensures.answer first)) in
+    let told = inside _ _ (c.in_ok-is_winner.ensures.answer honest) in
+    let same = ap (λ (t : Trees). names (winner (history_in (t revs_tree) n id)) c.args.rev.now) (stands_same g.S.Store s mid c.load_revision.ensures.stands) in
+    let is : c.in_ok-is_winner.field-0 ≡ true = search rules in
+    ∥∥₁_elim (laid g.S.Store s (was_honest g.S.Store s mid c.load_revision.ensures.stands first)) (λ p q. absurd p)
+    (λ l. winner_not_bare (trees_of g.S.Store s) n id l c.args.rev.now c.in_ok-known.known (sym same ∙ told ∙ is) known (search rules))

@@ -1,0 +1,10 @@
+use Rattle.streams.proofs.Taken.{HasTaken}
+use Rattle.client.specs.Streams.{outcomes_of}
+use Rattle.client.proofs.Logs.{GrewBy}
+use Rattle.client.proofs.writing.write_logged.Given as goal
+
+abbrev pub invariant-loop-number : goal.invariant-loop-number
+invariant-loop-number g l = record {
+  taken : HasTaken (g.W.Write.contents l.initial.writer.stream) (g.W.Write.contents l.writer.stream) l.rest l.bytes;
+  grew : GrewBy (outcomes_of l.initial.writer.log.items) (outcomes_of l.writer.log.items) l._number;
+}
