@@ -153,10 +153,10 @@ impl<R: Clock> Sockets for Port<'_, R> {
         self.poll.poll(&mut self.events, Some(timeout))?;
         for event in &self.events {
             let conn = event.token().0 as u64;
-            if event.is_read_closed()
-                && let Some(socket) = self.sockets.get_mut(&conn)
-            {
-                socket.ended = true;
+            if let Some(socket) = self.sockets.get_mut(&conn) {
+                socket.ended |= event.is_read_closed();
+                // a report comes once, and what it tells of may be read behind what is kept
+                socket.more = true;
             }
             self.ready.push(conn)?;
         }
