@@ -6,7 +6,7 @@ use Rattle.couch_json.specs.Value.{Value}
 use Rattle.sqlite.specs.Effect as sqlite
 use Rattle.sqlite_schema.specs.declared.schema.Schema.{Schema}
 use Rattle.store.specs.Database.{DocumentWrite}
-use Rattle.std.proofs.Common.{Bor, ap₂}
+use Rattle.std.proofs.Common.{Bor, Global, IfOk, Vec, ap₂}
 use Rattle.tree.specs.DocumentId.{is_design_id}
 use Rattle.store.specs.Indexes.{index_fields_of, queried_document, winning_body}
 use Rattle.index.specs.Calls.{ChangesIndexes, ChangesOnly, HasEntries}
@@ -16,10 +16,11 @@ use Rattle.std.proofs.lemmas.List.{nil_from_length}
 use Rattle.std.proofs.lemmas.Bool.Decides.{nat_tests}
 use Rattle.index.specs.Rows.{declared_by, design_of, fields_of, has_entry, index_name_of, is_at_home, is_declaration_of}
 use Rattle.index.specs.Shown.{Declared, declared_at}
+use Rattle.index.specs.declared.declaration.Declaration.{Declaration}
 use Rattle.index.proofs.Going.{declarations_stay, refreshed}
 use Rattle.sqlite_keyed.proofs.ListLemmas.{all_weaker}
 use Rattle.store.specs.Writing.{Addition}
-use Rattle.transactions.specs.Indexing.{AreAllIndexes, IsFollowed, IsIndexedStore, IsRedeclared, write_in}
+use Rattle.transactions.specs.Indexing.{AreAllIndexes, AreKnownIndexes, IsFollowed, IsIndexedStore, IsRedeclared, write_in}
 use Rattle.index.specs.Declaring.{IsRebuildable}
 use Rattle.transactions.proofs.Common.{Err, Ok, OnOk, Result, [], cond, ◌∷◌}
 use Rattle.std.specs.Prelude.{◌==◌, find}
@@ -328,3 +329,14 @@ rows_after r w old new h store = record { schema_is = h.only.schema ∙ store.sc
 -- the tables that index rows are read of
 pub rows_of : (d : sqlite.Database) → IsIndexedStore d → HasIndexRows d
 rows_of d h = record { schema_is = h.store.schema_is; decls = h.indexed.decls; entries = h.indexed.entries.laid }
+
+-- the indexes that are known are those of the same declarations over other tables
+pub known_still : (known : Option (Vec Declaration Global)) (db : ℤ) (a b : Trees) → b decls_tree ≡ a decls_tree → AreKnownIndexes known db a → AreKnownIndexes known db b
+known_still None db a b same every = tt
+known_still (Some all) db a b same every = every ∙ ap (λ rows. map declared_at (filter (is_at_home db) rows)) (sym same)
+
+-- ---- answers of two kinds
+
+pub if_both : {X E P : Type 0} {Q R : X → Type 0} (r : Result X E) → ((x : X) → P → Q x → R x) → OnOk r P → IfOk r Q → IfOk r R
+if_both (Ok x) f p q = f x p q
+if_both (Err e) f p q = tt

@@ -8,6 +8,7 @@ pub mod WinnerMarks
 pub mod FirstWrites
 pub mod IndexSteps
 pub mod IndexRests
+pub mod SameWinner
 pub mod Following
 pub mod Redeclared
 pub mod DocumentWriting

@@ -4,7 +4,7 @@ use Rattle.std.specs.Prelude.{◌≡◌, ◌+◌, ℕ, ℤ, pos, IfSome, IsTrue,
 use Rattle.std.specs.declared.alloc.Global.{Global}
 use Rattle.sqlite.specs.Effect.{Database}
 use Rattle.sqlite.specs.Held.{Held, state}
-use Rattle.sqlite.specs.State.{HasCleanDisk}
+use Rattle.sqlite.specs.State.{HasCleanDisk, State}
 use Rattle.sqlite_trees.specs.declared.store.Store.{Ghosts}
 use Rattle.sqlite_trees.specs.Tree.{Trees}
 use Rattle.sqlite_value.specs.Order.{Row}
@@ -15,6 +15,7 @@ use Rattle.tables.specs.Layout.{IsStore}
 use Rattle.tables.specs.Rows.{history_in, length_of, number_of}
 use Rattle.tables.specs.Schema.{decls_tree, revs_tree}
 use Rattle.index.specs.Calls.{ChangesIndexes}
+use Rattle.index.specs.Declaring.{IsRebuildable}
 use Rattle.index.specs.Indexed.{AreIndexed, IsIndexed}
 use Rattle.index.specs.Meaning.{Declarations, Documents, declares_in, with_declared}
 use Rattle.index.specs.Rows.{is_at_home}
@@ -23,6 +24,8 @@ use Rattle.index.specs.declared.declaration.Declaration.{Declaration}
 use Rattle.index.specs.declared.fault.IndexFault.{IndexFault}
 use Rattle.index.specs.declared.fault.IndexFault.TheVariants as index
 use Rattle.store.specs.declared.fault.StoreFault.TheVariants.{Memory, Damaged}
+use Rattle.tree.specs.Outline.{marked_winner}
+use Rattle.tree.specs.declared.marked_rev.MarkedRev.{MarkedRev}
 use Rattle.transactions.specs.Following.{HasPlaceFor}
 use Rattle.transactions.specs.Inserting.{IsLawfulAddition}
 use Rattle.transactions.specs.Sequences.{Clears}
@@ -66,6 +69,12 @@ pub record MayBeWritten (db sequence : ℤ) (a : Addition) (old : Database) : Ty
 abbrev pub IsSoundIndexed : {S : Type 0} → Ghosts S → (Database → Type 0) → Held S → Held S → Type 0
 IsSoundIndexed g Holds old new = HasCleanDisk (state g new) × (IsTrue (state g old).is_open → IsIndexedStore (state g old).now × Holds (state g old).now)
 
+-- the tables and the transaction are as they were, and an open connection is open
+pub record IsLeft (old new : State) : Type 0 where
+  pub now_is : new.now ≡ old.now
+  pub mode : new.in_transaction ≡ old.in_transaction
+  pub is_open : IsTrue old.is_open → IsTrue new.is_open
+
 -- a fault of indexes, as one of a commit
 abbrev pub of_index_fault : IndexFault → CommitFault
 of_index_fault (index.Sqlite e) = fault.Sqlite e
@@ -83,3 +92,9 @@ pub record IsRemoved (db : ℤ) (old new : Database) : Type 0 where
 pub record IsRedeclared (declares : Declarations) (sees : Documents) (db : ℤ) (design : List ℕ) (old new : Database) : Type 0 where
   pub indexed : AreIndexed (with_declared declares db design (λ name. declares_in old.trees db design name)) sees new.trees
   pub only : ChangesIndexes old new
+
+-- The index rows are those of declarations over what is stored in this database. If this is the winner of the design document, it declares
+-- there what its winner says.
+pub record IsToFollow (declares : Declarations) (sees : Documents) (db : ℤ) (design : List ℕ) (winner : Option MarkedRev) (b : Database) : Type 0 where
+  pub fit : IsRebuildable declares sees db b
+  pub said : winner ≡ marked_winner (history_in (b.trees revs_tree) db design) → (name : List ℕ) → declares db design name ≡ declares_in b.trees db design name

@@ -29,12 +29,12 @@ ghost use Rattle.std.specs.Prelude.{map};
 use crate::commit_fault::CommitFault;
 use crate::document_write::{add_first, add_write};
 use crate::histories::read_history;
-use crate::indexing::{are_none, write_indexed};
+use crate::indexing::{are_none, list_unknown, write_indexed};
 use crate::seeing::find_winner;
 use crate::winner_checks::{check_history, check_winner};
 use crate::winners::history_for;
 use couch_json::Got;
-use index::{Declaration, list_declarations};
+use index::Declaration;
 use sqlite::{Alter, Connection, Transaction};
 use std::alloc::Global;
 use std::collections::BTreeMap;
@@ -357,7 +357,7 @@ fn write_each<S: Alter>(
     tx: &mut Transaction<'_, S>,
     db: &i64,
     sequence: u64,
-    mut indexes: Vec<Declaration>,
+    indexes: Vec<Declaration>,
     writes: &[Write],
 ) -> Result<Vec<Declaration>, CommitFault>
     requires { sequence + length writes.now < 2 ^ 63 }
@@ -380,11 +380,12 @@ fn write_each<S: Alter>(
     ensures asks { AsksInside S.Store tx.old.conn.now tx.new.conn.now }
 {
     let mut histories = BTreeMap::new(alloc);
+    let mut known = Some(indexes);
     for (i, write) in writes.iter().enumerate() {
         let next = integer_of(sequence + i as u64 + 1);
-        write_indexed(alloc, tx, db, &next, &mut histories, &mut indexes, write)?;
+        known = write_indexed(alloc, tx, db, &next, &mut histories, known, write)?;
     }
-    Ok(indexes)
+    list_unknown(alloc, tx, db, known)
 }
 
 /// Tells whether none of the writes is of a design document.
@@ -473,33 +474,6 @@ fn write_bulk<S: Alter>(
     write_each(alloc, tx, db, sequence, indexes, writes)
 }
 
-/// Lists the indexes of a database, and then does its writes in turn, as `write_bulk` does.
-fn write_listed<S: Alter>(
-    alloc: Global,
-    tx: &mut Transaction<'_, S>,
-    db: &i64,
-    sequence: u64,
-    writes: &[Write],
-) -> Result<Vec<Declaration>, CommitFault>
-    requires { sequence + length writes.now < 2 ^ 63 }
-    ensures same_reference { tx.new.conn.ghost_name ≡ tx.old.conn.ghost_name }
-    ensures ok { (name : List ℕ) → HasCleanDisk (state S.Store tx.new.conn.now) → IsIndexedStore (state S.Store tx.old.conn.now).now
-        → (due : AreDue (additions writes.now) name db.now sequence (state S.Store tx.old.conn.now).now.trees)
-        → IfOk result (λ all. HasWritten (writings_in (database_of (state S.Store tx.old.conn.now).now.trees due.row) (additions writes.now)) name due.row
-        (state S.Store tx.old.conn.now).now (state S.Store tx.new.conn.now).now × IsIndexed (state S.Store tx.new.conn.now).now.trees × AreAllIndexes (map declared all.items) db.now (state S.Store tx.new.conn.now).now.trees) }
-    ensures err { (name : List ℕ) → IfErr result (IsUnwritten (IsSoundIndexed S.Store (λ d. AreDue (additions writes.now) name db.now sequence d.trees) tx.old.conn.now tx.new.conn.now)) }
-    ensures kept { (name : List ℕ) → HasCleanDisk (state S.Store tx.new.conn.now) → IsIndexedStore (state S.Store tx.old.conn.now).now
-        → AreDue (additions writes.now) name db.now sequence (state S.Store tx.old.conn.now).now.trees
-        → KeepsCommit (state S.Store tx.old.conn.now) (state S.Store tx.new.conn.now) }
-    ensures inside { (name : List ℕ) → HasCleanDisk (state S.Store tx.new.conn.now) → IsIndexedStore (state S.Store tx.old.conn.now).now
-        → AreDue (additions writes.now) name db.now sequence (state S.Store tx.old.conn.now).now.trees
-        → (state S.Store tx.old.conn.now).in_transaction ≡ true → OnOk result ((state S.Store tx.new.conn.now).in_transaction ≡ true) }
-    ensures asks { AsksInside S.Store tx.old.conn.now tx.new.conn.now }
-{
-    let indexes = list_declarations(alloc, tx, db)?;
-    write_bulk(alloc, tx, db, sequence, indexes, writes)
-}
-
 /// Does the writes of a database in turn, each under the next sequence, and has its indexes follow, which
 /// these are where they are known. It returns those that it has then.
 fn write_all<S: Alter>(
@@ -529,8 +503,6 @@ fn write_all<S: Alter>(
         → (state S.Store tx.old.conn.now).in_transaction ≡ true → OnOk result ((state S.Store tx.new.conn.now).in_transaction ≡ true) }
     ensures asks { AsksInside S.Store tx.old.conn.now tx.new.conn.now }
 {
-    match indexes {
-        Some(known) => write_bulk(alloc, tx, db, sequence, known, writes),
-        None => write_listed(alloc, tx, db, sequence, writes),
-    }
+    let known = list_unknown(alloc, tx, db, indexes)?;
+    write_bulk(alloc, tx, db, sequence, known, writes)
 }

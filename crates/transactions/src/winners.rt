@@ -1,6 +1,6 @@
 //! The winner of a document, and the history that a write which follows it asks for.
 
-ghost use Rattle.std.specs.Prelude.{◌≡◌, ◌+◌, None, Some, IfOk, IfSome, is_some, length, option_and_then, slice_get, true};
+ghost use Rattle.std.specs.Prelude.{◌≡◌, ◌↔◌, ◌+◌, None, Some, IfOk, IfSome, is_some, length, option_and_then, slice_get, true};
 ghost use Rattle.std.specs.FinMap as map;
 ghost use Rattle.std.specs.List.{AllByRecursion};
 ghost use Rattle.store.specs.Plain.{with_addition};
@@ -33,6 +33,24 @@ pub fn first_winner(alloc: Global, rows: &[Row]) -> Result<Option<MarkedRev>, St
         Err(RowFault::Memory) => Err(StoreFault::Memory),
         Err(RowFault::Damaged) => Err(StoreFault::Damaged),
     }
+}
+
+/// Tells whether these are the same winner, with the same mark, or neither is there.
+pub(crate) fn is_same_winner(one: &Option<MarkedRev>, other: &Option<MarkedRev>) -> bool
+    ensures { result ≡ true ↔ one.now ≡ other.now }
+{
+    match (one, other) {
+        (Some(one), Some(other)) => is_same_marked(one, other),
+        (None, None) => true,
+        _ => false,
+    }
+}
+
+/// Tells whether these are the same revision, with the same mark.
+fn is_same_marked(one: &MarkedRev, other: &MarkedRev) -> bool
+    ensures { result ≡ true ↔ one.now ≡ other.now }
+{
+    one.rev.cmp(&other.rev).is_eq() && one.deleted == other.deleted
 }
 
 /// Tells whether a write is one revision that follows this one and is not deleted.

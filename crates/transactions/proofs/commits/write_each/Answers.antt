@@ -1,9 +1,12 @@
-use Rattle.transactions.proofs.Lemmas.{AreDue, AreStored, CommitFault, Err, HasBest, HasCleanDisk, HasWritten, IfErr, IsHeldOpen, IsUnwritten, Result, addition_of, additions, arith, asks_itself, asks_then, best_in_turn, database_of, further_followed, history_in, history_with, keeps_itself, keeps_then, map, may_in_turn, none_held, none_written, refl, revs_tree, rules, state, stored_further, subst, sym, take_all, to_z-of_z, unwritten_of, w64, writings_in, ◌∙◌, ◌≡◌}
+use Rattle.transactions.proofs.Lemmas.{AreDue, AreStored, CommitFault, Err, HasBest, Database, HasCleanDisk, HasWritten, IfErr, IsHeldOpen, IsUnwritten, Result, addition_of, additions, arith, asks_itself, asks_then, best_in_turn, database_of, further_followed, history_in, history_with, keeps_itself, keeps_then, map, may_in_turn, none_held, none_written, refl, revs_tree, rules, state, stored_further, subst, sym, take_all, to_z-of_z, unwritten_of, w64, writings_in, ⊤, ◌∙◌, ◌≡◌}
 use Rattle.std.proofs.Common.{of_z, to_z}
 use Rattle.std.proofs.Common.{Global, Vec}
+use Rattle.index.proofs.Going.{if_err, on_ok}
+use Rattle.index.specs.Indexed.{IsIndexed}
 use Rattle.index.specs.Shown.{declared}
 use Rattle.index.specs.declared.declaration.Declaration.{Declaration}
-use Rattle.transactions.specs.Indexing.{AreAllIndexes, IsSoundIndexed, MayBeWritten}
+use Rattle.transactions.proofs.IndexSteps.{if_both}
+use Rattle.transactions.specs.Indexing.{AreAllIndexes, IsLeft, IsSoundIndexed, MayBeWritten}
 use Rattle.transactions.proofs.commits.write_each.Goals as goal
 
 pub loop-i-init : goal.loop-i-init
@@ -23,7 +26,7 @@ loop-i-preserved g c =
     let old = state g.S.Store c.args.tx.now.conn.now in
     let mid = state g.S.Store c.loop-i.tx.conn.now in
     let new = state g.S.Store c.write_indexed.new.tx.conn.now in
-    let e = c.in_ok-write_indexed.ensures in
+    let e = c.in_ok-known.ensures in
     record {
       same = e.same_reference ∙ inv.same;
       asks = asks_then old mid new inv.asks e.asks;
@@ -50,16 +53,16 @@ loop-i-preserved g c =
           );
     }
 
-pub returns-in_err-write_indexed-clause-err : goal.returns-in_err-write_indexed-clause-err
-returns-in_err-write_indexed-clause-err g c name =
+pub returns-in_err-known-clause-err : goal.returns-in_err-known-clause-err
+returns-in_err-known-clause-err g c name =
     let inv = c.loop-i.invariant in
     let first = c.args.tx.now.conn.now in
     let last = c.loop-i.tx.conn.now in
     let now = c.write_indexed.new.tx.conn.now in
     let old = state g.S.Store first in
     let mid = state g.S.Store last in
-    let e = c.in_err-write_indexed.ensures in
-    let fault = c.in_err-write_indexed.field-0.0 in
+    let e = c.in_err-known.ensures in
+    let fault = c.in_err-known.field-0.0 in
     let a = addition_of c.index-writes-i.result in
     let db = c.args.db.now in
     let Given : Type 0 = IsSoundIndexed g.S.Store (λ d. AreAllIndexes (map declared c.args.indexes.items) db d.trees × AreDue (additions c.args.writes.now) name db c.args.sequence d.trees) first now in
@@ -90,13 +93,13 @@ returns-in_err-write_indexed-clause-err g c name =
       ),
     )) e.err)
 
-pub returns-in_err-write_indexed-clause-kept : goal.returns-in_err-write_indexed-clause-kept
-returns-in_err-write_indexed-clause-kept g c name clean was every due =
+pub returns-in_err-known-clause-kept : goal.returns-in_err-known-clause-kept
+returns-in_err-known-clause-kept g c name clean was every due =
     let inv = c.loop-i.invariant in
     let old = state g.S.Store c.args.tx.now.conn.now in
     let mid = state g.S.Store c.loop-i.tx.conn.now in
     let new = state g.S.Store c.write_indexed.new.tx.conn.now in
-    let e = c.in_err-write_indexed.ensures in
+    let e = c.in_err-known.ensures in
     let mid-clean : HasCleanDisk mid = omega (arith, e.asks.survives.clean, clean) in
     let before = inv.so_far name mid-clean was every due in
     keeps_then old mid new before.3 (e.kept clean (record { store = before.0.store; indexed = before.1 }) before.4 (may_in_turn c.args.writes.now c.loop-i.i c.index-writes-i.result name c.args.db.now c.args.sequence _ old.now mid.now c.loop-i-test.true c.index-writes-i.is c.requires (to_z-of_z {w = w64} {z = c.integer_of-next.result} (record { sfits = c.integer_of-next.type_inv }) ∙ c.integer_of-next.ensures) due before.0))
@@ -104,15 +107,61 @@ returns-in_err-write_indexed-clause-kept g c name clean was every due =
 pub returns-clause-ok : goal.returns-clause-ok
 returns-clause-ok g c name clean was every due =
     let old = state g.S.Store c.args.tx.now.conn.now in
-    let new = state g.S.Store c.loop-i.tx.conn.now in
-    let far = c.loop-i.invariant.so_far name clean was every due in (
-      subst (λ ws. HasWritten (writings_in (database_of old.now.trees due.row) (additions ws)) name due.row old.now new.now) (take_all c.loop-i.i c.args.writes.now (omega (arith, c.loop-i-test.false))) far.0,
-      far.1,
-      far.2,
-    )
+    let mid = state g.S.Store c.loop-i.tx.conn.now in
+    let new = state g.S.Store c.list_unknown.new.tx.conn.now in
+    let db = c.args.db.now in
+    let ws = writings_in (database_of old.now.trees due.row) (additions c.args.writes.now) in
+    let list = c.list_unknown.ensures in
+    let mid-clean : HasCleanDisk mid = omega (arith, list.asks.survives.clean, clean) in
+    let far = c.loop-i.invariant.so_far name mid-clean was every due in
+    let done : HasWritten ws name due.row old.now mid.now =
+    subst (λ ws. HasWritten (writings_in (database_of old.now.trees due.row) (additions ws)) name due.row old.now mid.now) (take_all c.loop-i.i c.args.writes.now (omega (arith, c.loop-i-test.false))) far.0 in
+    if_both c.list_unknown.result
+    (λ (all : Vec Declaration Global) (left : IsLeft mid new) (these : AreAllIndexes (map declared all.items) db mid.now.trees).
+    subst (λ (d : Database). HasWritten ws name due.row old.now d × IsIndexed d.trees × AreAllIndexes (map declared all.items) db d.trees) (sym left.now_is) (done, far.1, these))
+    (list.stays clean far.0.store.schema_is) (list.ok clean (record { store = far.0.store; indexed = far.1 }) far.2)
 
 pub returns-clause-kept : goal.returns-clause-kept
-returns-clause-kept g c name clean was every due = (c.loop-i.invariant.so_far name clean was every due).3
+returns-clause-kept g c name clean was every due =
+    let old = state g.S.Store c.args.tx.now.conn.now in
+    let mid = state g.S.Store c.loop-i.tx.conn.now in
+    let new = state g.S.Store c.list_unknown.new.tx.conn.now in
+    let list = c.list_unknown.ensures in
+    let mid-clean : HasCleanDisk mid = omega (arith, list.asks.survives.clean, clean) in
+    let far = c.loop-i.invariant.so_far name mid-clean was every due in
+    keeps_then old mid new far.3 ((list.looks far.0.store.schema_is).kept clean)
 
 pub returns-clause-inside : goal.returns-clause-inside
-returns-clause-inside g c name clean was every due within = (c.loop-i.invariant.so_far name clean was every due).6 within
+returns-clause-inside g c name clean was every due within =
+    let mid = state g.S.Store c.loop-i.tx.conn.now in
+    let new = state g.S.Store c.list_unknown.new.tx.conn.now in
+    let list = c.list_unknown.ensures in
+    let mid-clean : HasCleanDisk mid = omega (arith, list.asks.survives.clean, clean) in
+    let far = c.loop-i.invariant.so_far name mid-clean was every due in
+    on_ok c.list_unknown.result (λ (left : IsLeft mid new). left.mode ∙ far.6 within) (list.stays clean far.0.store.schema_is)
+
+pub returns-clause-err : goal.returns-clause-err
+returns-clause-err g c name =
+    let first = c.args.tx.now.conn.now in
+    let last = c.loop-i.tx.conn.now in
+    let now = c.list_unknown.new.tx.conn.now in
+    let inv = c.loop-i.invariant in
+    let mid = state g.S.Store last in
+    let list = c.list_unknown.ensures in
+    let Told : Type 0 = IsSoundIndexed g.S.Store (λ _. ⊤) last now in
+    let Given : Type 0 = IsSoundIndexed g.S.Store (λ d. AreAllIndexes (map declared c.args.indexes.items) c.args.db.now d.trees × AreDue (additions c.args.writes.now) name c.args.db.now c.args.sequence d.trees) first now in
+    if_err {P = IsUnwritten Told} {Q = IsUnwritten Given} c.list_unknown.result
+    (λ (fault : CommitFault) h.
+    unwritten_of Told Given fault
+    (λ it. (
+      it.0,
+      λ up.
+          let mid-clean : HasCleanDisk mid = omega (arith, list.asks.survives.clean, it.0) in
+          let had = it.1 (inv.asks.was_open mid-clean up) in
+          let far = inv.so_far name mid-clean had.0 had.1.0 had.1.1 in
+          (record { store = far.0.store; indexed = far.1 }, tt),
+    )) h) list.err
+
+pub returns-clause-asks : goal.returns-clause-asks
+returns-clause-asks g c =
+    asks_then (state g.S.Store c.args.tx.now.conn.now) (state g.S.Store c.loop-i.tx.conn.now) (state g.S.Store c.list_unknown.new.tx.conn.now) c.loop-i.invariant.asks c.list_unknown.ensures.asks
