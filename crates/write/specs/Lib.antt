@@ -4,6 +4,7 @@ pub mod LocalWrites
 pub mod AncestryRead
 pub mod Terms
 pub mod TermsRead
+pub mod RequestRead
 pub mod Admission
 pub mod Denials
 pub mod Bulk

@@ -5,12 +5,11 @@ ghost use Rattle.couch_json.specs.View.{view};
 ghost use Rattle.tree.specs.History.{HistoryContent, winner};
 ghost use Rattle.store.specs.Writing.{addition_of, written_in};
 ghost use Rattle.write.specs.Admission.{appended_edit, base, design_refusal, edit_after, edit_of, edit_outcome, extended_leaf, is_known_if_any, named_revision, next_edit, revision_after, rule_refusal, unless_denied};
-ghost use Rattle.write.specs.TermsRead.{terms_of};
 
-use crate::denial::{find_design_refusal, find_rule_refusal};
+use crate::denial::find_rule_refusal;
 use crate::document::{Sent, read_sent};
 use crate::fault::WriteFault;
-use crate::terms::Terms;
+use crate::request_terms::RequestTerms;
 use couch_json::{Got, Json, NoMemory};
 use std::alloc::Global;
 use store::Write;
@@ -19,16 +18,17 @@ use tree::{Body, DocId, History, Rev, RevFault, next_rev};
 /// Judges an edit of a document with this history: its write, or why it is refused.
 pub(crate) fn admit_edit(
     alloc: Global,
-    terms: &Terms,
+    terms: &mut RequestTerms,
     history: &History,
     id: &DocId,
     query: Option<Rev>,
     document: Json,
 ) -> Result<Write, WriteFault>
-    ensures ok { IfOk result (λ write. edit_outcome (terms_of terms.now) id.now history.now query (view document) ≡ Ok (written_in history.now (addition_of write))) }
+    ensures ok { IfOk result (λ write. edit_outcome terms.old id.now history.now query (view document) ≡ Ok (written_in history.now (addition_of write))) }
     ensures headed { IfOk result (λ write. 0 < length write.path.items) }
-    ensures fault { IfErr result (λ fault. fault ≢ WriteFault.Memory → edit_outcome (terms_of terms.now) id.now history.now query (view document) ≡ Err fault) }
+    ensures fault { IfErr result (λ fault. fault ≢ WriteFault.Memory → edit_outcome terms.old id.now history.now query (view document) ≡ Err fault) }
     ensures others { IfErr result (λ fault. (fault ≢ WriteFault.BadHistory) × ((cause : _) → fault ≢ WriteFault.Store cause)) }
+    ensures terms { terms.new ≡ terms.old }
 {
     let sent = read_allowed(alloc, terms, id, query, document)?;
     admit_sent(alloc, terms, history, id, sent)
@@ -37,20 +37,20 @@ pub(crate) fn admit_edit(
 /// Reads what an edit says, where it is a good document that the caller may write at all.
 pub(crate) fn read_allowed(
     alloc: Global,
-    terms: &Terms,
+    terms: &RequestTerms,
     id: &DocId,
     query: Option<Rev>,
     document: Json,
 ) -> Result<Sent, WriteFault>
     ensures ok { IfOk result (λ sent. edit_of id.now query (view document) ≡ Some sent) }
-    ensures allowed { IfOk result (λ sent. design_refusal (terms_of terms.now) id.now ≡ None) }
-    ensures fault { IfErr result (λ fault. fault ≢ WriteFault.Memory → (h : HistoryContent) → edit_outcome (terms_of terms.now) id.now h query (view document) ≡ Err fault) }
+    ensures allowed { IfOk result (λ sent. design_refusal terms.now id.now ≡ None) }
+    ensures fault { IfErr result (λ fault. fault ≢ WriteFault.Memory → (h : HistoryContent) → edit_outcome terms.now id.now h query (view document) ≡ Err fault) }
     ensures others { IfErr result (λ fault. (fault ≢ WriteFault.BadHistory) × ((cause : _) → fault ≢ WriteFault.Store cause)) }
 {
     let Some(sent) = read_edit(alloc, id, query, document)? else {
         return Err(WriteFault::BadDocument);
     };
-    if let Some(rule) = find_design_refusal(terms, id) {
+    if let Some(rule) = terms.find_design_refusal(id) {
         return Err(WriteFault::Denied(rule));
     }
     Ok(sent)
@@ -59,15 +59,16 @@ pub(crate) fn read_allowed(
 /// Judges what an edit says of a document with this history.
 pub(crate) fn admit_sent(
     alloc: Global,
-    terms: &Terms,
+    terms: &mut RequestTerms,
     history: &History,
     id: &DocId,
     sent: Sent,
 ) -> Result<Write, WriteFault>
-    ensures ok { IfOk result (λ write. edit_after (terms_of terms.now) id.now history.now sent (base history.now sent.rev) ≡ Ok (written_in history.now (addition_of write))) }
+    ensures ok { IfOk result (λ write. edit_after terms.old id.now history.now sent (base history.now sent.rev) ≡ Ok (written_in history.now (addition_of write))) }
     ensures headed { IfOk result (λ write. 0 < length write.path.items) }
-    ensures fault { IfErr result (λ fault. fault ≢ WriteFault.Memory → edit_after (terms_of terms.now) id.now history.now sent (base history.now sent.rev) ≡ Err fault) }
+    ensures fault { IfErr result (λ fault. fault ≢ WriteFault.Memory → edit_after terms.old id.now history.now sent (base history.now sent.rev) ≡ Err fault) }
     ensures others { IfErr result (λ fault. (fault ≢ WriteFault.BadHistory) × ((cause : _) → fault ≢ WriteFault.Store cause)) }
+    ensures terms { terms.new ≡ terms.old }
 {
     let Some(parent) = find_base(history, sent.rev) else {
         return Err(WriteFault::Conflict);
@@ -135,16 +136,17 @@ fn find_extended_leaf(history: &History) -> Option<Option<Rev>>
 /// Writes what an edit says as the next revision after this one.
 pub(crate) fn write_next(
     alloc: Global,
-    terms: &Terms,
+    terms: &mut RequestTerms,
     history: &History,
     id: &DocId,
     sent: Sent,
     parent: Option<Rev>,
 ) -> Result<Write, WriteFault>
-    ensures ok { IfOk result (λ write. next_edit (terms_of terms.now) id.now history.now sent parent ≡ Ok (written_in history.now (addition_of write))) }
+    ensures ok { IfOk result (λ write. next_edit terms.old id.now history.now sent parent ≡ Ok (written_in history.now (addition_of write))) }
     ensures headed { IfOk result (λ write. 0 < length write.path.items) }
-    ensures fault { IfErr result (λ fault. fault ≢ WriteFault.Memory → next_edit (terms_of terms.now) id.now history.now sent parent ≡ Err fault) }
+    ensures fault { IfErr result (λ fault. fault ≢ WriteFault.Memory → next_edit terms.old id.now history.now sent parent ≡ Err fault) }
     ensures others { IfErr result (λ fault. (fault ≢ WriteFault.BadHistory) × ((cause : _) → fault ≢ WriteFault.Store cause)) }
+    ensures terms { terms.new ≡ terms.old }
 {
     let next = make_revision(alloc, &sent, parent)?;
     if knows(history, next) {
@@ -158,7 +160,7 @@ pub(crate) fn write_next(
 /// refuses it. Of the history it looks at what is held of the other revision.
 pub(crate) fn allow_revision(
     alloc: Global,
-    terms: &Terms,
+    terms: &mut RequestTerms,
     history: &History,
     id: &DocId,
     sent: &Sent,
@@ -166,10 +168,11 @@ pub(crate) fn allow_revision(
     next: Option<Rev>,
 ) -> Result<Rev, WriteFault>
     ensures ok { IfOk result (λ rev. next ≡ Some rev) }
-    ensures unruled { IfOk result (λ rev. rule_refusal (terms_of terms.now) id.now history.now sent.now parent ≡ None) }
-    ensures fault { IfErr result (λ fault. fault ≢ WriteFault.Memory → (h : HistoryContent) → rule_refusal (terms_of terms.now) id.now h sent.now parent ≡ rule_refusal (terms_of terms.now) id.now history.now sent.now parent
-        → unless_denied (rule_refusal (terms_of terms.now) id.now h sent.now parent) (appended_edit id.now h sent.now parent next) ≡ Err fault) }
+    ensures unruled { IfOk result (λ rev. rule_refusal terms.old id.now history.now sent.now parent ≡ None) }
+    ensures fault { IfErr result (λ fault. fault ≢ WriteFault.Memory → (h : HistoryContent) → rule_refusal terms.old id.now h sent.now parent ≡ rule_refusal terms.old id.now history.now sent.now parent
+        → unless_denied (rule_refusal terms.old id.now h sent.now parent) (appended_edit id.now h sent.now parent next) ≡ Err fault) }
     ensures others { IfErr result (λ fault. (fault ≢ WriteFault.BadHistory) × ((cause : _) → fault ≢ WriteFault.Store cause)) }
+    ensures terms { terms.new ≡ terms.old }
 {
     if let Some(rule) = find_rule_refusal(alloc, terms, history, id, sent, parent)? {
         return Err(WriteFault::Denied(rule));

@@ -16,7 +16,6 @@ ghost use Rattle.write.specs.Planning.{AreWrites, Plans};
 ghost use Rattle.write.specs.Repeats.{IsKept};
 ghost use Rattle.write.specs.Refusing.{IsDecided, IsOfStoreOrMemory, Refuses};
 ghost use Rattle.write.specs.Terms.{terms_in};
-ghost use Rattle.write.specs.TermsRead.{terms_of};
 
 use crate::admission::admit_edit;
 use crate::draft::{Draft, Request, read_draft};
@@ -26,7 +25,7 @@ use crate::planned::{Changes, DocumentResult, Outcome, Planned};
 use crate::planning::{tell_outcome, tell_result};
 use crate::repeats::{mark_repeats, take_mark};
 use crate::replicating::place;
-use crate::terms::{Terms, read_terms};
+use crate::request_terms::RequestTerms;
 use auth::Caller;
 use couch_json::{Got, Json, NoMemory};
 use std::alloc::Global;
@@ -61,8 +60,8 @@ pub fn bulk<S: Store>(
     ensures passed { IfErr result (Refuses S.Store store.old store.new (map.get (S.contents store.old) db.now ≡ None) ⊥) }
     ensures reads { OnlyReads S.Store store.old store.new }
 {
-    let terms = read_terms(alloc, store, db, caller)?;
-    let (writes, results) = judge_all(alloc, store, db, terms, documents, new_edits)?;
+    let mut terms = RequestTerms::read(alloc, store, db, caller)?;
+    let (writes, results) = judge_all(alloc, store, db, &mut terms, documents, new_edits)?;
     Ok(Planned {
         database: db.copy(alloc)?,
         changes: Changes::Writes(writes),
@@ -76,14 +75,14 @@ fn judge_all<S: Store>(
     alloc: Global,
     store: &mut S,
     db: &DbName,
-    terms: Terms,
+    terms: &mut RequestTerms,
     documents: Vec<Json>,
     new_edits: bool,
 ) -> Result<(Vec<Write>, Vec<DocumentResult>), WriteFault>
     ensures writes { S.is_honest store.new → IfOk result (λ all. (d : Database) → map.get (S.contents store.old) db.now ≡ Some d
-        → writings_in d (additions all.0.items) ≡ writes_in (outcomes (terms_of terms.entry) new_edits (history_at d) (list_map view documents.items))) }
+        → writings_in d (additions all.0.items) ≡ writes_in (outcomes terms.old new_edits (history_at d) (list_map view documents.items))) }
     ensures results { S.is_honest store.new → IfOk result (λ all. (d : Database) → map.get (S.contents store.old) db.now ≡ Some d
-        → list_map told_of all.1.items ≡ all_told (list_map view documents.items) (outcomes (terms_of terms.entry) new_edits (history_at d) (list_map view documents.items))) }
+        → list_map told_of all.1.items ≡ all_told (list_map view documents.items) (outcomes terms.old new_edits (history_at d) (list_map view documents.items))) }
     ensures own { IfOk result (λ all. All (λ r. IsOwnOutcome r.outcome) all.1.items) }
     ensures only { IfErr result IsOfStoreOrMemory }
     ensures passed { IfErr result (Refuses S.Store store.old store.new (map.get (S.contents store.old) db.now ≡ None) ⊥) }
@@ -94,10 +93,10 @@ fn judge_all<S: Store>(
     let mut writes = Vec::with_capacity(alloc, documents.len())?;
     let mut results = Vec::with_capacity(alloc, documents.len())?;
     for document in documents {
-        let draft = read_draft(alloc, &terms, new_edits, document)?;
+        let draft = read_draft(alloc, terms, new_edits, document)?;
         load(alloc, store, db, &draft.id, &mut histories)?;
         let again = take_mark(&mut repeats);
-        results.push(judge_one(alloc, &terms, &mut histories, &mut writes, again, draft)?)?;
+        results.push(judge_one(alloc, terms, &mut histories, &mut writes, again, draft)?)?;
     }
     Ok((writes, results))
 }
@@ -106,20 +105,21 @@ fn judge_all<S: Store>(
 /// appended. Where its id comes again its history takes in the write, else it is dropped.
 fn judge_one(
     alloc: Global,
-    terms: &Terms,
+    terms: &mut RequestTerms,
     histories: &mut BTreeMap<DocId, PackedHistory>,
     writes: &mut Vec<Write>,
     again: bool,
     draft: Draft,
 ) -> Got<DocumentResult>
     requires { IsHeld histories.old draft.id }
-    ensures told { IfOk result (λ r. (stored : Histories) → told_as draft.label (outcome_asked (terms_of terms.now) (seen_in stored histories.old) draft.request draft.id) ≡ told_of r) }
+    ensures told { IfOk result (λ r. (stored : Histories) → told_as draft.label (outcome_asked terms.old (seen_in stored histories.old) draft.request draft.id) ≡ told_of r) }
     ensures own { IfOk result (λ r. IsOwnOutcome r.outcome) }
     ensures histories { OnOk result ((stored : Histories) (id : _) → IsKept again draft.id id → seen_in stored histories.new id
-        ≡ after (seen_in stored histories.old) (outcome_asked (terms_of terms.now) (seen_in stored histories.old) draft.request draft.id) id) }
+        ≡ after (seen_in stored histories.old) (outcome_asked terms.old (seen_in stored histories.old) draft.request draft.id) id) }
     ensures writes { OnOk result ((stored : Histories) (d : Database) → AgreeAt draft.id (seen_in stored histories.old) (history_at (with_all d (writings_in d (additions writes.old.items))))
         → writings_in d (additions writes.new.items)
-        ≡ writings_in d (additions writes.old.items) ++ put_before (outcome_asked (terms_of terms.now) (seen_in stored histories.old) draft.request draft.id) []) }
+        ≡ writings_in d (additions writes.old.items) ++ put_before (outcome_asked terms.old (seen_in stored histories.old) draft.request draft.id) []) }
+    ensures terms { terms.new ≡ terms.old }
 {
     let Draft { label, id, request } = draft;
     match settle(alloc, terms, histories, again, id, request) {
@@ -167,21 +167,22 @@ fn append(writes: &mut Vec<Write>, write: Option<Write>) -> Got<()>
 /// dropped.
 fn settle(
     alloc: Global,
-    terms: &Terms,
+    terms: &mut RequestTerms,
     histories: &mut BTreeMap<DocId, PackedHistory>,
     again: bool,
     id: Option<DocId>,
     request: Request,
 ) -> Result<Option<Write>, WriteFault>
     requires { IsHeld histories.old id }
-    ensures ok { IfOk result (λ write. (stored : Histories) → outcome_asked (terms_of terms.now) (seen_in stored histories.old) request id
+    ensures ok { IfOk result (λ write. (stored : Histories) → outcome_asked terms.old (seen_in stored histories.old) request id
         ≡ Ok (option_map (brought (seen_in stored histories.old)) write)) }
     ensures headed { IfOk result (λ write. IfSome write (λ w. 0 < length w.path.items)) }
     ensures histories { IfOk result (λ write. (stored : Histories) (own : _) → IsKept again id own → seen_in stored histories.new own
         ≡ after (seen_in stored histories.old) (Ok (option_map (brought (seen_in stored histories.old)) write)) own) }
-    ensures fault { IfErr result (λ fault. fault ≢ WriteFault.Memory → (stored : Histories) → outcome_asked (terms_of terms.now) (seen_in stored histories.old) request id ≡ Err fault) }
+    ensures fault { IfErr result (λ fault. fault ≢ WriteFault.Memory → (stored : Histories) → outcome_asked terms.old (seen_in stored histories.old) request id ≡ Err fault) }
     ensures same { IfErr result (λ fault. fault ≢ WriteFault.Memory → (stored : Histories) (own : _) → IsKept again id own → seen_in stored histories.new own ≡ seen_in stored histories.old own) }
     ensures others { IfErr result (λ fault. (cause : _) → fault ≢ WriteFault.Store cause) }
+    ensures terms { terms.new ≡ terms.old }
 {
     let Some(id) = id else {
         return Err(WriteFault::BadDocument);
@@ -197,19 +198,20 @@ fn settle(
 /// Judges a document by this history, which takes in its write and is put in.
 fn judge_and_keep(
     alloc: Global,
-    terms: &Terms,
+    terms: &mut RequestTerms,
     histories: &mut BTreeMap<DocId, PackedHistory>,
     id: DocId,
     history: History,
     request: Request,
 ) -> Result<Option<Write>, WriteFault>
-    ensures ok { IfOk result (λ write. request_outcome (terms_of terms.now) id history request ≡ Ok (option_map (λ w. written_in history (addition_of w)) write)) }
+    ensures ok { IfOk result (λ write. request_outcome terms.old id history request ≡ Ok (option_map (λ w. written_in history (addition_of w)) write)) }
     ensures headed { IfOk result (λ write. IfSome write (λ w. 0 < length w.path.items)) }
     ensures kept { IfOk result (λ write. (stored : Histories) → seen_in stored histories.new
         ≡ with_history (seen_in stored histories.old) id (history_with history (option_map (λ w. written_in history (addition_of w)) write))) }
-    ensures fault { IfErr result (λ fault. fault ≢ WriteFault.Memory → request_outcome (terms_of terms.now) id history request ≡ Err fault) }
+    ensures fault { IfErr result (λ fault. fault ≢ WriteFault.Memory → request_outcome terms.old id history request ≡ Err fault) }
     ensures same { IfErr result (λ fault. fault ≢ WriteFault.Memory → (stored : Histories) → seen_in stored histories.new ≡ with_history (seen_in stored histories.old) id history) }
     ensures others { IfErr result (λ fault. (cause : _) → fault ≢ WriteFault.Store cause) }
+    ensures terms { terms.new ≡ terms.old }
 {
     let mut history = history;
     let outcome = judge_in(alloc, terms, &mut history, &id, request);
@@ -220,17 +222,18 @@ fn judge_and_keep(
 /// Judges a document by this history, which takes in its write.
 fn judge_in(
     alloc: Global,
-    terms: &Terms,
+    terms: &mut RequestTerms,
     history: &mut History,
     id: &DocId,
     request: Request,
 ) -> Result<Option<Write>, WriteFault>
-    ensures ok { IfOk result (λ write. request_outcome (terms_of terms.now) id.now history.old request ≡ Ok (option_map (λ w. written_in history.old (addition_of w)) write)) }
+    ensures ok { IfOk result (λ write. request_outcome terms.old id.now history.old request ≡ Ok (option_map (λ w. written_in history.old (addition_of w)) write)) }
     ensures headed { IfOk result (λ write. IfSome write (λ w. 0 < length w.path.items)) }
     ensures taken_in { IfOk result (λ write. history.new ≡ history_with history.old (option_map (λ w. written_in history.old (addition_of w)) write)) }
-    ensures fault { IfErr result (λ fault. fault ≢ WriteFault.Memory → request_outcome (terms_of terms.now) id.now history.old request ≡ Err fault) }
+    ensures fault { IfErr result (λ fault. fault ≢ WriteFault.Memory → request_outcome terms.old id.now history.old request ≡ Err fault) }
     ensures err { OnErr result (history.new ≡ history.old) }
     ensures others { IfErr result (λ fault. (cause : _) → fault ≢ WriteFault.Store cause) }
+    ensures terms { terms.new ≡ terms.old }
 {
     let write = judge(alloc, terms, history, id, request)?;
     if let Some(write) = &write {
@@ -242,15 +245,16 @@ fn judge_in(
 /// Judges what a document asks for by this history.
 fn judge(
     alloc: Global,
-    terms: &Terms,
+    terms: &mut RequestTerms,
     history: &History,
     id: &DocId,
     request: Request,
 ) -> Result<Option<Write>, WriteFault>
-    ensures ok { IfOk result (λ write. request_outcome (terms_of terms.now) id.now history.now request ≡ Ok (option_map (λ w. written_in history.now (addition_of w)) write)) }
+    ensures ok { IfOk result (λ write. request_outcome terms.old id.now history.now request ≡ Ok (option_map (λ w. written_in history.now (addition_of w)) write)) }
     ensures headed { IfOk result (λ write. IfSome write (λ w. 0 < length w.path.items)) }
-    ensures fault { IfErr result (λ fault. fault ≢ WriteFault.Memory → request_outcome (terms_of terms.now) id.now history.now request ≡ Err fault) }
+    ensures fault { IfErr result (λ fault. fault ≢ WriteFault.Memory → request_outcome terms.old id.now history.now request ≡ Err fault) }
     ensures others { IfErr result (λ fault. (cause : _) → fault ≢ WriteFault.Store cause) }
+    ensures terms { terms.new ≡ terms.old }
 {
     match request {
         Request::Edit(document) => {

@@ -4,27 +4,18 @@ ghost use Rattle.std.specs.Prelude.{◌≡◌, IfOk, None, if◌then◌else◌, 
 ghost use Rattle.couch_json.specs.View.{view};
 ghost use Rattle.tree.specs.History.{held_of};
 ghost use Rattle.policy.specs.Argument.{old_document};
-ghost use Rattle.policy.specs.UpdateRules.{update_verdict};
 ghost use Rattle.policy.specs.Verdict.{verdict};
 ghost use Rattle.policy.specs.declared.action.Action.TheVariants.{WriteDesign};
 ghost use Rattle.tree.specs.DocumentId.{is_design_id};
-ghost use Rattle.write.specs.Admission.{ancestors, design_refusal, held_document, nearest_held, rule_refusal};
-ghost use Rattle.write.specs.TermsRead.{terms_of};
+ghost use Rattle.write.specs.Admission.{ancestors, held_document, nearest_held, rule_refusal};
 
 use crate::document::Sent;
-use crate::terms::Terms;
+use crate::request_terms::RequestTerms;
 use auth::Caller;
 use couch_json::{Got, Json};
-use policy::{Action, Rule, Security, argument, refusal, show_new};
+use policy::{Action, Rule, Security, refusal, show_new};
 use std::alloc::Global;
 use tree::{DocId, History, Rev, show};
-
-/// Finds the rule by which the caller may not write this document, whatever it says.
-pub(crate) fn find_design_refusal(terms: &Terms, id: &DocId) -> Option<Rule>
-    ensures { result ≡ design_refusal (terms_of terms.now) id.now }
-{
-    find_design_rule(terms.caller, &terms.security, id)
-}
 
 /// Finds the rule by which this caller may not write this document under a security object, whatever it
 /// says: who is no admin of the database writes no design document.
@@ -42,35 +33,24 @@ pub(crate) fn find_design_rule(caller: &Caller, security: &Security, id: &DocId)
 /// document. Where there are no rules nothing is copied.
 pub(crate) fn find_rule_refusal(
     alloc: Global,
-    terms: &Terms,
+    terms: &mut RequestTerms,
     history: &History,
     id: &DocId,
     sent: &Sent,
     rev: Option<Rev>,
 ) -> Got<Option<Rule>>
-    ensures { IfOk result (λ rule. rule ≡ rule_refusal (terms_of terms.now) id.now history.now sent.now rev) }
+    ensures answer { IfOk result (λ rule. rule ≡ rule_refusal terms.old id.now history.now sent.now rev) }
+    ensures terms { terms.new ≡ terms.old }
 {
     if id.is_design() {
         return Ok(None);
     }
-    if terms.rules.is_empty() {
+    if terms.has_no_rules() {
         return Ok(None);
     }
     let new = show_new(alloc, id, sent.deleted, sent.body.json())?;
     let old = show_old(alloc, history, id, rev)?;
-    let (caller, name) = (terms.caller, terms.name.as_str());
-    let argument = argument(alloc, new, old, caller, name, &terms.security)?;
-    judge_argument(alloc, terms, &argument)
-}
-
-/// Finds the first update rule that does not hold of the argument.
-fn judge_argument(alloc: Global, terms: &Terms, argument: &Json) -> Got<Option<Rule>>
-    ensures { IfOk result (λ rule. rule ≡ update_verdict (terms_of terms.now).rules (view argument.now)) }
-{
-    match terms.rules.refusal(argument) {
-        Some(id) => Ok(Some(Rule::Update(id.copy(alloc)?))),
-        None => Ok(None),
-    }
+    terms.find_broken_rule(new, old)
 }
 
 /// Shows a revision of the document as it is, where there is one and its body is held.

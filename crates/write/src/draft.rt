@@ -5,13 +5,12 @@ ghost use Rattle.couch_json.specs.View.{view};
 ghost use Rattle.write.specs.Bulk.{Histories, outcome_by_id, outcome_in};
 ghost use Rattle.write.specs.Document.{id_in, member_text};
 ghost use Rattle.write.specs.Drafts.{outcome_asked};
-ghost use Rattle.write.specs.TermsRead.{terms_of};
 
 use crate::document::read_id;
 use crate::fault::WriteFault;
 use crate::planning::{Label, read_label};
 use crate::replicating::{Replica, read_replica};
-use crate::terms::Terms;
+use crate::request_terms::RequestTerms;
 use couch_json::{Got, Json, NoMemory};
 use policy::Rule;
 use std::alloc::Global;
@@ -44,15 +43,15 @@ pub(crate) enum Request {
 /// Reads a document of several; of a replicated one it makes the path too. It asks for no history.
 pub(crate) fn read_draft(
     alloc: Global,
-    terms: &Terms,
+    terms: &RequestTerms,
     new_edits: bool,
     document: Json,
 ) -> Got<Draft>
     ensures id { IfOk result (λ draft. draft.id ≡ id_in (view document)) }
     ensures label_id { IfOk result (λ draft. option_map string_bytes draft.label.id ≡ member_text (codes "_id") (view document)) }
     ensures label_rev { IfOk result (λ draft. option_map string_bytes draft.label.rev ≡ member_text (codes "_rev") (view document)) }
-    ensures outcome { IfOk result (λ draft. (histories : Histories) → outcome_in (terms_of terms.now) new_edits histories (view document)
-        ≡ outcome_asked (terms_of terms.now) histories draft.request draft.id) }
+    ensures outcome { IfOk result (λ draft. (histories : Histories) → outcome_in terms.now new_edits histories (view document)
+        ≡ outcome_asked terms.now histories draft.request draft.id) }
 {
     let label = read_label(alloc, &document)?;
     let id = read_id(alloc, &document)?;
@@ -63,13 +62,13 @@ pub(crate) fn read_draft(
 /// Reads what a document of several asks for, which gives itself this id, if it gives one.
 fn read_request(
     alloc: Global,
-    terms: &Terms,
+    terms: &RequestTerms,
     id: &Option<DocId>,
     new_edits: bool,
     document: Json,
 ) -> Got<Request>
-    ensures { IfOk result (λ request. (histories : Histories) → outcome_by_id (terms_of terms.now) new_edits histories (view document) id.now
-        ≡ outcome_asked (terms_of terms.now) histories request id.now) }
+    ensures { IfOk result (λ request. (histories : Histories) → outcome_by_id terms.now new_edits histories (view document) id.now
+        ≡ outcome_asked terms.now histories request id.now) }
 {
     let Some(id) = id else {
         return Ok(Request::Bad);

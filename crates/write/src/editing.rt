@@ -15,7 +15,7 @@ use crate::fault::WriteFault;
 use crate::following::judge_edit;
 use crate::planned::Planned;
 use crate::planning::{plan_alone, read_label};
-use crate::terms::read_terms;
+use crate::request_terms::RequestTerms;
 use auth::Caller;
 use couch_json::Json;
 use std::alloc::Global;
@@ -59,8 +59,8 @@ pub fn edit<S: Store>(
     ensures passed { IfErr result (Refuses S.Store store.old store.new (map.get (S.contents store.old) db.now ≡ None) ⊥) }
     ensures reads { OnlyReads S.Store store.old store.new }
 {
-    let terms = read_terms(alloc, store, db, caller)?;
+    let mut terms = RequestTerms::read(alloc, store, db, caller)?;
     let label = read_label(alloc, &document)?;
-    let write = judge_edit(alloc, store, db, &terms, id, query, document)?;
+    let write = judge_edit(alloc, store, db, &mut terms, id, query, document)?;
     Ok(plan_alone(alloc, db, label, Some(write))?)
 }

@@ -12,7 +12,6 @@ ghost use Rattle.store.specs.Writing.{addition_of, written_in};
 ghost use Rattle.write.specs.Admission.{base, edit_after, edit_outcome, is_known_if_any, next_edit, rule_refusal};
 ghost use Rattle.write.specs.Following.{IsFollowed};
 ghost use Rattle.write.specs.Refusing.{IsDecided, IsOfStoreOrMemory, IsOwn, Refuses};
-ghost use Rattle.write.specs.TermsRead.{terms_of};
 ghost use Rattle.write.specs.declared.document.Sent.{Sent};
 
 use crate::admission::{
@@ -20,7 +19,7 @@ use crate::admission::{
 };
 use crate::document::Sent;
 use crate::fault::WriteFault;
-use crate::terms::Terms;
+use crate::request_terms::RequestTerms;
 use couch_json::Json;
 use std::alloc::Global;
 use store::{DbName, Store, Write, take_held};
@@ -44,15 +43,15 @@ pub(crate) fn judge_edit<S: Store>(
     alloc: Global,
     store: &mut S,
     db: &DbName,
-    terms: &Terms,
+    terms: &mut RequestTerms,
     id: &DocId,
     query: Option<Rev>,
     document: Json,
 ) -> Result<Write, WriteFault>
     ensures ok { S.is_honest store.new → IfOk result (λ write. IfThere (map.get (S.contents store.old) db.now) (λ d.
-        edit_outcome (terms_of terms.now) id.now (history_at d id.now) query (view document) ≡ Ok (written_in (history_at d id.now) (addition_of write)))) }
+        edit_outcome terms.old id.now (history_at d id.now) query (view document) ≡ Ok (written_in (history_at d id.now) (addition_of write)))) }
     ensures refused { S.is_honest store.new → IfErr result (λ fault. IsOwn fault
-        → IfThere (map.get (S.contents store.old) db.now) (λ d. edit_outcome (terms_of terms.now) id.now (history_at d id.now) query (view document) ≡ Err fault)) }
+        → IfThere (map.get (S.contents store.old) db.now) (λ d. edit_outcome terms.old id.now (history_at d id.now) query (view document) ≡ Err fault)) }
     ensures headed { IfOk result (λ write. 0 < length write.path.items) }
     ensures edits { IfErr result (λ fault. fault ≢ WriteFault.BadHistory) }
     ensures passed { IfErr result (Refuses S.Store store.old store.new (map.get (S.contents store.old) db.now ≡ None) ⊥) }
@@ -105,10 +104,15 @@ fn follow_named(winner: Option<MarkedRev>, rev: Rev) -> Followed
 }
 
 /// Judges what an edit says of a document that was never written.
-fn judge_new(alloc: Global, terms: &Terms, id: &DocId, sent: Sent) -> Result<Write, WriteFault>
-    ensures ok { IfOk result (λ write. next_edit (terms_of terms.now) id.now map.empty sent None ≡ Ok (written_in map.empty (addition_of write))) }
+fn judge_new(
+    alloc: Global,
+    terms: &mut RequestTerms,
+    id: &DocId,
+    sent: Sent,
+) -> Result<Write, WriteFault>
+    ensures ok { IfOk result (λ write. next_edit terms.old id.now map.empty sent None ≡ Ok (written_in map.empty (addition_of write))) }
     ensures headed { IfOk result (λ write. 0 < length write.path.items) }
-    ensures fault { IfErr result (λ fault. fault ≢ WriteFault.Memory → next_edit (terms_of terms.now) id.now map.empty sent None ≡ Err fault) }
+    ensures fault { IfErr result (λ fault. fault ≢ WriteFault.Memory → next_edit terms.old id.now map.empty sent None ≡ Err fault) }
     ensures others { IfErr result (λ fault. (fault ≢ WriteFault.BadHistory) × ((cause : _) → fault ≢ WriteFault.Store cause)) }
 {
     let history = History::new(alloc);
@@ -140,11 +144,11 @@ fn read_followed<S: Store>(
     store: &mut S,
     db: &DbName,
     id: &DocId,
-    terms: &Terms,
+    terms: &RequestTerms,
     rev: Option<Rev>,
 ) -> Result<History, WriteFault>
     ensures ruled { S.is_honest store.new → IfOk result (λ history. IfThere (map.get (S.contents store.old) db.now) (λ d. (sent : Sent)
-        → rule_refusal (terms_of terms.now) id.now (history_at d id.now) sent rev ≡ rule_refusal (terms_of terms.now) id.now history sent rev)) }
+        → rule_refusal terms.now id.now (history_at d id.now) sent rev ≡ rule_refusal terms.now id.now history sent rev)) }
     ensures only { IfErr result IsOfStoreOrMemory }
     ensures passed { IfErr result (Refuses S.Store store.old store.new (map.get (S.contents store.old) db.now ≡ None) ⊥) }
     ensures reads { OnlyReads S.Store store.old store.new }
@@ -153,7 +157,7 @@ fn read_followed<S: Store>(
     let Some(rev) = rev else {
         return Ok(history);
     };
-    if id.is_design() || terms.rules.is_empty() {
+    if id.is_design() || terms.has_no_rules() {
         return Ok(history);
     }
     let known = store.revision(db, id, &rev)?;
@@ -166,15 +170,15 @@ fn judge_next<S: Store>(
     alloc: Global,
     store: &mut S,
     db: &DbName,
-    terms: &Terms,
+    terms: &mut RequestTerms,
     id: &DocId,
     sent: Sent,
     parent: Option<Rev>,
 ) -> Result<Write, WriteFault>
     ensures ok { S.is_honest store.new → IfOk result (λ write. IfThere (map.get (S.contents store.old) db.now) (λ d.
-        next_edit (terms_of terms.now) id.now (history_at d id.now) sent parent ≡ Ok (written_in (history_at d id.now) (addition_of write)))) }
+        next_edit terms.old id.now (history_at d id.now) sent parent ≡ Ok (written_in (history_at d id.now) (addition_of write)))) }
     ensures refused { S.is_honest store.new → IfErr result (λ fault. IsOwn fault
-        → IfThere (map.get (S.contents store.old) db.now) (λ d. next_edit (terms_of terms.now) id.now (history_at d id.now) sent parent ≡ Err fault)) }
+        → IfThere (map.get (S.contents store.old) db.now) (λ d. next_edit terms.old id.now (history_at d id.now) sent parent ≡ Err fault)) }
     ensures headed { IfOk result (λ write. 0 < length write.path.items) }
     ensures edits { IfErr result (λ fault. fault ≢ WriteFault.BadHistory) }
     ensures passed { IfErr result (Refuses S.Store store.old store.new (map.get (S.contents store.old) db.now ≡ None) ⊥) }
@@ -194,14 +198,14 @@ fn judge_whole<S: Store>(
     alloc: Global,
     store: &mut S,
     db: &DbName,
-    terms: &Terms,
+    terms: &mut RequestTerms,
     id: &DocId,
     sent: Sent,
 ) -> Result<Write, WriteFault>
     ensures ok { S.is_honest store.new → IfOk result (λ write. IfThere (map.get (S.contents store.old) db.now) (λ d.
-        edit_after (terms_of terms.now) id.now (history_at d id.now) sent (base (history_at d id.now) sent.rev) ≡ Ok (written_in (history_at d id.now) (addition_of write)))) }
+        edit_after terms.old id.now (history_at d id.now) sent (base (history_at d id.now) sent.rev) ≡ Ok (written_in (history_at d id.now) (addition_of write)))) }
     ensures refused { S.is_honest store.new → IfErr result (λ fault. IsOwn fault
-        → IfThere (map.get (S.contents store.old) db.now) (λ d. edit_after (terms_of terms.now) id.now (history_at d id.now) sent (base (history_at d id.now) sent.rev) ≡ Err fault)) }
+        → IfThere (map.get (S.contents store.old) db.now) (λ d. edit_after terms.old id.now (history_at d id.now) sent (base (history_at d id.now) sent.rev) ≡ Err fault)) }
     ensures headed { IfOk result (λ write. 0 < length write.path.items) }
     ensures edits { IfErr result (λ fault. fault ≢ WriteFault.BadHistory) }
     ensures passed { IfErr result (Refuses S.Store store.old store.new (map.get (S.contents store.old) db.now ≡ None) ⊥) }
@@ -217,14 +221,14 @@ fn judge_sent<S: Store>(
     alloc: Global,
     store: &mut S,
     db: &DbName,
-    terms: &Terms,
+    terms: &mut RequestTerms,
     id: &DocId,
     sent: Sent,
 ) -> Result<Write, WriteFault>
     ensures ok { S.is_honest store.new → IfOk result (λ write. IfThere (map.get (S.contents store.old) db.now) (λ d.
-        edit_after (terms_of terms.now) id.now (history_at d id.now) sent (base (history_at d id.now) sent.rev) ≡ Ok (written_in (history_at d id.now) (addition_of write)))) }
+        edit_after terms.old id.now (history_at d id.now) sent (base (history_at d id.now) sent.rev) ≡ Ok (written_in (history_at d id.now) (addition_of write)))) }
     ensures refused { S.is_honest store.new → IfErr result (λ fault. IsOwn fault
-        → IfThere (map.get (S.contents store.old) db.now) (λ d. edit_after (terms_of terms.now) id.now (history_at d id.now) sent (base (history_at d id.now) sent.rev) ≡ Err fault)) }
+        → IfThere (map.get (S.contents store.old) db.now) (λ d. edit_after terms.old id.now (history_at d id.now) sent (base (history_at d id.now) sent.rev) ≡ Err fault)) }
     ensures headed { IfOk result (λ write. 0 < length write.path.items) }
     ensures edits { IfErr result (λ fault. fault ≢ WriteFault.BadHistory) }
     ensures passed { IfErr result (Refuses S.Store store.old store.new (map.get (S.contents store.old) db.now ≡ None) ⊥) }

@@ -17,14 +17,12 @@ ghost use Rattle.write.specs.IndexWrites.{declares, index_admission, index_outco
 ghost use Rattle.write.specs.Planning.{AreWrites, Plans, planned_writes};
 ghost use Rattle.write.specs.Refusing.{IsDecided, IsOfStoreOrMemory, IsOwn, Refuses};
 ghost use Rattle.write.specs.Terms.{terms_in};
-ghost use Rattle.write.specs.TermsRead.{terms_of};
 
-use crate::denial::find_design_refusal;
 use crate::fault::WriteFault;
 use crate::following::judge_edit;
 use crate::planned::Planned;
 use crate::planning::{Label, plan_alone};
-use crate::terms::{Terms, read_terms};
+use crate::request_terms::RequestTerms;
 use auth::Caller;
 use couch_json::{FieldPath, Got, Json, NameMap, collate, put_member};
 use std::alloc::Global;
@@ -64,8 +62,8 @@ pub fn put_index<S: Store>(
     ensures passed { IfErr result (Refuses S.Store store.old store.new (map.get (S.contents store.old) db.now ≡ None) ⊥) }
     ensures reads { OnlyReads S.Store store.old store.new }
 {
-    let terms = read_terms(alloc, store, db, caller)?;
-    let write = judge_index(alloc, store, db, &terms, id, name, fields)?;
+    let mut terms = RequestTerms::read(alloc, store, db, caller)?;
+    let write = judge_index(alloc, store, db, &mut terms, id, name, fields)?;
     let label = Label {
         id: None,
         rev: None,
@@ -81,21 +79,21 @@ fn judge_index<S: Store>(
     alloc: Global,
     store: &mut S,
     db: &DbName,
-    terms: &Terms,
+    terms: &mut RequestTerms,
     id: &DocId,
     name: &str,
     fields: &[FieldPath],
 ) -> Result<Option<Write>, WriteFault>
     ensures ok { S.is_honest store.new → IfOk result (λ write. IfThere (map.get (S.contents store.old) db.now) (λ d.
-        index_outcome (terms_of terms.now) id.now (history_at d id.now) name.now fields.now ≡ Ok (option_map (λ w. written_in (history_at d id.now) (addition_of w)) write))) }
+        index_outcome terms.old id.now (history_at d id.now) name.now fields.now ≡ Ok (option_map (λ w. written_in (history_at d id.now) (addition_of w)) write))) }
     ensures refused { S.is_honest store.new → IfErr result (λ fault. IsOwn fault
-        → IfThere (map.get (S.contents store.old) db.now) (λ d. index_outcome (terms_of terms.now) id.now (history_at d id.now) name.now fields.now ≡ Err fault)) }
+        → IfThere (map.get (S.contents store.old) db.now) (λ d. index_outcome terms.old id.now (history_at d id.now) name.now fields.now ≡ Err fault)) }
     ensures headed { IfOk result (λ write. IfSome write (λ w. 0 < length w.path.items)) }
     ensures edits { IfErr result (λ fault. fault ≢ WriteFault.BadHistory) }
     ensures passed { IfErr result (Refuses S.Store store.old store.new (map.get (S.contents store.old) db.now ≡ None) ⊥) }
     ensures reads { OnlyReads S.Store store.old store.new }
 {
-    if let Some(rule) = find_design_refusal(terms, id) {
+    if let Some(rule) = terms.find_design_refusal(id) {
         return Err(WriteFault::Denied(rule));
     }
     let index = build_index(alloc, fields)?;

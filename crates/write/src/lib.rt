@@ -29,6 +29,7 @@ mod planned;
 mod planning;
 mod repeats;
 mod replicating;
+mod request_terms;
 mod securing;
 mod terms;
 

@@ -15,15 +15,14 @@ ghost use Rattle.write.specs.BulkResults.{IsUnrefused, OfFirst};
 ghost use Rattle.write.specs.Planning.{Plans, planned_writes};
 ghost use Rattle.write.specs.Refusing.{IsDecided, IsOwn, Refuses};
 ghost use Rattle.write.specs.Terms.{terms_in};
-ghost use Rattle.write.specs.TermsRead.{terms_of};
 
 use crate::ancestry::{Ancestry, find_ancestry, take_given};
-use crate::denial::{find_design_refusal, find_nearest_held, find_rule_refusal};
+use crate::denial::{find_nearest_held, find_rule_refusal};
 use crate::document::{Sent, read_sent};
 use crate::fault::WriteFault;
 use crate::planned::Planned;
 use crate::planning::{plan_alone, read_label};
-use crate::terms::{Terms, read_terms};
+use crate::request_terms::RequestTerms;
 use auth::Caller;
 use couch_json::Json;
 use std::alloc::Global;
@@ -73,11 +72,11 @@ pub fn replicated<S: Store>(
     ensures passed { IfErr result (Refuses S.Store store.old store.new (map.get (S.contents store.old) db.now ≡ None) ⊥) }
     ensures reads { OnlyReads S.Store store.old store.new }
 {
-    let terms = read_terms(alloc, store, db, caller)?;
+    let mut terms = RequestTerms::read(alloc, store, db, caller)?;
     let label = read_label(alloc, &document)?;
     let replica = read_replica(alloc, &terms, id, document)?;
     let history = store.history(db, id)?;
-    let write = place(alloc, &terms, &history, id, replica)?;
+    let write = place(alloc, &mut terms, &history, id, replica)?;
     Ok(plan_alone(alloc, db, label, write)?)
 }
 
@@ -85,13 +84,13 @@ pub fn replicated<S: Store>(
 /// asks for no history.
 pub(crate) fn read_replica(
     alloc: Global,
-    terms: &Terms,
+    terms: &RequestTerms,
     id: &DocId,
     document: Json,
 ) -> Result<Replica, WriteFault>
-    ensures ok { IfOk result (λ replica. (h : HistoryContent) → replicated_outcome (terms_of terms.now) id.now h (view document)
-        ≡ placement_outcome (terms_of terms.now) id.now h replica.sent replica.ancestry.path.items (ancestry_placement h (ancestry_of replica.ancestry))) }
-    ensures fault { IfErr result (λ fault. fault ≢ WriteFault.Memory → (h : HistoryContent) → replicated_outcome (terms_of terms.now) id.now h (view document) ≡ Err fault) }
+    ensures ok { IfOk result (λ replica. (h : HistoryContent) → replicated_outcome terms.now id.now h (view document)
+        ≡ placement_outcome terms.now id.now h replica.sent replica.ancestry.path.items (ancestry_placement h (ancestry_of replica.ancestry))) }
+    ensures fault { IfErr result (λ fault. fault ≢ WriteFault.Memory → (h : HistoryContent) → replicated_outcome terms.now id.now h (view document) ≡ Err fault) }
     ensures others { IfErr result (λ fault. (fault ≢ WriteFault.Conflict) × (fault ≢ WriteFault.Generation) × ((cause : _) → fault ≢ WriteFault.Store cause)) }
     ensures unplaced { IfErr result (λ fault. fault ≢ WriteFault.BadHistory) }
 {
@@ -102,7 +101,7 @@ pub(crate) fn read_replica(
     let Some(ancestry) = find_ancestry(alloc, given, sent.rev)? else {
         return Err(WriteFault::BadDocument);
     };
-    if let Some(rule) = find_design_refusal(terms, id) {
+    if let Some(rule) = terms.find_design_refusal(id) {
         return Err(WriteFault::Denied(rule));
     }
     Ok(Replica { sent, ancestry })
@@ -112,17 +111,18 @@ pub(crate) fn read_replica(
 /// where the revision is known.
 pub(crate) fn place(
     alloc: Global,
-    terms: &Terms,
+    terms: &mut RequestTerms,
     history: &History,
     id: &DocId,
     replica: Replica,
 ) -> Result<Option<Write>, WriteFault>
-    ensures ok { IfOk result (λ write. placement_outcome (terms_of terms.now) id.now history.now replica.sent replica.ancestry.path.items (ancestry_placement history.now (ancestry_of replica.ancestry))
+    ensures ok { IfOk result (λ write. placement_outcome terms.old id.now history.now replica.sent replica.ancestry.path.items (ancestry_placement history.now (ancestry_of replica.ancestry))
         ≡ Ok (option_map (λ w. written_in history.now (addition_of w)) write)) }
     ensures headed { IfOk result (λ write. IfSome write (λ w. 0 < length w.path.items)) }
     ensures fault { IfErr result (λ fault. fault ≢ WriteFault.Memory
-        → placement_outcome (terms_of terms.now) id.now history.now replica.sent replica.ancestry.path.items (ancestry_placement history.now (ancestry_of replica.ancestry)) ≡ Err fault) }
+        → placement_outcome terms.old id.now history.now replica.sent replica.ancestry.path.items (ancestry_placement history.now (ancestry_of replica.ancestry)) ≡ Err fault) }
     ensures others { IfErr result (λ fault. (fault ≢ WriteFault.Conflict) × (fault ≢ WriteFault.Generation) × ((cause : _) → fault ≢ WriteFault.Store cause)) }
+    ensures terms { terms.new ≡ terms.old }
 {
     let Replica { sent, ancestry } = replica;
     match find_place(history, &ancestry) {

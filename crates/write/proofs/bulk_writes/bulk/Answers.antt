@@ -5,7 +5,6 @@ use Rattle.store.specs.Contents.{Contents}
 use Rattle.store.specs.Database.{Database, history_at}
 use Rattle.write.specs.Bulk.{all_told, outcomes, writes_in}
 use Rattle.write.specs.Terms.{Terms, terms_in}
-use Rattle.write.specs.TermsRead.{terms_of}
 use Rattle.write.proofs.Acceptances.{acceptable_in, all_acceptable}
 use Rattle.write.proofs.Plannings.{all_planned, if_there}
 use Rattle.write.proofs.bulk_writes.bulk.Goals as goal
@@ -15,7 +14,7 @@ returns-clause-plan g c = λ honest.
     let before = c.in_ok-writes.ensures.reads.goes_on.honest honest in
     let same = c.in_ok-terms.ensures.reads.same before in
     let own = terms_in c.args.caller.now c.args.db.now in
-    let read = if_there (λ (d : Database). terms_of c.in_ok-terms.terms ≡ own d) _ in
+    let read = if_there (λ (d : Database). c.in_ok-terms.terms ≡ own d) _ in
     all_planned _ (map view c.args.documents.items) (λ d. outcomes (own d) c.args.new_edits (history_at d) (map view c.args.documents.items)) _
     (λ d there. c.in_ok-writes.ensures.writes honest d (ap (λ (x : Contents). finite.get x c.args.db.now) same ∙ there)
     ∙ ap (λ (t : Terms). writes_in (outcomes t c.args.new_edits (history_at d) (map view c.args.documents.items))) (read d there (c.in_ok-terms.ensures.terms before)))

@@ -2,7 +2,6 @@ use Rattle.std.proofs.Common.{◌∙◌, ap, sym}
 use Rattle.write.specs.Bulk.{DocumentOutcome, after, outcome_told}
 use Rattle.write.specs.BulkResults.{seen_in}
 use Rattle.write.specs.Drafts.{outcome_asked}
-use Rattle.write.specs.TermsRead.{terms_of}
 use Rattle.write.proofs.Names.{asked-named}
 use Rattle.write.proofs.Judgings.{pushed, told_asked, told_brought}
 use Rattle.write.proofs.bulk_writes.judge_one.Goals as goal
@@ -21,8 +20,8 @@ returns-in_ok-append-in-Ok-clause-histories c = λ stored id kept.
 pub returns-in_ok-append-in-Ok-clause-writes : goal.returns-in_ok-append-in-Ok-clause-writes
 returns-in_ok-append-in-Ok-clause-writes c = λ stored d agree.
     pushed (seen_in stored c.args.histories.now) d c.args.writes.now.items c.append.new.writes.items c.in-Ok.write c.args.draft.id
-    (outcome_asked (terms_of c.args.terms.now) (seen_in stored c.args.histories.now) c.args.draft.request c.args.draft.id) (c.in-Ok.ensures.ok stored) c.in_ok-append-in-Ok.ensures
-    (asked-named (terms_of c.args.terms.now) (seen_in stored c.args.histories.now) c.args.draft.request c.args.draft.id) agree
+    (outcome_asked c.args.terms.now (seen_in stored c.args.histories.now) c.args.draft.request c.args.draft.id) (c.in-Ok.ensures.ok stored) c.in_ok-append-in-Ok.ensures
+    (asked-named c.args.terms.now (seen_in stored c.args.histories.now) c.args.draft.request c.args.draft.id) agree
 
 pub returns-in_ok-outcome-in-Err-clause-histories : goal.returns-in_ok-outcome-in-Err-clause-histories
 returns-in_ok-outcome-in-Err-clause-histories c = λ stored id kept.

@@ -1,9 +1,8 @@
 -- Where there are no rules, none refuses.
 use Rattle.std.proofs.Common.{sym, ◌∙◌}
-use Rattle.write.specs.TermsRead.{terms_of}
 use Rattle.write.proofs.Unruled.{no_refusal}
 use Rattle.write.proofs.denial.find_rule_refusal.Goals as goal
 
-pub returns-then-is_empty : goal.returns-then-is_empty
-returns-then-is_empty c =
-    sym (no_refusal (terms_of c.args.terms.now) c.args.id.now c.args.history.now c.args.sent.now c.args.rev (sym c.is_empty.ensures ∙ c.if-is_empty.true))
+pub returns-then-has_no_rules-clause-answer : goal.returns-then-has_no_rules-clause-answer
+returns-then-has_no_rules-clause-answer c =
+    sym (no_refusal c.args.terms.now c.args.id.now c.args.history.now c.args.sent.now c.args.rev (sym c.has_no_rules.ensures ∙ c.if-has_no_rules.true))

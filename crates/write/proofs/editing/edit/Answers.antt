@@ -7,7 +7,6 @@ use Rattle.store.specs.Writing.{addition_of, written_in}
 use Rattle.write.specs.Admission.{edit_outcome}
 use Rattle.write.specs.Bulk.{as_outcome}
 use Rattle.write.specs.Terms.{terms_in}
-use Rattle.write.specs.TermsRead.{terms_of}
 use Rattle.write.proofs.Acceptances.{acceptable_in, edit_alone_acceptable}
 use Rattle.write.proofs.FollowedRules.{there_is}
 use Rattle.write.proofs.Names.{edit-named}
@@ -17,7 +16,7 @@ use Rattle.write.proofs.editing.edit.Goals as goal
 pub returns-clause-ok : goal.returns-clause-ok
 returns-clause-ok g c = λ honest.
     let id = c.args.id.now in
-    let terms = terms_of c.in_ok-terms.terms in
+    let terms = c.in_ok-terms.terms in
     let write = c.in_ok-write.write in
     let before = c.in_ok-write.ensures.reads.goes_on.honest honest in
     let same = c.in_ok-terms.ensures.reads.same before in
@@ -31,7 +30,7 @@ returns-clause-ok g c = λ honest.
 pub returns-clause-plan : goal.returns-clause-plan
 returns-clause-plan g c = λ honest.
     let id = c.args.id.now in
-    let terms = terms_of c.in_ok-terms.terms in
+    let terms = c.in_ok-terms.terms in
     let write = c.in_ok-write.write in
     let before = c.in_ok-write.ensures.reads.goes_on.honest honest in
     let same = c.in_ok-terms.ensures.reads.same before in

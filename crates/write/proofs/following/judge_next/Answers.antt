@@ -4,7 +4,6 @@ use Rattle.store.specs.Contents.{Contents}
 use Rattle.store.specs.Database.{Database, history_at}
 use Rattle.store.specs.Writing.{addition_of}
 use Rattle.write.specs.Admission.{is_known_if_any, rule_refusal}
-use Rattle.write.specs.TermsRead.{terms_of}
 use Rattle.write.specs.declared.document.Sent.{Sent}
 use Rattle.write.proofs.FollowedRules.{edit_made, there_is}
 use Rattle.write.proofs.Plannings.{if_there}
@@ -14,7 +13,7 @@ pub returns-clause-ok : goal.returns-clause-ok
 returns-clause-ok g c honest =
     let S = g.S.Store in
     let id = c.args.id.now in
-    let terms = terms_of c.args.terms.now in
+    let terms = c.args.terms.now in
     let sent = c.args.sent in
     let parent = c.args.parent in
     let next = c.in_ok-next.next in

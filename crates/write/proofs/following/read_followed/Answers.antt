@@ -8,27 +8,26 @@ use Rattle.couch_json.specs.declared.value.Json.{Json}
 use Rattle.tree.specs.History.{HistoryContent, with_new}
 use Rattle.tree.specs.declared.entry.Held.{Held}
 use Rattle.write.specs.Admission.{rule_refusal}
-use Rattle.write.specs.TermsRead.{terms_of}
 use Rattle.write.proofs.FollowedRules.{followed_rule, there_is}
 use Rattle.write.specs.declared.document.Sent.{Sent}
 use Rattle.write.proofs.Unruled.{design_unruled, no_refusal}
-use Rattle.write.proofs.following.read_followed.Goals.{then-is_design-via-then-is_design, then-is_design-via-else-is_design+then-is_empty}
+use Rattle.write.proofs.following.read_followed.Goals.{then-is_design-via-then-is_design, then-is_design-via-else-is_design+then-has_no_rules}
 use Rattle.write.proofs.following.read_followed.Goals as goal
 
 pub returns-then-is_design-clause-ruled : goal.returns-then-is_design-clause-ruled
 returns-then-is_design-clause-ruled g c honest =
-    let terms = terms_of c.args.terms.now in
+    let terms = c.args.terms.now in
     let id = c.args.id.now in
     let unruled : (h : HistoryContent) (sent : Sent) → rule_refusal terms id h sent c.args.rev ≡ None = elim c.then-is_design.branch [
       | then-is_design-via-then-is_design w ↦ λ h sent. design_unruled terms id h sent c.args.rev (sym c.is_design.ensures ∙ w.if-is_design.true)
-      | then-is_design-via-else-is_design+then-is_empty w ↦ λ h sent. no_refusal terms id h sent c.args.rev (sym w.is_empty.ensures ∙ w.if-is_empty.true)
+      | then-is_design-via-else-is_design+then-has_no_rules w ↦ λ h sent. no_refusal terms id h sent c.args.rev (sym w.has_no_rules.ensures ∙ w.if-has_no_rules.true)
     ] in
     there_is (finite.get (g.S.Store.contents c.args.store.now) c.args.db.now) (λ d is sent. unruled (history_at d id) sent ∙ sym (unruled c.new-history.result sent))
 
 pub returns-clause-ruled : goal.returns-clause-ruled
 returns-clause-ruled g c honest =
     there_is (finite.get (g.S.Store.contents c.args.store.now) c.args.db.now) (λ d is sent.
-    let terms = terms_of c.args.terms.now in
+    let terms = c.args.terms.now in
     let r = c.in-Some.rev in
     let answer = c.in_ok-known.ensures.answer honest in
     let known : finite.get (history_at d c.args.id.now) r ≡ c.in_ok-known.known = inside _ c.in_ok-known.known (ap (option_map (λ (x : Database). finite.get (history_at x c.args.id.now) r)) (sym is) ∙ answer) in

@@ -9,7 +9,6 @@ use Rattle.store.specs.declared.write.Write.{Write}
 use Rattle.write.specs.Admission.{edit_outcome}
 use Rattle.write.specs.IndexWrites.{index_outcome}
 use Rattle.write.specs.Refusing.{IsOwn}
-use Rattle.write.specs.TermsRead.{terms_of}
 use Rattle.write.specs.declared.fault.WriteFault.{WriteFault}
 use Rattle.write.proofs.FollowedRules.{there_is}
 use Rattle.write.proofs.IndexJudgings.{index_edited}
@@ -21,7 +20,7 @@ returns-in_err-write-clause-refused g c honest =
     let id = c.args.id.now in
     let name = c.args.name.now in
     let fields = c.args.fields.now in
-    let terms = terms_of c.args.terms.now in
+    let terms = c.args.terms.now in
     let winner_read = c.in_ok-rev.field-0 in
     let document = view c.in_ok-document.document in
     let fault = c.in_err-write.field-0.0 in

@@ -6,7 +6,6 @@ use Rattle.store.specs.Database.{Database, history_at}
 use Rattle.store.specs.Writing.{addition_of, written_in}
 use Rattle.write.specs.IndexWrites.{index_outcome}
 use Rattle.write.specs.Terms.{terms_in}
-use Rattle.write.specs.TermsRead.{terms_of}
 use Rattle.write.proofs.Acceptances.{acceptable_in, index_alone_acceptable}
 use Rattle.write.proofs.Names.{index-named}
 use Rattle.write.proofs.Plannings.{made_there, plan_there}
@@ -17,7 +16,7 @@ returns-clause-ok g c = λ honest.
     let id = c.args.id.now in
     let name = c.args.name.now in
     let fields = c.args.fields.now in
-    let terms = terms_of c.in_ok-terms.terms in
+    let terms = c.in_ok-terms.terms in
     let write = c.in_ok-write.write in
     let before = c.in_ok-write.ensures.reads.goes_on.honest honest in
     let same = c.in_ok-terms.ensures.reads.same before in
@@ -32,7 +31,7 @@ returns-clause-plan g c = λ honest.
     let id = c.args.id.now in
     let name = c.args.name.now in
     let fields = c.args.fields.now in
-    let terms = terms_of c.in_ok-terms.terms in
+    let terms = c.in_ok-terms.terms in
     let write = c.in_ok-write.write in
     let before = c.in_ok-write.ensures.reads.goes_on.honest honest in
     let same = c.in_ok-terms.ensures.reads.same before in

@@ -5,7 +5,6 @@ use Rattle.store.specs.Contents.{Contents}
 use Rattle.store.specs.Database.{history_at}
 use Rattle.write.specs.Admission.{replicated_outcome}
 use Rattle.write.specs.Terms.{terms_in}
-use Rattle.write.specs.TermsRead.{terms_of}
 use Rattle.write.proofs.Acceptances.{replicated_alone_acceptable}
 use Rattle.write.proofs.Names.{replicated-named}
 use Rattle.write.proofs.Plannings.{one_made, one_plan, one_refused, own_refusal}
@@ -15,21 +14,21 @@ pub returns-clause-ok : goal.returns-clause-ok
 returns-clause-ok g c = λ honest.
     let before = c.in_ok-history.ensures.reads.goes_on.honest honest in
     let same = c.in_ok-terms.ensures.reads.same before in
-    one_made _ c.args.id.now _ (λ t h. replicated_outcome t c.args.id.now h (view c.args.document)) (terms_of c.in_ok-terms.terms) (terms_in c.args.caller.now c.args.db.now)
+    one_made _ c.args.id.now _ (λ t h. replicated_outcome t c.args.id.now h (view c.args.document)) c.in_ok-terms.terms (terms_in c.args.caller.now c.args.db.now)
     c.in_ok-write.write c.in_ok-plan_alone.field-0
     (c.in_ok-terms.ensures.terms before)
     (ap (λ (x : Contents). option_map (λ db. history_at db c.args.id.now) (finite.get x c.args.db.now)) (sym same) ∙ c.in_ok-history.ensures.answer honest)
-    (c.in_ok-replica.ensures.ok c.in_ok-history.history ∙ c.in_ok-write.ensures.ok) (replicated-named (terms_of c.in_ok-terms.terms) c.args.id.now (view c.args.document)) c.in_ok-plan_alone.ensures.writes
+    (c.in_ok-replica.ensures.ok c.in_ok-history.history ∙ c.in_ok-write.ensures.ok) (replicated-named c.in_ok-terms.terms c.args.id.now (view c.args.document)) c.in_ok-plan_alone.ensures.writes
 
 pub returns-clause-plan : goal.returns-clause-plan
 returns-clause-plan g c = λ honest.
     let before = c.in_ok-history.ensures.reads.goes_on.honest honest in
     let same = c.in_ok-terms.ensures.reads.same before in
-    one_plan _ c.args.id.now _ (view c.args.document) (λ t h. replicated_outcome t c.args.id.now h (view c.args.document)) (terms_of c.in_ok-terms.terms) (terms_in c.args.caller.now c.args.db.now)
+    one_plan _ c.args.id.now _ (view c.args.document) (λ t h. replicated_outcome t c.args.id.now h (view c.args.document)) c.in_ok-terms.terms (terms_in c.args.caller.now c.args.db.now)
     c.in_ok-write.write c.in_ok-label.label c.in_ok-plan_alone.field-0
     (c.in_ok-terms.ensures.terms before)
     (ap (λ (x : Contents). option_map (λ db. history_at db c.args.id.now) (finite.get x c.args.db.now)) (sym same) ∙ c.in_ok-history.ensures.answer honest)
-    (c.in_ok-replica.ensures.ok c.in_ok-history.history ∙ c.in_ok-write.ensures.ok) (replicated-named (terms_of c.in_ok-terms.terms) c.args.id.now (view c.args.document))
+    (c.in_ok-replica.ensures.ok c.in_ok-history.history ∙ c.in_ok-write.ensures.ok) (replicated-named c.in_ok-terms.terms c.args.id.now (view c.args.document))
     (λ d there. replicated_alone_acceptable (terms_in c.args.caller.now c.args.db.now d) d c.args.id.now (view c.args.document))
     c.in_ok-plan_alone.ensures.writes c.in_ok-plan_alone.ensures.changed c.in_ok-plan_alone.ensures.may c.in_ok-plan_alone.ensures.results
     c.in_ok-label.ensures.id c.in_ok-label.ensures.rev
@@ -38,7 +37,7 @@ pub returns-in_err-write-clause-refused : goal.returns-in_err-write-clause-refus
 returns-in_err-write-clause-refused g c = λ honest.
     let before = c.in_ok-history.ensures.reads.goes_on.honest honest in
     let same = c.in_ok-terms.ensures.reads.same before in
-    one_refused _ c.args.id.now _ (λ t h. replicated_outcome t c.args.id.now h (view c.args.document)) (terms_of c.in_ok-terms.terms) (terms_in c.args.caller.now c.args.db.now)
+    one_refused _ c.args.id.now _ (λ t h. replicated_outcome t c.args.id.now h (view c.args.document)) c.in_ok-terms.terms (terms_in c.args.caller.now c.args.db.now)
     c.from_residual-in_err-write.result c.in_err-write.field-0.0 (c.in_ok-terms.ensures.terms before)
     (ap (λ (x : Contents). option_map (λ db. history_at db c.args.id.now) (finite.get x c.args.db.now)) (sym same) ∙ c.in_ok-history.ensures.answer honest)
     (search rules)
