@@ -50,6 +50,7 @@ range_by start end inclusive_end descending skip limit = record {
   counted = false;
 }
 
+-- the names of its parameters; those of a view are a list of its own
 abbrev pub listing_names : List (List ℕ)
 listing_names = codes "startkey" ∷ codes "endkey" ∷ codes "inclusive_end" ∷ codes "descending" ∷ codes "skip" ∷ codes "limit" ∷ []
 

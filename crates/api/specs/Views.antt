@@ -1,6 +1,6 @@
 -- What the query of a view asks for: a range of the keys of an index.
 -- CouchDB manual, api/ddoc/views (`startkey`, `endkey`, `inclusive_end`, `descending`, `skip`, `limit`) and ddocs/views/collation (a range of keys).
-use Rattle.std.specs.Prelude.{Bool, false, ℕ, if◌then◌else◌, List, Option, Some, None, option_map, option_and_then, Result, Ok, Err, codes}
+use Rattle.std.specs.Prelude.{Bool, false, ℕ, if◌then◌else◌, List, [], ◌∷◌, Option, Some, None, option_map, option_and_then, Result, Ok, Err, codes}
 use Rattle.couch_json.specs.Reading.{reading}
 use Rattle.couch_json.specs.Value.{Value}
 use Rattle.couch_json.specs.declared.fault.JsonFault.{JsonFault}
@@ -9,7 +9,7 @@ use Rattle.store.specs.declared.index_page.CutSide.TheVariants.{Before, After}
 use Rattle.store.specs.declared.index_page.KeyCut.{KeyCut}
 use Rattle.store.specs.declared.index_page.KeyRange.{KeyRange}
 use Rattle.store.specs.declared.listing.IdRange.{IdRange}
-use Rattle.api.specs.Listings.{listing_names, range_from}
+use Rattle.api.specs.Listings.{range_from}
 use Rattle.api.specs.Queries.{are_named, given_at, parameters_in}
 
 abbrev pub value_read : Result Value JsonFault → Option Value
@@ -40,10 +40,14 @@ keys_between start end range = record {
   counted = false;
 }
 
--- the parameters are those of a listing by id, but that a key is any value
+-- the names of its parameters; those of a listing by id are a list of its own
+abbrev pub view_names : List (List ℕ)
+view_names = codes "startkey" ∷ codes "endkey" ∷ codes "inclusive_end" ∷ codes "descending" ∷ codes "skip" ∷ codes "limit" ∷ []
+
+-- the range that they ask for: direction, `skip` and `limit` are read as those of a listing by id, and a key is any value
 abbrev pub keys_asked : List (List ℕ × List ℕ) → Option KeyRange
 keys_asked ps =
-    if are_named listing_names ps
+    if are_named view_names ps
     then option_and_then (λ start. option_and_then (λ end. option_map (keys_between start end) (range_from ps None None)) (given_at json_in (codes "endkey") ps)) (given_at json_in (codes "startkey") ps)
     else None
 

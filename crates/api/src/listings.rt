@@ -46,7 +46,7 @@ fn read_range(alloc: Global, parameters: &[(String, String)]) -> Got<Option<IdRa
 }
 
 /// Tests whether all names are those of a listing's parameters.
-pub(crate) fn are_listing_names(parameters: &[(String, String)]) -> bool
+fn are_listing_names(parameters: &[(String, String)]) -> bool
     ensures { result ≡ are_named listing_names (texts_of parameters.now) }
 {
     let names = [

@@ -4,21 +4,21 @@ ghost use Rattle.std.specs.Prelude.{◌≡◌, IfOk, Some, option_map};
 ghost use Rattle.couch_http.specs.Message.{message_of};
 ghost use Rattle.api.specs.RequestReading.{Says};
 ghost use Rattle.api.specs.Queried.{texts_of};
-ghost use Rattle.api.specs.Queries.{given_at};
+ghost use Rattle.api.specs.Queries.{are_named, given_at};
 ghost use Rattle.api.specs.Refusals.{there_or};
-ghost use Rattle.api.specs.Views.{cut_at, end_side, json_in, keys_asked, keys_between, view_query};
+ghost use Rattle.api.specs.Views.{cut_at, end_side, json_in, keys_asked, keys_between, view_names, view_query};
 
 use crate::fault::RequestFault;
-use crate::listings::{are_listing_names, range_from};
-use crate::parameters::{parameters, sole_value};
+use crate::listings::range_from;
+use crate::parameters::{are_named, parameters, sole_value};
 use crate::refusal::Refusal;
 use couch_http::Request;
 use couch_json::{Got, JsonFault, NoMemory, read};
 use std::alloc::Global;
 use store::{CutSide, IdRange, IndexKey, KeyCut, KeyRange};
 
-/// Reads which rows of an index a view is asked for: the parameters of a listing by id, but that a key
-/// is any JSON value.
+/// Reads which rows of an index a view is asked for. A key is any JSON value; the other parameters are
+/// read as those of a listing by id.
 pub fn view_query(alloc: Global, request: &Request) -> Result<KeyRange, RequestFault>
     ensures { Says (λ range. range) result (there_or Refusal.Query (view_query (message_of request.now).query)) }
 {
@@ -33,7 +33,7 @@ pub fn view_query(alloc: Global, request: &Request) -> Result<KeyRange, RequestF
 fn read_keys(alloc: Global, parameters: &[(String, String)]) -> Got<Option<KeyRange>>
     ensures { IfOk result (λ range. range ≡ keys_asked (texts_of parameters.now)) }
 {
-    if !are_listing_names(parameters) {
+    if !are_view_names(parameters) {
         return Ok(None);
     }
     let Some(start) = value_at(alloc, parameters, "startkey")? else {
@@ -46,6 +46,21 @@ fn read_keys(alloc: Global, parameters: &[(String, String)]) -> Got<Option<KeyRa
         Some(range) => Ok(Some(keys_between(start, end, &range))),
         None => Ok(None),
     }
+}
+
+/// Tests whether all names are those of a view's parameters.
+fn are_view_names(parameters: &[(String, String)]) -> bool
+    ensures { result ≡ are_named view_names (texts_of parameters.now) }
+{
+    let names = [
+        "startkey",
+        "endkey",
+        "inclusive_end",
+        "descending",
+        "skip",
+        "limit",
+    ];
+    are_named(parameters, &names)
 }
 
 /// Makes the range from one key to another, in the direction of a listing.
