@@ -1,10 +1,10 @@
 -- The names that the rows have and those that the body declares are all that matter.
-use Rattle.index.proofs.Common.{Bool, Declarations, List, None, Option, Row, Some, [], ap, bytes_eq, cond, declared_by, false, fields_of, filter, find, if◌then◌else◌, int_eq, is_at_home, is_declaration_of, list_any, map, option_map, refl, same_int, shown_declaration, sym, true, ℕ, ℤ, ◌&&◌, ◌||◌, ◌∙◌, ◌∷◌, ◌≡◌, with_declared, index_name_of}
+use Rattle.index.proofs.Common.{Bool, Declarations, List, None, Option, Row, Some, [], and_from, ap, bytes_eq, bytes_eq-Decides, cond, declared_by, design_of, false, fields_of, filter, find, home_of, if◌then◌else◌, int_eq, is_declaration_of, list_any, map, option_map, refl, same_int, shown_declaration, sym, true, ℕ, ℤ, ◌&&◌, ◌||◌, ◌∙◌, ◌∷◌, ◌≡◌, with_declared, index_name_of}
 use Rattle.couch_json.specs.Value.{Members, Value, member, member_at, member_of, no_members, object}
 use Rattle.index.proofs.DeclarationStatements.{of_index}
-use Rattle.index.proofs.EntryChanges.{same_bytes}
+use Rattle.index.proofs.EntryChanges.{same_bytes, same_number}
 use Rattle.index.specs.Meaning.{declared_if}
-use Rattle.index.specs.Rebuilding.{declared_names, names_of, shown_name, with_names}
+use Rattle.index.specs.Rebuilding.{declared_names, is_of_design, names_of, shown_name, with_names}
 use Rattle.policy.specs.DesignDocuments.{is_index_object}
 use Rattle.std.proofs.Common.{Equal, Greater, Less, Ordering, codes, is_eq}
 use Rattle.std.proofs.lemmas.Map.Text.{is_eq-slice_cmp}
@@ -38,35 +38,39 @@ undeclared_name (Some v) n out = go (member_of v (codes "indexes")) refl out
     go None is out = ap (λ m. option_map fields_in (member_of (object (indexes_if m)) n)) is
     go (Some w) is out = ap (λ m. option_map fields_in (member_of (object (indexes_if m)) n)) is ∙ ap (option_map fields_in) (not_in_object n w (is_index_object w) out)
 
--- an index whose name no row of the database has has no row
-none_stored : (d db : ℤ) (o n : List ℕ) (rows : List Row) → d ≡ db → list_any (bytes_eq n) (map shown_name (map shown_declaration (filter (is_at_home db) rows))) ≡ false → find (is_declaration_of d o n) rows ≡ None
-none_stored d db o n [] same out = refl
-none_stored d db o n (r ∷ rows) same out = go (is_at_home db r) refl out (none_stored d db o n rows same)
+-- an index of a design document has no row, where none of the rows of the document has its name
+none_stored : (d db : ℤ) (o design n : List ℕ) (rows : List Row) → d ≡ db → o ≡ design → list_any (bytes_eq n) (map shown_name (map shown_declaration (filter (is_of_design db design) rows))) ≡ false → find (is_declaration_of d o n) rows ≡ None
+none_stored d db o design n [] same named out = refl
+none_stored d db o design n (r ∷ rows) same named out = go (is_of_design db design r) refl out (none_stored d db o design n rows same named)
   where
-    go : (h : Bool) → is_at_home db r ≡ h → list_any (bytes_eq n) (map shown_name (map shown_declaration (cond h (r ∷ filter (is_at_home db) rows) (filter (is_at_home db) rows)))) ≡ false
-        → (list_any (bytes_eq n) (map shown_name (map shown_declaration (filter (is_at_home db) rows))) ≡ false → find (is_declaration_of d o n) rows ≡ None) → cond (is_declaration_of d o n r) (Some r) (find (is_declaration_of d o n) rows) ≡ None
-    go false home out more = at (is_declaration_of d o n r) refl
+    go : (h : Bool) → is_of_design db design r ≡ h → list_any (bytes_eq n) (map shown_name (map shown_declaration (cond h (r ∷ filter (is_of_design db design) rows) (filter (is_of_design db design) rows)))) ≡ false
+        → (list_any (bytes_eq n) (map shown_name (map shown_declaration (filter (is_of_design db design) rows))) ≡ false → find (is_declaration_of d o n) rows ≡ None) → cond (is_declaration_of d o n r) (Some r) (find (is_declaration_of d o n) rows) ≡ None
+    go false own out more = at (is_declaration_of d o n r) refl
       where
         at : (b : Bool) → is_declaration_of d o n r ≡ b → cond b (Some r) (find (is_declaration_of d o n) rows) ≡ None
-        at true is = absurd (let own = ap (λ x. int_eq x db) ((of_index d o n r is).0 ∙ same) in let here = Rattle.index.proofs.EntryChanges.same_number db db refl in cc)
+        at true is =
+            let it = of_index d o n r is in
+            let here : is_of_design db design r ≡ true = and_from (int_eq (home_of r) db) _ (same_number (home_of r) db (it.0 ∙ same)) (same_bytes (design_of r) design (it.1 ∙ named)) in
+            absurd (cc)
         at false is = more out
-    go true home out more = at (is_declaration_of d o n r) refl (bytes_eq n (index_name_of r)) refl out
+    go true own out more = at (is_declaration_of d o n r) refl (bytes_eq n (index_name_of r)) refl out
       where
-        at : (b : Bool) → is_declaration_of d o n r ≡ b → (e : Bool) → bytes_eq n (index_name_of r) ≡ e → (e || list_any (bytes_eq n) (map shown_name (map shown_declaration (filter (is_at_home db) rows)))) ≡ false
+        at : (b : Bool) → is_declaration_of d o n r ≡ b → (e : Bool) → bytes_eq n (index_name_of r) ≡ e → (e || list_any (bytes_eq n) (map shown_name (map shown_declaration (filter (is_of_design db design) rows)))) ≡ false
             → cond b (Some r) (find (is_declaration_of d o n) rows) ≡ None
-        at true is e named out = absurd (let own = same_bytes n (index_name_of r) (sym (of_index d o n r is).2) in cc)
-        at false is true named out = absurd (cc)
-        at false is false named out = more out
+        at true is e has out = absurd (let it = same_bytes n (index_name_of r) (sym (of_index d o n r is).2) in cc)
+        at false is true has out = absurd (cc)
+        at false is false has out = more out
 
 pub all_declared : (declares : Declarations) (db : ℤ) (design : List ℕ) (body : Option Value) (rows : List Row) → ((d : ℤ) (o n : List ℕ) → declared_by rows d o n ≡ declares d o n) → (d : ℤ) (o n : List ℕ)
-    → with_names (with_names declares db design (declared_if body) (map shown_name (map shown_declaration (filter (is_at_home db) rows)))) db design (declared_if body) (declared_names body) d o n ≡ with_declared declares db design (declared_if body) d o n
+    → with_names (with_names declares db design (declared_if body) (map shown_name (map shown_declaration (filter (is_of_design db design) rows)))) db design (declared_if body) (declared_names body) d o n ≡ with_declared declares db design (declared_if body) d o n
 all_declared declares db design body rows said d o n =
-    go (int_eq d db) refl (bytes_eq o design) (list_any (bytes_eq n) (declared_names body)) refl (list_any (bytes_eq n) (map shown_name (map shown_declaration (filter (is_at_home db) rows)))) refl
+    go (int_eq d db) refl (bytes_eq o design) refl (list_any (bytes_eq n) (declared_names body)) refl (list_any (bytes_eq n) (map shown_name (map shown_declaration (filter (is_of_design db design) rows)))) refl
   where
-    go : (x : Bool) → int_eq d db ≡ x → (y z : Bool) → list_any (bytes_eq n) (declared_names body) ≡ z → (w : Bool) → list_any (bytes_eq n) (map shown_name (map shown_declaration (filter (is_at_home db) rows))) ≡ w
+    go : (x : Bool) → int_eq d db ≡ x → (y : Bool) → bytes_eq o design ≡ y → (z : Bool) → list_any (bytes_eq n) (declared_names body) ≡ z → (w : Bool) → list_any (bytes_eq n) (map shown_name (map shown_declaration (filter (is_of_design db design) rows))) ≡ w
         → (if (x && (y && z)) then declared_if body n else (if (x && (y && w)) then declared_if body n else declares d o n)) ≡ (if (x && y) then declared_if body n else declares d o n)
-    go false at y z is w was = refl
-    go true at false z is w was = refl
-    go true at true true is w was = refl
-    go true at true false is true was = refl
-    go true at true false is false was = sym (said d o n) ∙ ap (option_map fields_of) (none_stored d db o n rows (same_int d db at) was) ∙ sym (undeclared_name body n is)
+    go false at y own z is w was = refl
+    go true at false own z is w was = refl
+    go true at true own true is w was = refl
+    go true at true own false is true was = refl
+    go true at true own false is false was =
+        sym (said d o n) ∙ ap (option_map fields_of) (none_stored d db o design n rows (same_int d db at) ((bytes_eq-Decides o design).0 own) was) ∙ sym (undeclared_name body n is)

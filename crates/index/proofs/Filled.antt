@@ -1,9 +1,9 @@
 -- An index that is filled, one document after another.
-use Rattle.index.proofs.Common.{AllByRecursion, Bool, ChangesOnly, Database, Entries, HasEntries, IsAscending, List, None, Option, Ordering, Row, Some, Trees, [], all-filter, all_weaker, ap, arith, ascending_weaker, bytes_eq, bytes_eq-Decides, cases_Bool, cond, drop, entries_tree, false, filter, find, get_or, if◌then◌else◌, inl, inr, insert_sorted, int_eq, is_gt, is_key, key_if_seen, length, list_any, map, not, passing, refl, same_int, schema, sees_in, sort_by, subst, suc, sym, true, with_key, without_numbers, ℕ, ℤ, ◌&&◌, ◌+◌, ◌<◌, ◌||◌, ◌∙◌, ◌∷◌, ◌≡◌, ◌≢◌}
-use Rattle.index.proofs.EntryChanges.{bytes_eq-sym, same_bytes, same_number}
+use Rattle.index.proofs.Common.{AllByRecursion, Bool, ChangesOnly, Database, Entries, HasEntries, IsAscending, List, None, Option, Ordering, Row, Some, Trees, [], ap, arith, bytes_eq, bytes_eq-Decides, cases_Bool, cond, drop, entries_tree, false, find, get_or, if◌then◌else◌, inl, inr, insert_sorted, int_eq, is_gt, is_key, key_if_seen, length, list_any, map, refl, same_int, schema, sees_in, sort_by, subst, suc, sym, true, with_key, ℕ, ℤ, ◌&&◌, ◌+◌, ◌<◌, ◌||◌, ◌∙◌, ◌∷◌, ◌≡◌, ◌≢◌}
+use Rattle.index.proofs.EntryChanges.{same_bytes, same_number}
 use Rattle.index.proofs.Going.{has_after, has_as}
 use Rattle.index.proofs.SeenDocuments.{design_unseen, gone_unseen}
-use Rattle.index.specs.Filling.{AreToFill, IsBare, IsToFill, without_ids}
+use Rattle.index.specs.Filling.{AreToFill, IsToFill, without_ids}
 use Rattle.index.specs.Seen.{IsListedAs}
 use Rattle.index.specs.Shown.{Declared}
 use Rattle.std.proofs.lemmas.Bool.{false_from_ne_true}
@@ -14,13 +14,11 @@ use Rattle.store.specs.Pages.{live_rev, live_rev_by}
 use Rattle.std.proofs.lemmas.List.{drop_more}
 use Rattle.couch_json.specs.Value.{Value}
 use Rattle.tables.proofs.Common.{IsPermutation-sort_by, list_any-IsPermutation, nat_list_cmp_total, on_total}
-use Rattle.tables.proofs.Sorted.{all_sorted}
 use Rattle.tables.proofs.Lookups.{unwritten}
-use Rattle.tables.proofs.ListingOrders.{ascending_within}
 use Rattle.tables.proofs.Rests.{AreSame, document_kept, leaves, length_at, store_of}
 use Rattle.std.proofs.lemmas.List.{length-map}
 use Rattle.tables.specs.Layout.{IsDocumentRow, IsLaid, IsStore}
-use Rattle.tables.specs.Rows.{by_id, db_of, history_in, id_of, is_gone, is_in, is_of, listed_document}
+use Rattle.tables.specs.Rows.{by_id, db_of, history_in, id_of, is_gone, is_of, listed_document}
 use Rattle.tables.specs.Schema.{docs_tree, revs_tree}
 use Rattle.tables.specs.declared.decode.ListedDocument.{ListedDocument}
 use Rattle.tree.specs.DocumentId.{is_design_id}
@@ -133,25 +131,13 @@ ascending-sorted R turns cmp (r ∷ rows) up = put r (sort_by cmp rows) (all_put
           | false ↦ (all, rising)
         ]
 
--- the ids of a database's documents, in whatever order
-pub any_id : (db : ℤ) (i : List ℕ) (rows : List Row) → list_any (bytes_eq i) (map id_of (sort_by by_id (filter (is_in db) rows))) ≡ list_any (is_of db i) rows
-any_id db i rows =
-    of_map (sort_by by_id (filter (is_in db) rows))
-    ∙ list_any-IsPermutation (λ r. bytes_eq i (id_of r)) (sort_by by_id (filter (is_in db) rows)) (filter (is_in db) rows) (IsPermutation-sort_by by_id (on_total id_of nat_list_cmp_total) (filter (is_in db) rows))
-    ∙ of_filter rows
+-- ids of rows, in whatever order
+pub any_in_order : (i : List ℕ) (rows : List Row) → list_any (bytes_eq i) (map id_of (sort_by by_id rows)) ≡ list_any (λ r. bytes_eq i (id_of r)) rows
+any_in_order i rows = of_map (sort_by by_id rows) ∙ list_any-IsPermutation (λ r. bytes_eq i (id_of r)) (sort_by by_id rows) rows (IsPermutation-sort_by by_id (on_total id_of nat_list_cmp_total) rows)
   where
     of_map : (xs : List Row) → list_any (bytes_eq i) (map id_of xs) ≡ list_any (λ r. bytes_eq i (id_of r)) xs
     of_map [] = refl
     of_map (x ∷ xs) = ap (λ b. bytes_eq i (id_of x) || b) (of_map xs)
-
-    of_filter : (xs : List Row) → list_any (λ r. bytes_eq i (id_of r)) (filter (is_in db) xs) ≡ list_any (is_of db i) xs
-    of_filter [] = refl
-    of_filter (x ∷ xs) = go (is_in db x) (of_filter xs)
-      where
-        go : (b : Bool) → list_any (λ r. bytes_eq i (id_of r)) (filter (is_in db) xs) ≡ list_any (is_of db i) xs
-            → list_any (λ r. bytes_eq i (id_of r)) (cond b (x ∷ filter (is_in db) xs) (filter (is_in db) xs)) ≡ ((b && bytes_eq (id_of x) i) || list_any (is_of db i) xs)
-        go true more = λ j. bytes_eq-sym i (id_of x) j || more j
-        go false more = more
 
 none_found : (p : Row → Bool) (xs : List Row) → list_any p xs ≡ false → find p xs ≡ None
 none_found p [] out = refl
@@ -214,43 +200,3 @@ module _ (db : ℤ) (x : Declared) (rows docs : List Row) (due : Entries) (i : �
       ∙ comes_in due x.number (id_of d) (map id_of (drop (i + 1) docs)) key
       (λ q. fit.says q (id_of d) ∙ ap (λ v. is_key (key_if_seen x.fields v) q) (sym (seen_stays a b fit.store.schema_is made.only db (id_of d)))) apart m k j)
       (has_after _ a b e made.only got)
-
--- the documents of a database are to be filled in, where the index is bare
-pub all_to_fill : (db : ℤ) (x : Declared) (shown : List Row) (due : Entries) (a : Database) → IsBare db x due a → shown ≡ map listed_document (sort_by by_id (filter (is_in db) (a.trees docs_tree)))
-    → AreToFill db x shown (sort_by by_id (filter (is_in db) (a.trees docs_tree))) due a
-all_to_fill db x shown due a fit is =
-    let own = filter (is_in db) (a.trees docs_tree) in
-    record {
-      store = fit.store;
-      rows = all_sorted (IsDocumentRow a.trees) by_id own (all-filter (IsDocumentRow a.trees) (is_in db) (a.trees docs_tree) fit.store.laid.docs);
-      own = all_sorted (λ d. db_of d ≡ db) by_id own (all_weaker (λ r. is_in db r ≡ true) (λ d. db_of d ≡ db) (λ d k. same_int (db_of d) db k) own (passing (is_in db) (a.trees docs_tree)));
-      apart = ascending-sorted (λ c d. id_of c ≢ id_of d) (λ c d away same. away (sym same)) by_id own
-          (within_one (a.trees docs_tree) fit.store.laid.ids_apart);
-      shown_is = is;
-      entries = record { laid = fit.entries.laid; exact = λ m k i. fit.entries.exact m k i ∙ bare m k i };
-      says = fit.says;
-    }
-  where
-    within_one : (rows : List Row) → IsAscending (λ c d. db_of c ≡ db_of d → id_of c ≢ id_of d) rows → IsAscending (λ c d. id_of c ≢ id_of d) (filter (is_in db) rows)
-    within_one rows up =
-        ascending_within (is_in db) (λ c d. id_of c ≢ id_of d) rows
-        (ascending_weaker (λ c d. db_of c ≡ db_of d → id_of c ≢ id_of d) (λ c d. is_in db c ≡ true → is_in db d ≡ true → id_of c ≢ id_of d)
-        (λ c d away p q. away (same_int (db_of c) db p ∙ sym (same_int (db_of d) db q))) rows up)
-
-    bare : (m : ℤ) (k i : List ℕ) → without_numbers due (x.number ∷ []) m k i ≡ without_ids due x.number (map id_of (sort_by by_id (filter (is_in db) (a.trees docs_tree)))) m k i
-    bare m k i = elim (cases_Bool (int_eq m x.number)) [
-      | inl same ↦ elim (cases_Bool (list_any (is_of db i) (a.trees docs_tree))) [
-        | inl there ↦
-            ap (λ b. due m k i && not (b || false)) same ∙ and_false (due m k i)
-            ∙ sym (ap (λ b. if b then false else due m k i) (λ j. same j && (any_id db i (a.trees docs_tree) ∙ there) j))
-        | inr away ↦
-            let number : m ≡ x.number = same_int m x.number same in
-            let none : due m k i ≡ false = (λ j. due (number j) k i) ∙ fit.says k i ∙ ap (λ v. is_key (key_if_seen x.fields v) k) (unwritten_unseen a.trees fit.store.laid db i away) in
-            ap (λ b. due m k i && not (b || false)) same ∙ and_false (due m k i) ∙ sym none
-            ∙ sym (ap (λ b. if (b && list_any (bytes_eq i) (map id_of (sort_by by_id (filter (is_in db) (a.trees docs_tree))))) then false else due m k i) same
-            ∙ ap (λ b. if b then false else due m k i) (any_id db i (a.trees docs_tree) ∙ away))
-      ]
-      | inr other ↦
-          ap (λ b. due m k i && not (b || false)) other ∙ and_true (due m k i)
-          ∙ sym (ap (λ b. if (b && list_any (bytes_eq i) (map id_of (sort_by by_id (filter (is_in db) (a.trees docs_tree))))) then false else due m k i) other)
-    ]

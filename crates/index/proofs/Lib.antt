@@ -1,5 +1,6 @@
 pub mod Common
 pub mod DeclarationStatements
+pub mod DesignStatements
 pub mod EntryStatements
 pub mod EntryChanges
 pub mod Following
@@ -13,6 +14,8 @@ pub mod RangeStatements
 pub mod Counts
 pub mod StepLemmas
 pub mod Filled
+pub mod DesignIds
+pub mod ToFill
 pub mod Undeclared
 pub mod Declared
 pub mod Rebuilt

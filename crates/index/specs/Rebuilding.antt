@@ -10,6 +10,7 @@ use Rattle.sqlite.specs.Held.{Held}
 use Rattle.sqlite_trees.specs.declared.store.Store.{Ghosts}
 use Rattle.index.specs.Declaring.{IsRebuildable, IsRebuilt}
 use Rattle.index.specs.Meaning.{Declarations, Documents, declared_if, with_declared}
+use Rattle.index.specs.Rows.{design_of, is_at_home}
 use Rattle.index.specs.Steps.{Steps}
 use Rattle.sqlite_value.specs.Order.{Row, bytes, column}
 use Rattle.tree.specs.ShownDocument.{members_in}
@@ -49,6 +50,10 @@ declared_names (Some body) = names_in (member_of body (codes "indexes"))
 abbrev pub has_good_indexes : Option Value → Bool
 has_good_indexes None = true
 has_good_indexes (Some body) = is_absent_or is_index_object (member_of body (codes "indexes"))
+
+-- the row is that of an index of the design document
+abbrev pub is_of_design : ℤ → List ℕ → Row → Bool
+is_of_design db design r = is_at_home db r && bytes_eq (design_of r) design
 
 -- the name of an index, as a query shows it
 abbrev pub shown_name : Row → List ℕ

@@ -1,13 +1,16 @@
 -- What queries see of a document, as the rows of the document say it.
 -- This server's own: what a query shows of a row is said by `tables`.
-use Rattle.std.specs.Prelude.{◌≡◌, ℕ, ℤ, false, IsTrue, List, Option, Some, option_map, option_and_then, slice_get}
+use Rattle.std.specs.Cmp.Lexicographic.{slice_cmp}
+use Rattle.std.specs.Ordering.{is_le, is_lt, nat_cmp}
+use Rattle.std.specs.Prelude.{◌≡◌, ◌&&◌, ◌++◌, ℕ, ℤ, Bool, codes, false, filter, IsTrue, List, Option, Some, option_map, option_and_then, slice_get}
 use Rattle.couch_json.specs.Value.{Value}
 use Rattle.sqlite.specs.Held.{Held, state}
 use Rattle.sqlite.specs.State.{HasCleanDisk}
 use Rattle.sqlite_trees.specs.declared.store.Store.{Ghosts}
 use Rattle.sqlite_value.specs.Order.{Row}
 use Rattle.tables.specs.Layout.{IsDocumentRow, IsStore}
-use Rattle.tables.specs.Rows.{db_of, id_of, is_gone, listed_document, winner_text}
+use Rattle.sqlite_keyed.specs.Lists.{sort_by}
+use Rattle.tables.specs.Rows.{by_id, db_of, id_of, is_gone, is_in, listed_document, winner_text}
 use Rattle.tables.specs.Shown.{held_shown}
 use Rattle.tables.specs.declared.decode.ListedDocument.{ListedDocument}
 use Rattle.tree.specs.Revision.{Revision, revision_read}
@@ -42,6 +45,18 @@ pub record HasLive (rows : List Row) : Type 0 where
 pub record ShowsLive (id : List ℕ) (r : Revision) (rows : List Row) (document : Value) : Type 0 where
   pub live : HasLive rows
   pub shown : document ≡ shown_document id r (record { deleted = false; body = live.body })
+
+-- the row is that of a document of the database whose id is below these bytes
+abbrev pub is_below : ℤ → List ℕ → Row → Bool
+is_below db bound r = is_in db r && is_lt (slice_cmp nat_cmp (id_of r) bound)
+
+-- the same of one whose id is not below them
+abbrev pub is_from : ℤ → List ℕ → Row → Bool
+is_from db bound r = is_in db r && is_le (slice_cmp nat_cmp bound (id_of r))
+
+-- the rows of the documents of the database whose ids do not begin with `_d`, as those of all design documents do, by the bytes of their ids
+abbrev pub beside_designs : ℤ → List Row → List Row
+beside_designs db rows = sort_by by_id (filter (is_below db (codes "_d")) rows) ++ sort_by by_id (filter (is_from db (codes "_e")) rows)
 
 -- The disk returned what was written, and the tables of an open connection were laid out: with this row of a document of the database, of
 -- which that is read, and whose winner is not deleted.

@@ -1,6 +1,6 @@
 //! The entries of an index that has none, one of each document.
 
-ghost use Rattle.std.specs.Prelude.{◌≡◌, ◌||◌, IfErr, List};
+ghost use Rattle.std.specs.Prelude.{◌≡◌, ◌||◌, ◌++◌, IfErr, IfOk, List};
 ghost use Rattle.sqlite_value.specs.Order as order;
 ghost use Rattle.index.specs.Calls.{IsRefused};
 ghost use Rattle.index.specs.Filling.{AreToFill, Fills, FillsRow, FillsRows, IsBare, IsToFill};
@@ -12,13 +12,14 @@ ghost use Rattle.tree.specs.DocumentId.{is_design_id};
 use crate::declaration::Declaration;
 use crate::fault::IndexFault;
 use crate::refreshing::refresh_index;
-use crate::seen::{find_live, read_listed, rows_of_documents};
+use crate::seen::{find_live, read_listed, rows_below, rows_from};
+use couch_json::Got;
 use sqlite::{Alter, Row, Transaction};
 use std::alloc::Global;
 use tables::ListedDocument;
 
 /// Fills an index that has no entries: each document of the database that queries see and that has a key
-/// in it gets its entry.
+/// in it gets its entry. Design documents are not read: their ids begin with `_d`, and no others do.
 pub(crate) fn fill_index<S: Alter>(
     alloc: Global,
     tx: &mut Transaction<'_, S>,
@@ -29,8 +30,18 @@ pub(crate) fn fill_index<S: Alter>(
     ensures fills { Fills S.Store db.now (declared declaration.now) tx.old.conn.now tx.new.conn.now result }
     ensures err { (due : Entries) → IfErr result (IsRefused (AreFit S.Store (IsBare db.now (declared declaration.now) due) tx.old.conn.now tx.new.conn.now)) }
 {
-    let rows = rows_of_documents(tx, db)?;
+    let below = rows_below(tx, db, b"_d")?;
+    let above = rows_from(tx, db, b"_e")?;
+    let rows = join_rows(below, above)?;
     fill_rows(alloc, tx, db, declaration, &rows)
+}
+
+/// Joins two lists of rows, the second behind the first.
+fn join_rows(mut rows: Vec<Row>, mut others: Vec<Row>) -> Got<Vec<Row>>
+    ensures { IfOk result (λ all. all.items ≡ rows.items ++ others.items) }
+{
+    rows.append(&mut others)?;
+    Ok(rows)
 }
 
 /// Puts the entries of the documents of these rows into an index.

@@ -1,27 +1,31 @@
 //! The indexes of a design document, after another body of it is the winner's.
 
-ghost use Rattle.std.specs.Prelude.{◌≡◌, IfErr, IfOk, IfSome, Some, map, option_map, true, ⊤};
+ghost use Rattle.std.specs.Prelude.{◌≡◌, IfErr, IfOk, IfSome, Some, filter, map, option_map, true, ⊤};
 ghost use Rattle.std.specs.List.{AllByRecursion};
 ghost use Rattle.couch_json.specs.View.{members_view, view};
 ghost use Rattle.policy.specs.DesignDocuments.{is_index};
 ghost use Rattle.store.specs.Indexes.{declared_index, fields_in};
+ghost use Rattle.tables.specs.Calls.{ReadsInside};
+ghost use Rattle.tables.specs.Schema.{decls_tree};
 ghost use Rattle.index.specs.Calls.{IsRefused};
 ghost use Rattle.index.specs.Declaring.{IsRebuildable, SetsIndex};
 ghost use Rattle.index.specs.Meaning.{Declarations, Documents, declared_if};
-ghost use Rattle.index.specs.Rebuilding.{Rebuilds, SetsNames, declared_names, has_good_indexes, names_of, shown_name};
+ghost use Rattle.index.specs.Rebuilding.{Rebuilds, SetsNames, declared_names, has_good_indexes, is_of_design, names_of, shown_name};
+ghost use Rattle.index.specs.Layout.{HasIndexRows};
+ghost use Rattle.index.specs.Rows.{shown_declaration};
 ghost use Rattle.index.specs.Shown.{IsShownDeclaration};
 ghost use Rattle.index.specs.Steps.{AreFit, WasFit};
 
-use crate::declarations::rows_of_database;
 use crate::declaring::set_index;
 use crate::fault::IndexFault;
 use crate::reading::read_paths;
 use couch_json::{FieldPath, Got, Json, NameMap};
 use policy::check_indexes;
-use sqlite::{Alter, Row, Transaction};
+use sqlite::{Alter, Error, Row, Transaction, params};
 use sqlite_value::value::ValueRef;
 use std::alloc::Global;
 use std::str;
+use tables::statement::query_in;
 
 /// Lets the indexes of a design document be those that its body declares, or none where it has no body:
 /// what is not declared any more is taken out, and what is declared anew is filled.
@@ -36,12 +40,29 @@ pub fn rebuild<S: Alter>(
     ensures rebuilds { Rebuilds S.Store db.now design.now (option_map (λ v. view v.now) body.entry) tx.old.conn.now tx.new.conn.now result }
     ensures err { (declares : Declarations) (sees : Documents) → IfErr result (IsRefused (WasFit S.Store (IsRebuildable declares sees db.now) tx.old.conn.now tx.new.conn.now)) }
 {
-    let rows = rows_of_database(tx, db)?;
+    let rows = rows_of_design(tx, db, design)?;
     let stored = list_stored(alloc, rows)?;
     let declared = list_declared(alloc, body)?;
     let good = check_declared(alloc, body)?;
     set_names(alloc, tx, db, design, body, good, &stored)?;
     set_names(alloc, tx, db, design, body, good, &declared)
+}
+
+/// Returns the rows of the indexes that a design document declares, by their numbers: the number, the name
+/// and the fields.
+fn rows_of_design<S: Alter>(
+    tx: &mut Transaction<'_, S>,
+    db: &i64,
+    design: &[u8],
+) -> Result<Vec<Row>, Error>
+    ensures same_reference { tx.new.conn.ghost_name ≡ tx.old.conn.ghost_name }
+    ensures reads { ReadsInside S.Store HasIndexRows tx.old.conn.now tx.new.conn.now (λ trees rows. rows.items ≡ map shown_declaration (filter (is_of_design db.now design.now) (trees decls_tree))) result }
+{
+    query_in(
+        tx,
+        "SELECT num, name, fields FROM decls WHERE db = ?1 AND ddoc = ?2 ORDER BY num",
+        params![db, design],
+    )
 }
 
 /// Checks once for all names whether the indexes of a body are of their form.

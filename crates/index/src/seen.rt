@@ -8,11 +8,11 @@ ghost use Rattle.sqlite_value.specs.Order as order;
 ghost use Rattle.tables.specs.Calls.{AsksInside, LooksInside, ReadsInside, Stands};
 ghost use Rattle.tables.specs.Layout.{IsStore};
 ghost use Rattle.tables.specs.Listings.{IsListedDocument};
-ghost use Rattle.tables.specs.Rows.{by_id, is_in, listed_document};
+ghost use Rattle.tables.specs.Rows.{by_id, listed_document};
 ghost use Rattle.tables.specs.Schema.{docs_tree};
 ghost use Rattle.tables.specs.Shown.{IsShownRevision, held_shown};
 ghost use Rattle.index.specs.Calls.{FindsLive, IsRefused};
-ghost use Rattle.index.specs.Seen.{HasLive, IsListedFrom, IsSoundLive, ShowsLive};
+ghost use Rattle.index.specs.Seen.{HasLive, IsListedFrom, IsSoundLive, ShowsLive, is_below, is_from};
 
 use crate::fault::IndexFault;
 use couch_json::Json;
@@ -23,19 +23,37 @@ use tables::transaction_reads::one_revision_rows_in;
 use tables::{FoundRevision, ListedDocument, RowFault, read_listed_document, read_revision};
 use tree::{DocId, Rev, show};
 
-/// Returns the rows of all documents of a database, by the bytes of their ids: the id, the sequence, the
-/// winner and whether that is deleted.
-pub(crate) fn rows_of_documents<S: Alter>(
+/// Returns the rows of the documents of a database whose ids are below these bytes, by the bytes of their
+/// ids: the id, the sequence, the winner and whether that is deleted.
+pub(crate) fn rows_below<S: Alter>(
     tx: &mut Transaction<'_, S>,
     db: &i64,
+    bound: &[u8],
 ) -> Result<Vec<Row>, Error>
     ensures same_reference { tx.new.conn.ghost_name ≡ tx.old.conn.ghost_name }
-    ensures reads { ReadsInside S.Store IsStore tx.old.conn.now tx.new.conn.now (λ trees rows. rows.items ≡ map listed_document (sort_by by_id (filter (is_in db.now) (trees docs_tree)))) result }
+    ensures reads { ReadsInside S.Store IsStore tx.old.conn.now tx.new.conn.now (λ trees rows. rows.items ≡ map listed_document (sort_by by_id (filter (is_below db.now bound.now) (trees docs_tree)))) result }
 {
     query_in(
         tx,
-        "SELECT id, seq, winner, del FROM docs WHERE db = ?1 ORDER BY id",
-        params![db],
+        "SELECT id, seq, winner, del FROM docs WHERE db = ?1 AND id < ?2 ORDER BY id",
+        params![db, bound],
+    )
+}
+
+/// Returns the rows of the documents of a database whose ids are not below these bytes, by the bytes of
+/// their ids: the id, the sequence, the winner and whether that is deleted.
+pub(crate) fn rows_from<S: Alter>(
+    tx: &mut Transaction<'_, S>,
+    db: &i64,
+    bound: &[u8],
+) -> Result<Vec<Row>, Error>
+    ensures same_reference { tx.new.conn.ghost_name ≡ tx.old.conn.ghost_name }
+    ensures reads { ReadsInside S.Store IsStore tx.old.conn.now tx.new.conn.now (λ trees rows. rows.items ≡ map listed_document (sort_by by_id (filter (is_from db.now bound.now) (trees docs_tree)))) result }
+{
+    query_in(
+        tx,
+        "SELECT id, seq, winner, del FROM docs WHERE db = ?1 AND id >= ?2 ORDER BY id",
+        params![db, bound],
     )
 }
 

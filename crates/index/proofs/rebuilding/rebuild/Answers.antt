@@ -1,4 +1,4 @@
-use Rattle.index.proofs.Common.{AllByRecursion, Err, Error, HasCleanDisk, HasIndexRows, IndexFault, IsShownDeclaration, List, Ok, ap, arith, decls_tree, filter, is_at_home, map, option_map, rules, shown_declaration, state, subst, sym, with_declared, ℕ, ⊤, ◌∙◌, ◌≡◌}
+use Rattle.index.proofs.Common.{AllByRecursion, Err, Error, HasCleanDisk, HasIndexRows, IndexFault, IsShownDeclaration, List, Ok, ap, arith, decls_tree, filter, map, option_map, rules, shown_declaration, state, subst, sym, with_declared, ℕ, ⊤, ◌∙◌, ◌≡◌}
 use Rattle.couch_json.specs.Value.{Value}
 use Rattle.couch_json.specs.View.{view}
 use Rattle.index.proofs.AllDeclared.{all_declared}
@@ -10,13 +10,13 @@ use Rattle.index.proofs.Rebuilt.{rebuildable, rebuilt_as, rebuilt_then}
 use Rattle.index.proofs.StepLemmas.{steps_read, steps_stop, steps_then}
 use Rattle.index.specs.Declaring.{IsRebuildable, IsRebuilt}
 use Rattle.index.specs.Meaning.{declared_if}
-use Rattle.index.specs.Rebuilding.{declared_names, shown_name, with_names}
+use Rattle.index.specs.Rebuilding.{declared_names, is_of_design, shown_name, with_names}
 use Rattle.index.proofs.rebuilding.rebuild.Goals as goal
 
 pub returns-in_err-set_names-clause-rebuilds : goal.returns-in_err-set_names-clause-rebuilds
 returns-in_err-set_names-clause-rebuilds g c declares sees =
     let a = c.args.tx.now.conn.now in
-    let b = c.rows_of_database.new.tx.conn.now in
+    let b = c.rows_of_design.new.tx.conn.now in
     let m = c.set_names.new.tx.conn.now in
     let db = c.args.db.now in
     let design = c.args.design.now in
@@ -33,7 +33,7 @@ returns-in_err-set_names-clause-rebuilds g c declares sees =
 pub returns-clause-rebuilds : goal.returns-clause-rebuilds
 returns-clause-rebuilds g c declares sees =
     let a = c.args.tx.now.conn.now in
-    let b = c.rows_of_database.new.tx.conn.now in
+    let b = c.rows_of_design.new.tx.conn.now in
     let m = c.set_names.new.tx.conn.now in
     let e = c.set_names-2.new.tx.conn.now in
     let db = c.args.db.now in
@@ -57,7 +57,7 @@ returns-clause-rebuilds g c declares sees =
     (λ was fit made got.
     let clean : HasCleanDisk (state g.S.Store b) = omega (arith, sets.asks.survives.clean, was) in
     let rows : HasIndexRows (state g.S.Store a).now = record { schema_is = fit.store.schema_is; decls = fit.indexed.decls; entries = fit.indexed.entries.laid } in
-    let one_is : one ≡ map shown_name (map shown_declaration (filter (is_at_home db) decls)) =
+    let one_is : one ≡ map shown_name (map shown_declaration (filter (is_of_design db design) decls)) =
     ap (map {B = List ℕ} (λ name. name.items)) c.deref.ensures.value ∙ c.in_ok-stored.ensures.ok ∙ ap (map shown_name) (reads.found clean rows) in
     let two_is : two ≡ declared_names body = ap (map {B = List ℕ} (λ name. name.items)) c.deref-2.ensures.value ∙ c.in_ok-declared.ensures in
     rebuilt_as second (with_declared declares db design f) sees (state g.S.Store a).now (state g.S.Store e).now
@@ -67,7 +67,7 @@ returns-clause-rebuilds g c declares sees =
 pub returns-in_err-stored-clause-err : goal.returns-in_err-stored-clause-err
 returns-in_err-stored-clause-err g c declares sees =
     let a = c.args.tx.now.conn.now in
-    let b = c.rows_of_database.new.tx.conn.now in
+    let b = c.rows_of_design.new.tx.conn.now in
     let db = c.args.db.now in
     let reads = c.in_ok-rows.ensures.reads in
     let sound = WasFit g.S.Store (IsRebuildable declares sees db) a b in
@@ -78,12 +78,12 @@ returns-in_err-stored-clause-err g c declares sees =
     (λ it.
     let fit = it.1 (reads.served it.0) in
     let rows : HasIndexRows (state g.S.Store a).now = record { schema_is = fit.store.schema_is; decls = fit.indexed.decls; entries = fit.indexed.entries.laid } in
-    shown_some (state g.S.Store a).now rows (is_at_home db) c.in_ok-rows.rows.items (reads.found it.0 rows)) c.in_err-stored.ensures.err)
+    shown_some (state g.S.Store a).now rows (is_of_design db c.args.design.now) c.in_ok-rows.rows.items (reads.found it.0 rows)) c.in_err-stored.ensures.err)
 
 pub returns-in_err-set_names-clause-err : goal.returns-in_err-set_names-clause-err
 returns-in_err-set_names-clause-err g c declares sees =
     let a = c.args.tx.now.conn.now in
-    let b = c.rows_of_database.new.tx.conn.now in
+    let b = c.rows_of_design.new.tx.conn.now in
     let m = c.set_names.new.tx.conn.now in
     let db = c.args.db.now in
     let reads = c.in_ok-rows.ensures.reads in
@@ -101,7 +101,7 @@ returns-in_err-set_names-clause-err g c declares sees =
 pub returns-clause-err : goal.returns-clause-err
 returns-clause-err g c declares sees =
     let a = c.args.tx.now.conn.now in
-    let b = c.rows_of_database.new.tx.conn.now in
+    let b = c.rows_of_design.new.tx.conn.now in
     let m = c.set_names.new.tx.conn.now in
     let e = c.set_names-2.new.tx.conn.now in
     let db = c.args.db.now in
