@@ -174,11 +174,13 @@ def limiting(limit, memory):
 class Server:
     """A running server."""
 
-    def __init__(self, options, file, conns, port=0, limit=None, memory=None, at_once=None):
+    def __init__(self, options, file, conns, port=0, limit=None, memory=None, at_once=None, cache=None):
         self.port = port or options.port
         words = ["serve", "--secret", SECRET, "--file", file, "--port", str(self.port), "--conns", str(conns), ADMIN]
         if at_once is not None:
             words += ["--at-once", str(at_once)]
+        if cache is not None:
+            words += ["--cache", str(cache)]
         self.process = subprocess.Popen(shlex.split(options.program) + words, stdout=subprocess.PIPE, stderr=subprocess.PIPE, preexec_fn=limiting(limit, memory))
         self.lines = queue.Queue()
         threading.Thread(target=self.read_lines, daemon=True).start()

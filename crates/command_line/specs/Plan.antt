@@ -34,20 +34,21 @@ command_named name = record { top = record ((new_app name).top) { disable_help_f
 abbrev pub lab_command : Shape
 lab_command = (with_rule (with_rule (command_named (codes "lab")) (required_option (codes "secret"))) admin_rule).top
 
--- `serve --secret S --file F --port P --conns N [--at-once K] [ADMIN]...`
+-- `serve --secret S --file F --port P --conns N [--at-once K] [--cache MB] [ADMIN]...`
 abbrev pub serve_command : Shape
-serve_command = (with_rule (with_rule (with_rule (with_rule (with_rule (with_rule (command_named (codes "serve"))
-    (required_option (codes "secret"))) (required_option (codes "file"))) (required_option (codes "port"))) (required_option (codes "conns"))) (optional_option (codes "at-once"))) admin_rule).top
+serve_command = (with_rule (with_rule (with_rule (with_rule (with_rule (with_rule (with_rule (command_named (codes "serve"))
+    (required_option (codes "secret"))) (required_option (codes "file"))) (required_option (codes "port"))) (required_option (codes "conns"))) (optional_option (codes "at-once")))
+    (optional_option (codes "cache"))) admin_rule).top
 
 -- the words of `sync` that have to be given
 abbrev pub sync_options : App
 sync_options = with_rule (with_rule (with_rule (with_rule (with_rule (command_named (codes "sync"))
     (required_option (codes "secret"))) (required_option (codes "session"))) (required_option (codes "from"))) (required_option (codes "db"))) (required_option (codes "target-db"))
 
--- `sync --secret S --session T --from F --db D [--to G | --address A] --target-db E [--user U] [ADMIN]...`, where the order plays no part
+-- `sync --secret S --session T --from F --db D [--to G | --address A] --target-db E [--user U] [--cache MB] [ADMIN]...`, where the order plays no part
 abbrev pub sync_command : Shape
-sync_command = (with_rule (with_rule (with_rule (with_rule sync_options
-    (optional_option (codes "to"))) (optional_option (codes "address"))) (optional_option (codes "user"))) admin_rule).top
+sync_command = (with_rule (with_rule (with_rule (with_rule (with_rule sync_options
+    (optional_option (codes "to"))) (optional_option (codes "address"))) (optional_option (codes "user"))) (optional_option (codes "cache"))) admin_rule).top
 
 -- a command that has to be followed by another
 abbrev pub bare_command : App
@@ -76,20 +77,30 @@ port_in = number_between 0 65535
 abbrev pub conns_in : Text → Option ℕ
 conns_in = number_between 1 1000000
 
+-- a number from 1 to the second, or the first where none is given
+abbrev pub number_or : ℕ → ℕ → Option Text → Option ℕ
+number_or absent most None = Some absent
+number_or absent most (Some text) = number_between 1 most text
+
 -- how many connections are open at once: one, where that isn't said
 abbrev pub at_once_in : Option Text → Option ℕ
-at_once_in None = Some 1
-at_once_in (Some text) = number_between 1 1000 text
+at_once_in = number_or 1 1000
+
+-- how many megabytes of a file's pages are kept in memory at most: 64, where that isn't said
+abbrev pub cache_in : Option Text → Option ℕ
+cache_in = number_or 64 4096
 
 -- ---- what is asked
 
--- what a server is to be: its secret and its admins, the path of its file, its port, after how many connections it ends, and how many are open at once
+-- what a server is to be: its secret and its admins, the path of its file, its port, after how many connections it ends, how many are open at once, and how many
+-- megabytes of its file it keeps in memory at most
 pub record ServerAsked : Type 0 where
   pub secret : List ℕ
   pub file : List ℕ
   pub port : ℕ
   pub conns : ℕ
   pub at_once : ℕ
+  pub cache : ℕ
   pub admins : List (List ℕ)
 
 -- what a pass copies to: the store in a file, or a server
@@ -97,7 +108,8 @@ pub data TargetAsked : Type 0 where
   file_asked : Text → TargetAsked
   address_asked : Text → TargetAsked
 
--- what is to be copied: the secret and the admins of the nodes, the session, the paths and the names of both sides, and the user in whose name
+-- what is to be copied: the secret and the admins of the nodes, the session, the paths and the names of both sides, the user in whose name, and how many megabytes
+-- of each file are kept in memory at most
 pub record SyncAsked : Type 0 where
   pub secret : Text
   pub session : Text
@@ -106,6 +118,7 @@ pub record SyncAsked : Type 0 where
   pub target : TargetAsked
   pub target_database : Text
   pub user : Option Text
+  pub cache : ℕ
   pub admins : List Text
 
 -- what the program is asked to do
@@ -128,9 +141,9 @@ lab_asked_by rows = option_map (λ secret. lab_asked secret (admins_in rows)) (f
 -- what the words after `serve` ask for
 abbrev pub serve_asked_by : List Row → Option Asked
 serve_asked_by rows =
-    option_and_then (λ secret. option_and_then (λ file. option_and_then (λ port. option_and_then (λ conns. option_map (λ at_once.
-    serve_asked (record { secret = secret; file = file; port = port; conns = conns; at_once = at_once; admins = admins_in rows }))
-    (at_once_in (first_of (codes "at-once") rows))) (option_and_then conns_in (first_of (codes "conns") rows)))
+    option_and_then (λ secret. option_and_then (λ file. option_and_then (λ port. option_and_then (λ conns. option_and_then (λ at_once. option_map (λ cache.
+    serve_asked (record { secret = secret; file = file; port = port; conns = conns; at_once = at_once; cache = cache; admins = admins_in rows }))
+    (cache_in (first_of (codes "cache") rows))) (at_once_in (first_of (codes "at-once") rows))) (option_and_then conns_in (first_of (codes "conns") rows)))
     (option_and_then port_in (first_of (codes "port") rows))) (first_of (codes "file") rows)) (first_of (codes "secret") rows)
 
 -- a file that isn't the source's own
@@ -156,7 +169,7 @@ user_in (Some name) = if list_all is_header_byte name then Some (Some name) else
 abbrev pub sync_asked_by : List Row → Option Asked
 sync_asked_by rows =
     option_and_then (λ secret. option_and_then (λ session. option_and_then (λ from. option_and_then (λ database. option_and_then (λ target.
-    option_and_then (λ target_database. option_map (λ user.
+    option_and_then (λ target_database. option_and_then (λ user. option_map (λ cache.
     sync_asked (record {
       secret = secret;
       session = session;
@@ -165,9 +178,10 @@ sync_asked_by rows =
       target = target;
       target_database = target_database;
       user = user;
+      cache = cache;
       admins = admins_in rows;
     }))
-    (user_in (first_of (codes "user") rows))) (first_of (codes "target-db") rows))
+    (cache_in (first_of (codes "cache") rows))) (user_in (first_of (codes "user") rows))) (first_of (codes "target-db") rows))
     (target_in from (first_of (codes "to") rows) (first_of (codes "address") rows))) (first_of (codes "db") rows)) (first_of (codes "from") rows))
     (first_of (codes "session") rows)) (first_of (codes "secret") rows)
 
@@ -201,12 +215,13 @@ sync_of p = record {
   target = target_of p.target;
   target_database = string_bytes p.target_database;
   user = option_map string_bytes p.user;
+  cache = p.cache;
   admins = map string_bytes p.admins.items;
 }
 
 -- the program's plan as the definition's
 abbrev pub command_of : Plan → Asked
 command_of (Lab secret admins) = lab_asked (string_bytes secret) (map string_bytes admins.items)
-command_of (Serve secret file port conns at_once admins) =
-    serve_asked (record { secret = string_bytes secret; file = string_bytes file; port = port; conns = conns; at_once = at_once; admins = map string_bytes admins.items })
+command_of (Serve secret file port conns at_once cache admins) =
+    serve_asked (record { secret = string_bytes secret; file = string_bytes file; port = port; conns = conns; at_once = at_once; cache = cache; admins = map string_bytes admins.items })
 command_of (Sync plan) = sync_asked (sync_of plan)

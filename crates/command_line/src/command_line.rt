@@ -5,7 +5,7 @@ ghost use Rattle.std.specs.Char.{is_ascii_digit};
 ghost use Rattle.std.specs.List.{list_all};
 ghost use Rattle.clap.specs.declared.builder.command.Command.TheViews.{out-Command as fields_of};
 ghost use Rattle.clap.specs.Words.{all_of, app_of, fault_of, first_of, found_of, kind_of, rows_of, rule_of, shape_of, subcommand_of, subcommand_rows_of, with_rule};
-ghost use Rattle.command_line.specs.Plan.{admin_rule, asked_at, asked_by, command_of, at_once_in, bare_command, command_named, couchd_command, file_beside, is_header_byte, is_numeral, lab_asked_by, lab_command, number_between, optional_option, port_in, required_option, serve_asked_by, serve_command, sync_asked_by, sync_command, sync_options, target_in, target_of, user_in};
+ghost use Rattle.command_line.specs.Plan.{admin_rule, asked_at, asked_by, command_of, bare_command, command_named, couchd_command, file_beside, is_header_byte, is_numeral, lab_asked_by, lab_command, number_between, number_or, optional_option, port_in, required_option, serve_asked_by, serve_command, sync_asked_by, sync_command, sync_options, target_in, target_of, user_in};
 
 use crate::plans::{Plan, PlanFault, SyncPlan, SyncTarget};
 use clap::error::ErrorKind;
@@ -18,8 +18,17 @@ const GREATEST_PORT: u32 = 65_535;
 /// How many connections a server serves at most.
 const GREATEST_CONNS: u32 = 1_000_000;
 
+/// How many connections are open at once where the words don't say it.
+const AT_ONCE: u32 = 1;
+
 /// How many connections are open at once at most.
 const GREATEST_AT_ONCE: u32 = 1_000;
+
+/// How many megabytes of a file's pages are kept in memory where the words don't say it.
+const CACHE: u32 = 64;
+
+/// How many megabytes of a file's pages are kept in memory at most.
+const GREATEST_CACHE: u32 = 4_096;
 
 /// Reads the words of a command line, of which the first is the program's name, as in `env::args`.
 ///
@@ -77,7 +86,8 @@ fn lab_command<'a>(alloc: Global) -> Result<Command<'a>, AllocError>
     add_admins(alloc, lab)
 }
 
-/// Returns the command `serve --secret S --file F --port P --conns N [--at-once K] [ADMIN]...`.
+/// Returns the command `serve --secret S --file F --port P --conns N [--at-once K] [--cache MB]
+/// [ADMIN]...`.
 fn serve_command<'a>(alloc: Global) -> Result<Command<'a>, AllocError>
     ensures shape { IfOk result (λ command. shape_of command ≡ serve_command) }
     ensures local { IfOk result (λ command. (fields_of command).has_globals ≡ false) }
@@ -88,12 +98,13 @@ fn serve_command<'a>(alloc: Global) -> Result<Command<'a>, AllocError>
     let serve = add_required_option(alloc, serve, "port")?;
     let serve = add_required_option(alloc, serve, "conns")?;
     let serve = add_optional_option(alloc, serve, "at-once")?;
+    let serve = add_optional_option(alloc, serve, "cache")?;
     add_admins(alloc, serve)
 }
 
 /// Returns the command `sync --secret S --session T --from F --db D [--to G | --address A]
-/// --target-db E [--user U] [ADMIN]...`. It also takes words with both of `--to` and `--address`, or with
-/// neither, which `choose_target` refuses.
+/// --target-db E [--user U] [--cache MB] [ADMIN]...`. It also takes words with both of `--to` and
+/// `--address`, or with neither, which `choose_target` refuses.
 fn sync_command<'a>(alloc: Global) -> Result<Command<'a>, AllocError>
     ensures shape { IfOk result (λ command. shape_of command ≡ sync_command) }
     ensures local { IfOk result (λ command. (fields_of command).has_globals ≡ false) }
@@ -102,6 +113,7 @@ fn sync_command<'a>(alloc: Global) -> Result<Command<'a>, AllocError>
     let sync = add_optional_option(alloc, sync, "to")?;
     let sync = add_optional_option(alloc, sync, "address")?;
     let sync = add_optional_option(alloc, sync, "user")?;
+    let sync = add_optional_option(alloc, sync, "cache")?;
     add_admins(alloc, sync)
 }
 
@@ -220,7 +232,8 @@ fn serve_plan(alloc: Global, matches: &ArgMatches<'_>) -> Result<Plan, PlanFault
     let file = text_at(alloc, matches, "file")?;
     let port = port_of(matches)?;
     let conns = number_at(matches, "conns", 1, GREATEST_CONNS)?;
-    let at_once = at_once_of(matches)?;
+    let at_once = number_or(matches, "at-once", AT_ONCE, GREATEST_AT_ONCE)?;
+    let cache = number_or(matches, "cache", CACHE, GREATEST_CACHE)?;
     let admins = admins_of(alloc, matches)?;
     Ok(Plan::Serve {
         secret,
@@ -228,6 +241,7 @@ fn serve_plan(alloc: Global, matches: &ArgMatches<'_>) -> Result<Plan, PlanFault
         port,
         conns,
         at_once,
+        cache,
         admins,
     })
 }
@@ -246,6 +260,7 @@ fn sync_plan(alloc: Global, matches: &ArgMatches<'_>) -> Result<Plan, PlanFault>
     let target = choose_target(&from, to, address)?;
     let target_database = text_at(alloc, matches, "target-db")?;
     let user = check_user(option_at(alloc, matches, "user")?)?;
+    let cache = number_or(matches, "cache", CACHE, GREATEST_CACHE)?;
     let admins = admins_of(alloc, matches)?;
     Ok(Plan::Sync(SyncPlan {
         secret,
@@ -255,6 +270,7 @@ fn sync_plan(alloc: Global, matches: &ArgMatches<'_>) -> Result<Plan, PlanFault>
         target,
         target_database,
         user,
+        cache,
         admins,
     }))
 }
@@ -339,15 +355,16 @@ fn port_of(matches: &ArgMatches<'_>) -> Result<u16, PlanFault>
     Ok(port as u16)
 }
 
-/// Returns how many connections are open at once: 1 where the words don't say it.
-fn at_once_of(matches: &ArgMatches<'_>) -> Result<u32, PlanFault>
-    ensures ok { IfOk result (λ at_once. at_once_in (first_of (codes "at-once") (rows_of (found_of matches.now))) ≡ Some at_once) }
-    ensures usage { IfErr result (λ _. at_once_in (first_of (codes "at-once") (rows_of (found_of matches.now))) ≡ None) }
+/// Returns the number from 1 to `most` that is the value of an option, or `absent` where the option isn't
+/// given.
+fn number_or(matches: &ArgMatches<'_>, name: &str, absent: u32, most: u32) -> Result<u32, PlanFault>
+    ensures ok { IfOk result (λ number. number_or absent most (first_of name.now (rows_of (found_of matches.now))) ≡ Some number) }
+    ensures usage { IfErr result (λ _. number_or absent most (first_of name.now (rows_of (found_of matches.now))) ≡ None) }
 {
-    let Some(text) = matches.get_str("at-once") else {
-        return Ok(1);
+    let Some(text) = matches.get_str(name) else {
+        return Ok(absent);
     };
-    match read_number(text, 1, GREATEST_AT_ONCE) {
+    match read_number(text, 1, most) {
         Some(number) => Ok(number),
         None => Err(PlanFault::Usage),
     }

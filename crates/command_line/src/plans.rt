@@ -11,8 +11,8 @@ pub enum Plan {
         /// The names of the server's admins.
         admins: Vec<String>,
     },
-    /// `serve --secret S --file F --port P --conns N [--at-once K] [ADMIN]...`: serve the store in a
-    /// file.
+    /// `serve --secret S --file F --port P --conns N [--at-once K] [--cache MB] [ADMIN]...`: serve the
+    /// store in a file.
     Serve {
         /// The secret of the proxy's tokens.
         secret: String,
@@ -24,11 +24,13 @@ pub enum Plan {
         conns: u32,
         /// How many of them are open at once, 1 to 1,000.
         at_once: u32,
+        /// How many megabytes of the file's pages are kept in memory at most, 1 to 4,096.
+        cache: u32,
         /// The names of the server's admins.
         admins: Vec<String>,
     },
     /// `sync --secret S --session T --from F --db D [--to G | --address A] --target-db E [--user U]
-    /// [ADMIN]...`: copy what a database in a file has and another lacks.
+    /// [--cache MB] [ADMIN]...`: copy what a database in a file has and another lacks.
     Sync(SyncPlan),
 }
 
@@ -49,6 +51,8 @@ pub struct SyncPlan {
     pub target_database: String,
     /// The user of each request, if there is one.
     pub user: Option<String>,
+    /// How many megabytes of each file's pages are kept in memory at most, 1 to 4,096.
+    pub cache: u32,
     /// The names of the admins of the stores in files.
     pub admins: Vec<String>,
 }
@@ -64,6 +68,7 @@ impl Drop for SyncPlan {
             target: _,
             target_database: _,
             user: _,
+            cache: _,
             admins: _,
         } = self;
     }

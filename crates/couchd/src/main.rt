@@ -33,6 +33,7 @@ fn run(rt: &HostRuntime) -> Result<u8, CommandFault> {
             port,
             conns,
             at_once,
+            cache,
             admins,
         } => {
             let path = file.as_str();
@@ -44,6 +45,7 @@ fn run(rt: &HostRuntime) -> Result<u8, CommandFault> {
                 port,
                 conns,
                 at_once,
+                cache,
             )?)
         }
         Plan::Sync(plan) => Ok(sync(rt, &plan)?),

@@ -25,11 +25,12 @@ impl Kind for CommandLines {
                     port,
                     conns,
                     at_once,
+                    cache,
                     admins,
                 },
             ) => {
                 let front = format!(in self.alloc;
-                    "serve {file} at {port}, {conns} connections, {at_once} at once"
+                    "serve {file} at {port}, {conns} connections, {at_once} at once, cache {cache} MB"
                 )?;
                 show_asked(front, secret.as_str(), &admins)
             }
@@ -86,6 +87,8 @@ fn show_sync(alloc: Global, plan: &SyncPlan) -> Result<Vec<u8>, RowsFault> {
     if let Some(user) = &plan.user {
         push_all(&mut front, &[", user ", user])?;
     }
+    let cache = plan.cache;
+    let front = format!(in alloc; "{front}, cache {cache} MB")?;
     show_asked(front, &plan.secret, &plan.admins)
 }
 

@@ -6,10 +6,10 @@ use crate::address::{print_address, socket_fault};
 use crate::listening::LoggedListener;
 use crate::many::serve_many;
 use crate::serving::{open_hub, serve};
-use crate::store_file::open_store;
+use crate::store_file::open_file;
 use command_line::ProgramFault;
 use hub::Hub;
-use sqlite::{Alter, Unknown};
+use sqlite::Alter;
 use sqlstore::SqlStore;
 use std::net::{Ipv4Addr, Net, OpenListener, SocketAddr, TcpListener, TcpStream};
 use std::time::{Clock, Duration};
@@ -18,7 +18,8 @@ use store::Store;
 /// How many seconds a read or a write of a connection may wait.
 const PATIENCE: u64 = 30;
 
-/// Serves the store in a file, which is opened, or made, before the port is bound.
+/// Serves the store in a file, which is opened, or made, before the port is bound. At most so many
+/// megabytes of its pages are kept in memory.
 pub fn serve_file(
     rt: &HostRuntime,
     secret: &str,
@@ -27,10 +28,11 @@ pub fn serve_file(
     port: u16,
     conns: u32,
     at_once: u32,
+    megabytes: u32,
 ) -> Result<u8, ProgramFault>
     ensures { IfOk result (λ status. status ≡ 0) }
 {
-    let store = open_store(rt, path, Unknown)?;
+    let store = open_file(rt, path, megabytes)?;
     serve_tables(rt, secret, admins, store, port, conns, at_once)
 }
 

@@ -9,8 +9,8 @@ use command_line::{ProgramFault, SyncPlan, SyncTarget};
 use couch_json::Got;
 use node::Node;
 use repl::Replication;
-use server::{open_node, open_store};
-use sqlite::{Alter, Unknown};
+use server::{open_file, open_node};
+use sqlite::Alter;
 use sqlstore::SqlStore;
 use std::alloc::Global;
 use std::io;
@@ -37,8 +37,8 @@ fn sync_files(
     is_terminal: bool,
     path: &str,
 ) -> Result<u8, ProgramFault> {
-    let from = open_store(rt, &plan.from, Unknown)?;
-    let to = open_store(rt, path, Unknown)?;
+    let from = open_file(rt, &plan.from, plan.cache)?;
+    let to = open_file(rt, path, plan.cache)?;
     sync_tables(rt, plan, is_terminal, from, path, to)
 }
 
@@ -97,7 +97,7 @@ fn sync_file(
     is_terminal: bool,
     address: &str,
 ) -> Result<u8, ProgramFault> {
-    let from = open_store(rt, &plan.from, Unknown)?;
+    let from = open_file(rt, &plan.from, plan.cache)?;
     sync_tables_to(rt, plan, is_terminal, from, address)
 }
 
