@@ -1,17 +1,24 @@
 -- Turns of a pass, one after another.
-use Rattle.std.proofs.Common.{◌≡◌, ◌<◌, ◌≤◌, ◌+◌, ℕ, suc, Option, Some, None, subst, arith}
+use Rattle.std.proofs.Common.{◌≡◌, ◌<◌, ◌≤◌, ◌+◌, ℕ, suc, Option, Some, None, inl, subst, arith}
 use Rattle.std.specs.Prelude.{OnErr, Result, Ok, Err, option_map}
 use Rattle.repl.specs.Asks.{ask_of}
 use Rattle.repl.specs.Passes.{Asked}
 use Rattle.repl.specs.declared.ask.Ask.{Ask}
-use Rattle.sync.specs.Turns.{ComesToEnd, GoesThrough, EndsEarly, TurnOf, most_turns}
+use Rattle.sync.specs.Turns.{ComesToEnd, EndsEarly, GoesThrough, RunsOut, StopsInTurn, TurnOf, most_exchanges}
+
+-- a turn that there may be has as many exchanges before it as there may be, or fewer
+in_time_before : (count most : ℕ) → count < most + 1 → count ≤ most
+in_time_before count most before = omega (arith, before)
+
+meets_most : (most count : ℕ) → count ≤ most → most ≤ count → count ≡ most
+meets_most most count within all = omega (arith, within, all)
 
 module _ {A : Type 0} (turn : TurnOf A) (count : ℕ) (start now after : A) (said : Option Ask) where
   -- the last turn
-  pub comes_to_end : (ask : Ask) → count < most_turns → GoesThrough turn count start now → turn now (option_map ask_of said) after → said ≡ Some ask → ComesToEnd turn start (ask_of ask) after
+  pub comes_to_end : (ask : Ask) → count < most_exchanges + 1 → GoesThrough turn count start now → turn now (option_map ask_of said) after → said ≡ Some ask → ComesToEnd turn start (ask_of ask) after
   comes_to_end ask in_time gone has is = record {
     count = count;
-    in_time = in_time;
+    in_time = in_time_before count most_exchanges in_time;
     between = now;
     goes = gone;
     ends = subst (λ (s : Option Ask). turn now (option_map ask_of s) after) is has;
@@ -28,26 +35,23 @@ pub on_err : {A E X : Type 0} (r : Result A E) → X → OnErr r X
 on_err (Ok a) x = tt
 on_err (Err e) x = x
 
-before_most : (count most : ℕ) → count < most → count ≤ most
-before_most count most before = omega (arith, before)
+-- no turn is left, and each was an exchange
+pub runs_out : {A : Type 0} (turn : TurnOf A) (count : ℕ) (start now : A) → count ≤ most_exchanges + 1 → most_exchanges + 1 ≤ count → GoesThrough turn count start now → RunsOut turn start now
+runs_out turn count start now within all gone = record { count = count; one_more = meets_most (most_exchanges + 1) count within all; goes = gone }
 
 module _ {A : Type 0} (turn : TurnOf A) (breaks : A → A → Type 0) where
   -- a turn that broke off
-  pub early_at_turn : (count : ℕ) (start now after : A) → count < most_turns → GoesThrough turn count start now → breaks now after → EndsEarly turn breaks start after
+  pub early_at_turn : (count : ℕ) (start now after : A) → count < most_exchanges + 1 → GoesThrough turn count start now → breaks now after → EndsEarly turn breaks start after
   early_at_turn count start now after in_time gone left =
-      record { count = count; in_time = before_most count most_turns in_time; between = now; goes = gone; last = left }
-
-  -- too many turns
-  pub early_at_most : (count : ℕ) (start now : A) → count ≤ most_turns → GoesThrough turn count start now → breaks now now → EndsEarly turn breaks start now
-  early_at_most count start now in_time gone left = record { count = count; in_time = in_time; between = now; goes = gone; last = left }
+      inl (record { count = count; in_time = in_time_before count most_exchanges in_time; between = now; goes = gone; last = left })
 
   -- a pass that came to its end, which nobody was told
   pub early_at_end : ((before after : A) (asked : Asked) → turn before (Some asked) after → breaks before after)
       → (start after : A) (asked : Asked) → ComesToEnd turn start asked after → EndsEarly turn breaks start after
-  early_at_end may start after asked end = record {
+  early_at_end may start after asked end = inl (record {
     count = end.count;
-    in_time = before_most end.count most_turns end.in_time;
+    in_time = end.in_time;
     between = end.between;
     goes = end.goes;
     last = may end.between after asked end.ends;
-  }
+  })

@@ -1,6 +1,6 @@
-use Rattle.std.proofs.Common.{inl, refl}
+use Rattle.std.proofs.Common.{inr}
 use Rattle.repl.specs.Asks.{pass_of}
-use Rattle.sync.proofs.Turns.{early_at_most, comes_to_end, goes_further, on_err, early_at_turn}
+use Rattle.sync.proofs.Turns.{comes_to_end, early_at_turn, goes_further, on_err, runs_out}
 use Rattle.sync.specs.Peers.{HasTurn, BreaksOff}
 use Rattle.sync.proofs.addressed.play_to_end.Goals as goal
 
@@ -25,5 +25,5 @@ loop-turn-preserved g c = λ honest.
 
 pub returns-clause-early : goal.returns-clause-early
 returns-clause-early g c = λ honest.
-    early_at_most (HasTurn g.S.Store) (BreaksOff g.S.Store) c.loop-turn._turn (record { node = c.args.node.now; pass = pass_of c.args.pass.now })
-    (record { node = c.loop-turn.node; pass = pass_of c.loop-turn.pass }) c.loop-turn.auto._turn-end (c.loop-turn.invariant honest) (refl, inl refl)
+    inr (runs_out (HasTurn g.S.Store) c.loop-turn._turn (record { node = c.args.node.now; pass = pass_of c.args.pass.now })
+    (record { node = c.loop-turn.node; pass = pass_of c.loop-turn.pass }) c.loop-turn.auto._turn-end c.loop-turn-test.false (c.loop-turn.invariant honest))

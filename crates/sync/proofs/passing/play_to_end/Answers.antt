@@ -1,5 +1,5 @@
-use Rattle.std.proofs.Common.{◌∙◌, refl, inl}
-use Rattle.sync.proofs.Turns.{early_at_most, comes_to_end, goes_further, on_err, early_at_turn}
+use Rattle.std.proofs.Common.{◌∙◌, inr}
+use Rattle.sync.proofs.Turns.{comes_to_end, early_at_turn, goes_further, on_err, runs_out}
 use Rattle.sync.specs.Passing.{HasTurn, BreaksOff}
 use Rattle.sync.proofs.passing.play_to_end.Goals as goal
 
@@ -24,5 +24,4 @@ loop-turn-preserved g c = record {
 
 pub returns-clause-early : goal.returns-clause-early
 returns-clause-early g c = λ honest.
-    early_at_most (HasTurn g.S.Store c.args.repl) (BreaksOff g.S.Store c.args.repl) c.loop-turn._turn c.args.world.now c.loop-turn.world c.loop-turn.auto._turn-end
-    (c.loop-turn.invariant.goes honest) (inl refl)
+    inr (runs_out (HasTurn g.S.Store c.args.repl) c.loop-turn._turn c.args.world.now c.loop-turn.world c.loop-turn.auto._turn-end c.loop-turn-test.false (c.loop-turn.invariant.goes honest))
