@@ -95,6 +95,9 @@ def reply(status, value, last=False):
     return reply_with(status, text_of(value), last)
 
 
+WELCOME = reply(200, {"couchdb": "Welcome", "version": "3-profile"})
+
+
 # ---- connections
 
 
@@ -138,6 +141,18 @@ def status_of(made):
     """Takes one reply, and returns its status, or 0 where the connection ended."""
     head, _ = reply_of(made)
     return int(head[9:12]) if head else 0
+
+
+def answer_of(port, sent):
+    """Sends a request on a connection of its own, and returns the status and the text of its reply."""
+    with connected(port) as made:
+        try:
+            made.sendall(sent)
+        except OSError:
+            # The reply has come, and the connection has ended, before all was sent.
+            pass
+        head, body = reply_of(made)
+        return int(head[9:12] or b"0"), body
 
 
 def asks(what, made, sent, *wanted):

@@ -1,0 +1,61 @@
+"""Silent and slow clients, and how long the server waits for them."""
+import concurrent.futures
+import contextlib
+import time
+
+from lib.checks import compare
+from lib.serve.connections import drip, start_all
+from lib.server import WELCOME, Server, asks, connected, request, rest_of
+
+
+def check_silent(options, file):
+    """A client that sends nothing is left after 30 seconds, without a reply, and the next one is served."""
+    server = Server(options, file, 2)
+    with connected(server.port) as silent, connected(server.port) as waiting:
+        begun = time.monotonic()
+        asks("behind a silent client", waiting, request("GET", "/", user=None), WELCOME)
+        compare("whether it waited for 29 to 60 seconds", True, 29 <= time.monotonic() - begun <= 60)
+        compare("what the silent client was told", b"", rest_of(silent))
+    server.ended("a silent client")
+
+
+def check_idle(options, file):
+    """A silent connection is closed after 60 seconds, and one whose request isn't whole after 30, each without a reply."""
+    server = Server(options, file, 2, at_once=2)
+    with connected(server.port) as silent, connected(server.port) as slow:
+        silent.settimeout(90)
+        begun = time.monotonic()
+        start_all([lambda: drip(slow, request("GET", "/db/a"))])
+        told = b""
+        # The end of a connection to which bytes still come may be a reset.
+        with contextlib.suppress(ConnectionResetError):
+            told = rest_of(slow)
+        compare("what the slow client was told", b"", told)
+        compare("whether it had 29 to 45 seconds", True, 29 <= time.monotonic() - begun <= 45)
+        compare("what the silent client was told", b"", rest_of(silent))
+        compare("whether it had 59 to 75 seconds", True, 59 <= time.monotonic() - begun <= 75)
+    server.ended("silent and slow clients")
+
+
+# They mostly wait, each with a file of its own.
+CHECKS = [(check_silent, "silent.db"), (check_idle, "idle.db")]
+
+
+def check(options, folder):
+    """Waits as the server does."""
+    for one, name in CHECKS:
+        one(options, f"{folder}/{name}")
+
+
+@contextlib.contextmanager
+def run_aside(options, folder):
+    """Runs the checks beside others; behind them, where all use one port."""
+    if options.port:
+        yield
+        check(options, folder)
+        return
+    with concurrent.futures.ThreadPoolExecutor() as aside:
+        running = [aside.submit(one, options, f"{folder}/{name}") for one, name in CHECKS]
+        yield
+        for one in running:
+            one.result()
