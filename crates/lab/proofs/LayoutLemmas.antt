@@ -1,5 +1,5 @@
 -- A database that is made, and is then open to everyone.
-use Rattle.std.proofs.Common.{ℕ, ◌≡◌, ◌∙◌, Bool, true, false, cond, List, Option, Some, ap, sym, refl}
+use Rattle.std.proofs.Common.{ℕ, ◌≡◌, ◌∙◌, Bool, true, false, cond, List, Option, Some, None, ap, sym, refl}
 use Rattle.std.proofs.lemmas.Cmp.{nat_list_cmp_total}
 use Rattle.std.specs.Cmp.{eq_by_cmp_equiv}
 use Rattle.std.specs.Cmp.Lexicographic.{slice_cmp}
@@ -37,3 +37,9 @@ opened old made new name security is set =
     ap (option_map (λ db. insert made name (with_security db security))) (sym there) ∙ set in
     let same : insert made name (with_security new_database security) ≡ new = cc in
     sym same ∙ ap (λ (m : Contents). insert m name (with_security new_database security)) is ∙ insert_twice old name new_database (with_security new_database security)
+
+-- a database that was made is there
+pub made_there : (old made : Contents) (name : List ℕ) → made ≡ insert old name new_database → get made name ≡ None → ⊥
+made_there old made name is none =
+    let there : get made name ≡ Some new_database = ap (λ (m : Contents). get m name) is ∙ get_same old name new_database in
+    absurd cc

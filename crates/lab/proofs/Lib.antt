@@ -1,4 +1,5 @@
 pub mod EscapeLemmas
+pub mod JudgedLemmas
 pub mod LayoutLemmas
 pub mod Names
 pub mod NamingLemmas
@@ -6,3 +7,5 @@ pub mod PlayLemmas
 pub mod ReplyLemmas
 pub mod RunLemmas
 pub mod SceneLemmas
+pub mod StoppingLemmas
+pub mod StopsLemmas

@@ -75,11 +75,25 @@ is_at {T} es name k e p there =
           ∙ ap (λ (x : NamedValue T). slice_set (map named_of es) s.behind (record x { value = v })) (sym same) ∙ s.changed v;
     }
 
-pub value_named-absent : {A : Type 0} (name : List ℕ) (es : List (NamedValue A)) (place : Option ℕ) → place ≡ place_named 0 name es → is_some place ≡ false → value_named name es ≡ None
-value_named-absent name es None p is = value_named-none 0 name es (sym p)
-value_named-absent name es (Some k) p is = absurd cc
-
 -- one more entry
 pub named_push : {T : Type 0} (es : List (Named T)) (e : Named T) → map named_of (es ++ e ∷ []) ≡ map named_of es ++ named_of e ∷ []
 named_push [] e = refl
 named_push (x ∷ es) e = ap (λ xs. named_of x ∷ xs) (named_push es e)
+
+place_or_later : {A : Type 0} (b : Bool) (n : ℕ) (place : Option ℕ) (value : A) (later : Option A) → is_some place ≡ is_some later → is_some (cond b (Some n) place) ≡ is_some (cond b (Some value) later)
+place_or_later true n place value later p = refl
+place_or_later false n place value later p = p
+
+-- a name has a place where it has a value
+pub place_named-some : {A : Type 0} (n : ℕ) (name : List ℕ) (es : List (NamedValue A)) → is_some (place_named n name es) ≡ is_some (value_named name es)
+place_named-some n name [] = refl
+place_named-some n name (e ∷ es) =
+    place_or_later (bytes_eq name e.name) n (place_named (n + 1) name es) e.value (value_named name es) (place_named-some (n + 1) name es)
+
+pub not_none : {A : Type 0} (o : Option A) (x : A) → o ≡ Some x → is_some o ≡ false → ⊥
+not_none None x p e = absurd cc
+not_none (Some y) x p e = absurd cc
+
+pub none_of : {A : Type 0} (o : Option A) → is_some o ≡ false → o ≡ None
+none_of None p = refl
+none_of (Some x) p = absurd cc

@@ -31,6 +31,15 @@ Keeps-prints None b p = ([], tt)
 Keeps-prints (Some a) None p = absurd p
 Keeps-prints (Some a) (Some b) p = ([], p ∙ sym (append-nil a))
 
+-- no line was read
+pub ReadsLines-none : (a : Option (List ℕ)) → ReadsLines 0 a a
+ReadsLines-none None = tt
+ReadsLines-none (Some script) = refl
+
+pub lines-none : (a : Option (List ℕ)) → IfSome a (λ script. (k : ℕ) → k < 0 → is_some (line_of (first_piece 10 (after_lines k script))) ≡ true)
+lines-none None = tt
+lines-none (Some script) = λ k below. absurd (omega (arith, below))
+
 -- one more line was read
 pub ReadsLines-more : (n : ℕ) (a b c : Option (List ℕ)) → ReadsLines n a b → IfSome b (λ script. c ≡ Some (drop_through 10 script)) → ReadsLines (n + 1) a c
 ReadsLines-more n None b c p q = tt
@@ -49,7 +58,7 @@ after_lines-step script n k at le before (inl lt) = let same : n ≡ suc k = ome
 after_lines-step script n k at le before (inr within) = ap (drop_through 10) (before within)
 
 -- behind the end there are no lines
-after_lines-end : (script : List ℕ) (n k : ℕ) → after_lines n script ≡ [] → n ≤ k → after_lines k script ≡ []
+pub after_lines-end : (script : List ℕ) (n k : ℕ) → after_lines n script ≡ [] → n ≤ k → after_lines k script ≡ []
 after_lines-end script n zero at le = let same : n ≡ zero = omega arith in rw same at at
 after_lines-end script n (suc k) at le = after_lines-step script n k at le (λ within. after_lines-end script n k at within) (cases_lt k n)
 

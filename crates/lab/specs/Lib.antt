@@ -8,4 +8,5 @@ pub mod Replies
 pub mod Playing
 pub mod Naming
 pub mod Scene
+pub mod Stopping
 pub mod Stages

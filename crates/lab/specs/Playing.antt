@@ -5,6 +5,10 @@ use Rattle.std.specs.Io.BufRead.{drop_through, first_piece}
 use Rattle.std.specs.Io.KnownBytes.{Appends}
 use Rattle.command_line.specs.declared.fault.ProgramFault.{ProgramFault}
 use Rattle.command_line.specs.declared.fault.ProgramFault.TheVariants as program
+use Rattle.store.specs.declared.fault.StoreFault.{StoreFault}
+use Rattle.store.specs.declared.fault.StoreFault.TheVariants as store
+use Rattle.world.specs.declared.fault.WorldFaultKind.{WorldFaultKind}
+use Rattle.world.specs.declared.fault.WorldFaultKind.TheVariants as world
 use Rattle.lab.specs.Script.{line_of}
 use Rattle.lab.specs.declared.fault.LineFault.{LineFault}
 use Rattle.lab.specs.declared.fault.LineFault.TheVariants as line
@@ -31,3 +35,17 @@ abbrev pub fault_at : LineFault → ℕ → ProgramFault
 fault_at line.Line n = program.Line n
 fault_at line.File n = program.File
 fault_at line.Memory n = program.Memory
+
+-- the fault of a line that a fault of a store is
+abbrev pub fault_of_store : StoreFault → LineFault
+fault_of_store store.Memory = line.Memory
+fault_of_store store.Exists = line.Line
+fault_of_store store.NoDatabase = line.Line
+fault_of_store store.Failed = line.File
+fault_of_store store.Damaged = line.File
+fault_of_store store.Full = line.File
+
+-- the fault of a line that a fault of the world of this kind is
+abbrev pub fault_of_world : WorldFaultKind → LineFault
+fault_of_world world.Unknown = line.Line
+fault_of_world world.Memory = line.Memory

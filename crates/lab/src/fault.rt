@@ -86,6 +86,11 @@ impl From<io::Error> for LineFault {
 }
 
 impl From<StoreFault> for LineFault {
+    ghost use Rattle.std.specs.Prelude.{◌≡◌};
+    ghost use Rattle.lab.specs.Playing.{fault_of_store};
+
+    ghost from_gives = { λ fault made. made ≡ fault_of_store fault };
+
     fn from(fault: StoreFault) -> LineFault {
         match fault {
             StoreFault::Memory => LineFault::Memory,
@@ -96,6 +101,11 @@ impl From<StoreFault> for LineFault {
 }
 
 impl From<WorldFault> for LineFault {
+    ghost use Rattle.std.specs.Prelude.{◌≡◌};
+    ghost use Rattle.lab.specs.Playing.{fault_of_world};
+
+    ghost from_gives = { λ fault made. made ≡ fault_of_world fault.kind };
+
     fn from(fault: WorldFault) -> LineFault {
         match fault.kind {
             WorldFaultKind::Unknown => LineFault::Line,

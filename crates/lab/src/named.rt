@@ -1,6 +1,6 @@
 //! What a script calls by names.
 
-ghost use Rattle.std.specs.Prelude.{◌≡◌, ◌<◌, length, map, IfSome};
+ghost use Rattle.std.specs.Prelude.{◌≡◌, ◌<◌, is_some, length, map, IfSome};
 ghost use Rattle.lab.specs.Naming.{named_of, place_named, value_named};
 
 /// Something with a name.
@@ -21,6 +21,13 @@ pub fn place_of<T>(entries: &[Named<T>], name: &[u8]) -> Option<usize>
         }
     }
     None
+}
+
+/// Tells whether one has this name.
+pub fn has_name<T>(entries: &[Named<T>], name: &[u8]) -> bool
+    ensures { result ≡ is_some (value_named name.now (map named_of entries.now)) }
+{
+    place_of(entries, name).is_some()
 }
 
 /// Returns the value of the first that has this name.

@@ -1,6 +1,6 @@
 //! The nodes, connections and passes of a script.
 
-ghost use Rattle.std.specs.Prelude.{◌≡◌, ◌≢◌, ◌++◌, ◌∷◌, [], ℕ, List, Err, Some, IfOk, OnOk, length, map};
+ghost use Rattle.std.specs.Prelude.{◌≡◌, ◌≢◌, ◌++◌, ◌∷◌, [], ℕ, List, Err, Some, IfErr, IfOk, OnOk, false, is_some, length, map};
 ghost use Rattle.std.specs.Io.KnownBytes.{Appends, Keeps};
 ghost use Rattle.world.specs.OneEvent.{happening_of};
 ghost use Rattle.world.specs.Happening.{Sight};
@@ -9,6 +9,7 @@ ghost use Rattle.lab.specs.Naming.{named_of, value_named};
 ghost use Rattle.lab.specs.Replies.{IsShown, Runs};
 ghost use Rattle.lab.specs.Scene.{Closes, Opens, Sends, Starts, Turns, first_network, most_exchanges};
 ghost use Rattle.lab.specs.Stages.{configuration_of, names_of, nodes_of};
+ghost use Rattle.lab.specs.Stopping.{HasNodes, IsJudged, can_open, can_start};
 
 use crate::fault::LineFault;
 use crate::lab_store::LabStore;
@@ -59,7 +60,8 @@ impl<S: LabStore> Running<S> {
     /// Opens a connection to a node. `Line` where there is no such node, or a connection of this
     /// name.
     pub fn open(&mut self, node: &[u8], name: &[u8]) -> Result<(), LineFault>
-        ensures { OnOk result (Opens (names_of self.old) node.now name.now (names_of self.new)) }
+        ensures opened { OnOk result (Opens (names_of self.old) node.now name.now (names_of self.new)) }
+        ensures judged { HasNodes (names_of self.old) → IsJudged false (can_open (names_of self.old) node.now name.now) result }
     {
         let Some(home) = value_of(&self.nodes, node) else {
             return Err(LineFault::Line);
@@ -83,7 +85,9 @@ impl<S: LabStore> Running<S> {
     ) -> Result<(), LineFault>
         ensures sent { OnOk result ((printed : List ℕ) × Sends S.Store (names_of self.old) name.now piece.items printed (names_of self.new)
             × Appends (W.contents out.old) (W.contents out.new) printed) }
-        ensures line { result ≡ Err LineFault.Line → Keeps (W.contents out.old) (W.contents out.new) }
+        ensures stands { result ≡ Err LineFault.Line → Keeps (W.contents out.old) (W.contents out.new) }
+        ensures judged { IsJudged false (is_some (value_named name.now (names_of self.old).connections)) result }
+        ensures many { OnOk result (length (names_of self.new).network.nodes ≡ length (names_of self.old).network.nodes) }
     {
         let Some(conn) = value_of(&self.connections, name) else {
             return Err(LineFault::Line);
@@ -93,7 +97,8 @@ impl<S: LabStore> Running<S> {
 
     /// Closes a connection. `Line` where there is no connection of this name.
     pub fn close(&mut self, name: &[u8]) -> Result<(), LineFault>
-        ensures { OnOk result (Closes (names_of self.old) name.now (names_of self.new)) }
+        ensures closed { OnOk result (Closes (names_of self.old) name.now (names_of self.new)) }
+        ensures judged { IsJudged false (is_some (value_named name.now (names_of self.old).connections)) result }
     {
         let Some(conn) = value_of(&self.connections, name) else {
             return Err(LineFault::Line);
@@ -105,7 +110,8 @@ impl<S: LabStore> Running<S> {
     /// Starts a pass between two nodes. `Line` where one of them isn't there, or there is a pass of this
     /// name.
     pub fn start_pass(&mut self, server: Server<'_>, words: &PassWords<'_>) -> Result<(), LineFault>
-        ensures { OnOk result (Starts (configuration_of server.entry) (names_of self.old) (pass_said words.now) (names_of self.new)) }
+        ensures started { OnOk result (Starts (configuration_of server.entry) (names_of self.old) (pass_said words.now) (names_of self.new)) }
+        ensures judged { HasNodes (names_of self.old) → IsJudged false (can_start (names_of self.old) (pass_said words.now)) result }
     {
         let Some(from) = value_of(&self.nodes, words.source.node) else {
             return Err(LineFault::Line);
@@ -125,7 +131,8 @@ impl<S: LabStore> Running<S> {
 
     /// Returns the number of a pass. `Line` where there is none of this name.
     fn pass(&self, name: &[u8]) -> Result<u64, LineFault>
-        ensures { IfOk result (λ repl. value_named name.now (names_of self.now).passes ≡ Some repl) }
+        ensures number { IfOk result (λ repl. value_named name.now (names_of self.now).passes ≡ Some repl) }
+        ensures unknown { IfErr result (λ fault. (fault ≡ LineFault.Line) × (is_some (value_named name.now (names_of self.now).passes) ≡ false)) }
     {
         match value_of(&self.passes, name) {
             Some(repl) => Ok(repl),
@@ -145,6 +152,7 @@ impl<S: LabStore> Running<S> {
             × (names_of self.new ≡ record (names_of self.old) { network = (names_of self.new).network })
             × Appends (W.contents out.old) (W.contents out.new) printed) }
         ensures faults { result ≢ Err LineFault.Line }
+        ensures many { OnOk result (length (names_of self.new).network.nodes ≡ length (names_of self.old).network.nodes) }
     {
         show(self.alloc, &mut self.world, event, name, out)?;
         Ok(())
@@ -159,7 +167,9 @@ impl<S: LabStore> Running<S> {
     ) -> Result<(), LineFault>
         ensures turned { OnOk result ((printed : List ℕ) × Turns S.Store turn (names_of self.old) name.now printed (names_of self.new)
             × Appends (W.contents out.old) (W.contents out.new) printed) }
-        ensures line { result ≡ Err LineFault.Line → Keeps (W.contents out.old) (W.contents out.new) }
+        ensures stands { result ≡ Err LineFault.Line → Keeps (W.contents out.old) (W.contents out.new) }
+        ensures judged { IsJudged false (is_some (value_named name.now (names_of self.old).passes)) result }
+        ensures many { OnOk result (length (names_of self.new).network.nodes ≡ length (names_of self.old).network.nodes) }
     {
         let repl = self.pass(name)?;
         match turn {
@@ -177,6 +187,7 @@ impl<S: LabStore> Running<S> {
             × (names_of self.new ≡ record (names_of self.old) { network = (names_of self.new).network })
             × Appends (W.contents out.old) (W.contents out.new) printed) }
         ensures faults { result ≢ Err LineFault.Line }
+        ensures many { OnOk result (length (names_of self.new).network.nodes ≡ length (names_of self.old).network.nodes) }
     {
         run(self.alloc, &mut self.world, repl, MOST_EXCHANGES, name, out)
     }

@@ -1,13 +1,15 @@
 //! Scripts, from the first line to the last.
 
-ghost use Rattle.std.specs.Prelude.{◌≡◌, ℕ, Err, Some, false, [], IfErr, IfOk, IfSome, OnOk, map, string_bytes};
+ghost use Rattle.std.specs.Prelude.{◌≡◌, ◌≢◌, ℕ, Err, Some, false, true, [], is_some, IfErr, IfOk, IfSome, OnOk, map, string_bytes};
 ghost use Rattle.std.specs.Io.BufRead.{drop_through, strip_last, take_through};
 ghost use Rattle.std.specs.Io.KnownBytes.{IsAtEnd, Keeps};
 ghost use Rattle.command_line.specs.Faults.{IsOfNoLine};
 ghost use Rattle.lab.specs.Playing.{AreLines, Prints, ReadsLines};
 ghost use Rattle.lab.specs.Lines.{said_by};
+ghost use Rattle.lab.specs.Script.{line_of};
 ghost use Rattle.lab.specs.Scene.{Plays, PlaysBefore, PlaysScript, laying, running};
 ghost use Rattle.lab.specs.Stages.{AreBytesPlayed, IsLinePlayed, configuration_of, nodes_of, names_of, scene_of};
+ghost use Rattle.lab.specs.Stopping.{ArePlayable, HasNodes, HasNodesIn, IsJudged, IsStoppedAt, StopsAt, asks_store, can_be_played, names_behind, names_in, some_asks_store};
 
 use crate::fault::LineFault;
 use crate::lab_store::LabStore;
@@ -41,17 +43,22 @@ pub fn lab<R: BufRead, W: Write>(
     ensures status { IfOk result (λ status. status ≡ 0) }
     ensures whole { OnOk result (IfSome (R.remaining reader.old) (λ _. R.remaining reader.new ≡ Some [])) }
     ensures lines { OnOk result (IfSome (R.remaining reader.old) AreLines) }
+    ensures playable { OnOk result (IfSome (R.remaining reader.old) ArePlayable) }
     ensures printed { OnOk result (Prints (W.contents writer.old) (W.contents writer.new)) }
 
     // Each line did what the definition says, and what was printed is what the lines print.
     ensures played { OnOk result (IfSome (R.remaining reader.old) (λ script. PlaysScript ⟦<MemoryStore as Store>⟧
         (record { secret = secret.now; admins = map string_bytes admins.now }) script (W.contents writer.old) (W.contents writer.new))) }
 
-    // At the fault of a line just the lines up to it were read, and what was printed stands.
+    // At the fault of a line this is the first that can't be played. Just the lines up to it were read, and what was printed stands.
     ensures line { (n : ℕ) → result ≡ Err (ProgramFault.Line n) → ReadsLines n (R.remaining reader.old) (R.remaining reader.new) }
+    ensures bad { (n : ℕ) → result ≡ Err (ProgramFault.Line n) → IfSome (R.remaining reader.old) (StopsAt n) }
     ensures stands { (n : ℕ) → result ≡ Err (ProgramFault.Line n) → Prints (W.contents writer.old) (W.contents writer.new) }
     ensures before { (n : ℕ) → result ≡ Err (ProgramFault.Line n) → IfSome (R.remaining reader.old) (λ script. PlaysBefore ⟦<MemoryStore as Store>⟧
         (record { secret = secret.now; admins = map string_bytes admins.now }) n script (W.contents writer.old) (W.contents writer.new)) }
+
+    // A script that has a bad line never ends as `Ok`, and no other line is named.
+    ensures stopped { IfSome (R.remaining reader.old) (λ script. (n : ℕ) → StopsAt n script → IsStoppedAt n result) }
 {
     play_script::<MemoryStore, R, W>(alloc, secret, admins, reader, writer)
 }
@@ -72,17 +79,22 @@ pub fn play_script<S: LabStore, R: BufRead, W: Write>(
     ensures status { IfOk result (λ status. status ≡ 0) }
     ensures whole { OnOk result (IfSome (R.remaining reader.old) (λ _. R.remaining reader.new ≡ Some [])) }
     ensures lines { OnOk result (IfSome (R.remaining reader.old) AreLines) }
+    ensures playable { OnOk result (IfSome (R.remaining reader.old) ArePlayable) }
     ensures printed { OnOk result (Prints (W.contents writer.old) (W.contents writer.new)) }
 
     // Each line did what the definition says, and what was printed is what the lines print.
     ensures played { OnOk result (IfSome (R.remaining reader.old) (λ script. PlaysScript S.Store
         (record { secret = secret.now; admins = map string_bytes admins.now }) script (W.contents writer.old) (W.contents writer.new))) }
 
-    // At the fault of a line just the lines up to it were read, and what was printed stands.
+    // At the fault of a line this is the first that can't be played. Just the lines up to it were read, and what was printed stands.
     ensures line { (n : ℕ) → result ≡ Err (ProgramFault.Line n) → ReadsLines n (R.remaining reader.old) (R.remaining reader.new) }
+    ensures bad { (n : ℕ) → result ≡ Err (ProgramFault.Line n) → IfSome (R.remaining reader.old) (StopsAt n) }
     ensures stands { (n : ℕ) → result ≡ Err (ProgramFault.Line n) → Prints (W.contents writer.old) (W.contents writer.new) }
     ensures before { (n : ℕ) → result ≡ Err (ProgramFault.Line n) → IfSome (R.remaining reader.old) (λ script. PlaysBefore S.Store
         (record { secret = secret.now; admins = map string_bytes admins.now }) n script (W.contents writer.old) (W.contents writer.new)) }
+
+    // A script that has a bad line never ends as `Ok`, and no other line is named.
+    ensures stopped { IfSome (R.remaining reader.old) (λ script. (n : ℕ) → StopsAt n script → IsStoppedAt n result) }
 {
     let server = Server {
         alloc,
@@ -109,6 +121,7 @@ fn read_next<R: BufRead>(reader: &mut R, bytes: &mut Vec<u8>) -> Result<bool, Pr
     ensures line { OnOk result (IfSome (R.remaining reader.old) (λ script. bytes.new.items ≡ take_through 10 script)) }
     ensures rest { OnOk result (IfSome (R.remaining reader.old) (λ script. R.remaining reader.new ≡ Some (drop_through 10 script))) }
     ensures end { IfOk result (λ more. more ≡ false → IsAtEnd (R.remaining reader.old)) }
+    ensures more { IfOk result (λ more. more ≡ true → IfSome (R.remaining reader.old) (λ script. script ≢ [])) }
     ensures faults { IfErr result IsOfNoLine }
 {
     bytes.clear();
@@ -126,7 +139,7 @@ fn without_line_feed(line: &[u8]) -> &[u8]
     }
 }
 
-/// Plays a line.
+/// Plays a line. `Line` where it is none, or can't be played behind those before it.
 fn play<S: LabStore, W: Write>(
     server: Server<'_>,
     stage: ScriptStage<S>,
@@ -136,6 +149,8 @@ fn play<S: LabStore, W: Write>(
     ensures played { IfOk result (λ next. AreBytesPlayed S.Store (configuration_of server.entry) (scene_of stage) bytes.now
         (W.contents out.old) (W.contents out.new) (scene_of next)) }
     ensures stands { result ≡ Err LineFault.Line → Keeps (W.contents out.old) (W.contents out.new) }
+    ensures judged { HasNodesIn (scene_of stage) → IsJudged (some_asks_store (line_of bytes.now)) (is_some (names_behind (names_in S.Store (scene_of stage)) bytes.now)) result }
+    ensures numbered { HasNodesIn (scene_of stage) → IfOk result (λ next. HasNodesIn (scene_of next)) }
 {
     let Some(line) = read_line(server.alloc, bytes)? else {
         return Err(LineFault::Line);
@@ -152,7 +167,8 @@ fn lay<S: LabStore>(
     layout: Layout<S>,
     line: Line<'_>,
 ) -> Result<ScriptStage<S>, LineFault>
-    ensures { IfOk result (λ next. Plays S.Store (configuration_of server.entry) (laying (nodes_of layout)) (said_by line.entry) [] (scene_of next)) }
+    ensures played { IfOk result (λ next. Plays S.Store (configuration_of server.entry) (laying (nodes_of layout)) (said_by line.entry) [] (scene_of next)) }
+    ensures judged { IsJudged (asks_store (said_by line.entry)) (can_be_played (names_in S.Store (laying (nodes_of layout))) (said_by line.entry)) result }
 {
     let mut layout = layout;
     match line {
@@ -188,6 +204,8 @@ fn run<S: LabStore, W: Write>(
     ensures played { IfOk result (λ next. IsLinePlayed S.Store (configuration_of server.entry) (running (names_of names)) (said_by line.entry)
         (W.contents out.old) (W.contents out.new) (scene_of next)) }
     ensures stands { result ≡ Err LineFault.Line → Keeps (W.contents out.old) (W.contents out.new) }
+    ensures judged { HasNodes (names_of names) → IsJudged (asks_store (said_by line.entry)) (can_be_played (names_in S.Store (running (names_of names))) (said_by line.entry)) result }
+    ensures numbered { HasNodes (names_of names) → IfOk result (λ next. HasNodesIn (scene_of next)) }
 {
     let mut names = names;
     match line {

@@ -1,6 +1,6 @@
 //! Events of a script, and what is seen of them.
 
-ghost use Rattle.std.specs.Prelude.{◌≡◌, ◌≢◌, ℕ, List, Err, IfOk, OnOk, map};
+ghost use Rattle.std.specs.Prelude.{◌≡◌, ◌≢◌, ℕ, List, Err, IfOk, OnOk, length, map};
 ghost use Rattle.std.specs.Io.KnownBytes.{Appends};
 ghost use Rattle.world.specs.Happening.{Sight};
 ghost use Rattle.world.specs.Network.{AreHonest};
@@ -28,6 +28,7 @@ pub fn send<S: Store + Drop, W: Write>(
     ensures sent { AreHonest S.Store world.new.nodes → OnOk result ((printed : List ℕ)
         × IsSent S.Store world.old conn piece.items name.now printed world.new × Appends (W.contents out.old) (W.contents out.new) printed) }
     ensures faults { result ≢ Err LineFault.Line }
+    ensures many { OnOk result (length world.new.nodes ≡ length world.old.nodes) }
 {
     if !world.is_open(conn) {
         return print_closed(out, name);
@@ -49,6 +50,7 @@ pub fn run<S: LabStore, W: Write>(
     ensures ran { OnOk result ((printed : List ℕ) × Runs S.Store most world.old repl name.now printed world.new
         × Appends (W.contents out.old) (W.contents out.new) printed) }
     ensures faults { result ≢ Err LineFault.Line }
+    ensures many { OnOk result (length world.new.nodes ≡ length world.old.nodes) }
 {
     for _turn in 0..most {
         if show(alloc, world, Event::Exchange { repl }, name, out)? {
@@ -69,6 +71,7 @@ fn show_end<S: LabStore, W: Write>(
     ensures said { OnOk result ((printed : List ℕ) × SaysItsEnd S.Store world.old repl name.now printed world.new
         × Appends (W.contents out.old) (W.contents out.new) printed) }
     ensures faults { result ≢ Err LineFault.Line }
+    ensures many { OnOk result (length world.new.nodes ≡ length world.old.nodes) }
 {
     if !world.has_ended(repl) {
         return Ok(());
@@ -89,6 +92,7 @@ pub fn show<S: Store + Drop, W: Write>(
         × IsShown S.Store world.old (happening_of event) name.now seen printed world.new × (says_end seen ≡ is_end)
         × Appends (W.contents out.old) (W.contents out.new) printed) }
     ensures faults { result ≢ Err LineFault.Line }
+    ensures many { OnOk result (length world.new.nodes ≡ length world.old.nodes) }
 {
     match world.play(&[event]) {
         Ok(seen) => {

@@ -5,6 +5,8 @@ use Rattle.lab.specs.Playing.{Prints, ReadsLines, after_lines}
 use Rattle.lab.specs.Scene.{HasPlayed}
 use Rattle.lab.specs.Script.{line_of}
 use Rattle.lab.specs.Stages.{scene_of}
+use Rattle.lab.specs.Stopping.{HasNodesIn}
+use Rattle.lab.proofs.StopsLemmas.{HaveNamed}
 use Rattle.lab.proofs.scripts.play_script.Given as goal
 
 abbrev pub invariant-loop-number : goal.invariant-loop-number
@@ -14,4 +16,6 @@ invariant-loop-number g l = record {
   printed : Prints (g.W.Write.contents l.initial.writer) (g.W.Write.contents l.writer);
   played : IfSome (g.R.Read.remaining l.initial.reader) (λ script. HasPlayed g.S.Store (record { secret = l.secret; admins = map string_bytes l.admins }) l.number script
       (after_lines l.number script) (g.W.Write.contents l.initial.writer) (g.W.Write.contents l.writer) (scene_of l.stage));
+  named : IfSome (g.R.Read.remaining l.initial.reader) (λ script. HaveNamed g.S.Store l.number script (scene_of l.stage));
+  numbered : HasNodesIn (scene_of l.stage);
 }
