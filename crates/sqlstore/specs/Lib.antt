@@ -7,3 +7,4 @@ pub mod Commits
 pub mod ById
 pub mod ByKey
 pub mod Revisions
+pub mod Opening

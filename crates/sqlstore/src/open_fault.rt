@@ -1,4 +1,5 @@
 ghost use Rattle.std.specs.Prelude.{◌≢◌};
+ghost use Rattle.sqlstore.specs.Opening.{IsErrorOf};
 
 use sqlite::{Error, ErrorCode};
 use thiserror::Error as ErrorDerive;
@@ -20,7 +21,8 @@ pub enum OpenFault {
 
 /// Tells what fault an error is.
 pub(crate) fn open_fault(error: Error) -> OpenFault
-    ensures { result ≢ OpenFault.NotOurs }
+    ensures told { IsErrorOf error result }
+    ensures ours { result ≢ OpenFault.NotOurs }
 {
     if error == Error::SqliteFailure(ErrorCode::OutOfMemory) {
         OpenFault::Memory

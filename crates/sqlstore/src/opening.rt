@@ -1,7 +1,7 @@
 //! Whether the tables of a connection are those of a store. They are made where there is none, and those
 //! of the first version are carried over.
 
-ghost use Rattle.std.specs.Prelude.{◌≡◌, ◌≢◌, ◌⊎◌, false, true, Err, IsTrue, OnErr, OnOk};
+ghost use Rattle.std.specs.Prelude.{◌≡◌, ◌≢◌, ◌⊎◌, false, true, Err, IfErr, IsTrue, OnErr, OnOk};
 ghost use Rattle.sqlite.specs.Held.{state};
 ghost use Rattle.sqlite.specs.State.{HasCleanDisk};
 ghost use Rattle.tables.specs.Layout.{IsFirstStore, IsNew, IsStore};
@@ -9,6 +9,7 @@ ghost use Rattle.tables.specs.Presence.{has_all, has_any, version_in};
 ghost use Rattle.tables.specs.Schema.{meta_tree, no_schema, schema};
 ghost use Rattle.transactions.specs.Endings.{IsUndone, Turns};
 ghost use Rattle.transactions.specs.Renewing.{IsCarriedOver};
+ghost use Rattle.sqlstore.specs.Opening.{FailsToRead, IsForeign, IsUnreadable, version_of};
 
 use crate::open_fault::{OpenFault, open_fault};
 use sqlite::{Alter, Connection};
@@ -31,6 +32,13 @@ pub(crate) fn find_tables<S: Alter>(
     ensures made { HasCleanDisk (state S.Store conn.new) → conn.old.schema ≡ no_schema → OnOk result (IsNew (state S.Store conn.new).now) }
     ensures not_ours { result ≡ Err OpenFault.NotOurs → HasCleanDisk (state S.Store conn.new) → ¬ IsStore (state S.Store conn.old).now }
     ensures not_first { result ≡ Err OpenFault.NotOurs → HasCleanDisk (state S.Store conn.new) → ¬ IsFirstStore (state S.Store conn.old).now }
+
+    // Whose tables they are not: some alone, never none of them; or all, which say so by their rows.
+    ensures foreign { result ≡ Err OpenFault.NotOurs → IsForeign S.Store conn.old conn.new }
+    ensures fresh { has_any conn.old.schema ≡ false → result ≢ Err OpenFault.NotOurs }
+    ensures part { has_any conn.old.schema ≡ true → has_all conn.old.schema ≡ false → result ≡ Err OpenFault.NotOurs }
+    ensures failed { HasCleanDisk (state S.Store conn.new) → conn.old.schema ≡ schema → version_of (state S.Store conn.old).now ≢ FileVersion.First
+        → IfErr result (λ fault. fault ≢ OpenFault.NotOurs → FailsToRead S.Store conn.old conn.new fault) }
 
     // What is opened has none of the tables or all, and if they are those of this layout, one of the two versions.
     ensures all { OnOk result (has_any conn.old.schema ≡ true → has_all conn.old.schema ≡ true) }
@@ -74,6 +82,9 @@ fn find_version<S: Alter>(alloc: Global, conn: &mut Connection<S>) -> Result<(),
     ensures carried { HasCleanDisk (state S.Store conn.new) → IsFirstStore (state S.Store conn.old).now → OnOk result (IsCarriedOver (state S.Store conn.old).now (state S.Store conn.new).now) }
     ensures not_ours { result ≡ Err OpenFault.NotOurs → HasCleanDisk (state S.Store conn.new) → ¬ IsStore (state S.Store conn.old).now }
     ensures not_first { result ≡ Err OpenFault.NotOurs → HasCleanDisk (state S.Store conn.new) → ¬ IsFirstStore (state S.Store conn.old).now }
+    ensures unreadable { result ≡ Err OpenFault.NotOurs → HasCleanDisk (state S.Store conn.new) → conn.old.schema ≡ schema → IsUnreadable (state S.Store conn.old).now }
+    ensures failed { HasCleanDisk (state S.Store conn.new) → conn.old.schema ≡ schema → version_of (state S.Store conn.old).now ≢ FileVersion.First
+        → IfErr result (λ fault. fault ≢ OpenFault.NotOurs → FailsToRead S.Store conn.old conn.new fault) }
     ensures version { HasCleanDisk (state S.Store conn.new) → conn.old.schema ≡ schema → OnOk result (version_in ((state S.Store conn.old).now.trees meta_tree) ≢ FileVersion.Other) }
     ensures refused { conn.old.schema ≡ schema → HasCleanDisk (state S.Store conn.new) → IsTrue (state S.Store conn.new).is_open
         → OnErr result (((state S.Store conn.new).now ≡ (state S.Store conn.old).now) ⊎ ((state S.Store conn.new).now ≡ (state S.Store conn.old).committed)) }

@@ -56,7 +56,7 @@ impl<S: Alter> SqlStore<S> {
 }
 
 impl<S: Alter + Drop> SqlStore<S> {
-    ghost use Rattle.std.specs.Prelude.{◌≡◌, ◌⊎◌, ◌≢◌, Err, IfErr, IfOk, IsTrue, false, true};
+    ghost use Rattle.std.specs.Prelude.{◌≡◌, ◌⊎◌, ◌≢◌, Err, IfErr, IfOk, IsErr, IsTrue, None, OnErr, OnOk, false, true};
     ghost use Rattle.std.specs.FinMap.{empty};
     ghost use Rattle.sqlite.specs.Held.{state};
     ghost use Rattle.sqlite.specs.State.{HasCleanDisk};
@@ -67,6 +67,7 @@ impl<S: Alter + Drop> SqlStore<S> {
     ghost use Rattle.tables.specs.declared.meta.FileVersion.{FileVersion};
     ghost use Rattle.transactions.specs.Indexing.{IsIndexedStore};
     ghost use Rattle.sqlstore.specs.Model.{contents_of, fault_count, is_clean, is_honest};
+    ghost use Rattle.sqlstore.specs.Opening.{FailsToRead, IsForeign, version_of};
 
     /// Opens the store that the tables of a connection hold, and makes the tables where there is none of
     /// them. A file of the first version is carried over to this one: the rows of its indexes are made anew.
@@ -87,6 +88,17 @@ impl<S: Alter + Drop> SqlStore<S> {
         ensures served { IfOk result (λ s. is_clean S.Store s → IsTrue (state S.Store conn).is_open) }
         ensures not_ours { IfErr result (λ e. e.0 ≡ OpenFault.NotOurs → (conn.in_transaction ≡ true) ⊎ (HasCleanDisk (state S.Store e.1) → ¬ IsStore (state S.Store conn).now)) }
         ensures not_first { IfErr result (λ e. e.0 ≡ OpenFault.NotOurs → (conn.in_transaction ≡ true) ⊎ (HasCleanDisk (state S.Store e.1) → ¬ IsFirstStore (state S.Store conn).now)) }
+
+        // `NotOurs` comes only where tables of a store are there that are none: some alone, always; or all, at another version or with
+        // rows of the first one that are not laid out. Where there is none of them it never comes.
+        ensures foreign { IfErr result (λ e. e.0 ≡ OpenFault.NotOurs → (conn.in_transaction ≡ true) ⊎ IsForeign S.Store conn e.1) }
+        ensures fresh { IfErr result (λ e. conn.in_transaction ≡ false → has_any conn.schema ≡ false → e.0 ≢ OpenFault.NotOurs) }
+        ensures part { IfErr result (λ e. has_any conn.schema ≡ true → has_all conn.schema ≡ false → e.0 ≡ OpenFault.NotOurs) }
+
+        // At our columns, and unless the file is of the first version, `Memory` and `Failed` come only where the library refused the one
+        // statement that reads the version.
+        ensures failed { IfErr result (λ e. HasCleanDisk (state S.Store e.1) → conn.schema ≡ schema → version_of (state S.Store conn).now ≢ FileVersion.First
+            → e.0 ≢ OpenFault.NotOurs → FailsToRead S.Store (record conn { step_limit = None }) e.1 e.0) }
 
         // What is opened has none of the tables or all, and if they are those of this layout, one of the two versions.
         ensures all { IfOk result (λ _. has_any conn.schema ≡ true → has_all conn.schema ≡ true) }

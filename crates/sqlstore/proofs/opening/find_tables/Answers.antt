@@ -23,3 +23,6 @@ returns-in-Nothing-clause-carried g c clean store = absurd (let told = sym c.in-
 
 pub returns-in-Others-clause-carried : goal.returns-in-Others-clause-carried
 returns-in-Others-clause-carried g c clean store = absurd (let told = sym c.in-Others.is ∙ c.tables_in.ensures.all.1 (ap has_all (c.schema.ensures.value ∙ store.schema_is) ∙ ours_has_all) in cc)
+
+pub returns-in-Others-clause-failed : goal.returns-in-Others-clause-failed
+returns-in-Others-clause-failed g c clean ours other = absurd (let told = sym c.in-Others.is ∙ c.tables_in.ensures.all.1 (ap has_all (c.schema.ensures.value ∙ ours) ∙ ours_has_all) in cc)

@@ -5,9 +5,10 @@ use Rattle.index.specs.Indexed.{IsIndexed}
 use Rattle.std.specs.Prelude.{◌≢◌}
 use Rattle.tables.specs.Layout.{IsFirstStore}
 use Rattle.tables.specs.Presence.{version_in}
-use Rattle.tables.specs.declared.meta.FileVersion.TheVariants.{Other}
+use Rattle.tables.specs.declared.meta.FileVersion.TheVariants.{First, Other}
 use Rattle.transactions.specs.Indexing.{IsIndexedStore}
 use Rattle.transactions.specs.Renewing.{IsCarriedOver}
+use Rattle.sqlstore.specs.Opening.{FailsToRead, IsForeign, version_of}
 use Rattle.sqlstore.proofs.sql_store.SqlStore.open.Goals as goal
 
 pub returns-in-Err-clause-not_ours : goal.returns-in-Err-clause-not_ours
@@ -66,3 +67,17 @@ pub returns-clause-version : goal.returns-clause-version
 returns-clause-version g c clean ours =
     subst (λ (h : Held g.row.S.Denot). version_in ((state g.S.Store h).now.trees meta_tree) ≢ Other) c.set_step_limit.ensures
     (c.in_default.ensures.version clean (ap (λ (h : Held g.row.S.Denot). h.schema) c.set_step_limit.ensures ∙ ours))
+
+pub returns-in-Err-clause-foreign : goal.returns-in-Err-clause-foreign
+returns-in-Err-clause-foreign g c is =
+    inr (subst (λ (h : Held g.row.S.Denot). IsForeign g.S.Store h c.find_tables.new.conn) c.set_step_limit.ensures (c.find_tables.ensures.foreign (c.in-Err.is ∙ ap Err is)))
+
+pub returns-in-Err-clause-fresh : goal.returns-in-Err-clause-fresh
+returns-in-Err-clause-fresh g c idle none is =
+    c.find_tables.ensures.fresh (ap (λ (h : Held g.row.S.Denot). has_any h.schema) c.set_step_limit.ensures ∙ none) (c.in-Err.is ∙ ap Err is)
+
+pub returns-in-Err-clause-failed : goal.returns-in-Err-clause-failed
+returns-in-Err-clause-failed g c clean ours other told =
+    subst (λ (h : Held g.row.S.Denot). FailsToRead g.S.Store h c.find_tables.new.conn c.in-Err.fault) c.set_step_limit.ensures
+    (c.in-Err.ensures.failed clean (ap (λ (h : Held g.row.S.Denot). h.schema) c.set_step_limit.ensures ∙ ours)
+    (subst (λ (h : Held g.row.S.Denot). version_of (state g.S.Store h).now ≢ First) (sym c.set_step_limit.ensures) other) told)
