@@ -132,7 +132,7 @@ same_playable a b (turn_line turn name) p = ap (is_among name) p.passes
 
 -- and name the same then
 pub same_after : (a b : ScriptNames) (line : ScriptLine) → AreSameNames a b → AreSameNames (names_after a line) (names_after b line)
-same_after a b (node_line name) p = 
+same_after a b (node_line name) p =
     let e : NamedValue Contents = record { name = name; value = empty } in record {
       nodes = all_names-push a.nodes e ∙ ap (λ (ns : List (List ℕ)). ns ++ name ∷ []) p.nodes ∙ sym (all_names-push b.nodes e);
       connections = p.connections;

@@ -146,13 +146,13 @@ pub returns-in-Close-clause-numbered : goal.returns-in-Close-clause-numbered
 returns-in-Close-clause-numbered g c nodes = closes_has_nodes (names_of c.args.names) (names_of c.close.new.self) c.in-Close.name.now c.in_ok-close-in-Close.ensures.closed nodes
 
 pub returns-in-Send-clause-numbered : goal.returns-in-Send-clause-numbered
-returns-in-Send-clause-numbered g c nodes = 
+returns-in-Send-clause-numbered g c nodes =
     let sent = c.in_ok-send-in-Send.ensures.sent in
     has_nodes_kept (names_of c.args.names) (names_of c.send.new.self) (sends_nodes g.S.Store (names_of c.args.names) (names_of c.send.new.self) c.in-Send.name.now c.in-Send.piece.items sent.0 sent.1)
     c.in_ok-send-in-Send.ensures.many nodes
 
 pub returns-in-Turn-clause-numbered : goal.returns-in-Turn-clause-numbered
-returns-in-Turn-clause-numbered g c nodes = 
+returns-in-Turn-clause-numbered g c nodes =
     let turned = c.in_ok-take_turn-in-Turn.ensures.turned in
     has_nodes_kept (names_of c.args.names) (names_of c.take_turn.new.self) (turns_nodes g.S.Store c.in-Turn.turn (names_of c.args.names) (names_of c.take_turn.new.self) c.in-Turn.name.now turned.0 turned.1)
     c.in_ok-take_turn-in-Turn.ensures.many nodes
