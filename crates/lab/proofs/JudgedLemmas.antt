@@ -1,6 +1,6 @@
 -- What a result says of a line: whether it can be played.
-use Rattle.std.proofs.Common.{ℕ, ◌≡◌, ◌∙◌, ◌≤◌, ◌<◌, Bool, true, false, not, cond, List, Option, Some, None, ap, sym, subst, refl, arith, inl, inr, ◌⊎◌}
-use Rattle.std.specs.Prelude.{IfOk, Result, Ok, Err, is_some, option_and_then}
+use Rattle.std.proofs.Common.{ℕ, ◌≡◌, ◌≤◌, ◌<◌, Bool, true, false, cond, List, Option, Some, None, ap, sym, subst, refl, arith, inl, inr, ◌⊎◌}
+use Rattle.std.specs.Prelude.{Result, Ok, Err, is_some, option_and_then}
 use Rattle.std.specs.Result.{IsErrAnd}
 use Rattle.auth.specs.Callers.{Configuration}
 use Rattle.store.specs.declared.fault.StoreFault.{StoreFault}

@@ -1,10 +1,8 @@
 -- What a script has named, as its lines are played.
-use Rattle.std.proofs.Common.{ℕ, zero, suc, ◌≡◌, ◌∙◌, ◌+◌, ◌<◌, ◌≤◌, ◌++◌, Bool, true, false, not, ◌&&◌, ◌||◌, cond, List, [], ◌∷◌, Option, Some, None, ap, sym, subst, refl, arith, add-one, bytes_eq, length, map, length-append, inl, inr, ◌⊎◌}
-use Rattle.std.proofs.lemmas.Bool.{cases_lt}
+use Rattle.std.proofs.Common.{ℕ, suc, ◌≡◌, ◌∙◌, ◌+◌, ◌<◌, ◌++◌, Bool, true, false, not, ◌&&◌, ◌||◌, cond, List, [], ◌∷◌, Option, Some, ap, sym, subst, refl, arith, bytes_eq, length, map}
 use Rattle.std.proofs.lemmas.List.{length-map, map-append}
-use Rattle.std.specs.Prelude.{IfSome, OnOk, Result, Ok, Err, is_some, option_and_then, ⊤}
+use Rattle.std.specs.Prelude.{is_some, option_and_then}
 use Rattle.std.specs.FinMap.{empty, get, insert}
-use Rattle.std.specs.List.{list_any}
 use Rattle.auth.specs.Callers.{Configuration}
 use Rattle.store.specs.Contents.{Contents}
 use Rattle.store.specs.declared.store.Store.{Ghosts}
@@ -15,7 +13,7 @@ use Rattle.lab.specs.Scene.{AddsDatabase, AddsNode, Closes, NamedNetwork, Opens,
 use Rattle.lab.specs.Script.{ScriptLine, node_line, public_line, conn_line, send_line, close_line, repl_line, turn_line}
 use Rattle.lab.specs.declared.turn.Turn.{Turn}
 use Rattle.lab.specs.declared.turn.Turn.TheVariants.{Step, Lose, Unsent, Run}
-use Rattle.lab.specs.Stopping.{HasNodes, HasNodesIn, ScriptNames, all_names, can_add, can_be_played, can_open, can_start, has_database_in, has_node, is_among, names_after, names_in, stores_database, with_database}
+use Rattle.lab.specs.Stopping.{HasNodes, ScriptNames, all_names, can_add, can_be_played, can_open, can_start, has_database_in, has_node, is_among, names_after, names_in, stores_database, with_database}
 
 -- ---- names
 

@@ -1,5 +1,5 @@
 -- What rows of a document tell that don't fit together.
-use Rattle.sqlstore.proofs.Common.{Answers, Err, Ghosts, List, None, Option, Result, Some, SqlStore, StoreFault, ap, is_honest, option_map, refl, subst, sym, ◌∙◌, ◌≡◌}
+use Rattle.sqlstore.proofs.Common.{Answers, Err, Ghosts, None, Option, Result, Some, SqlStore, StoreFault, ap, is_honest, option_map, refl, subst, sym, ◌∙◌, ◌≡◌}
 use Rattle.store.specs.declared.fault.StoreFault.TheVariants.{Damaged}
 use Rattle.tree.proofs.Outlines.{winner_in}
 use Rattle.tree.specs.History.{HistoryContent, winner}

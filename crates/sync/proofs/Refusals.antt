@@ -1,5 +1,5 @@
 -- What a turn leaves that broke off, or that nobody was told of.
-use Rattle.std.proofs.Common.{◌≡◌, ◌≤◌, ◌+◌, ◌++◌, ◌∙◌, ◌∷◌, [], ℕ, zero, suc, List, length, map, take, inl, inr, ap, sym, subst, arith, length-append}
+use Rattle.std.proofs.Common.{◌≡◌, ◌≤◌, ◌++◌, ◌∙◌, ◌∷◌, [], ℕ, zero, suc, List, length, map, take, inl, inr, ap, sym, subst, arith, length-append}
 use Rattle.store.specs.declared.store.Store.{Ghosts}
 use Rattle.hub.specs.Answering.{StoreSteps}
 use Rattle.repl.specs.Passes.{Asked}

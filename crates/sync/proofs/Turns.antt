@@ -4,7 +4,7 @@ use Rattle.std.specs.Prelude.{OnErr, Result, Ok, Err, option_map}
 use Rattle.repl.specs.Asks.{ask_of}
 use Rattle.repl.specs.Passes.{Asked}
 use Rattle.repl.specs.declared.ask.Ask.{Ask}
-use Rattle.sync.specs.Turns.{ComesToEnd, EndsEarly, GoesThrough, RunsOut, StopsInTurn, TurnOf, most_exchanges}
+use Rattle.sync.specs.Turns.{ComesToEnd, EndsEarly, GoesThrough, RunsOut, TurnOf, most_exchanges}
 
 -- a turn that there may be has as many exchanges before it as there may be, or fewer
 in_time_before : (count most : ℕ) → count < most + 1 → count ≤ most

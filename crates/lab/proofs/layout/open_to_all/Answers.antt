@@ -1,4 +1,4 @@
-use Rattle.std.proofs.Common.{◌≡◌, Err, Option, ap, not, true}
+use Rattle.std.proofs.Common.{Err, Option, ap, not, true}
 use Rattle.std.specs.FinMap.{get}
 use Rattle.std.specs.Prelude.{is_some}
 use Rattle.store.specs.Database.{Database}

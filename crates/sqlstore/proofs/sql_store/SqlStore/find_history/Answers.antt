@@ -1,4 +1,4 @@
-use Rattle.sqlstore.proofs.Lemmas.{Err, Trees, ap, history_in, inside, revs_tree, rules, stands_same, sym, trees_of, was_honest, ◌∙◌, ◌≡◌}
+use Rattle.sqlstore.proofs.Lemmas.{Err, Trees, ap, history_in, inside, revs_tree, rules, stands_same, sym, was_honest, ◌∙◌, ◌≡◌}
 use Rattle.sqlstore.proofs.LostRows.{damaged}
 use Rattle.tree.specs.Outline.{marked_winner}
 use Rattle.sqlstore.proofs.sql_store.SqlStore.find_history.Goals as goal

@@ -1,6 +1,6 @@
-use Rattle.sqlstore.proofs.Lemmas.{Err, Trees, ap, history_in, inside, leaf_rows_lost, revs_tree, rules, stands_same, sym, trees_of, was_honest, ◌∙◌, ◌≡◌}
+use Rattle.sqlstore.proofs.Lemmas.{Trees, ap, history_in, inside, leaf_rows_lost, revs_tree, rules, stands_same, sym, trees_of, was_honest, ◌∙◌}
 use Rattle.sqlstore.proofs.LostRows.{outline_agrees}
-use Rattle.tree.specs.Outline.{marked_winner, outline_of}
+use Rattle.tree.specs.Outline.{outline_of}
 use Rattle.sqlstore.proofs.sql_store.SqlStore.find_outline.Goals as goal
 
 pub returns-in_err-check_outline-clause-answer : goal.returns-in_err-check_outline-clause-answer
