@@ -1,0 +1,175 @@
+"""Reads the definitions of all crates' specs, and the clauses of their functions, and finds what a clause reaches."""
+import dataclasses
+import glob
+import os
+import re
+
+WORD = re.compile(r"[A-Za-z_][\w'-]*(?:\.[A-Za-z_][\w'-]*)*")
+USE = re.compile(r"(?:pub )?(?:ghost )?use (Rattle[\w.+]*?)(?:\.\{(.*?)\})?(?: as (\w+))?;?$")
+HEAD = re.compile(r"((?:(?:abbrev|pub|unfoldable|opaque|data|record|codata|mutual)\s+)*)([^\s(){}:;]+)")
+
+
+@dataclasses.dataclass
+class Definition:
+    """A definition of a file of specs/: its lines without comments, its comment, and the names that it may use."""
+
+    crate: str
+    file: str
+    name: str
+    kind: str
+    comment: str
+    lines: list
+    names: dict
+
+    def place(self):
+        return self.file, self.name
+
+
+@dataclasses.dataclass(frozen=True)
+class Outside:
+    """A name that no file of specs/ defines: a type of the code, or a definition of the toolchain's."""
+
+    module: str
+    name: str
+
+
+def uses_in(lines):
+    """Returns where each name comes from that the `use` items of these lines bring: a module, and its name there or None."""
+    names = {}
+    for line in lines:
+        found = USE.match(line.strip())
+        if not found:
+            continue
+        module, listed, alias = found.groups()
+        for part in (listed or "").split(","):
+            name, _, other = part.strip().partition(" as ")
+            if name:
+                names[other or name] = (module, name)
+        if not listed:
+            names[alias or module.split(".")[-1]] = (module, None)
+    return names
+
+
+class Book:
+    """All definitions of a repository."""
+
+    def __init__(self, top):
+        self.top, self.modules, self.heads = top, {}, {}
+        for path in sorted(glob.glob(f"{top}/crates/*/specs/**/*.antt", recursive=True)):
+            crate, _, rest = os.path.relpath(path, f"{top}/crates").partition("/specs/")
+            module = f"Rattle.{crate}.specs.{rest.removesuffix('.antt').replace('/', '.')}"
+            with open(path, encoding="utf-8") as file:
+                self.read(module, crate, os.path.relpath(path, top), file.read().split("\n"))
+
+    def read(self, module, crate, path, lines):
+        """Takes in a file: the comment at its head, and its definitions by their names; members of a type lead to it."""
+        named, inner = self.modules.setdefault(module, {}), {}
+        names, comment, current, is_head = uses_in(lines), [], None, True
+        self.heads[path] = lines[0].removeprefix("-- ")
+        for line in lines:
+            shift = 2 if current is None and line.startswith("  ") or inner and line.startswith("  ") else 0
+            text = line[shift:]
+            if not text.strip():
+                comment = []
+            elif text.startswith("module "):
+                inner, comment = {"in": True}, []
+            elif text.lstrip().startswith("--"):
+                comment = [] if is_head else comment + [text.lstrip().removeprefix("--").strip()]
+            elif USE.match(text.strip()) or text.startswith("pub mod "):
+                is_head = False
+            elif text[0] == " " or not HEAD.match(text):
+                current.lines.append(text)
+                member = re.match(r"\s+(?:pub )?([\w'-]+)\s*:", text)
+                if member and current.kind in ("data", "record"):
+                    named.setdefault(member[1], current)
+            else:
+                is_head = False
+                if not line.startswith("  "):
+                    inner = {}
+                words, name = HEAD.match(text).groups()
+                if current is None or name != current.name:
+                    kind = next((word for word in ("data", "record") if word in words.split()), "")
+                    current = named.get(name) or Definition(crate, path, name, kind, " ".join(comment), [], names)
+                    named[name] = current
+                current.lines.append(text)
+                comment = []
+
+    def find(self, module, name, seen=()):
+        """Returns what a name of a module is, behind what the module itself takes from others."""
+        known = self.modules.get(module)
+        if known is None:
+            return Outside(module, name)
+        if name in known:
+            return known[name]
+        passed_on = next((one.names for one in known.values() if name in one.names), {}).get(name)
+        if passed_on and module not in seen:
+            return self.find(passed_on[0], passed_on[1] or name, (*seen, module))
+        return Outside(module, name)
+
+    def named(self, text, names, module=None):
+        """Yields what the words of a text name, by these names and those of a module."""
+        for word in set(WORD.findall(text)):
+            first, _, rest = word.partition(".")
+            if module and first in self.modules[module]:
+                yield self.modules[module][first]
+            elif first in names:
+                source, name = names[first]
+                if name or rest:
+                    yield self.find(source, name or rest.split(".")[0])
+
+    def reach(self, text, names):
+        """Returns all definitions that a text reaches, and the names outside of specs/."""
+        reached, outside, todo = {}, set(), list(self.named(text, names))
+        while todo:
+            one = todo.pop()
+            if isinstance(one, Outside):
+                outside.add(one)
+            elif one.place() not in reached:
+                reached[one.place()] = one
+                module = f"Rattle.{one.crate}.specs.{one.file.partition('/specs/')[2].removesuffix('.antt').replace('/', '.')}"
+                todo += self.named("\n".join(one.lines), one.names, module)
+        return reached, outside
+
+
+@dataclasses.dataclass
+class Clauses:
+    """The clauses of a function that were asked for, as they stand, and the names that they may use."""
+
+    file: str
+    texts: list
+    names: dict
+
+
+def blocks_at(lines, start):
+    """Returns the clauses behind the head of a function, up to its body, each with its comment aside, by their names."""
+    found, current = {}, None
+    for line in lines[start + 1 :]:
+        text = line.strip()
+        if text in ("{", "{}") or text.startswith("fn "):
+            break
+        begun = re.match(r"(?:ensures|requires)\*?(?: ([\w]+))? \{", text)
+        if begun:
+            current = begun[1] or ""
+            found[current] = [text]
+        elif current is not None and text and not text.startswith("//"):
+            found[current].append("    " + text)
+    return found
+
+
+def clauses_of(top, crate, path, wanted):
+    """Returns the clauses of these names of a crate's public function, which may be a method `Type::name`."""
+    owner, _, name = path.rpartition("::")
+    for file in sorted(glob.glob(f"{top}/crates/{crate}/src/**/*.rt", recursive=True)):
+        with open(file, encoding="utf-8") as code:
+            lines = code.read().split("\n")
+        inside = None
+        for number, line in enumerate(lines):
+            if re.match(r"(?:impl|pub trait|trait)\b", line):
+                inside = re.sub(r"<.*?>", "", line).split(" for ")[-1].split()[-2 if line.endswith("{") else -1].rstrip(":")
+            elif line.startswith("}"):
+                inside = None
+            if re.match(rf"\s*(?:pub )?fn {name}\b", line) and owner.rpartition("::")[2] in ("laws", "", inside):
+                blocks = blocks_at(lines, number)
+                if all(one in blocks for one in wanted):
+                    return Clauses(os.path.relpath(file, top), ["\n".join(blocks[one]) for one in wanted], uses_in(lines))
+    raise SystemExit(f"no function {path} of {crate} has the clauses {' '.join(wanted)}")
