@@ -20,10 +20,11 @@ with open(f"{TOP}/crates/tables/src/create.rt", encoding="utf-8") as code:
 class Served:
     """A server on a file, and one connection to it."""
 
-    def __init__(self, program, file, at_once=None):
+    def __init__(self, program, file, at_once=None, cache=None):
         command = [program, "serve", "--secret", SECRET, "--file", file, "--port", "0", "--conns", "1000000", ADMIN]
-        if at_once is not None:
-            command += ["--at-once", str(at_once)]
+        for word, number in [("--at-once", at_once), ("--cache", cache)]:
+            if number is not None:
+                command += [word, str(number)]
         self.process = subprocess.Popen(command, stdout=subprocess.PIPE)
         line = self.process.stdout.readline().decode()
         self.port = int(re.fullmatch(r"listening 127\.0\.0\.1:(\d+)\n", line).group(1))
