@@ -46,6 +46,7 @@ method_of method =
     if bytes_eq method (codes "POST") then Some Post else (
     if bytes_eq method (codes "DELETE") then Some Delete else None)))
 
+-- there are no parameters
 abbrev pub is_nothing : List (List ℕ × List ℕ) → Bool
 is_nothing [] = true
 is_nothing (p ∷ ps) = false
@@ -59,6 +60,7 @@ lacks_parameters (Some query) = is_nothing (raw_pairs query)
 abbrev pub plain : Message → Result (Unit {0}) Refusal
 plain m = true_or Query (lacks_parameters m.query)
 
+-- the value that was read, or the refusal `Syntax`
 abbrev pub value_or_refusal : Result Value JsonFault → Result Value Refusal
 value_or_refusal (Ok v) = Ok v
 value_or_refusal (Err fault) = Err Syntax

@@ -14,6 +14,7 @@ pub record Bulk : Type 0 where
   pub new_edits : Bool
   pub documents : List Value
 
+-- items as a list
 abbrev pub elements : Items → List Value
 elements no_items = []
 elements (item v vs) = v ∷ elements vs
@@ -22,6 +23,7 @@ elements (item v vs) = v ∷ elements vs
 abbrev pub documents_of : Value → Option (List Value)
 documents_of v = option_map (λ vs. elements vs) (items_in v)
 
+-- the documents of a bulk
 abbrev pub documents_in : Option Value → Option (List Value)
 documents_in v = option_and_then (λ docs. documents_of docs) v
 
@@ -30,6 +32,7 @@ abbrev pub new_edits_in : Option Value → Option Bool
 new_edits_in None = Some true
 new_edits_in (Some v) = truth_in v
 
+-- a bulk by its parts, where both are of their form
 abbrev pub bulk_by : Option Bool → Option (List Value) → Option Bulk
 bulk_by None documents = None
 bulk_by (Some new_edits) None = None

@@ -25,6 +25,7 @@ is_count_text text = nat_le 1 (length text) && nat_le (length text) 19 && list_a
 abbrev pub count_in : List ℕ → Option ℕ
 count_in text = if is_count_text text && nat_le (digits_value 10 text) greatest_count then Some (digits_value 10 text) else None
 
+-- a text that was read
 abbrev pub text_read : Result Value JsonFault → Option (List ℕ)
 text_read (Ok v) = text_in v
 text_read (Err fault) = None
@@ -39,6 +40,7 @@ style_in value = if bytes_eq value (codes "all_docs") then Some true else (if by
 
 -- ---- a listing by id
 
+-- the part of a list by id, by its parameters
 abbrev pub range_by : Option (List ℕ) → Option (List ℕ) → Option Bool → Option Bool → Option ℕ → Option ℕ → IdRange
 range_by start end inclusive_end descending skip limit = record {
   start = start;
@@ -62,6 +64,7 @@ range_from ps start end =
     (given_at count_in (codes "limit") ps)) (given_at count_in (codes "skip") ps))
     (given_at flag_in (codes "descending") ps)) (given_at flag_in (codes "inclusive_end") ps)
 
+-- the part of a list by id that parameters request, where each is known and of its form
 abbrev pub range_asked : List (List ℕ × List ℕ) → Option IdRange
 range_asked ps =
     if are_named listing_names ps
@@ -74,13 +77,16 @@ listing_query query = range_asked (parameters_in query)
 
 -- ---- changes
 
+-- the part of the changes, by its parameters
 abbrev pub changes_by : Option ℕ → Option ℕ → Option Bool → SeqRange
 changes_by since limit all_leaves =
     record { since = unwrap_or since 0; limit = limit; all_leaves = unwrap_or all_leaves false; counted = false }
 
+-- the parameters that `_changes` has
 abbrev pub change_names : List (List ℕ)
 change_names = codes "since" ∷ codes "limit" ∷ codes "style" ∷ []
 
+-- the part of the changes that parameters request, where each is known and of its form
 abbrev pub changes_asked : List (List ℕ × List ℕ) → Option SeqRange
 changes_asked ps =
     if are_named change_names ps
@@ -98,6 +104,7 @@ changes_query query = changes_asked (parameters_in query)
 abbrev pub with_revisions_of : List ℕ → Option (List Revision) → Option (List RevisionsOf) → Option (List RevisionsOf)
 with_revisions_of id revs rest = option_and_then (λ rs. option_map (λ others. record { id = id; revs = rs } ∷ others) rest) revs
 
+-- the revisions that `_revs_diff` requests, document by document
 abbrev pub revisions_of_members : Members → Option (List RevisionsOf)
 revisions_of_members no_members = Some []
 revisions_of_members (member name v ms) = with_revisions_of name (revisions_listed v) (revisions_of_members ms)

@@ -19,6 +19,7 @@ parts_of path = slice_split (λ b. b == slash) path
 abbrev pub part_at : ℕ → List ℕ → Option (List ℕ)
 part_at place path = slice_get (parts_of path) place
 
+-- a text, where it is good
 abbrev pub text_if : Bool → List ℕ → Option (List ℕ)
 text_if good text = if good then Some text else None
 
@@ -30,6 +31,7 @@ decoded_text part = text_if (is_utf8 (percent_decode part)) (percent_decode part
 abbrev pub decoded_at : ℕ → List ℕ → Option (List ℕ)
 decoded_at place path = option_and_then (λ part. decoded_text part) (part_at place path)
 
+-- a text that is the name of a database
 abbrev pub name_if : List ℕ → Option (List ℕ)
 name_if text = text_if (is_database_name text) text
 
@@ -37,6 +39,7 @@ name_if text = text_if (is_database_name text) text
 abbrev pub database_name_in : List ℕ → Option (List ℕ)
 database_name_in path = option_and_then (λ text. name_if text) (decoded_at 1 path)
 
+-- a text that is the id of a document
 abbrev pub id_if : List ℕ → Option (List ℕ)
 id_if text = text_if (is_document_id text) text
 
@@ -49,6 +52,7 @@ abbrev pub id_text_by : Option (List ℕ) → List ℕ → Option (List ℕ)
 id_text_by None path = decoded_at 2 path
 id_text_by (Some part) path = joined_by_slash (decoded_at 2 path) (decoded_at 3 path)
 
+-- the id in a path, as a text
 abbrev pub id_text_in : List ℕ → Option (List ℕ)
 id_text_in path = id_text_by (part_at 3 path) path
 

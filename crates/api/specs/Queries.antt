@@ -34,6 +34,7 @@ abbrev pub values_of : List ℕ → List (List ℕ × List ℕ) → List (List �
 values_of name [] = []
 values_of name (p ∷ ps) = if bytes_eq p.0 name then p.1 ∷ values_of name ps else values_of name ps
 
+-- the value of a parameter, if any; none where it is given twice
 abbrev pub at_most_one : List (List ℕ) → Option (Option (List ℕ))
 at_most_one [] = Some None
 at_most_one (value ∷ []) = Some (Some value)
@@ -80,9 +81,11 @@ abbrev pub revisions_in : Items → Option (List Revision)
 revisions_in no_items = Some []
 revisions_in (item v vs) = option_and_then (λ r. option_map (λ rs. r ∷ rs) (revisions_in vs)) (revision_in v)
 
+-- the revisions of a list
 abbrev pub revisions_listed : Value → Option (List Revision)
 revisions_listed v = option_and_then (λ vs. revisions_in vs) (items_in v)
 
+-- the revisions of a value that was read
 abbrev pub revisions_read : Result Value JsonFault → Option (List Revision)
 revisions_read (Ok v) = revisions_listed v
 revisions_read (Err fault) = None
@@ -122,6 +125,7 @@ asked_of_document parameters =
 abbrev pub document_query : Option (List ℕ) → Option DocumentQuery
 document_query query = asked_of_document (parameters_in query)
 
+-- the revision that parameters name, if any, where no other parameter is there
 abbrev pub revision_asked : List (List ℕ × List ℕ) → Option (Option Revision)
 revision_asked parameters =
     if are_named (codes "rev" ∷ []) parameters then option_and_then (λ rev. revision_by rev) (sole_value (codes "rev") parameters)

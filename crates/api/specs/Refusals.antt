@@ -7,6 +7,7 @@ use Rattle.policy.specs.declared.rule.Rule.TheVariants.{ProxyToken, ServerAdmin,
 use Rattle.api.specs.declared.refusal.Refusal.{Refusal}
 use Rattle.api.specs.declared.refusal.Refusal.TheVariants.{Unauthorized, Forbidden, Path, Method, DatabaseName, NoDatabase, Exists, Id, Query, Syntax, Body, BadDocument, BadHistory, Conflict, Generation, Missing, Deleted}
 
+-- the status of a refusal
 abbrev pub status_of : Refusal → ℕ
 status_of (Unauthorized rule) = 401
 status_of (Forbidden rule) = 403
@@ -26,6 +27,7 @@ status_of Generation = 400
 status_of Missing = 404
 status_of Deleted = 404
 
+-- the word `error` of a refusal
 abbrev pub error_of : Refusal → List ℕ
 error_of (Unauthorized rule) = codes "unauthorized"
 error_of (Forbidden rule) = codes "forbidden"
@@ -54,6 +56,7 @@ reason_of_rule DbAdmin = codes "You are not a db or server admin."
 reason_of_rule DesignDocument = codes "You are not a db or server admin."
 reason_of_rule (Update id) = codes "Refused by an update rule."
 
+-- the word `reason` of a refusal
 abbrev pub reason_of : Refusal → List ℕ
 reason_of (Unauthorized rule) = reason_of_rule rule
 reason_of (Forbidden rule) = reason_of_rule rule
@@ -102,6 +105,7 @@ rule_of Generation = None
 rule_of Missing = None
 rule_of Deleted = None
 
+-- the members with the name of the rule, where one refused
 abbrev pub with_rule : Option (List ℕ) → Members → Members
 with_rule None ms = ms
 with_rule (Some rule) ms = put (codes "rule") (text rule) ms

@@ -34,9 +34,11 @@ routes =
     ∷ (codes "/{db}/{id}", Document)
     ∷ []
 
+-- patterns of paths, each with its page
 abbrev pub Table : Type 0
 Table = RowsOf (RouteOf Page)
 
+-- a table with a route, where its pattern could be read
 abbrev pub with_read : Result Scan InsertError → Page → Table → Table
 with_read (Ok s) page rows = placed (s.pattern, route_from s page) rows
 with_read (Err e) page rows = rows
@@ -45,10 +47,12 @@ with_read (Err e) page rows = rows
 abbrev pub with_route : List ℕ × Page → Table → Table
 with_route route rows = with_read (parse_route route.0) route.1 rows
 
+-- a table with more routes
 abbrev pub with_routes : List (List ℕ × Page) → Table → Table
 with_routes [] rows = rows
 with_routes (route ∷ rest) rows = with_routes rest (with_route route rows)
 
+-- the pages by their paths
 unfoldable pub table : Table
 table = with_routes routes []
 
@@ -80,6 +84,7 @@ abbrev pub document_page : Bool → Page
 document_page true = LocalDocument
 document_page false = Document
 
+-- the page of a path; of a local document, its own
 abbrev pub page_by : List ℕ → Page → Page
 page_by path Document = document_page (begins_local (part_at 2 path))
 page_by path page = page

@@ -12,6 +12,7 @@ use Rattle.store.specs.declared.listing.IdRange.{IdRange}
 use Rattle.api.specs.Listings.{range_from}
 use Rattle.api.specs.Queries.{are_named, given_at, parameters_in}
 
+-- the value that was read, if it could be
 abbrev pub value_read : Result Value JsonFault → Option Value
 value_read (Ok v) = Some v
 value_read (Err fault) = None

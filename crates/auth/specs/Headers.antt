@@ -7,9 +7,11 @@ use Rattle.std.specs.Str.{str_eq_ignore_ascii_case}
 abbrev pub user_name_header : List ℕ
 user_name_header = codes "X-Auth-CouchDB-UserName"
 
+-- the field that lists roles
 abbrev pub roles_header : List ℕ
 roles_header = codes "X-Auth-CouchDB-Roles"
 
+-- the field with the token that vouches for the name
 abbrev pub token_header : List ℕ
 token_header = codes "X-Auth-CouchDB-Token"
 

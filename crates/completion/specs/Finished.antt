@@ -44,6 +44,7 @@ database_at nodes place name = found_or_new (database_of_node (slice_get nodes p
 abbrev pub source_of : Transfer → Network Contents → Database
 source_of t now = database_at now.nodes t.from t.pass.configuration.source_db
 
+-- the target's database of a pass, as it is now
 abbrev pub target_of : Transfer → Network Contents → Database
 target_of t now = database_at now.nodes t.to t.pass.configuration.target_db
 

@@ -83,6 +83,7 @@ pub record IsArranged (p q : ℕ) (t u : Transfer) (old new : Network Contents) 
   pub there : StaysOrStarts t (transfer_at old.transfers p) (transfer_at new.transfers p)
   pub back : StaysOrStarts u (transfer_at old.transfers q) (transfer_at new.transfers q)
 
+-- a stage of a course: passes run, or passes are arranged
 pub data Stage : Type 0 where
   runs : Stage
   arranges : Stage

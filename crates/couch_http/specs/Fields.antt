@@ -50,6 +50,7 @@ content_length limit absent headers = length_of limit absent (values_of (codes "
 abbrev pub request_length : List HeaderField → Result ℕ HttpFault
 request_length headers = content_length body_limit (Ok 0) headers
 
+-- a message has the field Transfer-Encoding
 abbrev pub has_transfer_encoding : List HeaderField → Bool
 has_transfer_encoding headers = nat_lt 0 (length (values_of (codes "Transfer-Encoding") headers))
 

@@ -49,6 +49,7 @@ StandsAtHead Reads head lines rest front = MatchBool (is_too_large head lines) (
 abbrev pub unfinished_head : {A : Type 0} → List ℕ → Front A
 unfinished_head bytes = if nat_lt (length bytes) head_limit then waits else broken TooLarge
 
+-- what begins the bytes, where the lines of a head were scanned so far
 abbrev pub StandsAtScan : {A : Type 0} → (List ℕ → List ℕ → Front A → Type 0) → HeadScan → List ℕ → Front A → Type 0
 StandsAtScan Reads (within lines line) bytes front = front ≡ unfinished_head bytes
 StandsAtScan Reads (complete lines rest) bytes front = (head : List ℕ) × (bytes ≡ head ++ rest) × StandsAtHead Reads head lines rest front

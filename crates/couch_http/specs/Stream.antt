@@ -43,6 +43,7 @@ after_head method target minor headers rest =
     if has_transfer_encoding headers then broken Encoding
     else with_length (announced_request method target minor headers) (request_length headers) rest
 
+-- what begins the bytes behind the head of a request
 abbrev pub front_of : RequestHead → List ℕ → Front Message
 front_of h rest = after_head h.method h.target h.minor (map field_of h.fields) rest
 
@@ -54,6 +55,7 @@ ReadsHead head rest front = ReadsBy IsHeadOf front_of head rest front
 abbrev pub AtHead : List ℕ → ℕ → List ℕ → Front Message → Type 0
 AtHead head lines rest front = StandsAtHead ReadsHead head lines rest front
 
+-- the same of a request
 abbrev pub AtScan : HeadScan → List ℕ → Front Message → Type 0
 AtScan scan bytes front = StandsAtScan ReadsHead scan bytes front
 

@@ -4,9 +4,11 @@ use Rattle.std.specs.Prelude.{◌≡◌, ⊤, ℕ, ◌==◌, ◌&&◌, Bool, tru
 use Rattle.std.specs.List.{join_with_byte}
 use Rattle.couch_json.specs.Value.{Value, member_of}
 
+-- `.`
 abbrev pub dot : ℕ
 dot = 46
 
+-- `\`
 abbrev pub backslash : ℕ
 backslash = 92
 
@@ -26,6 +28,7 @@ names_from held name (byte ∷ bytes) =
     then names_from true (with_held held name) bytes
     else names_from false (with_held held name ++ byte ∷ []) bytes)
 
+-- the names of a path, in order
 abbrev pub names_in : List ℕ → List (List ℕ)
 names_in path = names_from false [] path
 
@@ -63,5 +66,6 @@ abbrev pub value_along : List (List ℕ) → Value → Option Value
 value_along [] v = Some v
 value_along (name ∷ names) v = option_and_then (value_along names) (member_of v name)
 
+-- what a path reaches in a value, where it reaches anything
 abbrev pub value_at : List ℕ → Value → Option Value
 value_at path v = value_along (names_in path) v

@@ -55,12 +55,14 @@ is_truth v = is_some (truth_in v)
 abbrev pub is_whole : Value → Bool
 is_whole v = is_some (whole_in v)
 
+-- it is a text
 abbrev pub is_text : Value → Bool
 is_text v = is_some (text_in v)
 
 abbrev pub is_array : Value → Bool
 is_array v = is_some (items_in v)
 
+-- it is an object
 abbrev pub is_object : Value → Bool
 is_object v = is_some (members_in v)
 

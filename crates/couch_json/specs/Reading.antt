@@ -33,10 +33,12 @@ abbrev mutual
   members_of_data serde.no_members found = Some found
   members_of_data (serde.member name d ms) found = option_and_then (λ v. members_of_data ms (put name v found)) (value_of d)
 
+-- a value with whole numbers alone, or the fault of one that has another
 abbrev pub whole_or_fault : Option Value → Result Value JsonFault
 whole_or_fault None = Err Number
 whole_or_fault (Some v) = Ok v
 
+-- the value that was read, or why there is none; bytes that are no JSON are no syntax
 abbrev pub value_or_fault : Option serde.Data → Result Value JsonFault
 value_or_fault None = Err Syntax
 value_or_fault (Some d) = whole_or_fault (value_of d)

@@ -6,10 +6,12 @@ use Rattle.couch_json.specs.Value.{Value, null, truth, whole, text, array, objec
 use Rattle.couch_json.specs.declared.value.Json.{Json, fold-Json}
 use Rattle.couch_json.specs.declared.value.Json.TheOpen.{Json-F}
 
+-- values as the items of an array
 abbrev pub items_of : List Value → Items
 items_of [] = no_items
 items_of (v ∷ vs) = item v (items_of vs)
 
+-- names with values as the members of an object
 abbrev pub members_of : List (String Global × Value) → Members
 members_of [] = no_members
 members_of (m ∷ ms) = member (string_bytes m.0) m.1 (members_of ms)
@@ -23,6 +25,7 @@ view_step (Json-F.Text s) = text (string_bytes s)
 view_step (Json-F.Array v) = array (items_of v.items)
 view_step (Json-F.Object m) = object (members_of m.entries)
 
+-- a value of the code as the definition's
 abbrev pub view : Json → Value
 view = fold-Json Value view_step
 

@@ -7,6 +7,7 @@ use Rattle.engine.specs.declared.flow.Accepted.TheVariants as came
 use Rattle.engine.specs.declared.flow.Flow.{Flow}
 use Rattle.engine.specs.declared.flow.Flow.TheVariants.{Bytes, Later, Never}
 
+-- what the sockets and the engine did: a connection accepted, opened for the hub, bytes brought and taken, closed
 pub data Act : Type 0 where
   -- a connection was accepted, or would have been, had it not been reset before
   accepted : Act

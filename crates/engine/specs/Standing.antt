@@ -7,6 +7,7 @@ use Rattle.store.specs.Calls.{GoesOn}
 use Rattle.hub.specs.Feeding.{HubState, IsFed}
 use Rattle.hub.specs.Service.{bytes_of, farewell, hub_without}
 
+-- a connection: served, with what it is owed; ending, with what it is owed; or given up
 pub data Standing : Type 0 where
   -- its requests are handled, and these bytes are owed to it
   serving : List ℕ → Standing

@@ -27,9 +27,11 @@ design_id id = if is_document_id id && is_design_id id then Some id else None
 abbrev pub design_in : Value → Option (List ℕ)
 design_in v = option_and_then (λ name. design_id (codes "_design/" ++ name)) (text_in v)
 
+-- a text that may name an index
 abbrev pub index_name_of : List ℕ → Option (List ℕ)
 index_name_of name = if is_index_name name then Some name else None
 
+-- the name of an index in a value
 abbrev pub index_name_in : Value → Option (List ℕ)
 index_name_in v = option_and_then index_name_of (text_in v)
 
@@ -42,12 +44,15 @@ abbrev pub index_fields : Value → Option (List (List ℕ))
 index_fields v =
     if has_only (codes "fields" ∷ []) v then option_and_then field_list (option_and_then items_in (member_of v (codes "fields"))) else None
 
+-- the members that a request for an index may have
 abbrev pub index_names : List (List ℕ)
 index_names = codes "ddoc" ∷ codes "index" ∷ codes "name" ∷ codes "type" ∷ []
 
+-- an index by its parts
 abbrev pub index_by : List ℕ → List ℕ → List (List ℕ) → IndexAsked
 index_by design name fields = record { design = design; name = name; fields = fields }
 
+-- the index of a request, in this design document; none where its name or its fields are not of their form
 abbrev pub index_with : Value → List ℕ → Option IndexAsked
 index_with v design =
     option_and_then (λ name. option_map (λ fields. index_by design name fields) (option_and_then index_fields (member_of v (codes "index"))))

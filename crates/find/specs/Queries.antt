@@ -27,9 +27,11 @@ count_or n (Some v) = count_in v
 abbrev pub max_sort_fields : ℕ
 max_sort_fields = 8
 
+-- the word for a direction
 abbrev pub direction_text : Bool → List ℕ
 direction_text descending = if descending then codes "desc" else codes "asc"
 
+-- a text that is a field path
 abbrev pub path_in : List ℕ → Option (List ℕ)
 path_in path = if is_field_path path then Some path else None
 
@@ -46,6 +48,7 @@ entry_in (text path) = Some (path, direction_text false)
 entry_in (object ms) = option_and_then (λ m. option_map (λ direction. (m.0, direction)) (text_in m.1)) (sole_member ms)
 entry_in v = None
 
+-- an entry of a sort says this direction
 abbrev pub has_direction : Bool → List ℕ × List ℕ → Bool
 has_direction descending entry = bytes_eq entry.1 (direction_text descending)
 
@@ -53,6 +56,7 @@ has_direction descending entry = bytes_eq entry.1 (direction_text descending)
 abbrev pub sort_field : Bool → Value → Option (List ℕ)
 sort_field descending v = option_and_then (λ entry. if has_direction descending entry then path_in entry.0 else None) (entry_in v)
 
+-- an entry of a sort says `desc`
 abbrev pub goes_down : Value → Bool
 goes_down v = is_there_and (has_direction true) (entry_in v)
 
@@ -61,6 +65,7 @@ abbrev pub is_descending : Items → Bool
 is_descending no_items = false
 is_descending (item v vs) = goes_down v
 
+-- the fields of a sort, where each entry is of its form and says this direction
 abbrev pub sort_fields_of : Bool → Items → Option (List (List ℕ))
 sort_fields_of descending no_items = Some []
 sort_fields_of descending (item v vs) =
@@ -77,16 +82,20 @@ sort_entries (Some v) = items_in v
 
 -- ---- the query
 
+-- the members that a find may have
 abbrev pub query_names : List (List ℕ)
 query_names = codes "selector" ∷ codes "sort" ∷ codes "limit" ∷ codes "skip" ∷ []
 
+-- how many documents are shown where no limit is given
 abbrev pub default_limit : ℕ
 default_limit = 25
 
+-- a query by its parts
 abbrev pub query_by : Value → List (List ℕ) → Bool → ℕ → ℕ → Query
 query_by selector sort descending limit skip =
     record { selector = selector; sort = sort; descending = descending; limit = limit; skip = skip }
 
+-- the query of a find with this selector and sort; none where a count or a field of the sort is not of its form
 abbrev pub query_with : Value → Value → Items → Option Query
 query_with v selector entries =
     option_and_then (λ sort. option_and_then (λ limit. option_map (λ skip.

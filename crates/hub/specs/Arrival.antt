@@ -12,6 +12,7 @@ pub record Piece : Type 0 where
   pub conn : ℕ
   pub bytes : List ℕ
 
+-- what arrives whole on a connection: a request, or a fault of its bytes
 pub data Arrival : Type 0 where
   -- a request on this connection
   request_on : ℕ → Message → Arrival

@@ -5,6 +5,7 @@ use Rattle.std.specs.Coded.{Coded, code_by, coded×, coded_list, coded_ℕ}
 use Rattle.std.specs.FinMap.{FinMap, code, empty, get, insert, remove}
 use Rattle.std.specs.Ordering.{nat_cmp}
 
+-- the open connections, each with the bytes that begin its next request, and how many were opened
 pub record ConnectionTable : Type 0 where
   -- what has come of the next request, on each connection that has not ended
   pub rests : FinMap nat_cmp (List ℕ)

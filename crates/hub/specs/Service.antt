@@ -35,6 +35,7 @@ AreFed {S} g old conn (p ∷ ps) replies new =
 abbrev pub greatest_piece : ℕ
 greatest_piece = 8192
 
+-- how many times a connection is read at most
 abbrev pub greatest_reads : ℕ
 greatest_reads = 1048576
 
@@ -77,9 +78,11 @@ pub record Serves {S : Type 0} (g : Ghosts S) (old : HubState S) (conn : ℕ) (e
 
 -- ---- the whole service
 
+-- the hub with one more connection
 abbrev pub hub_with_connection : {S : Type 0} → HubState S → HubState S
 hub_with_connection s = record s { connections = with_connection s.connections }
 
+-- the hub without a connection
 abbrev pub hub_without : {S : Type 0} → ℕ → HubState S → HubState S
 hub_without conn s = record s { connections = without s.connections conn }
 

@@ -21,6 +21,7 @@ Documents = ℤ → List ℕ → Option Value
 abbrev pub declares_in : Trees → Declarations
 declares_in trees db design name = index_fields_of design (history_in (trees revs_tree) db design) name
 
+-- the documents that queries see, as the rows have them
 abbrev pub sees_in : Trees → Documents
 sees_in trees db id = queried_document id (history_in (trees revs_tree) db id)
 

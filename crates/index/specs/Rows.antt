@@ -28,9 +28,11 @@ path_items (path ∷ paths) = item (text path) (path_items paths)
 abbrev pub fields_text : List (List ℕ) → List ℕ
 fields_text fields = canonical (array (path_items fields))
 
+-- its cells behind the number
 abbrev pub declaration_cells : ℤ → List ℕ → List ℕ → List ℕ → Row
 declaration_cells db design name fields = Null ∷ Int db ∷ Blob design ∷ Blob name ∷ Text fields ∷ []
 
+-- the row of an index: its number, the number of its database, its design document, its name, its fields
 abbrev pub declaration_row : ℤ → ℤ → List ℕ → List ℕ → List ℕ → Row
 declaration_row number db design name fields = Int number ∷ declaration_cells db design name fields
 
@@ -38,9 +40,11 @@ declaration_row number db design name fields = Int number ∷ declaration_cells 
 abbrev pub home_of : Row → ℤ
 home_of r = whole_in (column r 2)
 
+-- the design document of the index of a row
 abbrev pub design_of : Row → List ℕ
 design_of r = bytes (column r 3)
 
+-- the name of the index of a row
 abbrev pub index_name_of : Row → List ℕ
 index_name_of r = bytes (column r 4)
 
@@ -48,9 +52,11 @@ index_name_of r = bytes (column r 4)
 abbrev pub fields_in_cell : Value → List (List ℕ)
 fields_in_cell v = paths_in (items_or_none (items_in (json_in v)))
 
+-- the fields of the index of a row
 abbrev pub fields_of : Row → List (List ℕ)
 fields_of r = fields_in_cell (column r 5)
 
+-- the row is that of an index of this database
 abbrev pub is_at_home : ℤ → Row → Bool
 is_at_home db r = int_eq (home_of r) db
 
@@ -72,9 +78,11 @@ declared_by rows db design name = option_map fields_of (find (is_declaration_of 
 
 -- ---- entries
 
+-- its cells behind the number
 abbrev pub entry_cells : ℤ → List ℕ → List ℕ → Row
 entry_cells declaration k id = Int declaration ∷ Blob k ∷ Blob id ∷ []
 
+-- the row of an entry: its number, the number of its index, its key, its document
 abbrev pub entry_row : ℤ → ℤ → List ℕ → List ℕ → Row
 entry_row number declaration k id = Int number ∷ entry_cells declaration k id
 
@@ -82,15 +90,19 @@ entry_row number declaration k id = Int number ∷ entry_cells declaration k id
 abbrev pub declaration_of : Row → ℤ
 declaration_of r = whole_in (column r 1)
 
+-- the key of an entry
 abbrev pub key_of : Row → List ℕ
 key_of r = bytes (column r 2)
 
+-- the id of the document of an entry
 abbrev pub entry_id : Row → List ℕ
 entry_id r = bytes (column r 3)
 
+-- the row is an entry of this index
 abbrev pub is_entry_in : ℤ → Row → Bool
 is_entry_in declaration r = int_eq (declaration_of r) declaration
 
+-- the row is the entry of an index with this key and this document
 abbrev pub is_entry_of : ℤ → List ℕ → List ℕ → Row → Bool
 is_entry_of declaration k id r = is_entry_in declaration r && (bytes_eq (key_of r) k && bytes_eq (entry_id r) id)
 

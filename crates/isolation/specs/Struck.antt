@@ -33,12 +33,14 @@ AreHiddenThroughout group names before (s ∷ ss) = AreHidden group names before
 
 -- ---- one caller
 
+-- the same name, or none in both
 abbrev pub is_same_name : Option (List ℕ) → Option (List ℕ) → Bool
 is_same_name None None = true
 is_same_name None (Some other) = false
 is_same_name (Some name) None = false
 is_same_name (Some name) (Some other) = bytes_eq name other
 
+-- the same roles in the same order
 abbrev pub are_same_roles : List (List ℕ) → List (List ℕ) → Bool
 are_same_roles [] [] = true
 are_same_roles [] (o ∷ os) = false

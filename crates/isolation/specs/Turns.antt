@@ -44,6 +44,7 @@ pub record IsStepAt (old : List (Serving Contents)) (h : Handled) (new : List (S
   pub stepped : Steps node.configuration node.store h.step.message h.step.reply h.step.after
   pub left : new ≡ slice_set old h.place (record node { store = h.step.after })
 
+-- what is seen is a reply of the node that handled the request, or nothing of any node
 abbrev pub IsHandledAs : List (Serving Contents) → Sight → Option Handled → List (Serving Contents) → Type 0
 IsHandledAs old sight None new = IsShownAlone sight × (new ≡ old)
 IsHandledAs old sight (Some h) new = IsShown h.who h.step.message h.step.reply sight × IsStepAt old h new
@@ -57,10 +58,12 @@ AreTurns old (t ∷ ts) new = (between : List (Serving Contents)) × IsHandledAs
 abbrev pub sights_in : List Turn → List Sight
 sights_in turns = map (λ t. t.sight) turns
 
+-- the steps with one more, where it counts
 abbrev pub with_step : Bool → Stepped Contents → List (Stepped Contents) → List (Stepped Contents)
 with_step true s ss = s ∷ ss
 with_step false s ss = ss
 
+-- the steps with that of a turn, where it was one of this node
 abbrev pub with_handled : ℕ → Option Handled → List (Stepped Contents) → List (Stepped Contents)
 with_handled place None ss = ss
 with_handled place (Some h) ss = with_step (h.place == place) h.step ss

@@ -38,6 +38,7 @@ pub data Change : Type 0 where
   -- an effect on the database of this name
   inside : List ℕ → Effect → Change
 
+-- the databases with an effect on one, where it is there
 abbrev pub with_effect_at : Contents → List ℕ → Effect → Option Database → Contents
 with_effect_at databases name effect None = databases
 with_effect_at databases name effect (Some db) = insert databases name (with_effect effect db)
@@ -49,6 +50,7 @@ with_change (creation name) databases = insert databases name new_database
 with_change (removal name) databases = remove databases name
 with_change (inside name effect) databases = with_effect_at databases name effect (get databases name)
 
+-- what comes of a request: the status, the value, and what changes
 pub record Outcome : Type 0 where
   pub status : ℕ
   pub value : Value
@@ -58,6 +60,7 @@ pub record Outcome : Type 0 where
 abbrev pub reply : Value → Outcome
 reply value = record { status = 200; value = value; change = kept }
 
+-- an effect on a database as a change
 abbrev pub change_at : List ℕ → Effect → Change
 change_at name nothing = kept
 change_at name (appended ws) = inside name (appended ws)
@@ -70,6 +73,7 @@ outcome_in name d = record { status = d.status; value = d.value; change = change
 
 -- ---- what a request asks
 
+-- what a request asks to be done: to be told a value, the list of databases, one made or removed, or work in one
 pub data Task : Type 0 where
   -- this value
   told : Value → Task
@@ -141,6 +145,7 @@ entry caller action (Some db) = next (permission caller (verdict action caller d
 abbrev pub names_of : Contents → Value
 names_of databases = array (items_of (map text (keys databases)))
 
+-- what comes of a task
 abbrev pub task_outcome : Identity → Contents → Task → Result Outcome Refusal
 task_outcome caller databases (told value) = Ok (reply value)
 task_outcome caller databases listed = Ok (reply (names_of databases))
@@ -155,6 +160,7 @@ task_outcome caller databases (worked action name work) =
 
 -- ---- all requests
 
+-- what comes of a request for a page
 abbrev pub page_outcome : Page → Option RequestMethod → Identity → Contents → Message → Result Outcome Refusal
 page_outcome page method caller databases m = next (task_of page method caller m) (λ task. task_outcome caller databases task)
 

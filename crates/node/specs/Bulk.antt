@@ -12,6 +12,7 @@ use Rattle.write.specs.declared.planned.Outcome.TheVariants.{Made, Known, Refuse
 use Rattle.api.specs.Refusals.{refusal_members}
 use Rattle.node.specs.Edits.{refusal_of_edit}
 
+-- a text, or null where there is none
 abbrev pub text_or_null : Option (List ℕ) → Value
 text_or_null None = null
 text_or_null (Some s) = text s
@@ -28,6 +29,7 @@ made_members id rev = put (codes "rev") (text (text_of rev)) (known_members id)
 abbrev pub failed_members : Identity → Option (List ℕ) → WriteFault → Members
 failed_members caller id fault = put (codes "id") (text_or_null id) (refusal_members (refusal_of_edit caller fault))
 
+-- the members of the result of one edit
 abbrev pub edit_members : Identity → Option (List ℕ) → Outcome → Members
 edit_members caller id (Made rev) = made_members id rev
 edit_members caller id Known = known_members id
@@ -41,6 +43,7 @@ edit_listed caller told = object (edit_members caller told.id told.outcome)
 abbrev pub failure_listed : Identity → Option (List ℕ) → Option (List ℕ) → WriteFault → Value
 failure_listed caller id rev fault = object (put (codes "rev") (text_or_null rev) (failed_members caller id fault))
 
+-- the result of one document in front of others, where it failed
 abbrev pub if_failed : Identity → Told → Outcome → List Value → List Value
 if_failed caller told (Made rev) rest = rest
 if_failed caller told Known rest = rest

@@ -32,6 +32,7 @@ AreHidden group names databases =
 
 -- ---- requests of others on them
 
+-- the caller is known and not of the group
 abbrev pub is_outside : Group → Result Identity Refusal → Bool
 is_outside group (Ok caller) = not (group caller)
 is_outside group (Err refusal) = false
@@ -40,6 +41,7 @@ is_outside group (Err refusal) = false
 abbrev pub is_of_others : Configuration → Group → Message → Bool
 is_of_others c group m = is_outside group (asker c m)
 
+-- the name of a database is there, and one of these
 abbrev pub is_among_names : Names → Option (List ℕ) → Bool
 is_among_names names None = false
 is_among_names names (Some name) = names name
@@ -48,6 +50,7 @@ is_among_names names (Some name) = names name
 abbrev pub is_into : Names → Message → Bool
 is_into names m = is_among_names names (database_name_in m.path)
 
+-- a request that is refused the same whatever the database holds
 abbrev pub is_spared_at : Option Page → Option RequestMethod → Bool
 is_spared_at (Some DatabasePage) (Some Put) = true
 is_spared_at (Some DatabasePage) (Some Delete) = true
@@ -72,6 +75,7 @@ IsLike None (Some other) = ⊥
 IsLike (Some db) None = ⊥
 IsLike (Some db) (Some other) = db.security ≡ other.security
 
+-- two databases are alike, or the same
 abbrev pub IsLikeWhere : Bool → Option Database → Option Database → Type 0
 IsLikeWhere true db other = IsLike db other
 IsLikeWhere false db other = db ≡ other

@@ -36,6 +36,7 @@ Steps c before m reply after = IsStep c before m (λ _. ⊤) reply after
 abbrev pub IsServed : Reply → Type 0
 IsServed reply = (reply.status ≢ 500) × (reply.status ≢ 503)
 
+-- each reply is no fixed one
 abbrev pub AreServed : {S : Type 0} → List (Stepped S) → Type 0
 AreServed [] = ⊤
 AreServed (s ∷ ss) = IsServed s.reply × AreServed ss

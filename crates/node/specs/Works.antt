@@ -61,6 +61,7 @@ abbrev pub security_set : Result Value WriteFault → Result Done Refusal
 security_set (Ok security) = Ok (record { status = 200; value = done; effect = secured security })
 security_set (Err fault) = Err Body
 
+-- what a PUT of the security object does
 abbrev pub security_written : Message → Work
 security_written m db = next (plain m) (λ _. next (body_of m) (λ value. security_set (security_outcome value)))
 
@@ -79,6 +80,7 @@ found (Ok document) = Ok document
 found (Err read.Deleted) = Err Deleted
 found (Err fault) = Err Missing
 
+-- what a GET of a document shows
 abbrev pub document_read : Message → Database → Result Value Refusal
 document_read m db =
     next (there_or Id (document_id_in m.path)) (λ id.
@@ -135,6 +137,7 @@ index_done caller id name (Ok w) =
     Ok (record { status = 200; value = index_reply id name (is_some w); effect = appended (put_before (Ok w) []) })
 index_done caller id name (Err fault) = Err (refusal_of_edit caller fault)
 
+-- what a request for an index does
 abbrev pub index_asked_in : Identity → List ℕ → Database → IndexAsked → Result Done Refusal
 index_asked_in caller name db asked =
     index_done caller asked.design asked.name (index_admission (terms_in caller name db) db asked.design asked.name asked.fields)
@@ -147,6 +150,7 @@ index_written caller m name db =
 
 -- ---- local documents
 
+-- what a GET of a local document shows
 abbrev pub local_read : Message → Database → Result Value Refusal
 local_read m db =
     next (there_or Id (local_id_in m.path)) (λ id. next (plain m) (λ _. found (local_document id db)))
@@ -160,6 +164,7 @@ abbrev pub local_set : Identity → List ℕ → Result LocalDocument WriteFault
 local_set caller id (Ok document) = Ok (record { status = 201; value = object (local_members id document); effect = local_put id document })
 local_set caller id (Err fault) = Err (refusal_of_edit caller fault)
 
+-- what a PUT of a local document does
 abbrev pub local_written : Identity → Message → Work
 local_written caller m db =
     next (there_or Id (local_id_in m.path)) (λ id.
@@ -181,6 +186,7 @@ edit_asked m = next (there_or Id (document_id_in m.path)) (λ id. next (there_or
 abbrev pub edit_in : Identity → ℕ → List ℕ → Database → List ℕ → Option Revision → Value → Result Done Refusal
 edit_in caller status name db id rev document = edit_done caller status id (admission (terms_in caller name db) db id rev document)
 
+-- what a PUT of a document does
 abbrev pub document_written : Identity → Message → List ℕ → Work
 document_written caller m name db =
     next (edit_asked m) (λ asked. next (body_of m) (λ document. edit_in caller 201 name db asked.0 asked.1 document))
@@ -194,6 +200,7 @@ abbrev pub deletion_outcome : Terms → Database → List ℕ → Option Revisio
 deletion_outcome terms db id None = unnamed_deletion terms id
 deletion_outcome terms db id (Some rev) = admission terms db id (Some rev) deletion
 
+-- what a DELETE of a document does
 abbrev pub document_deleted : Identity → Message → List ℕ → Work
 document_deleted caller m name db =
     next (edit_asked m) (λ asked. edit_done caller 200 asked.0 (deletion_outcome (terms_in caller name db) db asked.0 asked.1))
@@ -205,9 +212,11 @@ abbrev pub bulk_done : Identity → Bulk → List DocumentOutcome → Done
 bulk_done caller bulk os =
     record { status = 201; value = bulk_reply caller bulk.new_edits (all_told bulk.documents os); effect = appended (writes_in os) }
 
+-- what a bulk does
 abbrev pub bulk_written : Identity → Bulk → List ℕ → Work
 bulk_written caller bulk name db = Ok (bulk_done caller bulk (outcomes (terms_in caller name db) bulk.new_edits (history_at db) bulk.documents))
 
+-- what a POST of `_bulk_docs` does
 abbrev pub documents_written : Identity → Message → List ℕ → Work
 documents_written caller m name db =
     next (plain m) (λ _. next (body_of m) (λ value. next (there_or Body (bulk_in value)) (λ bulk. bulk_written caller bulk name db)))

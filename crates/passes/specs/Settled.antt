@@ -13,6 +13,7 @@ use Rattle.repl.specs.Shapes.{text_at}
 abbrev pub is_among : List ℕ → Revision → List Revisions → Bool
 is_among id r rows = list_any (λ l. bytes_eq l.id id && list_any (λ t. bytes_eq t (text_of r)) l.revisions) rows
 
+-- a text was found, and it is this one
 abbrev pub is_text : List ℕ → Option (List ℕ) → Bool
 is_text text None = false
 is_text text (Some found) = bytes_eq found text

@@ -28,6 +28,7 @@ new_document new = object (with_mark new.deleted (put (codes "_id") (text new.id
 abbrev pub old_document : OldDocument → Value
 old_document old = shown_document old.id old.rev (record { deleted = old.deleted; body = old.body })
 
+-- a value, or null where there is none
 abbrev pub value_or_null : Option Value → Value
 value_or_null None = null
 value_or_null (Some v) = v

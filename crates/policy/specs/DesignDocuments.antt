@@ -12,6 +12,7 @@ use Rattle.policy.specs.Security.{is_absent_or}
 abbrev pub is_rule : Value → Bool
 is_rule v = is_some (rule_selector_in v)
 
+-- each item is a field path
 abbrev pub are_paths : Items → Bool
 are_paths no_items = true
 are_paths (item v vs) = is_path v && are_paths vs
@@ -24,6 +25,7 @@ is_field_count n = nat_le 1 n && nat_le n 8
 abbrev pub are_fields : Items → Bool
 are_fields vs = is_field_count (items_length vs) && are_paths vs
 
+-- a list of fields of an index
 abbrev pub is_field_list : Value → Bool
 is_field_list v = is_there_and are_fields (items_in v)
 
@@ -35,6 +37,7 @@ is_index v = has_only (codes "fields" ∷ []) v && is_there_and is_field_list (m
 abbrev pub is_index_name : List ℕ → Bool
 is_index_name name = nat_le 1 (length name) && nat_le (length name) 64
 
+-- each member is an index with a name that an index may have
 abbrev pub are_indexes : Members → Bool
 are_indexes no_members = true
 are_indexes (member name v ms) = is_index_name name && is_index v && are_indexes ms

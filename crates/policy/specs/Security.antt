@@ -7,10 +7,12 @@ use Rattle.auth.specs.Roles.{is_among, admin_role}
 use Rattle.couch_json.specs.Parts.{is_object, is_text, is_there_and, items_in, items_or_none, text_in}
 use Rattle.couch_json.specs.Value.{Value, text, array, object, Items, no_items, item, no_members, member, member_of, depth}
 
+-- each item is a text
 abbrev pub are_texts : Items → Bool
 are_texts no_items = true
 are_texts (item v vs) = is_text v && are_texts vs
 
+-- a list whose items are texts
 abbrev pub is_list_of_texts : Value → Bool
 is_list_of_texts v = is_there_and are_texts (items_in v)
 
@@ -54,6 +56,7 @@ abbrev pub listed_in : Option Value → List ℕ → List (List ℕ)
 listed_in group part =
     item_texts (items_or_none (option_and_then (λ v. items_in v) (option_and_then (λ v. member_of v part) group)))
 
+-- the caller has a name, and it is one of these
 abbrev pub is_name_among : Option (List ℕ) → List (List ℕ) → Bool
 is_name_among None names = false
 is_name_among (Some name) names = is_among name names
@@ -64,6 +67,7 @@ is_in group caller =
     is_name_among caller.name (listed_in group (codes "names"))
     || list_any (λ role. is_among role (listed_in group (codes "roles"))) caller.roles
 
+-- it has no element
 abbrev pub is_empty : List (List ℕ) → Bool
 is_empty [] = true
 is_empty (t ∷ ts) = false
@@ -76,6 +80,7 @@ is_vacant group = is_empty (listed_in group (codes "names")) && is_empty (listed
 abbrev pub is_server_admin : Identity → Bool
 is_server_admin caller = is_among admin_role caller.roles
 
+-- an admin of the server, or of this database
 abbrev pub is_database_admin : Value → Identity → Bool
 is_database_admin security caller = is_server_admin caller || is_in (member_of security (codes "admins")) caller
 

@@ -28,6 +28,7 @@ rules_code = map.code (coded_list coded_ℕ) (coded_option value_code)
 abbrev pub rule_in : Value → Option (Option Value)
 rule_in body = option_map rule_selector_in (member_of body (codes "validate_doc_update"))
 
+-- the rules with that of a design document, if it declares one
 abbrev pub with_declared : Rules → List ℕ → Option (Option Value) → Rules
 with_declared rules id None = rules
 with_declared rules id (Some rule) = insert rules id rule
@@ -57,6 +58,7 @@ abbrev pub holds : Option Value → Value → Bool
 holds None argument = false
 holds (Some selector) argument = selector_matches selector argument
 
+-- the design document of the first rule that does not hold
 abbrev pub first_broken : List (List ℕ × Option Value) → Value → Option (List ℕ)
 first_broken [] argument = None
 first_broken (rule ∷ rules) argument = if holds rule.1 argument then first_broken rules argument else Some rule.0

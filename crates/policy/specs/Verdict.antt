@@ -23,5 +23,6 @@ abbrev pub first_refusal : List (Bool × Rule) → Option Rule
 first_refusal [] = None
 first_refusal (c ∷ cs) = if c.0 then first_refusal cs else Some c.1
 
+-- the rule that refuses the action first, if one does
 abbrev pub verdict : Action → Identity → Value → Option Rule
 verdict action caller security = first_refusal (conditions action caller security)

@@ -13,6 +13,7 @@ abbrev pub with_deletion : Bool → Members → Members
 with_deletion false ms = ms
 with_deletion true ms = put (codes "deleted") (truth true) ms
 
+-- the members of one change
 abbrev pub change_members : SequenceRow → Members
 change_members r =
     member (codes "changes") (array (items_of (map revision_object r.revs)))
@@ -22,6 +23,7 @@ change_members r =
 abbrev pub change_object : SequenceRow → Value
 change_object r = object (with_deletion r.deleted (change_members r))
 
+-- a page by sequence as the reply to `_changes`
 abbrev pub changes_of : SequencePage → Value
 changes_of page =
     object (member (codes "last_seq") (whole (pos page.last)) (member (codes "results") (array (items_of (map change_object page.rows))) no_members))

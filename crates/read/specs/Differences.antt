@@ -27,9 +27,11 @@ abbrev pub with_missing : List ℕ → List Value → Members → Members
 with_missing id [] ms = ms
 with_missing id (v ∷ vs) ms = put id (object (member (codes "missing") (array (items_of (v ∷ vs))) no_members)) ms
 
+-- the same of one document
 abbrev pub with_difference : Database → Members → RevisionsOf → Members
 with_difference db ms asked = with_missing asked.id (missing_texts (history_by db asked.id) asked.revs) ms
 
+-- the reply of `_revs_diff` with what each document lacks
 abbrev pub with_differences : Database → Members → List RevisionsOf → Members
 with_differences db ms [] = ms
 with_differences db ms (asked ∷ rest) = with_differences db (with_difference db ms asked) rest

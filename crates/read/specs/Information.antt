@@ -6,6 +6,7 @@ use Rattle.couch_json.specs.Value.{Value, whole, text, object, no_members, membe
 use Rattle.store.specs.Database.{Database}
 use Rattle.store.specs.Pages.{gone_count, live_count}
 
+-- the reply to a GET of a database, by its parts
 abbrev pub information_by : List ℕ → ℕ → ℕ → ℕ → Value
 information_by name documents deleted sequence =
     object

@@ -10,6 +10,7 @@ use Rattle.store.specs.Contents.{Contents}
 use Rattle.store.specs.Database.{history_at}
 use Rattle.read.specs.Shown.{shown_document}
 
+-- a requested revision: its document, or that it is missing
 abbrev pub element : Revision → Option Value → Value
 element r None = object (member (codes "missing") (text (text_of r)) no_members)
 element r (Some document) = object (member (codes "ok") document no_members)

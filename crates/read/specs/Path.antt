@@ -12,6 +12,7 @@ revisions_of r path =
     object
     (member (codes "ids") (array (items_of (map (λ s. text s.hash) path))) (member (codes "start") (whole (pos r.number)) no_members))
 
+-- a document's members with its path, where that was requested
 abbrev pub with_path : Revision → Option (List Revision) → Members → Members
 with_path r None ms = ms
 with_path r (Some path) ms = put (codes "_revisions") (revisions_of r path) ms

@@ -21,6 +21,7 @@ abbrev pub found : Option Value → Result Value ReadFault
 found None = Err Missing
 found (Some document) = Ok document
 
+-- a document at its winner; `Missing` without one, and `Deleted` where it is deleted
 abbrev pub winning_document : List ℕ → HistoryContent → Option Revision → Bool → Result Value ReadFault
 winning_document id h None revs = Err Missing
 winning_document id h (Some r) revs = if is_deleted (held_of h r) then Err Deleted else found (shown_document id h r revs)

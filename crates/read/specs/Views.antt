@@ -18,6 +18,7 @@ key_row_object r = object (member (codes "id") (text r.id) (member (codes "key")
 abbrev pub key_listing : KeyRange → List (List ℕ) → Database → Value
 key_listing range fields db = listing_of (map key_row_object (key_page range (index_rows fields db)).rows) (key_counts range (index_rows fields db))
 
+-- the reply of a view; `Missing` where no such index is declared
 abbrev pub view_by : KeyRange → Database → Option (List (List ℕ)) → Result Value ReadFault
 view_by range db None = Err Missing
 view_by range db (Some fields) = Ok (key_listing range fields db)

@@ -11,9 +11,11 @@ use Rattle.repl.specs.declared.ask.Ask.TheVariants.{ToSource, ToTarget, Done, St
 use Rattle.repl.specs.declared.report.Report.{Report}
 use Rattle.repl.specs.declared.replication.Replication.{Replication}
 
+-- a report of the code as the definition's
 abbrev pub report_of : Report → Summary
 report_of r = record { start_seq = r.start_seq; last_seq = r.last_seq; sent = r.sent; refused = map view r.refused.items }
 
+-- what a pass of the code asks, as the definition's
 abbrev pub ask_of : Ask → Asked
 ask_of (ToSource r) = to_source (message_of r)
 ask_of (ToTarget r) = to_target (message_of r)

@@ -64,6 +64,7 @@ revisions_query revisions =
 
 -- ---- requests
 
+-- the method of a call
 abbrev pub method_of : Call → List ℕ
 method_of (read_checkpoint id) = codes "GET"
 method_of (write_checkpoint id body) = codes "PUT"
@@ -81,9 +82,11 @@ page_of (compare_revisions rs) = codes "_revs_diff"
 page_of (open_revisions r) = document_segments r.id
 page_of (push_documents documents) = codes "_bulk_docs"
 
+-- the path of a page of a database
 abbrev pub path_of : List ℕ → List ℕ → List ℕ
 path_of db page = codes "/" ++ segment db ++ codes "/" ++ page
 
+-- the query of a call, if it has one
 abbrev pub query_of : Call → Option (List ℕ)
 query_of (read_checkpoint id) = None
 query_of (write_checkpoint id body) = None
@@ -92,6 +95,7 @@ query_of (compare_revisions rs) = None
 query_of (open_revisions r) = Some (revisions_query r.revisions)
 query_of (push_documents documents) = None
 
+-- the body of a call
 abbrev pub body_of : Call → List ℕ
 body_of (read_checkpoint id) = []
 body_of (write_checkpoint id body) = canonical body
@@ -108,6 +112,7 @@ account_fields a =
     ∷ record { name = codes "X-Auth-CouchDB-Token"; value = a.token }
     ∷ []
 
+-- the header fields of a call: those that vouch for the user, if there is one
 abbrev pub headers_of : Option Account → List HeaderField
 headers_of None = []
 headers_of (Some a) = account_fields a

@@ -23,6 +23,7 @@ pub record Checkpoint : Type 0 where
 
 -- ---- as JSON
 
+-- a session by its parts, where both were found
 abbrev pub session_by : Option (List ℕ) → Option ℕ → Option Session
 session_by session sequence =
     option_and_then (λ s. option_map (λ n. record { session = s; sequence = n }) sequence) session
@@ -31,6 +32,7 @@ session_by session sequence =
 abbrev pub session_in : Value → Option Session
 session_in v = session_by (text_at (codes "session_id") v) (count_at (codes "recorded_seq") v)
 
+-- a checkpoint by its parts, where all were found
 abbrev pub checkpoint_by : Option (List ℕ) → Option ℕ → Option (List Session) → Option Checkpoint
 checkpoint_by session sequence history =
     option_and_then (λ s. option_and_then (λ n. option_map (λ h. record { session = s; sequence = n; history = h }) history) sequence) session
@@ -47,6 +49,7 @@ abbrev pub sequence_of : List ℕ → List Session → Option ℕ
 sequence_of session [] = None
 sequence_of session (s ∷ ss) = if bytes_eq s.session session then Some s.sequence else sequence_of session ss
 
+-- the smaller of a number and another that was found; else the one that stands for none
 abbrev pub smaller_or : ℕ → ℕ → Option ℕ → ℕ
 smaller_or n other None = other
 smaller_or n other (Some m) = min n m
@@ -84,6 +87,7 @@ abbrev pub next_history : List ℕ → ℕ → List Session → List Session
 next_history session sequence older =
     take 50 (record { session = session; sequence = sequence } ∷ others_of session older)
 
+-- a session as a value
 abbrev pub session_value : Session → Value
 session_value s =
     object (put (codes "session_id") (text s.session) (put (codes "recorded_seq") (whole (pos s.sequence)) no_members))
@@ -103,6 +107,7 @@ next_checkpoint session sequence older rev =
 
 -- ---- the id
 
+-- the name of the user, or null
 abbrev pub name_or_null : Option Account → Value
 name_or_null None = null
 name_or_null (Some a) = text a.name

@@ -94,6 +94,7 @@ step_in RereadTarget p = called Target (read_checkpoint (checkpoint_id p.configu
 step_in Done p = finished
 step_in (Stopped why) p = stopped why
 
+-- the next step of a pass
 abbrev pub step_of : Pass → Step
 step_of p = step_in p.phase p
 
@@ -113,6 +114,7 @@ pub record Summary : Type 0 where
   pub sent : ℕ
   pub refused : List Value
 
+-- what a pass did so far
 abbrev pub summary_of : Pass → Summary
 summary_of p = record { start_seq = p.start_seq; last_seq = p.last_seq; sent = p.sent; refused = p.refused }
 
@@ -130,10 +132,12 @@ pub data Asked : Type 0 where
   done : Summary → Asked
   stopped_by : Why → Summary → Asked
 
+-- a request to one of the two sides
 abbrev pub sent_to : Side → Message → Asked
 sent_to Source m = to_source m
 sent_to Target m = to_target m
 
+-- what a step asks
 abbrev pub asked_by : Pass → Step → Asked
 asked_by p (called side call) = sent_to side (request_of p.configuration side call)
 asked_by p finished = done (summary_of p)
@@ -145,6 +149,7 @@ asked_of p = asked_by p (step_of p)
 
 -- ---- what a reply makes of a pass
 
+-- the pass has stopped
 abbrev pub stopped_at : Pass → Why → Pass
 stopped_at p why = record p { phase = Stopped why }
 
@@ -153,9 +158,11 @@ abbrev pub pass_after : {A : Type 0} → (Pass → A → Pass) → Pass → Resu
 pass_after take p (Ok a) = take p a
 pass_after take p (Err why) = stopped_at p why
 
+-- the source's checkpoint is read
 abbrev pub with_source : Pass → Stored → Pass
 with_source p s = record p { phase = ReadTarget; older = s.checkpoint; source_revision = s.revision }
 
+-- the target's checkpoint is read: the changes are listed from the common sequence on
 abbrev pub with_target : Pass → Stored → Pass
 with_target p s = record p {
   phase = ListChanges;
@@ -174,6 +181,7 @@ abbrev pub fills : Option ℕ → List Revisions → Bool
 fills None leaves = false
 fills (Some size) leaves = length leaves == size
 
+-- the changes of a round are listed
 abbrev pub with_changes : Pass → Changes → Pass
 with_changes p c = record p {
   phase = phase_after_list c.leaves;
@@ -188,13 +196,16 @@ abbrev pub phase_without_pending : List Value → Phase
 phase_without_pending [] = WriteSource
 phase_without_pending (v ∷ vs) = Push
 
+-- what comes next, with these documents to open and those to push
 abbrev pub phase_with : List Revisions → List Value → Phase
 phase_with [] documents = phase_without_pending documents
 phase_with (r ∷ rs) documents = Open
 
+-- the target has said what it lacks
 abbrev pub with_differences : Pass → List Revisions → Pass
 with_differences p missing = record p { phase = phase_with missing p.documents; leaves = []; pending = missing }
 
+-- the revisions of one document are read: those that are there wait for the push
 abbrev pub with_opened : Pass → List Opened → Pass
 with_opened p opened = record p {
   phase = phase_with (drop 1 p.pending) (p.documents ++ documents_of opened);
@@ -203,6 +214,7 @@ with_opened p opened = record p {
   refused = p.refused ++ missing_reports (first_of_pending p.pending).id opened;
 }
 
+-- a push is answered: documents were sent, and some of them refused
 abbrev pub with_failures : Pass → List Value → Pass
 with_failures p failures = record p {
   phase = WriteSource;
@@ -211,6 +223,7 @@ with_failures p failures = record p {
   refused = p.refused ++ failures;
 }
 
+-- the source's checkpoint is written
 abbrev pub with_source_written : Pass → List ℕ → Pass
 with_source_written p revision = record p { phase = WriteTarget; source_revision = Some revision }
 
@@ -219,6 +232,7 @@ abbrev pub phase_after_round : Bool → Phase
 phase_after_round false = Done
 phase_after_round true = ListChanges
 
+-- the target's checkpoint is written: the next round begins, or the pass is done
 abbrev pub with_target_written : Pass → List ℕ → Pass
 with_target_written p revision = record p {
   phase = phase_after_round p.is_full;
@@ -231,10 +245,12 @@ abbrev pub is_written : Pass → Option Checkpoint → Bool
 is_written p None = false
 is_written p (Some c) = bytes_eq c.session p.configuration.session && c.sequence == p.last_seq
 
+-- the source's checkpoint is read again, after a reply to its write was lost
 abbrev pub with_source_reread : Pass → Stored → Pass
 with_source_reread p s =
     record p { phase = if is_written p s.checkpoint then WriteTarget else WriteSource; source_revision = s.revision }
 
+-- the target's checkpoint is read again, after a reply to its write was lost
 abbrev pub with_target_reread : Pass → Stored → Pass
 with_target_reread p s = record p {
   phase = if is_written p s.checkpoint then phase_after_round p.is_full else WriteTarget;
@@ -288,6 +304,7 @@ with_loss p =
     if nat_le most_losses p.losses then stopped_at p Lost
     else record p { phase = phase_after_loss p.phase; losses = p.losses + 1 }
 
+-- what a lost reply makes of a pass in this phase
 abbrev pub lost_in : Phase → Pass → Pass
 lost_in ReadSource p = with_loss p
 lost_in ReadTarget p = with_loss p

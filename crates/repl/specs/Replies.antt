@@ -22,6 +22,7 @@ abbrev pub value_read : Result Value JsonFault → Option Value
 value_read (Ok v) = Some v
 value_read (Err fault) = None
 
+-- the value of a body, if it is one
 abbrev pub value_in : List ℕ → Option Value
 value_in body = value_read (reading body)
 
@@ -41,6 +42,7 @@ pub record Stored : Type 0 where
 abbrev pub nothing_stored : Stored
 nothing_stored = record { revision = None; checkpoint = None }
 
+-- a checkpoint that is stored, with its revision
 abbrev pub stored_by : Option (List ℕ) → Option Checkpoint → Option Stored
 stored_by revision checkpoint = option_map (λ r. record { revision = Some r; checkpoint = checkpoint }) revision
 
@@ -53,6 +55,7 @@ abbrev pub says_missing : Option (List ℕ) → Bool
 says_missing None = false
 says_missing (Some reason) = bytes_eq reason (codes "missing")
 
+-- a body says that something is missing
 abbrev pub is_missing : List ℕ → Bool
 is_missing body = says_missing (option_and_then (λ v. text_at (codes "reason") v) (value_in body))
 
@@ -65,6 +68,7 @@ checkpoint_read status body =
 abbrev pub revision_in : Value → Option (List ℕ)
 revision_in v = text_at (codes "rev") v
 
+-- the revision of a checkpoint that was written, or why it was not
 abbrev pub checkpoint_written : ℕ → List ℕ → Result (List ℕ) Why
 checkpoint_written status body = said_at 201 revision_in status body
 
@@ -75,6 +79,7 @@ pub record Changes : Type 0 where
   pub sequence : ℕ
   pub leaves : List Revisions
 
+-- revisions of a document by their parts, where both were found
 abbrev pub revisions_by : Option (List ℕ) → Option (List (List ℕ)) → Option Revisions
 revisions_by id revisions = option_and_then (λ i. option_map (λ rs. record { id = i; revisions = rs }) revisions) id
 
@@ -82,9 +87,11 @@ revisions_by id revisions = option_and_then (λ i. option_map (λ rs. record { i
 abbrev pub change_in : Value → Option Revisions
 change_in v = revisions_by (text_at (codes "id") v) (list_at (codes "changes") revision_in v)
 
+-- changes by their parts, where both were found
 abbrev pub changes_by : Option ℕ → Option (List Revisions) → Option Changes
 changes_by sequence leaves = option_and_then (λ n. option_map (λ ls. record { sequence = n; leaves = ls }) leaves) sequence
 
+-- the changes of a reply
 abbrev pub changes_in : Value → Option Changes
 changes_in v = changes_by (count_at (codes "last_seq") v) (list_at (codes "results") change_in v)
 
@@ -121,6 +128,7 @@ missing_of_each v (l ∷ ls) = unless_empty l.id (missing_of l.id v) (missing_of
 abbrev pub has_missing_lists : Value → Bool
 has_missing_lists v = is_there_and are_missing_lists (members_in v)
 
+-- what the target lacks, of the documents that were listed
 abbrev pub differences_in : List Revisions → Value → Option (List Revisions)
 differences_in listed v = if has_missing_lists v then Some (missing_of_each v listed) else None
 
@@ -135,6 +143,7 @@ pub data Opened : Type 0 where
   document : Value → Opened
   missing : List ℕ → Opened
 
+-- a document of a reply, where it is an object
 abbrev pub document_by : Option Value → Option Opened
 document_by None = None
 document_by (Some v) = if is_object v then Some (document v) else None
@@ -181,6 +190,7 @@ label_in (object ms) = None
 abbrev pub label_at : List ℕ → Value → Option (Option (List ℕ))
 label_at name v = option_and_then (λ w. label_in w) (member_of v name)
 
+-- a text as a value, or null where there is none
 abbrev pub label_value : Option (List ℕ) → Value
 label_value None = null
 label_value (Some s) = text s
@@ -190,6 +200,7 @@ abbrev pub rule_in : Option Value → Option (Option (List ℕ))
 rule_in None = Some None
 rule_in (Some v) = option_map (λ s. Some s) (text_in v)
 
+-- the members with the name of the rule, where one refused
 abbrev pub with_rule : Option (List ℕ) → Members → Members
 with_rule None ms = ms
 with_rule (Some rule) ms = put (codes "rule") (text rule) ms

@@ -14,6 +14,7 @@ pub data Turn : Type 0 where
   answered : ℕ → List ℕ → Turn
   lost : Turn
 
+-- the pass after a reply, or its loss
 abbrev pub after_turn : Pass → Turn → Pass
 after_turn p (answered status body) = answered_of p status body
 after_turn p lost = lost_of p
@@ -71,6 +72,7 @@ lists_in RereadTarget status body = false
 lists_in Done status body = false
 lists_in (Stopped why) status body = false
 
+-- the turn brings a list of changes
 abbrev pub lists_at : Pass → Turn → Bool
 lists_at p (answered status body) = lists_in p.phase status body
 lists_at p lost = false
@@ -91,6 +93,7 @@ abbrev pub stored_said : Result Stored Why → Option Checkpoint
 stored_said (Ok s) = s.checkpoint
 stored_said (Err why) = None
 
+-- the checkpoint that a reply holds, if any
 abbrev pub checkpoint_said : ℕ × List ℕ → Option Checkpoint
 checkpoint_said reply = stored_said (checkpoint_read reply.0 reply.1)
 

@@ -121,6 +121,7 @@ first_rule_fault v = selector_fault true v 1
 
 -- ---- the value, where it has no fault
 
+-- the value as a selector, unless it has a fault
 abbrev pub selector_if : Option SelectorFault → Value → Option Value
 selector_if None v = Some v
 selector_if (Some fault) v = None

@@ -48,6 +48,7 @@ elements v = items_or_none (items_in v)
 abbrev pub is_among : Value → Items → Bool
 is_among v vs = some_item (λ w. is_eq (collation v w)) vs
 
+-- how many items a list has
 abbrev pub items_length : Items → ℕ
 items_length no_items = 0
 items_length (item v vs) = suc (items_length vs)

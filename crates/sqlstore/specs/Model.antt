@@ -22,6 +22,7 @@ module _ {S : Type 0} (g : Ghosts S) where
   abbrev pub trees_of : SqlStore S g → Trees
   trees_of s = (state g s.last.value).now.trees
 
+  -- the databases that a store holds
   abbrev pub contents_of : SqlStore S g → Contents
   contents_of s = contents_in (trees_of s)
 

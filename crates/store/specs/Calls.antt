@@ -5,6 +5,7 @@ use Rattle.store.specs.Leaving as leaving
 use Rattle.store.specs.declared.fault.StoreFault.{StoreFault}
 use Rattle.store.specs.declared.store.Store.{Ghosts}
 
+-- what a call leaves of honesty and of faults
 abbrev pub GoesOn : {S : Type 0} → Ghosts S → S → S → Type 0
 GoesOn g old new = leaving.GoesOn g.is_honest g.is_clean g.fault_count old new
 

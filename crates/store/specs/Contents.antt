@@ -10,6 +10,7 @@ use Rattle.tree.specs.declared.placement.Placed.TheVariants.{Added}
 use Rattle.store.specs.Database.{TextMap, Database, DocumentWrite, history_at, with_one, empty_database}
 use Rattle.store.specs.declared.local_document.LocalDocument.{LocalDocument}
 
+-- databases by their names
 abbrev pub Contents : Type 0
 Contents = TextMap Database
 

@@ -40,6 +40,7 @@ pub record Database : Type 0 where
 
 -- ---- a document, by the writes of its database
 
+-- the write is one of the document of this id
 abbrev pub is_of : List ℕ → DocumentWrite → Bool
 is_of id w = bytes_eq w.id id
 
@@ -81,10 +82,12 @@ with_write_logged log w = record log { writes = log.writes ++ w ∷ [] }
 
 -- ---- what a write makes of the content
 
+-- the history of a document; without the document an empty one
 abbrev pub history_in : Option Document → HistoryContent
 history_in None = empty
 history_in (Some d) = d.history
 
+-- the sequence of a document; 0 without the document
 abbrev pub sequence_in : Option Document → ℕ
 sequence_in None = 0
 sequence_in (Some d) = d.sequence
@@ -105,6 +108,7 @@ with_one db w =
       documents = insert db.documents w.id (record { sequence = db.length + 1; history = with_write (history_at db w.id) w.write });
     }
 
+-- a database after writes, one after the other
 abbrev pub with_all : Database → List DocumentWrite → Database
 with_all db [] = db
 with_all db (w ∷ ws) = with_all (with_one db w) ws
@@ -115,6 +119,7 @@ empty_database security = record { length = 0; security = security; locals = emp
 
 -- ---- later contents
 
+-- the revision is known in the document of this id
 abbrev pub IsKnownAt : Database → List ℕ → Revision → Type 0
 IsKnownAt db id r = IsTrue (is_known (history_at db id) r)
 

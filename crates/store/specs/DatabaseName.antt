@@ -3,9 +3,11 @@
 use Rattle.std.specs.Prelude.{ℕ, Bool, ◌&&◌, ◌||◌, ◌==◌, List, length, slice_index, nat_le}
 use Rattle.std.specs.List.{list_all}
 
+-- an ASCII letter from a to z
 abbrev pub is_lower_case : ℕ → Bool
 is_lower_case b = nat_le 97 b && nat_le b 122
 
+-- an ASCII digit
 abbrev pub is_digit : ℕ → Bool
 is_digit b = nat_le 48 b && nat_le b 57
 
@@ -13,6 +15,7 @@ is_digit b = nat_le 48 b && nat_le b 57
 abbrev pub is_sign : ℕ → Bool
 is_sign b = b == 95 || b == 36 || b == 40 || b == 41 || b == 43 || b == 45
 
+-- a byte that a name may have
 abbrev pub is_name_byte : ℕ → Bool
 is_name_byte b = is_lower_case b || is_digit b || is_sign b
 

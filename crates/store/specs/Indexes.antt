@@ -27,6 +27,7 @@ abbrev pub held_by : HistoryContent → Option Revision → Option Held
 held_by h None = None
 held_by h (Some r) = held_of h r
 
+-- a document at a revision, as readers are shown it; none without a revision
 abbrev pub shown_by : List ℕ → HistoryContent → Option Revision → Option Value
 shown_by id h None = None
 shown_by id h (Some r) = option_map (λ held. shown_document id r held) (held_of h r)
@@ -50,6 +51,7 @@ place_order a b = ordering_then (collation a.key b.key) (slice_cmp nat_cmp a.id 
 abbrev pub place_code : Coded IndexPlace
 place_code = code_by (Value × List ℕ) (coded× value_code (coded_list coded_ℕ)) (λ p. (p.key, p.id)) (λ p. record { key = p.0; id = p.1 }) (λ _. refl)
 
+-- one more value in front, where all are there
 abbrev pub values_with : Option Value → Option Items → Option Items
 values_with None vs = None
 values_with (Some v) None = None
@@ -60,6 +62,7 @@ abbrev pub field_values : List (List ℕ) → Value → Option Items
 field_values [] document = Some no_items
 field_values (path ∷ paths) document = values_with (value_at path document) (field_values paths document)
 
+-- a document put at its key among the others, where it has all values
 abbrev pub put_at_values : List ℕ → Value → Option Items → List (IndexPlace × Value) → List (IndexPlace × Value)
 put_at_values id document None among = among
 put_at_values id document (Some values) among = put place_order (record { key = array values; id = id }) document among
@@ -85,6 +88,7 @@ index_rows fields db = map (λ e. e.0) (index_entries fields db)
 
 -- ---- which indexes there are
 
+-- a path in front of the others, where there is one
 abbrev pub put_path : Option (List ℕ) → List (List ℕ) → List (List ℕ)
 put_path None paths = paths
 put_path (Some path) paths = path ∷ paths

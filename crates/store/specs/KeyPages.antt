@@ -23,6 +23,7 @@ begin_with no_items vs = true
 begin_with (item u us) no_items = false
 begin_with (item u us) (item v vs) = is_eq (collation u v) && begin_with us vs
 
+-- a key begins with the values of another, where both are there
 abbrev pub is_front_of : Option Items → Option Items → Bool
 is_front_of None vs = false
 is_front_of (Some us) None = false
@@ -66,10 +67,12 @@ key_counts range rs =
       total = length rs;
     }
 
+-- a page of a list by key: its rows, and where they stand among all, if that was wanted
 pub record KeyPage : Type 0 where
   pub rows : List IndexPlace
   pub counts : Option RowCounts
 
+-- the part of the rows within a range that it selects, with the counts if they are wanted
 abbrev pub key_page : KeyRange → List IndexPlace → KeyPage
 key_page range rs =
     record {

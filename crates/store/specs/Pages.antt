@@ -27,6 +27,7 @@ pub record SequenceRow : Type 0 where
   pub revs : List Revision
   pub deleted : Bool
 
+-- a page of a list by sequence: its rows, the last sequence that it has seen, the sequence of the database, and the counts if they were wanted
 pub record SequencePage : Type 0 where
   pub rows : List SequenceRow
   -- the sequence of the last of these rows, or what stands for it where there is none
@@ -41,6 +42,7 @@ abbrev pub is_gone_by : HistoryContent → Option Revision → Bool
 is_gone_by h None = false
 is_gone_by h (Some r) = is_deleted (held_of h r)
 
+-- the winner of a history is deleted
 abbrev pub is_gone : HistoryContent → Bool
 is_gone h = is_gone_by h (winner h)
 
@@ -49,6 +51,7 @@ abbrev pub shown_revs : Bool → HistoryContent → List Revision
 shown_revs true h = leaves h
 shown_revs false h = option_to_list (winner h)
 
+-- a document as a row: its sequence, its id, its winner or all leaves, and whether it is deleted
 abbrev pub row_of : Bool → List ℕ × Document → SequenceRow
 row_of all e = record { sequence = e.1.sequence; id = e.0; revs = shown_revs all e.1.history; deleted = is_gone e.1.history }
 
@@ -97,12 +100,15 @@ sequence_page range sequence counts rs =
 abbrev pub gone_count : List (List ℕ × Document) → ℕ
 gone_count es = count_by (λ e. is_gone e.1.history) es
 
+-- how many documents are not deleted
 abbrev pub live_count : List (List ℕ × Document) → ℕ
 live_count es = length es - gone_count es
 
+-- how many documents are there, and how many are deleted
 abbrev pub document_counts : List (List ℕ × Document) → DocumentCounts
 document_counts es = record { documents = live_count es; deleted = gone_count es }
 
+-- the rows behind a sequence up to a limit, with the sequence of the database, and the counts if they are wanted
 abbrev pub page_with : SeqRange → ℕ → List (List ℕ × Document) → SequencePage
 page_with range sequence es =
     record {
@@ -125,6 +131,7 @@ pub record IsRowOf (range : SeqRange) (db : Database) (r : SequenceRow) : Type 0
 
 -- ---- by id
 
+-- a page of a list by id: its rows, and where they stand among all, if that was wanted
 pub record IdPage : Type 0 where
   pub rows : List IdRow
   -- how many rows come before these, of those outside the range only the ones before its start; and how many there are without any
@@ -136,9 +143,11 @@ abbrev pub live_rev_by : HistoryContent → Option Revision → Option Revision
 live_rev_by h None = None
 live_rev_by h (Some r) = if is_deleted (held_of h r) then None else Some r
 
+-- the winner of a history, unless it is deleted
 abbrev pub live_rev : HistoryContent → Option Revision
 live_rev h = live_rev_by h (winner h)
 
+-- a row in front of the others, where there is a revision to show
 abbrev pub with_row : List ℕ → Option Revision → List IdRow → List IdRow
 with_row id None rs = rs
 with_row id (Some r) rs = record { id = id; rev = r } ∷ rs
@@ -152,24 +161,30 @@ live_rows (e ∷ es) = with_row e.0 (live_rev e.1.history) (live_rows es)
 abbrev pub comes_before : Bool → List ℕ → List ℕ → Bool
 comes_before descending a b = if descending then is_lt (slice_cmp nat_cmp b a) else is_lt (slice_cmp nat_cmp a b)
 
+-- the same of a start, if there is one
 abbrev pub is_before_start_of : Bool → Option (List ℕ) → List ℕ → Bool
 is_before_start_of descending None id = false
 is_before_start_of descending (Some start) id = comes_before descending id start
 
+-- the same of an end, if there is one, which may belong to the range
 abbrev pub is_after_end_of : Bool → Bool → Option (List ℕ) → List ℕ → Bool
 is_after_end_of descending inclusive None id = false
 is_after_end_of descending inclusive (Some end) id =
     if inclusive then comes_before descending end id else not (comes_before descending id end)
 
+-- an id comes before the start of a range, in its direction
 abbrev pub is_before_start : IdRange → List ℕ → Bool
 is_before_start range id = is_before_start_of range.descending range.start id
 
+-- an id comes behind the end of a range, in its direction
 abbrev pub is_after_end : IdRange → List ℕ → Bool
 is_after_end range id = is_after_end_of range.descending range.inclusive_end range.end id
 
+-- an id neither before the start of a range nor behind its end
 abbrev pub is_within : IdRange → List ℕ → Bool
 is_within range id = not (is_before_start range id || is_after_end range id)
 
+-- a list, or its reverse
 abbrev pub in_direction : {A : Type 0} → Bool → List A → List A
 in_direction descending rs = if descending then reverse rs else rs
 
@@ -177,6 +192,7 @@ in_direction descending rs = if descending then reverse rs else rs
 abbrev pub rows_within : IdRange → List IdRow → List IdRow
 rows_within range rs = filter (λ r. is_within range r.id) (in_direction range.descending rs)
 
+-- how many rows come before a range or are skipped, and how many there are
 abbrev pub row_counts : IdRange → List IdRow → RowCounts
 row_counts range rs =
     record {
@@ -184,6 +200,7 @@ row_counts range rs =
       total = length rs;
     }
 
+-- the part of the rows within a range that it selects, with the counts if they are wanted
 abbrev pub id_page : IdRange → List IdRow → IdPage
 id_page range rs =
     record { rows = up_to_limit range.limit (drop range.skip (rows_within range rs)); counts = if_counted range.counted (row_counts range rs) }

@@ -57,6 +57,7 @@ database_at rows db = find (λ r. int_eq (number_of r) db) rows
 abbrev pub version_row : ℕ → Row
 version_row n = Int (pos 1) ∷ count n ∷ []
 
+-- the row of a database with a name, a security object in canonical text, and a sequence
 pub record IsDatabaseRow (r : Row) : Type 0 where
   pub is : r ≡ database_row (number_of r) (name_of r) (canonical (security_of r)) (pos (length_of r))
   pub named : IsTrue (is_database_name (name_of r))

@@ -25,6 +25,7 @@ use Rattle.tables.specs.Schema.{dbs_tree, docs_tree, revs_tree, locals_tree}
 
 -- ---- cells
 
+-- the number of a cell; 0 of any other
 abbrev pub whole_in : Value → ℤ
 whole_in Null = pos 0
 whole_in (Int n) = n
@@ -32,6 +33,7 @@ whole_in (Real x) = pos 0
 whole_in (Text t) = pos 0
 whole_in (Blob b) = pos 0
 
+-- the number of a cell that is not negative; 0 of any other
 abbrev pub count_in : Value → ℕ
 count_in Null = 0
 count_in (Int (pos n)) = n
@@ -40,9 +42,11 @@ count_in (Real x) = 0
 count_in (Text t) = 0
 count_in (Blob b) = 0
 
+-- a cell has a number above 0
 abbrev pub is_set : Value → Bool
 is_set v = nat_lt 0 (count_in v)
 
+-- the value that was read, or null
 abbrev pub value_or_null : Result json.Value JsonFault → json.Value
 value_or_null (Ok v) = v
 value_or_null (Err fault) = json.null
@@ -51,12 +55,15 @@ value_or_null (Err fault) = json.null
 abbrev pub json_in : Value → json.Value
 json_in v = value_or_null (reading (bytes v))
 
+-- 1 for true, and 0 for false
 abbrev pub flag : Bool → Value
 flag b = Int (if b then pos 1 else pos 0)
 
+-- a number as a cell
 abbrev pub count : ℕ → Value
 count n = Int (pos n)
 
+-- the canonical text of a value as a cell
 abbrev pub text_cell : json.Value → Value
 text_cell v = Text (canonical v)
 
@@ -74,6 +81,7 @@ next_number rows = fold (λ _ r. number_of r +ℤ pos 1) (pos 1) rows
 abbrev pub with_cells : List Row → Row → List Row
 with_cells rows cells = rows ++ (Int (next_number rows) ∷ cells) ∷ []
 
+-- the row has this number
 abbrev pub has_number : ℤ → Row → Bool
 has_number n r = int_eq (number_of r) n
 
@@ -81,12 +89,15 @@ has_number n r = int_eq (number_of r) n
 abbrev pub db_of : Row → ℤ
 db_of r = whole_in (column r 1)
 
+-- the id of the document of a row
 abbrev pub id_of : Row → List ℕ
 id_of r = bytes (column r 2)
 
+-- the row is one of this database
 abbrev pub is_in : ℤ → Row → Bool
 is_in db r = int_eq (db_of r) db
 
+-- the row is one of this document
 abbrev pub is_of : ℤ → List ℕ → Row → Bool
 is_of db id r = is_in db r && bytes_eq (id_of r) id
 
@@ -94,9 +105,11 @@ is_of db id r = is_in db r && bytes_eq (id_of r) id
 abbrev pub database_cells : List ℕ → List ℕ → ℤ → Row
 database_cells name security sequence = Null ∷ Blob name ∷ Text security ∷ Int sequence ∷ []
 
+-- the row of a database: its number, its name, its security object, its sequence
 abbrev pub database_row : ℤ → List ℕ → List ℕ → ℤ → Row
 database_row num name security sequence = Int num ∷ database_cells name security sequence
 
+-- the name of the row of a database
 abbrev pub name_of : Row → List ℕ
 name_of r = bytes (column r 2)
 
@@ -110,9 +123,11 @@ shown_database r = rowid r ∷ column r 3 ∷ column r 4 ∷ []
 abbrev pub security_text : Row → List ℕ
 security_text r = bytes (column r 3)
 
+-- the security object of the row of a database
 abbrev pub security_of : Row → json.Value
 security_of r = json_in (column r 3)
 
+-- the sequence of the row of a database
 abbrev pub length_of : Row → ℕ
 length_of r = count_in (column r 4)
 
@@ -142,6 +157,7 @@ shown_name r = column r 2 ∷ []
 abbrev pub document_cells : ℤ → List ℕ → ℤ → List ℕ → Bool → Row
 document_cells db id sequence winner deleted = Int db ∷ Blob id ∷ Int sequence ∷ Text winner ∷ flag deleted ∷ []
 
+-- the row of a document: its number, that of its database, its id, its sequence, its winner, and whether that is deleted
 abbrev pub document_row : ℤ → ℤ → List ℕ → ℤ → List ℕ → Bool → Row
 document_row number db id sequence winner deleted = Int number ∷ document_cells db id sequence winner deleted
 
@@ -162,6 +178,7 @@ rows_with_document db id sequence winner deleted rows =
 abbrev pub shown_document : Row → Row
 shown_document r = column r 3 ∷ column r 4 ∷ column r 5 ∷ []
 
+-- the sequence of the row of a document
 abbrev pub sequence_of : Row → ℕ
 sequence_of r = count_in (column r 3)
 
@@ -176,9 +193,11 @@ by_sequence a b = nat_cmp (sequence_of a) (sequence_of b)
 abbrev pub listed_document : Row → Row
 listed_document r = column r 2 ∷ column r 3 ∷ column r 4 ∷ column r 5 ∷ []
 
+-- the winner of the row of a document, as text
 abbrev pub winner_text : Row → List ℕ
 winner_text r = bytes (column r 4)
 
+-- the winner of the row of a document is deleted
 abbrev pub is_gone : Row → Bool
 is_gone r = is_set (column r 5)
 
@@ -187,14 +206,17 @@ abbrev pub parent_cell : Option Revision → Value
 parent_cell None = Null
 parent_cell (Some p) = Text p.hash
 
+-- the text of the body that is held, or null
 abbrev pub body_cell : Option Held → Value
 body_cell None = Null
 body_cell (Some held) = text_cell held.body
 
+-- a body is held
 abbrev pub is_held : Option Held → Bool
 is_held None = false
 is_held (Some held) = true
 
+-- what is held is deleted
 abbrev pub is_marked : Option Held → Bool
 is_marked None = false
 is_marked (Some held) = held.deleted
@@ -208,16 +230,20 @@ abbrev pub given_cells : ℤ → List ℕ → ℕ → List ℕ → Value → Boo
 given_cells db id n hash parent held deleted body =
     Int db ∷ Blob id ∷ count n ∷ Text hash ∷ parent ∷ flag held ∷ flag deleted ∷ body ∷ []
 
+-- its cells behind the number
 abbrev pub revision_cells : ℤ → List ℕ → Revision → Entry → Row
 revision_cells db id r e =
     given_cells db id r.number r.hash (parent_cell e.parent) (is_held e.held) (is_marked e.held) (body_cell e.held)
 
+-- the row of a revision: its number, that of its database, its document, the revision, its parent, and what is held
 abbrev pub revision_row : ℤ → ℤ → List ℕ → Revision → Entry → Row
 revision_row number db id r e = Int number ∷ revision_cells db id r e
 
+-- the revision of a row
 abbrev pub revision_of : Row → Revision
 revision_of r = record { number = count_in (column r 3); hash = bytes (column r 4) }
 
+-- the parent by its hash, one number below
 abbrev pub parent_in : ℕ → Value → Option Revision
 parent_in n Null = None
 parent_in n (Int m) = None
@@ -225,9 +251,11 @@ parent_in n (Real x) = None
 parent_in n (Text hash) = Some (record { number = n - 1; hash = hash })
 parent_in n (Blob b) = None
 
+-- what is held of the revision of a row, and whether it is deleted
 abbrev pub held_in : Row → Option (Bool × json.Value)
 held_in r = if is_set (column r 6) then Some (is_set (column r 7), json_in (column r 8)) else None
 
+-- the parent of the revision of a row, and what is held of it
 abbrev pub entry_of : Row → Entry
 entry_of r = row_of (parent_in (count_in (column r 3)) (column r 5)) (held_in r)
 
@@ -247,6 +275,7 @@ is_revision_of db id rev r = is_of db id r && eq_by_cmp revision_cmp rev (revisi
 abbrev pub local_cells : ℤ → List ℕ → ℕ → List ℕ → Row
 local_cells db id n body = Int db ∷ Blob id ∷ count n ∷ Text body ∷ []
 
+-- the row of a local document: its number, that of its database, its id, its own number, its body
 abbrev pub local_row : ℤ → ℤ → List ℕ → ℕ → List ℕ → Row
 local_row number db id n body = Int number ∷ local_cells db id n body
 
@@ -254,6 +283,7 @@ local_row number db id n body = Int number ∷ local_cells db id n body
 abbrev pub shown_local : Row → Row
 shown_local r = column r 3 ∷ column r 4 ∷ []
 
+-- the local document of a row
 abbrev pub local_of : Row → LocalDocument
 local_of r = record { number = count_in (column r 3); body = json_in (column r 4) }
 

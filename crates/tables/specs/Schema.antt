@@ -11,6 +11,7 @@ use Rattle.sqlite_schema.specs.declared.schema.Schema.{Schema}
 use Rattle.sqlite_schema.specs.declared.schema.Table.{Table}
 use Rattle.sqlite_catalog.specs.Change.{created}
 
+-- a column of a STRICT table
 abbrev pub strict_column : List ℕ → Kind → Bool → Column
 strict_column name kind not_null = record { name = name; kind = kind; is_strict = true; not_null = not_null; default = Null; collation = Binary }
 
@@ -87,24 +88,31 @@ entries =
     (required_column (codes "decl") Integer ∷ required_column (codes "k") Blob ∷ required_column (codes "id") Blob ∷ [])
     None (1 ∷ 2 ∷ 3 ∷ []) ((1 ∷ 2 ∷ 3 ∷ []) ∷ [])
 
+-- no table at all
 abbrev pub no_schema : Schema
 no_schema = record { tables = []; indexes = []; views = [] }
 
+-- the table `meta` alone
 abbrev pub schema_1 : Schema
 schema_1 = created no_schema meta
 
+-- the tables up to `dbs`
 abbrev pub schema_2 : Schema
 schema_2 = created schema_1 dbs
 
+-- the tables up to `docs`
 abbrev pub schema_3 : Schema
 schema_3 = created schema_2 docs
 
+-- the tables up to `revs`
 abbrev pub schema_4 : Schema
 schema_4 = created schema_3 revs
 
+-- the tables up to `locals`
 abbrev pub schema_5 : Schema
 schema_5 = created schema_4 locals
 
+-- the tables up to `decls`
 abbrev pub schema_6 : Schema
 schema_6 = created schema_5 decls
 
@@ -114,24 +122,31 @@ schema = created schema_6 entries
 
 -- ---- where the rows of each table are kept
 
+-- the tree of the row of the version
 abbrev pub meta_tree : ℕ
 meta_tree = 0
 
+-- the tree of the rows of databases
 abbrev pub dbs_tree : ℕ
 dbs_tree = 1
 
+-- the tree of the rows of documents
 abbrev pub docs_tree : ℕ
 docs_tree = 3
 
+-- the tree of the rows of revisions
 abbrev pub revs_tree : ℕ
 revs_tree = 6
 
+-- the tree of the rows of local documents
 abbrev pub locals_tree : ℕ
 locals_tree = 8
 
+-- the tree of the rows of indexes
 abbrev pub decls_tree : ℕ
 decls_tree = 10
 
+-- the tree of the entries of indexes
 abbrev pub entries_tree : ℕ
 entries_tree = 12
 

@@ -11,9 +11,11 @@ extends prefix text = starts_with nat_eq text prefix && nat_lt (length prefix) (
 abbrev pub is_reserved : List ℕ → Bool
 is_reserved text = starts_with nat_eq text (codes "_")
 
+-- it begins with `_design/`
 abbrev pub is_design_id : List ℕ → Bool
 is_design_id text = extends (codes "_design/") text
 
+-- it begins with `_local/`
 abbrev pub is_local_id : List ℕ → Bool
 is_local_id text = extends (codes "_local/") text
 

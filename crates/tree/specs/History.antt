@@ -19,12 +19,15 @@ use Rattle.tree.specs.declared.placement.TreeFault.TheVariants.{BadPath, OtherPa
 abbrev pub HistoryContent : Type 0
 HistoryContent = FinMap revision_cmp Entry
 
+-- the revision is known
 abbrev pub is_known : HistoryContent → Revision → Bool
 is_known h r = contains_key h r
 
+-- the parent of a revision, if it is known and has one
 abbrev pub parent_of : HistoryContent → Revision → Option Revision
 parent_of h r = option_and_then (λ e. e.parent) (get h r)
 
+-- what is held of a revision, if anything
 abbrev pub held_of : HistoryContent → Revision → Option Held
 held_of h r = option_and_then (λ e. e.held) (get h r)
 
@@ -35,6 +38,7 @@ is_deleted (Some d) = d.deleted
 
 -- ---- leaves
 
+-- an optional revision is this one
 abbrev pub names : Option Revision → Revision → Bool
 names None r = false
 names (Some p) r = eq_by_cmp revision_cmp p r
@@ -43,6 +47,7 @@ names (Some p) r = eq_by_cmp revision_cmp p r
 abbrev pub is_parent_in : List (Revision × Entry) → Revision → Bool
 is_parent_in nodes r = list_any (λ e. names e.1.parent r) nodes
 
+-- some known revision has this one as its parent
 abbrev pub has_child : HistoryContent → Revision → Bool
 has_child h r = is_parent_in (entries h) r
 
@@ -50,6 +55,7 @@ has_child h r = is_parent_in (entries h) r
 abbrev pub is_leaf : HistoryContent → Revision → Bool
 is_leaf h r = is_known h r && not (has_child h r)
 
+-- what is held is deleted, or it is not
 abbrev pub is_marked : Bool → Option Held → Bool
 is_marked true d = is_deleted d
 is_marked false d = not (is_deleted d)
@@ -128,6 +134,7 @@ abbrev pub path_entries : Option Held → List Revision → List (Revision × En
 path_entries d [] = []
 path_entries d (r ∷ rest) = (r, record { parent = head rest; held = d }) ∷ path_entries None rest
 
+-- the revisions of a write with their parents, and what it holds of the newest
 abbrev pub write_entries : Write → List (Revision × Entry)
 write_entries w = path_entries (Some (held_by w)) w.path
 
@@ -140,6 +147,7 @@ content_of ws = from_entries (flat_map write_entries ws)
 abbrev pub with_new : HistoryContent → Revision → Entry → HistoryContent
 with_new h r e = if is_known h r then h else insert h r e
 
+-- a history with more revisions, those that it knows as they are
 abbrev pub with_entries : HistoryContent → List (Revision × Entry) → HistoryContent
 with_entries h [] = h
 with_entries h (e ∷ es) = with_entries (with_new h e.0 e.1) es
@@ -156,12 +164,14 @@ with_write h w = with_entries h (write_entries w)
 abbrev pub entry_after : HistoryContent → Write → Revision → Option Entry
 entry_after h w r = if is_known h r then get h r else find revision_cmp r (write_entries w)
 
+-- both are the same revision, or neither is one
 abbrev pub same_parent : Option Revision → Option Revision → Bool
 same_parent None None = true
 same_parent None (Some q) = false
 same_parent (Some p) None = false
 same_parent (Some p) (Some q) = eq_by_cmp revision_cmp p q
 
+-- a revision that is known, if it is, has this parent
 abbrev pub agrees : Option Entry → Option Revision → Bool
 agrees None p = true
 agrees (Some e) p = same_parent e.parent p
@@ -171,6 +181,7 @@ abbrev pub keeps_parents : HistoryContent → List Revision → Bool
 keeps_parents h [] = true
 keeps_parents h (r ∷ rest) = agrees (get h r) (head rest) && keeps_parents h rest
 
+-- the first revision of a path is known
 abbrev pub is_head_known : HistoryContent → List Revision → Bool
 is_head_known h [] = false
 is_head_known h (r ∷ rest) = is_known h r

@@ -22,9 +22,11 @@ abbrev pub edit_after : ℕ → List ℕ → Bool → Value → Value
 edit_after number hash deleted body =
     array (item (truth deleted) (item (whole (pos number)) (item (text hash) (item body no_items))))
 
+-- an edit as a value: the parent, whether it deletes, and the body
 abbrev pub edit_value : Option Revision → Bool → Value → Value
 edit_value parent deleted body = edit_after (number_before parent) (hash_before parent) deleted body
 
+-- the revision of an edit: the next number, and the MD5 of the edit as a value
 abbrev pub next_revision : Option Revision → Bool → Value → Revision
 next_revision parent deleted body =
     record { number = number_before parent + 1; hash = encode_lower (md5 (canonical (edit_value parent deleted body))) }

@@ -11,6 +11,7 @@ use Rattle.std.specs.declared.cmp.Ordering.{Ordering}
 use Rattle.std.specs.Ordering.{ordering_then, nat_cmp}
 use Rattle.std.specs.Cmp.Lexicographic.{slice_cmp}
 
+-- a revision: its number and its hash
 pub record Revision : Type 0 where
   -- how many edits lead to it, itself counted
   pub number : ℕ
@@ -48,6 +49,7 @@ is_number_text digits =
 abbrev pub number_read : List ℕ → Option ℕ
 number_read digits = if is_number_text digits then Some (digits_value 10 digits) else None
 
+-- `-`
 abbrev pub is_dash : ℕ → Bool
 is_dash b = b == 45
 

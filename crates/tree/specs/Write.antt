@@ -5,6 +5,7 @@ use Rattle.couch_json.specs.Value.{Value}
 use Rattle.tree.specs.Revision.{Revision}
 use Rattle.tree.specs.declared.entry.Held.{Held}
 
+-- a write: the path from its revision back to the oldest named, whether it deletes, and the body
 pub record Write : Type 0 where
   -- the new revision, the one before it, and so on to the first
   pub path : List Revision
@@ -30,6 +31,7 @@ head (r ∷ rest) = Some r
 abbrev pub held_by : Write → Held
 held_by w = record { deleted = w.deleted; body = w.body }
 
+-- a revision is one of a path
 abbrev pub StandsIn : List Revision → Revision → Type 0
 StandsIn [] r = ⊥
 StandsIn (s ∷ path) r = (s ≡ r) ⊎ StandsIn path r
@@ -64,6 +66,7 @@ abbrev pub IsPathEnd : List Write → List Revision → Type 0
 IsPathEnd [] end = ⊥
 IsPathEnd (w ∷ ws) end = EndsWith w.path end ⊎ IsPathEnd ws end
 
+-- each write has a path without gaps
 abbrev pub AreWhole : List Write → Type 0
 AreWhole [] = ⊤
 AreWhole (w ∷ ws) = IsTrue (is_whole w.path) × AreWhole ws

@@ -62,5 +62,6 @@ IsMade step fate old number t place is_to_target m seen new = IsMadeBy (λ who. 
 abbrev pub IsAsked : {S : Type 0} → StepOf S → Fate → Network S → ℕ → Transfer → Asked → List Sight → Network S → Type 0
 IsAsked step fate old number t asked seen new = IsAskedBy (λ who. IsHandled step) fate old number t asked seen new
 
+-- an exchange of a pass, whose requests its nodes handle by this step
 abbrev pub IsExchanged : {S : Type 0} → StepOf S → Fate → Network S → ℕ → List Sight → Network S → Type 0
 IsExchanged step fate old number seen new = IsExchangedBy (λ who. IsHandled step) fate old number seen new

@@ -50,6 +50,7 @@ PlaysBy {S} handling old (h ∷ hs) seen new =
 abbrev pub Happens : {S : Type 0} → StepOf S → Network S → Happening → List Sight → Network S → Type 0
 Happens step old h seen new = HappensBy (λ who. IsHandled step) old h seen new
 
+-- events one after the other, whose requests the nodes handle by this step
 abbrev pub Plays : {S : Type 0} → StepOf S → Network S → List Happening → List Sight → Network S → Type 0
 Plays step old hs seen new = PlaysBy (λ who. IsHandled step) old hs seen new
 

@@ -58,6 +58,7 @@ IsServiceBy {S} handling homes old (a ∷ ars) (t ∷ ts) new = (between : List 
 abbrev pub IsAnswered : {S : Type 0} → StepOf S → List ℕ → List (Serving S) → Arrival → SeenReply → List (Serving S) → Type 0
 IsAnswered step homes old a told new = IsAnsweredBy (λ who. IsHandled step) homes old a told new
 
+-- arrivals one after the other, which their nodes handle by this step
 abbrev pub IsService : {S : Type 0} → StepOf S → List ℕ → List (Serving S) → List Arrival → List SeenReply → List (Serving S) → Type 0
 IsService step homes old ars seen new = IsServiceBy (λ who. IsHandled step) homes old ars seen new
 

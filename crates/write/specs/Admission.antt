@@ -63,6 +63,7 @@ named_revision None own = Some own
 named_revision (Some r) None = Some (Some r)
 named_revision (Some r) (Some s) = if eq_by_cmp revision_cmp r s then Some (Some r) else None
 
+-- what a document says, with the revision that the query or the document names, unless they differ
 abbrev pub with_named_revision : Option Revision → Sent → Option Sent
 with_named_revision query sent = option_map (λ rev. record sent { rev = rev }) (named_revision query sent.rev)
 
@@ -86,6 +87,7 @@ abbrev pub revision_after : Sent → Option Revision → Option Revision
 revision_after sent parent =
     if number_before parent == greatest_number then None else Some (next_revision parent sent.deleted sent.body)
 
+-- the revision is known, where there is one
 abbrev pub is_known_if_any : HistoryContent → Option Revision → Bool
 is_known_if_any h None = false
 is_known_if_any h (Some r) = is_known h r
@@ -94,6 +96,7 @@ is_known_if_any h (Some r) = is_known h r
 abbrev pub edit_path : HistoryContent → Option Revision → Revision → List Revision
 edit_path h parent r = r ∷ behind h parent
 
+-- the write of an edit; `Generation` where no revision comes next
 abbrev pub appended_edit : List ℕ → HistoryContent → Sent → Option Revision → Option Revision → Result DocumentWrite WriteFault
 appended_edit id h sent parent None = Err Generation
 appended_edit id h sent parent (Some r) = Ok (write_at id (edit_path h parent r) sent)
@@ -105,13 +108,16 @@ edit_with_revision terms id h sent parent next =
     if is_known_if_any h next then Err Conflict
     else unless_denied (rule_refusal terms id h sent parent) (appended_edit id h sent parent next)
 
+-- the same, with the revision that the edit makes
 abbrev pub next_edit : Terms → List ℕ → HistoryContent → Sent → Option Revision → Result DocumentWrite WriteFault
 next_edit terms id h sent parent = edit_with_revision terms id h sent parent (revision_after sent parent)
 
+-- the same, where the revision that it follows is known
 abbrev pub edit_after : Terms → List ℕ → HistoryContent → Sent → Option (Option Revision) → Result DocumentWrite WriteFault
 edit_after terms id h sent None = Err Conflict
 edit_after terms id h sent (Some parent) = next_edit terms id h sent parent
 
+-- what becomes of an edit whose document could be read, if the caller may make it
 abbrev pub edit_by : Terms → List ℕ → HistoryContent → Option Sent → Result DocumentWrite WriteFault
 edit_by terms id h None = Err BadDocument
 edit_by terms id h (Some sent) = unless_denied (design_refusal terms id) (edit_after terms id h sent (base h sent.rev))
@@ -155,11 +161,13 @@ placement_outcome terms id h sent path (Ok Known) = Ok None
 placement_outcome terms id h sent path (Ok Added) =
     unless_denied (rule_refusal terms id h sent (nearest_held h (ancestors path))) (Ok (Some (write_at id path sent)))
 
+-- the same, with the path that it names
 abbrev pub ancestry_outcome : Terms → List ℕ → HistoryContent → Sent → Option Ancestry → Result (Option DocumentWrite) WriteFault
 ancestry_outcome terms id h sent None = Err BadDocument
 ancestry_outcome terms id h sent (Some ancestry) =
     unless_denied (design_refusal terms id) (placement_outcome terms id h sent ancestry.path (ancestry_placement h ancestry))
 
+-- what becomes of a replicated document that could be read
 abbrev pub replicated_by : Terms → List ℕ → HistoryContent → Value → Option Sent → Result (Option DocumentWrite) WriteFault
 replicated_by terms id h document None = Err BadDocument
 replicated_by terms id h document (Some sent) = ancestry_outcome terms id h sent (ancestry_in document sent.rev)

@@ -17,6 +17,7 @@ use Rattle.write.specs.declared.planned.Outcome.TheVariants.{Made, Known, Refuse
 abbrev pub DocumentOutcome : Type 0
 DocumentOutcome = Result (Option DocumentWrite) WriteFault
 
+-- the outcome of one document that is edited
 abbrev pub as_outcome : Result DocumentWrite WriteFault → DocumentOutcome
 as_outcome (Ok w) = Ok (Some w)
 as_outcome (Err fault) = Err fault
@@ -34,6 +35,7 @@ Histories = List ℕ → HistoryContent
 abbrev pub with_write_in : Histories → DocumentWrite → Histories
 with_write_in histories w = λ id. if is_of id w then with_write (histories id) w.write else histories id
 
+-- the outcome of a document in a bulk; `BadDocument` without an id
 abbrev pub outcome_by_id : Terms → Bool → Histories → Value → Option (List ℕ) → DocumentOutcome
 outcome_by_id terms new_edits histories document None = Err BadDocument
 outcome_by_id terms new_edits histories document (Some id) = document_outcome terms new_edits id (histories id) document
@@ -54,6 +56,7 @@ outcomes terms new_edits histories [] = []
 outcomes terms new_edits histories (v ∷ vs) =
     outcome_in terms new_edits histories v ∷ outcomes terms new_edits (after histories (outcome_in terms new_edits histories v)) vs
 
+-- the write of an outcome in front of others, if it makes one
 abbrev pub put_before : DocumentOutcome → List DocumentWrite → List DocumentWrite
 put_before (Ok (Some w)) ws = w ∷ ws
 put_before (Ok None) ws = ws
@@ -88,10 +91,12 @@ outcome_told (Ok None) = Known
 outcome_told (Ok (Some w)) = outcome_of_revision (new_revision w)
 outcome_told (Err fault) = Refused fault
 
+-- one result: the id and the revision that the document names, and its outcome
 abbrev pub result_told : Value → DocumentOutcome → Told
 result_told document outcome =
     record { id = member_text (codes "_id") document; rev = member_text (codes "_rev") document; outcome = outcome_told outcome }
 
+-- the results of documents, in their order
 abbrev pub all_told : List Value → List DocumentOutcome → List Told
 all_told [] os = []
 all_told (v ∷ vs) [] = []

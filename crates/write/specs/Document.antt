@@ -12,6 +12,7 @@ use Rattle.write.specs.declared.document.Sent.{Sent}
 
 -- ---- parts of a value
 
+-- a number that is not negative
 abbrev pub natural : ℤ → Option ℕ
 natural (pos n) = Some n
 natural (negsuc n) = None
@@ -35,13 +36,16 @@ abbrev pub is_document_member : List ℕ → Bool
 is_document_member name =
     bytes_eq name (codes "_id") || bytes_eq name (codes "_rev") || bytes_eq name (codes "_deleted") || bytes_eq name (codes "_revisions")
 
+-- a name without an underscore in front, or one of those that documents have
 abbrev pub is_allowed : List ℕ → Bool
 is_allowed name = not (is_special name) || is_document_member name
 
+-- each member is one that a document may have
 abbrev pub are_allowed : Members → Bool
 are_allowed no_members = true
 are_allowed (member name v ms) = is_allowed name && are_allowed ms
 
+-- the members whose names don't begin with an underscore
 abbrev pub without_special : Members → Members
 without_special no_members = no_members
 without_special (member name v ms) = if is_special name then without_special ms else member name v (without_special ms)
@@ -51,6 +55,7 @@ abbrev pub is_same_text : List ℕ → Option (List ℕ) → Bool
 is_same_text id None = false
 is_same_text id (Some t) = bytes_eq t id
 
+-- the document names this id, or none
 abbrev pub fits_id : List ℕ → Option Value → Bool
 fits_id id None = true
 fits_id id (Some v) = is_same_text id (text_in v)
@@ -67,6 +72,7 @@ mark_in (Some v) = truth_in v
 
 -- ---- a document
 
+-- the revision that a document names and whether it is deleted, where both are of their form
 abbrev pub words_said : Value → Option (Option Revision × Bool)
 words_said document =
     option_and_then (λ rev. option_map (λ deleted. (rev, deleted)) (mark_in (member_of document (codes "_deleted"))))
@@ -76,6 +82,7 @@ words_said document =
 abbrev pub words_in : List ℕ → Value → Option (Option Revision × Bool)
 words_in id document = if fits_id id (member_of document (codes "_id")) then words_said document else None
 
+-- the body, where the document is of its form
 abbrev pub body_if : Bool → Value → Option Value
 body_if good body = if good then Some body else None
 
@@ -96,6 +103,7 @@ is_body_for id body = if is_design_id id then is_design_body body else true
 abbrev pub body_for : List ℕ → Value → Option Value
 body_for id document = option_and_then (λ body. body_if (is_body_for id body) body) (body_in document)
 
+-- what a document says, by its parts
 abbrev pub sent_with : Option Revision × Bool → Value → Sent
 sent_with words body = record { rev = words.0; deleted = words.1; body = body }
 
@@ -109,9 +117,11 @@ sent_in id document = option_and_then (λ words. option_map (λ body. sent_with 
 abbrev pub is_bulk_id : List ℕ → Bool
 is_bulk_id id = is_document_id id && not (is_local_id id)
 
+-- a text that is the id of a document in a bulk
 abbrev pub id_if : List ℕ → Option (List ℕ)
 id_if id = if is_bulk_id id then Some id else None
 
+-- the id of a document in a bulk
 abbrev pub id_in : Value → Option (List ℕ)
 id_in document = option_and_then (λ t. id_if t) (member_text (codes "_id") document)
 
@@ -131,10 +141,12 @@ without_member name (text s) = text s
 without_member name (array vs) = array vs
 without_member name (object ms) = object (without_name name ms)
 
+-- how many items a list has
 abbrev pub count : Items → ℕ
 count no_items = 0
 count (item v vs) = suc (count vs)
 
+-- a revision in front of a path, where both are there
 abbrev pub onto : Option Revision → Option (List Revision) → Option (List Revision)
 onto None path = None
 onto (Some r) path = option_map (λ rs. r ∷ rs) path
@@ -161,6 +173,7 @@ pub record Ancestry : Type 0 where
   pub start : ℕ
   pub path : List Revision
 
+-- the path of `_revisions`, where it is of its form
 abbrev pub revisions_if : Bool → Value → Option Ancestry
 revisions_if good v =
     if good then option_and_then (λ start. option_map (λ path. record { start = start; path = path }) (ids_in v)) (start_in v) else None
@@ -175,6 +188,7 @@ is_newest start [] rev = false
 is_newest start (r ∷ path) None = true
 is_newest start (r ∷ path) (Some s) = (s.number == start) && bytes_eq s.hash r.hash
 
+-- the path, where it begins at the revision that the document names
 abbrev pub ancestry_if_newest : Option Revision → Ancestry → Option Ancestry
 ancestry_if_newest rev said = if is_newest said.start said.path rev then Some said else None
 
@@ -182,6 +196,7 @@ ancestry_if_newest rev said = if is_newest said.start said.path rev then Some sa
 abbrev pub ancestry_alone : Revision → Ancestry
 ancestry_alone r = record { start = 1; path = r ∷ [] }
 
+-- the path that a document names, or its revision alone
 abbrev pub ancestry_by : Option (Option Ancestry) → Option Revision → Option Ancestry
 ancestry_by None rev = option_map ancestry_alone rev
 ancestry_by (Some said) rev = option_and_then (ancestry_if_newest rev) said

@@ -17,6 +17,7 @@ use Rattle.write.specs.Terms.{Terms}
 abbrev pub index_value : List (List ℕ) → Value
 index_value fields = object (put (codes "fields") (array (items_of (map text fields))) no_members)
 
+-- the members of an object, or none
 abbrev pub members_or_none : Option Members → Members
 members_or_none None = no_members
 members_or_none (Some ms) = ms

@@ -14,9 +14,11 @@ use Rattle.write.specs.declared.fault.WriteFault.TheVariants.{BadDocument, Confl
 abbrev pub is_local_member : List ℕ → Bool
 is_local_member name = bytes_eq name (codes "_id") || bytes_eq name (codes "_rev")
 
+-- a name without an underscore in front, or one of those that local documents have
 abbrev pub is_local_allowed : List ℕ → Bool
 is_local_allowed name = not (is_special name) || is_local_member name
 
+-- each member is one that a local document may have
 abbrev pub are_local_allowed : Members → Bool
 are_local_allowed no_members = true
 are_local_allowed (member name v ms) = is_local_allowed name && are_local_allowed ms
@@ -27,6 +29,7 @@ abbrev pub local_body_of : Members → Option Value
 local_body_of ms =
     body_if (are_local_allowed ms && nat_le (depth (object (without_special ms))) max_body_depth) (object (without_special ms))
 
+-- the body of a local document
 abbrev pub local_body : Value → Option Value
 local_body document = option_and_then (λ ms. local_body_of ms) (members_in document)
 
@@ -52,6 +55,7 @@ abbrev pub next_number : Option LocalDocument → Option ℕ
 next_number None = Some 1
 next_number (Some stored) = if nat_lt stored.number greatest_number then Some (stored.number + 1) else None
 
+-- a local document with its number; `Generation` where none comes next
 abbrev pub local_of_number : Option ℕ → Value → Result LocalDocument WriteFault
 local_of_number None body = Err Generation
 local_of_number (Some number) body = Ok (record { number = number; body = body })

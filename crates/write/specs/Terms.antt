@@ -11,6 +11,7 @@ use Rattle.tree.specs.DocumentId.{is_design_id}
 use Rattle.store.specs.Database.{Database, Document}
 use Rattle.store.specs.Indexes.{winning_body}
 
+-- what a write is judged by: the caller, the name of the database, its security object, and its rules
 pub record Terms : Type 0 where
   -- who writes
   pub caller : Identity
@@ -25,6 +26,7 @@ pub record Terms : Type 0 where
 abbrev pub as_design_document : List ℕ → Option Value → List (List ℕ × Value)
 as_design_document id body = if is_design_id id then option_to_list (option_map (λ b. (id, b)) body) else []
 
+-- a document as a design document with its body, if it is one that is not deleted
 abbrev pub design_document_of : List ℕ × Document → List (List ℕ × Value)
 design_document_of document = as_design_document document.0 (winning_body document.1.history)
 
