@@ -52,7 +52,7 @@ hull_step false true rest now f g h = or_left now rest (g refl)
 hull_step false false rest true f g h = refl
 hull_step false false rest false f g h = h
 
-or_false : (a : Bool) → a || false ≡ true → a ≡ true
+pub or_false : (a : Bool) → a || false ≡ true → a ≡ true
 or_false true h = refl
 or_false false h = h
 

@@ -6,3 +6,4 @@ pub mod Hulls
 pub mod OneMember
 pub mod Searches
 pub mod Marks
+pub mod FieldTables

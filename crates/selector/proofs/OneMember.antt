@@ -56,6 +56,14 @@ member_count (member name v ms) = 1
 abbrev pub OneMember : List ℕ → Value → Bounds → Members → Type 0
 OneMember p b bounds left = ((bounds ≡ Any) × (left ≡ member p b no_members)) ⊎ (AreJust b bounds × (left ≡ no_members))
 
+pub OneMember-next : (p : List ℕ) (b : Value) (name : List ℕ) (v : Value) (rest : Members) (before now : Bounds) → (name ≡ p → v ≡ b → before ≡ Any → AreJust v now)
+    → OneMember p b before (member name v rest) → OneMember p b now rest
+OneMember-next p b name v rest before now just (inl h) =
+    let named : name ≡ p = ap first_name h.1 in
+    let valued : v ≡ b = ap first_value h.1 in
+    inr (subst (λ v. AreJust v now) valued (just named valued h.0), ap after_first h.1)
+OneMember-next p b name v rest before now just (inr h) = absurd (omega (arith, ap member_count h.1))
+
 pub OneMember-step : (p : List ℕ) (b : Value) (name : List ℕ) (v : Value) (rest : Members) (before this now : Bounds) → (before ≡ Any → now ≡ this)
     → (name ≡ p → v ≡ b → AreJust v this)
     → OneMember p b before (member name v rest) → OneMember p b now rest

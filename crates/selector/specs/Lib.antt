@@ -5,3 +5,4 @@ pub mod View
 pub mod Falls
 pub mod Bounds
 pub mod Members
+pub mod FieldBounds

@@ -56,7 +56,7 @@ pub(crate) fn bounds_in<'a>(selector: &'a Selector, path: Option<&FieldPath>) ->
 
 /// Returns bounds of the field, if this member of a selector is true.
 #[cycle(bounds)]
-fn bounds_of<'a>(condition: &'a Condition, path: Option<&FieldPath>) -> Bounds<'a>
+pub(crate) fn bounds_of<'a>(condition: &'a Condition, path: Option<&FieldPath>) -> Bounds<'a>
     ensures inside { let v = value_of condition.now in IsInside
         (λ root. member_truth root (operator_named (name_of condition.now)) (name_of condition.now) v
         (is_true root v) (truths root v)) (option_map (λ p. p.now) path.entry) result }
@@ -215,7 +215,7 @@ fn edge_at<'a>(value: &'a Json, inclusive: bool) -> Edge<'a>
 }
 
 /// Returns the bounds that contain what both contain.
-fn overlap<'a>(first: Bounds<'a>, second: Bounds<'a>) -> Bounds<'a>
+pub(crate) fn overlap<'a>(first: Bounds<'a>, second: Bounds<'a>) -> Bounds<'a>
     ensures contain { (field : Option Value)
         → contain result field ≡ contain first.entry field && contain second.entry field }
     ensures any { first.entry ≡ Any → result ≡ second.entry }
@@ -264,7 +264,7 @@ fn lower<'a>(first: Option<Edge<'a>>, second: Option<Edge<'a>>) -> Option<Edge<'
 }
 
 /// Returns bounds that contain what one of both contains.
-fn hull_of<'a>(first: Option<Bounds<'a>>, second: Bounds<'a>) -> Bounds<'a>
+pub(crate) fn hull_of<'a>(first: Option<Bounds<'a>>, second: Bounds<'a>) -> Bounds<'a>
     ensures first { (field : Option Value) → is_there_and (λ b. contain b field) first.entry ≡ true
         → contain result field ≡ true }
     ensures second { (field : Option Value) → contain second.entry field ≡ true

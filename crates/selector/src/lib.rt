@@ -12,6 +12,7 @@
 mod bounds;
 mod elements;
 mod fault;
+mod field_bounds;
 pub mod laws;
 mod matching;
 mod meeting;
@@ -24,5 +25,6 @@ mod takes;
 
 pub use bounds::{Bounds, Edge};
 pub use fault::SelectorFault;
+pub use field_bounds::FieldBounds;
 pub use rule_selector::RuleSelector;
 pub use selector::Selector;

@@ -5,11 +5,12 @@ ghost use Rattle.selector.specs.Operators.{operator_named};
 
 use crate::bounds::{Bounds, bounds_in};
 use crate::fault::SelectorFault;
+use crate::field_bounds::{FieldBounds, field_bounds_in};
 use crate::matching::is_true;
 use crate::members::Members;
 use crate::operator::{ListOperator, SelectorOperator, ValueOperator};
 use crate::parsing::parse_selector;
-use couch_json::{FieldPath, Json};
+use couch_json::{FieldPath, Got, Json};
 use std::alloc::Global;
 use std::marker::Model;
 
@@ -71,10 +72,11 @@ impl Model for Selector {
 }
 
 impl Selector {
-    ghost use Rattle.std.specs.Prelude.{◌≢◌, IfOk, IfErr, Some, true};
+    ghost use Rattle.std.specs.Prelude.{◌≢◌, ℕ, IfOk, IfErr, List, Some, true};
     ghost use Rattle.couch_json.specs.FieldPath.{value_at};
-    ghost use Rattle.couch_json.specs.Value.{Value as JsonValue, object, member, no_members};
+    ghost use Rattle.couch_json.specs.Value.{Value as JsonValue, member_of, object, member, no_members};
     ghost use Rattle.selector.specs.Bounds.{AreJust, contain};
+    ghost use Rattle.selector.specs.FieldBounds.{ContainOnly, bounds_at};
     ghost use Rattle.selector.specs.Grammar.{first_fault};
     ghost use Rattle.selector.specs.Truth.{selector_matches};
 
@@ -116,6 +118,23 @@ impl Selector {
             → self.now ≡ object (member path.now b no_members) → AreJust b result }
     {
         bounds_in(self, Some(path))
+    }
+
+    /// Returns between which values each field lies in every value that the selector matches. It walks
+    /// the selector once, where [`bounds`](Selector::bounds) walks it for each path.
+    ///
+    /// The bounds of a member that is a path with a bare value contain no other value. If it is the only
+    /// member, they go from that value to itself.
+    #[tactic(auto, unfolding(crate::specs::Truth::selector_matches))]
+    pub fn field_bounds<'a>(&'a self, alloc: Global) -> Got<FieldBounds<'a>>
+        ensures inside { IfOk result (λ fields. (path : List ℕ) (v : JsonValue) → selector_matches self.now v ≡ true
+            → contain (bounds_at fields path) (value_at path v) ≡ true) }
+        ensures one { IfOk result (λ fields. (path : List ℕ) (b : JsonValue) → operator_named path ≡ None → is_object b ≡ false
+            → self.now ≡ object (member path b no_members) → AreJust b (bounds_at fields path)) }
+        ensures bare { IfOk result (λ fields. (path : List ℕ) (b : JsonValue) → operator_named path ≡ None → is_object b ≡ false
+            → member_of self.now path ≡ Some b → ContainOnly b (bounds_at fields path)) }
+    {
+        field_bounds_in(alloc, self)
     }
 }
 
