@@ -1,5 +1,5 @@
 -- What one declaration more makes of the index rows.
-use Rattle.index.proofs.Common.{AllByRecursion, AreDeclarationRows, AreEntriesOf, AreEntryRows, Bool, Changes, Database, Declarations, Declared, Documents, HasEntries, HasIndexRows, Int, IsDeclarationRow, List, None, Option, Row, Schema, Some, Text, [], all-append, all_both, all_weaker, and_from, and_parts, ap, arith, ascending-append, bytes_eq, bytes_eq-Decides, cases_Bool, cond, declaration_at, declaration_cells, declaration_row, declared_at, declared_by, decls_tree, design_of, entries_tree, false, fields_in_cell, fields_of, fields_text, find, has_number, home_of, if◌then◌else◌, index_name_of, inl, inr, int_eq, ints, is_declaration_of, is_due, is_due_by, is_key, key_if_seen, next_number, not, number_of, numbered-with_cells, option_map, refl, same_int, schema, sees_in, subst, sym, true, with_cells, without_numbers, ℕ, ℤ, ◌&&◌, ◌++◌, ◌<ℤ◌, ◌||◌, ◌∙◌, ◌∷◌, ◌≡◌, ◌≢◌}
+use Rattle.index.proofs.Common.{AllByRecursion, AreDeclarationRows, AreEntriesOf, AreEntryRows, Bool, Changes, ChangesIndexes, Database, Declarations, Declared, Documents, HasEntries, HasIndexRows, Int, IsDeclarationRow, List, None, Option, Row, Some, Text, [], all-append, all_weaker, and_from, and_parts, ap, arith, ascending-append, bytes_eq, bytes_eq-Decides, cases_Bool, cond, declaration_at, declaration_cells, declaration_row, declared_at, declared_by, decls_tree, design_of, entries_tree, false, fields_in_cell, fields_of, fields_text, find, has_number, home_of, if◌then◌else◌, index_name_of, inl, inr, int_eq, ints, is_declaration_of, is_due, is_due_by, is_key, key_if_seen, list_any, list_any-append, map-append, next_number, not, number_of, numbered-with_cells, option_map, refl, same_int, sees_in, subst, sym, true, with_cells, without_numbers, ⊤, ℕ, ℤ, ◌&&◌, ◌++◌, ◌<ℤ◌, ◌||◌, ◌∙◌, ◌∷◌, ◌≡◌, ◌≢◌}
 use Rattle.couch_json.specs.Value.{Items, array, item, no_items}
 use Rattle.couch_json.specs.FieldPath.{is_field_path}
 use Rattle.couch_json.proofs.ReadingBack.{reading-canonical}
@@ -8,10 +8,10 @@ use Rattle.index.proofs.Dropped.{find_none}
 use Rattle.index.proofs.EntryChanges.{bytes_eq-sym, entries_as, int_eq-sym, same_bytes, same_number}
 use Rattle.index.proofs.ShownDeclarations.{flat, lawful_paths}
 use Rattle.index.proofs.Going.{declarations_stay}
-use Rattle.index.specs.Filling.{IsBare}
+use Rattle.index.specs.Filling.{AreBare, numbers_of}
 use Rattle.store.specs.Indexes.{queried_document}
 use Rattle.tables.specs.Schema.{revs_tree}
-use Rattle.index.specs.Declaring.{IsRebuilt, IsUndeclared, with_index}
+use Rattle.index.specs.Declaring.{ArePartly, HasItsRow, IsMissing, IsRebuilt, with_index}
 use Rattle.index.specs.Rows.{path_items}
 use Rattle.std.proofs.lemmas.Bool.{false_from_ne_true}
 use Rattle.std.specs.Prelude.{IsUtf8}
@@ -74,10 +74,10 @@ module _ (rows : List Row) (laid : AreDeclarationRows rows) (db : ℤ) (design n
   abbrev pub more : List Row
   more = with_cells rows (declaration_cells db design name (fields_text fields))
 
-  new_fields : fields_of new ≡ fields
+  pub new_fields : fields_of new ≡ fields
   new_fields = fields_back fields paths
 
-  no_number : find (has_number next) rows ≡ None
+  pub no_number : find (has_number next) rows ≡ None
   no_number =
       find_none (has_number next) rows
       (all_weaker (λ r. number_of r <ℤ next) (λ r. has_number next r ≡ false) (λ r below. false_from_ne_true (has_number next r) (λ same. let e = same_int (number_of r) next same in omega (arith, ints))) rows (below_next rows laid.rising))
@@ -153,66 +153,197 @@ store_declared a b now store h =
 
 -- ---- the tables
 
-module _ (declares : Declarations) (sees : Documents) (db : ℤ) (design name : List ℕ) (fields : List (List ℕ)) (paths : AllByRecursion (λ path. (is_field_path path ≡ true) × IsUtf8 path) fields)
-    (a b : Database) (fit : IsUndeclared declares sees db design name a) (text : List ℕ) (spelled : text ≡ fields_text fields)
-    (change : Changes decls_tree (with_cells (a.trees decls_tree) (declaration_cells db design name text)) a b) where
-  has : a.schema ≡ schema
-  has = fit.store.schema_is
+module _ (declares : Declarations) (db : ℤ) (design name : List ℕ) where
+  own_index_of : (d : ℤ) (o n : List ℕ) → (int_eq d db && (bytes_eq o design && bytes_eq n name)) ≡ true → (d ≡ db) × (o ≡ design) × (n ≡ name)
+  own_index_of d o n is =
+      let p = and_parts (int_eq d db) _ is in
+      let q = and_parts (bytes_eq o design) _ p.1 in
+      (same_int d db p.0, (bytes_eq-Decides o design).0 q.0, (bytes_eq-Decides n name).0 q.1)
 
-  absent : declared_by (a.trees decls_tree) db design name ≡ None
-  absent = fit.indexed.declared db design name ∙ fit.none
+-- an index that is neither this one nor among those
+neither : (x y z w : Bool) → (x && (y && z)) ≡ false → (x && (y && w)) ≡ false → (x && (y && (z || w))) ≡ false
+neither false y z w one two = refl
+neither true false z w one two = refl
+neither true true true w one two = one
+neither true true false w one two = two
 
-  pub rows_are : b.trees decls_tree ≡ more (a.trees decls_tree) fit.indexed.decls db design name fields paths
-  rows_are = change.rows ∙ ap (λ t. with_cells (a.trees decls_tree) (declaration_cells db design name t)) spelled
+-- what was found stays, with one row more
+find_kept : (p : Row → Bool) (rows : List Row) (r new : Row) → find p rows ≡ Some r → find p (rows ++ new ∷ []) ≡ Some r
+find_kept p [] r new is = absurd (cc)
+find_kept p (s ∷ rows) r new is = go (p s) is (find_kept p rows r new)
+  where
+    go : (b : Bool) → cond b (Some s) (find p rows) ≡ Some r → (find p rows ≡ Some r → find p (rows ++ new ∷ []) ≡ Some r) → cond b (Some s) (find p (rows ++ new ∷ [])) ≡ Some r
+    go true is more = is
+    go false is more = more is
 
-  entries_stay : b.trees entries_tree ≡ a.trees entries_tree
-  entries_stay = (leaves decls_tree _ a b has change).entries (omega arith)
+-- one declaration more has no entries
+one_without : (c a b : Bool) → ((c && not (b || false)) && not a) ≡ (c && not (a || (b || false)))
+one_without false a b = refl
+one_without true true true = refl
+one_without true true false = refl
+one_without true false true = refl
+one_without true false false = refl
+
+module _ (declares : Declarations) (sees : Documents) (db : ℤ) (design name : List ℕ) (f : List ℕ → Option (List (List ℕ))) (left : List (List ℕ)) (fresh : List Declared) (a : Database)
+    (fit : ArePartly declares sees db design f (name ∷ left) fresh a) where
+  -- an index that is declared as it is to be, or is not and is not to be, is left no more
+  pub settled : declared_by (a.trees decls_tree) db design name ≡ declares db design name → ArePartly declares sees db design f left fresh a
+  settled same = record {
+    store = fit.store;
+    decls = fit.decls;
+    rest = λ d o n out. go d o n out (int_eq d db && (bytes_eq o design && bytes_eq n name)) refl;
+    part = fit.part;
+    due = fit.due.1;
+    rows = fit.rows;
+    numbers = fit.numbers;
+    entries = fit.entries;
+    seen = fit.seen;
+  }
+    where
+      go : (d : ℤ) (o n : List ℕ) → (int_eq d db && (bytes_eq o design && list_any (bytes_eq n) left)) ≡ false → (b : Bool) → (int_eq d db && (bytes_eq o design && bytes_eq n name)) ≡ b → declared_by (a.trees decls_tree) d o n ≡ declares d o n
+      go d o n out true is =
+          let e = own_index_of declares db design name d o n is in
+          (λ j. declared_by (a.trees decls_tree) (e.0 j) (e.1 j) (e.2 j)) ∙ same ∙ (λ j. declares (sym e.0 j) (sym e.1 j) (sym e.2 j))
+      go d o n out false is = fit.rest d o n (neither (int_eq d db) (bytes_eq o design) (bytes_eq n name) (list_any (bytes_eq n) left) is out)
+
+  -- what is not to be declared is not
+  pub settled_none : declares db design name ≡ None → declared_by (a.trees decls_tree) db design name ≡ declares db design name
+  settled_none none = go (declared_by (a.trees decls_tree) db design name) refl
+    where
+      go : (o : Option (List (List ℕ))) → declared_by (a.trees decls_tree) db design name ≡ o → declared_by (a.trees decls_tree) db design name ≡ declares db design name
+      go None is = is ∙ sym none
+      go (Some has) is = absurd (let there = fit.part name has is in cc)
+
+  pub settled_some : (has : List (List ℕ)) → declared_by (a.trees decls_tree) db design name ≡ Some has → declared_by (a.trees decls_tree) db design name ≡ declares db design name
+  settled_some has is = is ∙ sym (fit.part name has is)
+
+  pub rows_fit : HasIndexRows a
+  rows_fit = record { schema_is = fit.store.schema_is; decls = fit.decls; entries = fit.entries.laid }
+
+  module _ (fields : List (List ℕ)) (paths : AllByRecursion (λ path. (is_field_path path ≡ true) × IsUtf8 path) fields) (wanted : declares db design name ≡ Some fields)
+      (none : declared_by (a.trees decls_tree) db design name ≡ None) (b : Database) (change : Changes decls_tree (with_cells (a.trees decls_tree) (declaration_cells db design name (fields_text fields))) a b) where
+    abbrev rows : List Row
+    rows = a.trees decls_tree
+
+    abbrev all : List Row
+    all = more (a.trees decls_tree) fit.decls db design name fields paths
+
+    abbrev row : Row
+    row = new (a.trees decls_tree) fit.decls db design name fields paths
+
+    abbrev pub one : Declared
+    one = record { number = next_number (a.trees decls_tree); fields = fields }
+
+    entries_stay : b.trees entries_tree ≡ a.trees entries_tree
+    entries_stay = (leaves decls_tree _ a b fit.store.schema_is change).entries (omega arith)
+
+    said : (d : ℤ) (o n : List ℕ) → declared_by all d o n ≡ with_index (declared_by rows) db design name (Some fields) d o n
+    said d o n = more_declared rows fit.decls db design name fields paths none (declared_by rows) (λ d' o' n'. refl) d o n
+
+    others_declared : (d : ℤ) (o n : List ℕ) → (int_eq d db && (bytes_eq o design && list_any (bytes_eq n) left)) ≡ false → declared_by all d o n ≡ declares d o n
+    others_declared d o n out = said d o n ∙ go (int_eq d db && (bytes_eq o design && bytes_eq n name)) refl
+      where
+        go : (c : Bool) → (int_eq d db && (bytes_eq o design && bytes_eq n name)) ≡ c → (if c then Some fields else declared_by rows d o n) ≡ declares d o n
+        go true is = let e = own_index_of declares db design name d o n is in sym wanted ∙ (λ j. declares (sym e.0 j) (sym e.1 j) (sym e.2 j))
+        go false is = fit.rest d o n (neither (int_eq d db) (bytes_eq o design) (bytes_eq n name) (list_any (bytes_eq n) left) is out)
+
+    own_declared : (n : List ℕ) (has : List (List ℕ)) → declared_by all db design n ≡ Some has → declares db design n ≡ Some has
+    own_declared n has is = go (int_eq db db && (bytes_eq design design && bytes_eq n name)) refl (sym (said db design n) ∙ is)
+      where
+        go : (c : Bool) → (int_eq db db && (bytes_eq design design && bytes_eq n name)) ≡ c → ◌≡◌ {A = Option (List (List ℕ))} (if c then Some fields else declared_by rows db design n) (Some has) → declares db design n ≡ Some has
+        go true own same = let e = own_index_of declares db design name db design n own in (λ j. declares db design (e.2 j)) ∙ wanted ∙ same
+        go false own same = fit.part n has same
+
+    row_kept : (y : Declared) → HasItsRow db rows y → HasItsRow db all y
+    row_kept y h = record { row = h.row; found = find_kept (has_number y.number) rows h.row row h.found; says = h.says; own = h.own }
+
+    number_apart : (y : Declared) → HasItsRow db rows y → (y.number ≢ next_number (a.trees decls_tree)) × ⊤
+    number_apart y h = (λ same. absurd (let lost = sym (no_number rows fit.decls db design name fields paths) ∙ ap (declaration_at rows) (sym same) ∙ h.found in cc), tt)
+
+    still_without : (m : ℤ) (k i : List ℕ) → without_numbers (is_due sees rows) (numbers_of fresh) m k i ≡ without_numbers (is_due sees all) (numbers_of (fresh ++ one ∷ [])) m k i
+    still_without m k i =
+        ap (λ c. c && not (list_any (int_eq m) (numbers_of fresh))) (still_due rows fit.decls db design name fields paths sees m k i)
+        ∙ one_without (is_due sees all m k i) (list_any (int_eq m) (numbers_of fresh)) (int_eq m (next_number (a.trees decls_tree)))
+        ∙ sym (ap (λ c. is_due sees all m k i && not c)
+        (ap (list_any (int_eq m)) (map-append (λ (y : Declared). y.number) fresh (one ∷ [])) ∙ list_any-append (int_eq m) (numbers_of fresh) (next_number (a.trees decls_tree) ∷ [])))
+
+    -- with its row it is left no more, and is one of the fresh ones
+    pub declared_one : ArePartly declares sees db design f left (fresh ++ one ∷ []) b
+    declared_one =
+        let revs : b.trees revs_tree ≡ a.trees revs_tree = (leaves decls_tree _ a b fit.store.schema_is change).revs (omega arith) in
+        record {
+          store = store_declared a b _ fit.store change;
+          decls = subst AreDeclarationRows (sym change.rows) (more_laid rows fit.decls db design name fields paths none);
+          rest = λ d o n out. ap (λ l. declared_by l d o n) change.rows ∙ others_declared d o n out;
+          part = λ n has is. own_declared n has (sym (ap (λ l. declared_by l db design n) change.rows) ∙ is);
+          due = fit.due.1;
+          rows = subst (λ l. AllByRecursion (HasItsRow db l) (fresh ++ one ∷ [])) (sym change.rows)
+              (all-append (HasItsRow db all) fresh (one ∷ []) (all_weaker (HasItsRow db rows) (HasItsRow db all) row_kept fresh fit.rows)
+              (record { row = row; found = found_number rows fit.decls db design name fields paths; says = λ j. record { number = next_number (a.trees decls_tree); fields = new_fields rows fit.decls db design name fields paths j }; own = refl }, tt));
+          numbers = ascending-append (λ (x : Declared) (y : Declared). x.number ≢ y.number) fresh (one ∷ []) fit.numbers (tt, tt)
+              (all_weaker (HasItsRow db rows) (λ y. (y.number ≢ next_number (a.trees decls_tree)) × ⊤) number_apart fresh fit.rows);
+          entries = subst (λ l. AreEntriesOf (without_numbers (is_due sees l) (numbers_of (fresh ++ one ∷ []))) (b.trees entries_tree)) (sym change.rows)
+              (subst (AreEntriesOf (without_numbers (is_due sees all) (numbers_of (fresh ++ one ∷ [])))) (sym entries_stay)
+              (entries_as (without_numbers (is_due sees rows) (numbers_of fresh)) (without_numbers (is_due sees all) (numbers_of (fresh ++ one ∷ []))) (a.trees entries_tree) still_without fit.entries));
+          seen = λ id. fit.seen id ∙ sym (ap (λ l. queried_document id (history_in l db id)) revs);
+        }
+
+    pub declared_only : ChangesIndexes a b
+    declared_only = record {
+      schema = change.schema;
+      others = all_weaker (λ t. t.tree ≢ decls_tree → b.trees t.tree ≡ a.trees t.tree) (λ t. t.tree ≢ decls_tree → t.tree ≢ entries_tree → b.trees t.tree ≡ a.trees t.tree) (λ t h out other. h out) a.schema.tables change.others;
+    }
+
+-- ---- the new row, and what is found of it
+
+module _ (db : ℤ) (design name : List ℕ) (fields : List (List ℕ)) (paths : AllByRecursion (λ path. (is_field_path path ≡ true) × IsUtf8 path) fields) (a b : Database) (fit : IsMissing db design name a)
+    (change : Changes decls_tree (with_cells (a.trees decls_tree) (declaration_cells db design name (fields_text fields))) a b) where
+  abbrev pub added : Row
+  added = new (a.trees decls_tree) fit.rows.decls db design name fields paths
 
   pub declared_rows : HasIndexRows b
   declared_rows = record {
-    schema_is = change.schema ∙ has;
-    decls = subst AreDeclarationRows (sym rows_are) (more_laid (a.trees decls_tree) fit.indexed.decls db design name fields paths absent);
-    entries = subst AreEntryRows (sym entries_stay) fit.indexed.entries.laid;
+    schema_is = change.schema ∙ fit.rows.schema_is;
+    decls = subst AreDeclarationRows (sym change.rows) (more_laid (a.trees decls_tree) fit.rows.decls db design name fields paths fit.none);
+    entries = subst AreEntryRows (sym ((leaves decls_tree _ a b fit.rows.schema_is change).entries (omega arith))) fit.rows.entries;
   }
 
-  pub declared_found : find (is_declaration_of db design name) (b.trees decls_tree) ≡ Some (new (a.trees decls_tree) fit.indexed.decls db design name fields paths)
-  declared_found = ap (find (is_declaration_of db design name)) rows_are ∙ found_index (a.trees decls_tree) fit.indexed.decls db design name fields paths absent
+  pub declared_found : find (is_declaration_of db design name) (b.trees decls_tree) ≡ Some (new (a.trees decls_tree) fit.rows.decls db design name fields paths)
+  declared_found = ap (find (is_declaration_of db design name)) change.rows ∙ found_index (a.trees decls_tree) fit.rows.decls db design name fields paths fit.none
 
-  -- the new index has no entries
-  pub bare : (x : Declared) → x ≡ declared_at (new (a.trees decls_tree) fit.indexed.decls db design name fields paths)
-      → IsBare db x (is_due sees (more (a.trees decls_tree) fit.indexed.decls db design name fields paths)) b
-  bare x is =
-      let number : x.number ≡ next_number (a.trees decls_tree) = ap (λ (y : Declared). y.number) is in
-      let own : x.fields ≡ fields = ap (λ (y : Declared). y.fields) is ∙ new_fields (a.trees decls_tree) fit.indexed.decls db design name fields paths in
-      let due = is_due sees (more (a.trees decls_tree) fit.indexed.decls db design name fields paths) in
-      let revs : b.trees revs_tree ≡ a.trees revs_tree = (leaves decls_tree _ a b has change).revs (omega arith) in
-      record {
-        store = store_declared a b _ fit.store change;
-        entries = subst (λ n. AreEntriesOf (without_numbers due (n ∷ [])) (b.trees entries_tree)) (sym number)
-            (subst (AreEntriesOf (without_numbers due (next_number (a.trees decls_tree) ∷ []))) (sym entries_stay)
-            (entries_as (is_due sees (a.trees decls_tree)) (without_numbers due (next_number (a.trees decls_tree) ∷ [])) (a.trees entries_tree)
-            (still_due (a.trees decls_tree) fit.indexed.decls db design name fields paths sees) fit.indexed.entries));
-        says = λ k id.
-            ap (λ n. due n k id) number ∙ new_due (a.trees decls_tree) fit.indexed.decls db design name fields paths sees k id
-            ∙ ap (λ v. is_key (key_if_seen fields v) k) (fit.seen id ∙ sym (ap (λ l. queried_document id (history_in l db id)) revs)) ∙ ap (λ fs. is_key (key_if_seen fs (sees_in b.trees db id)) k) (sym own);
-      }
+  pub added_says : ◌≡◌ {A = Declared} (declared_at (new (a.trees decls_tree) fit.rows.decls db design name fields paths)) (record { number = next_number (a.trees decls_tree); fields = fields })
+  added_says = λ j. record { number = next_number (a.trees decls_tree); fields = new_fields (a.trees decls_tree) fit.rows.decls db design name fields paths j }
 
-  -- and once it is filled, all is as it is to be
-  pub declared_done : (e : Database) → HasEntries (is_due sees (more (a.trees decls_tree) fit.indexed.decls db design name fields paths)) b e
-      → IsRebuilt (with_index declares db design name (Some fields)) sees a e
-  declared_done e made =
-      let decls = more (a.trees decls_tree) fit.indexed.decls db design name fields paths in
-      let same : e.trees decls_tree ≡ decls = declarations_stay b e (change.schema ∙ has) made.only ∙ rows_are in
-      let later = subst (λ (s : Schema). AllByRecursion (λ t. t.tree ≢ entries_tree → e.trees t.tree ≡ b.trees t.tree) s.tables) change.schema made.only.others in
+-- ---- once none is left
+
+module _ (declares : Declarations) (sees : Documents) (db : ℤ) (design : List ℕ) (f : List ℕ → Option (List (List ℕ))) (fresh : List Declared) (b : Database) (fit : ArePartly declares sees db design f [] fresh b) where
+  -- the fresh indexes have no entries
+  pub bare : AreBare db fresh (is_due sees (b.trees decls_tree)) b
+  bare = record {
+    store = fit.store;
+    numbers = fit.numbers;
+    entries = fit.entries;
+    says = λ id. all_weaker (HasItsRow db (b.trees decls_tree)) (λ (x : Declared). (k : List ℕ) → is_due sees (b.trees decls_tree) x.number k id ≡ is_key (key_if_seen x.fields (sees_in b.trees db id)) k)
+        (λ x h k. ap (λ o. is_due_by sees o k id) h.found ∙ (λ j. is_key (key_if_seen ((h.says j).fields) (sees (h.own j) id)) k) ∙ ap (λ v. is_key (key_if_seen x.fields v) k) (fit.seen id)) fresh fit.rows;
+  }
+
+  -- and once they are filled, all is as it is to be
+  pub filled : (e : Database) → HasEntries (is_due sees (b.trees decls_tree)) b e → IsRebuilt declares sees b e
+  filled e made =
+      let same : e.trees decls_tree ≡ b.trees decls_tree = declarations_stay b e fit.store.schema_is made.only in
       record {
         indexed = record {
-          decls = subst AreDeclarationRows (sym same) (more_laid (a.trees decls_tree) fit.indexed.decls db design name fields paths absent);
-          declared = λ d o n. ap (λ l. declared_by l d o n) same ∙ more_declared (a.trees decls_tree) fit.indexed.decls db design name fields paths absent declares fit.indexed.declared d o n;
+          decls = subst AreDeclarationRows (sym same) fit.decls;
+          declared = λ d o n. ap (λ l. declared_by l d o n) same ∙ fit.rest d o n (none_left (int_eq d db) (bytes_eq o design));
           entries = record { laid = made.entries.laid; exact = λ m k i. made.entries.exact m k i ∙ sym (ap (λ l. is_due sees l m k i) same) };
         };
         only = record {
-          schema = made.only.schema ∙ change.schema;
-          others = all_both (λ t. t.tree ≢ decls_tree → b.trees t.tree ≡ a.trees t.tree) (λ t. t.tree ≢ entries_tree → e.trees t.tree ≡ b.trees t.tree) (λ t. t.tree ≢ decls_tree → t.tree ≢ entries_tree → e.trees t.tree ≡ a.trees t.tree)
-              (λ t before after one two. after two ∙ before one) a.schema.tables change.others later;
+          schema = made.only.schema;
+          others = all_weaker (λ t. t.tree ≢ entries_tree → e.trees t.tree ≡ b.trees t.tree) (λ t. t.tree ≢ decls_tree → t.tree ≢ entries_tree → e.trees t.tree ≡ b.trees t.tree) (λ t h out other. h other) b.schema.tables made.only.others;
         };
       }
+    where
+      none_left : (x y : Bool) → (x && (y && false)) ≡ false
+      none_left true true = refl
+      none_left true false = refl
+      none_left false y = refl

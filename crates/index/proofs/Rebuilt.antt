@@ -1,11 +1,11 @@
 -- One index within a change of several.
-use Rattle.index.proofs.Common.{AllByRecursion, Bool, ChangesIndexes, Database, Declarations, Declared, Documents, List, None, Option, Row, Schema, Some, [], all_both, all_of, and_from, and_parts, ap, arith, bytes_eq, bytes_eq-Decides, cases_Bool, declaration_at, declared_at, declared_by, decls_tree, design_of, entries_tree, false, fields_of, find, find_found, find_passes, home_of, if◌then◌else◌, index_name_of, inl, inr, int_eq, is_declaration_of, list_any, list_any-append, number_of, option_map, refl, same_int, schema, sees_in, subst, sym, true, ℕ, ℤ, ◌&&◌, ◌++◌, ◌||◌, ◌∙◌, ◌∷◌, ◌≡◌, ◌≢◌}
+use Rattle.index.proofs.Common.{AllByRecursion, Bool, ChangesIndexes, Database, Declarations, Declared, Documents, List, None, Option, Row, Schema, Some, [], all_both, all_of, all_weaker, and_from, ap, arith, bytes_eq, bytes_eq-Decides, declaration_at, declared_at, declared_by, decls_tree, design_of, entries_tree, false, fields_of, find, find_found, find_passes, home_of, if◌then◌else◌, index_name_of, int_eq, is_declaration_of, is_due, list_any, list_any-append, not, number_of, option_map, refl, schema, sees_in, subst, sym, true, without_numbers, ℕ, ℤ, ◌&&◌, ◌++◌, ◌||◌, ◌∙◌, ◌∷◌, ◌≡◌, ◌≢◌}
 use Rattle.index.proofs.Alike.{alike}
 use Rattle.index.proofs.DeclarationStatements.{of_index}
-use Rattle.index.proofs.EntryChanges.{same_bytes, same_number}
+use Rattle.index.proofs.EntryChanges.{entries_as, same_bytes, same_number}
 use Rattle.index.proofs.Following.{found_each}
-use Rattle.index.specs.Declaring.{IsDeclared, IsFoundIn, IsRebuildable, IsRebuilt, IsUndeclared, with_index}
-use Rattle.index.specs.Rebuilding.{with_names}
+use Rattle.index.specs.Declaring.{ArePartly, IsCleared, IsDeclared, IsFoundIn, IsRebuildable, IsRebuilt, with_index}
+use Rattle.index.specs.Rebuilding.{AreCleared, with_names}
 use Rattle.std.specs.Prelude.{unwrap_or}
 use Rattle.store.specs.Indexes.{queried_document}
 use Rattle.tables.proofs.Rests.{AreSame, store_of}
@@ -46,29 +46,6 @@ indexes_then a b c h k =
 -- ---- one index
 
 module _ (declares : Declarations) (db : ℤ) (design name : List ℕ) where
-  abbrev is_own : ℤ → List ℕ → List ℕ → Bool
-  is_own d o n = int_eq d db && (bytes_eq o design && bytes_eq n name)
-
-  same_own : (d : ℤ) (o n : List ℕ) → is_own d o n ≡ true → (d ≡ db) × (o ≡ design) × (n ≡ name)
-  same_own d o n is =
-      let p = and_parts (int_eq d db) _ is in
-      let q = and_parts (bytes_eq o design) _ p.1 in
-      (same_int d db p.0, (bytes_eq-Decides o design).0 q.0, (bytes_eq-Decides n name).0 q.1)
-
-  -- with the fields that it has, nothing changes
-  pub with_own : (fields : Option (List (List ℕ))) → declares db design name ≡ fields → (d : ℤ) (o n : List ℕ) → declares d o n ≡ with_index declares db design name fields d o n
-  with_own fields was d o n = elim (cases_Bool (is_own d o n)) [
-    | inl is ↦ let e = same_own d o n is in (λ j. declares (e.0 j) (e.1 j) (e.2 j)) ∙ was ∙ sym (ap (λ b. if b then fields else declares d o n) is)
-    | inr out ↦ sym (ap (λ b. if b then fields else declares d o n) out)
-  ]
-
-  pub with_then : (first second : Option (List (List ℕ))) (d : ℤ) (o n : List ℕ) → with_index (with_index declares db design name first) db design name second d o n ≡ with_index declares db design name second d o n
-  with_then first second d o n = go (is_own d o n)
-    where
-      go : (b : Bool) → (if b then second else (if b then first else declares d o n)) ≡ (if b then second else declares d o n)
-      go true = refl
-      go false = refl
-
   pub own_then : (fields : Option (List (List ℕ))) → with_index declares db design name fields db design name ≡ fields
   own_then fields =
       ap (λ b. if b then fields else declares db design name)
@@ -76,35 +53,28 @@ module _ (declares : Declarations) (db : ℤ) (design name : List ℕ) where
 
   -- ---- what is found
 
-  found_by : (found : Option Declared) (rows : List Row) → found ≡ option_map declared_at (find (is_declaration_of db design name) rows) → option_map (λ (x : Declared). x.fields) found ≡ declared_by rows db design name
+  pub found_by : (found : Option Declared) (rows : List Row) → found ≡ option_map declared_at (find (is_declaration_of db design name) rows) → option_map (λ (x : Declared). x.fields) found ≡ declared_by rows db design name
   found_by found rows is = ap (option_map (λ (x : Declared). x.fields)) is ∙ fields_at (find (is_declaration_of db design name) rows)
     where
       fields_at : (o : Option Row) → option_map (λ (x : Declared). x.fields) (option_map declared_at o) ≡ option_map fields_of o
       fields_at None = refl
       fields_at (Some r) = refl
 
+  -- where it has these fields, or is not declared and is not to be, nothing is done
   pub unchanged : (sees : Documents) (fields : Option (List (List ℕ))) (found : Option Declared) (a : Database) → IsFoundIn declares sees db design name found a → option_map (λ (x : Declared). x.fields) found ≡ fields
-      → IsRebuilt (with_index declares db design name fields) sees a a
+      → IsCleared declares sees db design name fields a a
   unchanged sees fields found a fit same = record {
-    indexed = alike declares sees a.trees fit.fit.indexed (with_index declares db design name fields) sees
-        (with_own fields (sym (fit.fit.indexed.declared db design name) ∙ sym (found_by found (a.trees decls_tree) fit.found_is) ∙ same)) (λ d id. refl);
-    only = indexes_itself a;
+    rebuilt = record { indexed = record { decls = fit.fit.indexed.decls; declared = λ d o n. refl; entries = fit.fit.indexed.entries }; only = indexes_itself a };
+    others = λ d o n out. fit.fit.indexed.declared d o n;
+    own = λ has is. sym same ∙ found_by found (a.trees decls_tree) fit.found_is ∙ is;
   }
 
-  -- what is left after it was taken out is fit for another
-  pub then_undeclared : (sees : Documents) (a b : Database) → IsRebuildable declares sees db a → IsRebuilt (with_index declares db design name None) sees a b → IsUndeclared (with_index declares db design name None) sees db design name b
-  then_undeclared sees a b fit out = record {
-    store = store_rebuilt a b fit.store out.only;
-    indexed = out.indexed;
-    seen = λ id. fit.seen id ∙ sym (seen_rebuilt a b fit.store.schema_is out.only db id);
-    none = own_then None;
-  }
-
-  pub then_put : (sees : Documents) (fields : Option (List (List ℕ))) (a b c : Database) → IsRebuilt (with_index declares db design name None) sees a b → IsRebuilt (with_index (with_index declares db design name None) db design name fields) sees b c
-      → IsRebuilt (with_index declares db design name fields) sees a c
-  then_put sees fields a b c out put = record {
-    indexed = alike (with_index (with_index declares db design name None) db design name fields) sees c.trees put.indexed (with_index declares db design name fields) sees (with_then None fields) (λ d id. refl);
-    only = indexes_then a b c out.only put.only;
+  -- and where it was taken out, it is not declared
+  pub taken : (sees : Documents) (fields : Option (List (List ℕ))) (a b : Database) → IsRebuilt (with_index declares db design name None) sees a b → IsCleared declares sees db design name fields a b
+  taken sees fields a b out = record {
+    rebuilt = record { indexed = record { decls = out.indexed.decls; declared = λ d o n. refl; entries = out.indexed.entries }; only = out.only };
+    others = λ d o n other. out.indexed.declared d o n ∙ ap (λ c. if c then None else declares d o n) other;
+    own = λ has is. absurd (let gone = sym (own_then None) ∙ sym (out.indexed.declared db design name) ∙ is in cc);
   }
 
   -- the row that was found, by its number
@@ -144,28 +114,104 @@ rebuildable declares others sees db a b fit made = record {
 pub rebuilt_as : (declares others : Declarations) (sees : Documents) (a b : Database) → ((d : ℤ) (o n : List ℕ) → declares d o n ≡ others d o n) → IsRebuilt declares sees a b → IsRebuilt others sees a b
 rebuilt_as declares others sees a b same h = record { indexed = alike declares sees b.trees h.indexed others sees same (λ d id. refl); only = h.only }
 
-pub rebuilt_then : (declares others : Declarations) (sees : Documents) (a b c : Database) → IsRebuilt declares sees a b → IsRebuilt others sees b c → IsRebuilt others sees a c
-rebuilt_then declares others sees a b c h k = record { indexed = k.indexed; only = indexes_then a b c h.only k.only }
+-- ---- those that have other fields are taken out
 
-module _ (declares : Declarations) (db : ℤ) (design : List ℕ) (fields : List ℕ → Option (List (List ℕ))) where
-  pub with_none : (d : ℤ) (o n : List ℕ) → declares d o n ≡ with_names declares db design fields [] d o n
-  with_none d o n = go (int_eq d db) (bytes_eq o design)
-    where
-      go : (b c : Bool) → declares d o n ≡ (if (b && (c && false)) then fields n else declares d o n)
-      go true true = refl
-      go true false = refl
-      go false c = refl
+module _ (declares : Declarations) (sees : Documents) (db : ℤ) (design : List ℕ) (fields : List ℕ → Option (List (List ℕ))) where
+  pub cleared_none : (a : Database) → IsRebuildable declares sees db a → AreCleared declares sees db design fields [] a a
+  cleared_none a fit = record {
+    rebuilt = record { indexed = record { decls = fit.indexed.decls; declared = λ d o n. refl; entries = fit.indexed.entries }; only = indexes_itself a };
+    others = λ d o n out. fit.indexed.declared d o n;
+    own = λ n is. absurd (cc);
+  }
+
+  -- what is left is fit for the next
+  pub cleared_fit : (names : List (List ℕ)) (a b : Database) → IsRebuildable declares sees db a → AreCleared declares sees db design fields names a b → IsRebuildable (declared_by (b.trees decls_tree)) sees db b
+  cleared_fit names a b fit made = rebuildable declares (declared_by (b.trees decls_tree)) sees db a b fit made.rebuilt
 
   -- one name more
-  pub with_more : (names : List (List ℕ)) (name : List ℕ) (d : ℤ) (o n : List ℕ) → with_index (with_names declares db design fields names) db design name (fields name) d o n ≡ with_names declares db design fields (names ++ name ∷ []) d o n
-  with_more names name d o n =
-      go (int_eq d db) (bytes_eq o design) (bytes_eq n name) refl (list_any (bytes_eq n) names)
-      ∙ ap (λ b. if (int_eq d db && (bytes_eq o design && b)) then fields n else declares d o n) (sym (list_any-append (bytes_eq n) names (name ∷ [])))
+  pub cleared_more : (names : List (List ℕ)) (name : List ℕ) (a b c : Database) → AreCleared declares sees db design fields names a b → IsCleared (declared_by (b.trees decls_tree)) sees db design name (fields name) b c
+      → AreCleared declares sees db design fields (names ++ name ∷ []) a c
+  cleared_more names name a b c first later = record {
+    rebuilt = record { indexed = later.rebuilt.indexed; only = indexes_then a b c first.rebuilt.only later.rebuilt.only };
+    others = λ d o n out.
+        let parts = apart (int_eq d db) (bytes_eq o design) (list_any (bytes_eq n) names) (bytes_eq n name) (sym (ap (λ w. int_eq d db && (bytes_eq o design && w)) (list_any-append (bytes_eq n) names (name ∷ []))) ∙ out) in
+        later.others d o n parts.1 ∙ first.others d o n parts.0;
+    own = λ n is has there. go n has there (bytes_eq n name) refl (sym (list_any-append (bytes_eq n) names (name ∷ [])) ∙ is);
+  }
     where
-      go : (x y z : Bool) → bytes_eq n name ≡ z → (w : Bool) → (if (x && (y && z)) then fields name else (if (x && (y && w)) then fields n else declares d o n)) ≡ (if (x && (y && (w || (z || false)))) then fields n else declares d o n)
-      go false y z is w = refl
-      go true false z is w = refl
-      go true true true is true = ap fields (sym ((bytes_eq-Decides n name).0 is))
-      go true true true is false = ap fields (sym ((bytes_eq-Decides n name).0 is))
-      go true true false is true = refl
-      go true true false is false = refl
+      apart : (x y z w : Bool) → (x && (y && (z || (w || false)))) ≡ false → ((x && (y && z)) ≡ false) × ((x && (y && w)) ≡ false)
+      apart false y z w out = (refl, refl)
+      apart true false z w out = (refl, refl)
+      apart true true true w out = absurd (cc)
+      apart true true false true out = absurd (cc)
+      apart true true false false out = (refl, refl)
+
+      other_name : (x y : Bool) → (x && (y && false)) ≡ false
+      other_name true true = refl
+      other_name true false = refl
+      other_name false y = refl
+
+      go : (n : List ℕ) (has : List (List ℕ)) → declared_by (c.trees decls_tree) db design n ≡ Some has → (w : Bool) → bytes_eq n name ≡ w → (list_any (bytes_eq n) names || (w || false)) ≡ true → fields n ≡ Some has
+      go n has there true own is =
+          let same : n ≡ name = (bytes_eq-Decides n name).0 own in
+          ap fields same ∙ later.own has ((λ j. declared_by (c.trees decls_tree) db design (sym same j)) ∙ there)
+      go n has there false own is =
+          let out = ap (λ w. int_eq db db && (bytes_eq design design && w)) own ∙ other_name (int_eq db db) (bytes_eq design design) in
+          first.own n (or_none (list_any (bytes_eq n) names) is) has (sym (later.others db design n out) ∙ there)
+        where
+          or_none : (z : Bool) → (z || (false || false)) ≡ true → z ≡ true
+          or_none true is = refl
+          or_none false is = is
+
+  -- what is left then are the names of which none has other fields
+  pub partly : (names : List (List ℕ)) (a b : Database) → IsRebuildable declares sees db a → AreCleared declares sees db design fields names a b
+      → ArePartly (with_names declares db design fields names) sees db design fields names [] b
+  partly names a b fit made = record {
+    store = store_rebuilt a b fit.store made.rebuilt.only;
+    decls = made.rebuilt.indexed.decls;
+    rest = λ d o n out. made.others d o n out ∙ sym (ap (λ w. if w then fields n else declares d o n) out);
+    part = λ n has is. go n has is (list_any (bytes_eq n) names) refl;
+    due = all_weaker (λ n. list_any (bytes_eq n) names ≡ true) (λ n. with_names declares db design fields names db design n ≡ fields n) (λ n is. named n true is) names (each_named names);
+    rows = tt;
+    numbers = tt;
+    entries = entries_as (is_due sees (b.trees decls_tree)) (without_numbers (is_due sees (b.trees decls_tree)) []) (b.trees entries_tree) (λ m k i. sym (all_there (is_due sees (b.trees decls_tree) m k i))) made.rebuilt.indexed.entries;
+    seen = λ id. fit.seen id ∙ sym (seen_rebuilt a b fit.store.schema_is made.rebuilt.only db id);
+  }
+    where
+      all_there : (w : Bool) → (w && not false) ≡ w
+      all_there true = refl
+      all_there false = refl
+
+      named : (n : List ℕ) (w : Bool) → list_any (bytes_eq n) names ≡ w → with_names declares db design fields names db design n ≡ (if w then fields n else declares db design n)
+      named n w is = λ j. if (same_number db db refl j && (same_bytes design design refl j && is j)) then fields n else declares db design n
+
+      go : (n : List ℕ) (has : List (List ℕ)) → declared_by (b.trees decls_tree) db design n ≡ Some has → (w : Bool) → list_any (bytes_eq n) names ≡ w → with_names declares db design fields names db design n ≡ Some has
+      go n has is true own = named n true own ∙ made.own n own has is
+      go n has is false own =
+          named n false own ∙ sym (made.others db design n (λ j. same_number db db refl j && (same_bytes design design refl j && own j))) ∙ is
+
+      each_named : (all : List (List ℕ)) → AllByRecursion (λ n. list_any (bytes_eq n) all ≡ true) all
+      each_named [] = tt
+      each_named (n ∷ all) = (
+        ap (λ w. w || list_any (bytes_eq n) all) (same_bytes n n refl),
+        all_weaker (λ m. list_any (bytes_eq m) all ≡ true) (λ m. (bytes_eq m n || list_any (bytes_eq m) all) ≡ true) (λ m is. later_named (bytes_eq m n) is) all (each_named all),
+      )
+        where
+          later_named : (w : Bool) {z : Bool} → z ≡ true → (w || z) ≡ true
+          later_named true is = refl
+          later_named false is = is
+
+-- these names, and then those
+pub with_both : (declares : Declarations) (db : ℤ) (design : List ℕ) (fields : List ℕ → Option (List (List ℕ))) (names others : List (List ℕ)) (d : ℤ) (o n : List ℕ)
+    → with_names declares db design fields (names ++ others) d o n ≡ with_names (with_names declares db design fields names) db design fields others d o n
+with_both declares db design fields names others d o n =
+    ap (λ w. if (int_eq d db && (bytes_eq o design && w)) then fields n else declares d o n) (list_any-append (bytes_eq n) names others)
+    ∙ go (int_eq d db) (bytes_eq o design) (list_any (bytes_eq n) names) (list_any (bytes_eq n) others)
+  where
+    go : (x y z w : Bool) → (if (x && (y && (z || w))) then fields n else declares d o n) ≡ (if (x && (y && w)) then fields n else (if (x && (y && z)) then fields n else declares d o n))
+    go false y z w = refl
+    go true false z w = refl
+    go true true true true = refl
+    go true true true false = refl
+    go true true false true = refl
+    go true true false false = refl

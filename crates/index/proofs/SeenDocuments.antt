@@ -8,7 +8,6 @@ use Rattle.std.specs.Ordering.{eq_by_cmp}
 use Rattle.std.specs.Prelude.{option_and_then}
 use Rattle.store.specs.Indexes.{queried_document, shown_by}
 use Rattle.store.specs.Pages.{live_rev, live_rev_by}
-use Rattle.store.specs.Winning.{IsHeldSo}
 use Rattle.tables.proofs.HeldWinners.{winner_is_held}
 use Rattle.tables.proofs.Laid.{shown_revisions, stored_winner}
 use Rattle.tables.proofs.ListingRows.{won}

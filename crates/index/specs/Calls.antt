@@ -1,6 +1,6 @@
 -- The words of the contracts, at a connection.
 -- This server's own: what a statement leaves is said by `tables`.
-use Rattle.std.specs.Prelude.{◌≡◌, ◌≢◌, ⊤, true, false, ℕ, ℤ, IsTrue, List, filter, map, Option, Some, option_map, Result, IfOk, OnOk}
+use Rattle.std.specs.Prelude.{◌≡◌, ◌≢◌, ⊤, true, false, ℕ, ℤ, IsTrue, List, filter, map, Option, Some, Result, IfOk, OnOk}
 use Rattle.std.specs.List.{AllByRecursion}
 use Rattle.couch_json.specs.Value.{Value}
 use Rattle.couch_json.specs.View.{view}

@@ -1,6 +1,6 @@
 -- What a design document's declarations make of index rows.
 -- This server's own: each name is set apart, those that the rows have and those that the body declares.
-use Rattle.std.specs.Prelude.{ℕ, ℤ, Bool, true, ◌&&◌, bytes_eq, codes, if◌then◌else◌, List, [], ◌∷◌, Option, None, Some, Result}
+use Rattle.std.specs.Prelude.{◌≡◌, ℕ, ℤ, Bool, false, true, ◌&&◌, bytes_eq, codes, if◌then◌else◌, List, [], ◌∷◌, Option, None, Some, Result}
 use Rattle.std.specs.List.{list_any}
 use Rattle.std.specs.Ordering.{int_eq}
 use Rattle.couch_json.specs.Value.{Value, Members, no_members, member, member_of}
@@ -8,9 +8,12 @@ use Rattle.policy.specs.DesignDocuments.{is_index_object}
 use Rattle.policy.specs.Security.{is_absent_or}
 use Rattle.sqlite.specs.Held.{Held}
 use Rattle.sqlite_trees.specs.declared.store.Store.{Ghosts}
-use Rattle.index.specs.Declaring.{IsRebuildable, IsRebuilt}
+use Rattle.sqlite.specs.Effect.{Database}
+use Rattle.tables.specs.Schema.{decls_tree}
+use Rattle.index.specs.Declaring.{ArePartly, ArePartlySet, IsRebuildable, IsRebuilt}
 use Rattle.index.specs.Meaning.{Declarations, Documents, declared_if, with_declared}
-use Rattle.index.specs.Rows.{design_of, is_at_home}
+use Rattle.index.specs.Rows.{declared_by, design_of, is_at_home}
+use Rattle.index.specs.Shown.{Declared}
 use Rattle.index.specs.Steps.{Steps}
 use Rattle.sqlite_value.specs.Order.{Row, bytes, column}
 use Rattle.tree.specs.ShownDocument.{members_in}
@@ -30,6 +33,26 @@ abbrev pub Rebuilds : {S X E : Type 0} → Ghosts S → ℤ → List ℕ → Opt
 Rebuilds g db design body old new r =
     (declares : Declarations) (sees : Documents)
     → Steps g (IsRebuildable declares sees db) (IsRebuilt (with_declared declares db design (declared_if body)) sees) old new r
+
+-- ---- steps of it
+
+-- each index of these names of a design document is as the body declares it, or is not declared; each other one is declared as it was
+pub record AreCleared (declares : Declarations) (sees : Documents) (db : ℤ) (design : List ℕ) (fields : List ℕ → Option (List (List ℕ))) (names : List (List ℕ)) (old new : Database) : Type 0 where
+  pub rebuilt : IsRebuilt (declared_by (new.trees decls_tree)) sees old new
+  pub others : (d : ℤ) (other n : List ℕ) → (int_eq d db && (bytes_eq other design && list_any (bytes_eq n) names)) ≡ false → declared_by (new.trees decls_tree) d other n ≡ declares d other n
+  pub own : (n : List ℕ) → list_any (bytes_eq n) names ≡ true → (has : List (List ℕ)) → declared_by (new.trees decls_tree) db design n ≡ Some has → fields n ≡ Some has
+
+-- The indexes of these names that have other fields than the body declares are not declared any more.
+abbrev pub ClearsNames : {S X E : Type 0} → Ghosts S → ℤ → List ℕ → Option Value → List (List ℕ) → Held S → Held S → Result X E → Type 0
+ClearsNames g db design body names old new r =
+    (declares : Declarations) (sees : Documents)
+    → Steps g (IsRebuildable declares sees db) (AreCleared declares sees db design (declared_if body) names) old new r
+
+-- The indexes of these names that are missing are declared as the body declares them, and are among the fresh ones.
+abbrev pub DeclaresNames : {S X E : Type 0} → Ghosts S → ℤ → List ℕ → Option Value → List (List ℕ) → List Declared → List Declared → Held S → Held S → Result X E → Type 0
+DeclaresNames g db design body names before after old new r =
+    (declares : Declarations) (sees : Documents)
+    → Steps g (ArePartly declares sees db design (declared_if body) names before) (ArePartlySet declares sees db design (declared_if body) [] after) old new r
 
 -- ---- names
 

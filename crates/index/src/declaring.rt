@@ -1,6 +1,6 @@
 //! One index more, and one fewer.
 
-ghost use Rattle.std.specs.Prelude.{◌≡◌, IfErr, IfOk, IsUtf8, filter, map, option_map, string_bytes, true};
+ghost use Rattle.std.specs.Prelude.{◌≡◌, ◌∷◌, ℕ, IfErr, IfOk, IsUtf8, List, Option, Some, filter, map, option_map, string_bytes, true};
 ghost use Rattle.std.specs.List.{AllByRecursion};
 ghost use Rattle.couch_json.specs.FieldPath.{is_field_path};
 ghost use Rattle.couch_json.specs.Value.{array, text};
@@ -8,7 +8,7 @@ ghost use Rattle.couch_json.specs.View.{items_view, view};
 ghost use Rattle.tables.specs.Calls.{AsksInside, LooksInside, ReadsInside, Stands};
 ghost use Rattle.sqlite_value.specs.Order as order;
 ghost use Rattle.index.specs.Calls.{IsRefused};
-ghost use Rattle.index.specs.Declaring.{Declares, FindsDeclared, FindsStored, HasDeclared, IsRebuildable, IsUndeclared, PutsIn, SetsIndex, TakesOut, Undeclares};
+ghost use Rattle.index.specs.Declaring.{AddsFresh, ArePartly, ClearsIndex, Declares, DeclaresMissing, FindsDeclared, FindsStored, HasDeclared, IsMissing, IsRebuildable, TakesOut, TellsDeclared, Undeclares};
 ghost use Rattle.index.specs.Layout.{HasIndexRows};
 ghost use Rattle.index.specs.Meaning.{Declarations, Documents};
 ghost use Rattle.index.specs.Steps.{AreFit};
@@ -20,7 +20,6 @@ use crate::declaration::Declaration;
 use crate::declarations::{delete_declaration, insert_declaration};
 use crate::entries::clear_entries;
 use crate::fault::IndexFault;
-use crate::filling::fill_index;
 use crate::finding::first_declaration;
 use couch_json::{FieldPath, Got, Json, canon};
 use sqlite::{Alter, Error, Row, Transaction, params};
@@ -36,24 +35,25 @@ pub(crate) fn undeclare<S: Alter>(tx: &mut Transaction<'_, S>, number: &i64) -> 
     delete_declaration(tx, number)
 }
 
-/// Declares an index under the next number, and fills it.
-pub(crate) fn declare<S: Alter>(
+/// Declares an index under the next number. It has no entries.
+fn declare<S: Alter>(
     alloc: Global,
     tx: &mut Transaction<'_, S>,
     db: &i64,
     design: &[u8],
     name: &[u8],
     fields: &[FieldPath],
-) -> Result<(), IndexFault>
+) -> Result<Declaration, IndexFault>
     ensures same_reference { tx.new.conn.ghost_name ≡ tx.old.conn.ghost_name }
+    ensures paths { AllByRecursion (λ path. (is_field_path path ≡ true) × IsUtf8 path) fields.now }
     ensures declares { Declares S.Store db.now design.now name.now fields.now tx.old.conn.now tx.new.conn.now result }
-    ensures err { (declares : Declarations) (sees : Documents) → IfErr result (IsRefused (AreFit S.Store (IsUndeclared declares sees db.now design.now name.now) tx.old.conn.now tx.new.conn.now)) }
+    ensures tells { TellsDeclared S.Store db.now design.now name.now fields.now tx.old.conn.now tx.new.conn.now result }
+    ensures err { IfErr result (IsRefused (AreFit S.Store (IsMissing db.now design.now name.now) tx.old.conn.now tx.new.conn.now)) }
 {
     walk_fields(fields);
     let text = spell_fields(alloc, fields)?;
     insert_declaration(tx, db, design, name, text.as_str())?;
-    let declaration = find_declared(alloc, tx, db, design, name)?;
-    fill_index(alloc, tx, db, &declaration)
+    find_declared(alloc, tx, db, design, name)
 }
 
 /// Returns the row of the index of this name that a design document declares, if there is one, in a
@@ -74,8 +74,8 @@ fn rows_of_index_in<S: Alter>(
     )
 }
 
-/// Lets an index have these fields, or takes it out where there are none; nothing is done where it is so.
-pub(crate) fn set_index<S: Alter>(
+/// Takes out an index where it has other fields than these, or where there are none.
+pub(crate) fn clear_index<S: Alter>(
     alloc: Global,
     tx: &mut Transaction<'_, S>,
     db: &i64,
@@ -84,7 +84,7 @@ pub(crate) fn set_index<S: Alter>(
     fields: &Option<Vec<FieldPath>>,
 ) -> Result<(), IndexFault>
     ensures same_reference { tx.new.conn.ghost_name ≡ tx.old.conn.ghost_name }
-    ensures sets { SetsIndex S.Store db.now design.now name.now (option_map (λ paths. paths.items) fields.now) tx.old.conn.now tx.new.conn.now result }
+    ensures clears { ClearsIndex S.Store db.now design.now name.now (option_map (λ paths. paths.items) fields.now) tx.old.conn.now tx.new.conn.now result }
     ensures err { (declares : Declarations) (sees : Documents) → IfErr result (IsRefused (AreFit S.Store (IsRebuildable declares sees db.now) tx.old.conn.now tx.new.conn.now)) }
 {
     let found = find_stored(alloc, tx, db, design, name)?;
@@ -92,7 +92,70 @@ pub(crate) fn set_index<S: Alter>(
         return Ok(());
     }
     take_out(tx, db, design, name, &found)?;
-    put_in(alloc, tx, db, design, name, fields)
+    Ok(())
+}
+
+/// Declares an index where it is missing and is to have fields. It is one more of the fresh ones, which
+/// have no entries.
+pub(crate) fn declare_missing<S: Alter>(
+    alloc: Global,
+    tx: &mut Transaction<'_, S>,
+    db: &i64,
+    design: &[u8],
+    name: &[u8],
+    fields: &Option<Vec<FieldPath>>,
+    fresh: &mut Vec<Declaration>,
+) -> Result<(), IndexFault>
+    ensures same_reference { tx.new.conn.ghost_name ≡ tx.old.conn.ghost_name }
+    ensures declares { DeclaresMissing S.Store db.now design.now name.now (option_map (λ paths. paths.items) fields.now) (map declared fresh.old.items) (map declared fresh.new.items) tx.old.conn.now tx.new.conn.now result }
+    ensures err { (declares : Declarations) (sees : Documents) (f : List ℕ → Option (List (List ℕ))) (left : List (List ℕ))
+        → IfErr result (IsRefused (AreFit S.Store (ArePartly declares sees db.now design.now f (name.now ∷ left) (map declared fresh.old.items)) tx.old.conn.now tx.new.conn.now)) }
+{
+    match fields {
+        Some(fields) => declare_wanted(alloc, tx, db, design, name, fields, fresh),
+        None => Ok(()),
+    }
+}
+
+/// Declares an index with these fields, where it is missing.
+fn declare_wanted<S: Alter>(
+    alloc: Global,
+    tx: &mut Transaction<'_, S>,
+    db: &i64,
+    design: &[u8],
+    name: &[u8],
+    fields: &[FieldPath],
+    fresh: &mut Vec<Declaration>,
+) -> Result<(), IndexFault>
+    ensures same_reference { tx.new.conn.ghost_name ≡ tx.old.conn.ghost_name }
+    ensures declares { DeclaresMissing S.Store db.now design.now name.now (Some fields.now) (map declared fresh.old.items) (map declared fresh.new.items) tx.old.conn.now tx.new.conn.now result }
+    ensures err { (declares : Declarations) (sees : Documents) (f : List ℕ → Option (List (List ℕ))) (left : List (List ℕ))
+        → IfErr result (IsRefused (AreFit S.Store (ArePartly declares sees db.now design.now f (name.now ∷ left) (map declared fresh.old.items)) tx.old.conn.now tx.new.conn.now)) }
+{
+    let found = find_stored(alloc, tx, db, design, name)?;
+    match found {
+        Some(_stored) => Ok(()),
+        None => add_fresh(alloc, tx, db, design, name, fields, fresh),
+    }
+}
+
+/// Declares an index with these fields, which is missing.
+fn add_fresh<S: Alter>(
+    alloc: Global,
+    tx: &mut Transaction<'_, S>,
+    db: &i64,
+    design: &[u8],
+    name: &[u8],
+    fields: &[FieldPath],
+    fresh: &mut Vec<Declaration>,
+) -> Result<(), IndexFault>
+    ensures same_reference { tx.new.conn.ghost_name ≡ tx.old.conn.ghost_name }
+    ensures adds { AddsFresh S.Store db.now design.now name.now fields.now (map declared fresh.old.items) (map declared fresh.new.items) tx.old.conn.now tx.new.conn.now result }
+    ensures err { IfErr result (IsRefused (AreFit S.Store (IsMissing db.now design.now name.now) tx.old.conn.now tx.new.conn.now)) }
+{
+    let declaration = declare(alloc, tx, db, design, name, fields)?;
+    fresh.push(declaration)?;
+    Ok(())
 }
 
 /// Tells whether the index that was found has these fields, or is missing where there are none.
@@ -134,25 +197,6 @@ fn take_out<S: Alter>(
 {
     match found {
         Some(declaration) => undeclare(tx, &declaration.number),
-        None => Ok(()),
-    }
-}
-
-/// Declares an index with these fields, if there are any.
-fn put_in<S: Alter>(
-    alloc: Global,
-    tx: &mut Transaction<'_, S>,
-    db: &i64,
-    design: &[u8],
-    name: &[u8],
-    fields: &Option<Vec<FieldPath>>,
-) -> Result<(), IndexFault>
-    ensures same_reference { tx.new.conn.ghost_name ≡ tx.old.conn.ghost_name }
-    ensures puts { PutsIn S.Store db.now design.now name.now (option_map (λ paths. paths.items) fields.now) tx.old.conn.now tx.new.conn.now result }
-    ensures err { (declares : Declarations) (sees : Documents) → IfErr result (IsRefused (AreFit S.Store (IsUndeclared declares sees db.now design.now name.now) tx.old.conn.now tx.new.conn.now)) }
-{
-    match fields {
-        Some(fields) => declare(alloc, tx, db, design, name, fields),
         None => Ok(()),
     }
 }

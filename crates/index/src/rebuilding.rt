@@ -1,6 +1,6 @@
 //! The indexes of a design document, after another body of it is the winner's.
 
-ghost use Rattle.std.specs.Prelude.{◌≡◌, IfErr, IfOk, IfSome, Some, filter, map, option_map, true, ⊤};
+ghost use Rattle.std.specs.Prelude.{◌≡◌, ◌++◌, ◌∷◌, ℕ, IfErr, IfOk, IfSome, List, Option, Some, filter, map, option_map, true, ⊤};
 ghost use Rattle.std.specs.List.{AllByRecursion};
 ghost use Rattle.couch_json.specs.View.{members_view, view};
 ghost use Rattle.policy.specs.DesignDocuments.{is_index};
@@ -8,16 +8,18 @@ ghost use Rattle.store.specs.Indexes.{declared_index, fields_in};
 ghost use Rattle.tables.specs.Calls.{ReadsInside};
 ghost use Rattle.tables.specs.Schema.{decls_tree};
 ghost use Rattle.index.specs.Calls.{IsRefused};
-ghost use Rattle.index.specs.Declaring.{IsRebuildable, SetsIndex};
+ghost use Rattle.index.specs.Declaring.{ArePartly, ClearsIndex, DeclaresMissing, IsRebuildable};
 ghost use Rattle.index.specs.Meaning.{Declarations, Documents, declared_if};
-ghost use Rattle.index.specs.Rebuilding.{Rebuilds, SetsNames, declared_names, has_good_indexes, is_of_design, names_of, shown_name};
+ghost use Rattle.index.specs.Rebuilding.{ClearsNames, DeclaresNames, Rebuilds, SetsNames, declared_names, has_good_indexes, is_of_design, names_of, shown_name};
 ghost use Rattle.index.specs.Layout.{HasIndexRows};
 ghost use Rattle.index.specs.Rows.{shown_declaration};
-ghost use Rattle.index.specs.Shown.{IsShownDeclaration};
+ghost use Rattle.index.specs.Shown.{IsShownDeclaration, declared};
 ghost use Rattle.index.specs.Steps.{AreFit, WasFit};
 
-use crate::declaring::set_index;
+use crate::declaration::Declaration;
+use crate::declaring::{clear_index, declare_missing};
 use crate::fault::IndexFault;
+use crate::filling::fill_indexes;
 use crate::reading::read_paths;
 use couch_json::{FieldPath, Got, Json, NameMap};
 use policy::check_indexes;
@@ -44,8 +46,16 @@ pub fn rebuild<S: Alter>(
     let stored = list_stored(alloc, rows)?;
     let declared = list_declared(alloc, body)?;
     let good = check_declared(alloc, body)?;
-    set_names(alloc, tx, db, design, body, good, &stored)?;
-    set_names(alloc, tx, db, design, body, good, &declared)
+    let names = join_names(stored, declared)?;
+    set_names(alloc, tx, db, design, body, good, &names)
+}
+
+/// Joins two lists of names, the second behind the first.
+fn join_names(mut names: Vec<Vec<u8>>, mut others: Vec<Vec<u8>>) -> Got<Vec<Vec<u8>>>
+    ensures { IfOk result (λ all. all.items ≡ names.items ++ others.items) }
+{
+    names.append(&mut others)?;
+    Ok(names)
 }
 
 /// Returns the rows of the indexes that a design document declares, by their numbers: the number, the name
@@ -133,7 +143,8 @@ fn list_names(alloc: Global, members: &NameMap<Json>) -> Got<Vec<Vec<u8>>>
     Ok(names)
 }
 
-/// Sets the indexes of these names of a design document as its body declares them.
+/// Sets the indexes of these names of a design document as its body declares them. Those that are new are
+/// filled together.
 fn set_names<S: Alter>(
     alloc: Global,
     tx: &mut Transaction<'_, S>,
@@ -148,14 +159,35 @@ fn set_names<S: Alter>(
     ensures sets { SetsNames S.Store db.now design.now (option_map (λ v. view v.now) body.entry) (map (λ name. name.items) names.now) tx.old.conn.now tx.new.conn.now result }
     ensures err { (declares : Declarations) (sees : Documents) → IfErr result (IsRefused (AreFit S.Store (IsRebuildable declares sees db.now) tx.old.conn.now tx.new.conn.now)) }
 {
+    clear_names(alloc, tx, db, design, body, good, names)?;
+    let mut fresh = Vec::new(alloc);
+    declare_names(alloc, tx, db, design, body, good, names, &mut fresh)?;
+    fill_indexes(alloc, tx, db, &fresh)
+}
+
+/// Takes out the indexes of these names of a design document that have other fields than its body declares.
+fn clear_names<S: Alter>(
+    alloc: Global,
+    tx: &mut Transaction<'_, S>,
+    db: &i64,
+    design: &[u8],
+    body: Option<&Json>,
+    good: bool,
+    names: &[Vec<u8>],
+) -> Result<(), IndexFault>
+    requires { good ≡ has_good_indexes (option_map (λ v. view v.now) body) }
+    ensures same_reference { tx.new.conn.ghost_name ≡ tx.old.conn.ghost_name }
+    ensures clears { ClearsNames S.Store db.now design.now (option_map (λ v. view v.now) body.entry) (map (λ name. name.items) names.now) tx.old.conn.now tx.new.conn.now result }
+    ensures err { (declares : Declarations) (sees : Documents) → IfErr result (IsRefused (AreFit S.Store (IsRebuildable declares sees db.now) tx.old.conn.now tx.new.conn.now)) }
+{
     for name in names {
-        set_name(alloc, tx, db, design, body, good, name)?;
+        clear_name(alloc, tx, db, design, body, good, name)?;
     }
     Ok(())
 }
 
-/// Sets the index of this name of a design document as its body declares it.
-fn set_name<S: Alter>(
+/// Takes out the index of this name of a design document, where it has other fields than its body declares.
+fn clear_name<S: Alter>(
     alloc: Global,
     tx: &mut Transaction<'_, S>,
     db: &i64,
@@ -166,11 +198,56 @@ fn set_name<S: Alter>(
 ) -> Result<(), IndexFault>
     requires { good ≡ has_good_indexes (option_map (λ v. view v.now) body) }
     ensures same_reference { tx.new.conn.ghost_name ≡ tx.old.conn.ghost_name }
-    ensures sets { SetsIndex S.Store db.now design.now name.now (declared_if (option_map (λ v. view v.now) body.entry) name.now) tx.old.conn.now tx.new.conn.now result }
+    ensures clears { ClearsIndex S.Store db.now design.now name.now (declared_if (option_map (λ v. view v.now) body.entry) name.now) tx.old.conn.now tx.new.conn.now result }
     ensures err { (declares : Declarations) (sees : Documents) → IfErr result (IsRefused (AreFit S.Store (IsRebuildable declares sees db.now) tx.old.conn.now tx.new.conn.now)) }
 {
     let fields = read_declared(alloc, body, good, name)?;
-    set_index(alloc, tx, db, design, name, &fields)
+    clear_index(alloc, tx, db, design, name, &fields)
+}
+
+/// Declares the indexes of these names of a design document that are missing as its body declares them.
+/// They are among the fresh ones then, which have no entries.
+fn declare_names<S: Alter>(
+    alloc: Global,
+    tx: &mut Transaction<'_, S>,
+    db: &i64,
+    design: &[u8],
+    body: Option<&Json>,
+    good: bool,
+    names: &[Vec<u8>],
+    fresh: &mut Vec<Declaration>,
+) -> Result<(), IndexFault>
+    requires { good ≡ has_good_indexes (option_map (λ v. view v.now) body) }
+    ensures same_reference { tx.new.conn.ghost_name ≡ tx.old.conn.ghost_name }
+    ensures declares { DeclaresNames S.Store db.now design.now (option_map (λ v. view v.now) body.entry) (map (λ name. name.items) names.now) (map declared fresh.old.items) (map declared fresh.new.items) tx.old.conn.now tx.new.conn.now result }
+    ensures err { (declares : Declarations) (sees : Documents)
+        → IfErr result (IsRefused (AreFit S.Store (ArePartly declares sees db.now design.now (declared_if (option_map (λ v. view v.now) body.entry)) (map (λ name. name.items) names.now) (map declared fresh.old.items)) tx.old.conn.now tx.new.conn.now)) }
+{
+    for name in names {
+        declare_name(alloc, tx, db, design, body, good, name, fresh)?;
+    }
+    Ok(())
+}
+
+/// Declares the index of this name of a design document as its body declares it, where it is missing.
+fn declare_name<S: Alter>(
+    alloc: Global,
+    tx: &mut Transaction<'_, S>,
+    db: &i64,
+    design: &[u8],
+    body: Option<&Json>,
+    good: bool,
+    name: &[u8],
+    fresh: &mut Vec<Declaration>,
+) -> Result<(), IndexFault>
+    requires { good ≡ has_good_indexes (option_map (λ v. view v.now) body) }
+    ensures same_reference { tx.new.conn.ghost_name ≡ tx.old.conn.ghost_name }
+    ensures declares { DeclaresMissing S.Store db.now design.now name.now (declared_if (option_map (λ v. view v.now) body.entry) name.now) (map declared fresh.old.items) (map declared fresh.new.items) tx.old.conn.now tx.new.conn.now result }
+    ensures err { (declares : Declarations) (sees : Documents) (f : List ℕ → Option (List (List ℕ))) (left : List (List ℕ))
+        → IfErr result (IsRefused (AreFit S.Store (ArePartly declares sees db.now design.now f (name.now ∷ left) (map declared fresh.old.items)) tx.old.conn.now tx.new.conn.now)) }
+{
+    let fields = read_declared(alloc, body, good, name)?;
+    declare_missing(alloc, tx, db, design, name, &fields, fresh)
 }
 
 /// Reads the fields of the index that a body declares under this name, where there is a body. No body

@@ -1,99 +1,148 @@
-use Rattle.index.proofs.Common.{Err, IndexFault, List, Ok, [], ap, arith, length, map, map-append, option_map, refl, rules, state, sym, take, take_all, take_more, ℕ, ⊤, ◌++◌, ◌+◌, ◌∙◌, ◌∷◌, ◌≡◌}
+use Rattle.index.proofs.Common.{Err, HasEntries, IndexFault, List, Ok, [], ap, declared, decls_tree, is_due, map, option_map, rules, state, subst, sym, ℕ, ⊤, ◌≡◌}
 use Rattle.couch_json.specs.Value.{Value}
 use Rattle.couch_json.specs.View.{view}
-use Rattle.index.proofs.Rebuilt.{indexes_itself, rebuildable, rebuilt_as, rebuilt_then, with_more, with_none}
+use Rattle.index.proofs.Declared.{bare, filled}
+use Rattle.index.proofs.Going.{if_err}
+use Rattle.index.proofs.Rebuilt.{indexes_then, partly}
 use Rattle.index.proofs.Refusals.{refused_as, refused_then}
-use Rattle.index.proofs.StepLemmas.{steps_none, steps_so, steps_stop, steps_then}
-use Rattle.index.specs.Steps.{AreFit}
-use Rattle.index.specs.Declaring.{IsRebuildable, IsRebuilt, with_index}
+use Rattle.index.proofs.StepLemmas.{steps_stop, steps_then}
+use Rattle.index.specs.Declaring.{ArePartly, ArePartlySet, IsRebuildable, IsRebuilt}
+use Rattle.index.specs.Filling.{AreBare}
 use Rattle.index.specs.Meaning.{declared_if}
-use Rattle.index.specs.Rebuilding.{with_names}
-use Rattle.std.proofs.Common.{◌≤◌}
+use Rattle.index.specs.Rebuilding.{AreCleared, with_names}
+use Rattle.index.specs.Steps.{AreFit}
 use Rattle.index.proofs.rebuilding.set_names.Goals as goal
 
-pub loop-name-init : goal.loop-name-init
-loop-name-init g c = record {
-  same = refl;
-  so_far = λ declares sees.
-      let f = declared_if (option_map {U = Value} (λ v. view v.now) c.args.body) in
-      let none = with_names declares c.args.db.now c.args.design.now f [] in
-      steps_none g.S.Store (IsRebuildable declares sees c.args.db.now) (IsRebuilt none sees) c.args.tx.now.conn.now (Ok tt)
-      (λ fit. rebuilt_as declares none sees (state g.S.Store c.args.tx.now.conn.now).now (state g.S.Store c.args.tx.now.conn.now).now (with_none declares c.args.db.now c.args.design.now f)
-      (record { indexed = fit.indexed; only = indexes_itself (state g.S.Store c.args.tx.now.conn.now).now })) tt;
-}
-
-pub loop-name-preserved : goal.loop-name-preserved
-loop-name-preserved g c =
-    let inv = c.loop-name.invariant in
+pub returns-in_err-clear_names-clause-sets : goal.returns-in_err-clear_names-clause-sets
+returns-in_err-clear_names-clause-sets g c declares sees =
     let a = c.args.tx.now.conn.now in
-    let b = c.loop-name.tx.conn.now in
-    let e = c.set_name.new.tx.conn.now in
+    let m = c.clear_names.new.tx.conn.now in
+    let A = (state g.S.Store a).now in
+    let M = (state g.S.Store m).now in
     let db = c.args.db.now in
     let design = c.args.design.now in
     let f = declared_if (option_map {U = Value} (λ v. view v.now) c.args.body) in
-    let i = c.loop-name.name-index in
-    let done : List (List ℕ) = map (λ name. name.items) (take i c.args.names.now) in
-    let name : List ℕ = c.name-item.result.items in
-    let cut : map {B = List ℕ} (λ name. name.items) (take (i + 1) c.args.names.now) ≡ done ++ name ∷ [] =
-    ap (map (λ name. name.items)) (take_more c.args.names.now i c.name-item.result c.loop-name-test.true ∙ (λ j. take i c.args.names.now ++ sym c.name-item.is j ∷ []))
-    ∙ map-append (λ name. name.items) (take i c.args.names.now) (c.name-item.result ∷ []) in
-    record {
-      same = c.in_ok-set_name.ensures.same_reference ∙ inv.same;
-      so_far = λ declares sees.
-          let before = with_names declares db design f done in
-          let after = with_names declares db design f (map {B = List ℕ} (λ name. name.items) (take (i + 1) c.args.names.now)) in
-          let set = with_index before db design c.deref.result.now (f c.deref.result.now) in
-          steps_then g.S.Store {E = IndexFault} (IsRebuildable declares sees db) (IsRebuildable before sees db) (IsRebuilt before sees) (IsRebuilt set sees) (IsRebuilt after sees) a b e tt (Ok tt) (inv.so_far declares sees) (c.in_ok-set_name.ensures.sets before sees)
-          (λ was fit made. rebuildable declares before sees db (state g.S.Store a).now (state g.S.Store b).now fit made)
-          (λ was fit made got.
-          rebuilt_as set after sees (state g.S.Store a).now (state g.S.Store e).now
-          (λ d o n. (λ j. with_index before db design (c.deref.ensures.value j) (f (c.deref.ensures.value j)) d o n) ∙ with_more declares db design f done name d o n ∙ ap (λ ns. with_names declares db design f ns d o n) (sym cut))
-          (rebuilt_then before set sees (state g.S.Store a).now (state g.S.Store b).now (state g.S.Store e).now made got));
-    }
-
-pub returns-in_err-set_name-clause-sets : goal.returns-in_err-set_name-clause-sets
-returns-in_err-set_name-clause-sets g c declares sees =
-    let inv = c.loop-name.invariant in
-    let a = c.args.tx.now.conn.now in
-    let b = c.loop-name.tx.conn.now in
-    let e = c.set_name.new.tx.conn.now in
-    let db = c.args.db.now in
-    let design = c.args.design.now in
-    let f = declared_if (option_map {U = Value} (λ v. view v.now) c.args.body) in
-    let i = c.loop-name.name-index in
-    let before = with_names declares db design f (map {B = List ℕ} (λ name. name.items) (take i c.args.names.now)) in
-    let all = with_names declares db design f (map {B = List ℕ} (λ name. name.items) c.args.names.now) in
-    let fault = c.in_err-set_name.field-0.0 in
+    let names = map {B = List ℕ} (λ name. name.items) c.args.names.now in
+    let all = with_names declares db design f names in
+    let F = IsRebuildable declares sees db in
+    let fault = c.in_err-clear_names.field-0.0 in
     let is : c.from_residual.result ≡ Err fault = search rules in
-    steps_stop g.S.Store {X = Unit {0}} (IsRebuildable declares sees db) (λ p q. ⊤) (IsRebuilt all sees) a e fault fault c.from_residual.result is
-    (steps_then g.S.Store {E = IndexFault} (IsRebuildable declares sees db) (IsRebuildable before sees db) (IsRebuilt before sees) (IsRebuilt (with_index before db design c.deref.result.now (f c.deref.result.now)) sees) (λ p q. ⊤) a b e tt (Err fault)
-    (inv.so_far declares sees) (c.in_err-set_name.ensures.sets before sees)
-    (λ was fit made. rebuildable declares before sees db (state g.S.Store a).now (state g.S.Store b).now fit made) (λ was fit made got. tt))
+    steps_stop g.S.Store {X = Unit {0}} F (AreCleared declares sees db design f names) (IsRebuilt all sees) a m fault fault c.from_residual.result is (c.in_err-clear_names.ensures.clears declares sees)
+
+pub returns-in_err-clear_names-clause-err : goal.returns-in_err-clear_names-clause-err
+returns-in_err-clear_names-clause-err g c declares sees =
+    let a = c.args.tx.now.conn.now in
+    let m = c.clear_names.new.tx.conn.now in
+    let why = c.in_err-clear_names.field-0.0 in
+    let is : c.from_residual.result ≡ Err why = search rules in
+    refused_as (AreFit g.S.Store (IsRebuildable declares sees c.args.db.now) a m) c.from_residual.result why is (c.in_err-clear_names.ensures.err declares sees)
+
+pub returns-in_err-declare_names-clause-sets : goal.returns-in_err-declare_names-clause-sets
+returns-in_err-declare_names-clause-sets g c declares sees =
+    let a = c.args.tx.now.conn.now in
+    let m = c.clear_names.new.tx.conn.now in
+    let A = (state g.S.Store a).now in
+    let M = (state g.S.Store m).now in
+    let db = c.args.db.now in
+    let design = c.args.design.now in
+    let f = declared_if (option_map {U = Value} (λ v. view v.now) c.args.body) in
+    let names = map {B = List ℕ} (λ name. name.items) c.args.names.now in
+    let all = with_names declares db design f names in
+    let F = IsRebuildable declares sees db in
+    let n = c.declare_names.new.tx.conn.now in
+    let N = (state g.S.Store n).now in
+    let before = map declared c.new-fresh.result.items in
+    let none : before ≡ [] = search rules in
+    let after = map declared c.declare_names.new.fresh.items in
+    let fault = c.in_err-declare_names.field-0.0 in
+    let is : c.from_residual-in_err-declare_names.result ≡ Err fault = search rules in
+    steps_stop g.S.Store {X = Unit {0}} F (λ p q. ⊤) (IsRebuilt all sees) a n fault fault c.from_residual-in_err-declare_names.result is
+    (steps_then g.S.Store {E = IndexFault} F (ArePartly all sees db design f names before) (AreCleared declares sees db design f names) (ArePartlySet all sees db design f [] after) (λ p q. ⊤) a m n tt (Err fault)
+    (c.in_ok-clear_names.ensures.clears declares sees) (c.in_err-declare_names.ensures.declares all sees)
+    (λ was fit made. subst (λ xs. ArePartly all sees db design f names xs M) (sym none) (partly declares sees db design f names A M fit made)) (λ was fit made got. tt))
+
+pub returns-in_err-declare_names-clause-err : goal.returns-in_err-declare_names-clause-err
+returns-in_err-declare_names-clause-err g c declares sees =
+    let a = c.args.tx.now.conn.now in
+    let m = c.clear_names.new.tx.conn.now in
+    let A = (state g.S.Store a).now in
+    let M = (state g.S.Store m).now in
+    let db = c.args.db.now in
+    let design = c.args.design.now in
+    let f = declared_if (option_map {U = Value} (λ v. view v.now) c.args.body) in
+    let names = map {B = List ℕ} (λ name. name.items) c.args.names.now in
+    let all = with_names declares db design f names in
+    let F = IsRebuildable declares sees db in
+    let n = c.declare_names.new.tx.conn.now in
+    let N = (state g.S.Store n).now in
+    let before = map declared c.new-fresh.result.items in
+    let none : before ≡ [] = search rules in
+    let why = c.in_err-declare_names.field-0.0 in
+    let is : c.from_residual-in_err-declare_names.result ≡ Err why = search rules in
+    refused_as (AreFit g.S.Store F a n) c.from_residual-in_err-declare_names.result why is
+    (refused_then g.S.Store {E = IndexFault} F (ArePartly all sees db design f names before) (AreCleared declares sees db design f names) a m n tt why
+    (c.in_ok-clear_names.ensures.clears declares sees) (c.in_err-declare_names.ensures.declares all sees).asks
+    (λ was fit made. subst (λ xs. ArePartly all sees db design f names xs M) (sym none) (partly declares sees db design f names A M fit made)) (c.in_err-declare_names.ensures.err all sees))
 
 pub returns-clause-sets : goal.returns-clause-sets
 returns-clause-sets g c declares sees =
     let a = c.args.tx.now.conn.now in
-    let b = c.loop-name.tx.conn.now in
+    let m = c.clear_names.new.tx.conn.now in
+    let A = (state g.S.Store a).now in
+    let M = (state g.S.Store m).now in
     let db = c.args.db.now in
     let design = c.args.design.now in
     let f = declared_if (option_map {U = Value} (λ v. view v.now) c.args.body) in
-    let i = c.loop-name.name-index in
-    let none : length c.args.names.now ≤ i = omega (arith, c.loop-name-test.false) in
-    let before = with_names declares db design f (map {B = List ℕ} (λ name. name.items) (take i c.args.names.now)) in
-    let all = with_names declares db design f (map {B = List ℕ} (λ name. name.items) c.args.names.now) in
-    steps_so g.S.Store (IsRebuildable declares sees db) (IsRebuilt before sees) (IsRebuilt all sees) a b (Ok tt) (c.loop-name.invariant.so_far declares sees)
-    (λ fit made. rebuilt_as before all sees (state g.S.Store a).now (state g.S.Store b).now (λ d o n. ap (λ l. with_names declares db design f (map {B = List ℕ} (λ name. name.items) l) d o n) (take_all i c.args.names.now none)) made)
+    let names = map {B = List ℕ} (λ name. name.items) c.args.names.now in
+    let all = with_names declares db design f names in
+    let F = IsRebuildable declares sees db in
+    let n = c.declare_names.new.tx.conn.now in
+    let N = (state g.S.Store n).now in
+    let before = map declared c.new-fresh.result.items in
+    let none : before ≡ [] = search rules in
+    let after = map declared c.declare_names.new.fresh.items in
+    let e = c.fill_indexes.new.tx.conn.now in
+    let E = (state g.S.Store e).now in
+    let fresh = map declared c.deref.result.now in
+    let fresh_is : fresh ≡ after = ap (map declared) c.deref.ensures.value in
+    let due = is_due sees (N.trees decls_tree) in
+    let both =
+    steps_then g.S.Store {E = IndexFault} F (ArePartly all sees db design f names before) (AreCleared declares sees db design f names) (ArePartlySet all sees db design f [] after) (ArePartlySet all sees db design f [] after) a m n tt (Ok tt)
+    (c.in_ok-clear_names.ensures.clears declares sees) (c.in_ok-declare_names.ensures.declares all sees)
+    (λ was fit made. subst (λ xs. ArePartly all sees db design f names xs M) (sym none) (partly declares sees db design f names A M fit made))
+    (λ was fit made got. record { now = got.now; only = indexes_then A M N made.rebuilt.only got.only }) in
+    steps_then g.S.Store {E = IndexFault} F (AreBare db fresh due) (ArePartlySet all sees db design f [] after) (HasEntries due) (IsRebuilt all sees) a n e tt c.fill_indexes.result
+    both (c.fill_indexes.ensures.fills due)
+    (λ was fit made. subst (λ xs. AreBare db xs due N) (sym fresh_is) (bare all sees db design f after N made.now))
+    (λ was fit made got. let it = filled all sees db design f after N made.now E got in record { indexed = it.indexed; only = indexes_then A N E made.only it.only })
 
-pub returns-in_err-set_name-clause-err : goal.returns-in_err-set_name-clause-err
-returns-in_err-set_name-clause-err g c declares sees =
+pub returns-clause-err : goal.returns-clause-err
+returns-clause-err g c declares sees =
     let a = c.args.tx.now.conn.now in
-    let b = c.loop-name.tx.conn.now in
-    let e = c.set_name.new.tx.conn.now in
+    let m = c.clear_names.new.tx.conn.now in
+    let A = (state g.S.Store a).now in
+    let M = (state g.S.Store m).now in
     let db = c.args.db.now in
+    let design = c.args.design.now in
     let f = declared_if (option_map {U = Value} (λ v. view v.now) c.args.body) in
-    let before = with_names declares db c.args.design.now f (map {B = List ℕ} (λ name. name.items) (take c.loop-name.name-index c.args.names.now)) in
-    let why = c.in_err-set_name.field-0.0 in
-    let is : c.from_residual.result ≡ Err why = search rules in
-    refused_as (AreFit g.S.Store (IsRebuildable declares sees db) a e) c.from_residual.result why is
-    (refused_then g.S.Store {E = IndexFault} (IsRebuildable declares sees db) (IsRebuildable before sees db) (IsRebuilt before sees) a b e tt why (c.loop-name.invariant.so_far declares sees) (c.in_err-set_name.ensures.sets before sees).asks
-    (λ was fit made. rebuildable declares before sees db (state g.S.Store a).now (state g.S.Store b).now fit made) (c.in_err-set_name.ensures.err before sees))
+    let names = map {B = List ℕ} (λ name. name.items) c.args.names.now in
+    let all = with_names declares db design f names in
+    let F = IsRebuildable declares sees db in
+    let n = c.declare_names.new.tx.conn.now in
+    let N = (state g.S.Store n).now in
+    let before = map declared c.new-fresh.result.items in
+    let none : before ≡ [] = search rules in
+    let after = map declared c.declare_names.new.fresh.items in
+    let e = c.fill_indexes.new.tx.conn.now in
+    let fresh = map declared c.deref.result.now in
+    let fresh_is : fresh ≡ after = ap (map declared) c.deref.ensures.value in
+    let due = is_due sees (N.trees decls_tree) in
+    let both =
+    steps_then g.S.Store {E = IndexFault} F (ArePartly all sees db design f names before) (AreCleared declares sees db design f names) (ArePartlySet all sees db design f [] after) (ArePartlySet all sees db design f [] after) a m n tt (Ok tt)
+    (c.in_ok-clear_names.ensures.clears declares sees) (c.in_ok-declare_names.ensures.declares all sees)
+    (λ was fit made. subst (λ xs. ArePartly all sees db design f names xs M) (sym none) (partly declares sees db design f names A M fit made))
+    (λ was fit made got. record { now = got.now; only = indexes_then A M N made.rebuilt.only got.only }) in
+    if_err c.fill_indexes.result
+    (λ why h. refused_then g.S.Store {E = IndexFault} F (AreBare db fresh due) (ArePartlySet all sees db design f [] after) a n e tt why both (c.fill_indexes.ensures.fills due).asks
+    (λ was fit made. subst (λ xs. AreBare db xs due N) (sym fresh_is) (bare all sees db design f after N made.now)) h)
+    (c.fill_indexes.ensures.err due)

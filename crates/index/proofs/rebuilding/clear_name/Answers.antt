@@ -1,14 +1,14 @@
 use Rattle.index.proofs.Common.{Err, List, Option, rules, subst, ℕ, ⊤, ◌≡◌}
 use Rattle.index.proofs.Refusals.{refused_as}
 use Rattle.index.proofs.ShownDeclarations.{refused_of}
-use Rattle.index.specs.Declaring.{IsRebuildable, IsRebuilt, with_index}
+use Rattle.index.specs.Declaring.{IsCleared, IsRebuildable}
 use Rattle.index.specs.Steps.{AreFit, Steps}
-use Rattle.index.proofs.rebuilding.set_name.Goals as goal
+use Rattle.index.proofs.rebuilding.clear_name.Goals as goal
 
-pub returns-clause-sets : goal.returns-clause-sets
-returns-clause-sets g c declares sees =
-    subst (λ (o : Option (List (List ℕ))). Steps g.S.Store (IsRebuildable declares sees c.args.db.now) (IsRebuilt (with_index declares c.args.db.now c.args.design.now c.args.name.now o) sees) c.args.tx.now.conn.now c.set_index.new.tx.conn.now c.set_index.result)
-    c.in_ok-fields.ensures.ok (c.set_index.ensures.sets declares sees)
+pub returns-clause-clears : goal.returns-clause-clears
+returns-clause-clears g c declares sees =
+    subst (λ (o : Option (List (List ℕ))). Steps g.S.Store (IsRebuildable declares sees c.args.db.now) (IsCleared declares sees c.args.db.now c.args.design.now c.args.name.now o) c.args.tx.now.conn.now c.clear_index.new.tx.conn.now c.clear_index.result)
+    c.in_ok-fields.ensures.ok (c.clear_index.ensures.clears declares sees)
 
 pub returns-in_err-fields-clause-err : goal.returns-in_err-fields-clause-err
 returns-in_err-fields-clause-err g c declares sees =
@@ -18,4 +18,4 @@ returns-in_err-fields-clause-err g c declares sees =
     refused_as fit c.from_residual.result why is (refused_of ⊤ fit why (λ it. tt) c.in_err-fields.ensures.err)
 
 pub returns-clause-err : goal.returns-clause-err
-returns-clause-err g c declares sees = c.set_index.ensures.err declares sees
+returns-clause-err g c declares sees = c.clear_index.ensures.err declares sees
