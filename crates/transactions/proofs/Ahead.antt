@@ -151,7 +151,7 @@ databases_moved rows now d = record {
     ]
 
 -- a write leaves the rows of databases
-placed_dbs : (db sequence : ℤ) (w : DocumentWrite) (a b : Database) → a.schema ≡ schema → IsPlacedWrite db sequence w a b → b.trees dbs_tree ≡ a.trees dbs_tree
+pub placed_dbs : (db sequence : ℤ) (w : DocumentWrite) (a b : Database) → a.schema ≡ schema → IsPlacedWrite db sequence w a b → b.trees dbs_tree ≡ a.trees dbs_tree
 placed_dbs db sequence w a b is h =
     let one = revisions_changed (new_entries (history_in (a.trees revs_tree) db w.id) w.write) db w.id a h.inserted h.revisions in
     (leaves docs_tree _ h.inserted b (one.schema ∙ is) h.places).dbs (omega arith) ∙ (leaves revs_tree _ a h.inserted is one).dbs (omega arith)

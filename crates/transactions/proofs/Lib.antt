@@ -14,5 +14,6 @@ pub mod Redeclared
 pub mod DocumentWriting
 pub mod Committing
 pub mod Ahead
+pub mod OtherRows
 pub mod HeldHistories
 pub mod Lemmas

@@ -1,16 +1,17 @@
 -- Writes of a database that are committed together: when they may be done, and why they are not.
 -- This server's own: when writes are acceptable is said by `store`, and where they are kept by `tables`.
-use Rattle.std.specs.Prelude.{◌≡◌, ℕ, ℤ, IsTrue, List, filter, slice_get, Some, ⊤}
+use Rattle.std.specs.Prelude.{◌≡◌, ℕ, ℤ, IsTrue, List, filter, not, slice_get, Some, ⊤}
 use Rattle.sqlite_trees.specs.declared.store.Store.{Ghosts}
 use Rattle.sqlite_trees.specs.Tree.{Trees}
 use Rattle.sqlite_value.specs.Order.{Row}
+use Rattle.sqlite.specs.Effect.{Database}
 use Rattle.sqlite.specs.Held.{Held, state}
 use Rattle.sqlite.specs.State.{HasCleanDisk}
 use Rattle.store.specs.Contents.{AreAcceptable}
 use Rattle.store.specs.Plain.{with_addition}
 use Rattle.store.specs.Writing.{Addition, writings_in}
 use Rattle.tables.specs.Layout.{IsStore}
-use Rattle.tables.specs.Rows.{database_of, history_in, is_named, length_of, number_of}
+use Rattle.tables.specs.Rows.{database_of, has_number, history_in, is_named, length_of, number_of}
 use Rattle.tables.specs.Schema.{dbs_tree, revs_tree}
 use Rattle.tree.specs.History.{HistoryContent}
 use Rattle.transactions.specs.Reading.{IsLost}
@@ -24,6 +25,10 @@ pub record AreDue (all : List Addition) (name : List ℕ) (number : ℤ) (sequen
   pub numbered : number_of row ≡ number
   pub counted : length_of row ≡ sequence
   pub acceptable : AreAcceptable (database_of trees row) (writings_in (database_of trees row) all)
+
+-- the rows of all databases but the one of this number are as they were
+abbrev pub KeepsOthers : ℤ → Database → Database → Type 0
+KeepsOthers db old new = filter (λ r. not (has_number db r)) (new.trees dbs_tree) ≡ filter (λ r. not (has_number db r)) (old.trees dbs_tree)
 
 -- the disk returned what was written, and an open connection had tables that were laid out, of which this held
 abbrev pub IsSound : {S : Type 0} → Ghosts S → (Trees → Type 0) → Held S → Held S → Type 0

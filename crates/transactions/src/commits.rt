@@ -14,7 +14,7 @@ ghost use Rattle.tables.specs.Edits.{HasWritten, IsWrite};
 ghost use Rattle.tables.specs.Layout.{IsStore};
 ghost use Rattle.tables.specs.Rows.{database_of, history_in, length_of, number_of};
 ghost use Rattle.tables.specs.Schema.{revs_tree};
-ghost use Rattle.transactions.specs.Commits.{AreDue, IsSound, IsUnwritten, history_with};
+ghost use Rattle.transactions.specs.Commits.{AreDue, IsSound, IsUnwritten, KeepsOthers, history_with};
 ghost use Rattle.transactions.specs.Histories.{AreStored, IsHeldOpen, IsWith, IsWithin};
 ghost use Rattle.transactions.specs.Following.{HasPlaceFor, Serves};
 ghost use Rattle.transactions.specs.Inserting.{IsLawfulAddition};
@@ -60,6 +60,10 @@ pub fn commit_writes<S: Alter>(
         → (due : AreDue (additions writes.now) name db.now sequence (state S.Store conn.old).now.trees)
         → IfOk result (λ all. HasWritten (writings_in (database_of (state S.Store conn.old).now.trees due.row) (additions writes.now)) name due.row
         (state S.Store conn.old).now (state S.Store conn.new).now × IsIndexed (state S.Store conn.new).now.trees × AreAllIndexes (map declared all.items) db.now (state S.Store conn.new).now.trees) }
+    ensures others { (name : List ℕ) → HasCleanDisk (state S.Store conn.new) → IsIndexedStore (state S.Store conn.old).now
+        → AreKnownIndexes indexes db.now (state S.Store conn.old).now.trees
+        → AreDue (additions writes.now) name db.now sequence (state S.Store conn.old).now.trees
+        → OnOk result (KeepsOthers db.now (state S.Store conn.old).now (state S.Store conn.new).now) }
     ensures err { (name : List ℕ) → IfErr result (IsUnwritten (IsSoundIndexed S.Store
         (λ d. AreKnownIndexes indexes db.now d.trees × AreDue (additions writes.now) name db.now sequence d.trees) conn.old conn.new)) }
     ensures turns { Turns S.Store conn.old conn.new }
@@ -367,6 +371,10 @@ fn write_each<S: Alter>(
         → (due : AreDue (additions writes.now) name db.now sequence (state S.Store tx.old.conn.now).now.trees)
         → IfOk result (λ all. HasWritten (writings_in (database_of (state S.Store tx.old.conn.now).now.trees due.row) (additions writes.now)) name due.row
         (state S.Store tx.old.conn.now).now (state S.Store tx.new.conn.now).now × IsIndexed (state S.Store tx.new.conn.now).now.trees × AreAllIndexes (map declared all.items) db.now (state S.Store tx.new.conn.now).now.trees) }
+    ensures others { (name : List ℕ) → HasCleanDisk (state S.Store tx.new.conn.now) → IsIndexedStore (state S.Store tx.old.conn.now).now
+        → AreAllIndexes (map declared indexes.items) db.now (state S.Store tx.old.conn.now).now.trees
+        → AreDue (additions writes.now) name db.now sequence (state S.Store tx.old.conn.now).now.trees
+        → OnOk result (KeepsOthers db.now (state S.Store tx.old.conn.now).now (state S.Store tx.new.conn.now).now) }
     ensures err { (name : List ℕ) → IfErr result (IsUnwritten (IsSoundIndexed S.Store
         (λ d. AreAllIndexes (map declared indexes.items) db.now d.trees × AreDue (additions writes.now) name db.now sequence d.trees) tx.old.conn.now tx.new.conn.now)) }
     ensures kept { (name : List ℕ) → HasCleanDisk (state S.Store tx.new.conn.now) → IsIndexedStore (state S.Store tx.old.conn.now).now
@@ -417,6 +425,10 @@ fn write_plain<S: Alter>(
         → (due : AreDue (additions writes.now) name db.now sequence (state S.Store tx.old.conn.now).now.trees)
         → OnOk result (HasWritten (writings_in (database_of (state S.Store tx.old.conn.now).now.trees due.row) (additions writes.now)) name due.row
         (state S.Store tx.old.conn.now).now (state S.Store tx.new.conn.now).now × IsIndexed (state S.Store tx.new.conn.now).now.trees × AreAllIndexes [] db.now (state S.Store tx.new.conn.now).now.trees) }
+    ensures others { (name : List ℕ) → HasCleanDisk (state S.Store tx.new.conn.now) → IsIndexedStore (state S.Store tx.old.conn.now).now
+        → AreAllIndexes [] db.now (state S.Store tx.old.conn.now).now.trees → ArePlain (additions writes.now)
+        → AreDue (additions writes.now) name db.now sequence (state S.Store tx.old.conn.now).now.trees
+        → OnOk result (KeepsOthers db.now (state S.Store tx.old.conn.now).now (state S.Store tx.new.conn.now).now) }
     ensures err { (name : List ℕ) → ArePlain (additions writes.now) → IfErr result (IsUnwritten (IsSoundIndexed S.Store
         (λ d. AreAllIndexes [] db.now d.trees × AreDue (additions writes.now) name db.now sequence d.trees) tx.old.conn.now tx.new.conn.now)) }
     ensures kept { (name : List ℕ) → HasCleanDisk (state S.Store tx.new.conn.now) → IsIndexedStore (state S.Store tx.old.conn.now).now
@@ -455,6 +467,10 @@ fn write_bulk<S: Alter>(
         → (due : AreDue (additions writes.now) name db.now sequence (state S.Store tx.old.conn.now).now.trees)
         → IfOk result (λ all. HasWritten (writings_in (database_of (state S.Store tx.old.conn.now).now.trees due.row) (additions writes.now)) name due.row
         (state S.Store tx.old.conn.now).now (state S.Store tx.new.conn.now).now × IsIndexed (state S.Store tx.new.conn.now).now.trees × AreAllIndexes (map declared all.items) db.now (state S.Store tx.new.conn.now).now.trees) }
+    ensures others { (name : List ℕ) → HasCleanDisk (state S.Store tx.new.conn.now) → IsIndexedStore (state S.Store tx.old.conn.now).now
+        → AreAllIndexes (map declared indexes.items) db.now (state S.Store tx.old.conn.now).now.trees
+        → AreDue (additions writes.now) name db.now sequence (state S.Store tx.old.conn.now).now.trees
+        → OnOk result (KeepsOthers db.now (state S.Store tx.old.conn.now).now (state S.Store tx.new.conn.now).now) }
     ensures err { (name : List ℕ) → IfErr result (IsUnwritten (IsSoundIndexed S.Store
         (λ d. AreAllIndexes (map declared indexes.items) db.now d.trees × AreDue (additions writes.now) name db.now sequence d.trees) tx.old.conn.now tx.new.conn.now)) }
     ensures kept { (name : List ℕ) → HasCleanDisk (state S.Store tx.new.conn.now) → IsIndexedStore (state S.Store tx.old.conn.now).now
@@ -491,6 +507,10 @@ fn write_all<S: Alter>(
         → (due : AreDue (additions writes.now) name db.now sequence (state S.Store tx.old.conn.now).now.trees)
         → IfOk result (λ all. HasWritten (writings_in (database_of (state S.Store tx.old.conn.now).now.trees due.row) (additions writes.now)) name due.row
         (state S.Store tx.old.conn.now).now (state S.Store tx.new.conn.now).now × IsIndexed (state S.Store tx.new.conn.now).now.trees × AreAllIndexes (map declared all.items) db.now (state S.Store tx.new.conn.now).now.trees) }
+    ensures others { (name : List ℕ) → HasCleanDisk (state S.Store tx.new.conn.now) → IsIndexedStore (state S.Store tx.old.conn.now).now
+        → AreKnownIndexes indexes db.now (state S.Store tx.old.conn.now).now.trees
+        → AreDue (additions writes.now) name db.now sequence (state S.Store tx.old.conn.now).now.trees
+        → OnOk result (KeepsOthers db.now (state S.Store tx.old.conn.now).now (state S.Store tx.new.conn.now).now) }
     ensures err { (name : List ℕ) → IfErr result (IsUnwritten (IsSoundIndexed S.Store
         (λ d. AreKnownIndexes indexes db.now d.trees × AreDue (additions writes.now) name db.now sequence d.trees) tx.old.conn.now tx.new.conn.now)) }
     ensures kept { (name : List ℕ) → HasCleanDisk (state S.Store tx.new.conn.now) → IsIndexedStore (state S.Store tx.old.conn.now).now

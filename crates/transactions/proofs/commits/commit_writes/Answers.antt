@@ -1,5 +1,6 @@
 use Rattle.transactions.proofs.Lemmas.{AreDue, CommitFault, Database, Err, HasCleanDisk, HasWritten, Held, IfErr, IsTrue, IsUnwritten, KeepsCommit, Result, additions, ap, arith, database_of, map, on_err, refused_then, rules, state, subst, sym, undone_then, unwritten_of, writings_in, ◌≡◌}
 use Rattle.index.specs.Indexed.{IsIndexed}
+use Rattle.transactions.specs.Commits.{KeepsOthers}
 use Rattle.transactions.proofs.Common.{true}
 use Rattle.std.proofs.Common.{Global, Vec}
 use Rattle.index.specs.Shown.{declared}
@@ -73,3 +74,17 @@ returns-clause-ok g c name late store every due =
     (c.in_ok-after.ensures.ok name before) in
     subst (λ h. HasWritten (writings_in (database_of conn.trees due.row) all) name due.row conn (now h) × IsIndexed (now h).trees × AreAllIndexes to c.args.db.now (now h).trees) same
     (subst (λ (d : Database). HasWritten (writings_in (database_of conn.trees due.row) all) name due.row conn d × IsIndexed d.trees × AreAllIndexes to c.args.db.now d.trees) (sym (c.in_ok-commit.ensures.ok clean).1.now_is) (done store every due))
+
+pub returns-clause-others : goal.returns-clause-others
+returns-clause-others g c name late store every due =
+    let now : Held g.row.S.Denot → Database = λ h. (state g.S.Store h).now in
+    let conn = now c.args.conn.now in
+    let mid = now c.write_all.new.tx.conn.now in
+    let end = c.commit.new.self.0 in
+    let db = c.args.db.now in
+    let same : end ≡ c.conn-2-1.given.0 = search rules in
+    let clean : HasCleanDisk (state g.S.Store end) = search rules in
+    let before : HasCleanDisk (state g.S.Store c.write_all.new.tx.conn.now) = omega (arith, c.commit.ensures.survives.clean, clean) in
+    let done = subst (λ (d : Database). IsIndexedStore d → AreKnownIndexes c.args.indexes db d.trees → AreDue (additions c.args.writes.now) name db c.args.sequence d.trees → KeepsOthers db d mid) (ap now c.transaction-tx.ensures.begun)
+    (c.in_ok-after.ensures.others name before) in
+    subst (λ h. KeepsOthers db conn (now h)) same (subst (λ (d : Database). KeepsOthers db conn d) (sym (c.in_ok-commit.ensures.ok clean).1.now_is) (done store every due))

@@ -4,6 +4,7 @@ use Rattle.index.specs.declared.declaration.Declaration.{Declaration}
 use Rattle.transactions.proofs.Common.{true}
 use Rattle.transactions.specs.Indexing.{AreAllIndexes, AreKnownIndexes, IsIndexedStore, IsSoundIndexed}
 use Rattle.index.proofs.Going.{if_err}
+use Rattle.transactions.specs.Commits.{KeepsOthers}
 use Rattle.index.specs.Indexed.{IsIndexed}
 use Rattle.index.specs.Shown.{declared}
 use Rattle.transactions.proofs.commits.write_all.Goals as goal
@@ -88,3 +89,15 @@ returns-clause-inside g c name clean was every due within =
 pub returns-clause-asks : goal.returns-clause-asks
 returns-clause-asks g c =
     asks_then (state g.S.Store c.args.tx.now.conn.now) (state g.S.Store c.list_unknown.new.tx.conn.now) (state g.S.Store c.write_bulk.new.tx.conn.now) c.in_ok-known.ensures.asks c.write_bulk.ensures.asks
+
+pub returns-clause-others : goal.returns-clause-others
+returns-clause-others g c name clean was every due =
+    let mid = state g.S.Store c.list_unknown.new.tx.conn.now in
+    let new = state g.S.Store c.write_bulk.new.tx.conn.now in
+    let db = c.args.db.now in
+    let all = additions c.args.writes.now in
+    let find = c.in_ok-known.ensures in
+    let e = c.write_bulk.ensures in
+    let mid-clean : HasCleanDisk mid = omega (arith, e.asks.survives.clean, clean) in
+    subst (λ (d : Database). IsIndexedStore d → AreAllIndexes (map declared c.in_ok-known.known.items) db d.trees → AreDue all name db c.args.sequence d.trees → OnOk c.write_bulk.result (KeepsOthers db d new.now))
+    (find.stays mid-clean was.store.schema_is).now_is (e.others name clean) was (find.ok mid-clean was every) due

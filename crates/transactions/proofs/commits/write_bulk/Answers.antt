@@ -52,3 +52,9 @@ returns-then-are_plain-clause-inside g c name clean was every due within =
     let none : map declared items ≡ [] = no_items declared items (ap (λ xs. length xs == 0) (sym c.deref.ensures.value) ∙ sym c.are_none.ensures ∙ c.if-are_none.true) in
     let plain = c.are_plain.ensures.0 c.if-are_plain.true in
     c.in_ok-write_plain.ensures.inside name clean was (sym none ∙ every) plain due within
+
+pub returns-then-are_plain-clause-others : goal.returns-then-are_plain-clause-others
+returns-then-are_plain-clause-others g c name clean was every due =
+    let items = c.args.indexes.items in
+    let none : map declared items ≡ [] = no_items declared items (ap (λ xs. length xs == 0) (sym c.deref.ensures.value) ∙ sym c.are_none.ensures ∙ c.if-are_none.true) in
+    c.in_ok-write_plain.ensures.others name clean was (sym none ∙ every) (c.are_plain.ensures.0 c.if-are_plain.true) due

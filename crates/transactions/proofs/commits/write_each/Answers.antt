@@ -6,6 +6,8 @@ use Rattle.index.specs.Indexed.{IsIndexed}
 use Rattle.index.specs.Shown.{declared}
 use Rattle.index.specs.declared.declaration.Declaration.{Declaration}
 use Rattle.transactions.proofs.IndexSteps.{if_both}
+use Rattle.transactions.proofs.OtherRows.{others_followed}
+use Rattle.transactions.specs.Commits.{KeepsOthers}
 use Rattle.transactions.specs.Indexing.{AreAllIndexes, IsLeft, IsSoundIndexed, MayBeWritten}
 use Rattle.transactions.proofs.commits.write_each.Goals as goal
 
@@ -17,7 +19,7 @@ loop-i-init g c =
       asks = asks_itself old;
       held = λ clean. none_held _ c.new-histories.result c.new-histories.ensures.empty;
       so_far = λ name clean was every due.
-          (none_written old.now name due.row was.store due.first, was.indexed, every, keeps_itself old, none_held _ c.new-histories.result c.new-histories.ensures.empty, (λ up. up), (λ within. within));
+          (none_written old.now name due.row was.store due.first, was.indexed, every, keeps_itself old, none_held _ c.new-histories.result c.new-histories.ensures.empty, (λ up. up), (λ within. within), refl);
     }
 
 pub loop-i-preserved : goal.loop-i-preserved
@@ -50,6 +52,7 @@ loop-i-preserved g c =
                 before.0 done before.4 (e.after clean before.0.store before.4),
             (λ up. inside.0),
             (λ within. inside.1),
+            others_followed c.args.db.now may.row _ mid.now new.now may.numbered before.0.store.schema_is followed ∙ before.7,
           );
     }
 
@@ -165,3 +168,13 @@ returns-clause-err g c name =
 pub returns-clause-asks : goal.returns-clause-asks
 returns-clause-asks g c =
     asks_then (state g.S.Store c.args.tx.now.conn.now) (state g.S.Store c.loop-i.tx.conn.now) (state g.S.Store c.list_unknown.new.tx.conn.now) c.loop-i.invariant.asks c.list_unknown.ensures.asks
+
+pub returns-clause-others : goal.returns-clause-others
+returns-clause-others g c name clean was every due =
+    let old = state g.S.Store c.args.tx.now.conn.now in
+    let mid = state g.S.Store c.loop-i.tx.conn.now in
+    let new = state g.S.Store c.list_unknown.new.tx.conn.now in
+    let list = c.list_unknown.ensures in
+    let mid-clean : HasCleanDisk mid = omega (arith, list.asks.survives.clean, clean) in
+    let far = c.loop-i.invariant.so_far name mid-clean was every due in
+    on_ok c.list_unknown.result (λ (left : IsLeft mid new). subst (λ (d : Database). KeepsOthers c.args.db.now old.now d) (sym left.now_is) far.7) (list.stays clean far.0.store.schema_is)

@@ -2,6 +2,7 @@ use Rattle.transactions.proofs.Common.{AreDue, AreStored, HasCleanDisk, HasWritt
 use Rattle.index.specs.Indexed.{IsIndexed}
 use Rattle.index.specs.Shown.{declared}
 use Rattle.tables.specs.Calls.{AsksInside}
+use Rattle.transactions.specs.Commits.{KeepsOthers}
 use Rattle.transactions.specs.Indexing.{AreAllIndexes, AreKnownIndexes, IsIndexedStore}
 use Rattle.transactions.proofs.commits.write_each.Given as goal
 
@@ -22,5 +23,6 @@ invariant-loop-i g l = record {
       × KeepsCommit (state g.S.Store l.initial.tx.conn.now) (state g.S.Store l.tx.conn.now)
       × AreStored l.histories (history_in ((state g.S.Store l.tx.conn.now).now.trees revs_tree) l.db)
       × (IsTrue (state g.S.Store l.initial.tx.conn.now).is_open → IsTrue (state g.S.Store l.tx.conn.now).is_open)
-      × ((state g.S.Store l.initial.tx.conn.now).in_transaction ≡ true → (state g.S.Store l.tx.conn.now).in_transaction ≡ true);
+      × ((state g.S.Store l.initial.tx.conn.now).in_transaction ≡ true → (state g.S.Store l.tx.conn.now).in_transaction ≡ true)
+      × KeepsOthers l.db (state g.S.Store l.initial.tx.conn.now).now (state g.S.Store l.tx.conn.now).now;
 }

@@ -1,6 +1,7 @@
 use Rattle.transactions.proofs.Lemmas.{AreDue, AreStored, CommitFault, Err, HasBest, HasCleanDisk, IfErr, IsHeldOpen, IsSound, IsUnwritten, Result, addition_of, additions, arith, asks_changed, asks_then, best_in_turn, history_in, history_with, keeps_then, none_held, revs_tree, rules, state, stored_further, subst, to_z-of_z, unwritten_of, sym, take_all, w64, ◌∙◌, ◌≡◌}
 use Rattle.transactions.proofs.Common.{Trees, [], length-map}
 use Rattle.tables.proofs.Tables.{databases_laid}
+use Rattle.transactions.proofs.OtherRows.{others_moved, others_placed}
 use Rattle.transactions.proofs.Ahead.{last_ahead, next_ahead, place_ahead, start_ahead, still_store}
 use Rattle.transactions.specs.Indexing.{AreAllIndexes, IsSoundIndexed}
 use Rattle.transactions.specs.Placed.{IsAhead, with_databases}
@@ -22,6 +23,7 @@ loop-i-init g c =
         none_held _ c.new-histories.result c.new-histories.ensures.empty,
         (λ up. (e.inside clean).is_open),
         (λ within. (e.inside clean).inside),
+        others_moved c.args.db.now _ old.now new.now (e.ok clean was.store.schema_is (databases_laid old.now.trees was.store.laid)),
       );
     }
 
@@ -56,6 +58,7 @@ loop-i-preserved g c =
                 before.0.written done.written before.2 (e.after clean store before.2),
             (λ up. (e.inside clean).0),
             (λ within. (e.inside clean).1),
+            others_placed db _ _ mid.now new.now store.schema_is write ∙ before.5,
           );
     }
 
@@ -125,3 +128,6 @@ returns-clause-kept g c name clean was every plain due = (c.loop-i.invariant.so_
 
 pub returns-clause-inside : goal.returns-clause-inside
 returns-clause-inside g c name clean was every plain due within = (c.loop-i.invariant.so_far name clean was every plain due).4 within
+
+pub returns-clause-others : goal.returns-clause-others
+returns-clause-others g c name clean was every plain due = (c.loop-i.invariant.so_far name clean was every plain due).5

@@ -1,5 +1,6 @@
 use Rattle.transactions.proofs.Common.{AreDue, AreStored, HasCleanDisk, IsHeldOpen, IsTrue, KeepsCommit, List, [], additions, history_in, revs_tree, state, take, true, ℕ, ◌≡◌}
 use Rattle.tables.specs.Calls.{AsksInside}
+use Rattle.transactions.specs.Commits.{KeepsOthers}
 use Rattle.transactions.specs.Indexing.{AreAllIndexes, IsIndexedStore}
 use Rattle.transactions.specs.Placed.{ArePlain, IsAhead}
 use Rattle.transactions.proofs.commits.write_plain.Given as goal
@@ -18,5 +19,6 @@ invariant-loop-i g l = record {
       × KeepsCommit (state g.S.Store l.fn.tx.conn.now) (state g.S.Store l.tx.conn.now)
       × AreStored l.histories (history_in ((state g.S.Store l.tx.conn.now).now.trees revs_tree) l.db)
       × (IsTrue (state g.S.Store l.fn.tx.conn.now).is_open → IsTrue (state g.S.Store l.tx.conn.now).is_open)
-      × ((state g.S.Store l.fn.tx.conn.now).in_transaction ≡ true → (state g.S.Store l.tx.conn.now).in_transaction ≡ true);
+      × ((state g.S.Store l.fn.tx.conn.now).in_transaction ≡ true → (state g.S.Store l.tx.conn.now).in_transaction ≡ true)
+      × KeepsOthers l.db (state g.S.Store l.fn.tx.conn.now).now (state g.S.Store l.tx.conn.now).now;
 }
