@@ -9,12 +9,12 @@ ghost use Rattle.store.specs.Database.{Database};
 ghost use Rattle.read.specs.Answers.{Stops};
 ghost use Rattle.find.specs.Planning.{IsReadIn};
 
-use crate::fixed::are_fixed;
+use crate::fixed::only_value;
 use crate::query::Query;
-use crate::ranges::{are_same, are_there};
+use crate::ranges::{are_same, is_among};
 use couch_json::{FieldPath, Got, Json, NameMap, NoMemory, PathFault};
 use read::ReadFault;
-use selector::Bounds;
+use selector::{Bounds, FieldBounds};
 use std::alloc::Global;
 use store::{DbName, IdRow, Store, design_range, find_winning_body, read_winning};
 use tree::{DocId, History};
@@ -39,6 +39,15 @@ struct IndexName {
     name: String,
     /// How well it serves.
     fit: Fit,
+}
+
+/// What is asked of each index: the parts of a query that the choice goes by.
+#[derive(Drop)]
+struct Needs<'a> {
+    /// The fields to sort by.
+    sort: &'a [FieldPath],
+    /// Between which values the fields lie that the selector names, from one walk over it.
+    bounds: FieldBounds<'a>,
 }
 
 /// How well an index serves a query.
@@ -67,7 +76,14 @@ pub(crate) fn choose_index<S: Store>(
 {
     let range = design_range(alloc)?;
     let page = store.page_by_id(db, &range)?;
-    choose_among(alloc, store, db, &page.rows, query)
+    if page.rows.is_empty() {
+        return Ok(None);
+    }
+    let needs = Needs {
+        sort: query.sort.as_slice(),
+        bounds: query.selector.field_bounds(alloc)?,
+    };
+    choose_among(alloc, store, db, &page.rows, &needs)
 }
 
 /// Chooses an index that one of these design documents declares.
@@ -76,7 +92,7 @@ fn choose_among<S: Store>(
     store: &mut S,
     db: &DbName,
     rows: &[IdRow],
-    query: &Query,
+    needs: &Needs<'_>,
 ) -> Result<Option<Chosen>, ReadFault>
     ensures ok { S.is_honest store.new → IfOk result (λ chosen. (d : Database) → map.get (S.contents store.old) db.now ≡ Some d
         → IfSome chosen (λ c. IsReadIn c d)) }
@@ -85,7 +101,7 @@ fn choose_among<S: Store>(
 {
     let mut chosen = None;
     for row in rows {
-        let found = choose_in(alloc, store, db, &row.id, query)?;
+        let found = choose_in(alloc, store, db, &row.id, needs)?;
         if fit_of(&found) == Fit::InOrder {
             return Ok(found);
         }
@@ -110,7 +126,7 @@ fn choose_in<S: Store>(
     store: &mut S,
     db: &DbName,
     design: &DocId,
-    query: &Query,
+    needs: &Needs<'_>,
 ) -> Result<Option<Chosen>, ReadFault>
     ensures ok { S.is_honest store.new → IfOk result (λ chosen. (d : Database) → map.get (S.contents store.old) db.now ≡ Some d
         → IfSome chosen (λ c. IsReadIn c d)) }
@@ -118,7 +134,7 @@ fn choose_in<S: Store>(
     ensures reads { OnlyReads S.Store store.old store.new }
 {
     let history = read_winning(alloc, store, db, design)?;
-    let Some(index) = choose_declared(alloc, &history, query)? else {
+    let Some(index) = choose_declared(alloc, &history, needs)? else {
         return Ok(None);
     };
     Ok(Some(Chosen {
@@ -130,21 +146,25 @@ fn choose_in<S: Store>(
 }
 
 /// Chooses an index that a design document with this history declares.
-fn choose_declared(alloc: Global, history: &History, query: &Query) -> Got<Option<IndexName>> {
+fn choose_declared(alloc: Global, history: &History, needs: &Needs<'_>) -> Got<Option<IndexName>> {
     let Some(body) = find_winning_body(history) else {
         return Ok(None);
     };
     match body.member("indexes") {
-        Some(Json::Object(indexes)) => choose_named(alloc, indexes, query),
+        Some(Json::Object(indexes)) => choose_named(alloc, indexes, needs),
         _ => Ok(None),
     }
 }
 
 /// Chooses one of these indexes, the first by name where they serve as well.
-fn choose_named(alloc: Global, indexes: &NameMap<Json>, query: &Query) -> Got<Option<IndexName>> {
+fn choose_named(
+    alloc: Global,
+    indexes: &NameMap<Json>,
+    needs: &Needs<'_>,
+) -> Got<Option<IndexName>> {
     let mut chosen = None;
     for (name, index) in indexes.as_slice() {
-        let fit = fit_declared(alloc, index, query)?;
+        let fit = fit_declared(alloc, index, needs)?;
         if fit == Fit::InOrder || (fit == Fit::Narrow && chosen.is_none()) {
             chosen = Some(IndexName {
                 name: String::from_str(alloc, name.as_str())?,
@@ -159,10 +179,10 @@ fn choose_named(alloc: Global, indexes: &NameMap<Json>, query: &Query) -> Got<Op
 }
 
 /// Tells how well an index that is declared so serves the query.
-fn fit_declared(alloc: Global, index: &Json, query: &Query) -> Got<Fit> {
+fn fit_declared(alloc: Global, index: &Json, needs: &Needs<'_>) -> Got<Fit> {
     match index.member("fields") {
         Some(Json::Array(fields)) => match read_paths(alloc, fields)? {
-            Some(paths) => Ok(fit_of_fields(&paths, query)),
+            Some(paths) => Ok(fit_of_fields(&paths, needs)),
             None => Ok(Fit::Poor),
         },
         _ => Ok(Fit::Poor),
@@ -170,10 +190,10 @@ fn fit_declared(alloc: Global, index: &Json, query: &Query) -> Got<Fit> {
 }
 
 /// Tells how well an index of these fields serves the query.
-fn fit_of_fields(fields: &[FieldPath], query: &Query) -> Fit {
-    if !are_there(fields, query) || !is_narrowing(fields, query) {
+fn fit_of_fields(fields: &[FieldPath], needs: &Needs<'_>) -> Fit {
+    if !are_there(fields, needs) || !is_narrowing(fields, needs) {
         Fit::Poor
-    } else if goes_in_order(fields, query) {
+    } else if goes_in_order(fields, needs) {
         Fit::InOrder
     } else {
         Fit::Narrow
@@ -182,12 +202,45 @@ fn fit_of_fields(fields: &[FieldPath], query: &Query) -> Fit {
 
 /// Tells whether the rows of an index of these fields go in the order of the query: they are those of the
 /// sort or, without a sort, have one value each.
-fn goes_in_order(fields: &[FieldPath], query: &Query) -> bool {
-    let sort = query.sort.as_slice();
-    if sort.is_empty() {
-        are_fixed(fields, query)
+fn goes_in_order(fields: &[FieldPath], needs: &Needs<'_>) -> bool {
+    if needs.sort.is_empty() {
+        are_fixed(fields, needs)
     } else {
-        are_same(fields, sort)
+        are_same(fields, needs.sort)
+    }
+}
+
+/// Tells whether each document that the query finds surely has these fields.
+fn are_there(fields: &[FieldPath], needs: &Needs<'_>) -> bool {
+    for field in fields {
+        if !is_there(field, needs) {
+            return false;
+        }
+    }
+    true
+}
+
+fn is_there(field: &FieldPath, needs: &Needs<'_>) -> bool {
+    match needs.bounds.get(field) {
+        Bounds::Range(_, _) => true,
+        Bounds::Any => is_among(field, needs.sort),
+    }
+}
+
+/// Tells whether the selector binds each of these fields to one value.
+fn are_fixed(fields: &[FieldPath], needs: &Needs<'_>) -> bool {
+    for field in fields {
+        if !is_fixed(field, needs) {
+            return false;
+        }
+    }
+    true
+}
+
+fn is_fixed(field: &FieldPath, needs: &Needs<'_>) -> bool {
+    match needs.bounds.get(field) {
+        Bounds::Range(low, high) => only_value(low, high).is_some(),
+        Bounds::Any => false,
     }
 }
 
@@ -218,12 +271,12 @@ fn read_path(alloc: Global, field: &Json) -> Got<Option<FieldPath>> {
 /// field of the sort, or those whose first field is out of bounds.
 ///
 /// A scan without a sort stops where the part is full, so there a whole index is no better.
-fn is_narrowing(fields: &[FieldPath], query: &Query) -> bool {
-    if !query.sort.as_slice().is_empty() {
+fn is_narrowing(fields: &[FieldPath], needs: &Needs<'_>) -> bool {
+    if !needs.sort.is_empty() {
         return true;
     }
     match fields.first() {
-        Some(field) => match query.selector.bounds(field) {
+        Some(field) => match needs.bounds.get(field) {
             Bounds::Range(low, high) => low.is_some() || high.is_some(),
             Bounds::Any => false,
         },

@@ -37,16 +37,6 @@ pub(crate) fn fixed_values(
     Ok(Some(values))
 }
 
-/// Tells whether the selector binds each of these fields to one value.
-pub(crate) fn are_fixed(fields: &[FieldPath], query: &Query) -> bool {
-    for field in fields {
-        if fixed_value(field, query).is_none() {
-            return false;
-        }
-    }
-    true
-}
-
 /// Returns the value that this field has in each document that the query finds, where its selector binds
 /// it to one.
 fn fixed_value<'a>(field: &FieldPath, query: &'a Query) -> Option<&'a Json>
@@ -59,7 +49,7 @@ fn fixed_value<'a>(field: &FieldPath, query: &'a Query) -> Option<&'a Json>
 }
 
 /// Returns the value that both edges are, where no other lies between them.
-fn only_value<'a>(low: Option<Edge<'a>>, high: Option<Edge<'a>>) -> Option<&'a Json>
+pub(crate) fn only_value<'a>(low: Option<Edge<'a>>, high: Option<Edge<'a>>) -> Option<&'a Json>
     ensures { IfSome result (λ value. (v : Value) → contain (Range low.entry high.entry) (Some v) ≡ true → v ≡ view value.now) }
 {
     let Some(low) = low else {

@@ -78,7 +78,7 @@ fn range_of(alloc: Global, fields: &[FieldPath], query: &Query) -> Got<Option<Ke
 }
 
 /// Tells whether each document that the query finds surely has these fields.
-pub(crate) fn are_there(fields: &[FieldPath], query: &Query) -> bool
+fn are_there(fields: &[FieldPath], query: &Query) -> bool
     ensures { result ≡ true → AreThere fields.now query.now }
 {
     for field in fields {
@@ -105,7 +105,7 @@ fn is_sort_field(field: &FieldPath, query: &Query) -> bool
     is_among(field, query.sort.as_slice())
 }
 
-fn is_among(field: &FieldPath, fields: &[FieldPath]) -> bool
+pub(crate) fn is_among(field: &FieldPath, fields: &[FieldPath]) -> bool
     ensures { result ≡ list_any (λ f. bytes_eq field.now f) fields.now }
 {
     for other in fields {
