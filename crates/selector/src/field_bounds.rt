@@ -159,6 +159,10 @@ fn add_some<'a>(
         → LieWithin fields.old current → LieWithin fields.new current) }
     ensures narrower { OnOk result (AreWider fields.new fields.old) }
 {
+    // A single one adds its bounds as they are, so that nests of such lists copy nothing.
+    if let [only] = selectors.as_slice() {
+        return add_selector(alloc, fields, only);
+    }
     let mut hull = None;
     for selector in selectors {
         let mut branch = FieldBounds::new(alloc);
