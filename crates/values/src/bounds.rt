@@ -1,5 +1,5 @@
 //! `SELECTOR at PATH`: the bounds of the field: `any`, `there`, or its edges, as `from 1 below 5` and
-//! `above 1 to 5`.
+//! `above 1 to 5`. Where the table of all fields has others, they follow.
 
 use crate::paths::path_of;
 use crate::selectors::query_of;
@@ -16,15 +16,27 @@ pub fn answer(alloc: Global, question: &[u8]) -> Result<Vec<u8>, RowsFault> {
     };
     let selector = query_of(alloc, selector)?;
     let path = path_of(alloc, path)?;
-    match selector.bounds(&path) {
+    let mut answer = show(alloc, selector.bounds(&path))?;
+    let fields = selector.field_bounds(alloc)?;
+    let other = show(alloc, fields.get(&path))?;
+    if other.as_slice() != answer.as_slice() {
+        answer.extend_from_slice(b", in the table ")?;
+        answer.extend_from_slice(&other)?;
+    }
+    Ok(answer)
+}
+
+/// Answers with bounds.
+fn show(alloc: Global, bounds: Bounds<'_>) -> Result<Vec<u8>, RowsFault> {
+    match bounds {
         Bounds::Any => say(alloc, "any"),
         Bounds::Range(None, None) => say(alloc, "there"),
-        Bounds::Range(low, high) => show(alloc, low, high),
+        Bounds::Range(low, high) => show_edges(alloc, low, high),
     }
 }
 
 /// Answers with the edges of a range.
-fn show(
+fn show_edges(
     alloc: Global,
     low: Option<Edge<'_>>,
     high: Option<Edge<'_>>,
