@@ -132,10 +132,11 @@ missing g old new name r fault h is told honest =
     absent numbers_in (trees_of g old) name (told_none g old new {X = DatabaseNumbers} (λ d. (d.number, d.sequence)) _ fault (cc) h honest)
 
 -- what was found of a database may be known of it
-pub known_so : {S : Type 0} (g : Ghosts S) (old new : SqlStore S g) (known : Option KnownDatabase) → Stands g old new → (is_honest g new → ∥ IsKnown (trees_of g old) known ∥₁) → IsStanding g new.conn new.origin.value new.last.value known
+pub known_so : {S : Type 0} (g : Ghosts S) (old new : SqlStore S g) (known : Option KnownDatabase) → Stands g old new → (is_honest g new → ∥ IsKnown (trees_of g old) known ∥₁) → IsStanding g new.conn new.origin.value new.last.value known new.earlier.items
 known_so g old new known s found = record {
   idle = new.standing.idle;
   unlimited = new.standing.unlimited;
   held = new.standing.held;
   known_so = λ clean was. subst (λ h. ∥ IsKnown (state g h).now.trees known ∥₁) (sym s.last) (found (clean, was));
+  earlier_so = new.standing.earlier_so;
 }

@@ -5,14 +5,16 @@ use Rattle.transactions.specs.Endings.{Turns}
 use Rattle.sqlstore.proofs.Standing.{indexed_store}
 use Rattle.transactions.specs.Indexing.{IsIndexedStore}
 use Rattle.index.specs.Indexed.{IsIndexed}
+use Rattle.sqlstore.proofs.Common.{List}
+use Rattle.sqlstore.specs.Standing.{AreKnown}
 
-module _ {S : Type 0} (g : Ghosts S) (old new origin last : Held S) (turns : Turns g old new) {known : Option KnownDatabase} (s : IsStanding g old origin last known) where
+module _ {S : Type 0} (g : Ghosts S) (old new origin last : Held S) (turns : Turns g old new) {known : Option KnownDatabase} {earlier : List KnownDatabase} (s : IsStanding g old origin last known earlier) where
   abbrev Known : Type 0
   Known = IsKnown (state g last).now.trees known
 
   -- a transaction that was undone leaves a store standing, where what is known may be what tells that it was
   pub undone_knowing : (Known → IsIndexedStore (state g old).now → (state g old).now.trees ≡ (state g last).now.trees → HasCleanDisk (state g new) → WasStore g origin → IsTrue (state g new).is_open
-      → ((state g new).now ≡ (state g old).committed) × ((state g new).committed ≡ (state g old).committed)) → IsStanding g new origin last known
+      → ((state g new).now ≡ (state g old).committed) × ((state g new).committed ≡ (state g old).committed)) → IsStanding g new origin last known earlier
   undone_knowing left = record {
     idle = turns.idle;
     unlimited = turns.limit ∙ s.unlimited;
@@ -26,10 +28,11 @@ module _ {S : Type 0} (g : Ghosts S) (old new origin last : Held S) (turns : Tur
           committed = λ up. (settled up).1 ∙ h.committed (turns.was_open clean up);
         }));
     known_so = λ clean is. s.known_so (turns.clean clean) is;
+    earlier_so = λ clean is. s.earlier_so (turns.clean clean) is;
   }
 
   pub undone : (IsIndexedStore (state g old).now → (state g old).now.trees ≡ (state g last).now.trees → HasCleanDisk (state g new) → WasStore g origin → IsTrue (state g new).is_open
-      → ((state g new).now ≡ (state g old).committed) × ((state g new).committed ≡ (state g old).committed)) → IsStanding g new origin last known
+      → ((state g new).now ≡ (state g old).committed) × ((state g new).committed ≡ (state g old).committed)) → IsStanding g new origin last known earlier
   undone left = undone_knowing (λ _. left)
 
   -- One that was committed makes a store of one, and this of its rows. So the store stands on the new ones, and it is so of those that the last change left.
@@ -42,8 +45,11 @@ module _ {S : Type 0} (g : Ghosts S) (old new origin last : Held S) (turns : Tur
         let m = makes k clean (turns.clean clean) is (subst IsIndexedStore (sym same) (indexed_store h)) (ap (λ (d : Database). d.trees) same) in
         (m.0, subst P same m.1)
 
-    pub stands_knowing : (next : Held S) → next ≡ new → IsStanding g new origin next None
-    stands_knowing next is_new = record {
+    -- what is known of those that were asked for before, where the change keeps it
+    pub stands_knowing : (then : List KnownDatabase)
+        → (Known → HasCleanDisk (state g new) → HasCleanDisk (state g old) → WasStore g origin → IsIndexedStore (state g old).now → (state g old).now.trees ≡ (state g last).now.trees
+        → AreKnown (state g last).now.trees earlier → AreKnown (state g new).now.trees then) → (next : Held S) → next ≡ new → IsStanding g new origin next None then
+    stands_knowing then keeps next is_new = record {
       idle = turns.idle;
       unlimited = turns.limit ∙ s.unlimited;
       held = λ clean is. ∥∥₁_elim (s.known_so (turns.clean clean) is) ∥∥₁_prop (λ k. ∥∥₁_map (s.held (turns.clean clean) is) (λ h. record {
@@ -53,6 +59,10 @@ module _ {S : Type 0} (g : Ghosts S) (old new origin last : Held S) (turns : Tur
         committed = λ up. sym (done clean).2 ∙ ap (λ x. (state g x).now) (sym is_new);
       }));
       known_so = λ clean is. ∣ tt ∣₁;
+      earlier_so = λ clean is. ∥∥₁_elim (s.known_so (turns.clean clean) is) ∥∥₁_prop (λ k. ∥∥₁_elim (s.held (turns.clean clean) is) ∥∥₁_prop (λ h. ∥∥₁_map (s.earlier_so (turns.clean clean) is) (λ all.
+          let same = h.now (done clean).0 in
+          subst (λ x. AreKnown (state g x).now.trees then) (sym is_new)
+          (keeps k clean (turns.clean clean) is (subst IsIndexedStore (sym same) (indexed_store h)) (ap (λ (d : Database). d.trees) same) all))));
     }
 
     pub told_knowing : IsProp (P (state g last).now) → HasCleanDisk (state g new) → WasStore g origin → P (state g last).now
@@ -62,8 +72,10 @@ module _ {S : Type 0} (g : Ghosts S) (old new origin last : Held S) (turns : Tur
   module _ (done : HasCleanDisk (state g new) → IsTrue (state g old).is_open × IsTrue (state g new).is_open × ((state g new).now ≡ (state g new).committed)) (P : Database → Type 0)
       (makes : HasCleanDisk (state g new) → HasCleanDisk (state g old) → WasStore g origin → IsIndexedStore (state g old).now → (state g old).now.trees ≡ (state g last).now.trees
       → IsIndexedStore (state g new).now × P (state g old).now) where
-    pub stands : (next : Held S) → next ≡ new → IsStanding g new origin next None
-    stands = stands_knowing done P (λ _. makes)
+    pub stands : (then : List KnownDatabase)
+        → (HasCleanDisk (state g new) → HasCleanDisk (state g old) → WasStore g origin → IsIndexedStore (state g old).now → (state g old).now.trees ≡ (state g last).now.trees
+        → AreKnown (state g last).now.trees earlier → AreKnown (state g new).now.trees then) → (next : Held S) → next ≡ new → IsStanding g new origin next None then
+    stands then keeps = stands_knowing done P (λ _. makes) then (λ _. keeps)
 
     pub told : IsProp (P (state g last).now) → HasCleanDisk (state g new) → WasStore g origin → P (state g last).now
     told = told_knowing done P (λ _. makes)

@@ -7,9 +7,9 @@ pub use Rattle.sqlstore.proofs.ContentsCode.{contents_set, found_set, some_conte
 pub use Rattle.sqlstore.proofs.Enough.{if_enough_by_sequence}
 pub use Rattle.sqlstore.proofs.FoundPages.{bounded_there, found_at, history_there, id_page_there, leaves_there, outline_there, revision_there, winner_there, winners_there}
 pub use Rattle.sqlstore.proofs.ListedRows.{all_done, below_again, listed_intact, one_more, sequences_intact}
-pub use Rattle.sqlstore.proofs.Making.{HasLocal, IsAdded, IsRemoved, IsSecured, IsWritten, adds, advances, appends, clears, known_after, puts, secures}
+pub use Rattle.sqlstore.proofs.Making.{HasLocal, IsAdded, IsRemoved, IsSecured, IsWritten, adds, adds_beside, advances, appends, appends_beside, clears, clears_beside, known_after, put_beside, put_known, puts, secures, secures_beside}
 pub use Rattle.sqlstore.proofs.NameBytes.{name_is_text, names_intact, names_set, names_there}
-pub use Rattle.sqlstore.proofs.Standing.{dropped, finds, finds_fit, finds_index_rows, finds_rows, found, indexed_store, same_trees, still}
+pub use Rattle.sqlstore.proofs.Standing.{dropped, finds, finds_fit, finds_index_rows, finds_rows, forgotten, kept_before, found, indexed_store, same_trees, still}
 pub use Rattle.tables.proofs.Laid.{nothing}
 pub use Rattle.transactions.proofs.HistoryRows.{history_intact, history_made, history_set, outline_intact, outline_made}
 pub use Rattle.sqlstore.proofs.LeafRows.{hashes_intact, leaf_rows_lost, path_end_alone, revs_set}

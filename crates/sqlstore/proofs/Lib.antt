@@ -17,5 +17,7 @@ pub mod LeafRows
 pub mod LostRows
 mod OpenedAgain
 pub mod KnownCounts
+pub mod OtherKnown
+pub mod EarlierKnown
 pub mod Making
 pub mod Lemmas

@@ -4,6 +4,8 @@ use Rattle.index.specs.Layout.{HasIndexRows}
 use Rattle.transactions.proofs.IndexSteps.{rows_of}
 use Rattle.transactions.specs.Indexing.{IsIndexedStore}
 use Rattle.sqlstore.specs.Causes.{IsJudged}
+use Rattle.sqlstore.proofs.Common.{IsKnown, ∥∥₁_prop}
+use Rattle.sqlstore.specs.Standing.{AreKnown}
 
 -- the tables as the last change left them, with the rows of indexes
 pub indexed_store : {S : Type 0} {g : Ghosts S} {conn last : Held S} → Holds g conn last → IsIndexedStore (state g last).now
@@ -28,13 +30,14 @@ module _ {S : Type 0} (g : Ghosts S) (old new origin last : Held S) where
   }
 
   -- and the store stands
-  pub still : {X E : Type 0} {IsFit : Database → Type 0} {Is : Trees → X → Type 0} {r : Result X E} {known : Option KnownDatabase} → Reads g IsFit old new Is r
-      → IsStanding g old origin last known → IsStanding g new origin last known
+  pub still : {X E : Type 0} {IsFit : Database → Type 0} {Is : Trees → X → Type 0} {r : Result X E} {known : Option KnownDatabase} {earlier : List KnownDatabase} → Reads g IsFit old new Is r
+      → IsStanding g old origin last known earlier → IsStanding g new origin last known earlier
   still reads s = record {
     idle = reads.asks.mode s.idle;
     unlimited = reads.asks.limit ∙ s.unlimited;
     held = λ clean is. ∥∥₁_map (s.held (reads.asks.clean clean) is) (holds_on reads.asks reads.looks clean);
     known_so = λ clean is. s.known_so (reads.asks.clean clean) is;
+    earlier_so = λ clean is. s.earlier_so (reads.asks.clean clean) is;
   }
 
   -- what a query answers is so in the rows that the last change left, which are fit for it
@@ -52,8 +55,30 @@ module _ {S : Type 0} (g : Ghosts S) (old new origin last : Held S) where
   same_trees held clean is up = ∥∥₁_elim (held clean is) (Trees-set _ _) (λ h. ap (λ (d : Database). d.trees) (h.now up))
 
 -- it stands too where nothing is known of a database
-pub dropped : {S : Type 0} (g : Ghosts S) {conn origin last : Held S} {known : Option KnownDatabase} → IsStanding g conn origin last known → IsStanding g conn origin last None
-dropped g s = record { idle = s.idle; unlimited = s.unlimited; held = s.held; known_so = λ clean is. ∣ tt ∣₁ }
+pub dropped : {S : Type 0} (g : Ghosts S) {conn origin last : Held S} {known : Option KnownDatabase} {earlier : List KnownDatabase} → IsStanding g conn origin last known earlier → IsStanding g conn origin last None earlier
+dropped g s = record { idle = s.idle; unlimited = s.unlimited; held = s.held; known_so = λ clean is. ∣ tt ∣₁; earlier_so = s.earlier_so }
+
+-- and where what was known of the latest one is put to those before it
+pub kept_before : {S : Type 0} (g : Ghosts S) {conn origin last : Held S} {known : Option KnownDatabase} {earlier more : List KnownDatabase}
+    → ((trees : Trees) → IsKnown trees known → AreKnown trees earlier → AreKnown trees more) → IsStanding g conn origin last known earlier → IsStanding g conn origin last None more
+kept_before g {last = last} moves s = record {
+  idle = s.idle;
+  unlimited = s.unlimited;
+  held = s.held;
+  known_so = λ clean is. ∣ tt ∣₁;
+  earlier_so = λ clean is. ∥∥₁_elim (s.known_so clean is) ∥∥₁_prop (λ k. ∥∥₁_map (s.earlier_so clean is) (moves (state g last).now.trees k));
+}
+
+-- and where something else is known of those that were asked for before
+pub forgotten : {S : Type 0} (g : Ghosts S) {conn origin last : Held S} {known : Option KnownDatabase} {earlier less : List KnownDatabase} → ((trees : Trees) → AreKnown trees earlier → AreKnown trees less)
+    → IsStanding g conn origin last known earlier → IsStanding g conn origin last known less
+forgotten g {last = last} fewer s = record {
+  idle = s.idle;
+  unlimited = s.unlimited;
+  held = s.held;
+  known_so = s.known_so;
+  earlier_so = λ clean is. ∥∥₁_map (s.earlier_so clean is) (fewer (state g last).now.trees);
+}
 
 -- what a statement reads and its answer told are what a store finds
 module _ {S : Type 0} (g : Ghosts S) (old new : SqlStore S g) {X : Type 0} where

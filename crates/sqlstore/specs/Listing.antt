@@ -1,9 +1,11 @@
 -- The parts of a page that are made of the rows of a list, of histories and of what is counted.
 -- This server's own: pages are those of `store`, rows are read by the words of `tables`.
+use Rattle.std.specs.FinMap.{entries}
 use Rattle.std.specs.Prelude.{◌≡◌, ◌<◌, ◌^◌, ◌⊎◌, ℕ, ℤ, Bool, pos, negsuc, Option, Some, option_map, List, filter, map}
 use Rattle.std.specs.List.{AllByRecursion, count_by}
 use Rattle.tree.specs.History.{HistoryContent, leaves}
-use Rattle.store.specs.Pages.{SequencePage, SequenceRow, if_counted, later_rows, sequence_page}
+use Rattle.store.specs.Database.{Database}
+use Rattle.store.specs.Pages.{SequencePage, SequenceRow, if_counted, is_gone, later_rows, sequence_page}
 use Rattle.store.specs.declared.listing.SeqRange.{SeqRange}
 use Rattle.sqlite_value.specs.Order.{Row}
 use Rattle.sqlite_trees.specs.Tree.{Trees}
@@ -23,6 +25,10 @@ listed_by_sequence trees db = map listed_document (sort_by by_sequence (filter (
 -- how many documents of a database have a winner that is deleted, or is not, as it is asked for
 abbrev pub all_count : Trees → ℤ → Bool → ℕ
 all_count trees db deleted = count_by (λ s. has_mark deleted (listed_mark s)) (listed_by_sequence trees db)
+
+-- the same, of the documents that a database holds
+abbrev pub document_count : Bool → Database → ℕ
+document_count deleted db = count_by (λ e. has_mark deleted (is_gone e.1.history)) (entries db.documents)
 
 -- the page by sequence of such rows, with winners alone
 abbrev pub winners_page : SeqRange → ℕ → List Row → SequencePage

@@ -1,6 +1,7 @@
 -- What a store keeps true of its connection: as the store opened it, as the last change left it, and as it is.
 -- This server's own: facts hold where the disk returned what was written, and where the tables were laid out and the rows of indexes sound when they were opened.
-use Rattle.std.specs.Prelude.{◌≡◌, Bool, false, filter, IfSome, None, Option, option_map, slice_get, Some, IsTrue, ⊤}
+use Rattle.std.specs.List.{AllByRecursion}
+use Rattle.std.specs.Prelude.{◌≡◌, Bool, false, filter, IfSome, List, None, Option, option_map, slice_get, Some, IsTrue, ⊤}
 use Rattle.sqlite_trees.specs.declared.store.Store.{Ghosts}
 use Rattle.sqlite.specs.Held.{Held, state}
 use Rattle.sqlite.specs.State.{HasCleanDisk}
@@ -26,6 +27,10 @@ abbrev pub IsKnown : Trees → Option KnownDatabase → Type 0
 IsKnown trees None = ⊤
 IsKnown trees (Some k) = IsKnownDatabase trees k
 
+-- the same of each of those that were asked for before; of them no index is known
+abbrev pub AreKnown : Trees → List KnownDatabase → Type 0
+AreKnown trees ks = AllByRecursion (λ k. IsKnownDatabase trees k × (k.indexes ≡ None)) ks
+
 module _ {S : Type 0} (g : Ghosts S) where
   -- The tables are laid out as the last change left them, and the rows of indexes are those of what is stored. An open connection has
   -- those rows, with nothing that waits for a commit.
@@ -44,8 +49,9 @@ module _ {S : Type 0} (g : Ghosts S) where
   IsHeld conn origin last = HasCleanDisk (state g conn) → WasStore origin → ∥ Holds conn last ∥₁
 
   -- all that a store keeps true of it
-  pub record IsStanding (conn origin last : Held S) (known : Option KnownDatabase) : Type 0 where
+  pub record IsStanding (conn origin last : Held S) (known : Option KnownDatabase) (earlier : List KnownDatabase) : Type 0 where
     pub idle : conn.in_transaction ≡ false
     pub unlimited : conn.step_limit ≡ None
     pub held : IsHeld conn origin last
     pub known_so : HasCleanDisk (state g conn) → WasStore origin → ∥ IsKnown (state g last).now.trees known ∥₁
+    pub earlier_so : HasCleanDisk (state g conn) → WasStore origin → ∥ AreKnown (state g last).now.trees earlier ∥₁

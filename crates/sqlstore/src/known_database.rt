@@ -70,7 +70,7 @@ impl KnownDatabase {
     }
 
     /// Parts it from its indexes.
-    fn split(self) -> (KnownDatabase, Option<Vec<Declaration>>)
+    pub(crate) fn split(self) -> (KnownDatabase, Option<Vec<Declaration>>)
         ensures known { result.0 ≡ without_indexes self }
         ensures indexes { result.1 ≡ self.indexes }
     {

@@ -3,6 +3,7 @@
 
 mod database_names;
 mod document_count;
+mod earlier;
 mod fault;
 mod first_rows;
 mod id_bounds;

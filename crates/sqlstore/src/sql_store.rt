@@ -30,10 +30,12 @@ pub struct SqlStore<S: Alter> {
     last: Snapshot<Connection<S>>,
     /// The database that was asked for last. Whatever changes its row changes this or drops it.
     known: Option<KnownDatabase>,
+    /// Those that were asked for before it, the latest last.
+    earlier: Vec<KnownDatabase>,
     faults: u64,
     /// How many rows the queries of reading calls have taken; it stays at the greatest number.
     fetched: u64,
-    ghost standing: { IsStanding S.Store conn origin.value last.value known },
+    ghost standing: { IsStanding S.Store conn origin.value last.value known earlier.items },
 }
 
 // It is written out, so that a caller does not prove again how each part is dropped.
@@ -45,6 +47,7 @@ impl<S: Alter + Drop> Drop for SqlStore<S> {
             origin: _,
             last: _,
             known: _,
+            earlier: _,
             faults: _,
             fetched: _,
         } = self;
@@ -128,6 +131,7 @@ impl<S: Alter + Drop> SqlStore<S> {
             origin,
             last,
             known: None,
+            earlier: Vec::new(alloc),
             faults: 0,
             fetched: 0,
         })
@@ -147,6 +151,7 @@ impl<S: Alter + Drop> SqlStore<S> {
             origin: _,
             last: _,
             known: _,
+            earlier: _,
             faults: _,
             fetched: _,
         } = self;

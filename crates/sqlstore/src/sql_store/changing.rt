@@ -1,5 +1,6 @@
 //! What a store changes, each in one transaction.
 
+use crate::earlier::forget_named;
 use crate::fault::{judge, judge_write};
 use crate::sql_store::SqlStore;
 use couch_json::canon;
@@ -45,6 +46,7 @@ impl<S: Alter> SqlStore<S> {
         let security = Security::closed(self.alloc)?;
         let text = canon(self.alloc, security.value())?;
         self.known = None;
+        forget_named(&mut self.earlier, name);
         match add_database(&mut self.conn, name.as_str().as_bytes(), text.as_str()) {
             Ok(()) => {
                 self.last = Snapshot::of(&self.conn);
@@ -69,6 +71,7 @@ impl<S: Alter> SqlStore<S> {
     {
         let text = canon(self.alloc, security.value())?;
         self.known = None;
+        forget_named(&mut self.earlier, name);
         match change_security(&mut self.conn, number, text.as_str()) {
             Ok(()) => {
                 self.last = Snapshot::of(&self.conn);
@@ -87,6 +90,7 @@ impl<S: Alter> SqlStore<S> {
         ensures moves { Moves S.Store self.old self.new }
     {
         self.known = None;
+        forget_named(&mut self.earlier, name);
         match remove_database(self.alloc, &mut self.conn, number) {
             Ok(()) => {
                 self.last = Snapshot::of(&self.conn);
@@ -112,7 +116,6 @@ impl<S: Alter> SqlStore<S> {
         ensures moves { Moves S.Store self.old self.new }
     {
         let text = canon(self.alloc, document.body.json())?;
-        self.known = None;
         match write_local(
             &mut self.conn,
             number,

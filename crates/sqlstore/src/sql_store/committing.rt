@@ -4,6 +4,7 @@ ghost use Rattle.std.specs.Prelude.{◌≡◌, ◌+◌, ◌<◌, ◌^◌, ◌↔
 ghost use Rattle.sqlstore.specs.declared.known_database.KnownDatabase.{KnownDatabase};
 ghost use Rattle.sqlstore.specs.Reading.{at_sequence};
 
+use crate::earlier::forget_named;
 use crate::fault::judge_write;
 use crate::known_database::{KnownDatabase, take_indexes};
 use crate::sql_store::SqlStore;
@@ -68,6 +69,7 @@ impl<S: Alter> SqlStore<S> {
     {
         let was = self.known.take();
         let (known, indexes) = take_indexes(was, number);
+        forget_named(&mut self.earlier, name);
         match commit_writes(
             self.alloc,
             &mut self.conn,

@@ -1,5 +1,6 @@
 //! A database, found by its name.
 
+use crate::earlier::{keep_known, take_named};
 use crate::first_rows::first_database;
 use crate::known_database::{DatabaseNumbers, KnownDatabase};
 use crate::sql_store::SqlStore;
@@ -14,18 +15,32 @@ impl<S: Alter> SqlStore<S> {
     ghost use Rattle.sqlstore.specs.Reading.{found_in, known_values, numbers_in};
     ghost use Rattle.sqlstore.specs.Standing.{IsKnown};
 
-    /// Takes out what is known of a database, where it is the one of this name.
+    /// Takes out what is known of the database of this name.
     fn take_known(&mut self, name: &DbName) -> Option<KnownDatabase>
         ensures named { IfSome result (λ known. known.name ≡ name.now) }
         ensures known { is_honest S.Store self.old → ∥ IsKnown (trees_of S.Store self.old) result ∥₁ }
         ensures stands { Stands S.Store self.old self.new }
     {
+        if let Some(known) = self.take_latest(name) {
+            return Some(known);
+        }
+        take_named(&mut self.earlier, name)
+    }
+
+    /// Takes out what is known of the latest database, where it is the one of this name. Else that is put to
+    /// those that were asked for before.
+    fn take_latest(&mut self, name: &DbName) -> Option<KnownDatabase>
+        ensures named { IfSome result (λ known. known.name ≡ name.now) }
+        ensures known { is_honest S.Store self.old → ∥ IsKnown (trees_of S.Store self.old) result ∥₁ }
+        ensures stands { Stands S.Store self.old self.new }
+        ensures honest { is_honest S.Store self.old → is_honest S.Store self.new }
+    {
         let known = self.known.take()?;
         if known.name == *name {
-            Some(known)
-        } else {
-            None
+            return Some(known);
         }
+        keep_known(&mut self.earlier, known);
+        None
     }
 
     /// Reads the row of the database of this name.

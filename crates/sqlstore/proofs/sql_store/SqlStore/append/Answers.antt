@@ -1,4 +1,4 @@
-use Rattle.sqlstore.proofs.Lemmas.{AreDue, Database, Held, IsKnown, IsWritten, None, Some, Trees, addition_of, additions, advances, ap, appends, at_sequence, contents_in, dropped, known_after, length, length-map, rules, some_contents_set, stands_knowing, state, subst, sym, told_knowing, undone_knowing, ∥∥₁_elim, ∥∥₁_prop, ◌+◌, ◌∙◌, ◌≡◌}
+use Rattle.sqlstore.proofs.Lemmas.{AreDue, Database, Held, IsKnown, IsWritten, None, Some, Trees, addition_of, additions, advances, ap, appends, appends_beside, at_sequence, contents_in, dropped, forgotten, known_after, length, length-map, rules, some_contents_set, stands_knowing, state, subst, sym, told_knowing, undone_knowing, ∥∥₁_elim, ∥∥₁_prop, ◌+◌, ◌∙◌, ◌≡◌}
 use Rattle.transactions.specs.Indexing.{AreKnownIndexes}
 use Rattle.sqlstore.proofs.Common.{IsStanding}
 use Rattle.sqlstore.proofs.Committed.{due_at, sound, told as told_of}
@@ -16,7 +16,12 @@ invariant_of-self g c =
     let taken = λ (k : IsKnown trees s.known). subst (IsKnown trees) (sym c.take-was.ensures.value) k in
     let every = λ (k : IsKnown trees s.known) (t : Trees) (same : t ≡ trees). subst (AreKnownIndexes c.take_indexes-known.result.1 n) (sym same) (c.take_indexes-known.ensures.indexes trees (taken k)) in
     let x = stands_knowing g.S.Store s.conn c.commit_writes.new.conn s.origin.value s.last.value e.turns s.standing e.done (IsWritten new.now name all)
-    (λ k clean was is store same. appends new.now name _ _ store same all n c.args.sequence (c.requires.due (was, is)) (e.ok name clean store (every k _ same))) c.of.result.value c.of.ensures in
+    (λ k clean was is store same. appends new.now name _ _ store same all n c.args.sequence (c.requires.due (was, is)) (e.ok name clean store (every k _ same)))
+    c.forget_named.new.earlier.items
+    (λ k clean was is store same beside.
+    let here = subst (AreDue all name n c.args.sequence) (sym same) (c.requires.due (was, is)) in
+    let done = e.ok name clean store (every k _ same) here in
+    appends_beside new.now name _ _ store same _ c.forget_named.ensures.apart (c.forget_named.ensures.known _ beside) all n c.args.sequence here (done.0, done.1) (e.others name clean store (every k _ same) here)) c.of.result.value c.of.ensures in
     record {
       standing = record {
         idle = x.idle;
@@ -33,6 +38,7 @@ invariant_of-self g c =
               (appends new.now name _ _ store same all n c.args.sequence due writes).0,
               ∣ advances new.now name _ _ store same all n c.args.sequence c.in-Ok.all due writes was named (subst (IsKnown trees) kept (c.take_indexes-known.ensures.known trees (taken k))) ∣₁,
             )) ∥∥₁_prop clean is)));
+        earlier_so = x.earlier_so;
       };
     }
 
@@ -63,9 +69,9 @@ invariant_of-self-in-Err g c =
     subst (AreKnownIndexes c.take_indexes-known.result.1 n) (sym same) (c.take_indexes-known.ensures.indexes trees (subst (IsKnown trees) (sym c.take-was.ensures.value) k)) in
     let gone : c.take-was.new.self ≡ None = search rules in
     record {
-      standing = subst (IsStanding g.S.Store c.commit_writes.new.conn s.origin.value s.last.value) (sym gone)
-          (dropped g.S.Store (undone_knowing g.S.Store s.conn c.commit_writes.new.conn s.origin.value s.last.value e.turns s.standing
-          (λ k store same clean is up. e.undone name store (every k _ same) (due_at all name n c.args.sequence _ _ same (c.requires.due (e.turns.clean clean, is))) clean up)));
+      standing = subst (λ k. IsStanding g.S.Store c.commit_writes.new.conn s.origin.value s.last.value k c.forget_named.new.earlier.items) (sym gone)
+          (forgotten g.S.Store c.forget_named.ensures.known (dropped g.S.Store (undone_knowing g.S.Store s.conn c.commit_writes.new.conn s.origin.value s.last.value e.turns s.standing
+          (λ k store same clean is up. e.undone name store (every k _ same) (due_at all name n c.args.sequence _ _ same (c.requires.due (e.turns.clean clean, is))) clean up))));
     }
 
 pub returns-in-Err-clause-told : goal.returns-in-Err-clause-told

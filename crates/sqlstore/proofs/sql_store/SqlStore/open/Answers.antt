@@ -8,6 +8,7 @@ use Rattle.tables.specs.Presence.{version_in}
 use Rattle.tables.specs.declared.meta.FileVersion.TheVariants.{First, Other}
 use Rattle.transactions.specs.Indexing.{IsIndexedStore}
 use Rattle.transactions.specs.Renewing.{IsCarriedOver}
+use Rattle.sqlstore.specs.Standing.{AreKnown}
 use Rattle.sqlstore.specs.Opening.{FailsToRead, IsForeign, version_of}
 use Rattle.sqlstore.proofs.sql_store.SqlStore.open.Goals as goal
 
@@ -36,6 +37,7 @@ invariant_of-result g c =
           committed = λ up. sym (c.is_autocommit-2.ensures.settled settled up) ∙ ap now (sym c.of-last.ensures);
         });
         known_so = λ clean was. ∣ tt ∣₁;
+        earlier_so = λ clean was. subst (λ ks. ∥ AreKnown (now c.of-last.result.value).trees ks ∥₁) (sym c.new.ensures.items) ∣ tt ∣₁;
       };
     }
 
