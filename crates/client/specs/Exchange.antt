@@ -47,6 +47,11 @@ pub record Reads (before after : Standing) (reply : Option Reply) : Type 0 where
   pub consumes : Consumes before.bytes after.bytes read
   pub is : IsReadAs read reads reply
 
+-- the same, of so many bytes
+pub record ReadsBytes (before after : Standing) (reply : Option Reply) (count : ℕ) : Type 0 where
+  pub reads : Reads before after reply
+  pub counted : length reads.read ≡ count
+
 -- Bytes were written, all of them or not. Where they weren't, writes were cut off.
 pub record Writes (bytes : List ℕ) (before after : Standing) (all : Bool) : Type 0 where
   pub takes : Takes before.bytes after.bytes bytes all
@@ -60,6 +65,12 @@ pub record Exchanges (request : List ℕ) (input rest output after : Standing) (
   pub wrote : Writes request output after all
   pub reads : all ≡ true → Reads input rest reply
   pub unread : all ≡ false → (rest ≡ input) × (reply ≡ None)
+
+-- the same, with so many bytes read
+pub record ExchangesBytes (request : List ℕ) (input rest output after : Standing) (reply : Option Reply) (count : ℕ) : Type 0 where
+  pub exchanges : Exchanges request input rest output after reply
+  pub some : (all : exchanges.all ≡ true) → length (exchanges.reads all).read ≡ count
+  pub none : exchanges.all ≡ false → count ≡ 0
 
 -- What comes of a reply with a read that gave this piece, where old had come of it before: the cutter is fed the piece, or the read was
 -- interrupted; or nothing more comes.

@@ -1,12 +1,13 @@
-ghost use Rattle.std.specs.Prelude.{◌≡◌, ◌++◌, ◌∷◌, [], ◌<◌, Bool, IfOk, List, ℕ, length};
+ghost use Rattle.std.specs.Prelude.{◌≡◌, ◌++◌, ◌+◌, ◌^◌, ◌∷◌, [], ◌<◌, ◌≤◌, Bool, IfOk, List, ℕ, length};
 ghost use Rattle.std.specs.Io.KnownBytes.{Consumes};
 ghost use Rattle.couch_http.specs.Message.{message_of};
 ghost use Rattle.couch_http.specs.RequestText.{request_text};
 ghost use Rattle.streams.specs.Writing.{Takes};
-ghost use Rattle.client.specs.Exchange.{Exchanges, IsTurn, Reads};
+ghost use Rattle.client.specs.Exchange.{Exchanges, ExchangesBytes, IsTurn, ReadsBytes};
 ghost use Rattle.client.specs.Streams.{outcomes_of};
 ghost use Rattle.client.specs.declared.outcome.Outcome.{Outcome};
 
+use crate::exchange_end::ExchangeEnd;
 use crate::logged::Logged;
 use crate::outcome::Outcome;
 use crate::turn::Turn;
@@ -41,47 +42,80 @@ pub fn exchange<R: Read, W: Write>(
         (record { bytes = W.contents writer.old.stream; log = outcomes_of writer.old.log.items })
         (record { bytes = W.contents writer.new.stream; log = outcomes_of writer.new.log.items })) }
 {
+    Ok(make_exchange(alloc, request, reader, writer)?.reply)
+}
+
+/// Makes an exchange as `exchange` does, and counts the bytes that were read.
+pub fn make_exchange<R: Read, W: Write>(
+    alloc: Global,
+    request: &Request,
+    reader: &mut Logged<R>,
+    writer: &mut Logged<W>,
+) -> Got<ExchangeEnd>
+    ensures wrote { (all : Bool) × Takes (W.contents writer.old.stream) (W.contents writer.new.stream) (request_text (message_of request.now)) all }
+    ensures exchange { IfOk result (λ end. ExchangesBytes (request_text (message_of request.now))
+        (record { bytes = R.remaining reader.old.stream; log = outcomes_of reader.old.log.items })
+        (record { bytes = R.remaining reader.new.stream; log = outcomes_of reader.new.log.items })
+        (record { bytes = W.contents writer.old.stream; log = outcomes_of writer.old.log.items })
+        (record { bytes = W.contents writer.new.stream; log = outcomes_of writer.new.log.items }) end.reply end.read) }
+{
     let bytes = request_bytes(alloc, request)?;
     if !write_logged(writer, &bytes) {
-        return Ok(None);
+        return Ok(ExchangeEnd {
+            reply: None,
+            read: 0,
+        });
     }
     read_reply(alloc, reader)
 }
 
 /// Reads a reply, which is `None` where it won't come.
-fn read_reply<R: Read>(alloc: Global, reader: &mut Logged<R>) -> Got<Option<Response>>
-    ensures { IfOk result (Reads
+fn read_reply<R: Read>(alloc: Global, reader: &mut Logged<R>) -> Got<ExchangeEnd>
+    ensures { IfOk result (λ end. ReadsBytes
         (record { bytes = R.remaining reader.old.stream; log = outcomes_of reader.old.log.items })
-        (record { bytes = R.remaining reader.new.stream; log = outcomes_of reader.new.log.items })) }
+        (record { bytes = R.remaining reader.new.stream; log = outcomes_of reader.new.log.items }) end.reply end.read) }
 {
     let mut cutter = ReplyCutter::new(alloc);
     let mut room = [0; PIECE];
+    let mut read = 0;
     for _number in 0..READS {
-        match read_piece(reader, &mut room, &mut cutter)? {
+        match read_piece(reader, &mut room, &mut cutter, &mut read)? {
             Turn::Waits => {}
-            Turn::Whole(reply) => return Ok(Some(reply)),
-            Turn::Lost => return Ok(None),
+            Turn::Whole(reply) => {
+                return Ok(ExchangeEnd {
+                    reply: Some(reply),
+                    read,
+                });
+            }
+            Turn::Lost => return Ok(ExchangeEnd { reply: None, read }),
         }
     }
-    Ok(None)
+    Ok(ExchangeEnd { reply: None, read })
 }
 
-/// Reads one piece of a reply, and takes it in. Where the read is interrupted nothing has come.
+/// Reads one piece of a reply, counts its bytes, and takes it in. Where the read is interrupted nothing has
+/// come.
 fn read_piece<R: Read>(
     reader: &mut Logged<R>,
     room: &mut [u8],
     cutter: &mut ReplyCutter,
+    read: &mut u64,
 ) -> Got<Turn>
-    requires { 0 < length room.old }
+    requires room { 0 < length room.old }
+    requires fits { read.old + length room.old < 2 ^ 64 }
     ensures room { length room.new ≡ length room.old }
     ensures turn { (outcome : Outcome) × (piece : List ℕ)
         × (outcomes_of reader.new.log.items ≡ outcomes_of reader.old.log.items ++ outcome ∷ [])
         × Consumes (R.remaining reader.old.stream) (R.remaining reader.new.stream) piece
+        × (read.new ≡ read.old + length piece) × (length piece ≤ length room.old)
         × IfOk result (λ turn. IsTurn cutter.old outcome piece turn cutter.new) }
 {
     match reader.read(room) {
         Outcome::Bytes(0) => Ok(Turn::Lost),
-        Outcome::Bytes(count) => take_reply_piece(cutter, &room[..count]),
+        Outcome::Bytes(count) => {
+            *read += count as u64;
+            take_reply_piece(cutter, &room[..count])
+        }
         Outcome::Interrupted => Ok(Turn::Waits),
         Outcome::Failed => Ok(Turn::Lost),
     }

@@ -1,16 +1,16 @@
 -- What the words of a command line ask for.
 -- How words are read is clap's, as the kit's definitions of it say; the commands, their words and the range of their numbers are this project's own.
-use Rattle.std.specs.Prelude.{ℕ, ◌==◌, Bool, true, not, ◌&&◌, ◌||◌, nat_le, nat_lt, length, List, [], ◌∷◌, map, codes, Option, Some, None, option_map, option_and_then, unwrap_or, bytes_eq, string_bytes, if◌then◌else◌}
+use Rattle.std.specs.Prelude.{ℕ, ◌==◌, Bool, true, false, not, ◌&&◌, ◌||◌, nat_le, nat_lt, length, List, [], ◌∷◌, map, codes, Option, Some, None, option_map, option_and_then, unwrap_or, bytes_eq, string_bytes, if◌then◌else◌}
 use Rattle.std.specs.Char.{is_ascii_digit}
 use Rattle.std.specs.List.{list_all}
 use Rattle.std.specs.Str.Parse.{digits_value}
-use Rattle.clap.specs.declared.builder.ArgAction.TheVariants.{Set, Append}
+use Rattle.clap.specs.declared.builder.ArgAction.TheVariants.{Set, Append, SetTrue}
 use Rattle.clap.specs.Words.{App, Kinds, Row, Rule, Shape, Text, all_of, fault_of, first_of, new_app, new_rule, subcommand_of, with_rule, with_subcommand}
 use Rattle.command_line.specs.declared.plans.Plan.{Plan}
 use Rattle.command_line.specs.declared.plans.Plan.TheVariants.{Lab, Serve, Sync}
 use Rattle.command_line.specs.declared.plans.SyncPlan.{SyncPlan}
-use Rattle.command_line.specs.declared.plans.SyncTarget.{SyncTarget}
-use Rattle.command_line.specs.declared.plans.SyncTarget.TheVariants.{File, Address}
+use Rattle.command_line.specs.declared.plans.SyncSide.{SyncSide}
+use Rattle.command_line.specs.declared.plans.SyncSide.TheVariants.{File, Address}
 
 -- ---- the commands
 
@@ -21,6 +21,10 @@ required_option name = record (new_rule name) { long = Some name; action = Some 
 -- `--NAME VALUE`, which may be given
 abbrev pub optional_option : Text → Rule
 optional_option name = record (new_rule name) { long = Some name; action = Some Set }
+
+-- `--NAME`, which may be given, and has no value
+abbrev pub flag : Text → Rule
+flag name = record (new_rule name) { long = Some name; action = Some SetTrue }
 
 -- `[ADMIN]...`
 abbrev pub admin_rule : Rule
@@ -42,13 +46,19 @@ serve_command = (with_rule (with_rule (with_rule (with_rule (with_rule (with_rul
 
 -- the words of `sync` that have to be given
 abbrev pub sync_options : App
-sync_options = with_rule (with_rule (with_rule (with_rule (with_rule (command_named (codes "sync"))
-    (required_option (codes "secret"))) (required_option (codes "session"))) (required_option (codes "from"))) (required_option (codes "db"))) (required_option (codes "target-db"))
+sync_options = with_rule (with_rule (with_rule (with_rule (command_named (codes "sync"))
+    (required_option (codes "secret"))) (required_option (codes "session"))) (required_option (codes "db"))) (required_option (codes "target-db"))
 
--- `sync --secret S --session T --from F --db D [--to G | --address A] --target-db E [--user U] [--cache MB] [ADMIN]...`, where the order plays no part
+-- the words of `sync` that say where its sides are
+abbrev pub sync_sides : App
+sync_sides = with_rule (with_rule (with_rule (with_rule sync_options
+    (optional_option (codes "from"))) (optional_option (codes "from-address"))) (optional_option (codes "to"))) (optional_option (codes "address"))
+
+-- `sync --secret S --session T [--from F | --from-address B] --db D [--to G | --address A] --target-db E [--user U] [--create] [--cache MB] [ADMIN]...`,
+-- where the order plays no part
 abbrev pub sync_command : Shape
-sync_command = (with_rule (with_rule (with_rule (with_rule (with_rule sync_options
-    (optional_option (codes "to"))) (optional_option (codes "address"))) (optional_option (codes "user"))) (optional_option (codes "cache"))) admin_rule).top
+sync_command = (with_rule (with_rule (with_rule (with_rule sync_sides
+    (optional_option (codes "user"))) (flag (codes "create"))) (optional_option (codes "cache"))) admin_rule).top
 
 -- a command that has to be followed by another
 abbrev pub bare_command : App
@@ -103,21 +113,22 @@ pub record ServerAsked : Type 0 where
   pub cache : ℕ
   pub admins : List (List ℕ)
 
--- what a pass copies to: the store in a file, or a server
-pub data TargetAsked : Type 0 where
-  file_asked : Text → TargetAsked
-  address_asked : Text → TargetAsked
+-- where a side of a pass is: in the store in a file, or at a server
+pub data SideAsked : Type 0 where
+  file_asked : Text → SideAsked
+  address_asked : Text → SideAsked
 
--- what is to be copied: the secret and the admins of the nodes, the session, the paths and the names of both sides, the user in whose name, and how many megabytes
--- of each file are kept in memory at most
+-- what is to be copied: the secret and the admins of the nodes, the session, the places and the names of both sides, the user in whose name, whether the target is
+-- created where it is absent, and how many megabytes of each file are kept in memory at most
 pub record SyncAsked : Type 0 where
   pub secret : Text
   pub session : Text
-  pub from : Text
+  pub source : SideAsked
   pub database : Text
-  pub target : TargetAsked
+  pub target : SideAsked
   pub target_database : Text
   pub user : Option Text
+  pub create : Bool
   pub cache : ℕ
   pub admins : List Text
 
@@ -146,15 +157,21 @@ serve_asked_by rows =
     (cache_in (first_of (codes "cache") rows))) (at_once_in (first_of (codes "at-once") rows))) (option_and_then conns_in (first_of (codes "conns") rows)))
     (option_and_then port_in (first_of (codes "port") rows))) (first_of (codes "file") rows)) (first_of (codes "secret") rows)
 
--- a file that isn't the source's own
-abbrev pub file_beside : Text → Text → Option TargetAsked
-file_beside from to = if bytes_eq from to then None else Some (file_asked to)
+-- just one of a file and an address
+abbrev pub side_in : Option Text → Option Text → Option SideAsked
+side_in (Some path) None = Some (file_asked path)
+side_in None (Some address) = Some (address_asked address)
+side_in path address = None
 
--- just one of a file and an address, beside the source's file
-abbrev pub target_in : Text → Option Text → Option Text → Option TargetAsked
-target_in from (Some to) None = file_beside from to
-target_in from None (Some address) = Some (address_asked address)
-target_in from to address = None
+-- two databases, each with the place where it is, are neither in one file, by its path, nor the same one at one address
+abbrev pub are_apart : SideAsked → Text → SideAsked → Text → Bool
+are_apart (file_asked from) source (file_asked to) target = not (bytes_eq from to)
+are_apart (address_asked from) source (address_asked to) target = not (bytes_eq from to && bytes_eq source target)
+are_apart from source to target = true
+
+abbrev pub is_file : SideAsked → Bool
+is_file (file_asked path) = true
+is_file (address_asked address) = false
 
 -- a byte may stand in a header: it is no NUL and ends no line
 abbrev pub is_header_byte : ℕ → Bool
@@ -165,25 +182,39 @@ abbrev pub user_in : Option Text → Option (Option Text)
 user_in None = Some None
 user_in (Some name) = if list_all is_header_byte name then Some (Some name) else None
 
+-- a word without a value was given: clap reads `true` for it then, and else `false`
+abbrev pub is_given : Option Text → Bool
+is_given None = false
+is_given (Some text) = bytes_eq text (codes "true")
+
+-- a pass that can be made: its sides are apart, and a database is created in a file alone
+abbrev pub can_be_made : SyncAsked → Bool
+can_be_made asked = are_apart asked.source asked.database asked.target asked.target_database && (not asked.create || is_file asked.target)
+
+-- a pass, where it can be made
+abbrev pub pass_in : SyncAsked → Option Asked
+pass_in asked = if can_be_made asked then Some (sync_asked asked) else None
+
 -- what the words after `sync` ask for
 abbrev pub sync_asked_by : List Row → Option Asked
 sync_asked_by rows =
-    option_and_then (λ secret. option_and_then (λ session. option_and_then (λ from. option_and_then (λ database. option_and_then (λ target.
-    option_and_then (λ target_database. option_and_then (λ user. option_map (λ cache.
-    sync_asked (record {
+    option_and_then (λ secret. option_and_then (λ session. option_and_then (λ source. option_and_then (λ database. option_and_then (λ target.
+    option_and_then (λ target_database. option_and_then (λ user. option_and_then (λ cache.
+    pass_in (record {
       secret = secret;
       session = session;
-      from = from;
+      source = source;
       database = database;
       target = target;
       target_database = target_database;
       user = user;
+      create = is_given (first_of (codes "create") rows);
       cache = cache;
       admins = admins_in rows;
     }))
     (cache_in (first_of (codes "cache") rows))) (user_in (first_of (codes "user") rows))) (first_of (codes "target-db") rows))
-    (target_in from (first_of (codes "to") rows) (first_of (codes "address") rows))) (first_of (codes "db") rows)) (first_of (codes "from") rows))
-    (first_of (codes "session") rows)) (first_of (codes "secret") rows)
+    (side_in (first_of (codes "to") rows) (first_of (codes "address") rows))) (first_of (codes "db") rows))
+    (side_in (first_of (codes "from") rows) (first_of (codes "from-address") rows))) (first_of (codes "session") rows)) (first_of (codes "secret") rows)
 
 -- what the command of this name and what clap made of its words ask for
 abbrev pub asked_at : Text → List Row → Option Asked
@@ -200,21 +231,22 @@ asked_unless (kind ∷ kinds) command = None
 abbrev pub asked_by : List Text → Option Asked
 asked_by words = asked_unless (fault_of couchd_command words) (subcommand_of couchd_command words)
 
--- the program's target as the definition's
-abbrev pub target_of : SyncTarget → TargetAsked
-target_of (File path) = file_asked (string_bytes path)
-target_of (Address address) = address_asked (string_bytes address)
+-- the program's side as the definition's
+abbrev pub side_of : SyncSide → SideAsked
+side_of (File path) = file_asked (string_bytes path)
+side_of (Address address) = address_asked (string_bytes address)
 
 -- the program's plan of a pass as the definition's
 abbrev pub sync_of : SyncPlan → SyncAsked
 sync_of p = record {
   secret = string_bytes p.secret;
   session = string_bytes p.session;
-  from = string_bytes p.from;
+  source = side_of p.source;
   database = string_bytes p.database;
-  target = target_of p.target;
+  target = side_of p.target;
   target_database = string_bytes p.target_database;
   user = option_map string_bytes p.user;
+  create = p.create;
   cache = p.cache;
   admins = map string_bytes p.admins.items;
 }

@@ -5,9 +5,9 @@ ghost use Rattle.std.specs.Char.{is_ascii_digit};
 ghost use Rattle.std.specs.List.{list_all};
 ghost use Rattle.clap.specs.declared.builder.command.Command.TheViews.{out-Command as fields_of};
 ghost use Rattle.clap.specs.Words.{all_of, app_of, fault_of, first_of, found_of, kind_of, rows_of, rule_of, shape_of, subcommand_of, subcommand_rows_of, with_rule};
-ghost use Rattle.command_line.specs.Plan.{admin_rule, asked_at, asked_by, command_of, bare_command, command_named, couchd_command, file_beside, is_header_byte, is_numeral, lab_asked_by, lab_command, number_between, number_or, optional_option, port_in, required_option, serve_asked_by, serve_command, sync_asked_by, sync_command, sync_options, target_in, target_of, user_in};
+ghost use Rattle.command_line.specs.Plan.{admin_rule, asked_at, asked_by, command_of, bare_command, command_named, couchd_command, are_apart, can_be_made, flag, is_file, is_given, is_header_byte, is_numeral, lab_asked_by, lab_command, number_between, number_or, optional_option, port_in, required_option, serve_asked_by, serve_command, side_in, side_of, sync_asked_by, sync_command, sync_of, sync_options, sync_sides, user_in};
 
-use crate::plans::{Plan, PlanFault, SyncPlan, SyncTarget};
+use crate::plans::{Plan, PlanFault, SyncPlan, SyncSide};
 use clap::error::ErrorKind;
 use clap::{Arg, ArgAction, ArgMatches, Command, Error};
 use std::alloc::{AllocError, Global};
@@ -102,19 +102,31 @@ fn serve_command<'a>(alloc: Global) -> Result<Command<'a>, AllocError>
     add_admins(alloc, serve)
 }
 
-/// Returns the command `sync --secret S --session T --from F --db D [--to G | --address A]
-/// --target-db E [--user U] [--cache MB] [ADMIN]...`. It also takes words with both of `--to` and
-/// `--address`, or with neither, which `choose_target` refuses.
+/// Returns the command `sync --secret S --session T [--from F | --from-address B] --db D [--to G |
+/// --address A] --target-db E [--user U] [--create] [--cache MB] [ADMIN]...`. It also takes words with both
+/// places of a side, or with neither, which `choose_side` refuses.
 fn sync_command<'a>(alloc: Global) -> Result<Command<'a>, AllocError>
     ensures shape { IfOk result (λ command. shape_of command ≡ sync_command) }
     ensures local { IfOk result (λ command. (fields_of command).has_globals ≡ false) }
 {
-    let sync = sync_options(alloc)?;
-    let sync = add_optional_option(alloc, sync, "to")?;
-    let sync = add_optional_option(alloc, sync, "address")?;
+    let sync = sync_sides(alloc)?;
     let sync = add_optional_option(alloc, sync, "user")?;
+    let sync = add_flag(alloc, sync, "create")?;
     let sync = add_optional_option(alloc, sync, "cache")?;
     add_admins(alloc, sync)
+}
+
+/// Returns the command `sync` with the options that have to be given, and those for the places of its
+/// sides.
+fn sync_sides<'a>(alloc: Global) -> Result<Command<'a>, AllocError>
+    ensures app { IfOk result (λ command. app_of command ≡ sync_sides) }
+    ensures local { IfOk result (λ command. (fields_of command).has_globals ≡ false) }
+{
+    let sync = sync_options(alloc)?;
+    let sync = add_optional_option(alloc, sync, "from")?;
+    let sync = add_optional_option(alloc, sync, "from-address")?;
+    let sync = add_optional_option(alloc, sync, "to")?;
+    add_optional_option(alloc, sync, "address")
 }
 
 /// Returns the command `sync` with the options that have to be given.
@@ -125,7 +137,6 @@ fn sync_options<'a>(alloc: Global) -> Result<Command<'a>, AllocError>
     let sync = plain_command(alloc, "sync");
     let sync = add_required_option(alloc, sync, "secret")?;
     let sync = add_required_option(alloc, sync, "session")?;
-    let sync = add_required_option(alloc, sync, "from")?;
     let sync = add_required_option(alloc, sync, "db")?;
     add_required_option(alloc, sync, "target-db")
 }
@@ -162,6 +173,18 @@ fn add_optional_option<'a>(
     command.arg(optional_option(alloc, name))
 }
 
+/// Adds the argument `--NAME` to a command, which may be given, and has no value.
+fn add_flag<'a>(
+    alloc: Global,
+    command: Command<'a>,
+    name: &'a str,
+) -> Result<Command<'a>, AllocError>
+    ensures app { IfOk result (λ after. app_of after ≡ with_rule (app_of command.entry) (flag name.now)) }
+    ensures local { (fields_of command.entry).has_globals ≡ false → IfOk result (λ after. (fields_of after).has_globals ≡ false) }
+{
+    command.arg(flag(alloc, name))
+}
+
 /// Adds the argument `[ADMIN]...` to a command.
 fn add_admins<'a>(alloc: Global, command: Command<'a>) -> Result<Command<'a>, AllocError>
     ensures app { IfOk result (λ after. app_of after ≡ with_rule (app_of command.entry) admin_rule) }
@@ -187,6 +210,14 @@ fn required_option<'a>(alloc: Global, name: &'a str) -> Arg<'a>
         .long(name)
         .required(true)
         .action(ArgAction::Set)
+}
+
+/// Returns the argument `--NAME`, which may be given, and has no value.
+fn flag<'a>(alloc: Global, name: &'a str) -> Arg<'a>
+    ensures rule { rule_of result ≡ flag name.now }
+    ensures local { result.global ≡ false }
+{
+    Arg::new(alloc, name).long(name).action(ArgAction::SetTrue)
 }
 
 /// Returns the argument `[ADMIN]...`.
@@ -253,26 +284,104 @@ fn sync_plan(alloc: Global, matches: &ArgMatches<'_>) -> Result<Plan, PlanFault>
 {
     let secret = text_at(alloc, matches, "secret")?;
     let session = text_at(alloc, matches, "session")?;
-    let from = text_at(alloc, matches, "from")?;
+    let source = side_at(alloc, matches, "from", "from-address")?;
     let database = text_at(alloc, matches, "db")?;
-    let to = option_at(alloc, matches, "to")?;
-    let address = option_at(alloc, matches, "address")?;
-    let target = choose_target(&from, to, address)?;
+    let target = side_at(alloc, matches, "to", "address")?;
     let target_database = text_at(alloc, matches, "target-db")?;
     let user = check_user(option_at(alloc, matches, "user")?)?;
+    let create = is_given(matches, "create");
     let cache = number_or(matches, "cache", CACHE, GREATEST_CACHE)?;
     let admins = admins_of(alloc, matches)?;
-    Ok(Plan::Sync(SyncPlan {
+    let plan = SyncPlan {
         secret,
         session,
-        from,
+        source,
         database,
         target,
         target_database,
         user,
+        create,
         cache,
         admins,
-    }))
+    };
+    if !can_be_made(&plan) {
+        return Err(PlanFault::Usage);
+    }
+    Ok(Plan::Sync(plan))
+}
+
+/// Tells whether a pass can be made: its sides are apart, and a database is created in a file alone.
+fn can_be_made(plan: &SyncPlan) -> bool
+    ensures { result ≡ can_be_made (sync_of plan.now) }
+{
+    are_apart(
+        &plan.source,
+        &plan.database,
+        &plan.target,
+        &plan.target_database,
+    ) && (!plan.create || is_file(&plan.target))
+}
+
+/// Tells whether two databases are neither in one file nor the same one at one address.
+fn are_apart(from: &SyncSide, source: &str, to: &SyncSide, target: &str) -> bool
+    ensures { result ≡ are_apart (side_of from.now) source.now (side_of to.now) target.now }
+{
+    match (from, to) {
+        (SyncSide::File(from), SyncSide::File(to)) => from.as_str() != to.as_str(),
+        (SyncSide::Address(from), SyncSide::Address(to)) => {
+            !(from.as_str() == to.as_str() && source == target)
+        }
+        (SyncSide::File(_), SyncSide::Address(_)) | (SyncSide::Address(_), SyncSide::File(_)) => {
+            true
+        }
+    }
+}
+
+/// Tells whether a side is a file.
+fn is_file(side: &SyncSide) -> bool
+    ensures { result ≡ is_file (side_of side.now) }
+{
+    match side {
+        SyncSide::File(_) => true,
+        SyncSide::Address(_) => false,
+    }
+}
+
+/// Returns a side of a pass, whose place is the value of just one of two options: a file or an address.
+fn side_at(
+    alloc: Global,
+    matches: &ArgMatches<'_>,
+    file: &str,
+    address: &str,
+) -> Result<SyncSide, PlanFault>
+    ensures ok { IfOk result (λ side. side_in (first_of file.now (rows_of (found_of matches.now))) (first_of address.now (rows_of (found_of matches.now))) ≡ Some (side_of side)) }
+    ensures usage { result ≡ Err PlanFault.Usage → side_in (first_of file.now (rows_of (found_of matches.now))) (first_of address.now (rows_of (found_of matches.now))) ≡ None }
+{
+    let file = option_at(alloc, matches, file)?;
+    let address = option_at(alloc, matches, address)?;
+    choose_side(file, address)
+}
+
+/// Returns a side of a pass: just one of a file and an address.
+fn choose_side(file: Option<String>, address: Option<String>) -> Result<SyncSide, PlanFault>
+    ensures ok { IfOk result (λ side. side_in (option_map string_bytes file) (option_map string_bytes address) ≡ Some (side_of side)) }
+    ensures usage { IfErr result (λ _. side_in (option_map string_bytes file) (option_map string_bytes address) ≡ None) }
+{
+    match (file, address) {
+        (Some(file), None) => Ok(SyncSide::File(file)),
+        (None, Some(address)) => Ok(SyncSide::Address(address)),
+        (Some(_), Some(_)) | (None, None) => Err(PlanFault::Usage),
+    }
+}
+
+/// Tells whether an argument without a value was given.
+fn is_given(matches: &ArgMatches<'_>, name: &str) -> bool
+    ensures { result ≡ is_given (first_of name.now (rows_of (found_of matches.now))) }
+{
+    match matches.get_str(name) {
+        Some(text) => text == "true",
+        None => false,
+    }
 }
 
 /// Returns the value of an option that may be given, if it is.
@@ -287,33 +396,6 @@ fn option_at(
         Some(text) => Ok(Some(String::from_str(alloc, text)?)),
         None => Ok(None),
     }
-}
-
-/// Returns the target of a pass from this file: just one of a file, which is another, and an address.
-fn choose_target(
-    from: &str,
-    to: Option<String>,
-    address: Option<String>,
-) -> Result<SyncTarget, PlanFault>
-    ensures ok { IfOk result (λ target. target_in from.now (option_map string_bytes to) (option_map string_bytes address) ≡ Some (target_of target)) }
-    ensures usage { IfErr result (λ _. target_in from.now (option_map string_bytes to) (option_map string_bytes address) ≡ None) }
-{
-    match (to, address) {
-        (Some(to), None) => file_beside(from, to),
-        (None, Some(address)) => Ok(SyncTarget::Address(address)),
-        (Some(_), Some(_)) | (None, None) => Err(PlanFault::Usage),
-    }
-}
-
-/// Returns a file as a target, where it isn't the source's own.
-fn file_beside(from: &str, to: String) -> Result<SyncTarget, PlanFault>
-    ensures ok { IfOk result (λ target. file_beside from.now (string_bytes to) ≡ Some (target_of target)) }
-    ensures usage { IfErr result (λ _. file_beside from.now (string_bytes to) ≡ None) }
-{
-    if from == to.as_str() {
-        return Err(PlanFault::Usage);
-    }
-    Ok(SyncTarget::File(to))
 }
 
 /// Returns a user, if one is named, whose name can stand in a header.

@@ -10,5 +10,5 @@ mod words;
 pub use command_fault::CommandFault;
 pub use command_line::{plan, read_number};
 pub use fault::ProgramFault;
-pub use plans::{Plan, PlanFault, SyncPlan, SyncTarget};
+pub use plans::{Plan, PlanFault, SyncPlan, SyncSide};
 pub use words::words_of;

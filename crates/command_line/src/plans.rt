@@ -29,8 +29,9 @@ pub enum Plan {
         /// The names of the server's admins.
         admins: Vec<String>,
     },
-    /// `sync --secret S --session T --from F --db D [--to G | --address A] --target-db E [--user U]
-    /// [--cache MB] [ADMIN]...`: copy what a database in a file has and another lacks.
+    /// `sync --secret S --session T [--from F | --from-address B] --db D [--to G | --address A]
+    /// --target-db E [--user U] [--create] [--cache MB] [ADMIN]...`: copy what a database has and another
+    /// lacks.
     Sync(SyncPlan),
 }
 
@@ -41,16 +42,18 @@ pub struct SyncPlan {
     pub secret: String,
     /// The name of the session, which the checkpoints keep.
     pub session: String,
-    /// The path of the source's file.
-    pub from: String,
+    /// Where the source database is.
+    pub source: SyncSide,
     /// The name of the source database.
     pub database: String,
-    /// Where the target database is.
-    pub target: SyncTarget,
+    /// Where the target database is: not where the source is.
+    pub target: SyncSide,
     /// The name of the target database.
     pub target_database: String,
     /// The user of each request, if there is one.
     pub user: Option<String>,
+    /// The target database is created if it is absent. Then its side is a file.
+    pub create: bool,
     /// How many megabytes of each file's pages are kept in memory at most, 1 to 4,096.
     pub cache: u32,
     /// The names of the admins of the stores in files.
@@ -63,21 +66,22 @@ impl Drop for SyncPlan {
         let SyncPlan {
             secret: _,
             session: _,
-            from: _,
+            source: _,
             database: _,
             target: _,
             target_database: _,
             user: _,
+            create: _,
             cache: _,
             admins: _,
         } = self;
     }
 }
 
-/// Where the target of a pass is.
+/// Where a side of a pass is.
 #[derive(Debug, Drop)]
-pub enum SyncTarget {
-    /// In the store in the file of this path, which isn't the source's.
+pub enum SyncSide {
+    /// In the store in the file of this path.
     File(String),
     /// At the server of this address, as `127.0.0.1:5984`.
     Address(String),

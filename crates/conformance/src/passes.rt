@@ -9,7 +9,7 @@ use repl::{Batch, Config, Replication};
 use std::alloc::Global;
 use std::test::Fail;
 use store::PlainStore;
-use sync::{Peer, Unwatched, sync_pass, sync_to_peer};
+use sync::{Remote, Side, Unwatched, sync_pass, sync_sides};
 use world::World;
 
 /// A design document that takes no document with a member `bad`, as an admin puts it.
@@ -124,7 +124,7 @@ struct Losing {
     is_gone: bool,
 }
 
-impl Peer for Losing {
+impl Side for Losing {
     fn answer(&mut self, _alloc: Global, request: &Request) -> Got<Option<Response>> {
         let response = self.node.handle(request);
         if self.left == 0 {
@@ -140,18 +140,18 @@ impl Peer for Losing {
 
 /// Plays a pass to a server that loses replies, and returns its status and what it printed.
 fn pass_to(alloc: Global, left: u32, is_gone: bool) -> Result<(u8, String), Fail> {
-    let mut peer = Losing {
+    let mut server = Remote::new(Losing {
         node: node(alloc, store(alloc)?)?,
         left,
         is_gone,
-    };
+    });
     let mut source = source(alloc)?;
     let mut pass = Replication::new(alloc, config(alloc, "db")?)?;
     let mut out = Vec::new(alloc);
-    let status = sync_to_peer(
+    let status = sync_sides(
         alloc,
         &mut source,
-        &mut peer,
+        &mut server,
         &mut pass,
         &mut out,
         &mut Unwatched,

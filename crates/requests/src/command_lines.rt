@@ -1,5 +1,5 @@
 use crate::texts::text_of;
-use command_line::{CommandFault, Plan, PlanFault, SyncPlan, SyncTarget, plan};
+use command_line::{CommandFault, Plan, PlanFault, SyncPlan, SyncSide, plan};
 use rows::{Kind, RowsFault, push_all};
 use std::alloc::Global;
 
@@ -62,34 +62,28 @@ fn show_asked(front: String, secret: &str, admins: &[String]) -> Result<Vec<u8>,
 
 /// Answers with what is to be copied.
 fn show_sync(alloc: Global, plan: &SyncPlan) -> Result<Vec<u8>, RowsFault> {
-    let (kind, place) = match &plan.target {
-        SyncTarget::File(path) => ("file", path),
-        SyncTarget::Address(address) => ("server", address),
-    };
     let mut front = String::from_str(alloc, "sync ")?;
-    push_all(
-        &mut front,
-        &[
-            &plan.from,
-            " ",
-            &plan.database,
-            " to ",
-            kind,
-            " ",
-            place,
-            " ",
-        ],
-    )?;
-    push_all(
-        &mut front,
-        &[&plan.target_database, ", session ", &plan.session],
-    )?;
+    push_all(&mut front, &side_words(&plan.source, &plan.database))?;
+    push_all(&mut front, &[" to "])?;
+    push_all(&mut front, &side_words(&plan.target, &plan.target_database))?;
+    push_all(&mut front, &[", session ", &plan.session])?;
     if let Some(user) = &plan.user {
         push_all(&mut front, &[", user ", user])?;
+    }
+    if plan.create {
+        push_all(&mut front, &[", created if absent"])?;
     }
     let cache = plan.cache;
     let front = format!(in alloc; "{front}, cache {cache} MB")?;
     show_asked(front, &plan.secret, &plan.admins)
+}
+
+/// Returns the words for a side of a pass: its place, and its database.
+fn side_words<'a>(side: &'a SyncSide, database: &'a str) -> [&'a str; 4] {
+    match side {
+        SyncSide::File(path) => ["file ", path.as_str(), " ", database],
+        SyncSide::Address(address) => ["server ", address.as_str(), " ", database],
+    }
 }
 
 /// Answers with the status and the words of a fault.

@@ -1,2 +1,4 @@
 pub mod Turns
+pub mod Printing
 pub mod Refusals
+pub mod Absence

@@ -2,18 +2,19 @@
 use Rattle.std.proofs.Common.{◌≡◌, ◌≤◌, ◌++◌, ◌∙◌, ◌∷◌, [], ℕ, zero, suc, List, length, map, take, inl, inr, ap, sym, subst, arith, length-append}
 use Rattle.store.specs.declared.store.Store.{Ghosts}
 use Rattle.hub.specs.Answering.{StoreSteps}
+use Rattle.hub.specs.Connections.{ConnectionTable}
 use Rattle.repl.specs.Passes.{Asked}
-use Rattle.std.specs.Prelude.{Some}
+use Rattle.std.specs.Prelude.{◌&&◌, Some, false, nat_le}
 use Rattle.world.specs.Happening.{Happening, Sight, comes, exchanges}
-use Rattle.world.specs.Network.{Network}
+use Rattle.world.specs.Network.{Network, Transfer}
 use Rattle.world.specs.Playing.{Plays, StandAs, Stands}
-use Rattle.world.specs.OneEvent.{happening_of}
+use Rattle.world.specs.OneEvent.{IsUnknownAt, happening_of, is_known, was_started}
 use Rattle.world.specs.declared.event.Event.TheVariants.{Exchange}
 use Rattle.world.specs.declared.fate.Fate.TheVariants.{Answered, ReplyLost}
 use Rattle.world.specs.declared.fault.WorldFaultKind.{WorldFaultKind}
 use Rattle.sync.specs.Passing.{HasTurn, BreaksOff}
-use Rattle.sync.specs.Peers.{Source}
-use Rattle.sync.specs.Peers as peers
+use Rattle.sync.specs.Sides.{Answering, Between}
+use Rattle.sync.specs.Sides as sides
 
 -- the number of the first event, where that is an exchange
 abbrev number_first : List Happening → ℕ
@@ -55,6 +56,19 @@ breaks_off g number kind before after (suc (suc n)) within s = absurd (omega (ar
 pub end_breaks_off : {S : Type 0} (g : Ghosts S) (number : ℕ) (before after : Network S) (asked : Asked) → HasTurn g number before (Some asked) after → BreaksOff g number before after
 end_breaks_off g number before after asked turn = inr ((Answered, (λ h. absurd cc), (turn.0, turn.1)))
 
--- the same of a pass to a peer
-pub peer_end_breaks_off : {S : Type 0} (g : Ghosts S) (before after : Source S) (asked : Asked) → peers.HasTurn g before (Some asked) after → peers.BreaksOff g before after
-peer_end_breaks_off g before after asked turn = (ap (λ s. s.pass) turn.1, inl (ap (λ s. s.node) turn.1))
+-- the same between two sides
+pub sides_end_break_off : {F T : Type 0} (source : Answering F) (target : Answering T) (before after : Between F T) (asked : Asked)
+    → sides.HasTurn source target before (Some asked) after → sides.BreaksOff source target before after
+sides_end_break_off source target before after asked turn = inl turn.2
+
+-- only a pass that was never started is unknown
+pub was_never_started : (table : ConnectionTable) (transfers : List Transfer) (number played : ℕ) → IsUnknownAt table transfers (exchanges number Answered ∷ []) played → was_started transfers number ≡ false
+was_never_started table transfers number zero u = subst (λ (h : Happening). is_known table transfers h ≡ false) (sym (same u)) u.2
+  where
+    same : IsUnknownAt table transfers (exchanges number Answered ∷ []) zero → exchanges number Answered ≡ u.0
+    same unknown = cc
+was_never_started table transfers number (suc n) u = absurd cc
+
+-- nor was it before, where the passes were as many
+pub never_started_before : (old new : List Transfer) (number : ℕ) → length new ≡ length old → was_started new number ≡ false → was_started old number ≡ false
+never_started_before old new number many never = subst (λ (n : ℕ). (nat_le 1 number && nat_le number n) ≡ false) many never

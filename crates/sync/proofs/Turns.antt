@@ -1,10 +1,12 @@
 -- Turns of a pass, one after another.
-use Rattle.std.proofs.Common.{◌≡◌, ◌<◌, ◌≤◌, ◌+◌, ℕ, suc, Option, Some, None, inl, subst, arith}
-use Rattle.std.specs.Prelude.{OnErr, Result, Ok, Err, option_map}
+use Rattle.std.proofs.Common.{◌≡◌, ◌<◌, ◌≤◌, ◌+◌, ℕ, suc, Option, Some, None, inl, subst, sym, arith}
+use Rattle.std.specs.Prelude.{IfErr, IsErrAnd, OnErr, Result, Ok, Err, option_map}
+use Rattle.command_line.specs.declared.fault.ProgramFault.{ProgramFault}
+use Rattle.command_line.specs.declared.fault.ProgramFault.TheVariants.{Memory}
 use Rattle.repl.specs.Asks.{ask_of}
 use Rattle.repl.specs.Passes.{Asked}
 use Rattle.repl.specs.declared.ask.Ask.{Ask}
-use Rattle.sync.specs.Turns.{ComesToEnd, EndsEarly, GoesThrough, RunsOut, TurnOf, most_exchanges}
+use Rattle.sync.specs.Turns.{ComesToEnd, EndsBy, GoesThrough, RunsOut, StopsInTurn, TurnOf, most_exchanges}
 
 -- a turn that there may be has as many exchanges before it as there may be, or fewer
 in_time_before : (count most : ℕ) → count < most + 1 → count ≤ most
@@ -41,17 +43,22 @@ runs_out turn count start now within all gone = record { count = count; one_more
 
 module _ {A : Type 0} (turn : TurnOf A) (breaks : A → A → Type 0) where
   -- a turn that broke off
-  pub early_at_turn : (count : ℕ) (start now after : A) → count < most_exchanges + 1 → GoesThrough turn count start now → breaks now after → EndsEarly turn breaks start after
-  early_at_turn count start now after in_time gone left =
-      inl (record { count = count; in_time = in_time_before count most_exchanges in_time; between = now; goes = gone; last = left })
+  pub stops_in_turn : (count : ℕ) (start now after : A) → count < most_exchanges + 1 → GoesThrough turn count start now → breaks now after → StopsInTurn turn breaks start after
+  stops_in_turn count start now after in_time gone left =
+      record { count = count; in_time = in_time_before count most_exchanges in_time; between = now; goes = gone; last = left }
 
   -- a pass that came to its end, which nobody was told
-  pub early_at_end : ((before after : A) (asked : Asked) → turn before (Some asked) after → breaks before after)
-      → (start after : A) (asked : Asked) → ComesToEnd turn start asked after → EndsEarly turn breaks start after
-  early_at_end may start after asked end = inl (record {
+  pub stops_at_end : ((before after : A) (asked : Asked) → turn before (Some asked) after → breaks before after)
+      → (start after : A) (asked : Asked) → ComesToEnd turn start asked after → StopsInTurn turn breaks start after
+  stops_at_end may start after asked end = record {
     count = end.count;
     in_time = end.in_time;
     between = end.between;
     goes = end.goes;
     last = may end.between after asked end.ends;
-  })
+  }
+
+  -- memory ran out in a turn
+  pub by_memory : {X : Type 0} (r : Result X ProgramFault) (start after : A) → IsErrAnd r (λ fault. fault ≡ Memory) → StopsInTurn turn breaks start after → IfErr r (EndsBy turn breaks start after)
+  by_memory (Ok x) start after is stops = tt
+  by_memory (Err fault) start after is stops = subst (λ (f : ProgramFault). EndsBy turn breaks start after f) (sym is) stops

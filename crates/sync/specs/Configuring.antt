@@ -2,23 +2,28 @@
 -- This project's own.
 use Rattle.std.specs.Prelude.{List, ℕ, [], ◌++◌, Some, codes, option_map}
 use Rattle.auth.specs.Hmac.{token_of}
-use Rattle.command_line.specs.Plan.{SyncAsked}
+use Rattle.command_line.specs.Plan.{SideAsked, SyncAsked, file_asked, address_asked}
 use Rattle.repl.specs.Configuration.{Account, Configuration}
 
 -- the name of a side: the place, a slash, and the database
 abbrev pub side_name : List ℕ → List ℕ → List ℕ
 side_name place database = place ++ (codes "/" ++ database)
 
+-- the path or the address of a side
+abbrev pub place_of : SideAsked → List ℕ
+place_of (file_asked path) = path
+place_of (address_asked address) = address
+
 -- the user of this name, without roles, and with the token that vouches for the name under this secret
 abbrev pub account_named : List ℕ → List ℕ → Account
 account_named secret name = record { name = name; roles = []; token = token_of secret name }
 
--- what a pass to this file or address is told
-abbrev pub pass_configuration : SyncAsked → List ℕ → Configuration
-pass_configuration asked target = record {
-  source = side_name asked.from asked.database;
+-- what a pass is told
+abbrev pub pass_configuration : SyncAsked → Configuration
+pass_configuration asked = record {
+  source = side_name (place_of asked.source) asked.database;
   source_db = asked.database;
-  target = side_name target asked.target_database;
+  target = side_name (place_of asked.target) asked.target_database;
   target_db = asked.target_database;
   user = option_map (account_named asked.secret) asked.user;
   session = asked.session;

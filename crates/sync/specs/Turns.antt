@@ -1,6 +1,8 @@
 -- How a pass comes to its end by turns, whatever a turn changes: what is between two turns is of any type.
 -- CouchDB manual, replication/protocol; how many exchanges a pass may make is this project's own.
 use Rattle.std.specs.Prelude.{◌≡◌, ◌≤◌, ◌⊎◌, ◌+◌, ◌^◌, ℕ, zero, suc, Option, Some, None}
+use Rattle.command_line.specs.declared.fault.ProgramFault.{ProgramFault}
+use Rattle.command_line.specs.declared.fault.ProgramFault.TheVariants.{File, Line, Memory, Socket}
 use Rattle.repl.specs.Passes.{Asked}
 
 -- what a turn makes of what is before it: an exchange, or what the pass says where it has ended
@@ -41,3 +43,10 @@ pub record StopsInTurn {A : Type 0} (turn : TurnOf A) (breaks_off : A → A → 
 -- the pass ended early, before its end was told
 abbrev pub EndsEarly : {A : Type 0} → TurnOf A → (A → A → Type 0) → A → A → Type 0
 EndsEarly turn breaks_off before after = StopsInTurn turn breaks_off before after ⊎ RunsOut turn before after
+
+-- what a fault says of a pass whose end was not reached: memory ran out in a turn, or no turn was left
+abbrev pub EndsBy : {A : Type 0} → TurnOf A → (A → A → Type 0) → A → A → ProgramFault → Type 0
+EndsBy turn breaks_off before after Memory = StopsInTurn turn breaks_off before after
+EndsBy turn breaks_off before after File = RunsOut turn before after
+EndsBy turn breaks_off before after Socket = ⊥
+EndsBy turn breaks_off before after (Line n) = ⊥

@@ -2,12 +2,12 @@
 
 ghost use Rattle.std.specs.Prelude.{◌≡◌, IfOk, option_map, string_bytes};
 ghost use Rattle.auth.specs.Hmac.{token_of};
-ghost use Rattle.command_line.specs.Plan.{sync_of};
+ghost use Rattle.command_line.specs.Plan.{side_of, sync_of};
 ghost use Rattle.repl.specs.Configuration.{account_of, configuration_of};
-ghost use Rattle.sync.specs.Configuring.{account_named, pass_configuration, side_name};
+ghost use Rattle.sync.specs.Configuring.{account_named, pass_configuration, place_of, side_name};
 
 use auth::Auth;
-use command_line::SyncPlan;
+use command_line::{SyncPlan, SyncSide};
 use couch_json::Got;
 use repl::{Batch, Config, User};
 use std::alloc::Global;
@@ -16,18 +16,28 @@ use std::alloc::Global;
 const BATCH: u64 = 500;
 
 /// Returns what a pass is told: each side is named by its file or address, a slash, and its database.
-pub fn configure(alloc: Global, plan: &SyncPlan, target: &str) -> Got<Config>
-    ensures { IfOk result (λ config. configuration_of config ≡ pass_configuration (sync_of plan.now) target.now) }
+pub fn configure(alloc: Global, plan: &SyncPlan) -> Got<Config>
+    ensures { IfOk result (λ config. configuration_of config ≡ pass_configuration (sync_of plan.now)) }
 {
     Ok(Config {
-        source: side_name(alloc, &plan.from, &plan.database)?,
+        source: side_name(alloc, place_of(&plan.source), &plan.database)?,
         source_db: String::from_str(alloc, &plan.database)?,
-        target: side_name(alloc, target, &plan.target_database)?,
+        target: side_name(alloc, place_of(&plan.target), &plan.target_database)?,
         target_db: String::from_str(alloc, &plan.target_database)?,
         user: user_of(alloc, plan)?,
         session: String::from_str(alloc, &plan.session)?,
         batch: Batch::new(BATCH),
     })
+}
+
+/// Returns the path or the address of a side.
+fn place_of(side: &SyncSide) -> &str
+    ensures { result.now ≡ place_of (side_of side.now) }
+{
+    match side {
+        SyncSide::File(path) => path,
+        SyncSide::Address(address) => address,
+    }
 }
 
 /// Returns the name of a side: the place, a slash, and the database.

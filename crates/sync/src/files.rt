@@ -1,11 +1,17 @@
-//! Stores in files, and a pass between them.
+//! The sides of a pass that the words of a command line name, and the pass between them.
 
-use crate::addressed::sync_to_peer;
+ghost use Rattle.std.specs.Prelude.{◌≡◌, IfOk, if◌then◌else◌, string_bytes};
+ghost use Rattle.sync.specs.Creating.{with_database};
+
+use crate::address::Address;
 use crate::configuring::configure;
+use crate::creating::create_absent;
 use crate::passing::watch_pass;
-use crate::peer::Address;
+use crate::remote::Remote;
+use crate::side::Side;
+use crate::sides::sync_sides;
 use crate::terminal::ProgressLine;
-use command_line::{ProgramFault, SyncPlan, SyncTarget};
+use command_line::{ProgramFault, SyncPlan, SyncSide};
 use couch_json::Got;
 use node::Node;
 use repl::Replication;
@@ -16,6 +22,7 @@ use std::alloc::Global;
 use std::io;
 use std::io::{Eprint, IsTerminal, Write};
 use std::net::{Net, TcpStream};
+use std::time::Clock;
 use store::Store;
 use world::World;
 
@@ -23,10 +30,20 @@ use world::World;
 /// then the target's. Prints the report, and where standard error is a terminal it shows there how far
 /// the pass is. Returns the program's status.
 pub fn sync(rt: &HostRuntime, plan: &SyncPlan) -> Result<u8, ProgramFault> {
-    let is_terminal = rt.stderr().is_terminal();
-    match &plan.target {
-        SyncTarget::File(path) => sync_files(rt, plan, is_terminal, path),
-        SyncTarget::Address(address) => sync_file(rt, plan, is_terminal, address),
+    let mut watch = ProgressLine {
+        rt,
+        is_terminal: rt.stderr().is_terminal(),
+        is_begun: false,
+    };
+    match (&plan.source, &plan.target) {
+        (SyncSide::File(from), SyncSide::File(to)) => sync_files(rt, plan, from, to, &mut watch),
+        (SyncSide::File(path), SyncSide::Address(address))
+        | (SyncSide::Address(address), SyncSide::File(path)) => {
+            sync_file(rt, plan, path, address, &mut watch)
+        }
+        (SyncSide::Address(from), SyncSide::Address(to)) => {
+            sync_addresses(rt, plan, from, to, &mut watch)
+        }
     }
 }
 
@@ -34,52 +51,61 @@ pub fn sync(rt: &HostRuntime, plan: &SyncPlan) -> Result<u8, ProgramFault> {
 fn sync_files(
     rt: &HostRuntime,
     plan: &SyncPlan,
-    is_terminal: bool,
-    path: &str,
+    from: &str,
+    to: &str,
+    watch: &mut ProgressLine<'_, HostRuntime>,
 ) -> Result<u8, ProgramFault> {
-    let from = open_file(rt, &plan.from, plan.cache)?;
-    let to = open_file(rt, path, plan.cache)?;
-    sync_tables(rt, plan, is_terminal, from, path, to)
+    let from = open_file(rt, from, plan.cache)?;
+    let to = open_file(rt, to, plan.cache)?;
+    sync_tables(rt, plan, from, to, watch)
 }
 
 /// Copies a database of a store over tables to one of another, whatever files these stand on.
 fn sync_tables<S: Alter + Drop>(
     rt: &HostRuntime,
     plan: &SyncPlan,
-    is_terminal: bool,
     from: SqlStore<S>,
-    path: &str,
     to: SqlStore<S>,
+    watch: &mut ProgressLine<'_, HostRuntime>,
 ) -> Result<u8, ProgramFault> {
-    sync_stores(rt, plan, is_terminal, from, path, to)
+    sync_stores(rt, plan, from, to, watch)
 }
 
 /// Copies a database of a store to one of another.
 fn sync_stores<R: Print + Eprint + AllocGlobal, S: Store + Drop>(
     rt: &R,
     plan: &SyncPlan,
-    is_terminal: bool,
     from: S,
-    path: &str,
     to: S,
+    watch: &mut ProgressLine<'_, R>,
 ) -> Result<u8, ProgramFault> {
     let alloc = rt.alloc();
     let source = open_node(alloc, &plan.secret, &plan.admins, from)?;
-    let target = open_node(alloc, &plan.secret, &plan.admins, to)?;
+    let target = open_target(alloc, plan, to)?;
     let mut world = World::new(alloc, both(alloc, source, target)?);
-    let config = configure(alloc, plan, path)?;
-    let Ok(repl) = world.start(config, 0, 1) else {
+    let Ok(repl) = world.start(configure(alloc, plan)?, 0, 1) else {
         return Err(ProgramFault::Memory);
     };
-    let mut watch = ProgressLine {
-        rt,
-        is_terminal,
-        is_begun: false,
-    };
     let mut out = io::writer(rt);
-    let status = watch_pass(alloc, &mut world, repl, &mut out, &mut watch)?;
+    let status = watch_pass(alloc, &mut world, repl, &mut out, watch)?;
     out.flush()?;
     Ok(status)
+}
+
+/// Opens the node of a target, and creates its database where that is absent and the plan says so.
+fn open_target<S: Store + Drop>(
+    alloc: Global,
+    plan: &SyncPlan,
+    store: S,
+) -> Result<Node<S>, ProgramFault>
+    ensures { IfOk result (λ node. S.is_honest node.store
+        → S.contents node.store ≡ (if plan.now.create then with_database (S.contents store) (string_bytes plan.now.target_database) else S.contents store)) }
+{
+    let mut store = store;
+    if plan.create {
+        create_absent(alloc, &mut store, &plan.target_database)?;
+    }
+    open_node(alloc, &plan.secret, &plan.admins, store)
 }
 
 /// Returns two nodes as a list.
@@ -90,49 +116,115 @@ fn both<S: Store + Drop>(alloc: Global, first: Node<S>, second: Node<S>) -> Got<
     Ok(nodes)
 }
 
-/// Copies a database of the store in a file to one of the server at an address.
+/// Copies a database between the store in a file and the server at an address.
 fn sync_file(
     rt: &HostRuntime,
     plan: &SyncPlan,
-    is_terminal: bool,
+    path: &str,
     address: &str,
+    watch: &mut ProgressLine<'_, HostRuntime>,
 ) -> Result<u8, ProgramFault> {
-    let from = open_file(rt, &plan.from, plan.cache)?;
-    sync_tables_to(rt, plan, is_terminal, from, address)
+    let store = open_file(rt, path, plan.cache)?;
+    sync_tables_with(rt, plan, store, address, watch)
 }
 
-/// Copies a database of a store over tables to one of the server at an address, whatever file these stand
+/// Copies a database between a store over tables and the server at an address, whatever file these stand
 /// on.
-fn sync_tables_to<S: Alter + Drop>(
+fn sync_tables_with<S: Alter + Drop>(
     rt: &HostRuntime,
     plan: &SyncPlan,
-    is_terminal: bool,
-    from: SqlStore<S>,
+    store: SqlStore<S>,
     address: &str,
+    watch: &mut ProgressLine<'_, HostRuntime>,
 ) -> Result<u8, ProgramFault> {
-    sync_to_address(rt, plan, is_terminal, from, address)
+    sync_store(rt, plan, store, address, watch)
 }
 
-/// Copies a database of a store to one of the server at an address.
-fn sync_to_address<R: Net<Stream = TcpStream> + Print + Eprint + AllocGlobal, S: Store + Drop>(
+/// Copies a database between a store and the server at an address, in the direction of the plan.
+fn sync_store<
+    'a,
+    R: Net<Stream = TcpStream> + Clock + Print + Eprint + AllocGlobal,
+    S: Store + Drop,
+>(
+    rt: &'a R,
+    plan: &SyncPlan,
+    store: S,
+    address: &'a str,
+    watch: &mut ProgressLine<'_, R>,
+) -> Result<u8, ProgramFault> {
+    let server = Address::new(rt, address, true);
+    match &plan.source {
+        SyncSide::File(_) => push(rt, plan, store, server, watch),
+        SyncSide::Address(_) => pull(rt, plan, server, store, watch),
+    }
+}
+
+/// Copies a database of a store to one of a server.
+fn push<R: Print + Eprint + AllocGlobal, S: Store + Drop, P: Side + Drop>(
     rt: &R,
     plan: &SyncPlan,
-    is_terminal: bool,
-    from: S,
-    address: &str,
+    store: S,
+    server: P,
+    watch: &mut ProgressLine<'_, R>,
+) -> Result<u8, ProgramFault> {
+    let mut source = open_node(rt.alloc(), &plan.secret, &plan.admins, store)?;
+    let mut target = Remote::new(server);
+    play(rt, plan, &mut source, &mut target, watch)
+}
+
+/// Copies a database of a server to one of a store.
+fn pull<R: Print + Eprint + AllocGlobal, P: Side + Drop, S: Store + Drop>(
+    rt: &R,
+    plan: &SyncPlan,
+    server: P,
+    store: S,
+    watch: &mut ProgressLine<'_, R>,
+) -> Result<u8, ProgramFault> {
+    let mut source = Remote::new(server);
+    let mut target = open_target(rt.alloc(), plan, store)?;
+    play(rt, plan, &mut source, &mut target, watch)
+}
+
+/// Copies a database of the server at an address to one of that at another. Of one server that serves one
+/// connection after another, two that stay open would hold each other up: at one address none is kept.
+fn sync_addresses<'a, R: Net<Stream = TcpStream> + Clock + Print + Eprint + AllocGlobal>(
+    rt: &'a R,
+    plan: &SyncPlan,
+    from: &'a str,
+    to: &'a str,
+    watch: &mut ProgressLine<'_, R>,
+) -> Result<u8, ProgramFault> {
+    let keeps = from != to;
+    let source = Address::new(rt, from, keeps);
+    let target = Address::new(rt, to, keeps);
+    relay(rt, plan, source, target, watch)
+}
+
+/// Copies a database of a server to one of another.
+fn relay<R: Print + Eprint + AllocGlobal, P: Side + Drop, Q: Side + Drop>(
+    rt: &R,
+    plan: &SyncPlan,
+    from: P,
+    to: Q,
+    watch: &mut ProgressLine<'_, R>,
+) -> Result<u8, ProgramFault> {
+    let mut source = Remote::new(from);
+    let mut target = Remote::new(to);
+    play(rt, plan, &mut source, &mut target, watch)
+}
+
+/// Plays the pass of a plan between two sides, and prints its report.
+fn play<R: Print + Eprint + AllocGlobal, F: Side, T: Side>(
+    rt: &R,
+    plan: &SyncPlan,
+    source: &mut F,
+    target: &mut T,
+    watch: &mut ProgressLine<'_, R>,
 ) -> Result<u8, ProgramFault> {
     let alloc = rt.alloc();
-    let mut node = open_node(alloc, &plan.secret, &plan.admins, from)?;
-    let config = configure(alloc, plan, address)?;
-    let mut pass = Replication::new(alloc, config)?;
-    let mut peer = Address { rt, address };
-    let mut watch = ProgressLine {
-        rt,
-        is_terminal,
-        is_begun: false,
-    };
+    let mut pass = Replication::new(alloc, configure(alloc, plan)?)?;
     let mut out = io::writer(rt);
-    let status = sync_to_peer(alloc, &mut node, &mut peer, &mut pass, &mut out, &mut watch)?;
+    let status = sync_sides(alloc, source, target, &mut pass, &mut out, watch)?;
     out.flush()?;
     Ok(status)
 }

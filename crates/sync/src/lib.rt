@@ -1,18 +1,23 @@
-//! Copies a database by a replication pass: from the store in a file to that in another, or to a server.
+//! Copies a database by a replication pass between two sides, each the store in a file or a server.
 #![tactic(auto)]
 
-mod addressed;
+mod address;
 mod configuring;
+mod creating;
 mod ending;
 mod files;
 mod limits;
+mod node_side;
 mod passing;
-mod peer;
+mod remote;
+mod side;
+mod sides;
 mod terminal;
 mod watch;
 
-pub use addressed::sync_to_peer;
 pub use files::sync;
 pub use passing::sync_pass;
-pub use peer::Peer;
+pub use remote::Remote;
+pub use side::Side;
+pub use sides::sync_sides;
 pub use watch::{Unwatched, Watch};

@@ -1,14 +1,14 @@
 //! A pass between nodes of one world, from its start to its end.
 
-ghost use Rattle.std.specs.Prelude.{◌≡◌, ◌⊎◌, ℕ, Err, IfOk, OnErr, OnOk, false, length, map, option_map, true};
+ghost use Rattle.std.specs.Prelude.{◌≡◌, ◌⊎◌, ℕ, Err, IfErr, IfOk, OnErr, OnOk, false, length, map, option_map, true};
 ghost use Rattle.std.specs.Io.KnownBytes.{Appends};
 ghost use Rattle.repl.specs.Asks.{ask_of};
 ghost use Rattle.repl.specs.Passes.{Asked};
 ghost use Rattle.world.specs.Network.{AreHonest};
 ghost use Rattle.world.specs.OneEvent.{sight_of, was_started};
-ghost use Rattle.sync.specs.Ending.{end_text, status_of};
+ghost use Rattle.sync.specs.Ending.{IsUntold, StandsIn, end_text, status_of};
 ghost use Rattle.sync.specs.Passing.{HasTurn, BreaksOff, end_in};
-ghost use Rattle.sync.specs.Turns.{ComesToEnd, EndsEarly};
+ghost use Rattle.sync.specs.Turns.{ComesToEnd, EndsEarly, RunsOut, StopsInTurn};
 
 use crate::ending::{print_end, status_of};
 use crate::limits::MOST_TURNS;
@@ -24,7 +24,7 @@ use world::{Event, Seen, World, WorldFault, WorldFaultKind};
 /// stopped. Returns the program's status: 0 where the pass is done and nothing was refused, 3 where
 /// something was, 4 where it stopped.
 ///
-/// `File`: there is no such pass, it hasn't ended after 2^32 exchanges, or the line can't be written.
+/// `File`: there is no such pass, it hasn't ended after 2^32 exchanges, or the line can't be written whole.
 /// `Memory`: memory ran out. The exchanges so far stand, and one more may, whose reply may be lost.
 pub fn sync_pass<S: Store + Drop, W: Write>(
     alloc: Global,
@@ -36,9 +36,18 @@ pub fn sync_pass<S: Store + Drop, W: Write>(
         × (status ≡ status_of asked) × Appends (W.contents writer.old) (W.contents writer.new) (end_text asked)) }
     ensures known { OnOk result (was_started world.old.transfers repl ≡ true) }
 
-    // At a refusal the exchanges so far stand, and one more may.
+    // At a refusal the exchanges so far stand, and one more may. What was printed before stands.
     ensures early { AreHonest S.Store world.new.nodes → OnErr result (EndsEarly (HasTurn S.Store repl) (BreaksOff S.Store repl) world.old world.new) }
+    ensures kept { OnErr result (StandsIn (W.contents writer.old) (W.contents writer.new)) }
     ensures unknown { was_started world.old.transfers repl ≡ false → (result ≡ Err ProgramFault.File) ⊎ (result ≡ Err ProgramFault.Memory) }
+    ensures faults { IfErr result (λ fault. (fault ≡ ProgramFault.File) ⊎ (fault ≡ ProgramFault.Memory)) }
+
+    // Where memory ran out nothing was printed. Else the pass was never started, or it had not ended, or its line could not be printed whole.
+    ensures memory { AreHonest S.Store world.new.nodes → result ≡ Err ProgramFault.Memory
+        → StopsInTurn (HasTurn S.Store repl) (BreaksOff S.Store repl) world.old world.new × (W.contents writer.new ≡ W.contents writer.old) }
+    ensures file { AreHonest S.Store world.new.nodes → result ≡ Err ProgramFault.File
+        → ((was_started world.old.transfers repl ≡ false) × (W.contents writer.new ≡ W.contents writer.old))
+        ⊎ IsUntold (HasTurn S.Store repl) world.old world.new (W.contents writer.old) (W.contents writer.new) }
 {
     watch_pass(alloc, world, repl, writer, &mut Unwatched)
 }
@@ -55,9 +64,18 @@ pub fn watch_pass<S: Store + Drop, W: Write, T: Watch>(
         × (status ≡ status_of asked) × Appends (W.contents writer.old) (W.contents writer.new) (end_text asked)) }
     ensures known { OnOk result (was_started world.old.transfers repl ≡ true) }
 
-    // At a refusal the exchanges so far stand, and one more may.
+    // At a refusal the exchanges so far stand, and one more may. What was printed before stands.
     ensures early { AreHonest S.Store world.new.nodes → OnErr result (EndsEarly (HasTurn S.Store repl) (BreaksOff S.Store repl) world.old world.new) }
+    ensures kept { OnErr result (StandsIn (W.contents writer.old) (W.contents writer.new)) }
     ensures unknown { was_started world.old.transfers repl ≡ false → (result ≡ Err ProgramFault.File) ⊎ (result ≡ Err ProgramFault.Memory) }
+    ensures faults { IfErr result (λ fault. (fault ≡ ProgramFault.File) ⊎ (fault ≡ ProgramFault.Memory)) }
+
+    // Where memory ran out nothing was printed. Else the pass was never started, or it had not ended, or its line could not be printed whole.
+    ensures memory { AreHonest S.Store world.new.nodes → result ≡ Err ProgramFault.Memory
+        → StopsInTurn (HasTurn S.Store repl) (BreaksOff S.Store repl) world.old world.new × (W.contents writer.new ≡ W.contents writer.old) }
+    ensures file { AreHonest S.Store world.new.nodes → result ≡ Err ProgramFault.File
+        → ((was_started world.old.transfers repl ≡ false) × (W.contents writer.new ≡ W.contents writer.old))
+        ⊎ IsUntold (HasTurn S.Store repl) world.old world.new (W.contents writer.old) (W.contents writer.new) }
 {
     let end = play_to_end(world, repl, watch);
     watch.end();
@@ -74,8 +92,12 @@ fn play_to_end<S: Store + Drop, T: Watch>(
 ) -> Result<Ask, ProgramFault>
     ensures ended { AreHonest S.Store world.new.nodes → IfOk result (λ end. ComesToEnd (HasTurn S.Store repl) world.old (ask_of end) world.new) }
     ensures known { OnOk result (was_started world.old.transfers repl ≡ true) }
+    ensures memory { AreHonest S.Store world.new.nodes → result ≡ Err ProgramFault.Memory → StopsInTurn (HasTurn S.Store repl) (BreaksOff S.Store repl) world.old world.new }
     ensures early { AreHonest S.Store world.new.nodes → OnErr result (EndsEarly (HasTurn S.Store repl) (BreaksOff S.Store repl) world.old world.new) }
+    ensures file { AreHonest S.Store world.new.nodes → result ≡ Err ProgramFault.File
+        → (was_started world.old.transfers repl ≡ false) ⊎ RunsOut (HasTurn S.Store repl) world.old world.new }
     ensures unknown { was_started world.old.transfers repl ≡ false → (result ≡ Err ProgramFault.File) ⊎ (result ≡ Err ProgramFault.Memory) }
+    ensures faults { IfErr result (λ fault. (fault ≡ ProgramFault.File) ⊎ (fault ≡ ProgramFault.Memory)) }
 {
     for _turn in 0..MOST_TURNS {
         if let Some(end) = take_turn(world, repl, watch)? {
@@ -96,7 +118,9 @@ fn take_turn<S: Store + Drop, T: Watch>(
     ensures many { length world.new.transfers ≡ length world.old.transfers }
     ensures known { OnOk result (was_started world.old.transfers repl ≡ true) }
     ensures early { AreHonest S.Store world.new.nodes → OnErr result (BreaksOff S.Store repl world.old world.new) }
+    ensures file { result ≡ Err ProgramFault.File → was_started world.old.transfers repl ≡ false }
     ensures unknown { was_started world.old.transfers repl ≡ false → (result ≡ Err ProgramFault.File) ⊎ (result ≡ Err ProgramFault.Memory) }
+    ensures faults { IfErr result (λ fault. (fault ≡ ProgramFault.File) ⊎ (fault ≡ ProgramFault.Memory)) }
 {
     let seen = match world.play(&[Event::Exchange { repl }]) {
         Ok(seen) => seen,
@@ -112,7 +136,8 @@ fn take_turn<S: Store + Drop, T: Watch>(
 
 /// Tells what fault of the program a fault of the world is.
 fn program_fault(fault: &WorldFault) -> ProgramFault
-    ensures { (result ≡ ProgramFault.File) ⊎ (result ≡ ProgramFault.Memory) }
+    ensures faults { (result ≡ ProgramFault.File) ⊎ (result ≡ ProgramFault.Memory) }
+    ensures file { result ≡ ProgramFault.File → fault.now.kind ≡ WorldFaultKind.Unknown }
 {
     match fault.kind {
         WorldFaultKind::Unknown => ProgramFault::File,

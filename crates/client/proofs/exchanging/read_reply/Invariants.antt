@@ -1,4 +1,4 @@
-use Rattle.std.proofs.Common.{◌≡◌, length}
+use Rattle.std.proofs.Common.{◌≡◌, ◌≤◌, ◌*◌, length}
 use Rattle.client.specs.Streams.{outcomes_of}
 use Rattle.client.proofs.Reading.{HasRead}
 use Rattle.client.proofs.exchanging.read_reply.Given as goal
@@ -8,6 +8,7 @@ invariant-loop-number g l = record {
   read : HasRead
       (record { bytes = g.R.Read.remaining l.initial.reader.stream; log = outcomes_of l.initial.reader.log.items })
       (record { bytes = g.R.Read.remaining l.reader.stream; log = outcomes_of l.reader.log.items })
-      l._number l.cutter;
+      l._number l.cutter l.read;
   room : length l.room ≡ 8192;
+  bounded : l.read ≤ l._number * 8192;
 }

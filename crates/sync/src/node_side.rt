@@ -1,0 +1,20 @@
+//! A node as a side of a pass.
+
+use crate::side::Side;
+use couch_http::{Request, Response};
+use couch_json::Got;
+use node::Node;
+use std::alloc::Global;
+use store::Store;
+
+impl<S: Store + Drop> Side for Node<S> {
+    ghost use Rattle.sync.specs.Nodes.{IsServed};
+
+    ghost is_honest = { λ node. S.is_honest node.store };
+
+    ghost answers = { IsServed S.Store };
+
+    fn answer(&mut self, _alloc: Global, request: &Request) -> Got<Option<Response>> {
+        Ok(Some(self.handle(request)))
+    }
+}
