@@ -63,16 +63,16 @@ class Book:
 
     def read(self, module, crate, path, lines):
         """Takes in a file: the comment at its head, and its definitions by their names; members of a type lead to it."""
-        named, inner = self.modules.setdefault(module, {}), {}
+        named, is_inner = self.modules.setdefault(module, {}), False
         names, comment, current, is_head = uses_in(lines), [], None, True
         self.heads[path] = lines[0].removeprefix("-- ")
         for line in lines:
-            shift = 2 if current is None and line.startswith("  ") or inner and line.startswith("  ") else 0
-            text = line[shift:]
+            # What stands in a module with parameters is two blanks further in.
+            text = line.removeprefix("  ") if is_inner else line
             if not text.strip():
                 comment = []
             elif text.startswith("module "):
-                inner, comment = {"in": True}, []
+                is_inner, comment = True, []
             elif text.lstrip().startswith("--"):
                 comment = [] if is_head else comment + [text.lstrip().removeprefix("--").strip()]
             elif USE.match(text.strip()) or text.startswith("pub mod "):
@@ -84,8 +84,7 @@ class Book:
                     named.setdefault(member[1], current)
             else:
                 is_head = False
-                if not line.startswith("  "):
-                    inner = {}
+                is_inner = is_inner and line.startswith("  ")
                 words, name = HEAD.match(text).groups()
                 if current is None or name != current.name:
                     kind = next((word for word in ("data", "record") if word in words.split()), "")

@@ -1,4 +1,5 @@
 -- What a pass of the program asks and reports, and where it stands, in the words of `Passes`.
+-- This project's own: it ties the types of the code to those of `Passes`.
 use Rattle.std.specs.Prelude.{map, option_map, string_bytes}
 use Rattle.couch_json.specs.View.{view}
 use Rattle.couch_http.specs.Message.{message_of}
