@@ -4,7 +4,7 @@ use Rattle.couch_json.specs.Value.{Members, Value, member, member_at, member_of,
 use Rattle.index.proofs.DeclarationStatements.{of_index}
 use Rattle.index.proofs.EntryChanges.{same_bytes, same_number}
 use Rattle.index.specs.Meaning.{declared_if}
-use Rattle.index.specs.Rebuilding.{declared_names, is_of_design, names_of, shown_name, with_names}
+use Rattle.index.specs.Rebuilding.{declared_names, is_of_design, names_of, shown_name}
 use Rattle.policy.specs.DesignDocuments.{is_index_object}
 use Rattle.std.proofs.Common.{Equal, Greater, Less, Ordering, codes, is_eq}
 use Rattle.std.proofs.lemmas.Map.Text.{is_eq-slice_cmp}
@@ -39,7 +39,7 @@ undeclared_name (Some v) n out = go (member_of v (codes "indexes")) refl out
     go (Some w) is out = ap (λ m. option_map fields_in (member_of (object (indexes_if m)) n)) is ∙ ap (option_map fields_in) (not_in_object n w (is_index_object w) out)
 
 -- an index of a design document has no row, where none of the rows of the document has its name
-none_stored : (d db : ℤ) (o design n : List ℕ) (rows : List Row) → d ≡ db → o ≡ design → list_any (bytes_eq n) (map shown_name (map shown_declaration (filter (is_of_design db design) rows))) ≡ false → find (is_declaration_of d o n) rows ≡ None
+pub none_stored : (d db : ℤ) (o design n : List ℕ) (rows : List Row) → d ≡ db → o ≡ design → list_any (bytes_eq n) (map shown_name (map shown_declaration (filter (is_of_design db design) rows))) ≡ false → find (is_declaration_of d o n) rows ≡ None
 none_stored d db o design n [] same named out = refl
 none_stored d db o design n (r ∷ rows) same named out = go (is_of_design db design r) refl out (none_stored d db o design n rows same named)
   where
@@ -60,17 +60,3 @@ none_stored d db o design n (r ∷ rows) same named out = go (is_of_design db de
         at true is e has out = absurd (let it = same_bytes n (index_name_of r) (sym (of_index d o n r is).2) in cc)
         at false is true has out = absurd (cc)
         at false is false has out = more out
-
-pub all_declared : (declares : Declarations) (db : ℤ) (design : List ℕ) (body : Option Value) (rows : List Row) → ((d : ℤ) (o n : List ℕ) → declared_by rows d o n ≡ declares d o n) → (d : ℤ) (o n : List ℕ)
-    → with_names (with_names declares db design (declared_if body) (map shown_name (map shown_declaration (filter (is_of_design db design) rows)))) db design (declared_if body) (declared_names body) d o n ≡ with_declared declares db design (declared_if body) d o n
-all_declared declares db design body rows said d o n =
-    go (int_eq d db) refl (bytes_eq o design) refl (list_any (bytes_eq n) (declared_names body)) refl (list_any (bytes_eq n) (map shown_name (map shown_declaration (filter (is_of_design db design) rows)))) refl
-  where
-    go : (x : Bool) → int_eq d db ≡ x → (y : Bool) → bytes_eq o design ≡ y → (z : Bool) → list_any (bytes_eq n) (declared_names body) ≡ z → (w : Bool) → list_any (bytes_eq n) (map shown_name (map shown_declaration (filter (is_of_design db design) rows))) ≡ w
-        → (if (x && (y && z)) then declared_if body n else (if (x && (y && w)) then declared_if body n else declares d o n)) ≡ (if (x && y) then declared_if body n else declares d o n)
-    go false at y own z is w was = refl
-    go true at false own z is w was = refl
-    go true at true own true is w was = refl
-    go true at true own false is true was = refl
-    go true at true own false is false was =
-        sym (said d o n) ∙ ap (option_map fields_of) (none_stored d db o design n rows (same_int d db at) ((bytes_eq-Decides o design).0 own) was) ∙ sym (undeclared_name body n is)

@@ -12,6 +12,7 @@ use Rattle.index.specs.Filling.{AreBare, numbers_of}
 use Rattle.store.specs.Indexes.{queried_document}
 use Rattle.tables.specs.Schema.{revs_tree}
 use Rattle.index.specs.Declaring.{ArePartly, HasItsRow, IsMissing, IsRebuilt, with_index}
+use Rattle.index.specs.Rebuilding.{AreUnfilled}
 use Rattle.index.specs.Rows.{path_items}
 use Rattle.std.proofs.lemmas.Bool.{false_from_ne_true}
 use Rattle.std.specs.Prelude.{IsUtf8}
@@ -316,7 +317,25 @@ module _ (db : ℤ) (design name : List ℕ) (fields : List (List ℕ)) (paths :
 
 -- ---- once none is left
 
-module _ (declares : Declarations) (sees : Documents) (db : ℤ) (design : List ℕ) (f : List ℕ → Option (List (List ℕ))) (fresh : List Declared) (b : Database) (fit : ArePartly declares sees db design f [] fresh b) where
+module _ (declares : Declarations) (sees : Documents) (db : ℤ) (fresh : List Declared) (b : Database) where
+  none_left : (x y : Bool) → (x && (y && false)) ≡ false
+  none_left true true = refl
+  none_left true false = refl
+  none_left false y = refl
+
+  -- all is as it is to be, but that the fresh indexes have no entries
+  pub unfilled : (design : List ℕ) (f : List ℕ → Option (List (List ℕ))) → ArePartly declares sees db design f [] fresh b → AreUnfilled declares sees db fresh b
+  unfilled design f fit = record {
+    store = fit.store;
+    decls = fit.decls;
+    declared = λ d o n. fit.rest d o n (none_left (int_eq d db) (bytes_eq o design));
+    rows = fit.rows;
+    numbers = fit.numbers;
+    entries = fit.entries;
+    seen = fit.seen;
+  }
+
+module _ (declares : Declarations) (sees : Documents) (db : ℤ) (fresh : List Declared) (b : Database) (fit : AreUnfilled declares sees db fresh b) where
   -- the fresh indexes have no entries
   pub bare : AreBare db fresh (is_due sees (b.trees decls_tree)) b
   bare = record {
@@ -334,7 +353,7 @@ module _ (declares : Declarations) (sees : Documents) (db : ℤ) (design : List 
       record {
         indexed = record {
           decls = subst AreDeclarationRows (sym same) fit.decls;
-          declared = λ d o n. ap (λ l. declared_by l d o n) same ∙ fit.rest d o n (none_left (int_eq d db) (bytes_eq o design));
+          declared = λ d o n. ap (λ l. declared_by l d o n) same ∙ fit.declared d o n;
           entries = record { laid = made.entries.laid; exact = λ m k i. made.entries.exact m k i ∙ sym (ap (λ l. is_due sees l m k i) same) };
         };
         only = record {
@@ -342,8 +361,3 @@ module _ (declares : Declarations) (sees : Documents) (db : ℤ) (design : List 
           others = all_weaker (λ t. t.tree ≢ entries_tree → e.trees t.tree ≡ b.trees t.tree) (λ t. t.tree ≢ decls_tree → t.tree ≢ entries_tree → e.trees t.tree ≡ b.trees t.tree) (λ t h out other. h other) b.schema.tables made.only.others;
         };
       }
-    where
-      none_left : (x y : Bool) → (x && (y && false)) ≡ false
-      none_left true true = refl
-      none_left true false = refl
-      none_left false y = refl

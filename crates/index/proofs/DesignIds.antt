@@ -1,19 +1,22 @@
 -- The documents whose ids do not begin as those of design documents do: the statements that list them, and what they leave out.
-use Rattle.index.proofs.Common.{AllByRecursion, Binary, Blob, Bool, Eq, IfOk, Int, IsAscending, IsCommand, Key, List, None, Ordering, Result, Row, Select, Shown, State, Term, Trees, [], all-append, all_weaker, and_from, and_parts, ap, arith, ascending-append, ascending_weaker, bytes_eq, bytes_eq-Decides, codes, col, column, compares, cond, everything, false, filter, holds, if◌then◌else◌, int_by, last_term, list_all, list_any, lists, map, nat_tests, passing, program_on, refl, schema, sees_in, sort_by, sym, then_term, true, understood, ℕ, ℤ, ◌&&◌, ◌++◌, ◌||◌, ◌∙◌, ◌∷◌, ◌≡◌, ◌≢◌}
+use Rattle.index.proofs.Common.{AllByRecursion, Binary, Blob, Bool, Eq, IfOk, Int, IsAscending, IsCommand, Key, List, None, Ordering, Result, Row, Select, Shown, State, Term, Trees, [], all_weaker, and_from, and_parts, ap, arith, ascending_weaker, bytes_eq, bytes_eq-Decides, codes, col, column, compares, cond, everything, false, filter, holds, if◌then◌else◌, int_by, is_eq, last_term, list_all, list_any, lists, map, nat_tests, program_on, refl, schema, sees_in, sort_by, subst, sym, then_term, true, understood, value_cmp, ℕ, ℤ, ◌&&◌, ◌||◌, ◌∙◌, ◌∷◌, ◌≡◌, ◌≢◌}
 use Rattle.index.proofs.EntryChanges.{bytes_eq-sym}
 use Rattle.index.proofs.Filled.{any_in_order, ascending-sorted, unwritten_unseen}
-use Rattle.index.specs.Seen.{beside_designs, is_below, is_from}
+use Rattle.index.proofs.IdBounds.{above_texts, none_below}
+use Rattle.index.specs.Seen.{documents_between, ids_between, is_in_range}
 use Rattle.sqlite_sql.specs.declared.ops.CompareOp.TheVariants.{Ge, Lt}
 use Rattle.std.specs.Cmp.{second_so}
 use Rattle.std.specs.Cmp.Lexicographic.{slice_cmp}
 use Rattle.std.specs.Ordering.{is_le, is_lt, nat_cmp, ordering_then}
-use Rattle.std.specs.Prelude.{length, nat_le, not}
+use Rattle.std.specs.Prelude.{IsUtf8, length, nat_le, not}
 use Rattle.std.specs.declared.cmp.Ordering.TheVariants.{Equal, Greater, Less}
 use Rattle.store.specs.Indexes.{shown_by}
 use Rattle.store.specs.Pages.{live_rev}
 use Rattle.tables.proofs.Cells.{blob_by, blobs_agree}
 use Rattle.tables.proofs.Common.{IsKeyed, IsStore, docs_tree, nat_list_cmp_total}
 use Rattle.tables.proofs.DocumentStatements.{IsOne, ones, same_db}
+use Rattle.tables.proofs.Pages.{lists_page, page_of, page_program}
+use Rattle.tables.specs.Listings.{is_between}
 use Rattle.tables.proofs.ListingOrders.{ascending_within}
 use Rattle.tables.proofs.RowMaps.{text_exact, untied}
 use Rattle.tables.proofs.Sorted.{all_sorted}
@@ -34,46 +37,48 @@ headings = codes "id" ∷ codes "seq" ∷ codes "winner" ∷ codes "del" ∷ []
 abbrev id_order : List (Term × Key)
 id_order = (col 1 2, record { collation = Binary; descending = false }) ∷ []
 
-abbrev below_text : List ℕ
-below_text = codes "SELECT id, seq, winner, del FROM docs WHERE db = ?1 AND id < ?2 ORDER BY id"
+abbrev between_text : List ℕ
+between_text = codes "SELECT id, seq, winner, del FROM docs WHERE db = ?1 AND id >= ?2 AND id < ?3 ORDER BY id"
 
-abbrev from_text : List ℕ
-from_text = codes "SELECT id, seq, winner, del FROM docs WHERE db = ?1 AND id >= ?2 ORDER BY id"
+abbrev bound_text : List ℕ
+bound_text = codes "SELECT id FROM docs WHERE db = ?1 AND id >= ?2 AND id < ?3 ORDER BY id LIMIT ?4 OFFSET ?5"
 
-abbrev by_below : List Term
-by_below = compares Eq 1 0 ∷ compares Lt 2 1 ∷ []
+abbrev by_bounds : List Term
+by_bounds = compares Eq 1 0 ∷ compares Ge 2 1 ∷ compares Lt 2 2 ∷ []
 
-abbrev by_from : List Term
-by_from = compares Eq 1 0 ∷ compares Ge 2 1 ∷ []
-
-pub below_are : IsCommand schema below_text (Select (program_on docs_tree by_below listed id_order) headings)
+pub between_are : IsCommand schema between_text (Select (program_on docs_tree by_bounds listed id_order) headings)
 unfolding understood everything
-below_are = record { is = refl; plain = (refl, refl); unlisted = refl }
+between_are = record { is = refl; plain = (refl, refl); unlisted = refl }
 
-pub from_are : IsCommand schema from_text (Select (program_on docs_tree by_from listed id_order) headings)
+pub bound_are : IsCommand schema bound_text (Select (page_program docs_tree by_bounds (col 1 2 ∷ []) id_order (col 0 3) (col 0 4)) (codes "id" ∷ []))
 unfolding understood everything
-from_are = record { is = refl; plain = (refl, refl); unlisted = refl }
+bound_are = record { is = refl; plain = (refl, refl); unlisted = refl }
 
-module _ {X E : Type 0} (old new : State) (is : IsStore old.now) (db : ℤ) (bound : List ℕ) (r : Result X E) (items : X → List Row) where
-  in_id_order : {text : List ℕ} {tests : List Term} → IsCommand schema text (Select (program_on docs_tree tests listed id_order) headings) → (p : Row → Bool) → ((x : Row) → p x ≡ true → is_in db x ≡ true)
-      → AllByRecursion (λ x. list_all (holds ((Int db ∷ Blob bound ∷ []) ∷ x ∷ [])) tests ≡ p x) (old.now.trees docs_tree) → IfOk r (λ x. Shown text (Int db ∷ Blob bound ∷ []) old new (items x))
-      → IfOk r (λ x. items x ≡ map listed_document (sort_by by_id (filter p (old.now.trees docs_tree))))
-  in_id_order command p mine passes =
-      lists old new is.schema_is command (Int db ∷ Blob bound ∷ []) p listed_document IsOne by_id (λ a b. db_of a ≡ db_of b → id_of a ≢ id_of b)
-      (λ a b k l. blobs_agree (column a 2) (column b 2) (id_of a) (id_of b) (ap (λ x. column x 2) k) (ap (λ x. column x 2) l))
-      (λ a b k l x y apart. untied nat_list_cmp_total text_exact (id_of a) (id_of b) (apart (same_db db a b (mine a x) (mine b y)))) refl (λ x. refl) passes (ones old is) is.laid.ids_apart r items
+tests_bounds : (db : ℤ) (low high : List ℕ) (rest : Row) (rows : List Row) → AllByRecursion IsKeyed rows → AllByRecursion (λ x. list_all (holds ((Int db ∷ Blob low ∷ Blob high ∷ rest) ∷ x ∷ [])) by_bounds ≡ is_in_range db low high x) rows
+tests_bounds db low high rest rows keyed =
+    all_weaker IsKeyed (λ x. list_all (holds ((Int db ∷ Blob low ∷ Blob high ∷ rest) ∷ x ∷ [])) by_bounds ≡ is_in_range db low high x)
+    (λ x k. then_term (int_by Eq (column x 1) (db_of x) db k.db) (then_term (blob_by Ge (column x 2) (id_of x) low k.id) (last_term (blob_by Lt (column x 2) (id_of x) high k.id)))) rows keyed
 
-  pub lists_below : IfOk r (λ x. Shown below_text (Int db ∷ Blob bound ∷ []) old new (items x)) → IfOk r (λ x. items x ≡ map listed_document (sort_by by_id (filter (is_below db bound) (old.now.trees docs_tree))))
-  lists_below =
-      in_id_order below_are (is_below db bound) (λ x k. (and_parts (is_in db x) _ k).0)
-      (all_weaker IsKeyed (λ x. list_all (holds ((Int db ∷ Blob bound ∷ []) ∷ x ∷ [])) by_below ≡ is_below db bound x)
-      (λ x k. then_term (int_by Eq (column x 1) (db_of x) db k.db) (last_term (blob_by Lt (column x 2) (id_of x) bound k.id))) _ (docs_keyed old.now.trees is.laid).keyed)
+module _ {X E : Type 0} (old new : State) (is : IsStore old.now) (db : ℤ) (low high : List ℕ) (r : Result X E) (items : X → List Row) where
+  mine : (x : Row) → is_in_range db low high x ≡ true → is_in db x ≡ true
+  mine x k = (and_parts (is_in db x) _ k).0
 
-  pub lists_from : IfOk r (λ x. Shown from_text (Int db ∷ Blob bound ∷ []) old new (items x)) → IfOk r (λ x. items x ≡ map listed_document (sort_by by_id (filter (is_from db bound) (old.now.trees docs_tree))))
-  lists_from =
-      in_id_order from_are (is_from db bound) (λ x k. (and_parts (is_in db x) _ k).0)
-      (all_weaker IsKeyed (λ x. list_all (holds ((Int db ∷ Blob bound ∷ []) ∷ x ∷ [])) by_from ≡ is_from db bound x)
-      (λ x k. then_term (int_by Eq (column x 1) (db_of x) db k.db) (last_term (blob_by Ge (column x 2) (id_of x) bound k.id))) _ (docs_keyed old.now.trees is.laid).keyed)
+  agree : (a b : Row) → IsOne a → IsOne b → ordering_then (value_cmp (column a 2) (column b 2)) Equal ≡ by_id a b
+  agree a b k l = blobs_agree (column a 2) (column b 2) (id_of a) (id_of b) (ap (λ x. column x 2) k) (ap (λ x. column x 2) l)
+
+  untied_ids : (a b : Row) → IsOne a → IsOne b → is_in_range db low high a ≡ true → is_in_range db low high b ≡ true → (db_of a ≡ db_of b → id_of a ≢ id_of b) → is_eq (by_id a b) ≡ false
+  untied_ids a b k l x y apart = untied nat_list_cmp_total text_exact (id_of a) (id_of b) (apart (same_db db a b (mine a x) (mine b y)))
+
+  pub lists_between : IfOk r (λ x. Shown between_text (Int db ∷ Blob low ∷ Blob high ∷ []) old new (items x)) → IfOk r (λ x. items x ≡ map listed_document (documents_between db low high (old.now.trees docs_tree)))
+  lists_between =
+      lists old new is.schema_is between_are (Int db ∷ Blob low ∷ Blob high ∷ []) (is_in_range db low high) listed_document IsOne by_id (λ a b. db_of a ≡ db_of b → id_of a ≢ id_of b) agree untied_ids refl (λ x. refl)
+      (tests_bounds db low high [] _ (docs_keyed old.now.trees is.laid).keyed) (ones old is) is.laid.ids_apart r items
+
+  pub lists_bound : (most skip : ℤ) → IfOk r (λ x. Shown bound_text (Int db ∷ Blob low ∷ Blob high ∷ Int most ∷ Int skip ∷ []) old new (items x)) → IfOk r (λ x. items x ≡ ids_between db low high most skip (old.now.trees docs_tree))
+  lists_bound most skip h =
+      subst (λ l. IfOk r (λ x. items x ≡ l)) (page_of most skip _)
+      (lists_page old new is.schema_is bound_are (Int db ∷ Blob low ∷ Blob high ∷ Int most ∷ Int skip ∷ []) (is_in_range db low high) (λ x. column x 2 ∷ []) IsOne by_id (λ a b. db_of a ≡ db_of b → id_of a ≢ id_of b) agree untied_ids refl (λ x. refl)
+      (tests_bounds db low high (Int most ∷ Int skip ∷ []) _ (docs_keyed old.now.trees is.laid).keyed) (ones old is) is.laid.ids_apart r items h)
 
 -- ---- ids
 
@@ -186,90 +191,83 @@ any_of_kind db i p kind rows out = within rows (sym (any_in_order i (filter p ro
             last_of false is = is
         by false own false at out more = more out
 
--- a document that has a row may be named so
-named_there : (trees : Trees) (db : ℤ) (i : List ℕ) (rows : List Row) → AllByRecursion (IsDocumentRow trees) rows → list_any (is_of db i) rows ≡ true → is_document_id i ≡ true
+-- a document that has a row has a text for its id, which may name a document
+named_there : (trees : Trees) (db : ℤ) (i : List ℕ) (rows : List Row) → AllByRecursion (IsDocumentRow trees) rows → list_any (is_of db i) rows ≡ true → (is_document_id i ≡ true) × IsUtf8 i
 named_there trees db i [] all there = absurd (cc)
 named_there trees db i (r ∷ rows) all there = by (named_there trees db i rows all.1) (is_of db i r) refl there
   where
-    by : (list_any (is_of db i) rows ≡ true → is_document_id i ≡ true) → (x : Bool) → is_of db i r ≡ x → (x || list_any (is_of db i) rows) ≡ true → is_document_id i ≡ true
-    by rest true own there = ap is_document_id (sym (of_these db i r own).1) ∙ all.0.named
+    by : (list_any (is_of db i) rows ≡ true → (is_document_id i ≡ true) × IsUtf8 i) → (x : Bool) → is_of db i r ≡ x → (x || list_any (is_of db i) rows) ≡ true → (is_document_id i ≡ true) × IsUtf8 i
+    by rest true own there = let id : i ≡ id_of r = sym (of_these db i r own).1 in (ap is_document_id id ∙ all.0.named, subst IsUtf8 (sym id) all.0.text)
     by rest false own there = rest there
 
-both_off : (b c : Bool) → (b || c) ≡ false → (b ≡ false) × (c ≡ false)
-both_off true c is = absurd (cc)
-both_off false c is = (refl, is)
-
--- of a document that is not listed nothing is seen
-pub unlisted_unseen : (trees : Trees) → IsLaid trees → (db : ℤ) (i : List ℕ) → list_any (bytes_eq i) (map id_of (beside_designs db (trees docs_tree))) ≡ false → sees_in trees db i ≡ None
-unlisted_unseen trees l db i out = by (is_low i) refl (is_high i) refl
+-- of a document whose id lies in neither range nothing is seen
+pub outside_unseen : (trees : Trees) → IsLaid trees → (db : ℤ) (i : List ℕ) → is_between [] (codes "_d") i ≡ false → is_between (codes "_e") (255 ∷ []) i ≡ false → sees_in trees db i ≡ None
+outside_unseen trees l db i low high = by (list_any (is_of db i) (trees docs_tree)) refl
   where
-    rows : List Row
-    rows = trees docs_tree
+    by : (b : Bool) → list_any (is_of db i) (trees docs_tree) ≡ b → sees_in trees db i ≡ None
+    by false none = unwritten_unseen trees l db i none
+    by true there =
+        let it = named_there trees db i (trees docs_tree) l.docs there in
+        let is : is_design_id i ≡ true = neither_design i it.0 (sym (ap (λ b. b && is_low i) (none_below i)) ∙ low) (sym (and_true (is_high i)) ∙ ap (λ b. is_high i && b) (sym (above_texts i it.1)) ∙ high) in
+        ap (λ b. if b then None else shown_by i (history_in (trees revs_tree) db i) (live_rev (history_in (trees revs_tree) db i))) is
+      where
+        and_true : (b : Bool) → (b && true) ≡ b
+        and_true true = refl
+        and_true false = refl
 
-    parts : (xs ys : List Row) → list_any (bytes_eq i) (map id_of (xs ++ ys)) ≡ false → (list_any (bytes_eq i) (map id_of xs) ≡ false) × (list_any (bytes_eq i) (map id_of ys) ≡ false)
-    parts [] ys is = (refl, is)
-    parts (x ∷ xs) ys is = let head = both_off (bytes_eq i (id_of x)) _ is in let tail = parts xs ys head.1 in (ap (λ b. b || list_any (bytes_eq i) (map id_of xs)) head.0 ∙ tail.0, tail.1)
+-- no id lies in both
+pub ranges_apart : (i : List ℕ) → is_between [] (codes "_d") i ≡ true → is_between (codes "_e") (255 ∷ []) i ≡ false
+ranges_apart i low = by (is_between (codes "_e") (255 ∷ []) i) refl
+  where
+    by : (b : Bool) → is_between (codes "_e") (255 ∷ []) i ≡ b → is_between (codes "_e") (255 ∷ []) i ≡ false
+    by false out = out
+    by true high = absurd (not_both i (and_parts (is_le (slice_cmp nat_cmp [] i)) (is_low i) low).1 (and_parts (is_high i) (is_lt (slice_cmp nat_cmp i (255 ∷ []))) high).0)
 
-    two : (list_any (bytes_eq i) (map id_of (sort_by by_id (filter (is_below db (codes "_d")) rows))) ≡ false) × (list_any (bytes_eq i) (map id_of (sort_by by_id (filter (is_from db (codes "_e")) rows))) ≡ false)
-    two = parts (sort_by by_id (filter (is_below db (codes "_d")) rows)) (sort_by by_id (filter (is_from db (codes "_e")) rows)) out
+module _ (trees : Trees) (l : IsLaid trees) (db : ℤ) (low high : List ℕ) where
+  abbrev found : List Row
+  found = filter (is_in_range db low high) (trees docs_tree)
 
-    design : is_design_id i ≡ true → sees_in trees db i ≡ None
-    design is = ap (λ b. if b then None else shown_by i (history_in (trees revs_tree) db i) (live_rev (history_in (trees revs_tree) db i))) is
-
-    rest : (b : Bool) → list_any (is_of db i) rows ≡ b → is_low i ≡ false → is_high i ≡ false → sees_in trees db i ≡ None
-    rest false none low high = unwritten_unseen trees l db i none
-    rest true there low high = design (neither_design i (named_there trees db i rows l.docs there) low high)
-
-    by : (x : Bool) → is_low i ≡ x → (y : Bool) → is_high i ≡ y → sees_in trees db i ≡ None
-    by true low y high =
-        unwritten_unseen trees l db i
-        (any_of_kind db i (is_below db (codes "_d")) (λ r own. let it = and_parts (is_in db r) _ own in and_from (is_in db r) _ it.0 (ap is_low ((bytes_eq-Decides (id_of r) i).0 it.1) ∙ low)) rows two.0)
-    by false low true high =
-        unwritten_unseen trees l db i
-        (any_of_kind db i (is_from db (codes "_e")) (λ r own. let it = and_parts (is_in db r) _ own in and_from (is_in db r) _ it.0 (ap is_high ((bytes_eq-Decides (id_of r) i).0 it.1) ∙ high)) rows two.1)
-    by false low false high = rest (list_any (is_of db i) rows) refl low high
-
-module _ (trees : Trees) (l : IsLaid trees) (db : ℤ) where
-  abbrev below : List Row
-  below = filter (is_below db (codes "_d")) (trees docs_tree)
-
-  abbrev from : List Row
-  from = filter (is_from db (codes "_e")) (trees docs_tree)
-
-  -- what holds of each row of a document of the database holds of each that is listed
-  pub all_listed : (P : Row → Type 0) → ((r : Row) → IsDocumentRow trees r → is_in db r ≡ true → P r) → AllByRecursion P (beside_designs db (trees docs_tree))
-  all_listed P holds_of =
-      all-append P (sort_by by_id below) (sort_by by_id from)
-      (all_sorted P by_id below (own (is_below db (codes "_d")) (λ r k. (and_parts (is_in db r) _ k).0)))
-      (all_sorted P by_id from (own (is_from db (codes "_e")) (λ r k. (and_parts (is_in db r) _ k).0)))
+  -- what holds of each row of a document in a range holds of each that is listed
+  pub all_listed : (P : Row → Type 0) → ((r : Row) → IsDocumentRow trees r → is_in_range db low high r ≡ true → P r) → AllByRecursion P (documents_between db low high (trees docs_tree))
+  all_listed P holds_of = all_sorted P by_id found (go (trees docs_tree) l.docs)
     where
-      own : (p : Row → Bool) → ((r : Row) → p r ≡ true → is_in db r ≡ true) → AllByRecursion P (filter p (trees docs_tree))
-      own p mine = go (trees docs_tree) l.docs
+      go : (rows : List Row) → AllByRecursion (IsDocumentRow trees) rows → AllByRecursion P (filter (is_in_range db low high) rows)
+      go [] all = tt
+      go (r ∷ rows) all = by (go rows all.1) (is_in_range db low high r) refl
         where
-          go : (rows : List Row) → AllByRecursion (IsDocumentRow trees) rows → AllByRecursion P (filter p rows)
-          go [] all = tt
-          go (r ∷ rows) all = by (go rows all.1) (p r) refl
-            where
-              by : AllByRecursion P (filter p rows) → (b : Bool) → p r ≡ b → AllByRecursion P (cond b (r ∷ filter p rows) (filter p rows))
-              by rest true is = (holds_of r all.0 (mine r is), rest)
-              by rest false is = rest
+          by : AllByRecursion P (filter (is_in_range db low high) rows) → (b : Bool) → is_in_range db low high r ≡ b → AllByRecursion P (cond b (r ∷ filter (is_in_range db low high) rows) (filter (is_in_range db low high) rows))
+          by rest true is = (holds_of r all.0 is, rest)
+          by rest false is = rest
 
   -- no two rows that are listed are of one document
-  pub listed_apart : IsAscending (λ c d. id_of c ≢ id_of d) (beside_designs db (trees docs_tree))
+  pub listed_apart : IsAscending (λ c d. id_of c ≢ id_of d) (documents_between db low high (trees docs_tree))
   listed_apart =
-      ascending-append (λ c d. id_of c ≢ id_of d) (sort_by by_id below) (sort_by by_id from)
-      (ascending-sorted (λ c d. id_of c ≢ id_of d) (λ c d away same. away (sym same)) by_id below (apart (is_below db (codes "_d")) (λ r k. (and_parts (is_in db r) _ k).0)))
-      (ascending-sorted (λ c d. id_of c ≢ id_of d) (λ c d away same. away (sym same)) by_id from (apart (is_from db (codes "_e")) (λ r k. (and_parts (is_in db r) _ k).0)))
-      (all_weaker (λ c. is_low (id_of c) ≡ true) (λ c. AllByRecursion (λ d. id_of c ≢ id_of d) (sort_by by_id from))
-      (λ c low. all_weaker (λ d. is_high (id_of d) ≡ true) (λ d. id_of c ≢ id_of d) (λ d high same. not_both (id_of d) (ap is_low (sym same) ∙ low) high) (sort_by by_id from) highs) (sort_by by_id below) lows)
+      ascending-sorted (λ c d. id_of c ≢ id_of d) (λ c d away same. away (sym same)) by_id found
+      (ascending_within (is_in_range db low high) (λ c d. id_of c ≢ id_of d) (trees docs_tree)
+      (ascending_weaker (λ c d. db_of c ≡ db_of d → id_of c ≢ id_of d) (λ c d. is_in_range db low high c ≡ true → is_in_range db low high d ≡ true → id_of c ≢ id_of d)
+      (λ c d away x y. away (same_db db c d (and_parts (is_in db c) _ x).0 (and_parts (is_in db d) _ y).0)) (trees docs_tree) l.ids_apart))
+
+  -- a document that is listed has its id in the range
+  pub listed_within : (i : List ℕ) → list_any (bytes_eq i) (map id_of (documents_between db low high (trees docs_tree))) ≡ true → is_between low high i ≡ true
+  listed_within i there = within (trees docs_tree) (sym (any_in_order i found) ∙ there)
     where
-      lows : AllByRecursion (λ c. is_low (id_of c) ≡ true) (sort_by by_id below)
-      lows = all_sorted (λ c. is_low (id_of c) ≡ true) by_id below (all_weaker (λ c. is_below db (codes "_d") c ≡ true) (λ c. is_low (id_of c) ≡ true) (λ c k. (and_parts (is_in db c) _ k).1) below (passing (is_below db (codes "_d")) (trees docs_tree)))
+      within : (rows : List Row) → list_any (λ r. bytes_eq i (id_of r)) (filter (is_in_range db low high) rows) ≡ true → is_between low high i ≡ true
+      within [] there = absurd (cc)
+      within (r ∷ rows) there = by (is_in_range db low high r) refl there (within rows)
+        where
+          here : (b : Bool) → bytes_eq i (id_of r) ≡ b → is_in_range db low high r ≡ true → (b || list_any (λ s. bytes_eq i (id_of s)) (filter (is_in_range db low high) rows)) ≡ true
+              → (list_any (λ s. bytes_eq i (id_of s)) (filter (is_in_range db low high) rows) ≡ true → is_between low high i ≡ true) → is_between low high i ≡ true
+          here true own is there more = ap (is_between low high) ((bytes_eq-Decides i (id_of r)).0 own) ∙ (and_parts (is_in db r) _ is).1
+          here false own is there more = more there
 
-      highs : AllByRecursion (λ c. is_high (id_of c) ≡ true) (sort_by by_id from)
-      highs = all_sorted (λ c. is_high (id_of c) ≡ true) by_id from (all_weaker (λ c. is_from db (codes "_e") c ≡ true) (λ c. is_high (id_of c) ≡ true) (λ c k. (and_parts (is_in db c) _ k).1) from (passing (is_from db (codes "_e")) (trees docs_tree)))
+          by : (b : Bool) → is_in_range db low high r ≡ b → list_any (λ s. bytes_eq i (id_of s)) (cond b (r ∷ filter (is_in_range db low high) rows) (filter (is_in_range db low high) rows)) ≡ true
+              → (list_any (λ s. bytes_eq i (id_of s)) (filter (is_in_range db low high) rows) ≡ true → is_between low high i ≡ true) → is_between low high i ≡ true
+          by true is there more = here (bytes_eq i (id_of r)) refl is there more
+          by false is there more = more there
 
-      apart : (p : Row → Bool) → ((r : Row) → p r ≡ true → is_in db r ≡ true) → IsAscending (λ c d. id_of c ≢ id_of d) (filter p (trees docs_tree))
-      apart p mine =
-          ascending_within p (λ c d. id_of c ≢ id_of d) (trees docs_tree)
-          (ascending_weaker (λ c d. db_of c ≡ db_of d → id_of c ≢ id_of d) (λ c d. p c ≡ true → p d ≡ true → id_of c ≢ id_of d) (λ c d away x y. away (same_db db c d (mine c x) (mine d y))) (trees docs_tree) l.ids_apart)
+  -- of one in the range that is not listed nothing is seen
+  pub unlisted_unseen : (i : List ℕ) → is_between low high i ≡ true → list_any (bytes_eq i) (map id_of (documents_between db low high (trees docs_tree))) ≡ false → sees_in trees db i ≡ None
+  unlisted_unseen i within out =
+      unwritten_unseen trees l db i
+      (any_of_kind db i (is_in_range db low high)
+      (λ r own. let it = and_parts (is_in db r) _ own in and_from (is_in db r) _ it.0 (ap (is_between low high) ((bytes_eq-Decides (id_of r) i).0 it.1) ∙ within)) (trees docs_tree) out)

@@ -1,9 +1,7 @@
 -- An index that is filled, one document after another.
-use Rattle.index.proofs.Common.{AllByRecursion, AreEntriesOf, Bool, ChangesOnly, Database, Declaration, Entries, HasEntries, IsAscending, List, None, Option, Ordering, Row, Some, Trees, [], all_weaker, ap, arith, bytes_eq, bytes_eq-Decides, cond, declared, drop, entries_tree, false, find, get_or, if◌then◌else◌, insert_sorted, int_eq, is_gt, is_key, key_if_seen, length, list_any, map, refl, same_int, schema, sees_in, sort_by, subst, suc, sym, true, with_key, ℕ, ℤ, ◌&&◌, ◌+◌, ◌<◌, ◌||◌, ◌∙◌, ◌∷◌, ◌≡◌, ◌≢◌}
-use Rattle.index.proofs.EntryChanges.{entries_as, same_bytes, same_number}
-use Rattle.index.proofs.Going.{has_after, has_as}
+use Rattle.index.proofs.Common.{AllByRecursion, Bool, ChangesOnly, Database, Entries, IsAscending, List, None, Option, Ordering, Row, Some, Trees, [], ap, arith, bytes_eq, bytes_eq-Decides, cond, drop, entries_tree, false, find, get_or, if◌then◌else◌, insert_sorted, int_eq, is_gt, length, list_any, map, refl, same_int, schema, sees_in, sort_by, suc, sym, true, ℕ, ℤ, ◌&&◌, ◌<◌, ◌||◌, ◌∙◌, ◌∷◌, ◌≡◌, ◌≢◌}
 use Rattle.index.proofs.SeenDocuments.{design_unseen, gone_unseen}
-use Rattle.index.specs.Filling.{AreToFill, HaveKeyOf, IsToFill, IsToPut, numbers_of, without_ids}
+use Rattle.index.specs.Filling.{HaveKeyOf, numbers_of, without_ids}
 use Rattle.index.specs.Seen.{IsListedAs}
 use Rattle.index.specs.Shown.{Declared}
 use Rattle.std.proofs.lemmas.Bool.{false_from_ne_true}
@@ -11,14 +9,12 @@ use Rattle.std.specs.FinMap.{empty}
 use Rattle.store.proofs.Winnings.{no_winner}
 use Rattle.store.specs.Indexes.{queried_document, shown_by}
 use Rattle.store.specs.Pages.{live_rev, live_rev_by}
-use Rattle.std.proofs.lemmas.List.{drop_more}
 use Rattle.couch_json.specs.Value.{Value}
 use Rattle.tables.proofs.Common.{IsPermutation-sort_by, list_any-IsPermutation, nat_list_cmp_total, on_total}
 use Rattle.tables.proofs.Lookups.{unwritten}
-use Rattle.tables.proofs.Rests.{AreSame, document_kept, leaves, length_at, store_of}
-use Rattle.std.proofs.lemmas.List.{length-map}
+use Rattle.tables.proofs.Rests.{AreSame, leaves, store_of}
 use Rattle.tables.specs.Layout.{IsDocumentRow, IsLaid, IsStore}
-use Rattle.tables.specs.Rows.{by_id, db_of, history_in, id_of, is_gone, is_of, listed_document}
+use Rattle.tables.specs.Rows.{by_id, db_of, history_in, id_of, is_gone, is_of}
 use Rattle.tables.specs.Schema.{docs_tree, revs_tree}
 use Rattle.tables.specs.declared.decode.ListedDocument.{ListedDocument}
 use Rattle.tree.specs.DocumentId.{is_design_id}
@@ -80,24 +76,6 @@ first_missing due ns id ids m k i = go (list_any (int_eq m) ns) (bytes_eq i id) 
     go true true c = refl
     go true false c = refl
 
-module _ (due : Entries) (n : ℤ) (ns : List ℤ) (id : List ℕ) where
-  -- the index that comes next has no entry of the document
-  pub key_missing : (k : List ℕ) → without_ids due (n ∷ ns) (id ∷ []) n k id ≡ false
-  key_missing k = ap (λ b. if b then false else due n k id) (λ j. (same_number n n refl j || list_any (int_eq n) ns) && (same_bytes id id refl j || false))
-
-  -- with its key in it, those behind it have none
-  pub key_comes : (key : Option (List ℕ)) → ((k : List ℕ) → due n k id ≡ is_key key k) → list_any (int_eq n) ns ≡ false → (m : ℤ) (k i : List ℕ) → with_key (without_ids due (n ∷ ns) (id ∷ [])) n id key m k i ≡ without_ids due ns (id ∷ []) m k i
-  key_comes key was apart m k i = go (int_eq m n) refl (bytes_eq i id) refl
-    where
-      go : (a : Bool) → int_eq m n ≡ a → (b : Bool) → bytes_eq i id ≡ b
-          → (if (a && b) then is_key key k else (if ((a || list_any (int_eq m) ns) && (b || false)) then false else due m k i)) ≡ (if (list_any (int_eq m) ns && (b || false)) then false else due m k i)
-      go true number true name =
-          let same : m ≡ n = same_int m n number in
-          let own : i ≡ id = (bytes_eq-Decides i id).0 name in
-          sym (was k) ∙ (λ j. due (sym same j) k (sym own j)) ∙ sym (ap (λ b. if (b && true) then false else due m k i) (ap (λ l. list_any (int_eq l) ns) same ∙ apart))
-      go true number false name = sym (ap (λ b. if b then false else due m k i) (and_false (list_any (int_eq m) ns)))
-      go false number b name = refl
-
 -- no declaration that comes later has this number
 pub numbers_apart : (n : ℤ) (xs : List Declared) → AllByRecursion (λ (y : Declared). n ≢ y.number) xs → list_any (int_eq n) (numbers_of xs) ≡ false
 numbers_apart n [] all = refl
@@ -121,50 +99,6 @@ unseen_missing xs id due says m k i = go (list_any (int_eq m) (numbers_of xs)) r
     go false number b name = refl
     go true number false name = refl
     go true number true name = sym ((λ j. due m k ((bytes_eq-Decides i id).0 name j)) ∙ keyless xs id due says m k number)
-
--- ---- lists of declarations
-
-pub tail_all : {A B : Type 0} (P : B → Type 0) (f : A → B) (i : ℕ) (xs : List A) → AllByRecursion P (map f xs) → AllByRecursion P (map f (drop i xs))
-tail_all P f Prim.Native.Nat.zero xs all = all
-tail_all P f (suc i) [] all = tt
-tail_all P f (suc i) (x ∷ xs) all = tail_all P f i xs all.1
-
-pub tail_ascending : {A B : Type 0} (R : B → B → Type 0) (f : A → B) (i : ℕ) (xs : List A) → IsAscending R (map f xs) → IsAscending R (map f (drop i xs))
-tail_ascending R f Prim.Native.Nat.zero xs up = up
-tail_ascending R f (suc i) [] up = tt
-tail_ascending R f (suc i) (x ∷ xs) up = tail_ascending R f i xs up.1
-
-module _ (ds : List Declaration) (id : List ℕ) (seen : Option Value) (due : Entries) (i : ℕ) (d : Declaration) (below : i < length ds) (is : d ≡ get_or ds i d) (a b : Database)
-    (fit : IsToPut (map declared ds) id seen due a) (made : HasEntries (without_ids due (numbers_of (map declared (drop i ds))) (id ∷ [])) a b) where
-  abbrev left : List Declared
-  left = map declared (drop i ds)
-
-  abbrev behind : List Declared
-  behind = map declared (drop (i + 1) ds)
-
-  cut : map declared (drop i ds) ≡ declared d ∷ map declared (drop (i + 1) ds)
-  cut = ap (map declared) (drop_more ds i d below ∙ (λ j. sym is j ∷ drop (i + 1) ds))
-
-  -- the index that comes next is to get the key
-  pub next_key : (b.schema ≡ schema) × AreEntriesOf (without_ids due (numbers_of (map declared (drop i ds))) (id ∷ [])) (b.trees entries_tree)
-      × ((k : List ℕ) → without_ids due (numbers_of (map declared (drop i ds))) (id ∷ []) (declared d).number k id ≡ is_key None k)
-  next_key = (
-    made.only.schema ∙ fit.schema_is,
-    made.entries,
-    λ k. ap (λ l. without_ids due (numbers_of l) (id ∷ []) (declared d).number k id) cut ∙ key_missing due (declared d).number (numbers_of behind) id k,
-  )
-
-  -- and then those behind it are
-  pub next_put : (e : Database) → HasEntries (with_key (without_ids due (numbers_of (map declared (drop i ds))) (id ∷ [])) (declared d).number id (key_if_seen (declared d).fields seen)) b e
-      → HasEntries (without_ids due (numbers_of (map declared (drop (i + 1) ds))) (id ∷ [])) a e
-  next_put e got =
-      let key = key_if_seen (declared d).fields seen in
-      let apart = numbers_apart (declared d).number behind (subst (IsAscending (λ (x : Declared) (y : Declared). x.number ≢ y.number)) cut (tail_ascending (λ (x : Declared) (y : Declared). x.number ≢ y.number) declared i ds fit.numbers)).0 in
-      let says = (subst (AllByRecursion (λ (x : Declared). (k : List ℕ) → due x.number k id ≡ is_key (key_if_seen x.fields seen) k)) cut
-      (tail_all (λ (x : Declared). (k : List ℕ) → due x.number k id ≡ is_key (key_if_seen x.fields seen) k) declared i ds fit.says)).0 in
-      has_as (with_key (without_ids due (numbers_of (map declared (drop i ds))) (id ∷ [])) (declared d).number id key) (without_ids due (numbers_of behind) (id ∷ [])) a e
-      (λ m k j. ap (λ l. with_key (without_ids due (numbers_of l) (id ∷ [])) (declared d).number id key m k j) cut ∙ key_comes due (declared d).number (numbers_of behind) id key says apart m k j)
-      (has_after _ a b e made.only got)
 
 -- ---- rows of documents
 
@@ -241,43 +175,3 @@ pub get_map : {B : Type 0} (f : Row → B) (xs : List Row) (i : ℕ) (x : Row) (
 get_map f [] i x y lt = absurd (omega (arith, lt))
 get_map f (z ∷ xs) Prim.Native.Nat.zero x y lt = refl
 get_map f (z ∷ xs) (suc i) x y lt = get_map f xs i x y (omega (arith, lt))
-
-module _ (db : ℤ) (xs : List Declared) (rows docs : List Row) (due : Entries) (i : ℕ) (s : Row) (below : i < length rows) (is : s ≡ get_or rows i s) (a b : Database)
-    (fit : AreToFill db xs rows docs due a) (made : HasEntries (without_ids due (numbers_of xs) (map id_of (drop i docs))) a b) where
-  abbrev d : Row
-  d = get_or docs i []
-
-  abbrev later : List (List ℕ)
-  later = map id_of (drop (i + 1) docs)
-
-  within : i < length docs
-  within = let size : length rows ≡ length docs = ap length fit.shown_is ∙ length-map docs listed_document in omega (arith, below, size)
-
-  row_cut : drop i docs ≡ d ∷ drop (i + 1) docs
-  row_cut = drop_more docs i [] within
-
-  others : list_any (bytes_eq (id_of d)) later ≡ false
-  others = ids_apart d (drop (i + 1) docs) (subst (IsAscending (λ p q. id_of p ≢ id_of q)) row_cut (ascending-drop (λ p q. id_of p ≢ id_of q) i docs fit.apart)).0
-
-  -- the row that comes next is to be filled
-  pub next_row : IsToFill db xs s d (without_ids due (numbers_of xs) later) b
-  next_row =
-      let same = same_tables a b fit.store.schema_is made.only in
-      record {
-        store = store_stays a b fit.store made.only;
-        row = document_kept a.trees b.trees d (ap (λ l. length_at l (db_of d)) same.dbs) (ap (λ l. history_in l (db_of d) (id_of d)) same.revs) (all_get (IsDocumentRow a.trees) docs i [] within fit.rows);
-        own = all_get (λ e. db_of e ≡ db) docs i [] within fit.own;
-        shown_is = is ∙ ap (λ l. get_or l i s) fit.shown_is ∙ get_map listed_document docs i [] s within;
-        numbers = fit.numbers;
-        entries = entries_as (without_ids due (numbers_of xs) (map id_of (drop i docs))) (without_ids (without_ids due (numbers_of xs) later) (numbers_of xs) (id_of d ∷ [])) (b.trees entries_tree)
-            (λ m k j. ap (λ l. without_ids due (numbers_of xs) (map id_of l) m k j) row_cut ∙ sym (first_missing due (numbers_of xs) (id_of d) later m k j)) made.entries;
-        says = all_weaker (λ (x : Declared). (k : List ℕ) → due x.number k (id_of d) ≡ is_key (key_if_seen x.fields (sees_in a.trees db (id_of d))) k)
-            (λ (x : Declared). (k : List ℕ) → without_ids due (numbers_of xs) later x.number k (id_of d) ≡ is_key (key_if_seen x.fields (sees_in b.trees db (id_of d))) k)
-            (λ x says k. ap (λ c. if (list_any (int_eq x.number) (numbers_of xs) && c) then false else due x.number k (id_of d)) others
-            ∙ ap (λ c. if c then false else due x.number k (id_of d)) (and_false (list_any (int_eq x.number) (numbers_of xs))) ∙ says k
-            ∙ ap (λ v. is_key (key_if_seen x.fields v) k) (sym (seen_stays a b fit.store.schema_is made.only db (id_of d)))) xs (fit.says (id_of d));
-      }
-
-  -- and then those behind it are
-  pub next_done : (e : Database) → HasEntries (without_ids due (numbers_of xs) later) b e → HasEntries (without_ids due (numbers_of xs) later) a e
-  next_done e got = has_after _ a b e made.only got

@@ -15,11 +15,14 @@ pub mod Counts
 pub mod StepLemmas
 pub mod Filled
 pub mod DesignIds
-pub mod ToFill
+pub mod IdBounds
+pub mod Beside
+pub mod ToGather
 pub mod Undeclared
 pub mod Declared
 pub mod Rebuilt
 pub mod AllDeclared
+pub mod Designs
 pub mod Refusals
 pub mod TextNames
 pub mod KeyBounds

@@ -5,7 +5,7 @@ use Rattle.index.proofs.DeclarationStatements.{of_index}
 use Rattle.index.proofs.EntryChanges.{entries_as, same_bytes, same_number}
 use Rattle.index.proofs.Following.{found_each}
 use Rattle.index.specs.Declaring.{ArePartly, IsCleared, IsDeclared, IsFoundIn, IsRebuildable, IsRebuilt, with_index}
-use Rattle.index.specs.Rebuilding.{AreCleared, with_names}
+use Rattle.index.specs.Rebuilding.{AreCleared}
 use Rattle.std.specs.Prelude.{unwrap_or}
 use Rattle.store.specs.Indexes.{queried_document}
 use Rattle.tables.proofs.Rests.{AreSame, store_of}
@@ -162,56 +162,3 @@ module _ (declares : Declarations) (sees : Documents) (db : ℤ) (design : List 
           or_none : (z : Bool) → (z || (false || false)) ≡ true → z ≡ true
           or_none true is = refl
           or_none false is = is
-
-  -- what is left then are the names of which none has other fields
-  pub partly : (names : List (List ℕ)) (a b : Database) → IsRebuildable declares sees db a → AreCleared declares sees db design fields names a b
-      → ArePartly (with_names declares db design fields names) sees db design fields names [] b
-  partly names a b fit made = record {
-    store = store_rebuilt a b fit.store made.rebuilt.only;
-    decls = made.rebuilt.indexed.decls;
-    rest = λ d o n out. made.others d o n out ∙ sym (ap (λ w. if w then fields n else declares d o n) out);
-    part = λ n has is. go n has is (list_any (bytes_eq n) names) refl;
-    due = all_weaker (λ n. list_any (bytes_eq n) names ≡ true) (λ n. with_names declares db design fields names db design n ≡ fields n) (λ n is. named n true is) names (each_named names);
-    rows = tt;
-    numbers = tt;
-    entries = entries_as (is_due sees (b.trees decls_tree)) (without_numbers (is_due sees (b.trees decls_tree)) []) (b.trees entries_tree) (λ m k i. sym (all_there (is_due sees (b.trees decls_tree) m k i))) made.rebuilt.indexed.entries;
-    seen = λ id. fit.seen id ∙ sym (seen_rebuilt a b fit.store.schema_is made.rebuilt.only db id);
-  }
-    where
-      all_there : (w : Bool) → (w && not false) ≡ w
-      all_there true = refl
-      all_there false = refl
-
-      named : (n : List ℕ) (w : Bool) → list_any (bytes_eq n) names ≡ w → with_names declares db design fields names db design n ≡ (if w then fields n else declares db design n)
-      named n w is = λ j. if (same_number db db refl j && (same_bytes design design refl j && is j)) then fields n else declares db design n
-
-      go : (n : List ℕ) (has : List (List ℕ)) → declared_by (b.trees decls_tree) db design n ≡ Some has → (w : Bool) → list_any (bytes_eq n) names ≡ w → with_names declares db design fields names db design n ≡ Some has
-      go n has is true own = named n true own ∙ made.own n own has is
-      go n has is false own =
-          named n false own ∙ sym (made.others db design n (λ j. same_number db db refl j && (same_bytes design design refl j && own j))) ∙ is
-
-      each_named : (all : List (List ℕ)) → AllByRecursion (λ n. list_any (bytes_eq n) all ≡ true) all
-      each_named [] = tt
-      each_named (n ∷ all) = (
-        ap (λ w. w || list_any (bytes_eq n) all) (same_bytes n n refl),
-        all_weaker (λ m. list_any (bytes_eq m) all ≡ true) (λ m. (bytes_eq m n || list_any (bytes_eq m) all) ≡ true) (λ m is. later_named (bytes_eq m n) is) all (each_named all),
-      )
-        where
-          later_named : (w : Bool) {z : Bool} → z ≡ true → (w || z) ≡ true
-          later_named true is = refl
-          later_named false is = is
-
--- these names, and then those
-pub with_both : (declares : Declarations) (db : ℤ) (design : List ℕ) (fields : List ℕ → Option (List (List ℕ))) (names others : List (List ℕ)) (d : ℤ) (o n : List ℕ)
-    → with_names declares db design fields (names ++ others) d o n ≡ with_names (with_names declares db design fields names) db design fields others d o n
-with_both declares db design fields names others d o n =
-    ap (λ w. if (int_eq d db && (bytes_eq o design && w)) then fields n else declares d o n) (list_any-append (bytes_eq n) names others)
-    ∙ go (int_eq d db) (bytes_eq o design) (list_any (bytes_eq n) names) (list_any (bytes_eq n) others)
-  where
-    go : (x y z w : Bool) → (if (x && (y && (z || w))) then fields n else declares d o n) ≡ (if (x && (y && w)) then fields n else (if (x && (y && z)) then fields n else declares d o n))
-    go false y z w = refl
-    go true false z w = refl
-    go true true true true = refl
-    go true true true false = refl
-    go true true false true = refl
-    go true true false false = refl

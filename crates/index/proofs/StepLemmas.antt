@@ -37,6 +37,10 @@ module _ {S : Type 0} (g : Ghosts S) where
   pub steps_stop : {X Y E D : Type 0} (F : Database → Type 0) (G H : Database → Database → Type 0) (a b : Held S) (e : E) (d : D) (r : Result Y D) → r ≡ Err d → Steps {X = X} g F G a b (Err e) → Steps g F H a b r
   steps_stop F G H a b e d r is p = subst (Steps g F H a b) (sym is) (record { ok = λ clean fit. tt; keeps = λ clean has. tt; kept = p.kept; goes_on = λ clean has up inside. tt; asks = p.asks })
 
+  -- what ended well ended so, whatever else it might have told
+  pub steps_well : {X Y E D : Type 0} (F : Database → Type 0) (G : Database → Database → Type 0) (a b : Held S) (x : X) (y : Y) → Steps {E = E} g F G a b (Ok x) → Steps {E = D} g F G a b (Ok y)
+  steps_well F G a b x y p = record { ok = p.ok; keeps = p.keeps; kept = p.kept; goes_on = p.goes_on; asks = p.asks }
+
   -- a step, and then another
   pub steps_then : {X Y E D : Type 0} (F F' : Database → Type 0) (G G' H : Database → Database → Type 0) (a b c : Held S) (x : X) (r : Result Y D) → Steps {E = E} g F G a b (Ok x) → Steps g F' G' b c r
       → (HasCleanDisk (state g b) → F (state g a).now → G (state g a).now (state g b).now → F' (state g b).now)

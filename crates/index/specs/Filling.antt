@@ -1,6 +1,6 @@
 -- When indexes are filled with the entries of documents, and what they have then.
 -- This server's own: indexes that are declared anew have no entries, and get one of each document.
-use Rattle.std.specs.Prelude.{◌≡◌, ◌≢◌, ℕ, ℤ, false, ◌&&◌, bytes_eq, if◌then◌else◌, List, [], ◌∷◌, map, Option, Result}
+use Rattle.std.specs.Prelude.{◌≡◌, ◌≢◌, ℕ, ℤ, false, ◌&&◌, bytes_eq, if◌then◌else◌, List, map, Option, Result}
 use Rattle.std.specs.List.{AllByRecursion, list_any}
 use Rattle.std.specs.Ordering.{int_eq}
 use Rattle.couch_json.specs.Value.{Value}
@@ -8,10 +8,8 @@ use Rattle.sqlite.specs.Effect.{Database}
 use Rattle.sqlite.specs.Held.{Held}
 use Rattle.sqlite_trees.specs.Tree.{IsAscending}
 use Rattle.sqlite_trees.specs.declared.store.Store.{Ghosts}
-use Rattle.sqlite_value.specs.Order.{Row}
-use Rattle.tables.specs.Layout.{IsDocumentRow, IsStore}
-use Rattle.tables.specs.Rows.{db_of, id_of, listed_document}
-use Rattle.tables.specs.Schema.{entries_tree, schema}
+use Rattle.tables.specs.Layout.{IsStore}
+use Rattle.tables.specs.Schema.{entries_tree}
 use Rattle.index.specs.Calls.{HasEntries}
 use Rattle.index.specs.Indexed.{AreEntriesOf, Entries, without_numbers}
 use Rattle.index.specs.Meaning.{is_key, key_if_seen, sees_in}
@@ -32,45 +30,6 @@ HaveOwnNumbers xs = IsAscending (λ (x : Declared) (y : Declared). x.number ≢ 
 -- each of these declarations has the key of the document of this id, of which this is seen, if it has one, and no other of that document
 abbrev pub HaveKeyOf : List Declared → List ℕ → Option Value → Entries → Type 0
 HaveKeyOf xs id seen due = AllByRecursion (λ (x : Declared). (k : List ℕ) → due x.number k id ≡ is_key (key_if_seen x.fields seen) k) xs
-
--- these indexes have no entry of the document of this id, of which this is seen; `due` is what they have with it
-pub record IsToPut (xs : List Declared) (id : List ℕ) (seen : Option Value) (due : Entries) (b : Database) : Type 0 where
-  pub schema_is : b.schema ≡ schema
-  pub numbers : HaveOwnNumbers xs
-  pub entries : AreEntriesOf (without_ids due (numbers_of xs) (id ∷ [])) (b.trees entries_tree)
-  pub says : HaveKeyOf xs id seen due
-
--- the document comes into each of these indexes with the key that it has in it
-abbrev pub PutsKeys : {S X E : Type 0} → Ghosts S → List Declared → List ℕ → Option Value → Held S → Held S → Result X E → Type 0
-PutsKeys g xs id seen old new r = (due : Entries) → Steps g (IsToPut xs id seen due) (HasEntries due) old new r
-
--- these indexes have no entry of the document of this row, which a list shows so; `due` is what they have with it
-pub record IsToFill (db : ℤ) (xs : List Declared) (shown d : Row) (due : Entries) (b : Database) : Type 0 where
-  pub store : IsStore b
-  pub row : IsDocumentRow b.trees d
-  pub own : db_of d ≡ db
-  pub shown_is : shown ≡ listed_document d
-  pub numbers : HaveOwnNumbers xs
-  pub entries : AreEntriesOf (without_ids due (numbers_of xs) (id_of d ∷ [])) (b.trees entries_tree)
-  pub says : HaveKeyOf xs (id_of d) (sees_in b.trees db (id_of d)) due
-
--- the document of the row comes in
-abbrev pub FillsRow : {S X E : Type 0} → Ghosts S → ℤ → List Declared → Row → Held S → Held S → Result X E → Type 0
-FillsRow g db xs shown old new r = (d : Row) (due : Entries) → Steps g (IsToFill db xs shown d due) (HasEntries due) old new r
-
--- these indexes have no entry of the documents of these rows, which a list shows so; `due` is what they have with them
-pub record AreToFill (db : ℤ) (xs : List Declared) (shown docs : List Row) (due : Entries) (b : Database) : Type 0 where
-  pub store : IsStore b
-  pub rows : AllByRecursion (IsDocumentRow b.trees) docs
-  pub own : AllByRecursion (λ d. db_of d ≡ db) docs
-  pub apart : IsAscending (λ c d. id_of c ≢ id_of d) docs
-  pub shown_is : shown ≡ map listed_document docs
-  pub numbers : HaveOwnNumbers xs
-  pub entries : AreEntriesOf (without_ids due (numbers_of xs) (map id_of docs)) (b.trees entries_tree)
-  pub says : (id : List ℕ) → HaveKeyOf xs id (sees_in b.trees db id) due
-
-abbrev pub FillsRows : {S X E : Type 0} → Ghosts S → ℤ → List Declared → List Row → Held S → Held S → Result X E → Type 0
-FillsRows g db xs shown old new r = (docs : List Row) (due : Entries) → Steps g (AreToFill db xs shown docs due) (HasEntries due) old new r
 
 -- these indexes have no entries; `due` is what they have with those of all documents
 pub record AreBare (db : ℤ) (xs : List Declared) (due : Entries) (b : Database) : Type 0 where

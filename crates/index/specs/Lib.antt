@@ -8,6 +8,7 @@ pub mod Calls
 pub mod Entries
 pub mod Steps
 pub mod Filling
+pub mod Gathering
 pub mod Declaring
 pub mod Rebuilding
 pub mod Places

@@ -1,15 +1,14 @@
 -- What queries see of a document, as the rows of the document say it.
 -- This server's own: what a query shows of a row is said by `tables`.
-use Rattle.std.specs.Cmp.Lexicographic.{slice_cmp}
-use Rattle.std.specs.Ordering.{is_le, is_lt, nat_cmp}
-use Rattle.std.specs.Prelude.{◌≡◌, ◌&&◌, ◌++◌, ℕ, ℤ, Bool, codes, false, filter, IsTrue, List, Option, Some, option_map, option_and_then, slice_get}
+use Rattle.std.specs.Prelude.{◌≡◌, ◌&&◌, ◌⊎◌, ◌∷◌, [], ℕ, ℤ, Bool, false, true, filter, map, IsTrue, List, Option, Some, option_map, option_and_then, slice_get}
 use Rattle.couch_json.specs.Value.{Value}
 use Rattle.sqlite.specs.Held.{Held, state}
 use Rattle.sqlite.specs.State.{HasCleanDisk}
 use Rattle.sqlite_trees.specs.declared.store.Store.{Ghosts}
-use Rattle.sqlite_value.specs.Order.{Row}
+use Rattle.sqlite_value.specs.Order.{Row, column}
 use Rattle.tables.specs.Layout.{IsDocumentRow, IsStore}
 use Rattle.sqlite_keyed.specs.Lists.{sort_by}
+use Rattle.tables.specs.Listings.{first_rows, has_id_between, is_between, rows_behind}
 use Rattle.tables.specs.Rows.{by_id, db_of, id_of, is_gone, is_in, listed_document, winner_text}
 use Rattle.tables.specs.Shown.{held_shown}
 use Rattle.tables.specs.declared.decode.ListedDocument.{ListedDocument}
@@ -46,17 +45,21 @@ pub record ShowsLive (id : List ℕ) (r : Revision) (rows : List Row) (document 
   pub live : HasLive rows
   pub shown : document ≡ shown_document id r (record { deleted = false; body = live.body })
 
--- the row is that of a document of the database whose id is below these bytes
-abbrev pub is_below : ℤ → List ℕ → Row → Bool
-is_below db bound r = is_in db r && is_lt (slice_cmp nat_cmp (id_of r) bound)
+-- the row is that of a document of the database whose id lies between the bounds
+abbrev pub is_in_range : ℤ → List ℕ → List ℕ → Row → Bool
+is_in_range db low high r = is_in db r && has_id_between low high r
 
--- the same of one whose id is not below them
-abbrev pub is_from : ℤ → List ℕ → Row → Bool
-is_from db bound r = is_in db r && is_le (slice_cmp nat_cmp bound (id_of r))
+-- the rows of these documents, by the bytes of their ids
+abbrev pub documents_between : ℤ → List ℕ → List ℕ → List Row → List Row
+documents_between db low high rows = sort_by by_id (filter (is_in_range db low high) rows)
 
--- the rows of the documents of the database whose ids do not begin with `_d`, as those of all design documents do, by the bytes of their ids
-abbrev pub beside_designs : ℤ → List Row → List Row
-beside_designs db rows = sort_by by_id (filter (is_below db (codes "_d")) rows) ++ sort_by by_id (filter (is_from db (codes "_e")) rows)
+-- their ids, as a query shows them: behind so many, up to so many or all
+abbrev pub ids_between : ℤ → List ℕ → List ℕ → ℤ → ℤ → List Row → List Row
+ids_between db low high most skip rows = first_rows most (rows_behind skip (map (λ r. column r 2 ∷ []) (documents_between db low high rows)))
+
+-- what lies between the bounds may be cut there: the bytes lie between them, or are the high one
+abbrev pub IsCut : List ℕ → List ℕ → List ℕ → Type 0
+IsCut low high bytes = (is_between low high bytes ≡ true) ⊎ (bytes ≡ high)
 
 -- The disk returned what was written, and the tables of an open connection were laid out: with this row of a document of the database, of
 -- which that is read, and whose winner is not deleted.

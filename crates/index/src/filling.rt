@@ -1,10 +1,10 @@
 //! The entries of indexes that have none, one of each document in each of them.
 
-ghost use Rattle.std.specs.Prelude.{◌≡◌, ◌||◌, ◌++◌, IfErr, IfOk, List, Some, map, ⊤};
-ghost use Rattle.couch_json.specs.View.{view};
+ghost use Rattle.std.specs.Prelude.{◌≡◌, ◌||◌, IfErr, List, map, ⊤, ℕ, Bool};
 ghost use Rattle.sqlite_value.specs.Order as order;
 ghost use Rattle.index.specs.Calls.{IsRefused};
-ghost use Rattle.index.specs.Filling.{AreBare, AreToFill, Fills, FillsRow, FillsRows, IsToFill, PutsKeys};
+ghost use Rattle.index.specs.Filling.{AreBare, Fills};
+ghost use Rattle.index.specs.Gathering.{AreToGather, GathersRange, GathersRow, GathersRows, IsToGather, IsToGatherRange, entry_of};
 ghost use Rattle.index.specs.Indexed.{Entries};
 ghost use Rattle.index.specs.Shown.{declared};
 ghost use Rattle.index.specs.Steps.{AreFit};
@@ -12,16 +12,20 @@ ghost use Rattle.tree.specs.DocumentId.{is_design_id};
 
 use crate::declaration::Declaration;
 use crate::fault::IndexFault;
-use crate::refreshing::refresh_index;
-use crate::seen::{find_live, read_listed, rows_below, rows_from};
-use couch_json::{Got, Json};
+use crate::gathered::Gathered;
+use crate::gathering::gather_keys;
+use crate::putting::{put_full, put_gathered};
+use crate::seen::{find_bound, find_live, read_listed, rows_between};
 use sqlite::{Alter, Row, Transaction};
 use std::alloc::Global;
 use tables::ListedDocument;
 
+/// Above the ids of all documents: no text has this byte.
+const ABOVE_TEXTS: &[u8] = b"\xff";
+
 /// Fills indexes that have no entries, all in one pass over the documents of the database; where there are
 /// none, nothing is read.
-pub(crate) fn fill_indexes<S: Alter>(
+pub fn fill_indexes<S: Alter>(
     alloc: Global,
     tx: &mut Transaction<'_, S>,
     db: &i64,
@@ -50,49 +54,103 @@ fn fill_all<S: Alter>(
     ensures fills { Fills S.Store db.now (map declared declarations.now) tx.old.conn.now tx.new.conn.now result }
     ensures err { (due : Entries) → IfErr result (IsRefused (AreFit S.Store (AreBare db.now (map declared declarations.now) due) tx.old.conn.now tx.new.conn.now)) }
 {
-    let below = rows_below(tx, db, b"_d")?;
-    let above = rows_from(tx, db, b"_e")?;
-    let rows = join_rows(below, above)?;
-    fill_rows(alloc, tx, db, declarations, &rows)
+    let mut gathered = Gathered::new(alloc);
+    gather_range(alloc, tx, db, declarations, b"", b"_d", &mut gathered)?;
+    gather_range(
+        alloc,
+        tx,
+        db,
+        declarations,
+        b"_e",
+        ABOVE_TEXTS,
+        &mut gathered,
+    )?;
+    put_gathered(tx, &mut gathered)?;
+    Ok(())
 }
 
-/// Joins two lists of rows, the second behind the first.
-fn join_rows(mut rows: Vec<Row>, mut others: Vec<Row>) -> Got<Vec<Row>>
-    ensures { IfOk result (λ all. all.items ≡ rows.items ++ others.items) }
+/// Gathers the entries of the documents whose ids lie between two bounds. They are read in parts, and put
+/// in where there are enough.
+fn gather_range<S: Alter>(
+    alloc: Global,
+    tx: &mut Transaction<'_, S>,
+    db: &i64,
+    declarations: &[Declaration],
+    low: &[u8],
+    high: &[u8],
+    gathered: &mut Gathered,
+) -> Result<(), IndexFault>
+    ensures same_reference { tx.new.conn.ghost_name ≡ tx.old.conn.ghost_name }
+    ensures gathers { GathersRange S.Store db.now (map declared declarations.now) low.now high.now (map entry_of gathered.old.entries.items) (map entry_of gathered.new.entries.items) tx.old.conn.now tx.new.conn.now result }
+    ensures err { (left : List ℕ → Bool) (due : Entries)
+        → IfErr result (IsRefused (AreFit S.Store (IsToGatherRange db.now (map declared declarations.now) low.now high.now left (map entry_of gathered.old.entries.items) due) tx.old.conn.now tx.new.conn.now)) }
 {
-    rows.append(&mut others)?;
-    Ok(rows)
+    let mut from = Vec::from_slice(alloc, low)?;
+    for _part in 0..u64::MAX {
+        let bound = find_bound(alloc, tx, db, &from, high)?;
+        gather_part(alloc, tx, db, declarations, &from, &bound, gathered)?;
+        if bound.as_slice() == high {
+            return Ok(());
+        }
+        from = bound;
+    }
+    Err(IndexFault::Memory)
 }
 
-/// Puts the entries of the documents of these rows into indexes. Each document is read once.
-fn fill_rows<S: Alter>(
+/// Gathers the entries of the documents whose ids lie between two bounds, which are read at once.
+fn gather_part<S: Alter>(
+    alloc: Global,
+    tx: &mut Transaction<'_, S>,
+    db: &i64,
+    declarations: &[Declaration],
+    low: &[u8],
+    high: &[u8],
+    gathered: &mut Gathered,
+) -> Result<(), IndexFault>
+    ensures same_reference { tx.new.conn.ghost_name ≡ tx.old.conn.ghost_name }
+    ensures gathers { GathersRange S.Store db.now (map declared declarations.now) low.now high.now (map entry_of gathered.old.entries.items) (map entry_of gathered.new.entries.items) tx.old.conn.now tx.new.conn.now result }
+    ensures err { (left : List ℕ → Bool) (due : Entries)
+        → IfErr result (IsRefused (AreFit S.Store (IsToGatherRange db.now (map declared declarations.now) low.now high.now left (map entry_of gathered.old.entries.items) due) tx.old.conn.now tx.new.conn.now)) }
+{
+    let rows = rows_between(tx, db, low, high)?;
+    gather_rows(alloc, tx, db, declarations, &rows, gathered)
+}
+
+/// Gathers the entries of the documents of these rows, and puts them in where there are enough. Each
+/// document is read once.
+fn gather_rows<S: Alter>(
     alloc: Global,
     tx: &mut Transaction<'_, S>,
     db: &i64,
     declarations: &[Declaration],
     rows: &[Row],
+    gathered: &mut Gathered,
 ) -> Result<(), IndexFault>
     ensures same_reference { tx.new.conn.ghost_name ≡ tx.old.conn.ghost_name }
-    ensures fills { FillsRows S.Store db.now (map declared declarations.now) rows.now tx.old.conn.now tx.new.conn.now result }
-    ensures err { (docs : List order.Row) (due : Entries) → IfErr result (IsRefused (AreFit S.Store (AreToFill db.now (map declared declarations.now) rows.now docs due) tx.old.conn.now tx.new.conn.now)) }
+    ensures gathers { GathersRows S.Store db.now (map declared declarations.now) rows.now (map entry_of gathered.old.entries.items) (map entry_of gathered.new.entries.items) tx.old.conn.now tx.new.conn.now result }
+    ensures err { (docs : List order.Row) (due : Entries)
+        → IfErr result (IsRefused (AreFit S.Store (AreToGather db.now (map declared declarations.now) rows.now docs (map entry_of gathered.old.entries.items) due) tx.old.conn.now tx.new.conn.now)) }
 {
     for row in rows {
-        fill_row(alloc, tx, db, declarations, row)?;
+        gather_row(alloc, tx, db, declarations, row, gathered)?;
+        put_full(tx, gathered)?;
     }
     Ok(())
 }
 
-/// Puts the entries of the document of a row into indexes, where it has a key in them.
-fn fill_row<S: Alter>(
+/// Gathers the entries of the document of a row.
+fn gather_row<S: Alter>(
     alloc: Global,
     tx: &mut Transaction<'_, S>,
     db: &i64,
     declarations: &[Declaration],
     row: &Row,
+    gathered: &mut Gathered,
 ) -> Result<(), IndexFault>
     ensures same_reference { tx.new.conn.ghost_name ≡ tx.old.conn.ghost_name }
-    ensures fills { FillsRow S.Store db.now (map declared declarations.now) row.now tx.old.conn.now tx.new.conn.now result }
-    ensures err { (d : order.Row) (due : Entries) → IfErr result (IsRefused (AreFit S.Store (IsToFill db.now (map declared declarations.now) row.now d due) tx.old.conn.now tx.new.conn.now)) }
+    ensures gathers { GathersRow S.Store db.now (map declared declarations.now) row.now (map entry_of gathered.old.entries.items) (map entry_of gathered.new.entries.items) tx.old.conn.now tx.new.conn.now result }
+    ensures err { (d : order.Row) (due : Entries)
+        → IfErr result (IsRefused (AreFit S.Store (IsToGather db.now (map declared declarations.now) row.now d (map entry_of gathered.old.entries.items) due) tx.old.conn.now tx.new.conn.now)) }
 {
     let listed = read_listed(alloc, row)?;
     if is_unseen(&listed) {
@@ -100,24 +158,7 @@ fn fill_row<S: Alter>(
     }
     let seen = find_live(alloc, tx, db, &listed)?;
     let id = listed.id.as_str().as_bytes();
-    put_keys(alloc, tx, declarations, id, &seen)
-}
-
-/// Puts the entry of a document into each index in which it has a key.
-fn put_keys<S: Alter>(
-    alloc: Global,
-    tx: &mut Transaction<'_, S>,
-    declarations: &[Declaration],
-    id: &[u8],
-    seen: &Json,
-) -> Result<(), IndexFault>
-    ensures same_reference { tx.new.conn.ghost_name ≡ tx.old.conn.ghost_name }
-    ensures puts { PutsKeys S.Store (map declared declarations.now) id.now (Some (view seen.now)) tx.old.conn.now tx.new.conn.now result }
-    ensures err { IfErr result (IsRefused ⊤) }
-{
-    for declaration in declarations {
-        refresh_index(alloc, tx, declaration, id, None, Some(seen))?;
-    }
+    gather_keys(alloc, declarations, id, &seen, gathered)?;
     Ok(())
 }
 

@@ -1,16 +1,16 @@
 //! The indexes of a design document, after another body of it is the winner's.
 
-ghost use Rattle.std.specs.Prelude.{◌≡◌, ◌++◌, ◌∷◌, ℕ, IfErr, IfOk, IfSome, List, Option, Some, filter, map, option_map, true, ⊤};
+ghost use Rattle.std.specs.Prelude.{◌≡◌, ◌∷◌, ℕ, IfErr, IfOk, IfSome, List, Option, Some, filter, map, option_map, true, ⊤};
 ghost use Rattle.std.specs.List.{AllByRecursion};
 ghost use Rattle.couch_json.specs.View.{members_view, view};
 ghost use Rattle.policy.specs.DesignDocuments.{is_index};
 ghost use Rattle.store.specs.Indexes.{declared_index, fields_in};
-ghost use Rattle.tables.specs.Calls.{ReadsInside};
+ghost use Rattle.tables.specs.Calls.{IsServed, ReadsInside};
 ghost use Rattle.tables.specs.Schema.{decls_tree};
 ghost use Rattle.index.specs.Calls.{IsRefused};
 ghost use Rattle.index.specs.Declaring.{ArePartly, ClearsIndex, DeclaresMissing, IsRebuildable};
 ghost use Rattle.index.specs.Meaning.{Declarations, Documents, declared_if};
-ghost use Rattle.index.specs.Rebuilding.{ClearsNames, DeclaresNames, Rebuilds, SetsNames, declared_names, has_good_indexes, is_of_design, names_of, shown_name};
+ghost use Rattle.index.specs.Rebuilding.{ClearsDesign, ClearsNames, DeclaresDesign, DeclaresNames, IsToDeclare, Rebuilds, declared_names, has_good_indexes, is_of_design, names_of, shown_name};
 ghost use Rattle.index.specs.Layout.{HasIndexRows};
 ghost use Rattle.index.specs.Rows.{shown_declaration};
 ghost use Rattle.index.specs.Shown.{IsShownDeclaration, declared};
@@ -42,20 +42,49 @@ pub fn rebuild<S: Alter>(
     ensures rebuilds { Rebuilds S.Store db.now design.now (option_map (λ v. view v.now) body.entry) tx.old.conn.now tx.new.conn.now result }
     ensures err { (declares : Declarations) (sees : Documents) → IfErr result (IsRefused (WasFit S.Store (IsRebuildable declares sees db.now) tx.old.conn.now tx.new.conn.now)) }
 {
-    let rows = rows_of_design(tx, db, design)?;
-    let stored = list_stored(alloc, rows)?;
-    let declared = list_declared(alloc, body)?;
-    let good = check_declared(alloc, body)?;
-    let names = join_names(stored, declared)?;
-    set_names(alloc, tx, db, design, body, good, &names)
+    clear_design(alloc, tx, db, design, body)?;
+    let mut fresh = Vec::new(alloc);
+    declare_design(alloc, tx, db, design, body, &mut fresh)?;
+    fill_indexes(alloc, tx, db, &fresh)
 }
 
-/// Joins two lists of names, the second behind the first.
-fn join_names(mut names: Vec<Vec<u8>>, mut others: Vec<Vec<u8>>) -> Got<Vec<Vec<u8>>>
-    ensures { IfOk result (λ all. all.items ≡ names.items ++ others.items) }
+/// Takes out the indexes of a design document that its body declares with other fields, or doesn't declare.
+pub fn clear_design<S: Alter>(
+    alloc: Global,
+    tx: &mut Transaction<'_, S>,
+    db: &i64,
+    design: &[u8],
+    body: Option<&Json>,
+) -> Result<(), IndexFault>
+    ensures same_reference { tx.new.conn.ghost_name ≡ tx.old.conn.ghost_name }
+    ensures clears { ClearsDesign S.Store db.now design.now (option_map (λ v. view v.now) body.entry) tx.old.conn.now tx.new.conn.now result }
+    ensures served { IsServed S.Store tx.old.conn.now tx.new.conn.now result }
+    ensures err { (declares : Declarations) (sees : Documents) → IfErr result (IsRefused (WasFit S.Store (IsRebuildable declares sees db.now) tx.old.conn.now tx.new.conn.now)) }
 {
-    names.append(&mut others)?;
-    Ok(names)
+    let rows = rows_of_design(tx, db, design)?;
+    let stored = list_stored(alloc, rows)?;
+    let good = check_declared(alloc, body)?;
+    clear_names(alloc, tx, db, design, body, good, &stored)
+}
+
+/// Declares the indexes of a design document that are missing as its body declares them. They are among the
+/// fresh ones then, which have no entries.
+pub fn declare_design<S: Alter>(
+    alloc: Global,
+    tx: &mut Transaction<'_, S>,
+    db: &i64,
+    design: &[u8],
+    body: Option<&Json>,
+    fresh: &mut Vec<Declaration>,
+) -> Result<(), IndexFault>
+    ensures same_reference { tx.new.conn.ghost_name ≡ tx.old.conn.ghost_name }
+    ensures declares { DeclaresDesign S.Store db.now design.now (option_map (λ v. view v.now) body.entry) (map declared fresh.old.items) (map declared fresh.new.items) tx.old.conn.now tx.new.conn.now result }
+    ensures err { (declares : Declarations) (sees : Documents)
+        → IfErr result (IsRefused (AreFit S.Store (IsToDeclare declares sees db.now design.now (declared_if (option_map (λ v. view v.now) body.entry)) (map declared fresh.old.items)) tx.old.conn.now tx.new.conn.now)) }
+{
+    let names = list_declared(alloc, body)?;
+    let good = check_declared(alloc, body)?;
+    declare_names(alloc, tx, db, design, body, good, &names, fresh)
 }
 
 /// Returns the rows of the indexes that a design document declares, by their numbers: the number, the name
@@ -141,28 +170,6 @@ fn list_names(alloc: Global, members: &NameMap<Json>) -> Got<Vec<Vec<u8>>>
         names.push(copy_bytes(alloc, name.as_bytes())?)?;
     }
     Ok(names)
-}
-
-/// Sets the indexes of these names of a design document as its body declares them. Those that are new are
-/// filled together.
-fn set_names<S: Alter>(
-    alloc: Global,
-    tx: &mut Transaction<'_, S>,
-    db: &i64,
-    design: &[u8],
-    body: Option<&Json>,
-    good: bool,
-    names: &[Vec<u8>],
-) -> Result<(), IndexFault>
-    requires { good ≡ has_good_indexes (option_map (λ v. view v.now) body) }
-    ensures same_reference { tx.new.conn.ghost_name ≡ tx.old.conn.ghost_name }
-    ensures sets { SetsNames S.Store db.now design.now (option_map (λ v. view v.now) body.entry) (map (λ name. name.items) names.now) tx.old.conn.now tx.new.conn.now result }
-    ensures err { (declares : Declarations) (sees : Documents) → IfErr result (IsRefused (AreFit S.Store (IsRebuildable declares sees db.now) tx.old.conn.now tx.new.conn.now)) }
-{
-    clear_names(alloc, tx, db, design, body, good, names)?;
-    let mut fresh = Vec::new(alloc);
-    declare_names(alloc, tx, db, design, body, good, names, &mut fresh)?;
-    fill_indexes(alloc, tx, db, &fresh)
 }
 
 /// Takes out the indexes of these names of a design document that have other fields than its body declares.
