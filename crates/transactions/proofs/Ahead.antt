@@ -21,7 +21,7 @@ use Rattle.tables.proofs.Rests.{AreSame, contents_same, leaves, revision_kept, s
 use Rattle.tree.specs.DocumentId.{is_design_id}
 use Rattle.transactions.proofs.Committing.{further, length-writings_in, may_in_turn}
 use Rattle.transactions.proofs.IndexRests.{database_indexed}
-use Rattle.transactions.proofs.IndexSteps.{database_still, plain_followed}
+use Rattle.transactions.proofs.IndexSteps.{all_indexed, database_still, none_postponed, plain_followed}
 use Rattle.transactions.specs.Following.{HasPlaceFor}
 use Rattle.transactions.specs.Indexing.{AreAllIndexes, IsIndexedStore}
 use Rattle.transactions.specs.Placed.{ArePlain, IsAhead, IsPlacedWrite, with_databases}
@@ -246,15 +246,15 @@ next_ahead ws i w name db sequence next old mid new lt is room at plain due h la
     (subst (λ s. IsPlacedWrite db s (written_in (history_in (mid.trees revs_tree) db a.id) a) mid new) (at ∙ ap pos number) write) in
     let whole : IsWrite row (written_in (history_in (mid.trees revs_tree) n a.id) a) (with_databases h.back mid) (with_databases behind new) = write_behind h.back row _ mid new placed in
     let last : length_of r + length (additions (take (i + 1) ws)) ≡ length_of r + length before + 1 = omega (arith, grown, count) in
-    let followed = plain_followed row a n [] (with_databases h.back mid) (with_databases behind new)
-    (record { store = h.written.store; indexed = same_rows mid.trees (with_databases h.back mid).trees refl refl refl h.indexed }) h.none refl
+    let followed = plain_followed row a n [] [] (with_databases h.back mid) (with_databases behind new)
+    (record { store = h.written.store; indexed = none_postponed n (with_databases h.back mid).trees (same_rows mid.trees (with_databases h.back mid).trees refl refl refl h.indexed) }) h.none refl
     (ap (λ (x : Write). is_design_id (addition_of x).id) is ∙ plain_at ws i w lt plain) refl whole in
     record {
       back = behind;
       written = further ws i w name db sequence old (with_databases h.back mid) (with_databases behind new) lt is room due h.written lawful whole;
       ahead = placed_dbs n to _ mid new h.written.store.schema_is placed ∙ h.ahead ∙ sym (moved_twice n to (pos (length_of r + length (additions ws))) h.back);
       moved = λ some. ap (λ (k : ℕ). rows_at_sequence n (pos k) behind) last ∙ moved_twice n to to h.back;
-      indexed = same_rows (with_databases behind new).trees new.trees refl refl refl followed.0.indexed;
+      indexed = same_rows (with_databases behind new).trees new.trees refl refl refl (all_indexed n (with_databases behind new).trees followed.0.indexed);
       none = followed.1;
     }
 

@@ -154,12 +154,12 @@ may_in_turn ws i w name db sequence next old mid lt is room at due h =
     }
 
 -- and when it was done and the index rows followed it, it is one of those that are done
-pub further_followed : (ws : List Write) (i : ℕ) (w : Write) (name : List ℕ) (db : ℤ) (sequence : ℕ) (next : ℤ) (old mid new : Database) (lt : i < length ws) (is : w ≡ get_or ws i w) (room : sequence + length ws < 2 ^ 63) (at : next ≡ pos (sequence + i + 1))
+pub further_followed : (ws : List Write) (i : ℕ) (w : Write) (name : List ℕ) (db : ℤ) (ids : List (List ℕ)) (sequence : ℕ) (next : ℤ) (old mid new : Database) (lt : i < length ws) (is : w ≡ get_or ws i w) (room : sequence + length ws < 2 ^ 63) (at : next ≡ pos (sequence + i + 1))
     → (due : AreDue (additions ws) name db sequence old.trees) (h : HasWritten (writings_in (database_of old.trees due.row) (additions (take i ws))) name due.row old mid) → IsLawfulAddition (addition_of w)
-    → IsFollowed (may_in_turn ws i w name db sequence next old mid lt is room at due h).row (write_in mid.trees (may_in_turn ws i w name db sequence next old mid lt is room at due h).row (addition_of w)) mid new
+    → IsFollowed db ids (may_in_turn ws i w name db sequence next old mid lt is room at due h).row (write_in mid.trees (may_in_turn ws i w name db sequence next old mid lt is room at due h).row (addition_of w)) mid new
     → HasWritten (writings_in (database_of old.trees due.row) (additions (take (i + 1) ws))) name due.row old new
 unfolding may_in_turn
-further_followed ws i w name db sequence next old mid new lt is room at due h lawful followed =
+further_followed ws i w name db ids sequence next old mid new lt is room at due h lawful followed =
     written_still _ name due.row old followed.written new (further ws i w name db sequence old mid followed.written lt is room due h lawful followed.write) followed.only
 
 -- ---- the history of a write that may be done has a best revision

@@ -20,8 +20,7 @@ use Rattle.index.specs.declared.declaration.Declaration.{Declaration}
 use Rattle.index.proofs.Going.{declarations_stay, refreshed}
 use Rattle.sqlite_keyed.proofs.ListLemmas.{all_weaker}
 use Rattle.store.specs.Writing.{Addition}
-use Rattle.transactions.specs.Indexing.{AreAllIndexes, AreKnownIndexes, IsFollowed, IsIndexedStore, IsRedeclared, write_in}
-use Rattle.index.specs.Declaring.{IsRebuildable}
+use Rattle.transactions.specs.Indexing.{AreAllIndexes, IsFollowed, IsIndexedBut, IsIndexedStore, IsIndexedStoreBut, write_in}
 use Rattle.transactions.proofs.Common.{Err, Ok, OnOk, Result, [], cond, ◌∷◌}
 use Rattle.std.specs.Prelude.{◌==◌, find}
 use Rattle.index.proofs.Common.{all_of}
@@ -139,25 +138,31 @@ module _ (db : ℤ) (id : List ℕ) (old new : Trees) (left : Leaving db id old 
 
 -- ---- the index rows after a write
 
--- A document that is no design document was written, and the index rows follow it.
-pub document_followed : (db : ℤ) (id : List ℕ) (old written new : Trees) → is_design_id id ≡ false → IsIndexed old → Leaving db id old written → new revs_tree ≡ written revs_tree
-    → AreIndexed (declares_in old) (with_seen (sees_in old) db id (sees_in written db id)) new → IsIndexed new
-document_followed db id old written new plain was left same h =
-    alike (declares_in old) (with_seen (sees_in old) db id (sees_in written db id)) new h (declares_in new) (sees_in new)
-    (λ n design name. declares n design name ∙ ap (λ rows. index_fields_of design (history_in rows n design) name) (sym same))
-    (λ n other. sees_after db id old written left n other ∙ ap (λ rows. queried_document other (history_in rows n other)) (sym same))
+-- a document that is no design document declares nothing, before a write and after it
+document_declares : (db : ℤ) (id : List ℕ) (old written : Trees) → is_design_id id ≡ false → Leaving db id old written → (n : ℤ) (design name : List ℕ) → declares_in old n design name ≡ declares_in written n design name
+document_declares db id old written plain left n design name = by (int_eq n db && bytes_eq design id) refl
   where
     none : (trees : Trees) (name : List ℕ) → declares_in trees db id name ≡ None
     none trees name = rw (plain) refl
 
-    declares : (n : ℤ) (design name : List ℕ) → declares_in old n design name ≡ declares_in written n design name
-    declares n design name = by (int_eq n db && bytes_eq design id) refl
-      where
-        by : (b : Bool) → (int_eq n db && bytes_eq design id) ≡ b → declares_in old n design name ≡ declares_in written n design name
-        by true is =
-            let place = same_place db id n design is in
-            ap₂ (λ m i. declares_in old m i name) place.0 place.1 ∙ none old name ∙ sym (none written name) ∙ ap₂ (λ m i. declares_in written m i name) (sym place.0) (sym place.1)
-        by false is = ap (λ h. index_fields_of design h name) (sym (left.others n design (other_place db id n design is)))
+    by : (b : Bool) → (int_eq n db && bytes_eq design id) ≡ b → declares_in old n design name ≡ declares_in written n design name
+    by true is =
+        let place = same_place db id n design is in
+        ap₂ (λ m i. declares_in old m i name) place.0 place.1 ∙ none old name ∙ sym (none written name) ∙ ap₂ (λ m i. declares_in written m i name) (sym place.0) (sym place.1)
+    by false is = ap (λ h. index_fields_of design h name) (sym (left.others n design (other_place db id n design is)))
+
+-- A document that is no design document was written, and the index rows follow it.
+pub document_followed : (db : ℤ) (ids : List (List ℕ)) (id : List ℕ) (old written new : Trees) → is_design_id id ≡ false → IsIndexedBut db ids old → Leaving db id old written → new decls_tree ≡ old decls_tree → new revs_tree ≡ written revs_tree
+    → AreIndexed (declared_by (old decls_tree)) (with_seen (sees_in old) db id (sees_in written db id)) new → IsIndexedBut db ids new
+document_followed db ids id old written new plain was left decls same h = record {
+  indexed = alike (declared_by (old decls_tree)) (with_seen (sees_in old) db id (sees_in written db id)) new h (declared_by (new decls_tree)) (sees_in new)
+      (λ n design name. ap (λ rows. declared_by rows n design name) (sym decls))
+      (λ n other. sees_after db id old written left n other ∙ ap (λ rows. queried_document other (history_in rows n other)) (sym same));
+  declared = λ n design name out.
+      ap (λ rows. declared_by rows n design name) decls ∙ was.declared n design name out ∙ document_declares db id old written plain left n design name
+      ∙ ap (λ rows. index_fields_of design (history_in rows n design) name) (sym same);
+  designs = was.designs;
+}
 
 -- queries see the same after a design document was written
 pub design_unseen : (db : ℤ) (id : List ℕ) (old written : Trees) → is_design_id id ≡ true → Leaving db id old written → (n : ℤ) (other : List ℕ) → sees_in old n other ≡ sees_in written n other
@@ -172,20 +177,12 @@ design_unseen db id old written design left n other = by (int_eq n db && bytes_e
         ap₂ (sees_in old) place.0 place.1 ∙ none old ∙ sym (none written) ∙ ap₂ (sees_in written) (sym place.0) (sym place.1)
     by false is = ap (queried_document other) (sym (left.others n other (other_place db id n other is)))
 
--- A design document was written, and what it declares.
-pub design_followed : (db : ℤ) (id : List ℕ) (old written new : Trees) → is_design_id id ≡ true → Leaving db id old written → new revs_tree ≡ written revs_tree
-    → AreIndexed (with_declared (declares_in old) db id (λ x. declares_in written db id x)) (sees_in old) new → IsIndexed new
-design_followed db id old written new design left same h =
-    alike (with_declared (declares_in old) db id (λ x. declares_in written db id x)) (sees_in old) new h (declares_in new) (sees_in new)
-    (λ n other name. declares_after db id old written left n other name ∙ ap (λ rows. index_fields_of other (history_in rows n other) name) (sym same))
-    (λ n other. design_unseen db id old written design left n other ∙ ap (λ rows. queried_document other (history_in rows n other)) (sym same))
-
 -- A document was written where nothing is declared.
-pub nothing_followed : (db : ℤ) (id : List ℕ) (old written : Trees) → is_design_id id ≡ false → IsIndexed old → Leaving db id old written → ((design name : List ℕ) → declares_in old db design name ≡ None)
-    → IsIndexed written
-nothing_followed db id old written plain was left none =
-    document_followed db id old written written plain was left refl
-    (unseen (declares_in old) (sees_in old) written (indexed_still (declares_in old) (sees_in old) old written left.decls left.entries was) (with_seen (sees_in old) db id (sees_in written db id)) db none
+pub nothing_followed : (db : ℤ) (ids : List (List ℕ)) (id : List ℕ) (old written : Trees) → is_design_id id ≡ false → IsIndexedBut db ids old → Leaving db id old written → ((design name : List ℕ) → declared_by (old decls_tree) db design name ≡ None)
+    → IsIndexedBut db ids written
+nothing_followed db ids id old written plain was left none =
+    document_followed db ids id old written written plain was left left.decls refl
+    (unseen (declared_by (old decls_tree)) (sees_in old) written (indexed_still (declared_by (old decls_tree)) (sees_in old) old written left.decls left.entries was.indexed) (with_seen (sees_in old) db id (sees_in written db id)) db none
     (λ n other apart. sym (away n other apart)))
   where
     away : (n : ℤ) (other : List ℕ) → n ≢ db → with_seen (sees_in old) db id (sees_in written db id) n other ≡ sees_in old n other
@@ -194,6 +191,22 @@ nothing_followed db id old written plain was left none =
         by : (b : Bool) → int_eq n db ≡ b → (if (b && bytes_eq other id) then sees_in written db id else sees_in old n other) ≡ sees_in old n other
         by true is = absurd (apart (same_int n db is))
         by false is = refl
+
+-- ---- rows of indexes of which none is postponed
+
+pub none_postponed : (db : ℤ) (trees : Trees) → IsIndexed trees → IsIndexedBut db [] trees
+none_postponed db trees was = record {
+  indexed = alike (declares_in trees) (sees_in trees) trees was (declared_by (trees decls_tree)) (sees_in trees) (λ n design name. sym (was.declared n design name)) (λ n id. refl);
+  declared = λ n design name out. was.declared n design name;
+  designs = λ id is. absurd (cc);
+}
+
+pub all_indexed : (db : ℤ) (trees : Trees) → IsIndexedBut db [] trees → IsIndexed trees
+all_indexed db trees h = alike (declared_by (trees decls_tree)) (sees_in trees) trees h.indexed (declares_in trees) (sees_in trees) (λ n design name. h.declared n design name (none (int_eq n db))) (λ n id. refl)
+  where
+    none : (b : Bool) → (b && false) ≡ false
+    none true = refl
+    none false = refl
 
 -- ---- the indexes of a database follow a document
 
@@ -204,28 +217,29 @@ indexes_alone a b h = record {
 }
 
 -- a document that is no design document was written, and all indexes of its database followed it
-pub seen_followed : (r : Row) (a : Addition) (db : ℤ) (all : List Declared) (before after : Option Value) (old written new : sqlite.Database) → IsIndexedStore old → AreAllIndexes all db old.trees → is_design_id a.id ≡ false
+pub seen_followed : (r : Row) (a : Addition) (db : ℤ) (ids : List (List ℕ)) (all : List Declared) (before after : Option Value) (old written new : sqlite.Database) → IsIndexedStoreBut db ids old → AreAllIndexes all db old.trees → is_design_id a.id ≡ false
     → db ≡ number_of r → IsWrite r (write_in old.trees r a) old written → IsStore written → before ≡ sees_in old.trees db a.id → after ≡ sees_in written.trees db a.id
     → ((decls : List Row) (sees : Documents) → AreDeclarationRows decls → all ≡ map declared_at (filter (is_at_home db) decls) → AreEntriesOf (is_due sees decls) (written.trees entries_tree) → sees db a.id ≡ before
     → HasEntries (is_due (with_seen sees db a.id after) decls) written new)
-    → IsFollowed r (write_in old.trees r a) old new × AreAllIndexes all db new.trees
-seen_followed r a db all before after old written new was every plain numbered write store first seen_is follows =
-    let declares = declares_in old.trees in
+    → IsFollowed db ids r (write_in old.trees r a) old new × AreAllIndexes all db new.trees
+seen_followed r a db ids all before after old written new was every plain numbered write store first seen_is follows =
+    let declares = declared_by (old.trees decls_tree) in
     let sees = sees_in old.trees in
     let left : Leaving db a.id old.trees written.trees = subst (λ n. Leaving n a.id old.trees written.trees) (sym numbered) (write_leaves r (write_in old.trees r a) old written was.store.schema_is write) in
-    let still = indexed_still declares sees old.trees written.trees left.decls left.entries was.indexed in
+    let still = indexed_still declares sees old.trees written.trees left.decls left.entries was.indexed.indexed in
     let made = follows (written.trees decls_tree) sees still.decls (every ∙ ap (λ rows. map declared_at (filter (is_at_home db) rows)) (sym left.decls)) still.entries (sym first) in
     let both = refreshed declares sees (with_seen sees db a.id after) written new store.schema_is still made in
     let only = indexes_alone written new both.1 in
+    let decls = declarations_stay written new store.schema_is made.only ∙ left.decls in
     let at_home : List Row → List Declared = λ rows. map declared_at (filter (is_at_home db) rows) in (
       record {
         written = written;
         write = write;
         only = only;
-        indexed = document_followed db a.id old.trees written.trees new.trees plain was.indexed left (same_tables written new store.schema_is only).revs
+        indexed = document_followed db ids a.id old.trees written.trees new.trees plain was.indexed left decls (same_tables written new store.schema_is only).revs
             (subst (λ seen. AreIndexed declares (with_seen sees db a.id seen) new.trees) seen_is both.0);
       },
-      every ∙ ap at_home (sym (declarations_stay written new store.schema_is made.only ∙ left.decls)),
+      every ∙ ap at_home (sym decls),
     )
 
 -- the value that is behind a reference, which may be none
@@ -246,29 +260,6 @@ with_winner declares sees db id bytes h body trees design named is indexed =
     ap (λ i. with_declared declares db i (λ x. declared_if body x) n other name) named
     ∙ ap (λ (fields : Option (List (List ℕ))). if (int_eq n db && bytes_eq other id) then fields else declares n other name) (declared_by_winner id name h body design is))
     (λ n other. refl)
-
--- a design document was written, and the index rows are still those of before
-pub design_fit : (r : Row) (a : Addition) (db : ℤ) (old written : sqlite.Database) → IsIndexedStore old → is_design_id a.id ≡ true → db ≡ number_of r → IsWrite r (write_in old.trees r a) old written → IsStore written
-    → IsRebuildable (declares_in old.trees) (sees_in old.trees) db written
-design_fit r a db old written was design numbered write store =
-    let left : Leaving db a.id old.trees written.trees = subst (λ n. Leaving n a.id old.trees written.trees) (sym numbered) (write_leaves r (write_in old.trees r a) old written was.store.schema_is write) in
-    record {
-      store = store;
-      indexed = indexed_still (declares_in old.trees) (sees_in old.trees) old.trees written.trees left.decls left.entries was.indexed;
-      seen = λ id. design_unseen db a.id old.trees written.trees design left db id;
-    }
-
--- and then what it declares was rebuilt
-pub design_written : (r : Row) (a : Addition) (db : ℤ) (old written new : sqlite.Database) → IsIndexedStore old → is_design_id a.id ≡ true → db ≡ number_of r → IsWrite r (write_in old.trees r a) old written → IsStore written
-    → IsRedeclared (declares_in old.trees) (sees_in old.trees) db a.id written new → IsFollowed r (write_in old.trees r a) old new
-design_written r a db old written new was design numbered write store made =
-    let left : Leaving db a.id old.trees written.trees = subst (λ n. Leaving n a.id old.trees written.trees) (sym numbered) (write_leaves r (write_in old.trees r a) old written was.store.schema_is write) in
-    record {
-      written = written;
-      write = write;
-      only = made.only;
-      indexed = design_followed db a.id old.trees written.trees new.trees design left (same_tables written new store.schema_is made.only).revs made.indexed;
-    }
 
 -- ---- answers
 
@@ -292,25 +283,24 @@ map_none : {A B : Type 0} (f : A → B) (xs : List A) → map f xs ≡ [] → xs
 map_none f [] is = refl
 map_none f (x ∷ xs) is = absurd (cc)
 
--- where all indexes of a database are none, it declares nothing
-pub none_declared : (db : ℤ) (all : List Declared) (trees : Trees) → IsIndexed trees → AreAllIndexes all db trees → all ≡ [] → (design name : List ℕ) → declares_in trees db design name ≡ None
-none_declared db all trees was every none design name =
-    sym (was.declared db design name)
-    ∙ ap (option_map fields_of) (none_home db design name (trees decls_tree) (map_none declared_at (filter (is_at_home db) (trees decls_tree)) (sym every ∙ none)))
+-- where all indexes of a database are none, its rows declare nothing
+pub none_declared : (db : ℤ) (all : List Declared) (trees : Trees) → AreAllIndexes all db trees → all ≡ [] → (design name : List ℕ) → declared_by (trees decls_tree) db design name ≡ None
+none_declared db all trees every none design name =
+    ap (option_map fields_of) (none_home db design name (trees decls_tree) (map_none declared_at (filter (is_at_home db) (trees decls_tree)) (sym every ∙ none)))
 
 indexes_itself : (a : sqlite.Database) → ChangesIndexes a a
 indexes_itself a = record { schema = refl; others = all_of (λ t. t.tree ≢ decls_tree → t.tree ≢ entries_tree → a.trees t.tree ≡ a.trees t.tree) (λ t declared entered. refl) a.schema.tables }
 
 -- a document that is no design document was written in a database that declares nothing
-pub plain_followed : (r : Row) (a : Addition) (db : ℤ) (all : List Declared) (old new : sqlite.Database) → IsIndexedStore old → AreAllIndexes all db old.trees → all ≡ [] → is_design_id a.id ≡ false
-    → db ≡ number_of r → IsWrite r (write_in old.trees r a) old new → IsFollowed r (write_in old.trees r a) old new × AreAllIndexes all db new.trees
-plain_followed r a db all old new was every none plain numbered write =
+pub plain_followed : (r : Row) (a : Addition) (db : ℤ) (ids : List (List ℕ)) (all : List Declared) (old new : sqlite.Database) → IsIndexedStoreBut db ids old → AreAllIndexes all db old.trees → all ≡ [] → is_design_id a.id ≡ false
+    → db ≡ number_of r → IsWrite r (write_in old.trees r a) old new → IsFollowed db ids r (write_in old.trees r a) old new × AreAllIndexes all db new.trees
+plain_followed r a db ids all old new was every none plain numbered write =
     let left : Leaving db a.id old.trees new.trees = subst (λ n. Leaving n a.id old.trees new.trees) (sym numbered) (write_leaves r (write_in old.trees r a) old new was.store.schema_is write) in (
       record {
         written = new;
         write = write;
         only = indexes_itself new;
-        indexed = nothing_followed db a.id old.trees new.trees plain was.indexed left (none_declared db all old.trees was.indexed every none);
+        indexed = nothing_followed db ids a.id old.trees new.trees plain was.indexed left (none_declared db all old.trees every none);
       },
       every ∙ ap (λ rows. map declared_at (filter (is_at_home db) rows)) (sym left.decls),
     )
@@ -322,21 +312,20 @@ no_items f xs is = ap (map f) (nil_from_length xs (count is))
     count : (length xs == 0) ≡ true → length xs ≡ 0
     count e = grind (arith, nat_tests)
 
--- the index rows are laid out after a write that they followed
-pub rows_after : (r : Row) (w : DocumentWrite) (old new : sqlite.Database) → (h : IsFollowed r w old new) → IsStore h.written → HasIndexRows new
-rows_after r w old new h store = record { schema_is = h.only.schema ∙ store.schema_is; decls = h.indexed.decls; entries = h.indexed.entries.laid }
-
 -- the tables that index rows are read of
 pub rows_of : (d : sqlite.Database) → IsIndexedStore d → HasIndexRows d
 rows_of d h = record { schema_is = h.store.schema_is; decls = h.indexed.decls; entries = h.indexed.entries.laid }
-
--- the indexes that are known are those of the same declarations over other tables
-pub known_still : (known : Option (Vec Declaration Global)) (db : ℤ) (a b : Trees) → b decls_tree ≡ a decls_tree → AreKnownIndexes known db a → AreKnownIndexes known db b
-known_still None db a b same every = tt
-known_still (Some all) db a b same every = every ∙ ap (λ rows. map declared_at (filter (is_at_home db) rows)) (sym same)
 
 -- ---- answers of two kinds
 
 pub if_both : {X E P : Type 0} {Q R : X → Type 0} (r : Result X E) → ((x : X) → P → Q x → R x) → OnOk r P → IfOk r Q → IfOk r R
 if_both (Ok x) f p q = f x p q
 if_both (Err e) f p q = tt
+
+pub on_both : {X E P Q R : Type 0} (r : Result X E) → OnOk r P → OnOk r Q → (P → Q → R) → OnOk r R
+on_both (Ok x) p q f = f p q
+on_both (Err e) p q f = tt
+
+pub on_some : {X E R : Type 0} {Q : X → Type 0} (r : Result X E) → ((x : X) → Q x → R) → IfOk r Q → OnOk r R
+on_some (Ok x) f q = f x q
+on_some (Err e) f q = tt

@@ -9,6 +9,7 @@ pub mod FirstWrites
 pub mod IndexSteps
 pub mod IndexRests
 pub mod SameWinner
+pub mod Postponed
 pub mod Following
 pub mod Redeclared
 pub mod DocumentWriting

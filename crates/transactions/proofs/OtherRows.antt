@@ -5,6 +5,7 @@ use Rattle.std.specs.Ordering.{int_eq}
 use Rattle.std.specs.Prelude.{◌&&◌, bytes_eq, if◌then◌else◌}
 use Rattle.sqlite_keyed.proofs.ListLemmas.{all_weaker}
 use Rattle.sqlite_trees.proofs.ListLemmas.{filter_same as filter_on}
+use Rattle.index.specs.Calls.{ChangesIndexes}
 use Rattle.store.specs.Database.{DocumentWrite}
 use Rattle.tables.proofs.Common.{is_named, name_of, row_at_sequence}
 use Rattle.tables.proofs.RowMaps.{filter_both}
@@ -51,8 +52,8 @@ written_schema r w old new is h =
     h.advances.schema ∙ h.places.schema ∙ one.schema ∙ is
 
 -- one write that the rows of indexes follow
-pub others_followed : (n : ℤ) (r : Row) (w : DocumentWrite) (old new : Database) → n ≡ number_of r → old.schema ≡ schema → IsFollowed r w old new → KeepsOthers n old new
-others_followed n r w old new numbered is h =
+pub others_followed : (n : ℤ) (ids : List (List ℕ)) (r : Row) (w : DocumentWrite) (old new : Database) → n ≡ number_of r → old.schema ≡ schema → IsFollowed n ids r w old new → KeepsOthers n old new
+others_followed n ids r w old new numbered is h =
     let write = h.write in
     let placed : IsPlacedWrite (number_of r) (pos (length_of r + 1)) w old write.placed =
     record { inserted = write.inserted; best = write.best; revisions = write.revisions; best_is = write.best_is; places = write.places } in
@@ -60,6 +61,10 @@ others_followed n r w old new numbered is h =
     (same_tables h.written new (written_schema r w old h.written is write) h.only).dbs ∙ write.advances.rows
     ∙ ap (rows_at_sequence (number_of r) (pos (length_of r + 1))) (placed_dbs (number_of r) (pos (length_of r + 1)) w old write.placed is placed) in
     subst (λ k. KeepsOthers k old new) (sym numbered) (ap (filter (is_other (number_of r))) rows ∙ moved_others (number_of r) (pos (length_of r + 1)) (old.trees dbs_tree))
+
+-- the rows of indexes alone are changed
+pub others_still : (n : ℤ) (old mid new : Database) → mid.schema ≡ schema → ChangesIndexes mid new → KeepsOthers n old mid → KeepsOthers n old new
+others_still n old mid new is only h = ap (filter (is_other n)) (same_tables mid new is only).dbs ∙ h
 
 -- the sequence of the database is moved
 pub others_moved : (n s : ℤ) (old new : Database) → Changes dbs_tree (rows_at_sequence n s (old.trees dbs_tree)) old new → KeepsOthers n old new

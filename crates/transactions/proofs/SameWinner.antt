@@ -1,14 +1,15 @@
 -- A design document that has the winner that it had declares what it declared.
-use Rattle.transactions.proofs.Common.{Addition, Bool, Database, Entry, HistoryContent, IsWrite, List, None, Option, Revision, Row, Some, [], ap, cond, entry_of, false, filter, history_in, is_known, is_of, map, map-append, number_of, option_map, refl, revision_cells, revision_cmp, revision_cmp_total, revision_of, revs_tree, schema, sym, true, with_cells, ℕ, ℤ, ◌++◌, ◌∙◌, ◌∷◌, ◌≡◌}
+use Rattle.transactions.proofs.Common.{Addition, Bool, Database, Entry, HistoryContent, IsWrite, List, None, Option, Revision, Row, Some, [], ap, bytes_eq-Decides, cond, entry_of, false, filter, history_in, inl, inr, is_known, is_of, map, map-append, number_of, option_map, refl, revision_cells, revision_cmp, revision_cmp_total, revision_of, revs_tree, schema, subst, sym, true, with_cells, ℕ, ℤ, ◌++◌, ◌∙◌, ◌∷◌, ◌≡◌}
 use Rattle.std.proofs.Common.{ap₂}
 use Rattle.std.proofs.lemmas.List.Elements.{filter-append}
 use Rattle.std.specs.FinMap.{find, get, get-from_entries}
 use Rattle.std.specs.Ordering.{int_eq}
-use Rattle.std.specs.Prelude.{◌&&◌, bytes_eq, if◌then◌else◌, is_some, option_and_then}
+use Rattle.std.specs.Prelude.{◌&&◌, ◌||◌, bytes_eq, if◌then◌else◌, is_some, option_and_then}
+use Rattle.std.specs.List.{list_any}
 use Rattle.couch_json.specs.Value.{Value}
 use Rattle.index.proofs.Alike.{alike}
 use Rattle.index.proofs.Rebuilt.{indexes_itself}
-use Rattle.index.specs.Meaning.{Declarations, Documents, declares_in, sees_in, with_declared}
+use Rattle.index.specs.Meaning.{declares_in, sees_in}
 use Rattle.store.specs.Database.{DocumentWrite}
 use Rattle.store.specs.Indexes.{declared_fields, held_by, winning_body}
 use Rattle.store.specs.Pages.{live_rev_by}
@@ -22,8 +23,12 @@ use Rattle.tree.specs.History.{held_of, is_deleted, winner}
 use Rattle.tree.specs.Outline.{marked_revision, marked_winner}
 use Rattle.tree.specs.declared.entry.Held.{Held}
 use Rattle.tree.specs.declared.marked_rev.MarkedRev.{MarkedRev}
-use Rattle.transactions.proofs.IndexSteps.{design_fit, same_place}
-use Rattle.transactions.specs.Indexing.{IsIndexedStore, IsRedeclared, IsToFollow, write_in}
+use Rattle.tables.proofs.Common.{and_from, and_parts}
+use Rattle.tables.specs.Schema.{decls_tree}
+use Rattle.index.specs.Rows.{declared_by}
+use Rattle.store.specs.Indexes.{index_fields_of}
+use Rattle.transactions.proofs.IndexSteps.{Leaving, design_unseen, indexed_still, other_place, same_place, write_leaves}
+use Rattle.transactions.specs.Indexing.{IsFollowed, IsIndexedStoreBut, IsNoted, is_postponed, write_in}
 
 -- ---- histories alone
 
@@ -104,29 +109,73 @@ declared_still r a old written is write same name =
     let K = history_in (written.trees revs_tree) (number_of r) a.id in
     ap (fields_by a.id name) (sym (same_body H K (known_stays r (write_in old.trees r a) old written is write) same))
 
--- a design document was written, which had this winner
-pub design_to_follow : (r : Row) (a : Addition) (db : ℤ) (won : Option MarkedRev) (old written : Database) → IsIndexedStore old → is_design_id a.id ≡ true → db ≡ number_of r → IsWrite r (write_in old.trees r a) old written → IsStore written
-    → won ≡ marked_winner (history_in (old.trees revs_tree) db a.id) → IsToFollow (declares_in old.trees) (sees_in old.trees) db a.id won written
-design_to_follow r a db won old written was design numbered write store before = record {
-  fit = design_fit r a db old written was design numbered write store;
-  said = λ after name.
-      let same = sym before ∙ after in
-      ap (λ n. declares_in old.trees n a.id name) numbered
-      ∙ declared_still r a old written was.store.schema_is write (ap (λ n. marked_winner (history_in (old.trees revs_tree) n a.id)) (sym numbered) ∙ same ∙ ap (λ n. marked_winner (history_in (written.trees revs_tree) n a.id)) numbered) name
-      ∙ ap (λ n. declares_in written.trees n a.id name) (sym numbered);
-}
+-- ---- what is postponed
 
--- what declares what it declared is redeclared when nothing is done
-pub nothing_redeclared : (declares : Declarations) (sees : Documents) (db : ℤ) (id : List ℕ) (won : Option MarkedRev) (b : Database) → IsToFollow declares sees db id won b → won ≡ marked_winner (history_in (b.trees revs_tree) db id)
-    → IsRedeclared declares sees db id b b
-nothing_redeclared declares sees db id won b follow after = record {
-  indexed = alike declares sees b.trees follow.fit.indexed (with_declared declares db id (λ name. declares_in b.trees db id name)) sees same (λ n i. refl);
-  only = indexes_itself b;
-}
-  where
-    same : (n : ℤ) (other name : List ℕ) → declares n other name ≡ with_declared declares db id (λ x. declares_in b.trees db id x) n other name
-    same n other name = by (int_eq n db && bytes_eq other id) refl
-      where
-        by : (c : Bool) → (int_eq n db && bytes_eq other id) ≡ c → declares n other name ≡ (if c then declares_in b.trees db id name else declares n other name)
-        by true is = let place = same_place db id n other is in ap₂ (λ m i. declares m i name) place.0 place.1 ∙ follow.said after name
-        by false is = refl
+both_false : (x y z w : Bool) → z ≡ (y || w) → (x && z) ≡ false → (x && w) ≡ false
+both_false false y z w is out = refl
+both_false true true z w is out = absurd (let yes : true ≡ false = sym is ∙ out in cc)
+both_false true false z w is out = sym is ∙ out
+
+-- a design document was written, which had this winner: its indexes wait, if it has another
+module _ (r : Row) (a : Addition) (db : ℤ) (ids more : List (List ℕ)) (won : Option MarkedRev) (old written : Database) (was : IsIndexedStoreBut db ids old) (design : is_design_id a.id ≡ true) (numbered : db ≡ number_of r)
+    (write : IsWrite r (write_in old.trees r a) old written) (before : won ≡ marked_winner (history_in (old.trees revs_tree) db a.id)) where
+  left : Leaving db a.id old.trees written.trees
+  left = subst (λ n. Leaving n a.id old.trees written.trees) (sym numbered) (write_leaves r (write_in old.trees r a) old written was.store.schema_is write)
+
+  -- what the rows of indexes say of other design documents is what is stored
+  still : (n : ℤ) (other : List ℕ) → (int_eq n db && bytes_eq other a.id) ≡ false → is_postponed db ids n other ≡ false → (name : List ℕ) → declared_by (old.trees decls_tree) n other name ≡ declares_in written.trees n other name
+  still n other apart out name = was.indexed.declared n other name out ∙ ap (λ h. index_fields_of other h name) (sym (left.others n other (other_place db a.id n other apart)))
+
+  -- and of this one, where it has the same winner
+  same_there : won ≡ marked_winner (history_in (written.trees revs_tree) db a.id) → (n : ℤ) (other : List ℕ) → (int_eq n db && bytes_eq other a.id) ≡ true → is_postponed db ids n other ≡ false → (name : List ℕ)
+      → declared_by (old.trees decls_tree) n other name ≡ declares_in written.trees n other name
+  same_there after n other here out name =
+      let place = same_place db a.id n other here in
+      let same = sym before ∙ after in
+      was.indexed.declared n other name out
+      ∙ ap₂ (λ (m : ℤ) i. declares_in old.trees m i name) (place.0 ∙ numbered) place.1
+      ∙ declared_still r a old written was.store.schema_is write (ap (λ n. marked_winner (history_in (old.trees revs_tree) n a.id)) (sym numbered) ∙ same ∙ ap (λ n. marked_winner (history_in (written.trees revs_tree) n a.id)) numbered) name
+      ∙ ap₂ (λ (m : ℤ) i. declares_in written.trees m i name) (sym numbered ∙ sym place.0) (sym place.1)
+
+  declared_after : IsNoted db a.id won ids more written → (n : ℤ) (other name : List ℕ) → is_postponed db more n other ≡ false → declared_by (old.trees decls_tree) n other name ≡ declares_in written.trees n other name
+  declared_after (inl noted) n other name out = by (int_eq n db && bytes_eq other a.id) refl
+    where
+      kept : is_postponed db ids n other ≡ false
+      kept = ap (λ l. is_postponed db l n other) (sym noted.1) ∙ out
+
+      by : (b : Bool) → (int_eq n db && bytes_eq other a.id) ≡ b → declared_by (old.trees decls_tree) n other name ≡ declares_in written.trees n other name
+      by true here = same_there noted.0 n other here kept name
+      by false apart = still n other apart kept name
+  declared_after (inr with) n other name out = by (int_eq n db && bytes_eq other a.id) refl
+    where
+      by : (b : Bool) → (int_eq n db && bytes_eq other a.id) ≡ b → declared_by (old.trees decls_tree) n other name ≡ declares_in written.trees n other name
+      by true here =
+          let parts = and_parts (int_eq n db) (bytes_eq other a.id) here in
+          let among : is_postponed db more n other ≡ true = and_from (int_eq n db) (list_any (bytes_eq other) more) parts.0 (with other ∙ ap (λ b. b || list_any (bytes_eq other) ids) parts.1) in
+          absurd (let no : true ≡ false = sym among ∙ out in cc)
+      by false apart = still n other apart (both_false (int_eq n db) (bytes_eq other a.id) (list_any (bytes_eq other) more) (list_any (bytes_eq other) ids) (with other) out) name
+
+  designs_after : IsNoted db a.id won ids more written → (id : List ℕ) → list_any (bytes_eq id) more ≡ true → is_design_id id ≡ true
+  designs_after (inl noted) id is = was.indexed.designs id (ap (list_any (bytes_eq id)) (sym noted.1) ∙ is)
+  designs_after (inr with) id is = by (bytes_eq id a.id) refl (sym (with id) ∙ is)
+    where
+      by : (b : Bool) → bytes_eq id a.id ≡ b → (b || list_any (bytes_eq id) ids) ≡ true → is_design_id id ≡ true
+      by true own h = ap is_design_id ((bytes_eq-Decides id a.id).0 own) ∙ design
+      by false other h = was.indexed.designs id h
+
+  pub design_postponed : IsNoted db a.id won ids more written → IsFollowed db more r (write_in old.trees r a) old written × (written.trees decls_tree ≡ old.trees decls_tree)
+  design_postponed noted = (
+    record {
+      written = written;
+      write = write;
+      only = indexes_itself written;
+      indexed = record {
+        indexed = alike (declared_by (old.trees decls_tree)) (sees_in old.trees) written.trees (indexed_still (declared_by (old.trees decls_tree)) (sees_in old.trees) old.trees written.trees left.decls left.entries was.indexed.indexed)
+            (declared_by (written.trees decls_tree)) (sees_in written.trees)
+            (λ n other name. ap (λ rows. declared_by rows n other name) (sym left.decls)) (λ n other. design_unseen db a.id old.trees written.trees design left n other);
+        declared = λ n other name out. ap (λ rows. declared_by rows n other name) left.decls ∙ declared_after noted n other name out;
+        designs = designs_after noted;
+      };
+    },
+    left.decls,
+  )

@@ -1,6 +1,8 @@
 -- A write that the index rows follow: when it is done, and what it leaves.
 -- This server's own: what index rows are to be is said by `index`, and what a write leaves of the other tables by `tables`.
-use Rattle.std.specs.Prelude.{◌≡◌, ◌+◌, ℕ, ℤ, pos, IfSome, IsTrue, List, Option, Vec, filter, map}
+use Rattle.std.specs.Prelude.{◌≡◌, ◌+◌, ◌&&◌, ◌||◌, ◌⊎◌, ℕ, ℤ, Bool, bytes_eq, false, pos, true, IfSome, IsTrue, List, Option, Vec, filter, map}
+use Rattle.std.specs.List.{list_any}
+use Rattle.std.specs.Ordering.{int_eq}
 use Rattle.std.specs.declared.alloc.Global.{Global}
 use Rattle.sqlite.specs.Effect.{Database}
 use Rattle.sqlite.specs.Held.{Held, state}
@@ -15,15 +17,15 @@ use Rattle.tables.specs.Layout.{IsStore}
 use Rattle.tables.specs.Rows.{history_in, length_of, number_of}
 use Rattle.tables.specs.Schema.{decls_tree, revs_tree}
 use Rattle.index.specs.Calls.{ChangesIndexes}
-use Rattle.index.specs.Declaring.{IsRebuildable}
 use Rattle.index.specs.Indexed.{AreIndexed, IsIndexed}
-use Rattle.index.specs.Meaning.{Declarations, Documents, declares_in, with_declared}
-use Rattle.index.specs.Rows.{is_at_home}
+use Rattle.index.specs.Meaning.{Declarations, Documents, declares_in, sees_in, with_declared}
+use Rattle.index.specs.Rows.{declared_by, is_at_home}
 use Rattle.index.specs.Shown.{Declared, declared, declared_at}
 use Rattle.index.specs.declared.declaration.Declaration.{Declaration}
 use Rattle.index.specs.declared.fault.IndexFault.{IndexFault}
 use Rattle.index.specs.declared.fault.IndexFault.TheVariants as index
 use Rattle.store.specs.declared.fault.StoreFault.TheVariants.{Memory, Damaged}
+use Rattle.tree.specs.DocumentId.{is_design_id}
 use Rattle.tree.specs.Outline.{marked_winner}
 use Rattle.tree.specs.declared.marked_rev.MarkedRev.{MarkedRev}
 use Rattle.transactions.specs.Following.{HasPlaceFor}
@@ -49,12 +51,37 @@ AreKnownIndexes known db trees = IfSome known (λ all. AreAllIndexes (map declar
 abbrev pub write_in : Trees → Row → Addition → DocumentWrite
 write_in trees r a = written_in (history_in (trees revs_tree) (number_of r) a.id) a
 
--- the statements of the write, and after them the rows of indexes alone have changed: they are those of what is stored now
-pub record IsFollowed (r : Row) (w : DocumentWrite) (old new : Database) : Type 0 where
+-- the design document of this id in the database of the number d is one of these of the database of the other
+abbrev pub is_postponed : ℤ → List (List ℕ) → ℤ → List ℕ → Bool
+is_postponed db ids d design = int_eq d db && list_any (bytes_eq design) ids
+
+-- The rows of indexes are those of the declarations that they say themselves, over what queries see. These are those that are stored, but for
+-- these design documents of the database of this number, whose indexes don't follow them yet.
+pub record IsIndexedBut (db : ℤ) (ids : List (List ℕ)) (trees : Trees) : Type 0 where
+  pub indexed : AreIndexed (declared_by (trees decls_tree)) (sees_in trees) trees
+  pub declared : (d : ℤ) (design name : List ℕ) → is_postponed db ids d design ≡ false → declared_by (trees decls_tree) d design name ≡ declares_in trees d design name
+  pub designs : (id : List ℕ) → list_any (bytes_eq id) ids ≡ true → is_design_id id ≡ true
+
+-- and the tables are laid out
+pub record IsIndexedStoreBut (db : ℤ) (ids : List (List ℕ)) (b : Database) : Type 0 where
+  pub store : IsStore b
+  pub indexed : IsIndexedBut db ids b.trees
+
+-- the statements of the write, and after them the rows of indexes alone have changed: they are those of what is stored now, but for these
+-- design documents
+pub record IsFollowed (db : ℤ) (ids : List (List ℕ)) (r : Row) (w : DocumentWrite) (old new : Database) : Type 0 where
   pub written : Database
   pub write : IsWrite r w old written
   pub only : ChangesIndexes written new
-  pub indexed : IsIndexed new.trees
+  pub indexed : IsIndexedBut db ids new.trees
+
+-- this id is among these beside those that were
+abbrev pub IsWithId : List ℕ → List (List ℕ) → List (List ℕ) → Type 0
+IsWithId id old new = (other : List ℕ) → list_any (bytes_eq other) new ≡ (bytes_eq other id || list_any (bytes_eq other) old)
+
+-- a design document that had this winner has it still, or is among these now
+abbrev pub IsNoted : ℤ → List ℕ → Option MarkedRev → List (List ℕ) → List (List ℕ) → Database → Type 0
+IsNoted db id winner old new b = ((winner ≡ marked_winner (history_in (b.trees revs_tree) db id)) × (new ≡ old)) ⊎ IsWithId id old new
 
 -- The write may be done under this sequence: its database has this row, the path of the write has its place, and what it leaves is a store
 -- if rows can say what it says.
@@ -68,6 +95,10 @@ pub record MayBeWritten (db sequence : ℤ) (a : Addition) (old : Database) : Ty
 -- the disk returned what was written, and an open connection had tables and index rows that were sound, of which this held
 abbrev pub IsSoundIndexed : {S : Type 0} → Ghosts S → (Database → Type 0) → Held S → Held S → Type 0
 IsSoundIndexed g Holds old new = HasCleanDisk (state g new) × (IsTrue (state g old).is_open → IsIndexedStore (state g old).now × Holds (state g old).now)
+
+-- the same of tables whose index rows are sound but for these design documents
+abbrev pub IsSoundBut : {S : Type 0} → Ghosts S → ℤ → List (List ℕ) → (Database → Type 0) → Held S → Held S → Type 0
+IsSoundBut g db ids Holds old new = HasCleanDisk (state g new) × (IsTrue (state g old).is_open → IsIndexedStoreBut db ids (state g old).now × Holds (state g old).now)
 
 -- the tables and the transaction are as they were, and an open connection is open
 pub record IsLeft (old new : State) : Type 0 where
@@ -92,9 +123,3 @@ pub record IsRemoved (db : ℤ) (old new : Database) : Type 0 where
 pub record IsRedeclared (declares : Declarations) (sees : Documents) (db : ℤ) (design : List ℕ) (old new : Database) : Type 0 where
   pub indexed : AreIndexed (with_declared declares db design (λ name. declares_in old.trees db design name)) sees new.trees
   pub only : ChangesIndexes old new
-
--- The index rows are those of declarations over what is stored in this database. If this is the winner of the design document, it declares
--- there what its winner says.
-pub record IsToFollow (declares : Declarations) (sees : Documents) (db : ℤ) (design : List ℕ) (winner : Option MarkedRev) (b : Database) : Type 0 where
-  pub fit : IsRebuildable declares sees db b
-  pub said : winner ≡ marked_winner (history_in (b.trees revs_tree) db design) → (name : List ℕ) → declares db design name ≡ declares_in b.trees db design name

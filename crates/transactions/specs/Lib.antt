@@ -6,5 +6,6 @@ pub mod Following
 pub mod Commits
 pub mod Histories
 pub mod Indexing
+pub mod Postponing
 pub mod Placed
 pub mod Renewing

@@ -30,6 +30,7 @@ use crate::commit_fault::CommitFault;
 use crate::document_write::{add_first, add_write};
 use crate::histories::read_history;
 use crate::indexing::{are_none, list_unknown, write_indexed};
+use crate::postponing::catch_up;
 use crate::seeing::find_winner;
 use crate::winner_checks::{check_history, check_winner};
 use crate::winners::history_for;
@@ -37,7 +38,7 @@ use couch_json::Got;
 use index::Declaration;
 use sqlite::{Alter, Connection, Transaction};
 use std::alloc::Global;
-use std::collections::BTreeMap;
+use std::collections::{BTreeMap, BTreeSet};
 use store::Write;
 use tables::databases::advance_database;
 use tables::transaction_reads::revision_rows_in;
@@ -355,7 +356,8 @@ pub fn integer_of(count: u64) -> i64
 }
 
 /// Does the writes of a database in turn, each under the next sequence, and has the indexes of the
-/// database, which these are, follow each of them. It returns those that it has then.
+/// database, which these are, follow each of them. Those that design documents declare follow at the end. It
+/// returns those that the database has then.
 fn write_each<S: Alter>(
     alloc: Global,
     tx: &mut Transaction<'_, S>,
@@ -388,12 +390,21 @@ fn write_each<S: Alter>(
     ensures asks { AsksInside S.Store tx.old.conn.now tx.new.conn.now }
 {
     let mut histories = BTreeMap::new(alloc);
-    let mut known = Some(indexes);
+    let mut postponed = BTreeSet::new(alloc);
     for (i, write) in writes.iter().enumerate() {
         let next = integer_of(sequence + i as u64 + 1);
-        known = write_indexed(alloc, tx, db, &next, &mut histories, known, write)?;
+        write_indexed(
+            alloc,
+            tx,
+            db,
+            &next,
+            &mut histories,
+            &indexes,
+            &mut postponed,
+            write,
+        )?;
     }
-    list_unknown(alloc, tx, db, known)
+    catch_up(alloc, tx, db, &postponed, indexes)
 }
 
 /// Tells whether none of the writes is of a design document.

@@ -1,6 +1,6 @@
 //! Writes of documents that the rows of indexes follow.
 
-ghost use Rattle.std.specs.Prelude.{◌==◌, ◌≡◌, length, IfErr, IfOk, IsTrue, OnOk, false, map, true};
+ghost use Rattle.std.specs.Prelude.{◌==◌, ◌≡◌, ℕ, List, length, IfErr, IfOk, IsTrue, OnOk, false, map, true};
 ghost use Rattle.sqlite.specs.Held.{state};
 ghost use Rattle.sqlite.specs.State.{HasCleanDisk, KeepsCommit};
 ghost use Rattle.store.specs.Plain.{with_addition};
@@ -10,30 +10,29 @@ ghost use Rattle.tables.specs.Layout.{IsStore};
 ghost use Rattle.tables.specs.Rows.{history_in};
 ghost use Rattle.tables.specs.Schema.{decls_tree, revs_tree, schema};
 ghost use Rattle.tree.specs.DocumentId.{is_design_id};
-ghost use Rattle.tree.specs.Outline.{marked_winner};
 ghost use Rattle.index.specs.Shown.{declared};
 ghost use Rattle.transactions.specs.Commits.{IsUnwritten, history_with};
 ghost use Rattle.transactions.specs.Histories.{AreStored, IsHeldOpen, IsWithin};
 ghost use Rattle.std.specs.Prelude.{⊤};
-ghost use Rattle.transactions.specs.Indexing.{IsRemoved, AreAllIndexes, AreKnownIndexes, IsFollowed, IsIndexedStore, IsLeft, IsSoundIndexed, MayBeWritten, write_in};
+ghost use Rattle.transactions.specs.Indexing.{IsRemoved, AreAllIndexes, AreKnownIndexes, IsFollowed, IsIndexedStore, IsIndexedStoreBut, IsLeft, IsSoundBut, IsSoundIndexed, MayBeWritten, write_in};
 ghost use Rattle.transactions.specs.Inserting.{IsLawfulAddition};
 ghost use Rattle.transactions.specs.Reading.{HasBest};
 ghost use Rattle.index.specs.Declaring.{IsRebuildable};
 ghost use Rattle.index.specs.Steps.{Steps, WasFit};
 ghost use Rattle.index.specs.Meaning.{Declarations, Documents};
-ghost use Rattle.transactions.specs.Indexing.{IsRedeclared, IsToFollow};
+ghost use Rattle.transactions.specs.Indexing.{IsRedeclared};
 
 use crate::changes::clear_database;
 use crate::commit_fault::CommitFault;
 use crate::commits::write_next;
+use crate::postponing::note_winner;
 use crate::seeing::{find_winner, find_winning, see_document};
-use crate::winners::is_same_winner;
 use index::{Declaration, drop_db, list_declarations, rebuild, refresh_indexes};
 use sqlite::{Alter, Transaction};
 use std::alloc::Global;
-use std::collections::BTreeMap;
+use std::collections::{BTreeMap, BTreeSet};
 use store::{Write, find_winning_body};
-use tree::{DocId, History, MarkedRev};
+use tree::{DocId, History};
 
 /// Writes a document that is no design document, and has each of these indexes, which are all of its
 /// database, follow it.
@@ -47,11 +46,11 @@ pub(crate) fn write_seen<S: Alter>(
     write: &Write,
 ) -> Result<(), CommitFault>
     ensures same_reference { tx.new.conn.ghost_name ≡ tx.old.conn.ghost_name }
-    ensures ok { HasCleanDisk (state S.Store tx.new.conn.now) → IsIndexedStore (state S.Store tx.old.conn.now).now
+    ensures ok { (ids : List (List ℕ)) → HasCleanDisk (state S.Store tx.new.conn.now) → IsIndexedStoreBut db.now ids (state S.Store tx.old.conn.now).now
         → AreAllIndexes (map declared indexes.now) db.now (state S.Store tx.old.conn.now).now.trees → is_design_id (addition_of write.now).id ≡ false
         → AreStored histories.old (history_in ((state S.Store tx.old.conn.now).now.trees revs_tree) db.now)
         → (due : MayBeWritten db.now sequence.now (addition_of write.now) (state S.Store tx.old.conn.now).now)
-        → OnOk result (IsFollowed due.row (write_in (state S.Store tx.old.conn.now).now.trees due.row (addition_of write.now)) (state S.Store tx.old.conn.now).now (state S.Store tx.new.conn.now).now
+        → OnOk result (IsFollowed db.now ids due.row (write_in (state S.Store tx.old.conn.now).now.trees due.row (addition_of write.now)) (state S.Store tx.old.conn.now).now (state S.Store tx.new.conn.now).now
         × AreAllIndexes (map declared indexes.now) db.now (state S.Store tx.new.conn.now).now.trees) }
     ensures after { HasCleanDisk (state S.Store tx.new.conn.now) → IsStore (state S.Store tx.old.conn.now).now
         → AreStored histories.old (history_in ((state S.Store tx.old.conn.now).now.trees revs_tree) db.now)
@@ -63,8 +62,8 @@ pub(crate) fn write_seen<S: Alter>(
         → MayBeWritten db.now sequence.now (addition_of write.now) (state S.Store tx.old.conn.now).now
         → OnOk result (IsTrue (state S.Store tx.new.conn.now).is_open × ((state S.Store tx.new.conn.now).in_transaction ≡ true)) }
     ensures served { IsServed S.Store tx.old.conn.now tx.new.conn.now result }
-    ensures err { IfErr result (IsUnwritten (IsHeldOpen histories.old (state S.Store tx.old.conn.now)
-        × IsSoundIndexed S.Store (λ db'. AreStored histories.old (history_in (db'.trees revs_tree) db.now) × HasBest (history_with db'.trees db.now (addition_of write.now))
+    ensures err { (ids : List (List ℕ)) → IfErr result (IsUnwritten (IsHeldOpen histories.old (state S.Store tx.old.conn.now)
+        × IsSoundBut S.Store db.now ids (λ db'. AreStored histories.old (history_in (db'.trees revs_tree) db.now) × HasBest (history_with db'.trees db.now (addition_of write.now))
         × MayBeWritten db.now sequence.now (addition_of write.now) db') tx.old.conn.now tx.new.conn.now)) }
     ensures kept { HasCleanDisk (state S.Store tx.new.conn.now) → IsStore (state S.Store tx.old.conn.now).now
         → AreStored histories.old (history_in ((state S.Store tx.old.conn.now).now.trees revs_tree) db.now)
@@ -98,70 +97,37 @@ pub(crate) fn redeclare<S: Alter>(
     Ok(())
 }
 
-/// Has the indexes of a database follow a design document as it is stored, where it has another winner than
-/// this one, which it had. Returns whether it has.
-fn follow_winner<S: Alter>(
-    alloc: Global,
-    tx: &mut Transaction<'_, S>,
-    db: &i64,
-    id: &DocId,
-    before: &Option<MarkedRev>,
-) -> Result<bool, CommitFault>
-    ensures same_reference { tx.new.conn.ghost_name ≡ tx.old.conn.ghost_name }
-    ensures steps { (declares : Declarations) (sees : Documents) → is_design_id id.now ≡ true
-        → Steps S.Store (IsToFollow declares sees db.now id.now before.now) (IsRedeclared declares sees db.now id.now) tx.old.conn.now tx.new.conn.now result }
-    ensures same { HasCleanDisk (state S.Store tx.new.conn.now) → IsStore (state S.Store tx.old.conn.now).now
-        → before.now ≡ marked_winner (history_in ((state S.Store tx.old.conn.now).now.trees revs_tree) db.now id.now) → IfOk result (λ is_other. is_other ≡ false) }
-    ensures stays { HasCleanDisk (state S.Store tx.new.conn.now) → tx.old.conn.now.schema ≡ schema
-        → IfOk result (λ is_other. is_other ≡ false → (state S.Store tx.new.conn.now).now ≡ (state S.Store tx.old.conn.now).now) }
-    ensures err { (declares : Declarations) (sees : Documents) → IfErr result (IsUnwritten (WasFit S.Store (IsToFollow declares sees db.now id.now before.now) tx.old.conn.now tx.new.conn.now)) }
-    ensures asks { AsksInside S.Store tx.old.conn.now tx.new.conn.now }
-{
-    let after = find_winner(alloc, tx, db, id)?;
-    if is_same_winner(before, &after) {
-        return Ok(false);
-    }
-    redeclare(alloc, tx, db, id)?;
-    Ok(true)
-}
-
-/// Writes a design document, and has the indexes of its database follow it, where its winner is another
-/// then. Returns whether it is.
+/// Writes a design document, and postpones its indexes where its winner is another then.
 pub(crate) fn write_design<S: Alter>(
     alloc: Global,
     tx: &mut Transaction<'_, S>,
     db: &i64,
     sequence: &i64,
     histories: &mut BTreeMap<DocId, History>,
+    postponed: &mut BTreeSet<DocId>,
     write: &Write,
-) -> Result<bool, CommitFault>
+) -> Result<(), CommitFault>
     ensures same_reference { tx.new.conn.ghost_name ≡ tx.old.conn.ghost_name }
-    ensures ok { HasCleanDisk (state S.Store tx.new.conn.now) → IsIndexedStore (state S.Store tx.old.conn.now).now
+    ensures ok { HasCleanDisk (state S.Store tx.new.conn.now) → IsIndexedStoreBut db.now postponed.old.keys (state S.Store tx.old.conn.now).now
         → is_design_id (addition_of write.now).id ≡ true
         → AreStored histories.old (history_in ((state S.Store tx.old.conn.now).now.trees revs_tree) db.now)
         → (due : MayBeWritten db.now sequence.now (addition_of write.now) (state S.Store tx.old.conn.now).now)
-        → OnOk result (IsFollowed due.row (write_in (state S.Store tx.old.conn.now).now.trees due.row (addition_of write.now)) (state S.Store tx.old.conn.now).now (state S.Store tx.new.conn.now).now) }
-    ensures same_indexes { HasCleanDisk (state S.Store tx.new.conn.now) → IsIndexedStore (state S.Store tx.old.conn.now).now
-        → is_design_id (addition_of write.now).id ≡ true
-        → AreStored histories.old (history_in ((state S.Store tx.old.conn.now).now.trees revs_tree) db.now)
-        → MayBeWritten db.now sequence.now (addition_of write.now) (state S.Store tx.old.conn.now).now
-        → IfOk result (λ is_other. is_other ≡ false → (state S.Store tx.new.conn.now).now.trees decls_tree ≡ (state S.Store tx.old.conn.now).now.trees decls_tree) }
+        → OnOk result (IsFollowed db.now postponed.new.keys due.row (write_in (state S.Store tx.old.conn.now).now.trees due.row (addition_of write.now)) (state S.Store tx.old.conn.now).now (state S.Store tx.new.conn.now).now
+        × ((state S.Store tx.new.conn.now).now.trees decls_tree ≡ (state S.Store tx.old.conn.now).now.trees decls_tree)) }
     ensures after { HasCleanDisk (state S.Store tx.new.conn.now) → IsStore (state S.Store tx.old.conn.now).now
         → AreStored histories.old (history_in ((state S.Store tx.old.conn.now).now.trees revs_tree) db.now)
         → OnOk result (IsWithin histories.old (addition_of write.now).id
         (with_addition (history_in ((state S.Store tx.old.conn.now).now.trees revs_tree) db.now (addition_of write.now).id) (addition_of write.now)) histories.new) }
     ensures lawful { OnOk result (IsLawfulAddition (addition_of write.now)) }
-    ensures inside { HasCleanDisk (state S.Store tx.new.conn.now) → IsIndexedStore (state S.Store tx.old.conn.now).now
-        → is_design_id (addition_of write.now).id ≡ true
+    ensures inside { HasCleanDisk (state S.Store tx.new.conn.now) → IsStore (state S.Store tx.old.conn.now).now
         → AreStored histories.old (history_in ((state S.Store tx.old.conn.now).now.trees revs_tree) db.now)
         → MayBeWritten db.now sequence.now (addition_of write.now) (state S.Store tx.old.conn.now).now
         → OnOk result (IsTrue (state S.Store tx.new.conn.now).is_open × ((state S.Store tx.new.conn.now).in_transaction ≡ true)) }
     ensures served { IsServed S.Store tx.old.conn.now tx.new.conn.now result }
-    ensures err { is_design_id (addition_of write.now).id ≡ true → IfErr result (IsUnwritten (IsHeldOpen histories.old (state S.Store tx.old.conn.now)
-        × IsSoundIndexed S.Store (λ db'. AreStored histories.old (history_in (db'.trees revs_tree) db.now) × HasBest (history_with db'.trees db.now (addition_of write.now))
+    ensures err { (ids : List (List ℕ)) → IfErr result (IsUnwritten (IsHeldOpen histories.old (state S.Store tx.old.conn.now)
+        × IsSoundBut S.Store db.now ids (λ db'. AreStored histories.old (history_in (db'.trees revs_tree) db.now) × HasBest (history_with db'.trees db.now (addition_of write.now))
         × MayBeWritten db.now sequence.now (addition_of write.now) db') tx.old.conn.now tx.new.conn.now)) }
-    ensures kept { HasCleanDisk (state S.Store tx.new.conn.now) → IsIndexedStore (state S.Store tx.old.conn.now).now
-        → is_design_id (addition_of write.now).id ≡ true
+    ensures kept { HasCleanDisk (state S.Store tx.new.conn.now) → IsStore (state S.Store tx.old.conn.now).now
         → AreStored histories.old (history_in ((state S.Store tx.old.conn.now).now.trees revs_tree) db.now)
         → MayBeWritten db.now sequence.now (addition_of write.now) (state S.Store tx.old.conn.now).now
         → KeepsCommit (state S.Store tx.old.conn.now) (state S.Store tx.new.conn.now) }
@@ -169,7 +135,7 @@ pub(crate) fn write_design<S: Alter>(
 {
     let before = find_winner(alloc, tx, db, &write.id)?;
     write_next(alloc, tx, db, sequence, histories, write)?;
-    follow_winner(alloc, tx, db, &write.id, &before)
+    note_winner(alloc, tx, db, &write.id, &before, postponed)
 }
 
 /// Writes a document that is no design document, and has the indexes of its database, which these are,
@@ -184,11 +150,11 @@ fn write_queried<S: Alter>(
     write: &Write,
 ) -> Result<(), CommitFault>
     ensures same_reference { tx.new.conn.ghost_name ≡ tx.old.conn.ghost_name }
-    ensures ok { HasCleanDisk (state S.Store tx.new.conn.now) → IsIndexedStore (state S.Store tx.old.conn.now).now
+    ensures ok { (ids : List (List ℕ)) → HasCleanDisk (state S.Store tx.new.conn.now) → IsIndexedStoreBut db.now ids (state S.Store tx.old.conn.now).now
         → AreAllIndexes (map declared indexes.now) db.now (state S.Store tx.old.conn.now).now.trees → is_design_id (addition_of write.now).id ≡ false
         → AreStored histories.old (history_in ((state S.Store tx.old.conn.now).now.trees revs_tree) db.now)
         → (due : MayBeWritten db.now sequence.now (addition_of write.now) (state S.Store tx.old.conn.now).now)
-        → OnOk result (IsFollowed due.row (write_in (state S.Store tx.old.conn.now).now.trees due.row (addition_of write.now)) (state S.Store tx.old.conn.now).now (state S.Store tx.new.conn.now).now
+        → OnOk result (IsFollowed db.now ids due.row (write_in (state S.Store tx.old.conn.now).now.trees due.row (addition_of write.now)) (state S.Store tx.old.conn.now).now (state S.Store tx.new.conn.now).now
         × AreAllIndexes (map declared indexes.now) db.now (state S.Store tx.new.conn.now).now.trees) }
     ensures after { HasCleanDisk (state S.Store tx.new.conn.now) → IsStore (state S.Store tx.old.conn.now).now
         → AreStored histories.old (history_in ((state S.Store tx.old.conn.now).now.trees revs_tree) db.now)
@@ -200,8 +166,8 @@ fn write_queried<S: Alter>(
         → MayBeWritten db.now sequence.now (addition_of write.now) (state S.Store tx.old.conn.now).now
         → OnOk result (IsTrue (state S.Store tx.new.conn.now).is_open × ((state S.Store tx.new.conn.now).in_transaction ≡ true)) }
     ensures served { IsServed S.Store tx.old.conn.now tx.new.conn.now result }
-    ensures err { IfErr result (IsUnwritten (IsHeldOpen histories.old (state S.Store tx.old.conn.now)
-        × IsSoundIndexed S.Store (λ db'. AreStored histories.old (history_in (db'.trees revs_tree) db.now) × HasBest (history_with db'.trees db.now (addition_of write.now))
+    ensures err { (ids : List (List ℕ)) → IfErr result (IsUnwritten (IsHeldOpen histories.old (state S.Store tx.old.conn.now)
+        × IsSoundBut S.Store db.now ids (λ db'. AreStored histories.old (history_in (db'.trees revs_tree) db.now) × HasBest (history_with db'.trees db.now (addition_of write.now))
         × MayBeWritten db.now sequence.now (addition_of write.now) db') tx.old.conn.now tx.new.conn.now)) }
     ensures kept { HasCleanDisk (state S.Store tx.new.conn.now) → IsStore (state S.Store tx.old.conn.now).now
         → AreStored histories.old (history_in ((state S.Store tx.old.conn.now).now.trees revs_tree) db.now)
@@ -237,53 +203,48 @@ pub(crate) fn list_unknown<S: Alter>(
     }
 }
 
-/// Writes a document, and has the indexes of its database follow it, which these are where they are known.
-/// It returns those that it has then, where they are known.
+/// Writes a document, and has the indexes of its database, which these are, follow it. What a design document
+/// declares is postponed.
 pub(crate) fn write_indexed<S: Alter>(
     alloc: Global,
     tx: &mut Transaction<'_, S>,
     db: &i64,
     sequence: &i64,
     histories: &mut BTreeMap<DocId, History>,
-    indexes: Option<Vec<Declaration>>,
+    indexes: &[Declaration],
+    postponed: &mut BTreeSet<DocId>,
     write: &Write,
-) -> Result<Option<Vec<Declaration>>, CommitFault>
+) -> Result<(), CommitFault>
     ensures same_reference { tx.new.conn.ghost_name ≡ tx.old.conn.ghost_name }
-    ensures ok { HasCleanDisk (state S.Store tx.new.conn.now) → IsIndexedStore (state S.Store tx.old.conn.now).now
-        → AreKnownIndexes indexes db.now (state S.Store tx.old.conn.now).now.trees
+    ensures ok { HasCleanDisk (state S.Store tx.new.conn.now) → IsIndexedStoreBut db.now postponed.old.keys (state S.Store tx.old.conn.now).now
+        → AreAllIndexes (map declared indexes.now) db.now (state S.Store tx.old.conn.now).now.trees
         → AreStored histories.old (history_in ((state S.Store tx.old.conn.now).now.trees revs_tree) db.now)
         → (due : MayBeWritten db.now sequence.now (addition_of write.now) (state S.Store tx.old.conn.now).now)
-        → IfOk result (λ known. IsFollowed due.row (write_in (state S.Store tx.old.conn.now).now.trees due.row (addition_of write.now)) (state S.Store tx.old.conn.now).now (state S.Store tx.new.conn.now).now
-        × AreKnownIndexes known db.now (state S.Store tx.new.conn.now).now.trees) }
+        → OnOk result (IsFollowed db.now postponed.new.keys due.row (write_in (state S.Store tx.old.conn.now).now.trees due.row (addition_of write.now)) (state S.Store tx.old.conn.now).now (state S.Store tx.new.conn.now).now
+        × AreAllIndexes (map declared indexes.now) db.now (state S.Store tx.new.conn.now).now.trees) }
     ensures after { HasCleanDisk (state S.Store tx.new.conn.now) → IsStore (state S.Store tx.old.conn.now).now
         → AreStored histories.old (history_in ((state S.Store tx.old.conn.now).now.trees revs_tree) db.now)
         → OnOk result (IsWithin histories.old (addition_of write.now).id
         (with_addition (history_in ((state S.Store tx.old.conn.now).now.trees revs_tree) db.now (addition_of write.now).id) (addition_of write.now)) histories.new) }
     ensures lawful { OnOk result (IsLawfulAddition (addition_of write.now)) }
-    ensures inside { HasCleanDisk (state S.Store tx.new.conn.now) → IsIndexedStore (state S.Store tx.old.conn.now).now
+    ensures inside { HasCleanDisk (state S.Store tx.new.conn.now) → IsStore (state S.Store tx.old.conn.now).now
         → AreStored histories.old (history_in ((state S.Store tx.old.conn.now).now.trees revs_tree) db.now)
         → MayBeWritten db.now sequence.now (addition_of write.now) (state S.Store tx.old.conn.now).now
         → OnOk result (IsTrue (state S.Store tx.new.conn.now).is_open × ((state S.Store tx.new.conn.now).in_transaction ≡ true)) }
     ensures served { IsServed S.Store tx.old.conn.now tx.new.conn.now result }
-    ensures err { IfErr result (IsUnwritten (IsHeldOpen histories.old (state S.Store tx.old.conn.now)
-        × IsSoundIndexed S.Store (λ db'. AreStored histories.old (history_in (db'.trees revs_tree) db.now) × HasBest (history_with db'.trees db.now (addition_of write.now))
+    ensures err { (ids : List (List ℕ)) → IfErr result (IsUnwritten (IsHeldOpen histories.old (state S.Store tx.old.conn.now)
+        × IsSoundBut S.Store db.now ids (λ db'. AreStored histories.old (history_in (db'.trees revs_tree) db.now) × HasBest (history_with db'.trees db.now (addition_of write.now))
         × MayBeWritten db.now sequence.now (addition_of write.now) db') tx.old.conn.now tx.new.conn.now)) }
-    ensures kept { HasCleanDisk (state S.Store tx.new.conn.now) → IsIndexedStore (state S.Store tx.old.conn.now).now
+    ensures kept { HasCleanDisk (state S.Store tx.new.conn.now) → IsStore (state S.Store tx.old.conn.now).now
         → AreStored histories.old (history_in ((state S.Store tx.old.conn.now).now.trees revs_tree) db.now)
         → MayBeWritten db.now sequence.now (addition_of write.now) (state S.Store tx.old.conn.now).now
         → KeepsCommit (state S.Store tx.old.conn.now) (state S.Store tx.new.conn.now) }
     ensures asks { AsksInside S.Store tx.old.conn.now tx.new.conn.now }
 {
     if write.id.is_design() {
-        let is_other = write_design(alloc, tx, db, sequence, histories, write)?;
-        if is_other {
-            return Ok(None);
-        }
-        return Ok(indexes);
+        return write_design(alloc, tx, db, sequence, histories, postponed, write);
     }
-    let known = list_unknown(alloc, tx, db, indexes)?;
-    write_queried(alloc, tx, db, sequence, histories, &known, write)?;
-    Ok(Some(known))
+    write_queried(alloc, tx, db, sequence, histories, indexes, write)
 }
 
 /// Tells whether there are no indexes.

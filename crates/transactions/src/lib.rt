@@ -9,6 +9,7 @@ mod histories;
 mod history_fault;
 mod indexing;
 pub mod laws;
+mod postponing;
 mod renewing;
 mod seeing;
 mod winner_checks;

@@ -1,25 +1,29 @@
-use Rattle.transactions.proofs.Lemmas.{AreDue, AreStored, CommitFault, Err, HasBest, Database, HasCleanDisk, HasWritten, IfErr, IsHeldOpen, IsUnwritten, Result, addition_of, additions, arith, asks_itself, asks_then, best_in_turn, database_of, further_followed, history_in, history_with, keeps_itself, keeps_then, map, may_in_turn, none_held, none_written, refl, revs_tree, rules, state, stored_further, subst, sym, take_all, to_z-of_z, unwritten_of, w64, writings_in, ⊤, ◌∙◌, ◌≡◌}
+use Rattle.transactions.proofs.Lemmas.{AreDue, AreStored, CommitFault, Err, HasBest, Database, HasCleanDisk, HasWritten, IfErr, IsHeldOpen, IsUnwritten, Result, addition_of, additions, ap, arith, asks_itself, asks_then, best_in_turn, database_of, further_followed, history_in, history_with, keeps_itself, keeps_then, map, may_in_turn, none_held, none_written, refl, revs_tree, rules, state, stored_further, subst, sym, take_all, to_z-of_z, unwritten_of, w64, writings_in, ◌∙◌, ◌≡◌}
 use Rattle.std.proofs.Common.{of_z, to_z}
 use Rattle.std.proofs.Common.{Global, Vec}
-use Rattle.index.proofs.Going.{if_err, on_ok}
-use Rattle.index.specs.Indexed.{IsIndexed}
+use Rattle.index.proofs.Going.{if_err, if_ok}
+use Rattle.index.specs.Steps.{AreFit}
+use Rattle.std.proofs.lemmas.List.{nil_from_length}
+use Rattle.transactions.proofs.Common.{List, [], ℕ, ◌≢◌}
+use Rattle.transactions.specs.Postponing.{IsCaughtUp}
 use Rattle.index.specs.Shown.{declared}
 use Rattle.index.specs.declared.declaration.Declaration.{Declaration}
-use Rattle.transactions.proofs.IndexSteps.{if_both}
-use Rattle.transactions.proofs.OtherRows.{others_followed}
-use Rattle.transactions.specs.Commits.{KeepsOthers}
-use Rattle.transactions.specs.Indexing.{AreAllIndexes, IsLeft, IsSoundIndexed, MayBeWritten}
+use Rattle.transactions.proofs.IndexSteps.{none_postponed, on_some, written_still}
+use Rattle.transactions.proofs.OtherRows.{others_followed, others_still}
+use Rattle.transactions.specs.Indexing.{AreAllIndexes, IsIndexedBut, IsIndexedStoreBut, IsSoundBut, IsSoundIndexed, MayBeWritten}
 use Rattle.transactions.proofs.commits.write_each.Goals as goal
 
 pub loop-i-init : goal.loop-i-init
 loop-i-init g c =
     let old = state g.S.Store c.args.tx.now.conn.now in
+    let none : c.new-postponed.result.keys ≡ [] = nil_from_length c.new-postponed.result.keys c.new-postponed.ensures.len in
     record {
       same = refl;
       asks = asks_itself old;
       held = λ clean. none_held _ c.new-histories.result c.new-histories.ensures.empty;
+      opened = λ clean some. absurd (some none);
       so_far = λ name clean was every due.
-          (none_written old.now name due.row was.store due.first, was.indexed, every, keeps_itself old, none_held _ c.new-histories.result c.new-histories.ensures.empty, (λ up. up), (λ within. within), refl);
+          (none_written old.now name due.row was.store due.first, subst (λ ids. IsIndexedBut c.args.db.now ids old.now.trees) (sym none) (none_postponed c.args.db.now old.now.trees was.indexed), every, keeps_itself old, none_held _ c.new-histories.result c.new-histories.ensures.empty, (λ up. up), (λ within. within), refl);
     }
 
 pub loop-i-preserved : goal.loop-i-preserved
@@ -28,44 +32,48 @@ loop-i-preserved g c =
     let old = state g.S.Store c.args.tx.now.conn.now in
     let mid = state g.S.Store c.loop-i.tx.conn.now in
     let new = state g.S.Store c.write_indexed.new.tx.conn.now in
-    let e = c.in_ok-known.ensures in
+    let e = c.in_ok-write_indexed.ensures in
     record {
       same = e.same_reference ∙ inv.same;
       asks = asks_then old mid new inv.asks e.asks;
       held = λ clean id h is.
           let mid-clean : HasCleanDisk mid = omega (arith, e.asks.survives.clean, clean) in
           inv.asks.was_open mid-clean (e.served clean);
+      opened = λ clean some.
+          let mid-clean : HasCleanDisk mid = omega (arith, e.asks.survives.clean, clean) in
+          inv.asks.was_open mid-clean (e.served clean);
       so_far = λ name clean was every due.
           let mid-clean : HasCleanDisk mid = omega (arith, e.asks.survives.clean, clean) in
           let before = inv.so_far name mid-clean was every due in
           let may = may_in_turn c.args.writes.now c.loop-i.i c.index-writes-i.result name c.args.db.now c.args.sequence _ old.now mid.now c.loop-i-test.true c.index-writes-i.is c.requires (to_z-of_z {w = w64} {z = c.integer_of-next.result} (record { sfits = c.integer_of-next.type_inv }) ∙ c.integer_of-next.ensures) due before.0 in
-          let both = e.ok clean (record { store = before.0.store; indexed = before.1 }) before.2 before.4 may in
+          let these = ap (map declared) c.deref.ensures.value in
+          let both = e.ok clean (record { store = before.0.store; indexed = before.1 }) (these ∙ before.2) before.4 may in
           let followed = both.0 in
-          let inside = e.inside clean (record { store = before.0.store; indexed = before.1 }) before.4 may in
-          let done = further_followed c.args.writes.now c.loop-i.i c.index-writes-i.result name c.args.db.now c.args.sequence _ old.now mid.now new.now c.loop-i-test.true c.index-writes-i.is c.requires
+          let inside = e.inside clean before.0.store before.4 may in
+          let done = further_followed c.args.writes.now c.loop-i.i c.index-writes-i.result name c.args.db.now c.write_indexed.new.postponed.keys c.args.sequence _ old.now mid.now new.now c.loop-i-test.true c.index-writes-i.is c.requires
           (to_z-of_z {w = w64} {z = c.integer_of-next.result} (record { sfits = c.integer_of-next.type_inv }) ∙ c.integer_of-next.ensures) due before.0 e.lawful followed in (
             done,
             followed.indexed,
-            both.1,
-            keeps_then old mid new before.3 (e.kept clean (record { store = before.0.store; indexed = before.1 }) before.4 may),
+            sym these ∙ both.1,
+            keeps_then old mid new before.3 (e.kept clean before.0.store before.4 may),
             stored_further c.args.writes.now c.loop-i.i c.index-writes-i.result name c.args.db.now due.row old.now mid.now new.now c.loop-i.histories c.write_indexed.new.histories c.loop-i-test.true c.index-writes-i.is due.numbered
                 before.0 done before.4 (e.after clean before.0.store before.4),
             (λ up. inside.0),
             (λ within. inside.1),
-            others_followed c.args.db.now may.row _ mid.now new.now may.numbered before.0.store.schema_is followed ∙ before.7,
+            others_followed c.args.db.now c.write_indexed.new.postponed.keys may.row _ mid.now new.now may.numbered before.0.store.schema_is followed ∙ before.7,
           );
     }
 
-pub returns-in_err-known-clause-err : goal.returns-in_err-known-clause-err
-returns-in_err-known-clause-err g c name =
+pub returns-in_err-write_indexed-clause-err : goal.returns-in_err-write_indexed-clause-err
+returns-in_err-write_indexed-clause-err g c name =
     let inv = c.loop-i.invariant in
     let first = c.args.tx.now.conn.now in
     let last = c.loop-i.tx.conn.now in
     let now = c.write_indexed.new.tx.conn.now in
     let old = state g.S.Store first in
     let mid = state g.S.Store last in
-    let e = c.in_err-known.ensures in
-    let fault = c.in_err-known.field-0.0 in
+    let e = c.in_err-write_indexed.ensures in
+    let fault = c.in_err-write_indexed.field-0.0 in
     let a = addition_of c.index-writes-i.result in
     let db = c.args.db.now in
     let Given : Type 0 = IsSoundIndexed g.S.Store (λ d. AreAllIndexes (map declared c.args.indexes.items) db d.trees × AreDue (additions c.args.writes.now) name db c.args.sequence d.trees) first now in
@@ -73,7 +81,7 @@ returns-in_err-known-clause-err g c name =
     subst (λ (r : Result (Vec Declaration Global) CommitFault). IfErr r (IsUnwritten Given)) (sym is)
     (unwritten_of
     (IsHeldOpen c.loop-i.histories mid
-    × IsSoundIndexed g.S.Store (λ db'. AreStored c.loop-i.histories (history_in (db'.trees revs_tree) db) × HasBest (history_with db'.trees db a) × MayBeWritten db (to_z w64 (of_z w64 c.integer_of-next.result)) a db') last now)
+    × IsSoundBut g.S.Store db c.loop-i.postponed.keys (λ db'. AreStored c.loop-i.histories (history_in (db'.trees revs_tree) db) × HasBest (history_with db'.trees db a) × MayBeWritten db (to_z w64 (of_z w64 c.integer_of-next.result)) a db') last now)
     Given fault
     (λ it.
     let mid-clean : HasCleanDisk mid = omega (arith, e.asks.survives.clean, it.0) in (
@@ -94,87 +102,85 @@ returns-in_err-known-clause-err g c name =
               ),
             ),
       ),
-    )) e.err)
+    )) (e.err c.loop-i.postponed.keys))
 
-pub returns-in_err-known-clause-kept : goal.returns-in_err-known-clause-kept
-returns-in_err-known-clause-kept g c name clean was every due =
+pub returns-in_err-write_indexed-clause-kept : goal.returns-in_err-write_indexed-clause-kept
+returns-in_err-write_indexed-clause-kept g c name clean was every due =
     let inv = c.loop-i.invariant in
     let old = state g.S.Store c.args.tx.now.conn.now in
     let mid = state g.S.Store c.loop-i.tx.conn.now in
     let new = state g.S.Store c.write_indexed.new.tx.conn.now in
-    let e = c.in_err-known.ensures in
+    let e = c.in_err-write_indexed.ensures in
     let mid-clean : HasCleanDisk mid = omega (arith, e.asks.survives.clean, clean) in
     let before = inv.so_far name mid-clean was every due in
-    keeps_then old mid new before.3 (e.kept clean (record { store = before.0.store; indexed = before.1 }) before.4 (may_in_turn c.args.writes.now c.loop-i.i c.index-writes-i.result name c.args.db.now c.args.sequence _ old.now mid.now c.loop-i-test.true c.index-writes-i.is c.requires (to_z-of_z {w = w64} {z = c.integer_of-next.result} (record { sfits = c.integer_of-next.type_inv }) ∙ c.integer_of-next.ensures) due before.0))
+    keeps_then old mid new before.3 (e.kept clean before.0.store before.4 (may_in_turn c.args.writes.now c.loop-i.i c.index-writes-i.result name c.args.db.now c.args.sequence _ old.now mid.now c.loop-i-test.true c.index-writes-i.is c.requires (to_z-of_z {w = w64} {z = c.integer_of-next.result} (record { sfits = c.integer_of-next.type_inv }) ∙ c.integer_of-next.ensures) due before.0))
 
 pub returns-clause-ok : goal.returns-clause-ok
 returns-clause-ok g c name clean was every due =
     let old = state g.S.Store c.args.tx.now.conn.now in
     let mid = state g.S.Store c.loop-i.tx.conn.now in
-    let new = state g.S.Store c.list_unknown.new.tx.conn.now in
+    let new = state g.S.Store c.catch_up.new.tx.conn.now in
     let db = c.args.db.now in
     let ws = writings_in (database_of old.now.trees due.row) (additions c.args.writes.now) in
-    let list = c.list_unknown.ensures in
-    let mid-clean : HasCleanDisk mid = omega (arith, list.asks.survives.clean, clean) in
+    let last = c.catch_up.ensures in
+    let mid-clean : HasCleanDisk mid = omega (arith, last.asks.survives.clean, clean) in
     let far = c.loop-i.invariant.so_far name mid-clean was every due in
     let done : HasWritten ws name due.row old.now mid.now =
     subst (λ ws. HasWritten (writings_in (database_of old.now.trees due.row) (additions ws)) name due.row old.now mid.now) (take_all c.loop-i.i c.args.writes.now (omega (arith, c.loop-i-test.false))) far.0 in
-    if_both c.list_unknown.result
-    (λ (all : Vec Declaration Global) (left : IsLeft mid new) (these : AreAllIndexes (map declared all.items) db mid.now.trees).
-    subst (λ (d : Database). HasWritten ws name due.row old.now d × IsIndexed d.trees × AreAllIndexes (map declared all.items) db d.trees) (sym left.now_is) (done, far.1, these))
-    (list.stays clean far.0.store.schema_is) (list.ok clean (record { store = far.0.store; indexed = far.1 }) far.2)
+    if_ok c.catch_up.result
+    (λ (all : Vec Declaration Global) (both : IsCaughtUp mid.now new.now × AreAllIndexes (map declared all.items) db new.now.trees).
+    (written_still ws name due.row old.now mid.now new.now done both.0.only, both.0.indexed, both.1))
+    (last.ok clean (record { store = far.0.store; indexed = far.1 }) far.2)
 
 pub returns-clause-kept : goal.returns-clause-kept
 returns-clause-kept g c name clean was every due =
     let old = state g.S.Store c.args.tx.now.conn.now in
     let mid = state g.S.Store c.loop-i.tx.conn.now in
-    let new = state g.S.Store c.list_unknown.new.tx.conn.now in
-    let list = c.list_unknown.ensures in
-    let mid-clean : HasCleanDisk mid = omega (arith, list.asks.survives.clean, clean) in
+    let new = state g.S.Store c.catch_up.new.tx.conn.now in
+    let last = c.catch_up.ensures in
+    let mid-clean : HasCleanDisk mid = omega (arith, last.asks.survives.clean, clean) in
     let far = c.loop-i.invariant.so_far name mid-clean was every due in
-    keeps_then old mid new far.3 ((list.looks far.0.store.schema_is).kept clean)
+    keeps_then old mid new far.3 (last.kept clean far.0.store.schema_is)
 
 pub returns-clause-inside : goal.returns-clause-inside
 returns-clause-inside g c name clean was every due within =
     let mid = state g.S.Store c.loop-i.tx.conn.now in
-    let new = state g.S.Store c.list_unknown.new.tx.conn.now in
-    let list = c.list_unknown.ensures in
-    let mid-clean : HasCleanDisk mid = omega (arith, list.asks.survives.clean, clean) in
+    let last = c.catch_up.ensures in
+    let mid-clean : HasCleanDisk mid = omega (arith, last.asks.survives.clean, clean) in
     let far = c.loop-i.invariant.so_far name mid-clean was every due in
-    on_ok c.list_unknown.result (λ (left : IsLeft mid new). left.mode ∙ far.6 within) (list.stays clean far.0.store.schema_is)
+    last.inside clean far.0.store.schema_is (λ some. far.5 (c.loop-i.invariant.opened mid-clean some)) (far.6 within)
 
 pub returns-clause-err : goal.returns-clause-err
 returns-clause-err g c name =
     let first = c.args.tx.now.conn.now in
     let last = c.loop-i.tx.conn.now in
-    let now = c.list_unknown.new.tx.conn.now in
+    let now = c.catch_up.new.tx.conn.now in
     let inv = c.loop-i.invariant in
     let mid = state g.S.Store last in
-    let list = c.list_unknown.ensures in
-    let Told : Type 0 = IsSoundIndexed g.S.Store (λ _. ⊤) last now in
-    let Given : Type 0 = IsSoundIndexed g.S.Store (λ d. AreAllIndexes (map declared c.args.indexes.items) c.args.db.now d.trees × AreDue (additions c.args.writes.now) name c.args.db.now c.args.sequence d.trees) first now in
-    if_err {P = IsUnwritten Told} {Q = IsUnwritten Given} c.list_unknown.result
+    let db = c.args.db.now in
+    let ids : List (List ℕ) = c.loop-i.postponed.keys in
+    let Told : Type 0 = ids ≢ [] → AreFit g.S.Store (IsIndexedStoreBut db ids) last now in
+    let Given : Type 0 = IsSoundIndexed g.S.Store (λ d. AreAllIndexes (map declared c.args.indexes.items) db d.trees × AreDue (additions c.args.writes.now) name db c.args.sequence d.trees) first now in
+    if_err {P = IsUnwritten Told} {Q = IsUnwritten Given} c.catch_up.result
     (λ (fault : CommitFault) h.
     unwritten_of Told Given fault
-    (λ it. (
-      it.0,
-      λ up.
-          let mid-clean : HasCleanDisk mid = omega (arith, list.asks.survives.clean, it.0) in
-          let had = it.1 (inv.asks.was_open mid-clean up) in
-          let far = inv.so_far name mid-clean had.0 had.1.0 had.1.1 in
-          (record { store = far.0.store; indexed = far.1 }, tt),
-    )) h) list.err
+    (λ it some.
+    let mid-clean : HasCleanDisk mid = omega (arith, c.catch_up.ensures.asks.survives.clean, it.0) in
+    let had = it.1 (inv.opened mid-clean some) in
+    let far = inv.so_far name mid-clean had.0 had.1.0 had.1.1 in
+    (it.0, record { store = far.0.store; indexed = far.1 })) h) c.catch_up.ensures.err
 
 pub returns-clause-asks : goal.returns-clause-asks
 returns-clause-asks g c =
-    asks_then (state g.S.Store c.args.tx.now.conn.now) (state g.S.Store c.loop-i.tx.conn.now) (state g.S.Store c.list_unknown.new.tx.conn.now) c.loop-i.invariant.asks c.list_unknown.ensures.asks
+    asks_then (state g.S.Store c.args.tx.now.conn.now) (state g.S.Store c.loop-i.tx.conn.now) (state g.S.Store c.catch_up.new.tx.conn.now) c.loop-i.invariant.asks c.catch_up.ensures.asks
 
 pub returns-clause-others : goal.returns-clause-others
 returns-clause-others g c name clean was every due =
     let old = state g.S.Store c.args.tx.now.conn.now in
     let mid = state g.S.Store c.loop-i.tx.conn.now in
-    let new = state g.S.Store c.list_unknown.new.tx.conn.now in
-    let list = c.list_unknown.ensures in
-    let mid-clean : HasCleanDisk mid = omega (arith, list.asks.survives.clean, clean) in
+    let new = state g.S.Store c.catch_up.new.tx.conn.now in
+    let db = c.args.db.now in
+    let last = c.catch_up.ensures in
+    let mid-clean : HasCleanDisk mid = omega (arith, last.asks.survives.clean, clean) in
     let far = c.loop-i.invariant.so_far name mid-clean was every due in
-    on_ok c.list_unknown.result (λ (left : IsLeft mid new). subst (λ (d : Database). KeepsOthers c.args.db.now old.now d) (sym left.now_is) far.7) (list.stays clean far.0.store.schema_is)
+    on_some c.catch_up.result (λ all both. others_still db old.now mid.now new.now far.0.store.schema_is both.0.only far.7) (last.ok clean (record { store = far.0.store; indexed = far.1 }) far.2)

@@ -2,7 +2,7 @@ use Rattle.transactions.proofs.Lemmas.{AreStored, CommitFault, Database, Err, Ha
 use Rattle.transactions.proofs.Common.{IsWithin, IsWrite, List, Trees, option_map, ℕ}
 use Rattle.transactions.proofs.IndexSteps.{seen_copied, seen_followed}
 use Rattle.transactions.specs.Following.{HasPlaceFor}
-use Rattle.transactions.specs.Indexing.{IsSoundIndexed, MayBeWritten, write_in}
+use Rattle.transactions.specs.Indexing.{IsSoundBut, MayBeWritten, write_in}
 use Rattle.couch_json.specs.View.{view}
 use Rattle.index.specs.Calls.{HasEntries}
 use Rattle.index.specs.Indexed.{AreEntriesOf, is_due}
@@ -15,7 +15,7 @@ use Rattle.transactions.proofs.Common.{Row, filter, map}
 use Rattle.transactions.proofs.indexing.write_seen.Goals as goal
 
 pub returns-in_err-write_next-clause-err : goal.returns-in_err-write_next-clause-err
-returns-in_err-write_next-clause-err g c =
+returns-in_err-write_next-clause-err g c ids =
     let old = c.args.tx.now.conn.now in
     let mid = c.see_document.new.tx.conn.now in
     let end = c.write_next.new.tx.conn.now in
@@ -24,7 +24,7 @@ returns-in_err-write_next-clause-err g c =
     let fault = c.in_err-write_next.field-0.0 in
     let e = c.in_err-write_next.ensures in
     let Stored : Trees → Type 0 = λ trees. AreStored histories (history_in (trees revs_tree) c.args.db.now) × HasBest (history_with trees c.args.db.now a) in
-    let Given : Type 0 = IsHeldOpen histories (state g.S.Store old) × IsSoundIndexed g.S.Store (λ db'. AreStored histories (history_in (db'.trees revs_tree) c.args.db.now) × HasBest (history_with db'.trees c.args.db.now a) × MayBeWritten c.args.db.now c.args.sequence.now a db') old end in
+    let Given : Type 0 = IsHeldOpen histories (state g.S.Store old) × IsSoundBut g.S.Store c.args.db.now ids (λ db'. AreStored histories (history_in (db'.trees revs_tree) c.args.db.now) × HasBest (history_with db'.trees c.args.db.now a) × MayBeWritten c.args.db.now c.args.sequence.now a db') old end in
     let is : c.from_residual-in_err-write_next.result ≡ Err fault = search rules in
     subst (λ (r : Result (Unit {0}) CommitFault). IfErr r (IsUnwritten Given)) (sym is)
     (unwritten_of (IsHeldOpen histories (state g.S.Store mid) × IsSound g.S.Store Stored mid end) Given fault
@@ -37,7 +37,7 @@ returns-in_err-write_next-clause-err g c =
     )) e.err)
 
 pub returns-in_err-after-clause-err : goal.returns-in_err-after-clause-err
-returns-in_err-after-clause-err g c =
+returns-in_err-after-clause-err g c ids =
     let old = c.args.tx.now.conn.now in
     let mid = c.see_document.new.tx.conn.now in
     let put = c.write_next.new.tx.conn.now in
@@ -47,7 +47,7 @@ returns-in_err-after-clause-err g c =
     let fault = c.in_err-after.field-0.0 in
     let e = c.in_err-after.ensures in
     let w = c.in_ok-write_next.ensures in
-    let Given : Type 0 = IsHeldOpen histories (state g.S.Store old) × IsSoundIndexed g.S.Store (λ db'. AreStored histories (history_in (db'.trees revs_tree) c.args.db.now) × HasBest (history_with db'.trees c.args.db.now a) × MayBeWritten c.args.db.now c.args.sequence.now a db') old end in
+    let Given : Type 0 = IsHeldOpen histories (state g.S.Store old) × IsSoundBut g.S.Store c.args.db.now ids (λ db'. AreStored histories (history_in (db'.trees revs_tree) c.args.db.now) × HasBest (history_with db'.trees c.args.db.now a) × MayBeWritten c.args.db.now c.args.sequence.now a db') old end in
     let is : c.from_residual-in_err-after.result ≡ Err fault = search rules in
     subst (λ (r : Result (Unit {0}) CommitFault). IfErr r (IsUnwritten Given)) (sym is)
     (unwritten_of (IsSound g.S.Store (λ _. ⊤) put end) Given fault
@@ -62,7 +62,7 @@ returns-in_err-after-clause-err g c =
     (it.1.0, λ up. (due.store w.lawful _ write, tt))) e.err)
 
 pub returns-clause-ok : goal.returns-clause-ok
-returns-clause-ok g c clean was every plain stored due =
+returns-clause-ok g c ids clean was every plain stored due =
     let old = state g.S.Store c.args.tx.now.conn.now in
     let mid = state g.S.Store c.see_document.new.tx.conn.now in
     let put = state g.S.Store c.write_next.new.tx.conn.now in
@@ -86,7 +86,7 @@ returns-clause-ok g c clean was every plain stored due =
     seen_copied c.as_ref.result ∙ ap (option_map view) c.as_ref.ensures.value ∙ c.in_ok-before.ensures.ok mid-clean was.store in
     let after : option_map (λ v. view v.now) c.as_ref-2.result ≡ sees_in look.now.trees db a.id =
     seen_copied c.as_ref-2.result ∙ ap (option_map view) c.as_ref-2.ensures.value ∙ c.in_ok-after.ensures.ok look-clean left ∙ ap (λ (d : Database). sees_in d.trees db a.id) (sym seen) in
-    seen_followed due.row a db _ _ _ old.now look.now end.now was every plain due.numbered (subst (IsWrite due.row (write_in old.now.trees due.row a) old.now) (sym seen) write) (subst IsStore (sym seen) left)
+    seen_followed due.row a db ids _ _ _ old.now look.now end.now was every plain due.numbered (subst (IsWrite due.row (write_in old.now.trees due.row a) old.now) (sym seen) write) (subst IsStore (sym seen) left)
     before after
     (subst (λ (i : List ℕ). (decls : List Row) (sees : Documents) → AreDeclarationRows decls → map declared c.args.indexes.now ≡ map declared_at (filter (is_at_home db) decls)
     → AreEntriesOf (is_due sees decls) (look.now.trees entries_tree) → sees db i ≡ option_map (λ v. view v.now) c.as_ref.result
