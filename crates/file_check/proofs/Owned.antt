@@ -1,0 +1,84 @@
+-- What a row belongs to is there.
+use Rattle.tables.proofs.Common.{AllByRecursion, Blob, Bool, Database, Err, HistoryContent, IfOk, Int, IsDatabaseNumber, IsDatabaseRow, IsLocalRow, IsPermutation, IsRevisionRow, List, None, Null, Ok, Option, Real, Result, Revision, Row, Some, Text, Trees, Value, any_is_found, ap, arith, column, count_in, database_at, db_of, dbs_tree, filter, has_number, history_in, id_of, inside, ints, is_gone, is_of, is_some, length_of, map, nat_tests, negsuc, option_map, pos, refl, revision_of, revs_tree, sequence_of, shown_revision, subst, sym, true, whole_in, winner_text, ℕ, ℤ, ◌∙◌, ◌≡◌, ◌≢◌, ◌≤◌}
+use Rattle.std.specs.Prelude.{int_le, ⊤}
+use Rattle.tables.proofs.Sorted.{both_in}
+use Rattle.transactions.specs.Reading.{history_shown}
+use Rattle.file_check.proofs.HistoryMade.{AreApart, history_made}
+use Rattle.file_check.specs.Rows.{IsLawfulDocument, IsLawfulLocal, IsOwnedDocument, IsWinning}
+use Rattle.file_check.specs.Tables.{Accepts, AreShaped, HasDatabaseCells, HasDocumentCells, HasHeldLeaves, HasLocalCells, IsShaped, IsSoundDocument, Judges, length_at, stored_revision}
+use Rattle.file_check.specs.declared.finding.CheckFault.{CheckFault}
+use Rattle.file_check.specs.declared.finding.Wrong.{Wrong}
+
+some_mapped : {A B : Type 0} (f : A → B) (o : Option A) → is_some (option_map f o) ≡ is_some o
+some_mapped f None = refl
+some_mapped f (Some x) = refl
+
+pub number_there : (trees : Trees) (db : ℤ) → is_some (length_at trees db) ≡ true → IsDatabaseNumber trees db
+number_there trees db some = any_is_found (has_number db) (trees dbs_tree) ∙ sym (some_mapped (λ d. whole_in (column d 4)) (database_at (trees dbs_tree) db)) ∙ some
+
+local_of_database : (trees : Trees) (r : Row) → IsDatabaseNumber trees (db_of r) → IsLawfulLocal r → IsLocalRow trees r
+local_of_database trees r there k = record { is = k.is; there = there; named = k.named; small = k.small; body = k.body }
+
+pub accepted_local : (trees : Trees) (r : Row) (there : Bool) → there ≡ is_some (length_at trees (db_of r)) → (judged : Result (Option Wrong) CheckFault) → (HasLocalCells r → IfOk judged (Accepts ((there ≡ true) × IsLawfulLocal r)))
+    → IfOk judged (λ found. HasLocalCells r → Accepts (IsLocalRow trees r) found)
+accepted_local trees r there is (Err e) judge = tt
+accepted_local trees r there is (Ok (Some w)) judge = λ cells. tt
+accepted_local trees r there is (Ok None) judge = λ cells. let k = judge cells in local_of_database trees r (number_there trees (db_of r) (sym is ∙ k.0)) k.1
+
+-- ---- documents
+
+count_of_whole : (v : Value) (s : ℕ) → int_le (pos s) (whole_in v) ≡ true → s ≤ count_in v
+count_of_whole Null s h = grind (arith, ints, nat_tests, h)
+count_of_whole (Int (pos n)) s h = grind (arith, ints, nat_tests, h)
+count_of_whole (Int (negsuc n)) s h = grind (arith, ints, nat_tests, h)
+count_of_whole (Real x) s h = grind (arith, ints, nat_tests, h)
+count_of_whole (Text t) s h = grind (arith, ints, nat_tests, h)
+count_of_whole (Blob b) s h = grind (arith, ints, nat_tests, h)
+
+sequence_within : (trees : Trees) (r d : Row) (length : Option ℤ) (n : ℤ) → length ≡ length_at trees (db_of r) → length ≡ Some n → whole_in (column r 3) ≡ pos (sequence_of r) → int_le (whole_in (column r 3)) n ≡ true
+    → database_at (trees dbs_tree) (db_of r) ≡ Some d → sequence_of r ≤ length_of d
+sequence_within trees r d length n is some counted low found =
+    let same : n ≡ whole_in (column d 4) = inside n (whole_in (column d 4)) (sym some ∙ is ∙ ap (option_map (λ x. whole_in (column x 4))) found) in
+    count_of_whole (column d 4) (sequence_of r) (ap (λ k. int_le k (whole_in (column d 4))) (sym counted) ∙ ap (int_le (whole_in (column r 3))) (sym same) ∙ low)
+
+document_of_database : (trees : Trees) (r : Row) (length : Option ℤ) (rows : List Row) → length ≡ length_at trees (db_of r) → AreApart (trees revs_tree)
+    → IsPermutation (map shown_revision (filter (is_of (db_of r) (id_of r)) (trees revs_tree))) rows → IsLawfulDocument r → IsOwnedDocument r length (history_shown rows) → IsSoundDocument trees r
+document_of_database trees r length rows is apart same lawful k =
+    let h = history_in (trees revs_tree) (db_of r) (id_of r) in
+    let made : history_shown rows ≡ h = history_made trees (db_of r) (id_of r) rows apart same in
+    let winning : IsWinning h (winner_text r) (is_gone r) = subst (λ (x : HistoryContent). IsWinning x (winner_text r) (is_gone r)) made k.winning in
+    record {
+      row = record {
+        is = lawful.is;
+        there = number_there trees (db_of r) (ap is_some (sym is ∙ k.within.1));
+        named = lawful.named;
+        text = lawful.text;
+        positive = lawful.positive;
+        within = λ d found. sequence_within trees r d length k.within.0 is k.within.1 (ap (λ x. whole_in (column x 3)) lawful.is) k.within.2 found;
+        won = winning.won;
+        gone = winning.marked;
+      };
+      leaves = subst HasHeldLeaves made k.leaves;
+    }
+
+apart_where_sound : (trees : Trees) → AreShaped trees → AllByRecursion (IsRevisionRow trees) (trees revs_tree) → AreApart (trees revs_tree)
+apart_where_sound trees shaped sound =
+    both_in (IsRevisionRow trees) (λ a b. db_of a ≡ db_of b → id_of a ≡ id_of b → stored_revision a ≢ stored_revision b) (λ a b. db_of a ≡ db_of b → id_of a ≡ id_of b → revision_of a ≢ revision_of b)
+    (λ a b k l apart db_same id_same same_revision.
+    let number = ap (λ x. whole_in (column x 3)) k.is ∙ ap (λ (q : Revision). pos q.number) same_revision ∙ sym (ap (λ x. whole_in (column x 3)) l.is) in
+    let hash = ap (λ (q : Revision). q.hash) same_revision in
+    apart db_same id_same (λ i. (number i, hash i))) (trees revs_tree) sound shaped.revisions_apart
+
+pub accepted_document : (d : Database) (r : Row) (length : Option ℤ) (rows : List Row) → IsShaped d → IsPermutation (map shown_revision (filter (is_of (db_of r) (id_of r)) (d.trees revs_tree))) rows → (judged : Result (Option Wrong) CheckFault)
+    → (HasDocumentCells r → IfOk judged (Accepts (IsLawfulDocument r × IsOwnedDocument r length (history_shown rows))))
+    → IfOk judged (λ found. HasDocumentCells r → length ≡ length_at d.trees (db_of r) → AllByRecursion (IsRevisionRow d.trees) (d.trees revs_tree) → Accepts (IsSoundDocument d.trees r) found)
+accepted_document d r length rows fit same (Err e) judge = tt
+accepted_document d r length rows fit same (Ok (Some w)) judge = λ cells is sound. tt
+accepted_document d r length rows fit same (Ok None) judge = λ cells is sound. document_of_database d.trees r length rows is (apart_where_sound d.trees fit.shaped sound) same (judge cells).0 (judge cells).1
+
+-- ---- databases
+
+pub accepted_database : (r : Row) (judged : Result (Option Wrong) CheckFault) → (HasDatabaseCells r → IfOk judged (Judges (IsDatabaseRow r))) → IfOk judged (λ found. HasDatabaseCells r → ⊤ → Accepts (IsDatabaseRow r) found)
+accepted_database r (Err e) judge = tt
+accepted_database r (Ok (Some w)) judge = λ cells before. tt
+accepted_database r (Ok None) judge = λ cells before. judge cells

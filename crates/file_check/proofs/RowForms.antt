@@ -1,0 +1,181 @@
+-- When a row is sound, by its cells.
+use Rattle.tables.proofs.Common.{Blob, Bool, Int, Real, int_lt, ints, negsuc, IsBody, IsDatabaseRow, IsTrue, List, None, Null, Option, Row, Some, Text, Value, [], ap, arith, body_cell, bytes, canonical, column, cond, count_in, db_of, entry_of, false, flag, id_of, is_database_name, is_document_id, is_gone, is_held, is_marked, is_set, json_in, length_of, local_of, name_of, nat_tests, number_of, suc, option_map, pos, refl, security_of, security_text, sequence_of, subst, sym, true, value_or_null, Err, whole_in, winner_text, ℕ, ℤ, ◌<◌, ◌^◌, ◌∙◌, ◌∷◌, ◌≡◌, ◌≢◌, ◌≤◌, IsUtf8}
+use Rattle.std.proofs.lemmas.Bool.{false≢true}
+use Rattle.std.specs.Prelude.{zero}
+use Rattle.couch_json.specs.Lawful as json
+use Rattle.couch_json.specs.Value as json_value
+use Rattle.couch_json.specs.Reading.{reading}
+use Rattle.couch_json.specs.declared.fault.JsonFault.{JsonFault}
+use Rattle.couch_json.proofs.ReadingBack.{reading-canonical}
+use Rattle.policy.specs.Security.{is_security}
+use Rattle.tree.specs.declared.entry.Held.{Held}
+use Rattle.tree.proofs.Shown.{inside}
+use Rattle.tree.specs.History.{HistoryContent}
+use Rattle.file_check.specs.Rows.{IsHeldSo, IsLawfulDocument, IsLawfulLocal, IsOwnedDocument}
+use Rattle.file_check.specs.Tables.{HasDatabaseCells, HasDocumentCells, HasLocalCells}
+use Rattle.file_check.specs.Texts.{IsBodyText, IsSecurityText}
+
+-- ---- databases
+
+module _ (r : Row) (name text : List ℕ) (name_is : column r 2 ≡ Blob name) (text_is : column r 3 ≡ Text text) where
+  pub database_sound : HasDatabaseCells r → (n : ℕ) → column r 4 ≡ Int (pos n) → n < 2 ^ 63 → is_database_name name ≡ true → IsSecurityText text → IsDatabaseRow r
+  database_sound cells n number small named k =
+      let spelled : security_text r ≡ canonical (security_of r) = ap bytes text_is ∙ k.canonical ∙ ap (λ v. canonical (json_in v)) (sym text_is) in
+      let counted : whole_in (column r 4) ≡ pos (length_of r) = ap whole_in number ∙ ap pos (sym (ap count_in number)) in
+      record {
+        is = cells ∙ (λ i. Int (number_of r) ∷ Null ∷ Blob (name_of r) ∷ Text (spelled i) ∷ Int (counted i) ∷ []);
+        named = ap is_database_name (ap bytes name_is) ∙ named;
+        security = ap (λ v. is_security (json_in v)) text_is ∙ k.security;
+        bounded = subst (λ m. m < 2 ^ 63) (sym (ap count_in number)) small;
+      }
+
+  pub database_unnamed : is_database_name name ≡ false → ¬ IsDatabaseRow r
+  database_unnamed out k = false≢true (sym out ∙ ap is_database_name (sym (ap bytes name_is)) ∙ k.named)
+
+  pub database_unspelled : ¬ IsSecurityText text → ¬ IsDatabaseRow r
+  database_unspelled out k =
+      out (record {
+        canonical = sym (ap bytes text_is) ∙ ap (λ x. bytes (column x 3)) k.is ∙ ap (λ v. canonical (json_in v)) text_is;
+        security = ap (λ v. is_security (json_in v)) (sym text_is) ∙ k.security;
+      })
+
+pub database_uncounted : (r : Row) → ((n : ℕ) → column r 4 ≢ Int (pos n)) → ¬ IsDatabaseRow r
+database_uncounted r out k = out (length_of r) (ap (λ x. column x 4) k.is)
+
+-- ---- local documents
+
+module _ (r : Row) (id text : List ℕ) (id_is : column r 2 ≡ Blob id) (text_is : column r 4 ≡ Text text) where
+  pub local_sound : HasLocalCells r → (n : ℕ) → column r 3 ≡ Int (pos n) → n < 2 ^ 32 → is_document_id id ≡ true → IsBodyText text → IsLawfulLocal r
+  local_sound cells n number small named k =
+      let spelled : bytes (column r 4) ≡ canonical (local_of r).body = ap bytes text_is ∙ k.canonical ∙ ap (λ v. canonical (json_in v)) (sym text_is) in
+      let counted : whole_in (column r 3) ≡ pos (local_of r).number = ap whole_in number ∙ ap pos (sym (ap count_in number)) in
+      record {
+        is = cells ∙ (λ i. Int (number_of r) ∷ Int (db_of r) ∷ Blob (id_of r) ∷ Int (counted i) ∷ Text (spelled i) ∷ []);
+        named = ap is_document_id (ap bytes id_is) ∙ named;
+        small = subst (λ m. m < 2 ^ 32) (sym (ap count_in number)) small;
+        body = subst (λ v. IsBody (json_in v)) (sym text_is) k.body;
+      }
+
+  pub local_unnamed : is_document_id id ≡ false → ¬ IsLawfulLocal r
+  local_unnamed out k = false≢true (sym out ∙ ap is_document_id (sym (ap bytes id_is)) ∙ k.named)
+
+  pub local_unspelled : ¬ IsBodyText text → ¬ IsLawfulLocal r
+  local_unspelled out k =
+      out (record {
+        canonical = sym (ap bytes text_is) ∙ ap (λ x. bytes (column x 4)) k.is ∙ ap (λ v. canonical (json_in v)) text_is;
+        body = subst (λ v. IsBody (json_in v)) text_is k.body;
+      })
+
+pub local_uncounted : (r : Row) → ((n : ℕ) → column r 3 ≢ Int (pos n)) → ¬ IsLawfulLocal r
+local_uncounted r out k = out (local_of r).number (ap (λ x. column x 3) k.is)
+
+pub local_too_great : (r : Row) (n : ℕ) → column r 3 ≡ Int (pos n) → 2 ^ 32 ≤ n → ¬ IsLawfulLocal r
+local_too_great r n is great k = let same : count_in (column r 3) ≡ n = ap count_in is in omega (arith, great, k.small, same)
+
+-- ---- documents
+
+mark_is : (v : Value) (n : ℕ) → v ≡ Int (pos n) → n ≤ 1 → v ≡ flag (is_set v)
+mark_is v n is small = by n is small
+  where
+    by : (m : ℕ) → v ≡ Int (pos m) → m ≤ 1 → v ≡ flag (is_set v)
+    by zero e low = e ∙ ap (λ x. flag (is_set x)) (sym e)
+    by (suc zero) e low = e ∙ ap (λ x. flag (is_set x)) (sym e)
+    by (suc (suc m)) e low = absurd (omega (arith, low))
+
+flag_small : (b : Bool) (n : ℕ) → flag b ≡ Int (pos n) → n ≤ 1
+flag_small true n e = let z : 1 ≡ n = ap count_in e in omega (arith, z)
+flag_small false n e = let z : 0 ≡ n = ap count_in e in omega (arith, z)
+
+flag_is_count : (v : Value) (b : Bool) → v ≡ flag b → ((n : ℕ) → v ≢ Int (pos n)) → ⊥
+flag_is_count v true is none = none 1 is
+flag_is_count v false is none = none 0 is
+
+pub document_sound : (r : Row) (id : List ℕ) (n m : ℕ) → HasDocumentCells r → column r 2 ≡ Blob id → column r 3 ≡ Int (pos n) → column r 5 ≡ Int (pos m) → m ≤ 1 → 1 ≤ n → IsTrue (is_document_id id) → IsUtf8 id → IsLawfulDocument r
+document_sound r id n m cells id_is number mark small low named text =
+    let counted : whole_in (column r 3) ≡ pos (sequence_of r) = ap whole_in number ∙ ap pos (sym (ap count_in number)) in
+    let flagged : Int (whole_in (column r 5)) ≡ flag (is_gone r) = ap (λ v. Int (whole_in v)) mark ∙ sym mark ∙ mark_is (column r 5) m mark small in
+    record {
+      is = cells ∙ (λ i. Int (number_of r) ∷ Int (db_of r) ∷ Blob (id_of r) ∷ Int (counted i) ∷ Text (winner_text r) ∷ flagged i ∷ []);
+      named = ap is_document_id (ap bytes id_is) ∙ named;
+      text = subst IsUtf8 (sym (ap bytes id_is)) text;
+      positive = subst (λ k. 1 ≤ k) (sym (ap count_in number)) low;
+    }
+
+pub document_uncounted : (r : Row) → ((n : ℕ) → column r 3 ≢ Int (pos n)) → ¬ IsLawfulDocument r
+document_uncounted r out k = out (sequence_of r) (ap (λ x. column x 3) k.is)
+
+pub document_unmarked : (r : Row) → ((n : ℕ) → column r 5 ≢ Int (pos n)) → ¬ IsLawfulDocument r
+document_unmarked r out k = flag_is_count (column r 5) (is_gone r) (ap (λ x. column x 5) k.is) out
+
+pub document_overmarked : (r : Row) (m : ℕ) → column r 5 ≡ Int (pos m) → 1 < m → ¬ IsLawfulDocument r
+document_overmarked r m is over k = let low = flag_small (is_gone r) m (sym (ap (λ x. column x 5) k.is) ∙ is) in omega (arith, over, low)
+
+pub document_unnumbered : (r : Row) (n : ℕ) → column r 3 ≡ Int (pos n) → n < 1 → ¬ IsLawfulDocument r
+document_unnumbered r n is low k = let same : count_in (column r 3) ≡ n = ap count_in is in omega (arith, low, k.positive, same)
+
+pub document_unnamed : (r : Row) (id : List ℕ) → column r 2 ≡ Blob id → ¬ (IsTrue (is_document_id id) × IsUtf8 id) → ¬ IsLawfulDocument r
+document_unnamed r id is out k = out (ap is_document_id (sym (ap bytes is)) ∙ k.named, subst IsUtf8 (ap bytes is) k.text)
+
+-- ---- what is held of a revision
+
+abbrev held_made : Option (Bool × json_value.Value) → Option Held
+held_made o = option_map (λ (d : Bool × json_value.Value). record { deleted = d.0; body = d.1 }) o
+
+held_by_mark : (r : Row) (b : Bool) → is_set (column r 6) ≡ b → (entry_of r).held ≡ held_made (cond b (Some (is_set (column r 7), json_in (column r 8))) None)
+held_by_mark r b is = ap (λ c. held_made (cond c (Some (is_set (column r 7), json_in (column r 8))) None)) is
+
+pub held_none : (r : Row) → column r 6 ≡ Int (pos 0) → column r 7 ≡ Int (pos 0) → column r 8 ≡ Null → IsHeldSo r
+held_none r held mark none =
+    let nothing : (entry_of r).held ≡ None = held_by_mark r false (ap is_set held) in
+    record {
+      held = held ∙ ap (λ o. flag (is_held o)) (sym nothing);
+      mark = mark ∙ ap (λ o. flag (is_marked o)) (sym nothing);
+      text = none ∙ ap body_cell (sym nothing);
+      body = λ h is. absurd (let z : None ≡ Some h = sym nothing ∙ is in cc);
+      spelled = λ h is. absurd (let z : None ≡ Some h = sym nothing ∙ is in cc);
+    }
+
+pub held_some : (r : Row) (m : ℕ) (text : List ℕ) → column r 6 ≡ Int (pos 1) → column r 7 ≡ Int (pos m) → m ≤ 1 → column r 8 ≡ Text text → IsBodyText text → json.IsLawful (json_in (Text text)) → IsHeldSo r
+held_some r m text held mark small text_is k lawful =
+    let it : Held = record { deleted = is_set (column r 7); body = json_in (column r 8) } in
+    let some : (entry_of r).held ≡ Some it = held_by_mark r true (ap is_set held) in
+    record {
+      held = held ∙ ap (λ o. flag (is_held o)) (sym some);
+      mark = mark_is (column r 7) m mark small ∙ ap (λ o. flag (is_marked o)) (sym some);
+      text = text_is ∙ ap Text (k.canonical ∙ ap (λ v. canonical (json_in v)) (sym text_is)) ∙ ap body_cell (sym some);
+      body = λ h is. subst (λ (x : Held). IsBody x.body) (inside it h (sym some ∙ is)) (subst (λ v. IsBody (json_in v)) (sym text_is) k.body);
+      spelled = λ h is. subst (λ (x : Held). json.IsLawful x.body) (inside it h (sym some ∙ is)) (subst (λ v. json.IsLawful (json_in v)) (sym text_is) lawful);
+    }
+
+-- ---- texts
+
+-- a text that is not read is not canonical
+pub unspelled : (text : List ℕ) (fault : JsonFault) → reading text ≡ Err fault → text ≢ canonical (json_in (Text text))
+unspelled text fault read is =
+    let empty : json_in (Text text) ≡ json_value.null = ap value_or_null read in
+    let spelled : text ≡ canonical json_value.null = is ∙ ap canonical empty in
+    let back = sym (ap reading spelled) ∙ read in
+    let whole = reading-canonical json_value.null tt (omega arith) in
+    absurd (cc)
+
+-- ---- the mark and the owner of a document
+
+pub gone_is : (r : Row) (n : ℤ) → column r 5 ≡ Int n → int_lt (pos 0) n ≡ is_gone r
+gone_is r n is = by n ∙ ap is_set (sym is)
+  where
+    by : (m : ℤ) → int_lt (pos 0) m ≡ is_set (Int m)
+    by (pos k) = grind (arith, ints, nat_tests)
+    by (negsuc k) = grind (arith, ints, nat_tests)
+
+pub gone_not : (r : Row) → ((n : ℤ) → column r 5 ≢ Int n) → false ≡ is_gone r
+gone_not r none = by (column r 5) none
+  where
+    by : (v : Value) → ((n : ℤ) → v ≢ Int n) → false ≡ is_set v
+    by Null none = refl
+    by (Int n) none = absurd (none n refl)
+    by (Real x) none = refl
+    by (Text t) none = refl
+    by (Blob b) none = refl
+
+pub owned_by : (r : Row) (length : Option ℤ) (h k : HistoryContent) → h ≡ k → IsOwnedDocument r length h → IsOwnedDocument r length k
+owned_by r length h k is owned = subst (IsOwnedDocument r length) is owned

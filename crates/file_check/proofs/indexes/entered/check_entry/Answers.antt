@@ -1,0 +1,28 @@
+use Rattle.std.proofs.Common.{Err, ap, refl, rules, ◌≡◌, ◌∙◌}
+use Rattle.std.proofs.Common.{of_z, to_z, to_z-of_z, w64}
+use Rattle.sqlite_trees.specs.Tree.{rowid}
+use Rattle.sqlite_value.specs.Order.{column}
+use Rattle.tables.specs.Rows.{number_of}
+use Rattle.file_check.proofs.CheckSteps.{checks_stop}
+use Rattle.file_check.proofs.WalkSteps.{row_sound, row_unsound}
+use Rattle.file_check.specs.IndexRows.{IsNextEntry}
+use Rattle.file_check.specs.Indexes.{IsOwnEntry}
+use Rattle.file_check.specs.declared.finding.Table.TheVariants as table
+use Rattle.file_check.specs.declared.finding.Wrong.TheVariants as wrong
+use Rattle.file_check.proofs.indexes.entered.check_entry.Goals as goal
+
+pub returns-in_err-is_due : goal.returns-in_err-is_due
+returns-in_err-is_due g c r =
+    let e = c.in_err-is_due.field-0.0 in
+    let is : c.from_residual.result ≡ Err e = search rules in
+    checks_stop g.S.Store e c.from_residual.result is (c.in_err-is_due.ensures r)
+
+pub returns-then-branch : goal.returns-then-branch
+returns-then-branch g c r =
+    row_sound g.S.Store (IsNextEntry c.args.row.now r) table.Entries IsOwnEntry r (to_z w64 (of_z w64 c.whole_in-number.result)) c.in_ok-is_due.field-0 (c.in_ok-is_due.ensures r) c.if-branch.true
+    (λ fit. to_z-of_z {w = w64} {z = c.whole_in-number.result} (record { sfits = c.whole_in-number.type_inv }) ∙ c.whole_in-number.ensures (number_of r) (ap (λ x. column x 0) fit.shown_is ∙ ap rowid fit.row))
+
+pub returns : goal.returns
+returns g c r =
+    row_unsound g.S.Store (IsNextEntry c.args.row.now r) table.Entries IsOwnEntry r (record { table = table.Entries; key = to_z w64 (of_z w64 c.whole_in-number.result); wrong = wrong.Index }) c.in_ok-is_due.field-0 (c.in_ok-is_due.ensures r) c.if-branch.false refl
+    (λ fit. to_z-of_z {w = w64} {z = c.whole_in-number.result} (record { sfits = c.whole_in-number.type_inv }) ∙ c.whole_in-number.ensures (number_of r) (ap (λ x. column x 0) fit.shown_is ∙ ap rowid fit.row))

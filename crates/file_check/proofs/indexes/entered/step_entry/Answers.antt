@@ -1,0 +1,33 @@
+use Rattle.std.proofs.Common.{Err, None, Some, [], rules, ◌≡◌}
+use Rattle.std.specs.Prelude.{find, slice_get, unwrap_or}
+use Rattle.sqlite.specs.Held.{state}
+use Rattle.tables.specs.Schema.{entries_tree}
+use Rattle.tables.proofs.RowMaps.{find_found}
+use Rattle.index.specs.Layout.{HasIndexRows, IsEntryRow}
+use Rattle.file_check.proofs.CheckSteps.{checks_err, checks_read, checks_weaker}
+use Rattle.file_check.proofs.WalkSteps.{next_looked, next_none}
+use Rattle.file_check.specs.IndexRows.{IsNextEntry, next_entry}
+use Rattle.file_check.specs.Indexes.{IsReadable, IsOwnEntry}
+use Rattle.file_check.specs.Walks.{is_behind}
+use Rattle.file_check.specs.declared.finding.CheckFault.TheVariants as fault
+use Rattle.file_check.specs.declared.finding.Table.TheVariants as table
+use Rattle.file_check.proofs.indexes.entered.step_entry.Goals as goal
+
+pub returns-in_err-rows : goal.returns-in_err-rows
+returns-in_err-rows g c =
+    let e = c.in_err-rows.field-0.0 in
+    let is : c.from_residual.result ≡ Err (fault.Sqlite e) = search rules in
+    checks_err g.S.Store IsReadable HasIndexRows (fault.Sqlite e) c.from_residual.result is (λ fit. fit.rows) (checks_read g.S.Store (λ fit. fit.schema_is) c.in_err-rows.ensures)
+
+pub returns-in-Some : goal.returns-in-Some
+returns-in-Some g c =
+    let r = unwrap_or (find (is_behind c.args.last.now) ((state g.S.Store c.args.conn.now).now.trees entries_tree)) [] in
+    let at : slice_get c.in_ok-rows.rows.items 0 ≡ Some c.in-Some.row.now = search rules in
+    next_looked g.S.Store IsReadable table.Entries entries_tree IsOwnEntry (λ d fit. fit.rows.entries.rising) (IsNextEntry c.in-Some.row.now r) (λ rows. rows.items) next_entry c.args.last.now c.in-Some.row.now
+    (checks_weaker g.S.Store IsReadable HasIndexRows (checks_read g.S.Store (λ fit. fit.schema_is) c.in_ok-rows.ensures) (λ fit. fit.rows) (λ fit x is. is)) at (c.check_entry.ensures r)
+    (λ fit there shown. record { readable = fit; row = (find_found IsEntryRow (is_behind c.args.last.now) ((state g.S.Store c.args.conn.now).now.trees entries_tree) r fit.rows.entries.each there).0; shown_is = shown })
+
+pub returns : goal.returns
+returns g c =
+    let at : slice_get c.in_ok-rows.rows.items 0 ≡ None = search rules in
+    next_none g.S.Store IsReadable table.Entries entries_tree IsOwnEntry (λ d fit. fit.rows.entries.rising) (λ rows. rows.items) next_entry c.args.last.now (checks_weaker g.S.Store IsReadable HasIndexRows (checks_read g.S.Store (λ fit. fit.schema_is) c.in_ok-rows.ensures) (λ fit. fit.rows) (λ fit x is. is)) at

@@ -1,0 +1,12 @@
+use Rattle.std.proofs.Common.{Ok}
+use Rattle.tables.specs.Schema.{docs_tree}
+use Rattle.file_check.specs.Checks.{Checks}
+use Rattle.file_check.specs.Indexes.{IsReadable, IsIndexedDocument}
+use Rattle.file_check.specs.Walks.{AreWalked}
+use Rattle.file_check.specs.declared.finding.CheckFault.{CheckFault}
+use Rattle.file_check.proofs.indexes.followed.check_documents.Given as goal
+
+-- the rows up to the last one are sound, and the connection is as it was
+abbrev pub invariant-loop-row : goal.invariant-loop-row
+invariant-loop-row g l =
+    Checks {X = Unit {0}} {E = CheckFault} g.S.Store IsReadable l.initial.conn l.conn (λ trees done. AreWalked (IsIndexedDocument trees) l.last (trees docs_tree)) (Ok tt)

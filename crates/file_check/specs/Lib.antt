@@ -1,0 +1,9 @@
+pub mod Tables
+pub mod Inspecting
+pub mod Texts
+pub mod Rows
+pub mod Indexes
+pub mod IndexRows
+pub mod Walks
+pub mod Checks
+pub mod Verdicts

@@ -1,0 +1,22 @@
+-- What a verdict on a file says.
+-- This server's own, over `Layout` of `tables` and `Indexed` of `index`.
+use Rattle.std.specs.Prelude.{⊤}
+use Rattle.sqlite.specs.Effect.{Database}
+use Rattle.sqlite_trees.specs.Tree.{Trees}
+use Rattle.tables.specs.Layout.{AreNumbered}
+use Rattle.tables.specs.Schema.{decls_tree, entries_tree}
+use Rattle.transactions.specs.Indexing.{IsIndexedStore}
+use Rattle.file_check.specs.Tables.{AreKept}
+use Rattle.file_check.specs.declared.finding.Verdict.{Verdict}
+use Rattle.file_check.specs.declared.finding.Verdict.TheVariants.{Sound, Unsound}
+
+-- the numbers of the rows rise in the tables of indexes too
+pub record AreAllKept (trees : Trees) : Type 0 where
+  pub tables : AreKept trees
+  pub decls : AreNumbered (trees decls_tree)
+  pub entries : AreNumbered (trees entries_tree)
+
+-- a sound file holds a store, whose rows of indexes are those of what is stored beside them
+abbrev pub Vouches : Database → Verdict → Type 0
+Vouches db (Sound counts) = IsIndexedStore db
+Vouches db (Unsound finding) = ⊤

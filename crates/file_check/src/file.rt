@@ -1,0 +1,34 @@
+//! A check of all tables of a file.
+
+ghost use Rattle.std.specs.Prelude.{◌≡◌, IfOk};
+ghost use Rattle.sqlite.specs.Held.{state};
+ghost use Rattle.sqlite.specs.State.{HasCleanDisk};
+ghost use Rattle.tables.specs.Schema.{schema};
+ghost use Rattle.tables.specs.Steps.{Asks};
+ghost use Rattle.file_check.specs.Verdicts.{AreAllKept, Vouches};
+
+use crate::counting::count_rows;
+use crate::finding::{CheckFault, Verdict};
+use crate::indexes::check_indexes;
+use crate::layout::check_tables;
+use sqlite::{Alter, Connection};
+use std::alloc::Global;
+
+/// Checks whether the tables of a connection hold a store of this server, whose rows of indexes are those that
+/// a rebuild would make. Answers with how many rows it has, or with the first row that no store has.
+pub fn check<S: Alter>(alloc: Global, conn: &mut Connection<S>) -> Result<Verdict, CheckFault>
+    // What is called sound is a store, and its rows of indexes are exact: if the tables have the columns of this
+    // schema, and their rows are kept as SQLite keeps what it is given.
+    ensures sound { HasCleanDisk (state S.Store conn.new) → conn.old.schema ≡ schema → AreAllKept (state S.Store conn.old).now.trees
+        → IfOk result (Vouches (state S.Store conn.old).now) }
+    ensures asks { Asks (state S.Store conn.old) (state S.Store conn.new) }
+{
+    if let Some(finding) = check_tables(alloc, conn)? {
+        return Ok(Verdict::Unsound(finding));
+    }
+    if let Some(finding) = check_indexes(alloc, conn)? {
+        return Ok(Verdict::Unsound(finding));
+    }
+    let counts = count_rows(conn)?;
+    Ok(Verdict::Sound(counts))
+}

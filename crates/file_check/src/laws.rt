@@ -1,0 +1,21 @@
+//! What follows from the definitions alone. Each function has an empty body: its contract is the law.
+
+ghost use Rattle.std.specs.Prelude.{List};
+ghost use Rattle.sqlite_trees.specs.Tree.{Trees};
+ghost use Rattle.sqlite_trees.specs.View as tree;
+ghost use Rattle.sqlite_trees.specs.declared.store.Shape.TheVariants as shape;
+ghost use Rattle.sqlite_value.specs.Order.{Row};
+ghost use Rattle.tables.specs.Layout.{AreNumbered, IsLaid};
+ghost use Rattle.file_check.specs.Tables.{AreKept, AreShaped, HasSoundLocals};
+
+/// Tables are laid out where SQLite keeps their rows and each is sound, and only there.
+pub fn laid_where_sound()
+    ensures sound { (trees : Trees) → AreShaped trees → HasSoundLocals trees → IsLaid trees }
+    ensures rows { (trees : Trees) → IsLaid trees → HasSoundLocals trees }
+    ensures kept { (trees : Trees) → IsLaid trees → AreKept trees }
+{}
+
+/// The numbers of the rows of a table rise in its tree, as a store of the kit keeps it.
+pub fn numbers_of_a_table()
+    ensures { (rows : List Row) → tree.IsShaped shape.Table rows → AreNumbered rows }
+{}

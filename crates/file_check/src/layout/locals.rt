@@ -1,0 +1,63 @@
+//! The rows of the local documents.
+
+ghost use Rattle.std.specs.Prelude.{◌≡◌, IfOk, true};
+ghost use Rattle.tables.specs.Layout.{IsLocalRow};
+ghost use Rattle.file_check.specs.Inspecting.{Inspects};
+ghost use Rattle.file_check.specs.Rows.{IsLawfulLocal};
+ghost use Rattle.file_check.specs.Tables.{Accepts, HasLocalCells, IsShaped, Judges};
+
+use crate::finding::{CheckFault, Wrong};
+use crate::layout::cells::{blob_at, count_at, text_at};
+use crate::layout::finding_rows::{find_length, whole_or_zero};
+use crate::layout::names::is_document_id;
+use crate::layout::texts::is_body_text;
+use sqlite::{Alter, Connection, Row};
+use std::alloc::Global;
+
+/// Tells what is wrong with the row of a local document by itself, if anything is.
+#[tactic(auto, using(crate::proofs::RowForms::local_sound, crate::proofs::RowForms::local_uncounted, crate::proofs::RowForms::local_too_great, crate::proofs::RowForms::local_unnamed, crate::proofs::RowForms::local_unspelled))]
+fn judge_row(alloc: Global, row: &Row) -> Result<Option<Wrong>, CheckFault>
+    ensures { HasLocalCells row.now → IfOk result (Judges (IsLawfulLocal row.now)) }
+{
+    let Some(id) = blob_at(row, 2) else {
+        return Ok(Some(Wrong::Cell));
+    };
+    let Some(number) = count_at(row, 3) else {
+        return Ok(Some(Wrong::Cell));
+    };
+    let Some(text) = text_at(row, 4) else {
+        return Ok(Some(Wrong::Cell));
+    };
+    if number >= 1 << 32 {
+        return Ok(Some(Wrong::Cell));
+    }
+    if !is_document_id(id) {
+        return Ok(Some(Wrong::Name));
+    }
+    if !is_body_text(alloc, text)? {
+        return Ok(Some(Wrong::Text));
+    }
+    Ok(None)
+}
+
+/// Tells what is wrong with the row of a local document, whose database is there or is not.
+fn judge_owned(alloc: Global, row: &Row, there: bool) -> Result<Option<Wrong>, CheckFault>
+    ensures { HasLocalCells row.now → IfOk result (Accepts ((there ≡ true) × IsLawfulLocal row.now)) }
+{
+    if !there {
+        return Ok(Some(Wrong::Unowned));
+    }
+    judge_row(alloc, row)
+}
+
+/// Checks the row of a local document.
+pub(crate) fn check_local<S: Alter>(
+    alloc: Global,
+    conn: &mut Connection<S>,
+    row: &Row,
+) -> Result<Option<Wrong>, CheckFault>
+    ensures { Inspects S.Store IsShaped conn.old conn.new (λ trees found. HasLocalCells row.now → Accepts (IsLocalRow trees row.now) found) result }
+{
+    let length = find_length(conn, &whole_or_zero(row, 1))?;
+    judge_owned(alloc, row, length.is_some())
+}

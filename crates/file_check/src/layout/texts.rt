@@ -1,0 +1,60 @@
+//! The texts of values: security objects and bodies.
+
+ghost use Rattle.std.specs.Prelude.{◌≡◌, ◌≢◌, ◌↔◌, ◌≤◌, IfOk, IsTrue, MatchOption, ⊤};
+ghost use Rattle.couch_json.specs.Canonical.{canonical};
+ghost use Rattle.couch_json.specs.Lawful.{IsLawful};
+ghost use Rattle.couch_json.specs.View.{view};
+ghost use Rattle.policy.specs.Security.{is_security};
+ghost use Rattle.sqlite_value.specs.declared.value.Value.TheVariants.{Text};
+ghost use Rattle.store.specs.Lawful.{IsBody};
+ghost use Rattle.tables.specs.Rows.{json_in};
+ghost use Rattle.file_check.specs.Texts.{IsBodyText, IsSecurityText};
+
+use crate::finding::CheckFault;
+use couch_json::{Json, JsonFault, canon};
+use policy::{Security, SecurityFault};
+use std::alloc::Global;
+
+/// Reads the value of a canonical text, if the text is canonical.
+#[tactic(auto, using(crate::proofs::RowForms::unspelled))]
+fn read_canonical(alloc: Global, text: &[u8]) -> Result<Option<Json>, CheckFault>
+    ensures value { IfOk result (λ found. MatchOption found (text.now ≢ canonical (json_in (Text text.now))) (λ value. (view value ≡ json_in (Text text.now)) × (text.now ≡ canonical (view value)))) }
+    ensures lawful { IfOk result (λ found. MatchOption found ⊤ (λ value. IsLawful (view value))) }
+{
+    let value = match couch_json::read(alloc, text) {
+        Ok(value) => value,
+        Err(JsonFault::Memory) => return Err(CheckFault::Memory),
+        Err(_) => return Ok(None),
+    };
+    let spelled = canon(alloc, &value)?;
+    if spelled.as_bytes() == text {
+        Ok(Some(value))
+    } else {
+        Ok(None)
+    }
+}
+
+/// Tells whether the text is that of a security object.
+pub(crate) fn is_security_text(alloc: Global, text: &[u8]) -> Result<bool, CheckFault>
+    ensures { IfOk result (λ is. IsTrue is ↔ IsSecurityText text.now) }
+{
+    let Some(value) = read_canonical(alloc, text)? else {
+        return Ok(false);
+    };
+    match Security::read(alloc, &value) {
+        Ok(_) => Ok(true),
+        Err(SecurityFault::Shape) => Ok(false),
+        Err(SecurityFault::Memory) => Err(CheckFault::Memory),
+    }
+}
+
+/// Tells whether the text is that of the body of a document.
+pub(crate) fn is_body_text(alloc: Global, text: &[u8]) -> Result<bool, CheckFault>
+    ensures ok { IfOk result (λ is. IsTrue is ↔ IsBodyText text.now) }
+    ensures lawful { IfOk result (λ is. IsTrue is → IsLawful (json_in (Text text.now))) }
+{
+    let Some(value) = read_canonical(alloc, text)? else {
+        return Ok(false);
+    };
+    Ok(value.is_object() && value.nests_within(100))
+}
