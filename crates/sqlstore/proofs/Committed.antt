@@ -1,12 +1,12 @@
 -- What a store makes of writes that are committed together.
-use Rattle.sqlstore.proofs.Common.{Addition, AreAcceptable, AreDue, CommitFault, Damaged, Database, Failed, Ghosts, HasCleanDisk, Held, IfThere, IsHeld, IsUnwritten, List, Memory, NumberValues, Some, StoreFault, Trees, WasStore, ap, arith, contents_in, database_of, length, numbers_in, state, subst, sym, writings_in, ℕ, ℤ, ∥∥₁_elim, ◌+◌, ◌<◌, ◌^◌, ◌≡◌}
+use Rattle.sqlstore.proofs.Common.{Addition, AreAcceptable, AreDue, CommitFault, Damaged, Database, Failed, Ghosts, HasCleanDisk, Held, IfThere, IsHeld, IsUnwritten, List, Memory, NumberValues, Some, StoreFault, Trees, WasStore, ap, arith, contents_in, database_of, length, numbers_in, state, subst, sym, writings_in, ℕ, ℤ, ∥∥₁_elim, ◌+◌, ◌<◌, ◌≤◌, ◌^◌, ◌≡◌}
 use Rattle.std.specs.FinMap as finite
 use Rattle.store.specs.Contents.{IsThereWith}
 use Rattle.store.specs.Database as store
 use Rattle.sqlstore.specs.Causes.{IsJudged}
 use Rattle.sqlstore.specs.Commits.{IsToldAs, IsUncommitted}
 use Rattle.transactions.specs.declared.commit_fault.CommitFault.TheVariants as write
-use Rattle.sqlstore.proofs.Answering.{IsThere}
+use Rattle.sqlstore.proofs.Answering.{IsThere, failed_later}
 use Rattle.transactions.proofs.Committing.{length-writings_in}
 use Rattle.sqlstore.proofs.Standing.{indexed_store}
 use Rattle.transactions.specs.Indexing.{IsIndexedStore, IsSoundIndexed}
@@ -55,3 +55,10 @@ module _ {S : Type 0} (g : Ghosts S) (Fits : Database → Type 0) (old new origi
   sound was held clean is fits none =
       ∥∥₁_elim (held (was clean) is) (λ p q. absurd p)
       (λ h. none (clean, λ up. (subst IsIndexedStore (sym (h.now up)) (indexed_store h), subst Fits (sym (h.now up)) fits)))
+
+-- what is told of writes that were not committed is so of an earlier count of faults
+pub uncommitted_later : {S : Type 0} (g : Ghosts S) (a b c : ℕ) (honest : Type 0) (f : StoreFault) → a ≤ b → IsUncommitted b c honest f → IsUncommitted a c honest f
+uncommitted_later g a b c honest Memory up h = h
+uncommitted_later g a b c honest Failed up h = failed_later g a b c up h
+uncommitted_later g a b c honest Damaged up h = h
+uncommitted_later g a b c honest f up h = absurd h

@@ -17,7 +17,10 @@ pub mod LeafRows
 pub mod LostRows
 mod OpenedAgain
 pub mod KnownCounts
+pub mod MarkCounts
+pub mod MarkChanges
 pub mod OtherKnown
+pub mod MarkRows
 pub mod EarlierKnown
 pub mod Making
 pub mod Lemmas

@@ -1,6 +1,7 @@
 pub mod Causes
 pub mod Reading
 pub mod Listing
+pub mod Marks
 pub mod Standing
 pub mod Model
 pub mod Commits

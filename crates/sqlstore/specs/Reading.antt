@@ -14,6 +14,7 @@ use Rattle.tables.specs.Shown.{revision_shown}
 use Rattle.tree.specs.Revision.{Revision}
 use Rattle.index.specs.declared.declaration.Declaration.{Declaration}
 use Rattle.sqlstore.specs.declared.document_count.DocumentCount.{DocumentCount}
+use Rattle.sqlstore.specs.declared.known_counts.KnownCounts.{KnownCounts}
 use Rattle.sqlstore.specs.declared.known_database.KnownDatabase.{KnownDatabase}
 
 -- the number, the security object and the sequence of a database
@@ -50,6 +51,14 @@ count_kept deleted k = if deleted then k.deleted else k.live
 -- the same database, with this count
 abbrev pub with_count : Bool → DocumentCount → KnownDatabase → KnownDatabase
 with_count deleted count k = if deleted then record k { deleted = Some count } else record k { live = Some count }
+
+-- both counts, each where it was counted
+abbrev pub counts_of : KnownDatabase → KnownCounts
+counts_of k = record { live = k.live; deleted = k.deleted }
+
+-- the same database, with these counts
+abbrev pub with_counts : KnownCounts → KnownDatabase → KnownDatabase
+with_counts counts k = record k { live = counts.live; deleted = counts.deleted }
 
 -- of what a query shows of its row
 abbrev pub found_shown : Row → FoundValues

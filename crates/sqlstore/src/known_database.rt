@@ -3,11 +3,13 @@
 ghost use Rattle.std.specs.Prelude.{◌≡◌, IfSome};
 ghost use Rattle.sqlite_trees.specs.Tree.{Trees};
 ghost use Rattle.sqlstore.specs.Listing.{all_count};
-ghost use Rattle.sqlstore.specs.Reading.{at_sequence, count_kept, with_count, without_indexes};
+ghost use Rattle.sqlstore.specs.Marks.{AreCountsAt};
+ghost use Rattle.sqlstore.specs.Reading.{at_sequence, count_kept, counts_of, with_count, with_counts, without_indexes};
 ghost use Rattle.sqlstore.specs.Standing.{IsKnown};
 ghost use Rattle.transactions.specs.Indexing.{AreKnownIndexes};
 
 use crate::document_count::DocumentCount;
+use crate::known_counts::KnownCounts;
 use index::Declaration;
 use store::DbName;
 use tables::FoundDatabase;
@@ -98,6 +100,36 @@ impl KnownDatabase {
         if deleted { self.deleted } else { self.live }
     }
 
+    /// Returns both counts, each where it was counted.
+    fn counts(&self) -> KnownCounts
+        ensures { result ≡ counts_of self.now }
+    {
+        KnownCounts {
+            live: self.live,
+            deleted: self.deleted,
+        }
+    }
+
+    /// Makes of it what is known with these counts.
+    fn with_counts(self, counts: KnownCounts) -> KnownDatabase
+        ensures { result ≡ with_counts counts self }
+    {
+        let KnownDatabase {
+            name,
+            found,
+            live: _,
+            deleted: _,
+            indexes,
+        } = self;
+        KnownDatabase {
+            name,
+            found,
+            live: counts.live,
+            deleted: counts.deleted,
+            indexes,
+        }
+    }
+
     /// Makes of it what is known after the documents were counted whose winner is marked so.
     fn with_count(self, deleted: bool, count: DocumentCount) -> KnownDatabase
         ensures { result ≡ with_count deleted count self }
@@ -117,6 +149,35 @@ impl KnownDatabase {
             indexes,
         }
     }
+}
+
+/// Returns the counts of the database of this number, where one of them is known.
+pub(crate) fn find_counts(known: &Option<KnownDatabase>, number: &i64) -> Option<KnownCounts>
+    ensures { (trees : Trees) → IsKnown trees known.now → IfSome result (λ counts. AreCountsAt counts number.now trees) }
+{
+    let known = known.as_ref()?;
+    if known.found.number != *number {
+        return None;
+    }
+    if known.live.is_none() && known.deleted.is_none() {
+        return None;
+    }
+    Some(known.counts())
+}
+
+/// Returns what is known, with these counts of the database of this number, where it is the known one.
+pub(crate) fn keep_counts(
+    known: Option<KnownDatabase>,
+    number: &i64,
+    counts: KnownCounts,
+) -> Option<KnownDatabase>
+    ensures { (trees : Trees) → IsKnown trees known → AreCountsAt counts number.now trees → IsKnown trees result }
+{
+    let known = known?;
+    if known.found.number != *number {
+        return Some(known);
+    }
+    Some(known.with_counts(counts))
 }
 
 /// Returns how many documents of the database of this number have a winner that is marked so, where that

@@ -9,6 +9,7 @@ mod committing;
 mod counting;
 mod find;
 mod listing_rows;
+mod marking;
 mod one_document;
 mod page_rows;
 mod rows;

@@ -128,7 +128,7 @@ impl<S: Alter + Drop> Store for SqlStore<S> {
         if !has_room(found.sequence, writes.len()) {
             return Err(StoreFault::Full);
         }
-        self.append(name, &found.number, found.sequence, writes)
+        self.append_counted(name, &found.number, found.sequence, writes)
     }
 
     #[tactic(auto, using(crate::proofs::Answering::reads, crate::proofs::Answering::stands_then))]

@@ -2,6 +2,8 @@ use Rattle.sqlstore.proofs.Lemmas.{AreDue, Database, Held, IsKnown, IsWritten, N
 use Rattle.transactions.specs.Indexing.{AreKnownIndexes}
 use Rattle.sqlstore.proofs.Common.{IsStanding}
 use Rattle.sqlstore.proofs.Committed.{due_at, sound, told as told_of}
+use Rattle.sqlstore.proofs.MarkRows.{written_elsewhere}
+use Rattle.sqlstore.specs.Marks.{KeepsElsewhere, documents_at, ids_of}
 use Rattle.sqlstore.proofs.sql_store.SqlStore.append.Goals as goal
 
 pub invariant_of-self : goal.invariant_of-self
@@ -86,3 +88,23 @@ returns-in-Err-clause-told g c =
     ∥∥₁_elim (s.standing.known_so (e.turns.clean honest.0) honest.1) (λ p q. absurd p) (λ k.
     sound g.S.Store (λ (d : Database). AreKnownIndexes c.take_indexes-known.result.1 n d.trees × AreDue (additions c.args.writes.now) name n c.args.sequence d.trees) s.conn c.commit_writes.new.conn s.origin.value s.last.value e.turns.clean s.standing.held honest.0 honest.1
     (c.take_indexes-known.ensures.indexes trees (subst (IsKnown trees) (sym c.take-was.ensures.value) k), c.requires.due (e.turns.clean honest.0, honest.1)) none))
+
+pub returns-in-Ok-clause-elsewhere : goal.returns-in-Ok-clause-elsewhere
+returns-in-Ok-clause-elsewhere g c honest =
+    let s = c.args.self.now in
+    let e = c.in-Ok.ensures in
+    let new = state g.S.Store c.commit_writes.new.conn in
+    let name = c.args.name.now in
+    let n = c.args.number.now in
+    let ws = c.args.writes.now in
+    let all = additions ws in
+    let trees = (state g.S.Store s.last.value).now.trees in
+    let every = λ (k : IsKnown trees s.known) (t : Trees) (same : t ≡ trees).
+    subst (AreKnownIndexes c.take_indexes-known.result.1 n) (sym same) (c.take_indexes-known.ensures.indexes trees (subst (IsKnown trees) (sym c.take-was.ensures.value) k)) in
+    subst (λ (h : Held g.row.S.Denot). ∥ KeepsElsewhere (ids_of ws) (documents_at trees n) (documents_at (state g.S.Store h).now.trees n) ∥₁) (sym c.of.ensures)
+    (told_knowing g.S.Store s.conn c.commit_writes.new.conn s.origin.value s.last.value e.turns s.standing e.done (λ (d : Database). ∥ KeepsElsewhere (ids_of ws) (documents_at d.trees n) (documents_at new.now.trees n) ∥₁)
+    (λ k clean was is store same.
+    let here = subst (AreDue all name n c.args.sequence) (sym same) (c.requires.due (was, is)) in (
+      (appends new.now name _ _ store same all n c.args.sequence (c.requires.due (was, is)) (e.ok name clean store (every k _ same))).0,
+      ∣ written_elsewhere ws name here.row n (state g.S.Store s.conn).now new.now here.numbered (e.ok name clean store (every k _ same) here).0 ∣₁,
+    )) ∥∥₁_prop honest.0 honest.1)

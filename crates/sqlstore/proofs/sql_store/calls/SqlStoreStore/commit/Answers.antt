@@ -19,8 +19,8 @@ returns-then-not-has_room-clause-caused g c honest =
     let has : c.has_room.result ≡ true = c.has_room.ensures.1 (omega (arith, room, count)) in
     absurd (true_not_false c.has_room.result has (search rules)))
 
-pub append-requires-clause-due : goal.append-requires-clause-due
-append-requires-clause-due g c honest =
+pub append_counted-requires-clause-due : goal.append_counted-requires-clause-due
+append_counted-requires-clause-due g c honest =
     let s = c.args.self.now in
     let mid = c.find.new.self in
     let name = c.args.name.now in

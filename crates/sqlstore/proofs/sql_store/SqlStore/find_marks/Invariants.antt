@@ -1,0 +1,10 @@
+use Rattle.sqlstore.proofs.Common.{Stands, is_honest, trees_of}
+use Rattle.sqlstore.specs.Marks.{AreMarks, documents_at}
+use Rattle.sqlstore.proofs.sql_store.SqlStore.find_marks.Given as goal
+
+-- the store stands as it was, and the marks are those of its documents
+abbrev pub invariant-loop-write : goal.invariant-loop-write
+invariant-loop-write g l = record {
+  stands : Stands g.S.Store l.initial.self l.self;
+  marks : is_honest g.S.Store l.self → AreMarks l.marks (documents_at (trees_of g.S.Store l.initial.self) l.number);
+}
