@@ -7,7 +7,7 @@ use Rattle.std.specs.Str.Parse.{digits_value}
 use Rattle.clap.specs.declared.builder.ArgAction.TheVariants.{Set, Append, SetTrue}
 use Rattle.clap.specs.Words.{App, Kinds, Row, Rule, Shape, Text, all_of, fault_of, first_of, new_app, new_rule, subcommand_of, with_rule, with_subcommand}
 use Rattle.command_line.specs.declared.plans.Plan.{Plan}
-use Rattle.command_line.specs.declared.plans.Plan.TheVariants.{Lab, Serve, Sync}
+use Rattle.command_line.specs.declared.plans.Plan.TheVariants.{Check, Lab, Serve, Sync}
 use Rattle.command_line.specs.declared.plans.SyncPlan.{SyncPlan}
 use Rattle.command_line.specs.declared.plans.SyncSide.{SyncSide}
 use Rattle.command_line.specs.declared.plans.SyncSide.TheVariants.{File, Address}
@@ -60,13 +60,21 @@ abbrev pub sync_command : Shape
 sync_command = (with_rule (with_rule (with_rule (with_rule sync_sides
     (optional_option (codes "user"))) (flag (codes "create"))) (optional_option (codes "cache"))) admin_rule).top
 
+-- `check --file F [--cache MB]`
+abbrev pub check_command : Shape
+check_command = (with_rule (with_rule (command_named (codes "check")) (required_option (codes "file"))) (optional_option (codes "cache"))).top
+
 -- a command that has to be followed by another
 abbrev pub bare_command : App
 bare_command = record { top = record ((new_app (codes "couchd")).top) { disable_help_flag = true; disable_help_subcommand = true; subcommand_required = true }; subs = [] }
 
+-- the commands that answer requests
+abbrev pub answering_commands : App
+answering_commands = with_subcommand (with_subcommand (with_subcommand bare_command lab_command) serve_command) sync_command
+
 -- the program's commands
 abbrev pub couchd_command : App
-couchd_command = with_subcommand (with_subcommand (with_subcommand bare_command lab_command) serve_command) sync_command
+couchd_command = with_subcommand answering_commands check_command
 
 -- ---- numbers
 
@@ -140,6 +148,8 @@ pub data Asked : Type 0 where
   serve_asked : ServerAsked → Asked
   -- to copy a database
   sync_asked : SyncAsked → Asked
+  -- to check the file at this path, with so many megabytes of it in memory at most
+  check_asked : List ℕ → ℕ → Asked
 
 -- the names of admins among the words
 abbrev pub admins_in : List Row → List Text
@@ -216,11 +226,16 @@ sync_asked_by rows =
     (side_in (first_of (codes "to") rows) (first_of (codes "address") rows))) (first_of (codes "db") rows))
     (side_in (first_of (codes "from") rows) (first_of (codes "from-address") rows))) (first_of (codes "session") rows)) (first_of (codes "secret") rows)
 
+-- what the words after `check` ask for
+abbrev pub check_asked_by : List Row → Option Asked
+check_asked_by rows = option_and_then (λ file. option_map (check_asked file) (cache_in (first_of (codes "cache") rows))) (first_of (codes "file") rows)
+
 -- what the command of this name and what clap made of its words ask for
 abbrev pub asked_at : Text → List Row → Option Asked
 asked_at name rows =
     if bytes_eq name (codes "lab") then lab_asked_by rows
-    else (if bytes_eq name (codes "serve") then serve_asked_by rows else (if bytes_eq name (codes "sync") then sync_asked_by rows else None))
+    else (if bytes_eq name (codes "serve") then serve_asked_by rows else (if bytes_eq name (codes "sync") then sync_asked_by rows
+    else (if bytes_eq name (codes "check") then check_asked_by rows else None)))
 
 -- the same, where clap has nothing to refuse
 abbrev pub asked_unless : Kinds → Option (Text × List Row) → Option Asked
@@ -257,3 +272,4 @@ command_of (Lab secret admins) = lab_asked (string_bytes secret) (map string_byt
 command_of (Serve secret file port conns at_once cache admins) =
     serve_asked (record { secret = string_bytes secret; file = string_bytes file; port = port; conns = conns; at_once = at_once; cache = cache; admins = map string_bytes admins.items })
 command_of (Sync plan) = sync_asked (sync_of plan)
+command_of (Check file cache) = check_asked (string_bytes file) cache

@@ -1,11 +1,16 @@
 //! The command line.
 
-ghost use Rattle.std.specs.Prelude.{◌≡◌, ◌≢◌, ◌≤◌, None, Some, [], false, IfErr, IfOk, IfSome, codes, map, option_and_then, option_map, string_bytes, unwrap_or};
+ghost use Rattle.std.specs.Prelude.{◌≡◌, ◌≢◌, ◌≤◌, None, Some, [], false, IfErr, IfOk, IfSome, codes, map, option_and_then, option_map, string_bytes};
+ghost use Rattle.std.specs.Prelude.{unwrap_or};
 ghost use Rattle.std.specs.Char.{is_ascii_digit};
 ghost use Rattle.std.specs.List.{list_all};
 ghost use Rattle.clap.specs.declared.builder.command.Command.TheViews.{out-Command as fields_of};
-ghost use Rattle.clap.specs.Words.{all_of, app_of, fault_of, first_of, found_of, kind_of, rows_of, rule_of, shape_of, subcommand_of, subcommand_rows_of, with_rule};
-ghost use Rattle.command_line.specs.Plan.{admin_rule, asked_at, asked_by, command_of, bare_command, command_named, couchd_command, are_apart, can_be_made, flag, is_file, is_given, is_header_byte, is_numeral, lab_asked_by, lab_command, number_between, number_or, optional_option, port_in, required_option, serve_asked_by, serve_command, side_in, side_of, sync_asked_by, sync_command, sync_of, sync_options, sync_sides, user_in};
+ghost use Rattle.clap.specs.Words.{all_of, app_of, fault_of, first_of, found_of, kind_of, rows_of, rule_of, shape_of, subcommand_of, subcommand_rows_of};
+ghost use Rattle.clap.specs.Words.{with_rule};
+ghost use Rattle.command_line.specs.Plan.{admin_rule, answering_commands, asked_at, asked_by, command_of, bare_command, command_named, couchd_command};
+ghost use Rattle.command_line.specs.Plan.{are_apart, can_be_made, check_asked_by, check_command, flag, is_file, is_given, is_header_byte, is_numeral};
+ghost use Rattle.command_line.specs.Plan.{lab_asked_by, lab_command, number_between, number_or, optional_option, port_in, required_option, serve_asked_by};
+ghost use Rattle.command_line.specs.Plan.{serve_command, side_in, side_of, sync_asked_by, sync_command, sync_of, sync_options, sync_sides, user_in};
 
 use crate::plans::{Plan, PlanFault, SyncPlan, SyncSide};
 use clap::error::ErrorKind;
@@ -56,9 +61,17 @@ fn parse<'a>(alloc: Global, words: &'a [String]) -> Result<ArgMatches<'a>, Error
     command.try_get_matches_from(words)
 }
 
-/// Returns the command `couchd`, with the commands `lab`, `serve` and `sync`.
+/// Returns the command `couchd`, with the commands `lab`, `serve`, `sync` and `check`.
 fn couchd_command<'a>(alloc: Global) -> Result<Command<'a>, AllocError>
     ensures { IfOk result (λ command. app_of command ≡ couchd_command) }
+{
+    let couchd = answering_commands(alloc)?;
+    couchd.subcommand(check_command(alloc)?)
+}
+
+/// Returns the command `couchd` with the commands that answer requests: `lab`, `serve` and `sync`.
+fn answering_commands<'a>(alloc: Global) -> Result<Command<'a>, AllocError>
+    ensures { IfOk result (λ command. app_of command ≡ answering_commands) }
 {
     let couchd = bare_command(alloc);
     let couchd = couchd.subcommand(lab_command(alloc)?)?;
@@ -139,6 +152,16 @@ fn sync_options<'a>(alloc: Global) -> Result<Command<'a>, AllocError>
     let sync = add_required_option(alloc, sync, "session")?;
     let sync = add_required_option(alloc, sync, "db")?;
     add_required_option(alloc, sync, "target-db")
+}
+
+/// Returns the command `check --file F [--cache MB]`.
+fn check_command<'a>(alloc: Global) -> Result<Command<'a>, AllocError>
+    ensures shape { IfOk result (λ command. shape_of command ≡ check_command) }
+    ensures local { IfOk result (λ command. (fields_of command).has_globals ≡ false) }
+{
+    let check = plain_command(alloc, "check");
+    let check = add_required_option(alloc, check, "file")?;
+    add_optional_option(alloc, check, "cache")
 }
 
 /// Returns a command of this name without words, and without help.
@@ -239,6 +262,8 @@ fn plan_at(alloc: Global, name: &str, matches: &ArgMatches<'_>) -> Result<Plan, 
         serve_plan(alloc, matches)
     } else if name == "sync" {
         sync_plan(alloc, matches)
+    } else if name == "check" {
+        check_plan(alloc, matches)
     } else {
         Err(PlanFault::Usage)
     }
@@ -310,6 +335,16 @@ fn sync_plan(alloc: Global, matches: &ArgMatches<'_>) -> Result<Plan, PlanFault>
     Ok(Plan::Sync(plan))
 }
 
+/// Returns the plan of the words after `check`.
+fn check_plan(alloc: Global, matches: &ArgMatches<'_>) -> Result<Plan, PlanFault>
+    ensures ok { IfOk result (λ plan. check_asked_by (rows_of (found_of matches.now)) ≡ Some (command_of plan)) }
+    ensures usage { result ≡ Err PlanFault.Usage → check_asked_by (rows_of (found_of matches.now)) ≡ None }
+{
+    let file = text_at(alloc, matches, "file")?;
+    let cache = number_or(matches, "cache", CACHE, GREATEST_CACHE)?;
+    Ok(Plan::Check { file, cache })
+}
+
 /// Tells whether a pass can be made: its sides are apart, and a database is created in a file alone.
 fn can_be_made(plan: &SyncPlan) -> bool
     ensures { result ≡ can_be_made (sync_of plan.now) }
@@ -354,8 +389,10 @@ fn side_at(
     file: &str,
     address: &str,
 ) -> Result<SyncSide, PlanFault>
-    ensures ok { IfOk result (λ side. side_in (first_of file.now (rows_of (found_of matches.now))) (first_of address.now (rows_of (found_of matches.now))) ≡ Some (side_of side)) }
-    ensures usage { result ≡ Err PlanFault.Usage → side_in (first_of file.now (rows_of (found_of matches.now))) (first_of address.now (rows_of (found_of matches.now))) ≡ None }
+    ensures ok { IfOk result
+        (λ side. side_in (first_of file.now (rows_of (found_of matches.now))) (first_of address.now (rows_of (found_of matches.now))) ≡ Some (side_of side)) }
+    ensures usage { result ≡ Err PlanFault.Usage
+        → side_in (first_of file.now (rows_of (found_of matches.now))) (first_of address.now (rows_of (found_of matches.now))) ≡ None }
 {
     let file = option_at(alloc, matches, file)?;
     let address = option_at(alloc, matches, address)?;

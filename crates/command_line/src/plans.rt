@@ -33,6 +33,13 @@ pub enum Plan {
     /// --target-db E [--user U] [--create] [--cache MB] [ADMIN]...`: copy what a database has and another
     /// lacks.
     Sync(SyncPlan),
+    /// `check --file F [--cache MB]`: tell whether a file is a store of this server.
+    Check {
+        /// The path of the file.
+        file: String,
+        /// How many megabytes of the file's pages are kept in memory at most, 1 to 4,096.
+        cache: u32,
+    },
 }
 
 /// What is to be copied, from where and to where, and in whose name.

@@ -1,17 +1,17 @@
-//! The program `couchd`: a laboratory that plays a script of nodes and connections, a server, and what copies
-//! a database by a replication pass.
+//! The program `couchd`: a laboratory that plays a script of nodes and connections, a server, what copies a
+//! database by a replication pass, and what checks a file.
 #![tactic(auto)]
 
 use command_line::{CommandFault, Plan, plan, words_of};
 use lab::play_input;
-use server::serve_file;
+use server::{check_file, serve_file};
 use std::process::ExitCode;
 use sync::sync;
 
 /// Reads the command line and does what it says. The status is 0 at the end; 1 for a fault, with
 /// `couchd: ` and `file`, `socket`, `line N` or `memory` on standard error; 2 where the command line
 /// is invalid, with `couchd: usage` there; 3 for a pass that is done and had documents refused; 4 for one
-/// that stopped.
+/// that stopped; 5 for a file that is no store of this server.
 fn main(rt: HostRuntime) -> ExitCode {
     match run(&rt) {
         Ok(status) => ExitCode::from(status),
@@ -49,5 +49,6 @@ fn run(rt: &HostRuntime) -> Result<u8, CommandFault> {
             )?)
         }
         Plan::Sync(plan) => Ok(sync(rt, &plan)?),
+        Plan::Check { file, cache } => Ok(check_file(rt, file.as_str(), cache)?),
     }
 }

@@ -35,6 +35,9 @@ impl Kind for CommandLines {
                 show_asked(front, secret.as_str(), &admins)
             }
             Ok(Plan::Sync(plan)) => show_sync(self.alloc, &plan),
+            Ok(Plan::Check { file, cache }) => {
+                Ok(format!(in self.alloc; "check {file}, cache {cache} MB")?.into_bytes())
+            }
             Err(PlanFault::Memory) => Err(RowsFault::Memory),
             Err(fault) => show_fault(self.alloc, CommandFault::from(fault)),
         }

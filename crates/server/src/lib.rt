@@ -4,6 +4,7 @@
 
 mod acceptance;
 mod address;
+mod checking;
 mod listening;
 mod many;
 mod page_cache;
@@ -12,6 +13,7 @@ mod serving;
 mod store_file;
 
 pub use acceptance::Acceptance;
+pub use checking::{check_file, check_store};
 pub use listening::LoggedListener;
 pub use many::{serve_many, serve_sockets};
 pub use port::{serve_file, serve_store};

@@ -94,7 +94,7 @@ fn make_private(rt: &HostRuntime, path: &str) {
 }
 
 /// Opens the file at a path and its log, or makes them.
-fn open_pair<S: Start>(
+pub(crate) fn open_pair<S: Start>(
     rt: &HostRuntime,
     path: &str,
     start: S,
@@ -118,7 +118,7 @@ fn open_pair<S: Start>(
 }
 
 /// Connects to a file and its log, of which so many pages are kept in memory.
-fn connect<D: Disk + Drop>(
+pub(crate) fn connect<D: Disk + Drop>(
     rt: &HostRuntime,
     files: Files<D>,
     pages: usize,
@@ -169,7 +169,7 @@ fn open_tables<S: Alter + Drop>(
 }
 
 /// Tells what fault an error of SQLite is.
-fn file_fault(error: Error) -> ProgramFault
+pub(crate) fn file_fault(error: Error) -> ProgramFault
     ensures { (result ≡ ProgramFault.File) ⊎ (result ≡ ProgramFault.Memory) }
 {
     if error == Error::SqliteFailure(ErrorCode::OutOfMemory) {
