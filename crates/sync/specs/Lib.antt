@@ -6,3 +6,5 @@ pub mod Remotes
 pub mod Ending
 pub mod Configuring
 pub mod Creating
+pub mod Information
+pub mod Terminal

@@ -28,13 +28,9 @@ use world::World;
 
 /// Copies a database as the words of a command line say. The files are opened first, the source's and
 /// then the target's. Prints the report, and where standard error is a terminal it shows there how far
-/// the pass is. Returns the program's status.
+/// the pass is, and what is left. Returns the program's status.
 pub fn sync(rt: &HostRuntime, plan: &SyncPlan) -> Result<u8, ProgramFault> {
-    let mut watch = ProgressLine {
-        rt,
-        is_terminal: rt.stderr().is_terminal(),
-        is_begun: false,
-    };
+    let mut watch = ProgressLine::new(rt, rt.stderr().is_terminal());
     match (&plan.source, &plan.target) {
         (SyncSide::File(from), SyncSide::File(to)) => sync_files(rt, plan, from, to, &mut watch),
         (SyncSide::File(path), SyncSide::Address(address))
@@ -72,7 +68,7 @@ fn sync_tables<S: Alter + Drop>(
 }
 
 /// Copies a database of a store to one of another.
-fn sync_stores<R: Print + Eprint + AllocGlobal, S: Store + Drop>(
+fn sync_stores<R: Clock + Print + Eprint + AllocGlobal, S: Store + Drop>(
     rt: &R,
     plan: &SyncPlan,
     from: S,
@@ -80,8 +76,9 @@ fn sync_stores<R: Print + Eprint + AllocGlobal, S: Store + Drop>(
     watch: &mut ProgressLine<'_, R>,
 ) -> Result<u8, ProgramFault> {
     let alloc = rt.alloc();
-    let source = open_node(alloc, &plan.secret, &plan.admins, from)?;
+    let mut source = open_node(alloc, &plan.secret, &plan.admins, from)?;
     let target = open_target(alloc, plan, to)?;
+    watch.ask_source(alloc, plan, &mut source);
     let mut world = World::new(alloc, both(alloc, source, target)?);
     let Ok(repl) = world.start(configure(alloc, plan)?, 0, 1) else {
         return Err(ProgramFault::Memory);
@@ -160,7 +157,7 @@ fn sync_store<
 }
 
 /// Copies a database of a store to one of a server.
-fn push<R: Print + Eprint + AllocGlobal, S: Store + Drop, P: Side + Drop>(
+fn push<R: Clock + Print + Eprint + AllocGlobal, S: Store + Drop, P: Side + Drop>(
     rt: &R,
     plan: &SyncPlan,
     store: S,
@@ -173,7 +170,7 @@ fn push<R: Print + Eprint + AllocGlobal, S: Store + Drop, P: Side + Drop>(
 }
 
 /// Copies a database of a server to one of a store.
-fn pull<R: Print + Eprint + AllocGlobal, P: Side + Drop, S: Store + Drop>(
+fn pull<R: Clock + Print + Eprint + AllocGlobal, P: Side + Drop, S: Store + Drop>(
     rt: &R,
     plan: &SyncPlan,
     server: P,
@@ -201,7 +198,7 @@ fn sync_addresses<'a, R: Net<Stream = TcpStream> + Clock + Print + Eprint + Allo
 }
 
 /// Copies a database of a server to one of another.
-fn relay<R: Print + Eprint + AllocGlobal, P: Side + Drop, Q: Side + Drop>(
+fn relay<R: Clock + Print + Eprint + AllocGlobal, P: Side + Drop, Q: Side + Drop>(
     rt: &R,
     plan: &SyncPlan,
     from: P,
@@ -214,7 +211,7 @@ fn relay<R: Print + Eprint + AllocGlobal, P: Side + Drop, Q: Side + Drop>(
 }
 
 /// Plays the pass of a plan between two sides, and prints its report.
-fn play<R: Print + Eprint + AllocGlobal, F: Side, T: Side>(
+fn play<R: Clock + Print + Eprint + AllocGlobal, F: Side, T: Side>(
     rt: &R,
     plan: &SyncPlan,
     source: &mut F,
@@ -222,6 +219,7 @@ fn play<R: Print + Eprint + AllocGlobal, F: Side, T: Side>(
     watch: &mut ProgressLine<'_, R>,
 ) -> Result<u8, ProgramFault> {
     let alloc = rt.alloc();
+    watch.ask_source(alloc, plan, source);
     let mut pass = Replication::new(alloc, configure(alloc, plan)?)?;
     let mut out = io::writer(rt);
     let status = sync_sides(alloc, source, target, &mut pass, &mut out, watch)?;
