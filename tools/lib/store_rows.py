@@ -68,12 +68,17 @@ def is_body(text):
 
 
 def is_identifier(blob):
-    """Tells whether bytes may be the id of a document."""
+    """Tells whether bytes have the form of the id of a document."""
+    return 1 <= len(blob) <= 256 and (not blob.startswith(b"_") or bool(re.match(rb"_(design|local)/.", blob, re.DOTALL)))
+
+
+def is_text(blob):
+    """Tells whether bytes are UTF-8."""
     try:
-        text = blob.decode()
+        blob.decode()
     except UnicodeDecodeError:
         return False
-    return 1 <= len(blob) <= 256 and (not text.startswith("_") or bool(re.match(r"_(design|local)/.", text, re.DOTALL)))
+    return True
 
 
 def is_group(value):
@@ -121,7 +126,8 @@ def take_revisions(rows):
     for (db, id), document in found.items():
         for revision, parent in document.parents.items():
             need(parent is None or parent in document.parents, "revs", id, f"parent of {revision}")
-        need(all(leaf in document.held for leaf in document.leaves()), "revs", id, "leaf without a body")
+        leaves = set(document.parents) - set(document.parents.values())
+        need(leaves <= set(document.held), "revs", id, "leaf without a body")
     return found
 
 
@@ -134,7 +140,7 @@ def take_documents(rows, databases, documents):
     taken = set()
     for number, db, id, sequence, winner, deleted in rows["docs"]:
         need(db in databases, "docs", number, "database")
-        need(is_identifier(id), "docs", number, "id")
+        need(is_identifier(id) and is_text(id), "docs", number, "id")
         database = databases[db][1]
         need(1 <= sequence <= database.sequence, "docs", number, "sequence")
         need((db, sequence) not in taken, "docs", number, "sequence twice")
@@ -147,13 +153,13 @@ def take_documents(rows, databases, documents):
 
 
 def take_locals(rows, databases):
-    """Puts the local documents of the rows into their databases."""
+    """Puts the local documents of the rows into their databases. One whose id is no text is never asked for, and a store's all the same."""
     for number, db, id, n, body in rows["locals"]:
         need(db in databases, "locals", number, "database")
         need(is_identifier(id), "locals", number, "id")
         need(0 <= n < 2**32, "locals", number, "number")
         need(is_body(body), "locals", number, "body")
-        databases[db][1].locals[id.decode().removeprefix("_local/")] = n, json.loads(body)
+        databases[db][1].locals[id.decode(errors="replace").removeprefix("_local/")] = n, json.loads(body)
 
 
 def compare_declarations(rows, databases):
