@@ -6,7 +6,8 @@ ghost use Rattle.std.specs.List.{list_all};
 ghost use Rattle.couch_http.specs.Message.{message_of};
 ghost use Rattle.api.specs.RequestReading.{Says};
 ghost use Rattle.api.specs.Queried.{texts_of};
-ghost use Rattle.api.specs.Listings.{changes_asked, changes_query, count_in, is_count_text, key_in, listing_names, listing_query, range_asked, range_from, style_in};
+ghost use Rattle.api.specs.Listings.{changes_asked, changes_query, count_in, is_count_text, key_in};
+ghost use Rattle.api.specs.Listings.{listing_names, listing_query, range_asked, range_from, style_in};
 ghost use Rattle.api.specs.Queries.{are_named, flag_in, given_at};
 ghost use Rattle.api.specs.Refusals.{there_or};
 

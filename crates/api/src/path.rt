@@ -3,7 +3,8 @@
 ghost use Rattle.std.specs.Prelude.{◌≡◌, ◌++◌, ◌∷◌, IfOk, false, option_map, option_copied, string_bytes};
 ghost use Rattle.tree.specs.DocumentId.{is_local_id};
 ghost use Rattle.api.specs.RequestReading.{Says};
-ghost use Rattle.api.specs.Paths.{database_name_in, decoded_text, decoded_at, document_id_in, id_text_in, index_name_in, local_id_in, named_id_in, part_at, slash, text_if};
+ghost use Rattle.api.specs.Paths.{database_name_in, decoded_text, decoded_at, document_id_in, id_text_in};
+ghost use Rattle.api.specs.Paths.{index_name_in, local_id_in, named_id_in, part_at, slash, text_if};
 ghost use Rattle.api.specs.Refusals.{there_or};
 ghost use Rattle.std.specs.Str.{is_utf8};
 

@@ -5,7 +5,8 @@ ghost use Rattle.couch_http.specs.Message.{message_of};
 ghost use Rattle.couch_json.specs.View.{items_view, view};
 ghost use Rattle.api.specs.RequestReading.{Says};
 ghost use Rattle.api.specs.Queried.{choice_of, query_of, texts_of};
-ghost use Rattle.api.specs.Queries.{asked_by, asked_of_document, document_query, open_revisions, query_by, revision_asked, revision_by, revision_in, revision_query, revisions, revisions_in, revisions_listed};
+ghost use Rattle.api.specs.Queries.{asked_by, asked_of_document, document_query, open_revisions, query_by, revision_asked};
+ghost use Rattle.api.specs.Queries.{revision_by, revision_in, revision_query, revisions, revisions_in, revisions_listed};
 ghost use Rattle.api.specs.Refusals.{there_or};
 
 use crate::fault::RequestFault;

@@ -23,7 +23,9 @@ pub(crate) fn roles_in(alloc: Global, value: &str) -> Got<Vec<String>>
 
 /// Adds the role to the roles, where it isn't empty.
 fn push_role(alloc: Global, roles: &mut Vec<String>, role: &str) -> Got<()>
-    ensures { OnOk result (map string_bytes roles.new.items ≡ (if length role.now == 0 then map string_bytes roles.old.items else map string_bytes roles.old.items ++ role.now ∷ [])) }
+    ensures { OnOk result
+        (map string_bytes roles.new.items
+        ≡ (if length role.now == 0 then map string_bytes roles.old.items else map string_bytes roles.old.items ++ role.now ∷ [])) }
 {
     if role.is_empty() {
         return Ok(());

@@ -5,7 +5,8 @@ ghost use Rattle.std.specs.Char.{is_ascii_digit};
 ghost use Rattle.std.specs.List.{list_all};
 ghost use Rattle.httparse.specs.Grammar.{skip_ows, trim_ows};
 ghost use Rattle.couch_http.specs.Message.{header_field};
-ghost use Rattle.couch_http.specs.Fields.{same_name, values_of, decimal_after, length_text, content_length, request_length, has_transfer_encoding, lists_close, asks_close};
+ghost use Rattle.couch_http.specs.Fields.{same_name, values_of, decimal_after, length_text, content_length};
+ghost use Rattle.couch_http.specs.Fields.{request_length, has_transfer_encoding, lists_close, asks_close};
 ghost use Rattle.couch_http.specs.ReplyStream.{reply_length};
 ghost use Rattle.couch_http.specs.Stream.{IsStreamFault};
 

@@ -1,6 +1,7 @@
 //! Laws of the definitions alone: each function has an empty body, and its contract is the law.
 
-ghost use Rattle.couch_http.specs.Laws.{HasOneReading, GoesOnFromRest, StaysEnded, PiecesDoNotMatter, HasStreamFaults, HasOnePlaceEach, ComesWithLastByte, HeadsAreFound, RepliesHaveOneReading, RepliesAreReadBack};
+ghost use Rattle.couch_http.specs.Laws.{HasOneReading, GoesOnFromRest, StaysEnded, PiecesDoNotMatter, HasStreamFaults, HasOnePlaceEach};
+ghost use Rattle.couch_http.specs.Laws.{ComesWithLastByte, HeadsAreFound, RepliesHaveOneReading, RepliesAreReadBack};
 
 /// A stream holds one list of requests, and then stands in one way.
 pub fn one_reading()

@@ -9,7 +9,7 @@ use Rattle.name_map.specs.Seen.{NameMap}
 use Rattle.couch_json.specs.Key.{key, height, number_key, text_key, items_key, members_key}
 use Rattle.couch_json.specs.Lawful.{AreLawfulItems, HasAscendingNames, AreLawfulMembers}
 use Rattle.couch_json.specs.Range.{IsInRange}
-use Rattle.couch_json.specs.KeyFront.{FindsValue, FindsItems, FindsMembers, FindsNumber, FindsText}
+use Rattle.couch_json.specs.inner.KeyFront.{FindsValue, FindsItems, FindsMembers, FindsNumber, FindsText}
 use Rattle.couch_json.specs.Value.{Value, null, truth, whole, text, array, object, Items, no_items, item, Members, no_members, member, put, depth, items_depth, members_depth}
 use Rattle.couch_json.specs.View.{view, items_view, members_view}
 use Rattle.couch_json.specs.declared.value.Json.{Json, Null, Truth, Whole, Text, Array, Object, the_lemmas}

@@ -33,7 +33,7 @@ use Rattle.couch_json.specs.Nesting.{max_open, nests_too_deep}
 use Rattle.couch_json.specs.Reading.{value_of, items_of_data, members_of_data, whole_or_fault, value_or_fault, data_read, reading, data_read_within}
 use Rattle.couch_json.specs.declared.fault.JsonFault.{JsonFault}
 use Rattle.couch_json.specs.declared.fault.JsonFault.TheVariants.{Depth}
-use Rattle.couch_json.specs.Written.{data_of, items_data, members_data, value_tokens}
+use Rattle.couch_json.specs.inner.Written.{data_of, items_data, members_data, value_tokens}
 use Rattle.couch_json.proofs.Objects.{put_all-no_members}
 use Rattle.couch_json.proofs.OpenCounts.{passes, NoBad, nests_too_deep-tokens}
 use Rattle.couch_json.proofs.Readings.{data_read-IsUtf8}

@@ -17,7 +17,7 @@ use Rattle.couch_json.specs.Reading.{value_of}
 use Rattle.couch_json.specs.Said.{value_or_null, value_said, IsText, list_of_items, elements_of, elements_said, has_no_values, BeginsArray, members_of_value, members_said, has_no_members, with_last, IsBehind, BeginsObject, behind_comma}
 use Rattle.couch_json.specs.Value.{Value, array, object, Members, no_members, member}
 use Rattle.couch_json.specs.View.{items_of}
-use Rattle.couch_json.specs.Written.{data_of}
+use Rattle.couch_json.specs.inner.Written.{data_of}
 use Rattle.couch_json.proofs.ReadingBack.{of_json-outline, tokens-canonical, value-json_tokens_alone, value_of-data_of, whole_tree}
 
 -- ---- a tree is no deeper than it has tokens

@@ -6,7 +6,7 @@ use Rattle.serde_json.specs.Written.{compact_text, items_text, members_text}
 use Rattle.serde_json.proofs.Texts.{print-outline}
 use Rattle.couch_json.specs.Value.{Value, null, truth, whole, text, array, object, Items, no_items, item, Members, no_members, member}
 use Rattle.couch_json.specs.Canonical.{canonical, items_texts, members_texts}
-use Rattle.couch_json.specs.Written.{data_of, items_data, members_data, value_tokens}
+use Rattle.couch_json.specs.inner.Written.{data_of, items_data, members_data, value_tokens}
 
 regrouped_member : (name v rest : List ℕ) → quoted name ++ 58 ∷ (v ++ rest) ≡ (quoted name ++ 58 ∷ v) ++ rest
 regrouped_member name v rest = sym (append_assoc (quoted name) (58 ∷ v) rest)

@@ -14,7 +14,7 @@ use Rattle.serde_json.specs.Find.{as_integer}
 use Rattle.serde_json.specs.Read.{number_of, of_json, of_items, of_members, converted, max_depth}
 use Rattle.couch_json.proofs.Turns.{converted-array, converted-object, item_read, item_refused, items_over, member_read, member_refused, key_refused, members_over, whole_read}
 use Rattle.couch_json.proofs.Readings.{data_read-IsUtf8}
-use Rattle.couch_json.specs.Parsing.{IsRead, AreItemsRead, AreMembersRead, item_behind, with_item, put_whole}
+use Rattle.couch_json.specs.inner.Parsing.{IsRead, AreItemsRead, AreMembersRead, item_behind, with_item, put_whole}
 use Rattle.couch_json.specs.Reading.{data_read, value_of, items_of_data, members_of_data}
 use Rattle.couch_json.specs.Value.{Value, null, truth, whole, text, array, object, Items, no_items, item, Members, no_members, put}
 use Rattle.couch_json.specs.View.{view, items_view}

@@ -27,12 +27,14 @@ abbrev mutual
   collation (object ms) (object ns) = members_collation ms ns
   collation v w = nat_cmp (kind_rank v) (kind_rank w)
 
+  -- two arrays, element by element
   pub items_collation : Items → Items → Ordering
   items_collation no_items no_items = Equal
   items_collation no_items (item w ws) = Less
   items_collation (item v vs) no_items = Greater
   items_collation (item v vs) (item w ws) = ordering_then (collation v w) (items_collation vs ws)
 
+  -- two objects, member by member: the name, then the value
   pub members_collation : Members → Members → Ordering
   members_collation no_members no_members = Equal
   members_collation no_members (member name w ns) = Less

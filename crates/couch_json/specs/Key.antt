@@ -20,6 +20,7 @@ abbrev pub number_key : ℤ → List ℕ
 number_key n = bytes_high_first 9 (height n)
 
 abbrev mutual
+  -- the key of a value
   pub key : Value → List ℕ
   key null = 1 ∷ []
   key (truth false) = 2 ∷ []

@@ -12,11 +12,13 @@ abbrev pub IsBefore : List ℕ → Members → Type 0
 IsBefore name no_members = ⊤
 IsBefore name (member other v ms) = (slice_cmp nat_cmp name other ≡ Less) × IsBefore name ms
 
+-- each name stands before those behind it
 abbrev pub HasAscendingNames : Members → Type 0
 HasAscendingNames no_members = ⊤
 HasAscendingNames (member name v ms) = IsBefore name ms × HasAscendingNames ms
 
 abbrev mutual
+  -- a value that a `Json` may hold
   pub IsLawful : Value → Type 0
   IsLawful null = ⊤
   IsLawful (truth b) = ⊤
@@ -25,10 +27,12 @@ abbrev mutual
   IsLawful (array vs) = AreLawfulItems vs
   IsLawful (object ms) = HasAscendingNames ms × AreLawfulMembers ms
 
+  -- each element is lawful
   pub AreLawfulItems : Items → Type 0
   AreLawfulItems no_items = ⊤
   AreLawfulItems (item v vs) = IsLawful v × AreLawfulItems vs
 
+  -- each name is UTF-8, and each value lawful
   pub AreLawfulMembers : Members → Type 0
   AreLawfulMembers no_members = ⊤
   AreLawfulMembers (member name v ms) = IsUtf8 name × IsLawful v × AreLawfulMembers ms

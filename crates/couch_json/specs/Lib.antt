@@ -8,11 +8,9 @@ pub mod Collation
 pub mod View
 pub mod Nesting
 pub mod Reading
-pub mod Parsing
-pub mod Written
 pub mod Said
 pub mod FieldPath
 pub mod Key
 pub mod KeyCuts
-pub mod KeyFront
 pub mod Code
+pub mod inner

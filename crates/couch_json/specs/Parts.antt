@@ -49,9 +49,11 @@ members_in (text s) = None
 members_in (array vs) = None
 members_in (object ms) = Some ms
 
+-- the value is true or false
 abbrev pub is_truth : Value → Bool
 is_truth v = is_some (truth_in v)
 
+-- the value is a number
 abbrev pub is_whole : Value → Bool
 is_whole v = is_some (whole_in v)
 
@@ -59,6 +61,7 @@ is_whole v = is_some (whole_in v)
 abbrev pub is_text : Value → Bool
 is_text v = is_some (text_in v)
 
+-- the value is an array
 abbrev pub is_array : Value → Bool
 is_array v = is_some (items_in v)
 

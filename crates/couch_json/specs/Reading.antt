@@ -24,6 +24,7 @@ abbrev mutual
   value_of (serde.array ds) = option_map array (items_of_data ds)
   value_of (serde.object ms) = option_map object (members_of_data ms no_members)
 
+  -- the elements, where each of them is a value
   pub items_of_data : serde.Items → Option Items
   items_of_data serde.no_items = Some no_items
   items_of_data (serde.item d ds) = option_and_then (λ v. option_map (item v) (items_of_data ds)) (value_of d)

@@ -14,10 +14,12 @@ mutual
     array : Items → Value
     object : Members → Value
 
+  -- the elements of an array, in order
   pub data Items : Type 0 where
     no_items : Items
     item : Value → Items → Items
 
+  -- the members of an object, each a name and its value
   pub data Members : Type 0 where
     no_members : Members
     member : List ℕ → Value → Members → Members
@@ -43,10 +45,12 @@ abbrev mutual
   depth (array vs) = suc (items_depth vs)
   depth (object ms) = suc (members_depth ms)
 
+  -- the depth of the deepest element, and 0 of none
   pub items_depth : Items → ℕ
   items_depth no_items = 0
   items_depth (item v vs) = max (depth v) (items_depth vs)
 
+  -- the depth of the deepest value of a member, and 0 of none
   pub members_depth : Members → ℕ
   members_depth no_members = 0
   members_depth (member name v ms) = max (depth v) (members_depth ms)

@@ -1,6 +1,6 @@
 ghost use Rattle.std.specs.Prelude.{◌≡◌, ◌≢◌, ◌≤◌, ◌+◌, ◌*◌, ◌^◌, ℤ, IfOk, IfErr, OnErr, MatchOption, Some, None, string_bytes};
 ghost use Rattle.couch_json.specs.Key.{height, key};
-ghost use Rattle.couch_json.specs.KeyFront.{FindsItems, FindsMembers, FindsNumber, FindsText, FindsValue};
+ghost use Rattle.couch_json.specs.inner.KeyFront.{FindsItems, FindsMembers, FindsNumber, FindsText, FindsValue};
 ghost use Rattle.couch_json.specs.Lawful.{IsLawful};
 ghost use Rattle.couch_json.specs.Nesting.{max_open};
 ghost use Rattle.couch_json.specs.Range.{IsInRange};

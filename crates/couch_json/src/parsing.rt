@@ -2,7 +2,7 @@ ghost use Rattle.std.specs.Prelude.{◌≡◌, ◌≢◌, ◌<◌, length, optio
 ghost use Rattle.json.specs.Json.{value, items, members};
 ghost use Rattle.serde_json.specs.Data.{no_members as no_data};
 ghost use Rattle.serde_json.specs.Read.{of_json, of_items, of_members, converted};
-ghost use Rattle.couch_json.specs.Parsing.{IsRead, AreItemsRead, AreMembersRead, with_item, put_whole};
+ghost use Rattle.couch_json.specs.inner.Parsing.{IsRead, AreItemsRead, AreMembersRead, with_item, put_whole};
 ghost use Rattle.couch_json.specs.Value.{no_members};
 ghost use Rattle.couch_json.specs.View.{view, items_view, members_view};
 

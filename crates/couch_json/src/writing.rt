@@ -6,7 +6,7 @@ ghost use Rattle.couch_json.specs.Range.{IsInRange};
 ghost use Rattle.couch_json.specs.Reading.{reading};
 ghost use Rattle.couch_json.specs.Value.{array, object, whole, depth};
 ghost use Rattle.couch_json.specs.View.{view, items_view, members_view};
-ghost use Rattle.couch_json.specs.Written.{value_tokens};
+ghost use Rattle.couch_json.specs.inner.Written.{value_tokens};
 
 use crate::no_memory::Got;
 use crate::number::Number;

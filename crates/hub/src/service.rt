@@ -4,7 +4,8 @@ ghost use Rattle.std.specs.Prelude.{◌≡◌, ◌≢◌, ◌<◌, ◌≤◌, �
 ghost use Rattle.store.specs.Calls.{GoesOn};
 ghost use Rattle.hub.specs.Connections.{is_open, next_connection};
 ghost use Rattle.hub.specs.Parts.{ServesPart};
-ghost use Rattle.hub.specs.Service.{IsServed, Serves, ServesOrTurnsAway, bytes_of, end_after_farewell, end_after_replies, farewell, greatest_piece, greatest_reads};
+ghost use Rattle.hub.specs.Service.{IsServed, Serves, ServesOrTurnsAway, bytes_of, end_after_farewell};
+ghost use Rattle.hub.specs.Service.{end_after_replies, farewell, greatest_piece, greatest_reads};
 ghost use Rattle.std.specs.Io.KnownBytes.{Appends};
 ghost use Rattle.streams.specs.Writing.{Takes};
 

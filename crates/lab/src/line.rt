@@ -2,7 +2,8 @@
 
 ghost use Rattle.std.specs.Prelude.{◌≡◌, IfOk, option_map, option_and_then};
 ghost use Rattle.lab.specs.Words.{parts_at_space};
-ghost use Rattle.lab.specs.Script.{batch_repl_of, line_of, line_with, node_of, pass_line_with, public_of, conn_of, send_of, close_of, repl_of, turn_named, turn_of};
+ghost use Rattle.lab.specs.Script.{batch_repl_of, line_of, line_with, node_of, pass_line_with, public_of};
+ghost use Rattle.lab.specs.Script.{conn_of, send_of, close_of, repl_of, turn_named, turn_of};
 ghost use Rattle.lab.specs.Lines.{said_by};
 
 use crate::escapes::unescape;

@@ -3,7 +3,8 @@
 ghost use Rattle.std.specs.Prelude.{◌≡◌, IfOk, option_map};
 ghost use Rattle.repl.specs.Configuration.{batch_size};
 ghost use Rattle.lab.specs.Lines.{pass_said, session_said, side_said, side_then_said};
-ghost use Rattle.lab.specs.PassLines.{batch_in, batch_pass_of, pass_from, pass_named, pass_words_of, session_alone, session_and_user, session_of, side_of, side_then_of};
+ghost use Rattle.lab.specs.PassLines.{batch_in, batch_pass_of, pass_from, pass_named, pass_words_of, session_alone};
+ghost use Rattle.lab.specs.PassLines.{session_and_user, session_of, side_of, side_then_of};
 
 use crate::words::{is_node_name, is_word, read_name, read_text, split_at_slash, split_at_space};
 use command_line::read_number;

@@ -201,7 +201,8 @@ fn push_node<S: LabStore>(
     store: Named<S>,
 ) -> Got<()>
     ensures nodes { OnOk result (nodes.new.items ≡ nodes.old.items ++ record { store = store.value; configuration = configuration_of server.entry } ∷ []) }
-    ensures names { OnOk result (map named_of names.new.items ≡ map named_of names.old.items ++ record { name = store.name.items; value = length nodes.old.items } ∷ []) }
+    ensures names { OnOk result
+        (map named_of names.new.items ≡ map named_of names.old.items ++ record { name = store.name.items; value = length nodes.old.items } ∷ []) }
 {
     let Named { name, value } = store;
     let number = nodes.len();

@@ -9,7 +9,8 @@ ghost use Rattle.lab.specs.Lines.{said_by};
 ghost use Rattle.lab.specs.Script.{line_of};
 ghost use Rattle.lab.specs.Scene.{Plays, PlaysBefore, PlaysScript, laying, running};
 ghost use Rattle.lab.specs.Stages.{AreBytesPlayed, IsLinePlayed, configuration_of, nodes_of, names_of, scene_of};
-ghost use Rattle.lab.specs.Stopping.{ArePlayable, HasNodes, HasNodesIn, IsJudged, IsStoppedAt, StopsAt, asks_store, can_be_played, names_behind, names_in, some_asks_store};
+ghost use Rattle.lab.specs.Stopping.{ArePlayable, HasNodes, HasNodesIn, IsJudged, IsStoppedAt, StopsAt, asks_store};
+ghost use Rattle.lab.specs.Stopping.{can_be_played, names_behind, names_in, some_asks_store};
 
 use crate::fault::LineFault;
 use crate::lab_store::LabStore;
@@ -149,7 +150,8 @@ fn play<S: LabStore, W: Write>(
     ensures played { IfOk result (λ next. AreBytesPlayed S.Store (configuration_of server.entry) (scene_of stage) bytes.now
         (W.contents out.old) (W.contents out.new) (scene_of next)) }
     ensures stands { result ≡ Err LineFault.Line → Keeps (W.contents out.old) (W.contents out.new) }
-    ensures judged { HasNodesIn (scene_of stage) → IsJudged (some_asks_store (line_of bytes.now)) (is_some (names_behind (names_in S.Store (scene_of stage)) bytes.now)) result }
+    ensures judged { HasNodesIn (scene_of stage)
+        → IsJudged (some_asks_store (line_of bytes.now)) (is_some (names_behind (names_in S.Store (scene_of stage)) bytes.now)) result }
     ensures numbered { HasNodesIn (scene_of stage) → IfOk result (λ next. HasNodesIn (scene_of next)) }
 {
     let Some(line) = read_line(server.alloc, bytes)? else {
@@ -204,7 +206,8 @@ fn run<S: LabStore, W: Write>(
     ensures played { IfOk result (λ next. IsLinePlayed S.Store (configuration_of server.entry) (running (names_of names)) (said_by line.entry)
         (W.contents out.old) (W.contents out.new) (scene_of next)) }
     ensures stands { result ≡ Err LineFault.Line → Keeps (W.contents out.old) (W.contents out.new) }
-    ensures judged { HasNodes (names_of names) → IsJudged (asks_store (said_by line.entry)) (can_be_played (names_in S.Store (running (names_of names))) (said_by line.entry)) result }
+    ensures judged { HasNodes (names_of names)
+        → IsJudged (asks_store (said_by line.entry)) (can_be_played (names_in S.Store (running (names_of names))) (said_by line.entry)) result }
     ensures numbered { HasNodes (names_of names) → IfOk result (λ next. HasNodesIn (scene_of next)) }
 {
     let mut names = names;

@@ -16,8 +16,8 @@ use Rattle.api.specs.RequestReading.{Says}
 use Rattle.api.specs.declared.fault.RequestFault.{RequestFault}
 use Rattle.api.specs.declared.fault.RequestFault.TheVariants as request
 use Rattle.node.specs.Causes.{stop_of_request}
-use Rattle.node.specs.Drafts.{done_of, outcome_of}
-use Rattle.node.specs.Coming.{Comes}
+use Rattle.node.specs.inner.Drafts.{done_of, outcome_of}
+use Rattle.node.specs.inner.Coming.{Comes}
 use Rattle.node.specs.Work.{Done, Work}
 use Rattle.api.specs.Refusals.{next, there_or}
 use Rattle.node.specs.Works.{bulk_written, documents_written, deletion, deletion_outcome, document_deleted, edit_asked, edit_done, edit_in}

@@ -22,7 +22,7 @@ use Rattle.std.proofs.lemmas.Bool.Decides.{nat_tests}
 use Rattle.node.proofs.Steps.{answer_served}
 use Rattle.node.specs.Step.{IsStep}
 use Rattle.node.specs.Answer.{Change, answer, creation, inside, kept, removal, with_change}
-use Rattle.node.specs.Drafts.{change_inside}
+use Rattle.node.specs.inner.Drafts.{change_inside}
 use Rattle.node.specs.Causes.{Ends, EndsBefore, HasCause, IsFailure, LacksNumbers, stop_of_change}
 use Rattle.node.specs.Work.{appended, local_put, nothing, secured}
 use Rattle.api.specs.declared.refusal.Refusal.{Refusal}

@@ -18,7 +18,7 @@ use Rattle.write.specs.declared.planned.DocumentResult.{DocumentResult}
 use Rattle.write.specs.declared.planned.Outcome.{Outcome}
 use Rattle.write.specs.declared.planned.Outcome.TheVariants.{Made}
 use Rattle.write.specs.declared.planned.Planned.{Planned}
-use Rattle.node.specs.Drafts.{effect_of, says_made}
+use Rattle.node.specs.inner.Drafts.{effect_of, says_made}
 use Rattle.api.specs.Bulk.{Bulk}
 use Rattle.node.specs.Bulk.{bulk_reply, edit_members, made_members}
 use Rattle.node.specs.Work.{appended}

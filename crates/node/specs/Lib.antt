@@ -3,8 +3,6 @@ pub mod Bulk
 pub mod Work
 pub mod Works
 pub mod Answer
-pub mod Drafts
-pub mod Coming
 pub mod Causes
 pub mod Step
 pub mod Effects
@@ -12,3 +10,4 @@ pub mod Denials
 pub mod Leave
 pub mod Runs
 pub mod Hidden
+pub mod inner

@@ -2,7 +2,7 @@
 
 ghost use Rattle.couch_http.specs.Message.{message_of};
 ghost use Rattle.api.specs.BulkAsked.{bulk_asked};
-ghost use Rattle.node.specs.Coming.{WorksIn};
+ghost use Rattle.node.specs.inner.Coming.{WorksIn};
 ghost use Rattle.node.specs.Works.{bulk_written, documents_written};
 
 use crate::bulk_reply::bulk_reply;

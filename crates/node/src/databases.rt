@@ -8,7 +8,7 @@ ghost use Rattle.couch_json.specs.View.{items_of, view};
 ghost use Rattle.store.specs.Calls.{OnlyReads};
 ghost use Rattle.node.specs.Answer.{administration, database_name_of};
 ghost use Rattle.node.specs.Causes.{Ends};
-ghost use Rattle.node.specs.Coming.{Reads, Serves};
+ghost use Rattle.node.specs.inner.Coming.{Reads, Serves};
 ghost use Rattle.api.specs.RequestReading.{Says};
 ghost use Rattle.api.specs.Refusals.{next};
 ghost use Rattle.node.specs.Works.{database_read, done};

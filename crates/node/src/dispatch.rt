@@ -9,10 +9,10 @@ ghost use Rattle.couch_json.specs.Lawful.{IsLawful};
 ghost use Rattle.store.specs.Calls.{ChangesWhole, GoesOn};
 ghost use Rattle.node.specs.Answer.{answer, judgement, task_outcome, with_change};
 ghost use Rattle.api.specs.Asking.{method_of};
-ghost use Rattle.node.specs.Drafts.{MayChange, MayChangeBy, change_by, change_of, outcome_of, task_asked};
+ghost use Rattle.node.specs.inner.Drafts.{MayChange, MayChangeBy, change_by, change_of, outcome_of, task_asked};
 ghost use Rattle.api.specs.Refusals.{next, refusal_value, status_of};
 ghost use Rattle.node.specs.Causes.{EndsBefore, HasCause, stop_of_change};
-ghost use Rattle.node.specs.Coming.{Judges, Serves};
+ghost use Rattle.node.specs.inner.Coming.{Judges, Serves};
 ghost use Rattle.node.specs.Step.{IsDone, IsStep};
 
 use crate::databases::{create_database, list_databases, remove_database};
@@ -90,7 +90,8 @@ fn do_task<S: Store>(
     caller: &Caller,
     request: &Request,
 ) -> Result<Draft, EarlyEnd>
-    ensures judges { Judges S.Store store.old store.new (next (task_asked task caller.now (message_of request.now)) (task_outcome caller.now (S.contents store.old))) result }
+    ensures judges { Judges S.Store store.old store.new
+        (next (task_asked task caller.now (message_of request.now)) (task_outcome caller.now (S.contents store.old))) result }
 {
     match task {
         Task::Welcome => {
@@ -117,7 +118,8 @@ fn finish<S: Store>(
     last: bool,
 ) -> Result<Response, EarlyEnd>
     requires { S.is_honest store.old → MayChange (S.contents store.old) answered.change }
-    ensures ok { S.is_honest store.new → IfOk result (λ reply. IsDone (outcome_of (S.contents store.old) answered) last (S.contents store.old) reply (S.contents store.new)) }
+    ensures ok { S.is_honest store.new
+        → IfOk result (λ reply. IsDone (outcome_of (S.contents store.old) answered) last (S.contents store.old) reply (S.contents store.new)) }
     ensures unrefused { (refusal : _) → result ≢ Err (EarlyEnd.Refused refusal) }
     ensures ends { IfErr result (EndsBefore S.Store store.old store.new (change_of (S.contents store.old) answered.change)) }
     ensures changes { ChangesWhole S.Store store.old store.new result }
@@ -154,7 +156,8 @@ fn change<S: Store>(store: &mut S, change: Option<Change>) -> Result<(), EarlyEn
 /// Makes a new database.
 fn create<S: Store>(store: &mut S, name: &DbName) -> Result<(), EarlyEnd>
     requires { S.is_honest store.old → MayChangeBy (S.contents store.old) (Change.Create name.now) }
-    ensures ok { S.is_honest store.new → OnOk result (S.contents store.new ≡ with_change (change_by (S.contents store.old) (Change.Create name.now)) (S.contents store.old)) }
+    ensures ok { S.is_honest store.new
+        → OnOk result (S.contents store.new ≡ with_change (change_by (S.contents store.old) (Change.Create name.now)) (S.contents store.old)) }
     ensures unrefused { (refusal : _) → result ≢ Err (EarlyEnd.Refused refusal) }
     ensures ends { IfErr result (EndsBefore S.Store store.old store.new (change_by (S.contents store.old) (Change.Create name.now))) }
     ensures changes { ChangesWhole S.Store store.old store.new result }
@@ -169,7 +172,8 @@ fn create<S: Store>(store: &mut S, name: &DbName) -> Result<(), EarlyEnd>
 /// Removes a database with all that it holds.
 fn remove<S: Store>(store: &mut S, name: &DbName) -> Result<(), EarlyEnd>
     requires { S.is_honest store.old → MayChangeBy (S.contents store.old) (Change.Remove name.now) }
-    ensures ok { S.is_honest store.new → OnOk result (S.contents store.new ≡ with_change (change_by (S.contents store.old) (Change.Remove name.now)) (S.contents store.old)) }
+    ensures ok { S.is_honest store.new
+        → OnOk result (S.contents store.new ≡ with_change (change_by (S.contents store.old) (Change.Remove name.now)) (S.contents store.old)) }
     ensures unrefused { (refusal : _) → result ≢ Err (EarlyEnd.Refused refusal) }
     ensures ends { IfErr result (EndsBefore S.Store store.old store.new (change_by (S.contents store.old) (Change.Remove name.now))) }
     ensures changes { ChangesWhole S.Store store.old store.new result }
@@ -185,7 +189,8 @@ fn remove<S: Store>(store: &mut S, name: &DbName) -> Result<(), EarlyEnd>
 #[tactic(auto, using(crate::proofs::Faults::unrefused_change))]
 fn write<S: Store>(store: &mut S, planned: Planned) -> Result<(), EarlyEnd>
     requires { S.is_honest store.old → MayChangeBy (S.contents store.old) (Change.Write planned) }
-    ensures ok { S.is_honest store.new → OnOk result (S.contents store.new ≡ with_change (change_by (S.contents store.old) (Change.Write planned)) (S.contents store.old)) }
+    ensures ok { S.is_honest store.new
+        → OnOk result (S.contents store.new ≡ with_change (change_by (S.contents store.old) (Change.Write planned)) (S.contents store.old)) }
     ensures unrefused { (refusal : _) → result ≢ Err (EarlyEnd.Refused refusal) }
     ensures ends { IfErr result (EndsBefore S.Store store.old store.new (change_by (S.contents store.old) (Change.Write planned))) }
     ensures changes { ChangesWhole S.Store store.old store.new result }

@@ -5,7 +5,7 @@ ghost use Rattle.couch_http.specs.Message.{message_of};
 ghost use Rattle.couch_json.specs.View.{view};
 ghost use Rattle.find.specs.Queries.{query_in};
 ghost use Rattle.api.specs.Refusals.{there_or};
-ghost use Rattle.node.specs.Coming.{Comes, Reads};
+ghost use Rattle.node.specs.inner.Coming.{Comes, Reads};
 ghost use Rattle.node.specs.Works.{document_finds, documents_reply, view_read};
 
 use crate::early_end::EarlyEnd;

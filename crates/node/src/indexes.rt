@@ -8,8 +8,8 @@ ghost use Rattle.find.specs.Indexes.{index_in};
 ghost use Rattle.tree.specs.DocumentId.{is_design_id};
 ghost use Rattle.write.specs.BulkResults.{IsUnrefused, OfFirst};
 ghost use Rattle.api.specs.Refusals.{there_or};
-ghost use Rattle.node.specs.Drafts.{says_made};
-ghost use Rattle.node.specs.Coming.{Comes, WorksIn};
+ghost use Rattle.node.specs.inner.Drafts.{says_made};
+ghost use Rattle.node.specs.inner.Coming.{Comes, WorksIn};
 ghost use Rattle.node.specs.Works.{index_asked_in, index_reply, index_written};
 
 use crate::bulk_reply::refusal_of_edit;

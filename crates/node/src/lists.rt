@@ -1,7 +1,8 @@
-//! The pages that list a database's documents, and tell which revisions it doesn't know (CouchDB manual, api/database/bulk-api, api/database/changes and api/database/misc).
+//! The pages that list a database's documents, and tell which revisions it doesn't know (CouchDB manual,
+//! api/database/bulk-api, api/database/changes and api/database/misc).
 
 ghost use Rattle.couch_http.specs.Message.{message_of};
-ghost use Rattle.node.specs.Coming.{Reads};
+ghost use Rattle.node.specs.inner.Coming.{Reads};
 ghost use Rattle.node.specs.Works.{change_list, difference_list, document_list};
 
 use crate::early_end::EarlyEnd;

@@ -7,8 +7,8 @@ ghost use Rattle.couch_json.specs.View.{view};
 ghost use Rattle.store.specs.Contents.{local_at};
 ghost use Rattle.write.specs.LocalWrites.{local_outcome};
 ghost use Rattle.write.specs.Planning.{IsLocal};
-ghost use Rattle.node.specs.Drafts.{IsLocalReply};
-ghost use Rattle.node.specs.Coming.{Reads, WorksIn};
+ghost use Rattle.node.specs.inner.Drafts.{IsLocalReply};
+ghost use Rattle.node.specs.inner.Coming.{Reads, WorksIn};
 ghost use Rattle.node.specs.Works.{local_members, local_read, local_set, local_written};
 
 use crate::bulk_reply::{known_members, refusal_of_edit};
@@ -63,7 +63,8 @@ fn set_local<S: Store>(
     id: &DocId,
     document: Json,
 ) -> Result<WriteDraft, EarlyEnd>
-    ensures works { WorksIn S.Store store.old store.new name.now (λ db. local_set caller.now id.now (local_outcome (local_at db id.now) id.now (view document))) result }
+    ensures works { WorksIn S.Store store.old store.new name.now
+        (λ db. local_set caller.now id.now (local_outcome (local_at db id.now) id.now (view document))) result }
 {
     let planned = match put_local(alloc, store, name, id, document) {
         Ok(planned) => planned,

@@ -3,7 +3,7 @@
 ghost use Rattle.couch_http.specs.Message.{message_of};
 ghost use Rattle.couch_json.specs.View.{view};
 ghost use Rattle.write.specs.Planning.{security_outcome};
-ghost use Rattle.node.specs.Coming.{Reads, WorksIn};
+ghost use Rattle.node.specs.inner.Coming.{Reads, WorksIn};
 ghost use Rattle.node.specs.Works.{security_read, security_set, security_written};
 
 use crate::databases::done;

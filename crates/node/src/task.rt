@@ -4,7 +4,7 @@ ghost use Rattle.std.specs.Prelude.{◌≡◌};
 ghost use Rattle.auth.specs.Callers.{Identity};
 ghost use Rattle.couch_http.specs.Message.{Message};
 ghost use Rattle.node.specs.Answer.{task_of};
-ghost use Rattle.node.specs.Drafts.{task_asked_if_any};
+ghost use Rattle.node.specs.inner.Drafts.{task_asked_if_any};
 
 use crate::work::Work::{Read, Write};
 use crate::work::{Reading, Work, Writing};

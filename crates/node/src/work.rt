@@ -5,9 +5,9 @@ ghost use Rattle.std.specs.FinMap as map;
 ghost use Rattle.couch_http.specs.Message.{message_of};
 ghost use Rattle.store.specs.Calls.{OnlyReads};
 ghost use Rattle.node.specs.Answer.{entry, outcome_in, task_outcome, work_task};
-ghost use Rattle.node.specs.Drafts.{MayChange, outcome_of, reading_of, work_of, writing_of};
+ghost use Rattle.node.specs.inner.Drafts.{MayChange, outcome_of, reading_of, work_of, writing_of};
 ghost use Rattle.node.specs.Causes.{Ends};
-ghost use Rattle.node.specs.Coming.{Comes, Judges, OfThere, Reads, WorksIn};
+ghost use Rattle.node.specs.inner.Coming.{Comes, Judges, OfThere, Reads, WorksIn};
 ghost use Rattle.api.specs.Refusals.{next};
 
 use crate::bulk::write_documents;
@@ -87,7 +87,9 @@ pub(crate) fn do_work<S: Store>(
     work: Work,
     request: &Request,
 ) -> Result<Draft, EarlyEnd>
-    ensures judges { Judges S.Store store.old store.new (next (work_task action (message_of request.now) (work_of work caller.now (message_of request.now))) (task_outcome caller.now (S.contents store.old))) result }
+    ensures judges { Judges S.Store store.old store.new
+        (next (work_task action (message_of request.now) (work_of work caller.now (message_of request.now)))
+        (task_outcome caller.now (S.contents store.old))) result }
 {
     let name = database_name(alloc, &request.path)?;
     match enter(store, action, caller, &name) {
@@ -126,7 +128,8 @@ fn perform<S: Store>(
 ) -> Result<Draft, EarlyEnd>
     ensures comes { S.is_honest store.new → OfThere (S.contents store.old) name.now (λ db. Comes (outcome_of (S.contents store.old)) result
         (next (work_of work caller.now (message_of request.now) name.now db) (λ d. Ok (outcome_in name.now d)))) }
-    ensures may { S.is_honest store.new → OfThere (S.contents store.old) name.now (λ db. IfOk result (λ answered. MayChange (S.contents store.old) answered.change)) }
+    ensures may { S.is_honest store.new
+        → OfThere (S.contents store.old) name.now (λ db. IfOk result (λ answered. MayChange (S.contents store.old) answered.change)) }
     ensures ends { IfErr result (Ends S.Store store.old store.new) }
     ensures reads { OnlyReads S.Store store.old store.new }
 {

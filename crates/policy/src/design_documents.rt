@@ -2,7 +2,8 @@
 
 ghost use Rattle.std.specs.Prelude.{◌≡◌, IfOk, option_map};
 ghost use Rattle.couch_json.specs.View.{view, items_view, members_view};
-ghost use Rattle.policy.specs.DesignDocuments.{are_fields, are_indexes, are_paths, is_design_body, is_field_count, is_field_list, is_index, is_index_name, is_index_object, is_path, is_rule};
+ghost use Rattle.policy.specs.DesignDocuments.{are_fields, are_indexes, are_paths, is_design_body, is_field_count, is_field_list};
+ghost use Rattle.policy.specs.DesignDocuments.{is_index, is_index_name, is_index_object, is_path, is_rule};
 ghost use Rattle.policy.specs.Security.{is_absent_or};
 
 use couch_json::{FieldPath, Got, Json, NameMap, NoMemory, PathFault};

@@ -11,7 +11,7 @@ use Rattle.store.specs.Database.{Database}
 use Rattle.store.specs.Pages.{SequenceRow, in_sequence, last_sequence, rows_of, up_to_limit}
 use Rattle.store.proofs.RowOrders.{page_ascends}
 use Rattle.read.specs.Changes.{change_object}
-use Rattle.read.specs.ChangesSoFar.{whole_changes, later_than, left_after, page_size, rows_to_come}
+use Rattle.read.specs.inner.ChangesSoFar.{whole_changes, later_than, left_after, page_size, rows_to_come}
 use Rattle.read.specs.declared.change_pages.ChangesSoFar.{ChangesSoFar}
 
 abbrev Rises : ℕ → List SequenceRow → Type 0

@@ -15,7 +15,7 @@ use Rattle.store.specs.declared.listing.IdRow.{IdRow}
 use Rattle.store.specs.declared.listing.RowCounts.{RowCounts}
 use Rattle.tree.proofs.Shown.{inside}
 use Rattle.read.specs.Listing.{listing_of}
-use Rattle.read.specs.RowsSoFar.{AreCountable, whole_list, greatest_number, page_size, rows_by_fields, rows_by_id, rows_wanted}
+use Rattle.read.specs.inner.RowsSoFar.{AreCountable, whole_list, greatest_number, page_size, rows_by_fields, rows_by_id, rows_wanted}
 use Rattle.read.specs.Views.{key_row_object, view_by}
 use Rattle.read.specs.declared.listing_pages.RowsSoFar.{RowsSoFar}
 use Rattle.read.proofs.ChangePages.{take_parts}

@@ -1,13 +1,12 @@
 pub mod Answers
 pub mod Information
 pub mod Listing
-pub mod RowsSoFar
 pub mod Views
 pub mod Changes
-pub mod ChangesSoFar
 pub mod Differences
 pub mod DifferencesAsked
 pub mod OpenRevisions
 pub mod Path
 pub mod Shown
 pub mod Local
+pub mod inner

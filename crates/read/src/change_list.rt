@@ -1,6 +1,7 @@
 //! What changed in a database after a sequence.
 
-ghost use Rattle.std.specs.Prelude.{◌≡◌, ◌≢◌, ◌<◌, ◌^◌, ◌++◌, [], All, map as each, IfOk, IfErr, None, OnOk, Ok, Some, false, is_some, length, option_map, true};
+ghost use Rattle.std.specs.Prelude.{◌≡◌, ◌≢◌, ◌<◌, ◌^◌, ◌++◌, [], All, map as each, IfOk, IfErr, None, OnOk};
+ghost use Rattle.std.specs.Prelude.{Ok, Some, false, is_some, length, option_map, true};
 ghost use Rattle.std.specs.FinMap as map;
 ghost use Rattle.couch_json.specs.View.{members_view, view};
 ghost use Rattle.store.specs.Calls.{OnlyReads};
@@ -8,7 +9,7 @@ ghost use Rattle.store.specs.Database.{Database};
 ghost use Rattle.store.specs.PageStructs.{sequence_row_of, sequence_rows};
 ghost use Rattle.read.specs.Answers.{AnswersValue, Stops};
 ghost use Rattle.read.specs.Changes.{change_members, change_object, changes_in};
-ghost use Rattle.read.specs.ChangesSoFar.{whole_changes, left_after, page_size, rows_to_come};
+ghost use Rattle.read.specs.inner.ChangesSoFar.{whole_changes, left_after, page_size, rows_to_come};
 ghost use Rattle.read.specs.Listing.{revision_object};
 
 use crate::change_pages::ChangesSoFar;

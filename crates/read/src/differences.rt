@@ -44,7 +44,8 @@ pub fn revs_diff<S: Store>(
     db: &DbName,
     asked: &[AskedRevisions],
 ) -> Result<JsonText, ReadFault>
-    ensures answer { AnswersValue S.Store store.old store.new (option_map (λ d. Ok (revision_differences (all_asked asked.now) d)) (map.get (S.contents store.old) db.now)) result }
+    ensures answer { AnswersValue S.Store store.old store.new
+        (option_map (λ d. Ok (revision_differences (all_asked asked.now) d)) (map.get (S.contents store.old) db.now)) result }
     ensures only { IfErr result (λ fault. fault ≢ ReadFault.Memory → ((cause : _) → fault ≢ ReadFault.Store cause) → ⊥) }
     ensures reads { OnlyReads S.Store store.old store.new }
 {

@@ -45,7 +45,8 @@ fn read_winner<S: Store>(
     id: &DocId,
     revs: bool,
 ) -> Result<JsonText, ReadFault>
-    ensures answer { AnswersValue S.Store store.old store.new (option_map (λ d. document_by id.now (history_at d id.now) None revs) (map.get (S.contents store.old) db.now)) result }
+    ensures answer { AnswersValue S.Store store.old store.new
+        (option_map (λ d. document_by id.now (history_at d id.now) None revs) (map.get (S.contents store.old) db.now)) result }
     ensures reads { OnlyReads S.Store store.old store.new }
 {
     let Some(winner) = read_held_winner(store, db, id)? else {
@@ -68,7 +69,8 @@ fn read_revision<S: Store>(
     rev: &Rev,
     revs: bool,
 ) -> Result<JsonText, ReadFault>
-    ensures answer { AnswersValue S.Store store.old store.new (option_map (λ d. found (shown_document id.now (history_at d id.now) rev.now revs)) (map.get (S.contents store.old) db.now)) result }
+    ensures answer { AnswersValue S.Store store.old store.new
+        (option_map (λ d. found (shown_document id.now (history_at d id.now) rev.now revs)) (map.get (S.contents store.old) db.now)) result }
     ensures reads { OnlyReads S.Store store.old store.new }
 {
     let paths = read_paths(store, db, id, revs)?;

@@ -8,7 +8,7 @@ ghost use Rattle.store.specs.Calls.{OnlyReads};
 ghost use Rattle.store.specs.Database.{Database};
 ghost use Rattle.read.specs.Answers.{AnswersValue, Stops};
 ghost use Rattle.read.specs.Listing.{document_listing, listing_of, revision_object, row_object};
-ghost use Rattle.read.specs.RowsSoFar.{AreCountable, whole_list, rows_by_id};
+ghost use Rattle.read.specs.inner.RowsSoFar.{AreCountable, whole_list, rows_by_id};
 
 use crate::fault::ReadFault;
 use crate::listing_pages::RowsSoFar;
@@ -98,9 +98,11 @@ fn list_page<S: Store>(
     range: &mut IdRange,
     so_far: &mut RowsSoFar,
 ) -> Result<bool, ReadFault>
-    ensures ok { S.is_honest store.new → IfOk result (λ _. (d : Database) → map.get (S.contents store.old) db.now ≡ Some d → AreCountable (rows_by_id range.old d)
+    ensures ok { S.is_honest store.new
+        → IfOk result (λ _. (d : Database) → map.get (S.contents store.old) db.now ≡ Some d → AreCountable (rows_by_id range.old d)
         → whole_list row_object (rows_by_id range.old d) so_far.new ≡ whole_list row_object (rows_by_id range.old d) so_far.old) }
-    ensures end { S.is_honest store.new → IfOk result (λ more. more ≡ false → (d : Database) → map.get (S.contents store.old) db.now ≡ Some d → AreCountable (rows_by_id range.old d)
+    ensures end { S.is_honest store.new
+        → IfOk result (λ more. more ≡ false → (d : Database) → map.get (S.contents store.old) db.now ≡ Some d → AreCountable (rows_by_id range.old d)
         → so_far.new.rows ≡ whole_list row_object (rows_by_id range.old d) so_far.new) }
     ensures same { (d : Database) → rows_by_id range.new d ≡ rows_by_id range.old d }
     ensures onward { IfOk result (λ more. more ≡ true → so_far.new.left < so_far.old.left) }

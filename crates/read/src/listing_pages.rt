@@ -1,7 +1,7 @@
 //! Rows that are listed page by page, so that no more rows than those of a page are held at once.
 
 ghost use Rattle.std.specs.Prelude.{◌≡◌, ◌+◌, ◌-◌, [], min, IfOk};
-ghost use Rattle.read.specs.RowsSoFar.{greatest_number, page_size, rows_wanted};
+ghost use Rattle.read.specs.inner.RowsSoFar.{greatest_number, page_size, rows_wanted};
 
 use couch_json::{ArrayText, Got};
 use std::alloc::Global;

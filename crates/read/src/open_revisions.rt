@@ -54,7 +54,8 @@ fn read_asked<S: Store>(
 ) -> Result<ArrayText, ReadFault>
     ensures ok { S.is_honest store.new → IfOk result (λ elements. (d : Database) → map.get (S.contents store.old) db.now ≡ Some d
         → IfSome paths.now (λ outline. outline ≡ outline_of (history_at d id.now))
-        → elements ≡ each (open_revision id.now (history_at d id.now) (is_some paths.now)) (asked_revisions (history_at d id.now) (option_copied asked.entry))) }
+        → elements ≡ each (open_revision id.now (history_at d id.now) (is_some paths.now))
+        (asked_revisions (history_at d id.now) (option_copied asked.entry))) }
     ensures stops { IfErr result (Stops S.Store store.old store.new (map.get (S.contents store.old) db.now ≡ None)) }
     ensures reads { OnlyReads S.Store store.old store.new }
 {

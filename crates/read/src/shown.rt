@@ -69,7 +69,8 @@ pub(crate) fn show_held(
     body: &Json,
     paths: &Option<Outline>,
 ) -> Got<Json>
-    ensures { (h : HistoryContent) → IfSome paths.now (λ outline. outline ≡ outline_of h) → held_of h rev.now ≡ Some (record { deleted = deleted; body = view body.now })
+    ensures { (h : HistoryContent) → IfSome paths.now (λ outline. outline ≡ outline_of h)
+        → held_of h rev.now ≡ Some (record { deleted = deleted; body = view body.now })
         → IfOk result (λ document. Some (view document) ≡ shown_document id.now h rev.now (is_some paths.now)) }
 {
     let mut members = show_members(alloc, id, rev, deleted, body)?;

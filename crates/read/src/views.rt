@@ -6,7 +6,7 @@ ghost use Rattle.store.specs.Calls.{OnlyReads};
 ghost use Rattle.store.specs.Database.{Database};
 ghost use Rattle.read.specs.Answers.{AnswersValue, Stops};
 ghost use Rattle.read.specs.Listing.{listing_of};
-ghost use Rattle.read.specs.RowsSoFar.{AreCountable, whole_list, rows_by_key};
+ghost use Rattle.read.specs.inner.RowsSoFar.{AreCountable, whole_list, rows_by_key};
 ghost use Rattle.read.specs.Views.{key_row_object, view_listing};
 
 use crate::fault::ReadFault;
@@ -32,7 +32,8 @@ pub fn view<S: Store>(
     index: &str,
     range: KeyRange,
 ) -> Result<JsonText, ReadFault>
-    ensures answer { AnswersValue S.Store store.old store.new (option_map (λ d. view_listing range design.now index.now d) (map.get (S.contents store.old) db.now)) result }
+    ensures answer { AnswersValue S.Store store.old store.new
+        (option_map (λ d. view_listing range design.now index.now d) (map.get (S.contents store.old) db.now)) result }
     ensures only { IfErr result (λ fault. fault ≢ ReadFault.Missing → fault ≢ ReadFault.Memory → ((cause : _) → fault ≢ ReadFault.Store cause) → ⊥) }
     ensures reads { OnlyReads S.Store store.old store.new }
 {
@@ -53,9 +54,12 @@ fn begin_view<S: Store>(
     ensures there { S.is_honest store.new → IfOk result (λ _. is_some (map.get (S.contents store.old) db.now) ≡ true) }
     ensures ok { S.is_honest store.new → IfOk result (λ begun. (d : Database) → map.get (S.contents store.old) db.now ≡ Some d
         → AreCountable (rows_by_key begun.0 design.now index.now d)
-        × (Ok (listing_of (whole_list key_row_object (rows_by_key begun.0 design.now index.now d) begun.1) begun.2) ≡ view_listing range design.now index.now d)) }
+        × (Ok (listing_of (whole_list key_row_object (rows_by_key begun.0 design.now index.now d) begun.1) begun.2)
+        ≡ view_listing range design.now index.now d)) }
     ensures counts { IfOk result (λ begun. (begun.2.offset ≤ begun.2.total) × (begun.2.total < 2 ^ 63)) }
-    ensures refuses { IfErr result (λ fault. AnswersValue S.Store store.old store.new (option_map (λ d. view_listing range design.now index.now d) (map.get (S.contents store.old) db.now)) (Err fault)) }
+    ensures refuses { IfErr result
+        (λ fault. AnswersValue S.Store store.old store.new
+        (option_map (λ d. view_listing range design.now index.now d) (map.get (S.contents store.old) db.now)) (Err fault)) }
     ensures only { IfErr result (λ fault. fault ≢ ReadFault.Missing → fault ≢ ReadFault.Memory → ((cause : _) → fault ≢ ReadFault.Store cause) → ⊥) }
     ensures reads { OnlyReads S.Store store.old store.new }
 {
@@ -88,7 +92,8 @@ fn list_rows<S: Store>(
     range: &mut KeyRange,
     so_far: &mut RowsSoFar,
 ) -> Result<(), ReadFault>
-    ensures ok { S.is_honest store.new → OnOk result ((d : Database) → map.get (S.contents store.old) db.now ≡ Some d → AreCountable (rows_by_key range.old design.now index.now d)
+    ensures ok { S.is_honest store.new
+        → OnOk result ((d : Database) → map.get (S.contents store.old) db.now ≡ Some d → AreCountable (rows_by_key range.old design.now index.now d)
         → so_far.new.rows ≡ whole_list key_row_object (rows_by_key range.old design.now index.now d) so_far.old) }
     ensures stops { IfErr result (Stops S.Store store.old store.new (map.get (S.contents store.old) db.now ≡ None)) }
     ensures reads { OnlyReads S.Store store.old store.new }
@@ -110,9 +115,13 @@ fn list_page<S: Store>(
     range: &mut KeyRange,
     so_far: &mut RowsSoFar,
 ) -> Result<bool, ReadFault>
-    ensures ok { S.is_honest store.new → IfOk result (λ _. (d : Database) → map.get (S.contents store.old) db.now ≡ Some d → AreCountable (rows_by_key range.old design.now index.now d)
-        → whole_list key_row_object (rows_by_key range.old design.now index.now d) so_far.new ≡ whole_list key_row_object (rows_by_key range.old design.now index.now d) so_far.old) }
-    ensures end { S.is_honest store.new → IfOk result (λ more. more ≡ false → (d : Database) → map.get (S.contents store.old) db.now ≡ Some d → AreCountable (rows_by_key range.old design.now index.now d)
+    ensures ok { S.is_honest store.new
+        → IfOk result (λ _. (d : Database) → map.get (S.contents store.old) db.now ≡ Some d → AreCountable (rows_by_key range.old design.now index.now d)
+        → whole_list key_row_object (rows_by_key range.old design.now index.now d) so_far.new ≡ whole_list key_row_object
+        (rows_by_key range.old design.now index.now d) so_far.old) }
+    ensures end { S.is_honest store.new
+        → IfOk result (λ more. more ≡ false → (d : Database) → map.get (S.contents store.old) db.now ≡ Some d
+        → AreCountable (rows_by_key range.old design.now index.now d)
         → so_far.new.rows ≡ whole_list key_row_object (rows_by_key range.old design.now index.now d) so_far.new) }
     ensures same { (d : Database) → rows_by_key range.new design.now index.now d ≡ rows_by_key range.old design.now index.now d }
     ensures onward { IfOk result (λ more. more ≡ true → so_far.new.left < so_far.old.left) }

@@ -1,7 +1,6 @@
 pub mod Configuration
 pub mod Calls
 pub mod Spelling
-pub mod Joined
 pub mod Listed
 pub mod Shapes
 pub mod Checkpoints
@@ -13,3 +12,4 @@ pub mod Turns
 pub mod Causes
 pub mod Asks
 pub mod Ending
+pub mod inner

@@ -6,7 +6,7 @@ ghost use Rattle.couch_json.specs.Canonical.{canonical, items_texts};
 ghost use Rattle.couch_json.specs.Value.{text as text_value};
 ghost use Rattle.couch_json.specs.View.{items_view, view};
 ghost use Rattle.repl.specs.Calls.{documents_value, revisions_query, revisions_value, texts_value};
-ghost use Rattle.repl.specs.Joined.{after_commas};
+ghost use Rattle.repl.specs.inner.Joined.{after_commas};
 ghost use Rattle.repl.specs.Listed.{revisions_of};
 
 use crate::revisions::DocumentRevisions;

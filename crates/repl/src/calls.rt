@@ -5,9 +5,10 @@ ghost use Rattle.std.specs.List.{join_with_byte};
 ghost use Rattle.couch_json.specs.Canonical.{canonical};
 ghost use Rattle.couch_json.specs.View.{view};
 ghost use Rattle.couch_http.specs.Message.{header_field, message_of};
-ghost use Rattle.repl.specs.Calls.{account_fields, changes_query, limit_part, compare_revisions, open_revisions, push_documents, headers_of, path_of, read_checkpoint, list_changes, request_of, request_with, write_checkpoint};
+ghost use Rattle.repl.specs.Calls.{account_fields, changes_query, limit_part, compare_revisions, open_revisions, push_documents, headers_of};
+ghost use Rattle.repl.specs.Calls.{path_of, read_checkpoint, list_changes, request_of, request_with, write_checkpoint};
 ghost use Rattle.repl.specs.Configuration.{account_of, batch_size, configuration_of, database_of};
-ghost use Rattle.repl.specs.Joined.{after_commas};
+ghost use Rattle.repl.specs.inner.Joined.{after_commas};
 ghost use Rattle.repl.specs.Listed.{revisions_of};
 ghost use Rattle.repl.specs.Spelling.{segment};
 

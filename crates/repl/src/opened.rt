@@ -3,7 +3,8 @@
 ghost use Rattle.std.specs.Prelude.{◌≡◌, ◌++◌, [], IfOk, OnOk, map, option_and_then, option_copied, option_map, string_bytes, codes, unwrap_or};
 ghost use Rattle.couch_json.specs.View.{members_view, view};
 ghost use Rattle.repl.specs.Listed.{revisions_of};
-ghost use Rattle.repl.specs.Replies.{Opened, are_missing_lists, differences_in, differences_read, has_missing_lists, missing_in, missing_of, missing_of_each, missing_report, opened_in, revisions_opened, unless_empty, document_by, missing};
+ghost use Rattle.repl.specs.Replies.{Opened, are_missing_lists, differences_in, differences_read, has_missing_lists, missing_in, missing_of};
+ghost use Rattle.repl.specs.Replies.{missing_of_each, missing_report, opened_in, revisions_opened, unless_empty, document_by, missing};
 ghost use Rattle.repl.specs.Shapes.{list_in, text_at};
 ghost use Rattle.repl.specs.Taken.{opened_of, said_as};
 

@@ -10,7 +10,9 @@ ghost use Rattle.repl.specs.Configuration.{batch_size, configuration_of};
 ghost use Rattle.repl.specs.Ending.{progress_of};
 ghost use Rattle.repl.specs.Kept.{checkpoint_of, session_of};
 ghost use Rattle.repl.specs.Listed.{revisions_of};
-ghost use Rattle.repl.specs.Passes.{answered_in, answered_of, asked_of, checkpoint_after, fills, first_of_pending, first_pass, has_ended, is_written, lost_of, phase_after_list, phase_after_round, with_failures, with_opened, phase_after_loss, phase_with, sent_to, summary_of, with_loss};
+ghost use Rattle.repl.specs.Passes.{answered_in, answered_of, asked_of, checkpoint_after, fills, first_of_pending, first_pass};
+ghost use Rattle.repl.specs.Passes.{has_ended, is_written, lost_of, phase_after_list, phase_after_round, with_failures};
+ghost use Rattle.repl.specs.Passes.{with_opened, phase_after_loss, phase_with, sent_to, summary_of, with_loss};
 ghost use Rattle.repl.specs.Taken.{opened_of};
 
 use crate::ask::Ask;
@@ -167,7 +169,8 @@ impl Replication {
 
     /// Asks a side for its checkpoint.
     fn ask_checkpoint(&self, side: Side) -> Got<Ask>
-        ensures { IfOk result (λ a. let c = configuration_of self.now.config in ask_of a ≡ sent_to side (request_of c side (read_checkpoint (checkpoint_id c)))) }
+        ensures { IfOk result
+            (λ a. let c = configuration_of self.now.config in ask_of a ≡ sent_to side (request_of c side (read_checkpoint (checkpoint_id c)))) }
     {
         let id = checkpoint_id(self.alloc, &self.config)?;
         let request = read_checkpoint(self.alloc, &self.config, side, id.as_str())?;
@@ -177,7 +180,8 @@ impl Replication {
     /// Asks a side to write the checkpoint in place of a revision.
     fn ask_write(&self, side: Side, revision: &Option<String>) -> Got<Ask>
         ensures { IfOk result (λ a. let c = configuration_of self.now.config in ask_of a
-            ≡ sent_to side (request_of c side (write_checkpoint (checkpoint_id c) (checkpoint_after (pass_of self.now) (option_map string_bytes revision.now))))) }
+            ≡ sent_to side (request_of c side
+            (write_checkpoint (checkpoint_id c) (checkpoint_after (pass_of self.now) (option_map string_bytes revision.now))))) }
     {
         let id = checkpoint_id(self.alloc, &self.config)?;
         let checkpoint = next_checkpoint(

@@ -18,9 +18,11 @@ use Rattle.selector.specs.declared.operator.ValueOperator.TheVariants.{HasType, 
 
 -- ---- what the operators take
 
+-- the types that `$type` knows
 abbrev pub type_names : List (List ℕ)
 type_names = codes "null" ∷ codes "boolean" ∷ codes "number" ∷ codes "string" ∷ codes "array" ∷ codes "object" ∷ []
 
+-- the value is the name of a type
 abbrev pub is_type_name : Value → Bool
 is_type_name v = is_there_and (λ s. list_any (pointwise ◌==◌ s) type_names) (text_in v)
 
@@ -29,6 +31,7 @@ abbrev pub division_in : Value → Option (ℤ × ℤ)
 division_in (array (item (whole d) (item (whole r) no_items))) = Some (d, r)
 division_in v = None
 
+-- there is a division, and it is not by 0
 abbrev pub has_divisor : Option (ℤ × ℤ) → Bool
 has_divisor None = false
 has_divisor (Some division) = not (int_eq division.0 (pos 0))
@@ -49,6 +52,7 @@ is_path v = is_there_and is_field_path (text_in v)
 
 -- ---- the first fault
 
+-- the fault, where it is not so
 abbrev pub unless : Bool → SelectorFault → Option SelectorFault
 unless true f = None
 unless false f = Some f
@@ -97,16 +101,19 @@ abbrev mutual
   selector_fault in_rule (object ms) level = if nat_lt max_level level then Some fault.Depth else members_fault in_rule ms level
   selector_fault in_rule v level = Some fault.Argument
 
+  -- the first fault of a list of selectors
   pub list_fault : Bool → Value → ℕ → Option SelectorFault
   list_fault in_rule (array vs) level = filled_fault vs (items_fault in_rule vs level)
   list_fault in_rule v level = Some fault.Argument
 
+  -- the first fault of the members of a selector, in their order
   pub members_fault : Bool → Members → ℕ → Option SelectorFault
   members_fault in_rule no_members level = None
   members_fault in_rule (member name v ms) level =
       first (member_fault in_rule (operator_named name) name v (selector_fault in_rule v (level + 1)) (list_fault in_rule v (level + 1)))
       (members_fault in_rule ms level)
 
+  -- the first fault of the selectors of a list, in their order
   pub items_fault : Bool → Items → ℕ → Option SelectorFault
   items_fault in_rule no_items level = None
   items_fault in_rule (item v vs) level = first (selector_fault in_rule v level) (items_fault in_rule vs level)

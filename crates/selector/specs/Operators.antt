@@ -12,6 +12,7 @@ use Rattle.selector.specs.declared.operator.SelectorOperator.TheVariants.{IsFals
 use Rattle.selector.specs.declared.operator.ListOperator.{ListOperator}
 use Rattle.selector.specs.declared.operator.ListOperator.TheVariants.{AllTrue, SomeTrue, NoneTrue}
 
+-- the operators that compare a value with their argument
 abbrev pub value_operator_name : ValueOperator → List ℕ
 value_operator_name IsEqual = codes "$eq"
 value_operator_name IsNotEqual = codes "$ne"
@@ -26,16 +27,19 @@ value_operator_name HasSize = codes "$size"
 value_operator_name HasRemainder = codes "$mod"
 value_operator_name HasAll = codes "$all"
 
+-- the operators that take one selector
 abbrev pub selector_operator_name : SelectorOperator → List ℕ
 selector_operator_name IsFalse = codes "$not"
 selector_operator_name SomeElement = codes "$elemMatch"
 selector_operator_name EachElement = codes "$allMatch"
 
+-- the operators that take a list of selectors
 abbrev pub list_operator_name : ListOperator → List ℕ
 list_operator_name AllTrue = codes "$and"
 list_operator_name SomeTrue = codes "$or"
 list_operator_name NoneTrue = codes "$nor"
 
+-- the name of an operator
 abbrev pub operator_name : Operator → List ℕ
 operator_name Exists = codes "$exists"
 operator_name (Value o) = value_operator_name o
@@ -50,9 +54,11 @@ operators =
     ∷ Value HasType ∷ Value IsIn ∷ Value IsNotIn ∷ Value HasSize ∷ Value HasRemainder ∷ Value HasAll ∷ SameAs
     ∷ Selector IsFalse ∷ Selector SomeElement ∷ Selector EachElement ∷ Several AllTrue ∷ Several SomeTrue ∷ Several NoneTrue ∷ []
 
+-- the first of these operators that has this name
 abbrev pub operator_among : List Operator → List ℕ → Option Operator
 operator_among [] name = None
 operator_among (o ∷ os) name = if pointwise ◌==◌ name (operator_name o) then Some o else operator_among os name
 
+-- the operator of this name, if there is one
 abbrev pub operator_named : List ℕ → Option Operator
 operator_named name = operator_among operators name

@@ -22,6 +22,7 @@ use Rattle.selector.specs.declared.operator.ListOperator.TheVariants.{AllTrue, S
 
 -- ---- the operators on a present value
 
+-- the type of a value, as `$type` names it
 abbrev pub type_name : Value → List ℕ
 type_name null = codes "null"
 type_name (truth b) = codes "boolean"
@@ -30,13 +31,16 @@ type_name (text s) = codes "string"
 type_name (array vs) = codes "array"
 type_name (object ms) = codes "object"
 
+-- the argument is the name of the value's type
 abbrev pub has_type : Value → Value → Bool
 has_type argument v = is_there_and (λ s. pointwise ◌==◌ (type_name v) s) (text_in argument)
 
+-- an element passes the test
 abbrev pub some_item : (Value → Bool) → Items → Bool
 some_item test no_items = false
 some_item test (item v vs) = test v || some_item test vs
 
+-- each element passes the test
 abbrev pub each_item : (Value → Bool) → Items → Bool
 each_item test no_items = true
 each_item test (item v vs) = test v && each_item test vs
@@ -45,6 +49,7 @@ each_item test (item v vs) = test v && each_item test vs
 abbrev pub elements : Value → Items
 elements v = items_or_none (items_in v)
 
+-- an element equals the value
 abbrev pub is_among : Value → Items → Bool
 is_among v vs = some_item (λ w. is_eq (collation v w)) vs
 
@@ -53,6 +58,7 @@ abbrev pub items_length : Items → ℕ
 items_length no_items = 0
 items_length (item v vs) = suc (items_length vs)
 
+-- the value is an array of as many elements as the argument says
 abbrev pub has_size : Value → Value → Bool
 has_size (whole n) (array vs) = int_eq (pos (items_length vs)) n
 has_size argument v = false
@@ -67,6 +73,7 @@ abbrev pub each_of_some : (Value → Bool) → Items → Bool
 each_of_some test no_items = false
 each_of_some test (item v vs) = test v && each_item test vs
 
+-- an operator, its argument, and a value that is there
 abbrev pub meets : ValueOperator → Value → Value → Bool
 meets IsEqual argument v = is_eq (collation v argument)
 meets IsNotEqual argument v = is_ne (collation v argument)
@@ -89,11 +96,13 @@ exists_as (truth true) current = is_some current
 exists_as (truth false) current = not (is_some current)
 exists_as argument current = false
 
+-- an operator with one selector, whose truth of each value is given
 abbrev pub selector_operator_truth : SelectorOperator → (Option Value → Bool) → Option Value → Bool
 selector_operator_truth IsFalse truth_at current = not (truth_at current)
 selector_operator_truth SomeElement truth_at current = is_there_and (λ v. some_item (λ w. truth_at (Some w)) (elements v)) current
 selector_operator_truth EachElement truth_at current = is_there_and (λ v. each_of_some (λ w. truth_at (Some w)) (elements v)) current
 
+-- an operator with a list of selectors, whose truths are given
 abbrev pub list_operator_truth : ListOperator → List Bool → Bool
 list_operator_truth AllTrue truths = list_all (λ b. b) truths
 list_operator_truth SomeTrue truths = list_any (λ b. b) truths
@@ -128,15 +137,18 @@ abbrev mutual
   is_true root (object ms) current = are_true root ms current
   is_true root v current = false
 
+  -- the truths of the selectors of a list
   pub truths : Value → Value → Option Value → List Bool
   truths root (array vs) current = item_truths root vs current
   truths root v current = []
 
+  -- each member of a selector is true
   pub are_true : Value → Members → Option Value → Bool
   are_true root no_members current = true
   are_true root (member name v ms) current =
       member_truth root (operator_named name) name v (is_true root v) (truths root v) current && are_true root ms current
 
+  -- the truth of each selector, in order
   pub item_truths : Value → Items → Option Value → List Bool
   item_truths root no_items current = []
   item_truths root (item v vs) current = is_true root v current ∷ item_truths root vs current

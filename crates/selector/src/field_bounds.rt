@@ -115,7 +115,10 @@ fn add_condition<'a>(
     fields: &mut FieldBounds<'a>,
     condition: &'a Condition,
 ) -> Got<()>
-    ensures inside { OnOk result ((root : Value) (current : Option Value) → member_truth root (operator_named (name_of condition.now)) (name_of condition.now) (value_of condition.now) (is_true root (value_of condition.now)) (truths root (value_of condition.now)) current ≡ true
+    ensures inside { OnOk result
+        ((root : Value) (current : Option Value)
+        → member_truth root (operator_named (name_of condition.now)) (name_of condition.now) (value_of condition.now)
+        (is_true root (value_of condition.now)) (truths root (value_of condition.now)) current ≡ true
         → LieWithin fields.old current → LieWithin fields.new current) }
     ensures narrower { OnOk result (AreWider fields.new fields.old) }
     ensures one { OnOk result (operator_named (name_of condition.now) ≡ None → is_object (value_of condition.now) ≡ false
@@ -180,7 +183,10 @@ fn add_field<'a>(
     path: &FieldPath,
 ) -> Got<()>
     requires { path.now ≡ name_of condition.now }
-    ensures inside { OnOk result ((root : Value) (current : Option Value) → member_truth root (operator_named (name_of condition.now)) (name_of condition.now) (value_of condition.now) (is_true root (value_of condition.now)) (truths root (value_of condition.now)) current ≡ true
+    ensures inside { OnOk result
+        ((root : Value) (current : Option Value)
+        → member_truth root (operator_named (name_of condition.now)) (name_of condition.now) (value_of condition.now)
+        (is_true root (value_of condition.now)) (truths root (value_of condition.now)) current ≡ true
         → LieWithin fields.old current → LieWithin fields.new current) }
     ensures narrower { OnOk result (AreWider fields.new fields.old) }
     ensures one { OnOk result (operator_named (name_of condition.now) ≡ None → is_object (value_of condition.now) ≡ false

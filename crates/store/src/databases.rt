@@ -1,4 +1,5 @@
-ghost use Rattle.std.specs.Prelude.{◌≡◌, ◌<◌, ◌++◌, ◌∷◌, [], IfNone, IfOk, IfSome, OnErr, OnOk, None, Some, length, option_map, slice_set, slice_get, vec_len, map as list_map};
+ghost use Rattle.std.specs.Prelude.{◌≡◌, ◌<◌, ◌++◌, ◌∷◌, [], IfNone, IfOk, IfSome, OnErr, OnOk, None, Some, length};
+ghost use Rattle.std.specs.Prelude.{option_map, slice_set, slice_get, vec_len, map as list_map};
 ghost use Rattle.std.specs.FinMap as map;
 ghost use Rattle.store.specs.Contents.{new_database, with_local, with_security};
 ghost use Rattle.store.specs.Database.{with_all};

@@ -106,7 +106,8 @@ impl<S: Store + Drop> Store for FailStore<S> {
         ensures absent { S.is_honest self.new.store → OnOk result (map.get (S.contents self.old.store) name.now ≡ None) }
         ensures exists { S.is_honest self.new.store → result ≡ Err StoreFault.Exists → is_some (map.get (S.contents self.old.store) name.now) ≡ true }
         ensures others { result ≢ Err StoreFault.NoDatabase }
-        ensures caused { IfErr result (λ fault. IsCaused (⟦<FailStore<S> as Store>⟧.fault_count self.old) (⟦<FailStore<S> as Store>⟧.fault_count self.new) (S.is_honest self.new.store)
+        ensures caused { IfErr result
+            (λ fault. IsCaused (⟦<FailStore<S> as Store>⟧.fault_count self.old) (⟦<FailStore<S> as Store>⟧.fault_count self.new) (S.is_honest self.new.store)
             (S.is_honest self.new.store → S.lacks_number self.old.store) fault) }
         ensures changes { ChangesWhole ⟦<FailStore<S> as Store>⟧ self.old self.new result }
         ensures turn { TakesTurn S.Store self.old self.new result }
@@ -120,7 +121,9 @@ impl<S: Store + Drop> Store for FailStore<S> {
         ensures there { S.is_honest self.new.store → OnOk result (is_some (map.get (S.contents self.old.store) name.now) ≡ true) }
         ensures missing { S.is_honest self.new.store → result ≡ Err StoreFault.NoDatabase → map.get (S.contents self.old.store) name.now ≡ None }
         ensures others { result ≢ Err StoreFault.Exists }
-        ensures caused { IfErr result (λ fault. IsCaused (⟦<FailStore<S> as Store>⟧.fault_count self.old) (⟦<FailStore<S> as Store>⟧.fault_count self.new) (S.is_honest self.new.store) ⊥ fault) }
+        ensures caused { IfErr result
+            (λ fault. IsCaused (⟦<FailStore<S> as Store>⟧.fault_count self.old) (⟦<FailStore<S> as Store>⟧.fault_count self.new)
+            (S.is_honest self.new.store) ⊥ fault) }
         ensures changes { ChangesWhole ⟦<FailStore<S> as Store>⟧ self.old self.new result }
         ensures turn { TakesTurn S.Store self.old self.new result }
     {
@@ -149,10 +152,14 @@ impl<S: Store + Drop> Store for FailStore<S> {
     }
 
     fn set_security(&mut self, name: &DbName, security: &Security) -> Result<(), StoreFault>
-        ensures ok { S.is_honest self.new.store → OnOk result (option_map (λ db. map.insert (S.contents self.old.store) name.now (with_security db security.now)) (map.get (S.contents self.old.store) name.now) ≡ Some (S.contents self.new.store)) }
+        ensures ok { S.is_honest self.new.store
+            → OnOk result (option_map (λ db. map.insert (S.contents self.old.store) name.now (with_security db security.now))
+            (map.get (S.contents self.old.store) name.now) ≡ Some (S.contents self.new.store)) }
         ensures missing { S.is_honest self.new.store → result ≡ Err StoreFault.NoDatabase → map.get (S.contents self.old.store) name.now ≡ None }
         ensures others { result ≢ Err StoreFault.Exists }
-        ensures caused { IfErr result (λ fault. IsCaused (⟦<FailStore<S> as Store>⟧.fault_count self.old) (⟦<FailStore<S> as Store>⟧.fault_count self.new) (S.is_honest self.new.store) ⊥ fault) }
+        ensures caused { IfErr result
+            (λ fault. IsCaused (⟦<FailStore<S> as Store>⟧.fault_count self.old) (⟦<FailStore<S> as Store>⟧.fault_count self.new)
+            (S.is_honest self.new.store) ⊥ fault) }
         ensures changes { ChangesWhole ⟦<FailStore<S> as Store>⟧ self.old self.new result }
         ensures turn { TakesTurn S.Store self.old self.new result }
     {
@@ -247,12 +254,16 @@ impl<S: Store + Drop> Store for FailStore<S> {
     fn commit(&mut self, name: &DbName, writes: &[Write]) -> Result<(), StoreFault>
         requires { S.is_honest self.old.store → IfThere (map.get (S.contents self.old.store) name.now)
             (λ db. AreAcceptable db (writings_in db (additions writes.now))) }
-        ensures ok { S.is_honest self.new.store → OnOk result (option_map (λ db. map.insert (S.contents self.old.store) name.now (with_all db (writings_in db (additions writes.now))))
+        ensures ok { S.is_honest self.new.store
+            → OnOk result (option_map (λ db. map.insert (S.contents self.old.store) name.now (with_all db (writings_in db (additions writes.now))))
             (map.get (S.contents self.old.store) name.now) ≡ Some (S.contents self.new.store)) }
         ensures missing { S.is_honest self.new.store → result ≡ Err StoreFault.NoDatabase → map.get (S.contents self.old.store) name.now ≡ None }
         ensures others { result ≢ Err StoreFault.Exists }
-        ensures caused { IfErr result (λ fault. IsCaused (⟦<FailStore<S> as Store>⟧.fault_count self.old) (⟦<FailStore<S> as Store>⟧.fault_count self.new) (S.is_honest self.new.store)
-            (S.is_honest self.new.store → IsThereWith (map.get (S.contents self.old.store) name.now) (λ db. S.lacks_room self.old.store name.now (writings_in db (additions writes.now)))) fault) }
+        ensures caused { IfErr result
+            (λ fault. IsCaused (⟦<FailStore<S> as Store>⟧.fault_count self.old) (⟦<FailStore<S> as Store>⟧.fault_count self.new) (S.is_honest self.new.store)
+            (S.is_honest self.new.store
+            → IsThereWith (map.get (S.contents self.old.store) name.now)
+            (λ db. S.lacks_room self.old.store name.now (writings_in db (additions writes.now)))) fault) }
         ensures changes { ChangesWhole ⟦<FailStore<S> as Store>⟧ self.old self.new result }
         ensures turn { TakesTurn S.Store self.old self.new result }
     {
@@ -277,10 +288,14 @@ impl<S: Store + Drop> Store for FailStore<S> {
         document: &LocalDocument,
     ) -> Result<(), StoreFault>
         requires { S.is_honest self.old.store → IfThere (map.get (S.contents self.old.store) name.now) (λ _. IsBody document.now.body) }
-        ensures ok { S.is_honest self.new.store → OnOk result (option_map (λ db. map.insert (S.contents self.old.store) name.now (with_local db id.now document.now)) (map.get (S.contents self.old.store) name.now) ≡ Some (S.contents self.new.store)) }
+        ensures ok { S.is_honest self.new.store
+            → OnOk result (option_map (λ db. map.insert (S.contents self.old.store) name.now (with_local db id.now document.now))
+            (map.get (S.contents self.old.store) name.now) ≡ Some (S.contents self.new.store)) }
         ensures missing { S.is_honest self.new.store → result ≡ Err StoreFault.NoDatabase → map.get (S.contents self.old.store) name.now ≡ None }
         ensures others { result ≢ Err StoreFault.Exists }
-        ensures caused { IfErr result (λ fault. IsCaused (⟦<FailStore<S> as Store>⟧.fault_count self.old) (⟦<FailStore<S> as Store>⟧.fault_count self.new) (S.is_honest self.new.store) ⊥ fault) }
+        ensures caused { IfErr result
+            (λ fault. IsCaused (⟦<FailStore<S> as Store>⟧.fault_count self.old) (⟦<FailStore<S> as Store>⟧.fault_count self.new)
+            (S.is_honest self.new.store) ⊥ fault) }
         ensures changes { ChangesWhole ⟦<FailStore<S> as Store>⟧ self.old self.new result }
         ensures turn { TakesTurn S.Store self.old self.new result }
     {

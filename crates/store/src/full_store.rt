@@ -123,12 +123,15 @@ impl<S: Store + Drop> Store for FullStore<S> {
     fn commit(&mut self, name: &DbName, writes: &[Write]) -> Result<(), StoreFault>
         requires { S.is_honest self.old.store → IfThere (map.get (S.contents self.old.store) name.now)
             (λ db. AreAcceptable db (writings_in db (additions writes.now))) }
-        ensures ok { S.is_honest self.new.store → OnOk result (option_map (λ db. map.insert (S.contents self.old.store) name.now (with_all db (writings_in db (additions writes.now))))
+        ensures ok { S.is_honest self.new.store
+            → OnOk result (option_map (λ db. map.insert (S.contents self.old.store) name.now (with_all db (writings_in db (additions writes.now))))
             (map.get (S.contents self.old.store) name.now) ≡ Some (S.contents self.new.store)) }
         ensures missing { S.is_honest self.new.store → result ≡ Err StoreFault.NoDatabase → map.get (S.contents self.old.store) name.now ≡ None }
         ensures others { result ≢ Err StoreFault.Exists }
         ensures caused { IfErr result (λ fault. IsCaused (S.fault_count self.old.store) (S.fault_count self.new.store) (S.is_honest self.new.store)
-            (S.is_honest self.new.store → IsThereWith (map.get (S.contents self.old.store) name.now) (λ db. ⟦<FullStore<S> as Store>⟧.lacks_room self.old name.now (writings_in db (additions writes.now)))) fault) }
+            (S.is_honest self.new.store
+            → IsThereWith (map.get (S.contents self.old.store) name.now)
+            (λ db. ⟦<FullStore<S> as Store>⟧.lacks_room self.old name.now (writings_in db (additions writes.now)))) fault) }
         ensures changes { ChangesWhole ⟦<FullStore<S> as Store>⟧ self.old self.new result }
         ensures full { self.old.full ≡ name.now → OnOk result ⊥ }
         ensures same { self.new.full ≡ self.old.full }

@@ -5,7 +5,8 @@ ghost use Rattle.std.specs.Prelude.{◌≡◌, IfOk, IfSome, Some, option_map, t
 ghost use Rattle.couch_json.specs.View.{items_view, view};
 ghost use Rattle.policy.specs.DesignDocuments.{are_paths, is_index, is_path};
 ghost use Rattle.couch_json.specs.Parts.{text_in};
-ghost use Rattle.store.specs.Indexes.{declared_fields, declared_index, field_values, fields_in, index_fields_of, paths_in, queried_document, shown_by, winning_body};
+ghost use Rattle.store.specs.Indexes.{declared_fields, declared_index, field_values, fields_in, index_fields_of};
+ghost use Rattle.store.specs.Indexes.{paths_in, queried_document, shown_by, winning_body};
 
 use crate::plain_id_pages::find_live_rev;
 use couch_json::{FieldPath, Got, Json, NoMemory, PathFault, at};

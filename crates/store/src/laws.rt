@@ -7,7 +7,8 @@ ghost use Rattle.tree.specs.Revision.{Revision};
 ghost use Rattle.tree.specs.History.{HistoryContent, held_of, winner};
 ghost use Rattle.tree.specs.declared.entry.Held.{Held};
 ghost use Rattle.store.specs.Contents.{AreAcceptable, IsAcceptable, with_local, with_security};
-ghost use Rattle.store.specs.Database.{Database, Document, DocumentWrite, HasSequences, IsContentOf, IsLater, Log, empty_database, with_all, with_one, with_write_logged};
+ghost use Rattle.store.specs.Database.{Database, Document, DocumentWrite, HasSequences, IsContentOf, IsLater, Log};
+ghost use Rattle.store.specs.Database.{empty_database, with_all, with_one, with_write_logged};
 ghost use Rattle.store.specs.Failing.{calls_later, failing_call, failures_of};
 ghost use Rattle.store.specs.Indexes.{IndexPlace, IsPlaceOf, index_rows, place_order, queried_document, winning_body};
 ghost use Rattle.store.specs.Lawful.{IsBody, IsLawful};
@@ -103,7 +104,8 @@ pub fn rows_by_sequence()
 pub fn rows_by_id()
     ensures ascending { (range : IdRange) (db : Database) → AllPairs (λ a b. comes_before range.descending a.id b.id ≡ true) (page_of_ids range db).rows }
     ensures there { (range : IdRange) (db : Database) (r : IdRow) → Contains (page_of_ids range db).rows r → IsIdRowOf range db r }
-    ensures whole { (range : IdRange) (db : Database) (r : IdRow) → range.limit ≡ None → range.skip ≡ 0 → IsIdRowOf range db r → Contains (page_of_ids range db).rows r }
+    ensures whole { (range : IdRange) (db : Database) (r : IdRow) → range.limit ≡ None → range.skip ≡ 0 → IsIdRowOf range db r
+        → Contains (page_of_ids range db).rows r }
 {}
 
 /// The rows of an index ascend; each is of a document that queries look at, at its values, and each such

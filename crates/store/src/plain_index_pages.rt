@@ -35,7 +35,8 @@ pub(crate) fn page_by_key(
     index: &str,
     range: &KeyRange,
 ) -> Got<Option<PageByKey>>
-    ensures page { IfOk result (λ page. key_page_in page ≡ option_map (λ fields. key_page range.now (places_over fields (gathered_after 0 [] (additions writes.now.items))))
+    ensures page { IfOk result
+        (λ page. key_page_in page ≡ option_map (λ fields. key_page range.now (places_over fields (gathered_after 0 [] (additions writes.now.items))))
         (index_fields_of design.now (history_after map.empty design.now (additions writes.now.items)) index.now)) }
     ensures counted { IfOk result (λ page. IfSome page (HasKeyCounts range.now)) }
 {

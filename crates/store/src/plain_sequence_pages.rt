@@ -2,7 +2,8 @@
 
 ghost use Rattle.std.specs.Prelude.{◌≡◌, ◌≤◌, [], IfOk, IfSome, OnOk, filter, length, map as list_map, nat_lt};
 ghost use Rattle.std.specs.FinMap as map;
-ghost use Rattle.store.specs.Pages.{document_counts, gone_count, if_counted, in_sequence, is_gone, last_sequence, up_to_limit, page_with, row_of, rows_of, sequence_page, shown_revs};
+ghost use Rattle.store.specs.Pages.{document_counts, gone_count, if_counted, in_sequence, is_gone, last_sequence};
+ghost use Rattle.store.specs.Pages.{up_to_limit, page_with, row_of, rows_of, sequence_page, shown_revs};
 ghost use Rattle.store.specs.PageStructs.{AreBounded, IsBounded, sequence_page_of, sequence_row_of, sequence_rows};
 ghost use Rattle.store.specs.Plain.{document_entries, gathered_after, document_entry, with_addition, with_write_at};
 ghost use Rattle.store.specs.Writing.{addition_of, additions};
@@ -19,7 +20,8 @@ use tree::{DocId, History, Rev};
 
 /// Returns the rows that the writes made, in the order of their sequences, cut by the range.
 pub(crate) fn page_by_seq(alloc: Global, writes: &Vec<Write>, range: &SeqRange) -> Got<PageBySeq>
-    ensures page { IfOk result (λ page. sequence_page_of page ≡ page_with range.now (length writes.now.items) (gathered_after 0 [] (additions writes.now.items))) }
+    ensures page { IfOk result
+        (λ page. sequence_page_of page ≡ page_with range.now (length writes.now.items) (gathered_after 0 [] (additions writes.now.items))) }
     ensures bounded { IfOk result (IsBounded range.now) }
 {
     let documents = documents_of(alloc, writes)?;
@@ -90,7 +92,8 @@ fn take_in(
     sequence: u64,
     write: &Write,
 ) -> Got<()>
-    ensures ok { OnOk result (document_entries documents.new.entries ≡ with_write_at sequence (document_entries documents.old.entries) (addition_of write.now)) }
+    ensures ok { OnOk result
+        (document_entries documents.new.entries ≡ with_write_at sequence (document_entries documents.old.entries) (addition_of write.now)) }
 {
     match documents.get_mut(&write.id) {
         Some(document) => write_to(document, sequence, write)?,

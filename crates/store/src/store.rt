@@ -81,7 +81,9 @@ pub trait Store {
 
     /// Gives a database another security object. `NoDatabase` comes if and only if there is none.
     fn set_security(&mut self, name: &DbName, security: &Security) -> Result<(), StoreFault>
-        ensures ok { is_honest self.new → OnOk result (option_map (λ db. map.insert (contents self.old) name.now (with_security db security.now)) (map.get (contents self.old) name.now) ≡ Some (contents self.new)) }
+        ensures ok { is_honest self.new
+            → OnOk result (option_map (λ db. map.insert (contents self.old) name.now (with_security db security.now))
+            (map.get (contents self.old) name.now) ≡ Some (contents self.new)) }
         ensures missing { is_honest self.new → result ≡ Err StoreFault.NoDatabase → map.get (contents self.old) name.now ≡ None }
         ensures others { result ≢ Err StoreFault.Exists }
         ensures caused { IfErr result (λ fault. IsCaused (fault_count self.old) (fault_count self.new) (is_honest self.new) ⊥ fault) }
@@ -161,12 +163,14 @@ pub trait Store {
     fn commit(&mut self, name: &DbName, writes: &[Write]) -> Result<(), StoreFault>
         requires { is_honest self.old → IfThere (map.get (contents self.old) name.now)
             (λ db. AreAcceptable db (writings_in db (additions writes.now))) }
-        ensures ok { is_honest self.new → OnOk result (option_map (λ db. map.insert (contents self.old) name.now (with_all db (writings_in db (additions writes.now))))
+        ensures ok { is_honest self.new
+            → OnOk result (option_map (λ db. map.insert (contents self.old) name.now (with_all db (writings_in db (additions writes.now))))
             (map.get (contents self.old) name.now) ≡ Some (contents self.new)) }
         ensures missing { is_honest self.new → result ≡ Err StoreFault.NoDatabase → map.get (contents self.old) name.now ≡ None }
         ensures others { result ≢ Err StoreFault.Exists }
         ensures caused { IfErr result (λ fault. IsCaused (fault_count self.old) (fault_count self.new) (is_honest self.new)
-            (is_honest self.new → IsThereWith (map.get (contents self.old) name.now) (λ db. lacks_room self.old name.now (writings_in db (additions writes.now)))) fault) }
+            (is_honest self.new → IsThereWith (map.get (contents self.old) name.now)
+            (λ db. lacks_room self.old name.now (writings_in db (additions writes.now)))) fault) }
         ensures changes { ChangesWhole contents is_honest is_clean fault_count self.old self.new result };
 
     /// Returns a local document, or `None` if none of this id was written. `NoDatabase` comes if and
@@ -188,7 +192,9 @@ pub trait Store {
         document: &LocalDocument,
     ) -> Result<(), StoreFault>
         requires { is_honest self.old → IfThere (map.get (contents self.old) name.now) (λ _. IsBody document.now.body) }
-        ensures ok { is_honest self.new → OnOk result (option_map (λ db. map.insert (contents self.old) name.now (with_local db id.now document.now)) (map.get (contents self.old) name.now) ≡ Some (contents self.new)) }
+        ensures ok { is_honest self.new
+            → OnOk result (option_map (λ db. map.insert (contents self.old) name.now (with_local db id.now document.now))
+            (map.get (contents self.old) name.now) ≡ Some (contents self.new)) }
         ensures missing { is_honest self.new → result ≡ Err StoreFault.NoDatabase → map.get (contents self.old) name.now ≡ None }
         ensures others { result ≢ Err StoreFault.Exists }
         ensures caused { IfErr result (λ fault. IsCaused (fault_count self.old) (fault_count self.new) (is_honest self.new) ⊥ fault) }

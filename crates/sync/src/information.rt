@@ -21,8 +21,10 @@ use std::alloc::Global;
 /// Asks the source of a pass how far its database goes, its `update_seq`. There is none where the reply was
 /// lost, or is of another status or shape.
 pub fn ask_update_seq<S: Side>(alloc: Global, plan: &SyncPlan, source: &mut S) -> Got<Option<u64>>
-    ensures said { S.is_honest source.new → IfOk result (λ sequence. IsSaid S.answers source.old (information_request (pass_configuration (sync_of plan.now))) sequence source.new) }
-    ensures refused { S.is_honest source.new → OnErr result (MayAnswer S.answers source.old (information_request (pass_configuration (sync_of plan.now))) source.new) }
+    ensures said { S.is_honest source.new
+        → IfOk result (λ sequence. IsSaid S.answers source.old (information_request (pass_configuration (sync_of plan.now))) sequence source.new) }
+    ensures refused { S.is_honest source.new
+        → OnErr result (MayAnswer S.answers source.old (information_request (pass_configuration (sync_of plan.now))) source.new) }
     ensures honest { S.is_honest source.new → S.is_honest source.old }
 {
     let request = information_request(alloc, plan)?;

@@ -92,7 +92,8 @@ fn play_to_end<S: Store + Drop, T: Watch>(
 ) -> Result<Ask, ProgramFault>
     ensures ended { AreHonest S.Store world.new.nodes → IfOk result (λ end. ComesToEnd (HasTurn S.Store repl) world.old (ask_of end) world.new) }
     ensures known { OnOk result (was_started world.old.transfers repl ≡ true) }
-    ensures memory { AreHonest S.Store world.new.nodes → result ≡ Err ProgramFault.Memory → StopsInTurn (HasTurn S.Store repl) (BreaksOff S.Store repl) world.old world.new }
+    ensures memory { AreHonest S.Store world.new.nodes → result ≡ Err ProgramFault.Memory
+        → StopsInTurn (HasTurn S.Store repl) (BreaksOff S.Store repl) world.old world.new }
     ensures early { AreHonest S.Store world.new.nodes → OnErr result (EndsEarly (HasTurn S.Store repl) (BreaksOff S.Store repl) world.old world.new) }
     ensures file { AreHonest S.Store world.new.nodes → result ≡ Err ProgramFault.File
         → (was_started world.old.transfers repl ≡ false) ⊎ RunsOut (HasTurn S.Store repl) world.old world.new }

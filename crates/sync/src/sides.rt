@@ -42,18 +42,22 @@ pub fn sync_sides<F: Side, T: Side, W: Write, V: Watch>(
 
     // At a refusal the exchanges so far stand, and the side that was asked may have answered once more. What was printed before stands.
     ensures early { F.is_honest source.new → T.is_honest target.new → OnErr result (EndsEarly (HasTurn F.answers T.answers) (BreaksOff F.answers T.answers)
-        (record { source = source.old; target = target.old; pass = pass_of pass.old }) (record { source = source.new; target = target.new; pass = pass_of pass.new })) }
+        (record { source = source.old; target = target.old; pass = pass_of pass.old })
+        (record { source = source.new; target = target.new; pass = pass_of pass.new })) }
     ensures kept { OnErr result (StandsIn (W.contents writer.old) (W.contents writer.new)) }
     ensures faults { IfErr result (λ fault. (fault ≡ ProgramFault.File) ⊎ (fault ≡ ProgramFault.Memory)) }
 
     // Where memory ran out nothing was printed.
-    ensures memory { F.is_honest source.new → T.is_honest target.new → result ≡ Err ProgramFault.Memory → StopsInTurn (HasTurn F.answers T.answers) (BreaksOff F.answers T.answers)
-        (record { source = source.old; target = target.old; pass = pass_of pass.old }) (record { source = source.new; target = target.new; pass = pass_of pass.new })
+    ensures memory { F.is_honest source.new → T.is_honest target.new → result ≡ Err ProgramFault.Memory
+        → StopsInTurn (HasTurn F.answers T.answers) (BreaksOff F.answers T.answers)
+        (record { source = source.old; target = target.old; pass = pass_of pass.old })
+        (record { source = source.new; target = target.new; pass = pass_of pass.new })
         × (W.contents writer.new ≡ W.contents writer.old) }
 
     // Else the pass had not ended, or its line could not be printed whole.
     ensures file { F.is_honest source.new → T.is_honest target.new → result ≡ Err ProgramFault.File → IsUntold (HasTurn F.answers T.answers)
-        (record { source = source.old; target = target.old; pass = pass_of pass.old }) (record { source = source.new; target = target.new; pass = pass_of pass.new })
+        (record { source = source.old; target = target.old; pass = pass_of pass.old })
+        (record { source = source.new; target = target.new; pass = pass_of pass.new })
         (W.contents writer.old) (W.contents writer.new) }
 {
     let end = play_to_end(alloc, source, target, pass, watch);
@@ -72,9 +76,11 @@ fn play_to_end<F: Side, T: Side, V: Watch>(
     watch: &mut V,
 ) -> Result<Ask, ProgramFault>
     ensures ended { F.is_honest source.new → T.is_honest target.new → IfOk result (λ end. ComesToEnd (HasTurn F.answers T.answers)
-        (record { source = source.old; target = target.old; pass = pass_of pass.old }) (ask_of end) (record { source = source.new; target = target.new; pass = pass_of pass.new })) }
+        (record { source = source.old; target = target.old; pass = pass_of pass.old }) (ask_of end)
+        (record { source = source.new; target = target.new; pass = pass_of pass.new })) }
     ensures early { F.is_honest source.new → T.is_honest target.new → IfErr result (EndsBy (HasTurn F.answers T.answers) (BreaksOff F.answers T.answers)
-        (record { source = source.old; target = target.old; pass = pass_of pass.old }) (record { source = source.new; target = target.new; pass = pass_of pass.new })) }
+        (record { source = source.old; target = target.old; pass = pass_of pass.old })
+        (record { source = source.new; target = target.new; pass = pass_of pass.new })) }
     ensures faults { IfErr result (λ fault. (fault ≡ ProgramFault.File) ⊎ (fault ≡ ProgramFault.Memory)) }
 {
     for _turn in 0..MOST_TURNS {
@@ -94,9 +100,11 @@ fn take_turn<F: Side, T: Side, V: Watch>(
     watch: &mut V,
 ) -> Got<Option<Ask>>
     ensures turn { F.is_honest source.new → T.is_honest target.new → IfOk result (λ end. HasTurn F.answers T.answers
-        (record { source = source.old; target = target.old; pass = pass_of pass.old }) (option_map ask_of end) (record { source = source.new; target = target.new; pass = pass_of pass.new })) }
+        (record { source = source.old; target = target.old; pass = pass_of pass.old }) (option_map ask_of end)
+        (record { source = source.new; target = target.new; pass = pass_of pass.new })) }
     ensures early { F.is_honest source.new → T.is_honest target.new → OnErr result (BreaksOff F.answers T.answers
-        (record { source = source.old; target = target.old; pass = pass_of pass.old }) (record { source = source.new; target = target.new; pass = pass_of pass.new })) }
+        (record { source = source.old; target = target.old; pass = pass_of pass.old })
+        (record { source = source.new; target = target.new; pass = pass_of pass.new })) }
     ensures source { F.is_honest source.new → F.is_honest source.old }
     ensures target { T.is_honest target.new → T.is_honest target.old }
 {

@@ -16,7 +16,8 @@ ghost use Rattle.sqlite.specs.Effect as sqlite;
 ghost use Rattle.sqlite_trees.specs.Tree.{Trees};
 ghost use Rattle.sqlite_value.specs.Order.{Row};
 ghost use Rattle.tables.specs.Layout.{IsLaid, IsStore};
-ghost use Rattle.tables.specs.Rows.{contents_in, database_cells, database_of, has_number, is_in, is_named, is_of, local_cells, number_of, rows_with_security, with_cells};
+ghost use Rattle.tables.specs.Rows.{contents_in, database_cells, database_of, has_number, is_in, is_named, is_of};
+ghost use Rattle.tables.specs.Rows.{local_cells, number_of, rows_with_security, with_cells};
 ghost use Rattle.tables.specs.Schema.{dbs_tree, docs_tree, locals_tree, revs_tree};
 ghost use Rattle.tables.specs.Steps.{Changes};
 
@@ -41,7 +42,8 @@ pub fn another_security()
     ensures { (old new : sqlite.Database) (name : List ℕ) (d : Row) (v : Value) → IsStore old
         → slice_get (filter (is_named name) (old.trees dbs_tree)) 0 ≡ Some d → IsTrue (is_security v) → IsLawful v
         → Changes dbs_tree (rows_with_security (number_of d) (canonical v) (old.trees dbs_tree)) old new
-        → IsStore new × (option_map (λ db. finite.insert (contents_in old.trees) name (store.with_security db v)) (finite.get (contents_in old.trees) name) ≡ Some (contents_in new.trees)) }
+        → IsStore new × (option_map (λ db. finite.insert (contents_in old.trees) name (store.with_security db v))
+        (finite.get (contents_in old.trees) name) ≡ Some (contents_in new.trees)) }
 {}
 
 /// A row that takes the place of those of its database and id is that local document of the database.
@@ -51,7 +53,8 @@ pub fn another_local()
         → IsTrue (is_document_id id) → IsBody document.body → IsLawful document.body → document.number < 2 ^ 32
         → Changes locals_tree (filter (λ r. not (is_of (number_of d) id r)) (a.trees locals_tree)) a b
         → Changes locals_tree (with_cells (b.trees locals_tree) (local_cells (number_of d) id document.number (canonical document.body))) b c
-        → IsStore c × (option_map (λ db. finite.insert (contents_in a.trees) name (store.with_local db id document)) (finite.get (contents_in a.trees) name) ≡ Some (contents_in c.trees)) }
+        → IsStore c × (option_map (λ db. finite.insert (contents_in a.trees) name (store.with_local db id document))
+        (finite.get (contents_in a.trees) name) ≡ Some (contents_in c.trees)) }
 {}
 
 /// A database whose rows are all deleted is removed.

@@ -52,12 +52,14 @@ fn make_tables<S: Alter>(tx: &mut Transaction<'_, S>) -> Result<(), Error>
     )?;
     change(
         tx,
-        "CREATE TABLE docs (db INTEGER NOT NULL, id BLOB NOT NULL, seq INTEGER NOT NULL, winner TEXT NOT NULL, del INTEGER NOT NULL, PRIMARY KEY (db, id), UNIQUE (db, seq)) STRICT",
+        "CREATE TABLE docs (db INTEGER NOT NULL, id BLOB NOT NULL, seq INTEGER NOT NULL, winner TEXT NOT NULL, \
+         del INTEGER NOT NULL, PRIMARY KEY (db, id), UNIQUE (db, seq)) STRICT",
         &[],
     )?;
     change(
         tx,
-        "CREATE TABLE revs (db INTEGER NOT NULL, id BLOB NOT NULL, n INTEGER NOT NULL, hash TEXT NOT NULL, parent TEXT, held INTEGER NOT NULL, del INTEGER NOT NULL, body TEXT, PRIMARY KEY (db, id, n, hash)) STRICT",
+        "CREATE TABLE revs (db INTEGER NOT NULL, id BLOB NOT NULL, n INTEGER NOT NULL, hash TEXT NOT NULL, parent TEXT, \
+         held INTEGER NOT NULL, del INTEGER NOT NULL, body TEXT, PRIMARY KEY (db, id, n, hash)) STRICT",
         &[],
     )?;
     change(
@@ -67,7 +69,8 @@ fn make_tables<S: Alter>(tx: &mut Transaction<'_, S>) -> Result<(), Error>
     )?;
     change(
         tx,
-        "CREATE TABLE decls (num INTEGER PRIMARY KEY, db INTEGER NOT NULL, ddoc BLOB NOT NULL, name BLOB NOT NULL, fields TEXT NOT NULL, UNIQUE (db, ddoc, name)) STRICT",
+        "CREATE TABLE decls (num INTEGER PRIMARY KEY, db INTEGER NOT NULL, ddoc BLOB NOT NULL, name BLOB NOT NULL, \
+         fields TEXT NOT NULL, UNIQUE (db, ddoc, name)) STRICT",
         &[],
     )?;
     change(

@@ -4,7 +4,8 @@ ghost use Rattle.std.specs.Prelude.{◌≡◌, not, pos, filter, map};
 ghost use Rattle.sqlite_keyed.specs.Lists.{sort_by};
 ghost use Rattle.tables.specs.Calls.{Alters, Reads};
 ghost use Rattle.tables.specs.Layout.{AreDatabaseRows, IsStore};
-ghost use Rattle.tables.specs.Rows.{rows_at_sequence, by_name, database_cells, has_number, is_named, rows_with_security, shown_database, shown_name, with_cells};
+ghost use Rattle.tables.specs.Rows.{rows_at_sequence, by_name, database_cells, has_number, is_named};
+ghost use Rattle.tables.specs.Rows.{rows_with_security, shown_database, shown_name, with_cells};
 ghost use Rattle.tables.specs.Schema.{dbs_tree};
 
 use crate::statement::{change, query};
@@ -29,7 +30,8 @@ pub fn insert_database<S: Alter>(
     security: &str,
 ) -> Result<(), Error>
     ensures same_reference { tx.new.conn.ghost_name ≡ tx.old.conn.ghost_name }
-    ensures alters { Alters S.Store dbs_tree AreDatabaseRows (λ rows. with_cells rows (database_cells name.now security.now (pos 0))) tx.old.conn.now tx.new.conn.now result }
+    ensures alters { Alters S.Store dbs_tree AreDatabaseRows
+        (λ rows. with_cells rows (database_cells name.now security.now (pos 0))) tx.old.conn.now tx.new.conn.now result }
 {
     change(
         tx,

@@ -7,7 +7,9 @@ ghost use Rattle.sqlite_value.specs.declared.value.Value.TheVariants.{Text};
 ghost use Rattle.tree.specs.Revision.{revision_read, text_of};
 ghost use Rattle.tables.specs.Rows.{count_in, json_in, parent_in, whole_in};
 ghost use Rattle.tables.specs.Listings.{IsListedDocument, SpellsId, listed_id, listed_mark, listed_sequence, listed_winner};
-ghost use Rattle.tables.specs.Shown.{IsCount, IsShownDatabase, IsShownHash, IsShownLocal, IsShownOutline, IsShownRevision, IsSmall, IsWhole, ShowsHeld, ShowsMark, SpellsHash, SpellsHashOf, SpellsJson, SpellsParentOf, SpellsRevision, held_shown, local_shown, mark_shown, parent_shown, revision_shown};
+ghost use Rattle.tables.specs.Shown.{IsCount, IsShownDatabase, IsShownHash, IsShownLocal, IsShownOutline, IsShownRevision, IsSmall};
+ghost use Rattle.tables.specs.Shown.{IsWhole, ShowsHeld, ShowsMark, SpellsHash, SpellsHashOf, SpellsJson, SpellsParentOf, SpellsRevision};
+ghost use Rattle.tables.specs.Shown.{held_shown, local_shown, mark_shown, parent_shown, revision_shown};
 
 use couch_json::{Json, JsonFault};
 use sqlite::{Error, ErrorCode, Row};

@@ -23,7 +23,8 @@ pub fn insert_document<S: Alter>(
     deleted: bool,
 ) -> Result<(), Error>
     ensures same_reference { tx.new.conn.ghost_name ≡ tx.old.conn.ghost_name }
-    ensures alters { Alters S.Store docs_tree AreKeyed (λ rows. with_cells rows (document_cells db.now id.now sequence.now winner.now deleted)) tx.old.conn.now tx.new.conn.now result }
+    ensures alters { Alters S.Store docs_tree AreKeyed
+        (λ rows. with_cells rows (document_cells db.now id.now sequence.now winner.now deleted)) tx.old.conn.now tx.new.conn.now result }
 {
     change(
         tx,
@@ -42,7 +43,8 @@ pub fn advance_document<S: Alter>(
     deleted: bool,
 ) -> Result<(), Error>
     ensures same_reference { tx.new.conn.ghost_name ≡ tx.old.conn.ghost_name }
-    ensures alters { Alters S.Store docs_tree AreDocumentRows (rows_with_winner db.now id.now sequence.now winner.now deleted) tx.old.conn.now tx.new.conn.now result }
+    ensures alters { Alters S.Store docs_tree AreDocumentRows
+        (rows_with_winner db.now id.now sequence.now winner.now deleted) tx.old.conn.now tx.new.conn.now result }
 {
     change(
         tx,
@@ -62,7 +64,8 @@ pub fn clear_documents<S: Alter>(tx: &mut Transaction<'_, S>, db: &i64) -> Resul
 /// Returns the rows of all documents of a database, by their sequences: the id, the sequence, the
 /// winner and whether that is deleted.
 pub fn rows_by_sequence<S: Alter>(conn: &mut Connection<S>, db: &i64) -> Result<Vec<Row>, Error>
-    ensures { Reads S.Store IsStore conn.old conn.new (λ trees rows. rows.items ≡ map listed_document (sort_by by_sequence (filter (is_in db.now) (trees docs_tree)))) result }
+    ensures { Reads S.Store IsStore conn.old conn.new
+        (λ trees rows. rows.items ≡ map listed_document (sort_by by_sequence (filter (is_in db.now) (trees docs_tree)))) result }
 {
     query(
         conn,
@@ -77,7 +80,8 @@ pub fn document_rows<S: Alter>(
     db: &i64,
     id: &[u8],
 ) -> Result<Vec<Row>, Error>
-    ensures reads { Reads S.Store IsStore conn.old conn.new (λ trees rows. rows.items ≡ map listed_document (filter (is_of db.now id.now) (trees docs_tree))) result }
+    ensures reads { Reads S.Store IsStore conn.old conn.new
+        (λ trees rows. rows.items ≡ map listed_document (filter (is_of db.now id.now) (trees docs_tree))) result }
     ensures shown { HasCleanDisk (state S.Store conn.new) → IfOk result (λ rows. ShowsDocument S.Store db.now id.now conn.old conn.new rows.items) }
 {
     query(
@@ -98,7 +102,8 @@ pub fn live_rows_up<S: Alter>(
     most: &i64,
     skip: &i64,
 ) -> Result<Vec<Row>, Error>
-    ensures { Reads S.Store IsStore conn.old conn.new (λ trees rows. rows.items ≡ live_range false db.now low.now high.now most.now skip.now (trees docs_tree)) result }
+    ensures { Reads S.Store IsStore conn.old conn.new
+        (λ trees rows. rows.items ≡ live_range false db.now low.now high.now most.now skip.now (trees docs_tree)) result }
 {
     query(
         conn,
@@ -116,7 +121,8 @@ pub fn live_rows_down<S: Alter>(
     most: &i64,
     skip: &i64,
 ) -> Result<Vec<Row>, Error>
-    ensures { Reads S.Store IsStore conn.old conn.new (λ trees rows. rows.items ≡ live_range true db.now low.now high.now most.now skip.now (trees docs_tree)) result }
+    ensures { Reads S.Store IsStore conn.old conn.new
+        (λ trees rows. rows.items ≡ live_range true db.now low.now high.now most.now skip.now (trees docs_tree)) result }
 {
     query(
         conn,
@@ -134,7 +140,8 @@ pub fn count_documents<S: Alter>(
     low: &[u8],
     high: &[u8],
 ) -> Result<Vec<Row>, Error>
-    ensures { Reads S.Store IsStore conn.old conn.new (λ trees rows. rows.items ≡ shown_count (marked_count db.now deleted low.now high.now (trees docs_tree)) ∷ []) result }
+    ensures { Reads S.Store IsStore conn.old conn.new
+        (λ trees rows. rows.items ≡ shown_count (marked_count db.now deleted low.now high.now (trees docs_tree)) ∷ []) result }
 {
     query(
         conn,
@@ -151,7 +158,9 @@ pub fn rows_after<S: Alter>(
     sequence: &i64,
     limit: &i64,
 ) -> Result<Vec<Row>, Error>
-    ensures { Reads S.Store IsStore conn.old conn.new (λ trees rows. rows.items ≡ first_rows limit.now (filter (comes_after sequence.now) (map listed_document (sort_by by_sequence (filter (is_in db.now) (trees docs_tree)))))) result }
+    ensures { Reads S.Store IsStore conn.old conn.new
+        (λ trees rows. rows.items ≡ first_rows limit.now
+        (filter (comes_after sequence.now) (map listed_document (sort_by by_sequence (filter (is_in db.now) (trees docs_tree)))))) result }
 {
     query(
         conn,

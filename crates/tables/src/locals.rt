@@ -18,7 +18,8 @@ pub fn insert_local<S: Alter>(
     body: &str,
 ) -> Result<(), Error>
     ensures same_reference { tx.new.conn.ghost_name ≡ tx.old.conn.ghost_name }
-    ensures alters { Alters S.Store locals_tree AreKeyed (λ rows. with_cells rows (local_cells db.now id.now number body.now)) tx.old.conn.now tx.new.conn.now result }
+    ensures alters { Alters S.Store locals_tree AreKeyed
+        (λ rows. with_cells rows (local_cells db.now id.now number body.now)) tx.old.conn.now tx.new.conn.now result }
 {
     change(
         tx,

@@ -104,7 +104,8 @@ fn is_blank(schema: &Schema) -> bool
 }
 
 fn version_rows<S: Alter>(conn: &mut Connection<S>) -> Result<Vec<Row>, Error>
-    ensures reads { Reads S.Store (λ db. db.schema ≡ tables.schema) conn.old conn.new (λ trees rows. IsPermutation (map shown_version (trees meta_tree)) rows.items) result }
+    ensures reads { Reads S.Store (λ db. db.schema ≡ tables.schema) conn.old conn.new
+        (λ trees rows. IsPermutation (map shown_version (trees meta_tree)) rows.items) result }
     ensures failed { HasCleanDisk (state S.Store conn.new) → IfErr result (FailsToQuery version_text [] (state S.Store conn.old) (state S.Store conn.new)) }
 {
     query(conn, "SELECT version FROM meta", &[])

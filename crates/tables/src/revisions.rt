@@ -24,7 +24,10 @@ pub fn insert_revision<S: Alter>(
     body: Option<&str>,
 ) -> Result<(), Error>
     ensures same_reference { tx.new.conn.ghost_name ≡ tx.old.conn.ghost_name }
-    ensures alters { Alters S.Store revs_tree AreKeyed (λ rows. with_cells rows (given_cells db.now id.now number hash.now (or_null (λ s. Text s.now) parent.entry) held deleted (or_null (λ s. Text s.now) body.entry))) tx.old.conn.now tx.new.conn.now result }
+    ensures alters { Alters S.Store revs_tree AreKeyed
+        (λ rows. with_cells rows
+        (given_cells db.now id.now number hash.now (or_null (λ s. Text s.now) parent.entry) held deleted (or_null (λ s. Text s.now) body.entry)))
+        tx.old.conn.now tx.new.conn.now result }
 {
     change(
         tx,
@@ -47,7 +50,8 @@ pub fn revision_rows<S: Alter>(
     db: &i64,
     id: &[u8],
 ) -> Result<Vec<Row>, Error>
-    ensures { Reads S.Store IsStore conn.old conn.new (λ trees rows. IsPermutation (map shown_revision (filter (is_of db.now id.now) (trees revs_tree))) rows.items) result }
+    ensures { Reads S.Store IsStore conn.old conn.new
+        (λ trees rows. IsPermutation (map shown_revision (filter (is_of db.now id.now) (trees revs_tree))) rows.items) result }
 {
     query(
         conn,
@@ -64,7 +68,9 @@ pub fn one_revision_rows<S: Alter>(
     number: u32,
     hash: &str,
 ) -> Result<Vec<Row>, Error>
-    ensures { Reads S.Store IsStore conn.old conn.new (λ trees rows. rows.items ≡ map shown_revision (filter (is_revision_of db.now id.now (record { number = number; hash = hash.now })) (trees revs_tree))) result }
+    ensures { Reads S.Store IsStore conn.old conn.new
+        (λ trees rows. rows.items ≡ map shown_revision
+        (filter (is_revision_of db.now id.now (record { number = number; hash = hash.now })) (trees revs_tree))) result }
 {
     query(
         conn,
@@ -79,7 +85,8 @@ pub fn outline_rows<S: Alter>(
     db: &i64,
     id: &[u8],
 ) -> Result<Vec<Row>, Error>
-    ensures { Reads S.Store IsStore conn.old conn.new (λ trees rows. IsPermutation (map shown_outline (filter (is_of db.now id.now) (trees revs_tree))) rows.items) result }
+    ensures { Reads S.Store IsStore conn.old conn.new
+        (λ trees rows. IsPermutation (map shown_outline (filter (is_of db.now id.now) (trees revs_tree))) rows.items) result }
 {
     query(
         conn,
@@ -91,7 +98,8 @@ pub fn outline_rows<S: Alter>(
 /// Returns the rows of all known revisions of a document, each with its number and its hash alone, in
 /// some order. SQLite finds both in the table's key, so it reads no row of the table itself.
 pub fn hash_rows<S: Alter>(conn: &mut Connection<S>, db: &i64, id: &[u8]) -> Result<Vec<Row>, Error>
-    ensures { Reads S.Store IsStore conn.old conn.new (λ trees rows. IsPermutation (map shown_hash (filter (is_of db.now id.now) (trees revs_tree))) rows.items) result }
+    ensures { Reads S.Store IsStore conn.old conn.new
+        (λ trees rows. IsPermutation (map shown_hash (filter (is_of db.now id.now) (trees revs_tree))) rows.items) result }
 {
     query(
         conn,

@@ -19,7 +19,8 @@ pub fn revision_rows_in<S: Alter>(
     id: &[u8],
 ) -> Result<Vec<Row>, Error>
     ensures same_reference { tx.new.conn.ghost_name ≡ tx.old.conn.ghost_name }
-    ensures reads { ReadsInside S.Store IsStore tx.old.conn.now tx.new.conn.now (λ trees rows. IsPermutation (map shown_revision (filter (is_of db.now id.now) (trees revs_tree))) rows.items) result }
+    ensures reads { ReadsInside S.Store IsStore tx.old.conn.now tx.new.conn.now
+        (λ trees rows. IsPermutation (map shown_revision (filter (is_of db.now id.now) (trees revs_tree))) rows.items) result }
 {
     query_in(
         tx,
@@ -36,8 +37,10 @@ pub fn document_rows_in<S: Alter>(
     id: &[u8],
 ) -> Result<Vec<Row>, Error>
     ensures same_reference { tx.new.conn.ghost_name ≡ tx.old.conn.ghost_name }
-    ensures reads { ReadsInside S.Store IsStore tx.old.conn.now tx.new.conn.now (λ trees rows. rows.items ≡ map listed_document (filter (is_of db.now id.now) (trees docs_tree))) result }
-    ensures shown { HasCleanDisk (state S.Store tx.new.conn.now) → IfOk result (λ rows. ShowsDocument S.Store db.now id.now tx.old.conn.now tx.new.conn.now rows.items) }
+    ensures reads { ReadsInside S.Store IsStore tx.old.conn.now tx.new.conn.now
+        (λ trees rows. rows.items ≡ map listed_document (filter (is_of db.now id.now) (trees docs_tree))) result }
+    ensures shown { HasCleanDisk (state S.Store tx.new.conn.now)
+        → IfOk result (λ rows. ShowsDocument S.Store db.now id.now tx.old.conn.now tx.new.conn.now rows.items) }
 {
     query_in(
         tx,
@@ -55,7 +58,9 @@ pub fn one_revision_rows_in<S: Alter>(
     hash: &str,
 ) -> Result<Vec<Row>, Error>
     ensures same_reference { tx.new.conn.ghost_name ≡ tx.old.conn.ghost_name }
-    ensures reads { ReadsInside S.Store IsStore tx.old.conn.now tx.new.conn.now (λ trees rows. rows.items ≡ map shown_revision (filter (is_revision_of db.now id.now (record { number = number; hash = hash.now })) (trees revs_tree))) result }
+    ensures reads { ReadsInside S.Store IsStore tx.old.conn.now tx.new.conn.now
+        (λ trees rows. rows.items ≡ map shown_revision
+        (filter (is_revision_of db.now id.now (record { number = number; hash = hash.now })) (trees revs_tree))) result }
 {
     query_in(
         tx,
@@ -73,7 +78,9 @@ pub fn one_outline_rows_in<S: Alter>(
     hash: &str,
 ) -> Result<Vec<Row>, Error>
     ensures same_reference { tx.new.conn.ghost_name ≡ tx.old.conn.ghost_name }
-    ensures reads { ReadsInside S.Store IsStore tx.old.conn.now tx.new.conn.now (λ trees rows. rows.items ≡ map shown_outline (filter (is_revision_of db.now id.now (record { number = number; hash = hash.now })) (trees revs_tree))) result }
+    ensures reads { ReadsInside S.Store IsStore tx.old.conn.now tx.new.conn.now
+        (λ trees rows. rows.items ≡ map shown_outline
+        (filter (is_revision_of db.now id.now (record { number = number; hash = hash.now })) (trees revs_tree))) result }
 {
     query_in(
         tx,
@@ -90,7 +97,8 @@ pub fn rows_between_in<S: Alter>(
     high: &[u8],
 ) -> Result<Vec<Row>, Error>
     ensures same_reference { tx.new.conn.ghost_name ≡ tx.old.conn.ghost_name }
-    ensures reads { ReadsInside S.Store IsStore tx.old.conn.now tx.new.conn.now (λ trees rows. rows.items ≡ map named_document (filter (has_id_between low.now high.now) (trees docs_tree))) result }
+    ensures reads { ReadsInside S.Store IsStore tx.old.conn.now tx.new.conn.now
+        (λ trees rows. rows.items ≡ map named_document (filter (has_id_between low.now high.now) (trees docs_tree))) result }
 {
     query_in(
         tx,

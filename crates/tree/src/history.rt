@@ -1,8 +1,10 @@
-ghost use Rattle.std.specs.Prelude.{◌≡◌, ◌≢◌, ◌++◌, Option, Some, None, Result, Ok, Err, IfOk, IfErr, OnOk, OnErr, IsTrue, MatchOption, length, option_copied, option_map, slice_get};
+ghost use Rattle.std.specs.Prelude.{◌≡◌, ◌≢◌, ◌++◌, Option, Some, None, Result, Ok, Err, IfOk, IfErr, OnOk, OnErr};
+ghost use Rattle.std.specs.Prelude.{IsTrue, MatchOption, length, option_copied, option_map, slice_get};
 ghost use Rattle.std.specs.FinMap as map;
 ghost use Rattle.couch_json.specs.View.{view};
 ghost use Rattle.tree.specs.Write.{counts_down, head, is_whole};
-ghost use Rattle.tree.specs.History.{IsWithWrite, agrees, behind, chain, has_child, held_of, is_deleted, is_head_known, is_known, is_leaf, is_leaf_in, is_live, keeps_parents, leaves, leaves_marked, line, placement, row_of, winner, with_new, with_write};
+ghost use Rattle.tree.specs.History.{IsWithWrite, agrees, behind, chain, has_child, held_of, is_deleted, is_head_known, is_known, is_leaf, is_leaf_in};
+ghost use Rattle.tree.specs.History.{is_live, keeps_parents, leaves, leaves_marked, line, placement, row_of, winner, with_new, with_write};
 ghost use Rattle.tree.specs.Outline.{marked_winner, outline_of};
 
 use crate::body::Body;

@@ -8,7 +8,8 @@ ghost use Rattle.std.specs.FinMap.{find};
 ghost use Rattle.std.specs.Ordering.{eq_by_cmp};
 ghost use Rattle.tree.specs.Revision.{Revision, revision_cmp};
 ghost use Rattle.tree.specs.History.{is_deleted, names};
-ghost use Rattle.tree.specs.Nodes.{AddsLeaf, AreKept, AreUnsettled, Awaits, CanGoBack, HasSameLeaves, Loses, LosesLeaves, entries_before, insertions_in, is_followed, is_new, is_new_leaf, next_of, nodes_before, nodes_with, nodes_with_new};
+ghost use Rattle.tree.specs.Nodes.{AddsLeaf, AreKept, AreUnsettled, Awaits, CanGoBack, HasSameLeaves, Loses, LosesLeaves, entries_before};
+ghost use Rattle.tree.specs.Nodes.{insertions_in, is_followed, is_new, is_new_leaf, next_of, nodes_before, nodes_with, nodes_with_new};
 
 use crate::entry::{Entry, Held};
 use crate::marked_leaves::MarkedLeaves;

@@ -14,10 +14,10 @@ use Rattle.store.specs.Writing.{addition_of, written_in}
 use Rattle.store.specs.declared.write.Write.{Write}
 use Rattle.write.specs.Admission.{history_with}
 use Rattle.write.specs.Bulk.{DocumentOutcome, Histories, after, document_outcome, outcome_by_id, with_write_in}
-use Rattle.write.specs.Drafts.{request_outcome}
+use Rattle.write.specs.inner.Drafts.{request_outcome}
 use Rattle.write.specs.BulkResults.{AgreeAt, brought, held_or, seen_in, with_history}
 use Rattle.write.specs.Document.{id_if, id_in, is_bulk_id, is_same_text, member_text}
-use Rattle.write.specs.Repeats.{IsKept, is_named, is_named_if_any}
+use Rattle.write.specs.inner.Repeats.{IsKept, is_named, is_named_if_any}
 use Rattle.write.specs.Terms.{Terms}
 use Rattle.write.specs.declared.draft.Request.{Request}
 use Rattle.write.proofs.Names.{request-named}

@@ -15,8 +15,8 @@ use Rattle.store.proofs.Contents.{with_all-append, writings_in-append}
 use Rattle.write.specs.Admission.{history_with}
 use Rattle.write.specs.Bulk.{DocumentOutcome, Histories, Told, after, all_told, outcome_in, outcome_told, outcomes, put_before, result_told, writes_in}
 use Rattle.write.specs.BulkResults.{AgreeAt, brought, held_or, seen_in, told_as, with_history}
-use Rattle.write.specs.Drafts.{outcome_asked, request_outcome}
-use Rattle.write.specs.Repeats.{IsKept, is_named, is_named_if_any}
+use Rattle.write.specs.inner.Drafts.{outcome_asked, request_outcome}
+use Rattle.write.specs.inner.Repeats.{IsKept, is_named, is_named_if_any}
 use Rattle.write.specs.Document.{id_in, member_text}
 use Rattle.write.specs.Terms.{Terms}
 use Rattle.write.specs.declared.draft.Request.{Request}

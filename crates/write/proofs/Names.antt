@@ -11,9 +11,9 @@ use Rattle.tree.specs.declared.placement.Placed.{Placed}
 use Rattle.tree.specs.declared.placement.Placed.TheVariants.{Added, Known}
 use Rattle.tree.specs.declared.placement.TreeFault.{TreeFault}
 use Rattle.write.specs.Admission.{ancestors, ancestry_placement, design_refusal, edit_outcome, nearest_held, placement_outcome, replicated_outcome, rule_refusal, unless_denied, write_at}
-use Rattle.write.specs.AncestryRead.{ancestry_of}
+use Rattle.write.specs.inner.AncestryRead.{ancestry_of}
 use Rattle.write.specs.Bulk.{Histories, as_outcome}
-use Rattle.write.specs.Drafts.{outcome_asked, request_outcome}
+use Rattle.write.specs.inner.Drafts.{outcome_asked, request_outcome}
 use Rattle.write.specs.IndexWrites.{has_index, index_document, index_outcome}
 use Rattle.write.specs.Terms.{Terms}
 use Rattle.write.specs.declared.document.Sent.{Sent}

@@ -8,7 +8,7 @@ use Rattle.std.proofs.lemmas.List.{reverse-append}
 use Rattle.std.proofs.lemmas.Map.Text.{is_eq-slice_cmp}
 use Rattle.couch_json.specs.Value.{Value}
 use Rattle.write.specs.Document.{is_same_text, member_text}
-use Rattle.write.specs.Repeats.{has_text, is_named_if_any, repeats}
+use Rattle.write.specs.inner.Repeats.{has_text, is_named_if_any, repeats}
 
 true_or : (b c : Bool) → cond b true c ≡ (b || c)
 true_or true c = refl

@@ -1,7 +1,6 @@
 pub mod Refusing
 pub mod Document
 pub mod LocalWrites
-pub mod AncestryRead
 pub mod Terms
 pub mod TermsRead
 pub mod RequestRead
@@ -9,9 +8,7 @@ pub mod Admission
 pub mod Denials
 pub mod Bulk
 pub mod BulkResults
-pub mod Drafts
-pub mod Repeats
 pub mod Planning
 pub mod Settling
 pub mod IndexWrites
-pub mod Following
+pub mod inner

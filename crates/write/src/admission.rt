@@ -4,7 +4,8 @@ ghost use Rattle.std.specs.Prelude.{◌≡◌, ◌≢◌, ◌<◌, ◌∷◌, []
 ghost use Rattle.couch_json.specs.View.{view};
 ghost use Rattle.tree.specs.History.{HistoryContent, winner};
 ghost use Rattle.store.specs.Writing.{addition_of, written_in};
-ghost use Rattle.write.specs.Admission.{appended_edit, base, design_refusal, edit_after, edit_of, edit_outcome, extended_leaf, is_known_if_any, named_revision, next_edit, revision_after, rule_refusal, unless_denied};
+ghost use Rattle.write.specs.Admission.{appended_edit, base, design_refusal, edit_after, edit_of, edit_outcome, extended_leaf};
+ghost use Rattle.write.specs.Admission.{is_known_if_any, named_revision, next_edit, revision_after, rule_refusal, unless_denied};
 
 use crate::denial::find_rule_refusal;
 use crate::document::{Sent, read_sent};
@@ -44,7 +45,8 @@ pub(crate) fn read_allowed(
 ) -> Result<Sent, WriteFault>
     ensures ok { IfOk result (λ sent. edit_of id.now query (view document) ≡ Some sent) }
     ensures allowed { IfOk result (λ sent. design_refusal terms.now id.now ≡ None) }
-    ensures fault { IfErr result (λ fault. fault ≢ WriteFault.Memory → (h : HistoryContent) → edit_outcome terms.now id.now h query (view document) ≡ Err fault) }
+    ensures fault { IfErr result
+        (λ fault. fault ≢ WriteFault.Memory → (h : HistoryContent) → edit_outcome terms.now id.now h query (view document) ≡ Err fault) }
     ensures others { IfErr result (λ fault. (fault ≢ WriteFault.BadHistory) × ((cause : _) → fault ≢ WriteFault.Store cause)) }
 {
     let Some(sent) = read_edit(alloc, id, query, document)? else {
@@ -64,7 +66,8 @@ pub(crate) fn admit_sent(
     id: &DocId,
     sent: Sent,
 ) -> Result<Write, WriteFault>
-    ensures ok { IfOk result (λ write. edit_after terms.old id.now history.now sent (base history.now sent.rev) ≡ Ok (written_in history.now (addition_of write))) }
+    ensures ok { IfOk result
+        (λ write. edit_after terms.old id.now history.now sent (base history.now sent.rev) ≡ Ok (written_in history.now (addition_of write))) }
     ensures headed { IfOk result (λ write. 0 < length write.path.items) }
     ensures fault { IfErr result (λ fault. fault ≢ WriteFault.Memory → edit_after terms.old id.now history.now sent (base history.now sent.rev) ≡ Err fault) }
     ensures others { IfErr result (λ fault. (fault ≢ WriteFault.BadHistory) × ((cause : _) → fault ≢ WriteFault.Store cause)) }
@@ -169,7 +172,9 @@ pub(crate) fn allow_revision(
 ) -> Result<Rev, WriteFault>
     ensures ok { IfOk result (λ rev. next ≡ Some rev) }
     ensures unruled { IfOk result (λ rev. rule_refusal terms.old id.now history.now sent.now parent ≡ None) }
-    ensures fault { IfErr result (λ fault. fault ≢ WriteFault.Memory → (h : HistoryContent) → rule_refusal terms.old id.now h sent.now parent ≡ rule_refusal terms.old id.now history.now sent.now parent
+    ensures fault { IfErr result
+        (λ fault. fault ≢ WriteFault.Memory → (h : HistoryContent)
+        → rule_refusal terms.old id.now h sent.now parent ≡ rule_refusal terms.old id.now history.now sent.now parent
         → unless_denied (rule_refusal terms.old id.now h sent.now parent) (appended_edit id.now h sent.now parent next) ≡ Err fault) }
     ensures others { IfErr result (λ fault. (fault ≢ WriteFault.BadHistory) × ((cause : _) → fault ≢ WriteFault.Store cause)) }
     ensures terms { terms.new ≡ terms.old }

@@ -5,8 +5,9 @@ ghost use Rattle.couch_json.specs.Parts.{items_in, text_in};
 ghost use Rattle.couch_json.specs.Value.{member_of};
 ghost use Rattle.couch_json.specs.View.{view, items_view};
 ghost use Rattle.tree.specs.Revision.{Revision, revision_of};
-ghost use Rattle.write.specs.AncestryRead.{ancestry_of};
-ghost use Rattle.write.specs.Document.{ancestry_alone, ancestry_by, ancestry_if_newest, given_revisions, is_newest, natural, number_if, path_of, revisions_in, sent_in, start_in, without_member};
+ghost use Rattle.write.specs.inner.AncestryRead.{ancestry_of};
+ghost use Rattle.write.specs.Document.{ancestry_alone, ancestry_by, ancestry_if_newest, given_revisions, is_newest, natural};
+ghost use Rattle.write.specs.Document.{number_if, path_of, revisions_in, sent_in, start_in, without_member};
 
 use couch_json::{Got, Json};
 use std::alloc::Global;

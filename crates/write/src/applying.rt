@@ -21,7 +21,8 @@ pub fn apply<S: Store>(store: &mut S, planned: Planned) -> Result<(), WriteFault
         (map.get (S.contents store.old) planned.database) ≡ Some (S.contents store.new)) }
     ensures only { IfErr result IsOfStoreOrMemory }
     ensures passed { IfErr result (Refuses S.Store store.old store.new (map.get (S.contents store.old) planned.database ≡ None)
-        (S.is_honest store.new → IsThereWith (map.get (S.contents store.old) planned.database) (λ d. LacksRoomFor (S.lacks_room store.old) planned.database planned.changes d))) }
+        (S.is_honest store.new
+        → IsThereWith (map.get (S.contents store.old) planned.database) (λ d. LacksRoomFor (S.lacks_room store.old) planned.database planned.changes d))) }
     ensures changes { ChangesWhole S.Store store.old store.new result }
 {
     let Planned {

@@ -1,7 +1,8 @@
 //! Several documents that are written together.
 
 ghost use Rattle.std.specs.FinMap as map;
-ghost use Rattle.std.specs.Prelude.{◌≡◌, ◌≢◌, ◌++◌, ◌<◌, [], All, IfOk, IfErr, IfSome, OnErr, OnOk, Ok, Err, Some, None, is_some, true, length, map as list_map, option_map};
+ghost use Rattle.std.specs.Prelude.{◌≡◌, ◌≢◌, ◌++◌, ◌<◌, [], All, IfOk, IfErr, IfSome, OnErr, OnOk, Ok, Err, Some};
+ghost use Rattle.std.specs.Prelude.{None, is_some, true, length, map as list_map, option_map};
 ghost use Rattle.std.specs.Option.{option_to_list};
 ghost use Rattle.couch_json.specs.View.{view};
 ghost use Rattle.store.specs.Calls.{OnlyReads};
@@ -11,9 +12,9 @@ ghost use Rattle.store.specs.Writing.{addition_of, additions, writings_in, writt
 ghost use Rattle.write.specs.Admission.{history_with};
 ghost use Rattle.write.specs.Bulk.{Histories, after, all_told, outcomes, put_before, writes_in};
 ghost use Rattle.write.specs.BulkResults.{AgreeAt, IsHeld, IsOwnOutcome, brought, seen_in, told_as, told_of, with_history};
-ghost use Rattle.write.specs.Drafts.{outcome_asked, request_outcome};
+ghost use Rattle.write.specs.inner.Drafts.{outcome_asked, request_outcome};
 ghost use Rattle.write.specs.Planning.{AreWrites, Plans};
-ghost use Rattle.write.specs.Repeats.{IsKept};
+ghost use Rattle.write.specs.inner.Repeats.{IsKept};
 ghost use Rattle.write.specs.Refusing.{IsDecided, IsOfStoreOrMemory, Refuses};
 ghost use Rattle.write.specs.Terms.{terms_in};
 
@@ -82,7 +83,8 @@ fn judge_all<S: Store>(
     ensures writes { S.is_honest store.new → IfOk result (λ all. (d : Database) → map.get (S.contents store.old) db.now ≡ Some d
         → writings_in d (additions all.0.items) ≡ writes_in (outcomes terms.old new_edits (history_at d) (list_map view documents.items))) }
     ensures results { S.is_honest store.new → IfOk result (λ all. (d : Database) → map.get (S.contents store.old) db.now ≡ Some d
-        → list_map told_of all.1.items ≡ all_told (list_map view documents.items) (outcomes terms.old new_edits (history_at d) (list_map view documents.items))) }
+        → list_map told_of all.1.items ≡ all_told (list_map view documents.items)
+        (outcomes terms.old new_edits (history_at d) (list_map view documents.items))) }
     ensures own { IfOk result (λ all. All (λ r. IsOwnOutcome r.outcome) all.1.items) }
     ensures only { IfErr result IsOfStoreOrMemory }
     ensures passed { IfErr result (Refuses S.Store store.old store.new (map.get (S.contents store.old) db.now ≡ None) ⊥) }
@@ -112,11 +114,14 @@ fn judge_one(
     draft: Draft,
 ) -> Got<DocumentResult>
     requires { IsHeld histories.old draft.id }
-    ensures told { IfOk result (λ r. (stored : Histories) → told_as draft.label (outcome_asked terms.old (seen_in stored histories.old) draft.request draft.id) ≡ told_of r) }
+    ensures told { IfOk result
+        (λ r. (stored : Histories) → told_as draft.label (outcome_asked terms.old (seen_in stored histories.old) draft.request draft.id) ≡ told_of r) }
     ensures own { IfOk result (λ r. IsOwnOutcome r.outcome) }
     ensures histories { OnOk result ((stored : Histories) (id : _) → IsKept again draft.id id → seen_in stored histories.new id
         ≡ after (seen_in stored histories.old) (outcome_asked terms.old (seen_in stored histories.old) draft.request draft.id) id) }
-    ensures writes { OnOk result ((stored : Histories) (d : Database) → AgreeAt draft.id (seen_in stored histories.old) (history_at (with_all d (writings_in d (additions writes.old.items))))
+    ensures writes { OnOk result
+        ((stored : Histories) (d : Database)
+        → AgreeAt draft.id (seen_in stored histories.old) (history_at (with_all d (writings_in d (additions writes.old.items))))
         → writings_in d (additions writes.new.items)
         ≡ writings_in d (additions writes.old.items) ++ put_before (outcome_asked terms.old (seen_in stored histories.old) draft.request draft.id) []) }
     ensures terms { terms.new ≡ terms.old }
@@ -179,8 +184,10 @@ fn settle(
     ensures headed { IfOk result (λ write. IfSome write (λ w. 0 < length w.path.items)) }
     ensures histories { IfOk result (λ write. (stored : Histories) (own : _) → IsKept again id own → seen_in stored histories.new own
         ≡ after (seen_in stored histories.old) (Ok (option_map (brought (seen_in stored histories.old)) write)) own) }
-    ensures fault { IfErr result (λ fault. fault ≢ WriteFault.Memory → (stored : Histories) → outcome_asked terms.old (seen_in stored histories.old) request id ≡ Err fault) }
-    ensures same { IfErr result (λ fault. fault ≢ WriteFault.Memory → (stored : Histories) (own : _) → IsKept again id own → seen_in stored histories.new own ≡ seen_in stored histories.old own) }
+    ensures fault { IfErr result
+        (λ fault. fault ≢ WriteFault.Memory → (stored : Histories) → outcome_asked terms.old (seen_in stored histories.old) request id ≡ Err fault) }
+    ensures same { IfErr result (λ fault. fault ≢ WriteFault.Memory → (stored : Histories) (own : _) → IsKept again id own
+        → seen_in stored histories.new own ≡ seen_in stored histories.old own) }
     ensures others { IfErr result (λ fault. (cause : _) → fault ≢ WriteFault.Store cause) }
     ensures terms { terms.new ≡ terms.old }
 {
@@ -209,7 +216,8 @@ fn judge_and_keep(
     ensures kept { IfOk result (λ write. (stored : Histories) → seen_in stored histories.new
         ≡ with_history (seen_in stored histories.old) id (history_with history (option_map (λ w. written_in history (addition_of w)) write))) }
     ensures fault { IfErr result (λ fault. fault ≢ WriteFault.Memory → request_outcome terms.old id history request ≡ Err fault) }
-    ensures same { IfErr result (λ fault. fault ≢ WriteFault.Memory → (stored : Histories) → seen_in stored histories.new ≡ with_history (seen_in stored histories.old) id history) }
+    ensures same { IfErr result
+        (λ fault. fault ≢ WriteFault.Memory → (stored : Histories) → seen_in stored histories.new ≡ with_history (seen_in stored histories.old) id history) }
     ensures others { IfErr result (λ fault. (cause : _) → fault ≢ WriteFault.Store cause) }
     ensures terms { terms.new ≡ terms.old }
 {
@@ -227,7 +235,8 @@ fn judge_in(
     id: &DocId,
     request: Request,
 ) -> Result<Option<Write>, WriteFault>
-    ensures ok { IfOk result (λ write. request_outcome terms.old id.now history.old request ≡ Ok (option_map (λ w. written_in history.old (addition_of w)) write)) }
+    ensures ok { IfOk result
+        (λ write. request_outcome terms.old id.now history.old request ≡ Ok (option_map (λ w. written_in history.old (addition_of w)) write)) }
     ensures headed { IfOk result (λ write. IfSome write (λ w. 0 < length w.path.items)) }
     ensures taken_in { IfOk result (λ write. history.new ≡ history_with history.old (option_map (λ w. written_in history.old (addition_of w)) write)) }
     ensures fault { IfErr result (λ fault. fault ≢ WriteFault.Memory → request_outcome terms.old id.now history.old request ≡ Err fault) }
@@ -250,7 +259,8 @@ fn judge(
     id: &DocId,
     request: Request,
 ) -> Result<Option<Write>, WriteFault>
-    ensures ok { IfOk result (λ write. request_outcome terms.old id.now history.now request ≡ Ok (option_map (λ w. written_in history.now (addition_of w)) write)) }
+    ensures ok { IfOk result
+        (λ write. request_outcome terms.old id.now history.now request ≡ Ok (option_map (λ w. written_in history.now (addition_of w)) write)) }
     ensures headed { IfOk result (λ write. IfSome write (λ w. 0 < length w.path.items)) }
     ensures fault { IfErr result (λ fault. fault ≢ WriteFault.Memory → request_outcome terms.old id.now history.now request ≡ Err fault) }
     ensures others { IfErr result (λ fault. (cause : _) → fault ≢ WriteFault.Store cause) }

@@ -2,7 +2,8 @@
 
 ghost use Rattle.std.specs.Prelude.{◌≡◌, IfOk, option_map, string_bytes};
 ghost use Rattle.couch_json.specs.View.{view, members_view};
-ghost use Rattle.write.specs.Document.{are_allowed, body_for, body_in, fits_id, id_if, id_in, is_allowed, is_body_for, is_document_member, is_special, mark_in, member_text, revision_in, sent_in, without_special, words_in};
+ghost use Rattle.write.specs.Document.{are_allowed, body_for, body_in, fits_id, id_if, id_in, is_allowed, is_body_for, is_document_member};
+ghost use Rattle.write.specs.Document.{is_special, mark_in, member_text, revision_in, sent_in, without_special, words_in};
 
 use couch_json::{Got, Json, NameMap, NoMemory};
 use policy::check_design;

@@ -4,7 +4,7 @@ ghost use Rattle.std.specs.Prelude.{◌≡◌, IfOk, codes, option_map, string_b
 ghost use Rattle.couch_json.specs.View.{view};
 ghost use Rattle.write.specs.Bulk.{Histories, outcome_by_id, outcome_in};
 ghost use Rattle.write.specs.Document.{id_in, member_text};
-ghost use Rattle.write.specs.Drafts.{outcome_asked};
+ghost use Rattle.write.specs.inner.Drafts.{outcome_asked};
 
 use crate::document::read_id;
 use crate::fault::WriteFault;

@@ -10,7 +10,7 @@ ghost use Rattle.store.specs.Contents.{IfThere};
 ghost use Rattle.store.specs.Database.{history_at};
 ghost use Rattle.store.specs.Writing.{addition_of, written_in};
 ghost use Rattle.write.specs.Admission.{base, edit_after, edit_outcome, is_known_if_any, next_edit, rule_refusal};
-ghost use Rattle.write.specs.Following.{IsFollowed};
+ghost use Rattle.write.specs.inner.Following.{IsFollowed};
 ghost use Rattle.write.specs.Refusing.{IsDecided, IsOfStoreOrMemory, IsOwn, Refuses};
 ghost use Rattle.write.specs.declared.document.Sent.{Sent};
 
@@ -126,7 +126,8 @@ fn is_known<S: Store>(
     id: &DocId,
     rev: Option<Rev>,
 ) -> Result<bool, WriteFault>
-    ensures known { S.is_honest store.new → IfOk result (λ known. IfThere (map.get (S.contents store.old) db.now) (λ d. known ≡ is_known_if_any (history_at d id.now) rev)) }
+    ensures known { S.is_honest store.new
+        → IfOk result (λ known. IfThere (map.get (S.contents store.old) db.now) (λ d. known ≡ is_known_if_any (history_at d id.now) rev)) }
     ensures only { IfErr result IsOfStoreOrMemory }
     ensures passed { IfErr result (Refuses S.Store store.old store.new (map.get (S.contents store.old) db.now ≡ None) ⊥) }
     ensures reads { OnlyReads S.Store store.old store.new }
@@ -203,9 +204,11 @@ fn judge_whole<S: Store>(
     sent: Sent,
 ) -> Result<Write, WriteFault>
     ensures ok { S.is_honest store.new → IfOk result (λ write. IfThere (map.get (S.contents store.old) db.now) (λ d.
-        edit_after terms.old id.now (history_at d id.now) sent (base (history_at d id.now) sent.rev) ≡ Ok (written_in (history_at d id.now) (addition_of write)))) }
+        edit_after terms.old id.now (history_at d id.now) sent (base (history_at d id.now) sent.rev) ≡ Ok
+        (written_in (history_at d id.now) (addition_of write)))) }
     ensures refused { S.is_honest store.new → IfErr result (λ fault. IsOwn fault
-        → IfThere (map.get (S.contents store.old) db.now) (λ d. edit_after terms.old id.now (history_at d id.now) sent (base (history_at d id.now) sent.rev) ≡ Err fault)) }
+        → IfThere (map.get (S.contents store.old) db.now)
+        (λ d. edit_after terms.old id.now (history_at d id.now) sent (base (history_at d id.now) sent.rev) ≡ Err fault)) }
     ensures headed { IfOk result (λ write. 0 < length write.path.items) }
     ensures edits { IfErr result (λ fault. fault ≢ WriteFault.BadHistory) }
     ensures passed { IfErr result (Refuses S.Store store.old store.new (map.get (S.contents store.old) db.now ≡ None) ⊥) }
@@ -226,9 +229,11 @@ fn judge_sent<S: Store>(
     sent: Sent,
 ) -> Result<Write, WriteFault>
     ensures ok { S.is_honest store.new → IfOk result (λ write. IfThere (map.get (S.contents store.old) db.now) (λ d.
-        edit_after terms.old id.now (history_at d id.now) sent (base (history_at d id.now) sent.rev) ≡ Ok (written_in (history_at d id.now) (addition_of write)))) }
+        edit_after terms.old id.now (history_at d id.now) sent (base (history_at d id.now) sent.rev) ≡ Ok
+        (written_in (history_at d id.now) (addition_of write)))) }
     ensures refused { S.is_honest store.new → IfErr result (λ fault. IsOwn fault
-        → IfThere (map.get (S.contents store.old) db.now) (λ d. edit_after terms.old id.now (history_at d id.now) sent (base (history_at d id.now) sent.rev) ≡ Err fault)) }
+        → IfThere (map.get (S.contents store.old) db.now)
+        (λ d. edit_after terms.old id.now (history_at d id.now) sent (base (history_at d id.now) sent.rev) ≡ Err fault)) }
     ensures headed { IfOk result (λ write. 0 < length write.path.items) }
     ensures edits { IfErr result (λ fault. fault ≢ WriteFault.BadHistory) }
     ensures passed { IfErr result (Refuses S.Store store.old store.new (map.get (S.contents store.old) db.now ≡ None) ⊥) }

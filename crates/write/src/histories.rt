@@ -51,7 +51,8 @@ pub(crate) fn take_history(
 ) -> Got<History>
     requires { IsHeld histories.old (Some id.now) }
     ensures value { IfOk result (λ taken. (stored : Histories) → taken ≡ seen_in stored histories.old id.now) }
-    ensures others { (stored : Histories) (history : _) → with_history (seen_in stored histories.new) id.now history ≡ with_history (seen_in stored histories.old) id.now history }
+    ensures others { (stored : Histories) (history : _)
+        → with_history (seen_in stored histories.new) id.now history ≡ with_history (seen_in stored histories.old) id.now history }
 {
     match histories.remove(id) {
         Some(packed) => packed.unpack(alloc),

@@ -1,6 +1,7 @@
 //! Declaring indexes.
 
-ghost use Rattle.std.specs.Prelude.{◌≡◌, ◌≢◌, ◌<◌, ◌∷◌, [], true, IfOk, IfErr, IfSome, None, Ok, OnOk, Err, codes, is_some, length, map as each, option_and_then, option_map};
+ghost use Rattle.std.specs.Prelude.{◌≡◌, ◌≢◌, ◌<◌, ◌∷◌, [], true, IfOk, IfErr, IfSome, None, Ok, OnOk, Err, codes};
+ghost use Rattle.std.specs.Prelude.{is_some, length, map as each, option_and_then, option_map};
 ghost use Rattle.std.specs.FinMap as map;
 ghost use Rattle.couch_json.specs.Value.{member_at, null, put, text as text_value};
 ghost use Rattle.couch_json.specs.View.{members_view, view};
@@ -85,7 +86,8 @@ fn judge_index<S: Store>(
     fields: &[FieldPath],
 ) -> Result<Option<Write>, WriteFault>
     ensures ok { S.is_honest store.new → IfOk result (λ write. IfThere (map.get (S.contents store.old) db.now) (λ d.
-        index_outcome terms.old id.now (history_at d id.now) name.now fields.now ≡ Ok (option_map (λ w. written_in (history_at d id.now) (addition_of w)) write))) }
+        index_outcome terms.old id.now (history_at d id.now) name.now fields.now ≡ Ok
+        (option_map (λ w. written_in (history_at d id.now) (addition_of w)) write))) }
     ensures refused { S.is_honest store.new → IfErr result (λ fault. IsOwn fault
         → IfThere (map.get (S.contents store.old) db.now) (λ d. index_outcome terms.old id.now (history_at d id.now) name.now fields.now ≡ Err fault)) }
     ensures headed { IfOk result (λ write. IfSome write (λ w. 0 < length w.path.items)) }
@@ -118,7 +120,8 @@ struct Winner {
 /// Reads the winner of a document. The body that is held of it is not copied.
 fn read_winner<S: Store>(store: &mut S, db: &DbName, id: &DocId) -> Result<Winner, WriteFault>
     ensures rev { S.is_honest store.new → IfOk result (λ read. IfThere (map.get (S.contents store.old) db.now) (λ d. read.rev ≡ winner (history_at d id.now))) }
-    ensures body { S.is_honest store.new → IfOk result (λ read. IfThere (map.get (S.contents store.old) db.now) (λ d. option_map view read.body ≡ winning_body (history_at d id.now))) }
+    ensures body { S.is_honest store.new
+        → IfOk result (λ read. IfThere (map.get (S.contents store.old) db.now) (λ d. option_map view read.body ≡ winning_body (history_at d id.now))) }
     ensures only { IfErr result IsOfStoreOrMemory }
     ensures passed { IfErr result (Refuses S.Store store.old store.new (map.get (S.contents store.old) db.now ≡ None) ⊥) }
     ensures reads { OnlyReads S.Store store.old store.new }

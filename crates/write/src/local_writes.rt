@@ -6,7 +6,8 @@ ghost use Rattle.couch_json.specs.View.{view, members_view};
 ghost use Rattle.store.specs.Calls.{OnlyReads};
 ghost use Rattle.store.specs.Contents.{IfThere, local_at};
 ghost use Rattle.store.specs.Database.{Database};
-ghost use Rattle.write.specs.LocalWrites.{are_local_allowed, is_local_allowed, is_local_member, local_body, local_outcome, local_rev, local_rev_in, names_stored, next_number};
+ghost use Rattle.write.specs.LocalWrites.{are_local_allowed, is_local_allowed, is_local_member, local_body};
+ghost use Rattle.write.specs.LocalWrites.{local_outcome, local_rev, local_rev_in, names_stored, next_number};
 ghost use Rattle.write.specs.Planning.{IsLocal, IsLocalOf, MayBeMade};
 ghost use Rattle.write.specs.Refusing.{IsDecided, IsOfStoreOrMemory, IsOwn, Refuses};
 
@@ -71,7 +72,8 @@ fn plan_local(
     ensures results { IfOk result (λ planned. planned.results.items ≡ []) }
     ensures database { IfOk result (λ planned. planned.database ≡ db.now) }
     ensures refused { IfErr result (λ fault. fault ≢ WriteFault.Memory → local_outcome stored id.now (view document) ≡ Err fault) }
-    ensures only { IfErr result (λ fault. fault ≢ WriteFault.BadDocument → fault ≢ WriteFault.Conflict → fault ≢ WriteFault.Generation → fault ≢ WriteFault.Memory → ⊥) }
+    ensures only { IfErr result (λ fault. fault ≢ WriteFault.BadDocument → fault ≢ WriteFault.Conflict → fault ≢ WriteFault.Generation
+        → fault ≢ WriteFault.Memory → ⊥) }
 {
     let Some(names) = names_stored(alloc, &stored, id, &document)? else {
         return Err(WriteFault::BadDocument);

@@ -58,7 +58,8 @@ pub(crate) fn plan_alone(
     write: Option<Write>,
 ) -> Got<Planned>
     requires { IfSome write (λ w. 0 < length w.path.items) }
-    ensures writes { IfOk result (λ planned. (d : Database) → planned_writes d planned.changes ≡ put_before (Ok (option_map (λ w. written_at d (addition_of w)) write)) []) }
+    ensures writes { IfOk result
+        (λ planned. (d : Database) → planned_writes d planned.changes ≡ put_before (Ok (option_map (λ w. written_at d (addition_of w)) write)) []) }
     ensures changed { IfOk result (λ planned. (d : Database) → database_after planned.changes d ≡ with_all d (planned_writes d planned.changes)) }
     ensures may { IfOk result (λ planned. (d : Database) → AreAcceptable d (planned_writes d planned.changes) → MayBeMade planned.changes d) }
     ensures appends { IfOk result (λ planned. AreWrites planned.changes) }

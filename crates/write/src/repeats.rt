@@ -3,7 +3,7 @@
 ghost use Rattle.std.specs.Prelude.{◌≡◌, ◌||◌, ◌++◌, ◌∷◌, [], IfOk, OnOk, List, ℕ, codes, map as list_map, option_copied, reverse};
 ghost use Rattle.couch_json.specs.View.{view};
 ghost use Rattle.write.specs.Document.{is_same_text, member_text};
-ghost use Rattle.write.specs.Repeats.{has_text, has_text_if_any, repeats};
+ghost use Rattle.write.specs.inner.Repeats.{has_text, has_text_if_any, repeats};
 
 use couch_json::{Got, Json};
 use std::alloc::Global;

@@ -9,7 +9,7 @@ ghost use Rattle.store.specs.Calls.{OnlyReads};
 ghost use Rattle.store.specs.Contents.{IfThere};
 ghost use Rattle.store.specs.Writing.{addition_of, written_in};
 ghost use Rattle.write.specs.Admission.{ancestry_placement, placement_outcome, replicated_outcome, replication};
-ghost use Rattle.write.specs.AncestryRead.{ancestry_of};
+ghost use Rattle.write.specs.inner.AncestryRead.{ancestry_of};
 ghost use Rattle.write.specs.Bulk.{writes_alone};
 ghost use Rattle.write.specs.BulkResults.{IsUnrefused, OfFirst};
 ghost use Rattle.write.specs.Planning.{Plans, planned_writes};
@@ -90,7 +90,8 @@ pub(crate) fn read_replica(
 ) -> Result<Replica, WriteFault>
     ensures ok { IfOk result (λ replica. (h : HistoryContent) → replicated_outcome terms.now id.now h (view document)
         ≡ placement_outcome terms.now id.now h replica.sent replica.ancestry.path.items (ancestry_placement h (ancestry_of replica.ancestry))) }
-    ensures fault { IfErr result (λ fault. fault ≢ WriteFault.Memory → (h : HistoryContent) → replicated_outcome terms.now id.now h (view document) ≡ Err fault) }
+    ensures fault { IfErr result
+        (λ fault. fault ≢ WriteFault.Memory → (h : HistoryContent) → replicated_outcome terms.now id.now h (view document) ≡ Err fault) }
     ensures others { IfErr result (λ fault. (fault ≢ WriteFault.Conflict) × (fault ≢ WriteFault.Generation) × ((cause : _) → fault ≢ WriteFault.Store cause)) }
     ensures unplaced { IfErr result (λ fault. fault ≢ WriteFault.BadHistory) }
 {
@@ -116,11 +117,14 @@ pub(crate) fn place(
     id: &DocId,
     replica: Replica,
 ) -> Result<Option<Write>, WriteFault>
-    ensures ok { IfOk result (λ write. placement_outcome terms.old id.now history.now replica.sent replica.ancestry.path.items (ancestry_placement history.now (ancestry_of replica.ancestry))
+    ensures ok { IfOk result
+        (λ write. placement_outcome terms.old id.now history.now replica.sent replica.ancestry.path.items
+        (ancestry_placement history.now (ancestry_of replica.ancestry))
         ≡ Ok (option_map (λ w. written_in history.now (addition_of w)) write)) }
     ensures headed { IfOk result (λ write. IfSome write (λ w. 0 < length w.path.items)) }
     ensures fault { IfErr result (λ fault. fault ≢ WriteFault.Memory
-        → placement_outcome terms.old id.now history.now replica.sent replica.ancestry.path.items (ancestry_placement history.now (ancestry_of replica.ancestry)) ≡ Err fault) }
+        → placement_outcome terms.old id.now history.now replica.sent replica.ancestry.path.items
+        (ancestry_placement history.now (ancestry_of replica.ancestry)) ≡ Err fault) }
     ensures others { IfErr result (λ fault. (fault ≢ WriteFault.Conflict) × (fault ≢ WriteFault.Generation) × ((cause : _) → fault ≢ WriteFault.Store cause)) }
     ensures terms { terms.new ≡ terms.old }
 {

@@ -55,7 +55,8 @@ pub fn read_terms<'a, S: Store>(
     caller: &'a Caller,
 ) -> Result<Terms<'a>, WriteFault>
     ensures there { S.is_honest store.new → IsDecided result → is_some (map.get (S.contents store.old) db.now) ≡ true }
-    ensures terms { S.is_honest store.new → IfOk result (λ t. IfThere (map.get (S.contents store.old) db.now) (λ d. terms_of t ≡ terms_in caller.now db.now d)) }
+    ensures terms { S.is_honest store.new
+        → IfOk result (λ t. IfThere (map.get (S.contents store.old) db.now) (λ d. terms_of t ≡ terms_in caller.now db.now d)) }
     ensures only { IfErr result IsOfStoreOrMemory }
     ensures passed { IfErr result (Refuses S.Store store.old store.new (map.get (S.contents store.old) db.now ≡ None) ⊥) }
     ensures reads { OnlyReads S.Store store.old store.new }

@@ -1,7 +1,7 @@
 use Rattle.std.proofs.Common.{rules, arith, ◌≡◌, ◌≢◌, ◌+◌, [], ◌∷◌, ◌++◌, IfErr, None, Err, string_bytes, subst, sym, ap, ◌∙◌}
 use Rattle.std.proofs.lemmas.List.{nil_from_length}
 use Rattle.std.proofs.lemmas.Result.{IfOk-weaker}
-use Rattle.couch_json.specs.KeyFront.{FindsItems, FindsMembers, FindsValue}
+use Rattle.couch_json.specs.inner.KeyFront.{FindsItems, FindsMembers, FindsValue}
 use Rattle.couch_json.specs.Value.{put}
 use Rattle.couch_json.specs.View.{view, members_view}
 use Rattle.couch_json.specs.declared.key_fault.KeyFault.TheVariants.{Memory}

@@ -4,7 +4,7 @@ use Rattle.json.specs.Json.{after_end_array, read_key, items, value}
 use Rattle.json.specs.Reads.{token_of}
 use Rattle.json.proofs.Grammar.{value_is}
 use Rattle.serde_json.specs.Read.{of_json, of_items, converted}
-use Rattle.couch_json.specs.Parsing.{IsRead}
+use Rattle.couch_json.specs.inner.Parsing.{IsRead}
 use Rattle.couch_json.specs.Value.{whole, text, array, object}
 use Rattle.couch_json.specs.View.{view, items_view, members_view}
 use Rattle.couch_json.specs.declared.value.Json.{Null, Truth, Whole, Text, Array, Object, the_lemmas}

@@ -1,5 +1,5 @@
 use Rattle.std.proofs.Common.{◌≡◌, ◌∷◌, sym, ap, ◌∙◌, rules}
-use Rattle.couch_json.specs.Parsing.{put_whole}
+use Rattle.couch_json.specs.inner.Parsing.{put_whole}
 use Rattle.couch_json.specs.View.{members_view}
 use Rattle.couch_json.proofs.Objects.{members_view-insert_entry}
 use Rattle.couch_json.proofs.parsing.keep_whole.Goals as goal

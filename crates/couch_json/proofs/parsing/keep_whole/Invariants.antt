@@ -1,5 +1,5 @@
 use Rattle.std.proofs.Common.{◌≡◌}
-use Rattle.couch_json.specs.Parsing.{put_whole}
+use Rattle.couch_json.specs.inner.Parsing.{put_whole}
 use Rattle.couch_json.specs.Value.{no_members}
 use Rattle.couch_json.specs.View.{members_view}
 use Rattle.couch_json.proofs.parsing.keep_whole.Given as goal

@@ -1,5 +1,5 @@
 use Rattle.std.proofs.Common.{Some, option_map, sym, ap, ap₂, ◌∙◌}
-use Rattle.couch_json.specs.Parsing.{with_item}
+use Rattle.couch_json.specs.inner.Parsing.{with_item}
 use Rattle.couch_json.specs.View.{view, items_view}
 use Rattle.couch_json.proofs.TokensRead.{items_view-push}
 use Rattle.couch_json.proofs.parsing.push_item.Goals as goal

@@ -1,6 +1,6 @@
 use Rattle.std.proofs.Common.{◌≡◌, [], IsUtf8, refl, subst, arith, rules}
 use Rattle.json.specs.Lex.{tokens}
-use Rattle.couch_json.specs.Parsing.{IsRead}
+use Rattle.couch_json.specs.inner.Parsing.{IsRead}
 use Rattle.couch_json.proofs.Readings.{data_read_none}
 use Rattle.couch_json.proofs.TokensRead.{text_read_whole}
 use Rattle.couch_json.proofs.reading.read_whole.Goals as goal

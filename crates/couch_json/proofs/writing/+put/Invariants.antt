@@ -1,7 +1,7 @@
 use Rattle.std.proofs.Common.{◌≡◌, ◌++◌, drop}
 use Rattle.couch_json.specs.Lawful.{AreLawfulItems, AreLawfulMembers}
 use Rattle.couch_json.specs.View.{items_view, members_view}
-use Rattle.couch_json.specs.Written.{elements_tokens, object_tokens}
+use Rattle.couch_json.specs.inner.Written.{elements_tokens, object_tokens}
 use Rattle.couch_json.proofs.writing.+put.Given as goal
 
 abbrev pub invariant-put_items-loop-item : goal.invariant-put_items-loop-item

@@ -1,7 +1,7 @@
 use Rattle.std.proofs.Common.{◌≡◌, string_bytes, ap, ◌∙◌, rules}
 use Rattle.json.specs.Print.{print}
 use Rattle.couch_json.specs.View.{view}
-use Rattle.couch_json.specs.Written.{value_tokens}
+use Rattle.couch_json.specs.inner.Written.{value_tokens}
 use Rattle.couch_json.specs.Reading.{reading}
 use Rattle.couch_json.proofs.ReadingBack.{reading-canonical}
 use Rattle.couch_json.proofs.Texts.{print-value_tokens}

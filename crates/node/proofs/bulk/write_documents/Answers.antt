@@ -2,8 +2,8 @@ use Rattle.std.proofs.Common.{◌≡◌, Err, Ok, Result, subst, sym, rules}
 use Rattle.couch_http.specs.Message.{message_of}
 use Rattle.api.specs.Asking.{plain}
 use Rattle.node.specs.Causes.{stop_of_request}
-use Rattle.node.specs.Coming.{Comes}
-use Rattle.node.specs.Drafts.{done_of}
+use Rattle.node.specs.inner.Coming.{Comes}
+use Rattle.node.specs.inner.Drafts.{done_of}
 use Rattle.node.specs.Works.{documents_written}
 use Rattle.node.specs.declared.draft.WriteDraft.{WriteDraft}
 use Rattle.node.specs.declared.early_end.EarlyEnd.{EarlyEnd}

@@ -2,7 +2,7 @@ use Rattle.std.proofs.Common.{Result, sym, ap, ◌∙◌}
 use Rattle.couch_http.specs.Message.{message_of}
 use Rattle.store.specs.Contents.{Contents}
 use Rattle.node.specs.Answer.{Outcome, answer, settlement}
-use Rattle.node.specs.Drafts.{change_of}
+use Rattle.node.specs.inner.Drafts.{change_of}
 use Rattle.api.specs.declared.refusal.Refusal.{Refusal}
 use Rattle.node.proofs.Faults.{all_end_before}
 use Rattle.node.proofs.dispatch.reply.Goals as goal

@@ -1,6 +1,6 @@
 use Rattle.std.proofs.Common.{sym, subst, refl}
 use Rattle.std.specs.FinMap.{get}
-use Rattle.node.specs.Drafts.{change_inside}
+use Rattle.node.specs.inner.Drafts.{change_inside}
 use Rattle.node.specs.Causes.{EndsBefore}
 use Rattle.node.specs.declared.early_end.EarlyEnd.{EarlyEnd}
 use Rattle.node.proofs.Faults.{change_ends, change_made}

@@ -1,6 +1,6 @@
 use Rattle.std.proofs.Common.{rules}
 use Rattle.couch_http.specs.Message.{message_of}
-use Rattle.node.specs.Drafts.{work_of}
+use Rattle.node.specs.inner.Drafts.{work_of}
 use Rattle.node.proofs.Comings.{entry_stops}
 use Rattle.node.proofs.work.do_work.Goals as goal
 

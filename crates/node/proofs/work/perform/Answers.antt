@@ -1,8 +1,8 @@
 use Rattle.std.proofs.Common.{sym, subst, Ok, Err}
 use Rattle.couch_http.specs.Message.{message_of}
 use Rattle.node.specs.Answer.{outcome_in}
-use Rattle.node.specs.Drafts.{outcome_of, work_of, writing_of}
-use Rattle.node.specs.Coming.{Comes}
+use Rattle.node.specs.inner.Drafts.{outcome_of, work_of, writing_of}
+use Rattle.node.specs.inner.Coming.{Comes}
 use Rattle.api.specs.Refusals.{next}
 use Rattle.node.specs.declared.work.Work.{Work}
 use Rattle.node.proofs.Comings.{work_stops}

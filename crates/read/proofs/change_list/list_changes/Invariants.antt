@@ -2,7 +2,7 @@ use Rattle.std.proofs.Common.{◌≡◌, ◌-◌, suc, [], Some, Bool, ℕ, true
 use Rattle.std.specs.FinMap as finite
 use Rattle.store.specs.Calls.{OnlyReads}
 use Rattle.store.specs.Database.{Database}
-use Rattle.read.specs.ChangesSoFar.{whole_changes, rows_to_come}
+use Rattle.read.specs.inner.ChangesSoFar.{whole_changes, rows_to_come}
 use Rattle.read.proofs.change_list.list_changes.Given as goal
 
 -- what has come, with the rows that are still to come, is the whole; where there was no page with rows, none are

@@ -5,7 +5,7 @@ use Rattle.store.specs.Pages.{SequencePage, last_sequence, page_by_sequence}
 use Rattle.store.specs.PageStructs.{sequence_page_of, sequence_row_of, sequence_rows}
 use Rattle.store.specs.declared.listing.SeqRange.{SeqRange}
 use Rattle.tree.proofs.Shown.{inside}
-use Rattle.read.specs.ChangesSoFar.{later_than, left_after}
+use Rattle.read.specs.inner.ChangesSoFar.{later_than, left_after}
 use Rattle.read.proofs.ChangePages.{advanced, all_rows, ended}
 use Rattle.read.proofs.change_list.list_page.Goals as goal
 

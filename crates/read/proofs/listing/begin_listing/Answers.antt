@@ -7,7 +7,7 @@ use Rattle.store.specs.declared.listing.IdRange.{IdRange}
 use Rattle.store.specs.declared.listing.RowCounts.{RowCounts}
 use Rattle.tree.proofs.Shown.{inside}
 use Rattle.read.specs.Listing.{listing_of, row_object}
-use Rattle.read.specs.RowsSoFar.{AreCountable, whole_list, rows_by_id}
+use Rattle.read.specs.inner.RowsSoFar.{AreCountable, whole_list, rows_by_id}
 use Rattle.read.proofs.ListingPages.{few_by_id, unlimited}
 use Rattle.read.proofs.listing.begin_listing.Goals as goal
 

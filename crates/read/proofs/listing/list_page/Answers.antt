@@ -5,7 +5,7 @@ use Rattle.store.specs.PageStructs.{id_page_of}
 use Rattle.store.specs.declared.listing.IdRange.{IdRange}
 use Rattle.tree.proofs.Shown.{inside}
 use Rattle.read.specs.Listing.{row_object}
-use Rattle.read.specs.RowsSoFar.{greatest_number, page_size, rows_by_id}
+use Rattle.read.specs.inner.RowsSoFar.{greatest_number, page_size, rows_by_id}
 use Rattle.read.proofs.ListingPages.{advanced}
 use Rattle.read.proofs.listing.list_page.Goals as goal
 

@@ -3,7 +3,7 @@ use Rattle.std.specs.FinMap as finite
 use Rattle.store.specs.Calls.{OnlyReads}
 use Rattle.store.specs.Database.{Database}
 use Rattle.read.specs.Listing.{row_object}
-use Rattle.read.specs.RowsSoFar.{AreCountable, whole_list, rows_by_id}
+use Rattle.read.specs.inner.RowsSoFar.{AreCountable, whole_list, rows_by_id}
 use Rattle.read.proofs.listing.list_rows.Given as goal
 
 -- what has come, with the rows that are still to come, is the whole; behind the last page, none are

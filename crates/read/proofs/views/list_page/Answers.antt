@@ -4,7 +4,7 @@ use Rattle.store.specs.Indexes.{index_fields_at}
 use Rattle.store.specs.KeyPages.{page_of_keys}
 use Rattle.store.specs.KeyPageStructs.{key_page_in, key_page_of}
 use Rattle.tree.proofs.Shown.{inside}
-use Rattle.read.specs.RowsSoFar.{greatest_number, page_size, rows_by_key}
+use Rattle.read.specs.inner.RowsSoFar.{greatest_number, page_size, rows_by_key}
 use Rattle.read.specs.Views.{key_row_object}
 use Rattle.read.proofs.ListingPages.{advanced, next_by_key, part_of}
 use Rattle.read.proofs.views.list_page.Goals as goal

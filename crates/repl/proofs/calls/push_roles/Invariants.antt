@@ -1,5 +1,5 @@
 use Rattle.std.proofs.Common.{◌≡◌, ◌++◌, drop, map, string_bytes}
-use Rattle.repl.specs.Joined.{after_commas}
+use Rattle.repl.specs.inner.Joined.{after_commas}
 use Rattle.repl.proofs.calls.push_roles.Given as goal
 
 abbrev pub invariant-loop-role : goal.invariant-loop-role

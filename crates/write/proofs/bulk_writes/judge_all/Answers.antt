@@ -11,7 +11,7 @@ use Rattle.store.specs.Writing.{additions}
 use Rattle.store.proofs.Calls.{reads_nothing, reads_then}
 use Rattle.write.specs.BulkResults.{IsOwnOutcome, told_of}
 use Rattle.write.specs.Document.{member_text}
-use Rattle.write.specs.Repeats.{is_named_if_any, repeats}
+use Rattle.write.specs.inner.Repeats.{is_named_if_any, repeats}
 use Rattle.write.specs.declared.planned.DocumentResult.{DocumentResult}
 use Rattle.write.proofs.Repetitions.{marks_cons}
 use Rattle.write.specs.Terms.{Terms}

@@ -6,7 +6,7 @@ use Rattle.store.specs.Calls.{OnlyReads}
 use Rattle.store.specs.Database.{Database}
 use Rattle.store.specs.Writing.{additions}
 use Rattle.write.specs.BulkResults.{IsOwnOutcome, told_of}
-use Rattle.write.specs.Repeats.{repeats}
+use Rattle.write.specs.inner.Repeats.{repeats}
 use Rattle.write.proofs.Judgings.{IsJudged}
 use Rattle.write.proofs.bulk_writes.judge_all.Given as goal
 

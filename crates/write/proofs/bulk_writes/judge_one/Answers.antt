@@ -1,7 +1,7 @@
 use Rattle.std.proofs.Common.{◌∙◌, ap, sym}
 use Rattle.write.specs.Bulk.{DocumentOutcome, after, outcome_told}
 use Rattle.write.specs.BulkResults.{seen_in}
-use Rattle.write.specs.Drafts.{outcome_asked}
+use Rattle.write.specs.inner.Drafts.{outcome_asked}
 use Rattle.write.proofs.Names.{asked-named}
 use Rattle.write.proofs.Judgings.{pushed, told_asked, told_brought}
 use Rattle.write.proofs.bulk_writes.judge_one.Goals as goal

@@ -8,7 +8,7 @@ use Rattle.tree.specs.Outline.{marked_winner}
 use Rattle.write.proofs.FollowedRules.{err_then, new_there, ok_then}
 use Rattle.write.proofs.Plannings.{own_refusal}
 use Rattle.write.specs.Admission.{base}
-use Rattle.write.specs.Following.{IsFollowed}
+use Rattle.write.specs.inner.Following.{IsFollowed}
 use Rattle.write.proofs.following.judge_sent.Goals as goal
 
 pub returns-in-New-clause-ok : goal.returns-in-New-clause-ok

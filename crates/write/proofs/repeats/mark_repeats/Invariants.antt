@@ -1,6 +1,6 @@
 use Rattle.std.proofs.Common.{◌≡◌, ℕ, List, drop, map, reverse}
 use Rattle.couch_json.specs.View.{view}
-use Rattle.write.specs.Repeats.{has_text, is_named, repeats}
+use Rattle.write.specs.inner.Repeats.{has_text, is_named, repeats}
 use Rattle.write.proofs.repeats.mark_repeats.Given as goal
 
 -- the documents from here on are marked, and their texts are in

@@ -4,7 +4,7 @@ use Rattle.std.specs.Prelude.{ℕ, List, Option, Some, None, Err}
 use Rattle.couch_json.specs.View.{view}
 use Rattle.tree.specs.History.{HistoryContent}
 use Rattle.write.specs.Admission.{ancestry_placement, edit_outcome, placement_outcome}
-use Rattle.write.specs.AncestryRead.{ancestry_of}
+use Rattle.write.specs.inner.AncestryRead.{ancestry_of}
 use Rattle.write.specs.Bulk.{DocumentOutcome, Histories, as_outcome}
 use Rattle.write.specs.Terms.{Terms}
 use Rattle.write.specs.declared.draft.Request.{Request}

@@ -14,7 +14,7 @@ use Rattle.api.specs.declared.method.RequestMethod.{RequestMethod}
 use Rattle.api.specs.declared.page.Page.{Page}
 use Rattle.api.specs.declared.refusal.Refusal.{Refusal}
 use Rattle.node.specs.Answer.{Outcome, page_outcome}
-use Rattle.node.specs.Drafts.{MayChange, done_of, outcome_of}
+use Rattle.node.specs.inner.Drafts.{MayChange, done_of, outcome_of}
 use Rattle.node.specs.Causes.{Ends}
 use Rattle.node.specs.Work.{Work}
 use Rattle.node.specs.declared.draft.Draft.{Draft}

@@ -1,0 +1,4 @@
+-- What ties the code to the definitions of its clauses, and that no public clause names.
+pub mod Parsing
+pub mod Written
+pub mod KeyFront
