@@ -1,5 +1,5 @@
 -- The names that the rows have and those that the body declares are all that matter.
-use Rattle.index.proofs.Common.{Bool, Declarations, List, None, Option, Row, Some, [], and_from, ap, bytes_eq, bytes_eq-Decides, cond, declared_by, design_of, false, fields_of, filter, find, home_of, if◌then◌else◌, int_eq, is_declaration_of, list_any, map, option_map, refl, same_int, shown_declaration, sym, true, ℕ, ℤ, ◌&&◌, ◌||◌, ◌∙◌, ◌∷◌, ◌≡◌, with_declared, index_name_of}
+use Rattle.index.proofs.Common.{Bool, List, None, Option, Row, Some, [], and_from, ap, bytes_eq, cond, design_of, false, filter, find, home_of, if◌then◌else◌, int_eq, is_declaration_of, list_any, map, option_map, refl, shown_declaration, sym, true, ℕ, ℤ, ◌||◌, ◌∙◌, ◌∷◌, ◌≡◌, index_name_of}
 use Rattle.couch_json.specs.Value.{Members, Value, member, member_at, member_of, no_members, object}
 use Rattle.index.proofs.DeclarationStatements.{of_index}
 use Rattle.index.proofs.EntryChanges.{same_bytes, same_number}

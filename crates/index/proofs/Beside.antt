@@ -6,7 +6,7 @@ use Rattle.index.proofs.Filled.{numbers_apart}
 use Rattle.index.proofs.Going.{only_changed, only_then}
 use Rattle.index.specs.Calls.{ChangesOnly}
 use Rattle.index.specs.Filling.{HaveKeyOf, HaveOwnNumbers, numbers_of, without_ids}
-use Rattle.index.specs.Gathering.{AreEntriesBeside, Entry, HasEntriesBeside, entries_of, entry_if, entry_of, is_entry}
+use Rattle.index.specs.inner.Gathering.{AreEntriesBeside, Entry, HasEntriesBeside, entries_of, entry_if, entry_of, is_entry}
 use Rattle.index.specs.Shown.{Declared}
 use Rattle.index.specs.declared.gathered.NewEntry.{NewEntry}
 use Rattle.std.proofs.lemmas.List.{drop_more}

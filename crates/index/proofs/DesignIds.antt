@@ -3,7 +3,7 @@ use Rattle.index.proofs.Common.{AllByRecursion, Binary, Blob, Bool, Eq, IfOk, In
 use Rattle.index.proofs.EntryChanges.{bytes_eq-sym}
 use Rattle.index.proofs.Filled.{any_in_order, ascending-sorted, unwritten_unseen}
 use Rattle.index.proofs.IdBounds.{above_texts, none_below}
-use Rattle.index.specs.Seen.{documents_between, ids_between, is_in_range}
+use Rattle.index.specs.inner.Seen.{documents_between, ids_between, is_in_range}
 use Rattle.sqlite_sql.specs.declared.ops.CompareOp.TheVariants.{Ge, Lt}
 use Rattle.std.specs.Cmp.{second_so}
 use Rattle.std.specs.Cmp.Lexicographic.{slice_cmp}

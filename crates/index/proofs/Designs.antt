@@ -1,5 +1,5 @@
 -- The indexes of a design document: what is taken out, what is declared anew, and what is left to fill.
-use Rattle.index.proofs.Common.{AreEntriesOf, Bool, Database, Declarations, Declared, Documents, List, None, Option, Some, [], all_of, ap, bytes_eq, bytes_eq-Decides, declared_by, decls_tree, entries_tree, false, fields_of, filter, if◌then◌else◌, int_eq, is_due, list_any, map, not, option_map, refl, same_int, sees_in, shown_declaration, sym, true, with_declared, without_numbers, ℕ, ℤ, ◌&&◌, ◌∙◌, ◌≡◌}
+use Rattle.index.proofs.Common.{Bool, Database, Declarations, Declared, Documents, List, None, Option, Some, [], all_of, ap, bytes_eq, bytes_eq-Decides, declared_by, decls_tree, entries_tree, false, fields_of, filter, if◌then◌else◌, int_eq, is_due, list_any, map, not, option_map, refl, same_int, shown_declaration, sym, true, with_declared, without_numbers, ℕ, ℤ, ◌&&◌, ◌∙◌, ◌≡◌}
 use Rattle.couch_json.specs.Value.{Value}
 use Rattle.index.proofs.AllDeclared.{none_stored, undeclared_name}
 use Rattle.index.proofs.EntryChanges.{entries_as, same_bytes, same_number}

@@ -2,7 +2,7 @@
 use Rattle.index.proofs.Common.{AllByRecursion, Bool, ChangesOnly, Database, Entries, IsAscending, List, None, Option, Ordering, Row, Some, Trees, [], ap, arith, bytes_eq, bytes_eq-Decides, cond, drop, entries_tree, false, find, get_or, if◌then◌else◌, insert_sorted, int_eq, is_gt, length, list_any, map, refl, same_int, schema, sees_in, sort_by, suc, sym, true, ℕ, ℤ, ◌&&◌, ◌<◌, ◌||◌, ◌∙◌, ◌∷◌, ◌≡◌, ◌≢◌}
 use Rattle.index.proofs.SeenDocuments.{design_unseen, gone_unseen}
 use Rattle.index.specs.Filling.{HaveKeyOf, numbers_of, without_ids}
-use Rattle.index.specs.Seen.{IsListedAs}
+use Rattle.index.specs.inner.Seen.{IsListedAs}
 use Rattle.index.specs.Shown.{Declared}
 use Rattle.std.proofs.lemmas.Bool.{false_from_ne_true}
 use Rattle.std.specs.FinMap.{empty}

@@ -9,7 +9,7 @@ use Rattle.std.specs.Ordering.{is_le, nat_cmp, ordering_reverse, ordering_then}
 use Rattle.std.specs.Prelude.{IsUtf8, nat_lt, ⊤, ◌&&◌, ◌||◌}
 use Rattle.std.specs.Str.{encode_utf8_all}
 use Rattle.std.specs.Char.{IsScalar, encode_utf8}
-use Rattle.index.specs.Seen.{IsCut}
+use Rattle.index.specs.inner.Seen.{IsCut}
 use Rattle.tables.specs.Listings.{is_between}
 
 -- ---- the order of bytes
@@ -38,7 +38,7 @@ none_below (x ∷ xs) = refl
 
 -- ---- above all texts
 
-abbrev small : List ℕ → Type 0
+abbrev pub small : List ℕ → Type 0
 small [] = ⊤
 small (x ∷ xs) = x < 255
 
@@ -56,7 +56,7 @@ lead_of c rest s = go (nat_lt c 128) (nat_lt c 2048) (nat_lt c 65536) refl refl 
     go false false true p q r = let lt : c < 65536 = grind (arith, nat_tests, r) in omega (arith, lt)
     go false false false p q r = let lt = scalar_small c s in omega (arith, lt)
 
-texts_small : (bytes : List ℕ) → IsUtf8 bytes → small bytes
+pub texts_small : (bytes : List ℕ) → IsUtf8 bytes → small bytes
 texts_small bytes ([], is) = subst small is.1 tt
 texts_small bytes (c ∷ cs, is) = subst small is.1 (lead_of c (encode_utf8_all cs) (first_so _ _ is.0))
 

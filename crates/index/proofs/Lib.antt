@@ -24,6 +24,8 @@ pub mod Rebuilt
 pub mod AllDeclared
 pub mod Designs
 pub mod Refusals
+pub mod RebuildSteps
+pub mod GatherSteps
 pub mod TextNames
 pub mod KeyBounds
 pub mod Spots

@@ -1,10 +1,10 @@
 -- One index within a change of several.
-use Rattle.index.proofs.Common.{AllByRecursion, Bool, ChangesIndexes, Database, Declarations, Declared, Documents, List, None, Option, Row, Schema, Some, [], all_both, all_of, all_weaker, and_from, ap, arith, bytes_eq, bytes_eq-Decides, declaration_at, declared_at, declared_by, decls_tree, design_of, entries_tree, false, fields_of, find, find_found, find_passes, home_of, if◌then◌else◌, index_name_of, int_eq, is_declaration_of, is_due, list_any, list_any-append, not, number_of, option_map, refl, schema, sees_in, subst, sym, true, without_numbers, ℕ, ℤ, ◌&&◌, ◌++◌, ◌||◌, ◌∙◌, ◌∷◌, ◌≡◌, ◌≢◌}
+use Rattle.index.proofs.Common.{AllByRecursion, Bool, ChangesIndexes, Database, Declarations, Declared, Documents, List, None, Option, Row, Schema, Some, [], all_both, all_of, and_from, ap, arith, bytes_eq, bytes_eq-Decides, declaration_at, declared_at, declared_by, decls_tree, design_of, entries_tree, false, fields_of, find, find_found, find_passes, home_of, if◌then◌else◌, index_name_of, int_eq, is_declaration_of, list_any, list_any-append, number_of, option_map, refl, schema, sees_in, subst, sym, true, ℕ, ℤ, ◌&&◌, ◌++◌, ◌||◌, ◌∙◌, ◌∷◌, ◌≡◌, ◌≢◌}
 use Rattle.index.proofs.Alike.{alike}
 use Rattle.index.proofs.DeclarationStatements.{of_index}
-use Rattle.index.proofs.EntryChanges.{entries_as, same_bytes, same_number}
+use Rattle.index.proofs.EntryChanges.{same_bytes, same_number}
 use Rattle.index.proofs.Following.{found_each}
-use Rattle.index.specs.Declaring.{ArePartly, IsCleared, IsDeclared, IsFoundIn, IsRebuildable, IsRebuilt, with_index}
+use Rattle.index.specs.Declaring.{IsCleared, IsDeclared, IsFoundIn, IsRebuildable, IsRebuilt, with_index}
 use Rattle.index.specs.Rebuilding.{AreCleared}
 use Rattle.std.specs.Prelude.{unwrap_or}
 use Rattle.store.specs.Indexes.{queried_document}
@@ -14,7 +14,7 @@ use Rattle.tables.specs.Rows.{history_in}
 
 -- ---- the tables beside those of indexes
 
-same_beside : (a b : Database) → a.schema ≡ schema → ChangesIndexes a b → AreSame a.trees b.trees
+pub same_beside : (a b : Database) → a.schema ≡ schema → ChangesIndexes a b → AreSame a.trees b.trees
 same_beside a b has h =
     let others = subst (λ (s : Schema). AllByRecursion (λ t. t.tree ≢ decls_tree → t.tree ≢ entries_tree → b.trees t.tree ≡ a.trees t.tree) s.tables) has h.others in
     record {

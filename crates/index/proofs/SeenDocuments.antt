@@ -1,7 +1,7 @@
 -- What queries see of a document is what the row of its winner shows.
 use Rattle.index.proofs.Common.{AllByRecursion, Bool, List, None, Option, Row, Some, Trees, [], ap, false, filter, if◌then◌else◌, map, option_map, refl, slice_get, subst, sym, true, ℕ, ℤ, ◌∙◌, ◌∷◌, ◌≡◌}
 use Rattle.couch_json.specs.Value.{Value}
-use Rattle.index.specs.Seen.{HasLive, ShowsLive, shown_by_row, shown_by_rows}
+use Rattle.index.specs.inner.Seen.{HasLive, ShowsLive, shown_by_row, shown_by_rows}
 use Rattle.sqlite_keyed.proofs.ListLemmas.{all-filter, all_map}
 use Rattle.std.specs.FinMap as finite
 use Rattle.std.specs.Ordering.{eq_by_cmp}

@@ -63,6 +63,12 @@ module _ {S : Type 0} (g : Ghosts S) where
     asks = asks_then (state g a) (state g b) (state g c) p.asks q.asks;
   }
 
+  -- a step, and then one that fails, whose error is told in another way
+  pub steps_failed : {X Y Z E E' D : Type 0} (F F' : Database → Type 0) (G G' H : Database → Database → Type 0) (a b c : Held S) (x : X) (e : E') (d : D) (r : Result Z D) → r ≡ Err d → Steps {E = E} g F G a b (Ok x)
+      → Steps {X = Y} g F' G' b c (Err e) → (HasCleanDisk (state g b) → F (state g a).now → G (state g a).now (state g b).now → F' (state g b).now) → Steps g F H a c r
+  steps_failed {X} {Y} {Z} {E} {E'} F F' G G' H a b c x e d r is p q next =
+      steps_stop {X = Y} F (λ p q. ⊤) H a c e d r is (steps_then {E = E} {D = E'} F F' G G' (λ p q. ⊤) a b c x (Err e) p q next (λ was fit made got. tt))
+
   -- an error that comes before anything is done
   pub steps_err : {X E : Type 0} (F : Database → Type 0) (G : Database → Database → Type 0) (a : Held S) (e : E) (r : Result X E) → r ≡ Err e → Steps g F G a a r
   steps_err F G a e r is = subst (Steps g F G a a) (sym is) (steps_none F G a (Err e) (λ fit. tt) tt)

@@ -10,8 +10,8 @@ use Rattle.index.specs.Calls.{HasEntries}
 use Rattle.index.specs.Steps.{Steps}
 use Rattle.tables.specs.Calls.{AsksInside, LooksInside, Stands}
 use Rattle.index.specs.Filling.{AreBare, HaveKeyOf, numbers_of, without_ids}
-use Rattle.index.specs.Gathering.{AreToGather, AreToPut, Entry, HasEntriesBeside, IsToGather, IsToGatherRange, without_documents}
-use Rattle.index.specs.Seen.{IsCut, documents_between}
+use Rattle.index.specs.inner.Gathering.{AreToGather, AreToPut, Entry, HasEntriesBeside, IsToGather, IsToGatherRange, without_documents}
+use Rattle.index.specs.inner.Seen.{IsCut, documents_between}
 use Rattle.index.specs.Shown.{Declared}
 use Rattle.std.proofs.lemmas.List.{drop_more, length-map}
 use Rattle.tables.proofs.Rests.{document_kept, length_at}

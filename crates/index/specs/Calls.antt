@@ -19,7 +19,7 @@ use Rattle.index.specs.Indexed.{AreEntriesOf, AreIndexed, Entries, is_due, with_
 use Rattle.index.specs.Layout.{AreDeclarationRows, HasIndexRows}
 use Rattle.index.specs.Meaning.{Declarations, Documents, is_key, sees_in, with_seen, without_declared}
 use Rattle.index.specs.Rows.{is_at_home}
-use Rattle.index.specs.Seen.{IsListedAs}
+use Rattle.index.specs.inner.Seen.{IsListedAs}
 use Rattle.index.specs.Shown.{Declared, declared_at}
 use Rattle.index.specs.declared.fault.IndexFault.{IndexFault}
 use Rattle.index.specs.declared.fault.IndexFault.TheVariants as fault

@@ -3,12 +3,11 @@ pub mod Meaning
 pub mod Layout
 pub mod Shown
 pub mod Indexed
-pub mod Seen
 pub mod Calls
 pub mod Entries
 pub mod Steps
 pub mod Filling
-pub mod Gathering
 pub mod Declaring
 pub mod Rebuilding
 pub mod Places
+pub mod inner

@@ -1,6 +1,6 @@
 -- What a design document's declarations make of index rows.
 -- This server's own: each name is set apart, those that the rows have and those that the body declares.
-use Rattle.std.specs.Prelude.{◌≡◌, ℕ, ℤ, Bool, false, true, ◌&&◌, bytes_eq, codes, if◌then◌else◌, List, [], ◌∷◌, Option, None, Some, Result}
+use Rattle.std.specs.Prelude.{◌≡◌, ℕ, ℤ, Bool, false, true, ◌&&◌, bytes_eq, codes, List, [], ◌∷◌, Option, None, Some, Result}
 use Rattle.std.specs.List.{AllByRecursion, list_any}
 use Rattle.std.specs.Ordering.{int_eq}
 use Rattle.couch_json.specs.Value.{Value, Members, no_members, member, member_of}

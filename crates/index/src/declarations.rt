@@ -13,7 +13,8 @@ use tables::statement::{change, query, query_in};
 /// Returns the rows of the indexes of a database, by their numbers: the number, the name and the fields.
 pub fn rows_of_database<S: Alter>(tx: &mut Transaction<'_, S>, db: &i64) -> Result<Vec<Row>, Error>
     ensures same_reference { tx.new.conn.ghost_name ≡ tx.old.conn.ghost_name }
-    ensures reads { ReadsInside S.Store HasIndexRows tx.old.conn.now tx.new.conn.now (λ trees rows. rows.items ≡ map shown_declaration (filter (is_at_home db.now) (trees decls_tree))) result }
+    ensures reads { ReadsInside S.Store HasIndexRows tx.old.conn.now tx.new.conn.now
+        (λ trees rows. rows.items ≡ map shown_declaration (filter (is_at_home db.now) (trees decls_tree))) result }
 {
     query_in(
         tx,
@@ -30,7 +31,8 @@ pub fn rows_of_index<S: Alter>(
     design: &[u8],
     name: &[u8],
 ) -> Result<Vec<Row>, Error>
-    ensures { Reads S.Store HasIndexRows conn.old conn.new (λ trees rows. rows.items ≡ map shown_declaration (filter (is_declaration_of db.now design.now name.now) (trees decls_tree))) result }
+    ensures { Reads S.Store HasIndexRows conn.old conn.new
+        (λ trees rows. rows.items ≡ map shown_declaration (filter (is_declaration_of db.now design.now name.now) (trees decls_tree))) result }
 {
     query(
         conn,
@@ -48,7 +50,8 @@ pub fn insert_declaration<S: Alter>(
     fields: &str,
 ) -> Result<(), Error>
     ensures same_reference { tx.new.conn.ghost_name ≡ tx.old.conn.ghost_name }
-    ensures alters { Alters S.Store decls_tree AreDeclarationRows (λ rows. with_cells rows (declaration_cells db.now design.now name.now fields.now)) tx.old.conn.now tx.new.conn.now result }
+    ensures alters { Alters S.Store decls_tree AreDeclarationRows
+        (λ rows. with_cells rows (declaration_cells db.now design.now name.now fields.now)) tx.old.conn.now tx.new.conn.now result }
 {
     change(
         tx,
@@ -60,7 +63,8 @@ pub fn insert_declaration<S: Alter>(
 /// Takes out the row of the declaration of this number.
 pub fn delete_declaration<S: Alter>(tx: &mut Transaction<'_, S>, number: &i64) -> Result<(), Error>
     ensures same_reference { tx.new.conn.ghost_name ≡ tx.old.conn.ghost_name }
-    ensures alters { Alters S.Store decls_tree AreDeclarationRows (λ rows. filter (λ r. not (has_number number.now r)) rows) tx.old.conn.now tx.new.conn.now result }
+    ensures alters { Alters S.Store decls_tree AreDeclarationRows
+        (λ rows. filter (λ r. not (has_number number.now r)) rows) tx.old.conn.now tx.new.conn.now result }
 {
     change(tx, "DELETE FROM decls WHERE num = ?1", params![number])
 }
@@ -68,7 +72,8 @@ pub fn delete_declaration<S: Alter>(tx: &mut Transaction<'_, S>, number: &i64) -
 /// Takes out the rows of all indexes of a database.
 pub fn clear_declarations<S: Alter>(tx: &mut Transaction<'_, S>, db: &i64) -> Result<(), Error>
     ensures same_reference { tx.new.conn.ghost_name ≡ tx.old.conn.ghost_name }
-    ensures alters { Alters S.Store decls_tree AreDeclarationRows (λ rows. filter (λ r. not (is_at_home db.now r)) rows) tx.old.conn.now tx.new.conn.now result }
+    ensures alters { Alters S.Store decls_tree AreDeclarationRows
+        (λ rows. filter (λ r. not (is_at_home db.now r)) rows) tx.old.conn.now tx.new.conn.now result }
 {
     change(tx, "DELETE FROM decls WHERE db = ?1", params![db])
 }

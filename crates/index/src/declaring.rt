@@ -8,7 +8,8 @@ ghost use Rattle.couch_json.specs.View.{items_view, view};
 ghost use Rattle.tables.specs.Calls.{AsksInside, LooksInside, ReadsInside, Stands};
 ghost use Rattle.sqlite_value.specs.Order as order;
 ghost use Rattle.index.specs.Calls.{IsRefused};
-ghost use Rattle.index.specs.Declaring.{AddsFresh, ArePartly, ClearsIndex, Declares, DeclaresMissing, FindsDeclared, FindsStored, HasDeclared, IsMissing, IsRebuildable, TakesOut, TellsDeclared, Undeclares};
+ghost use Rattle.index.specs.Declaring.{AddsFresh, ArePartly, ClearsIndex, Declares, DeclaresMissing, FindsDeclared, FindsStored};
+ghost use Rattle.index.specs.Declaring.{HasDeclared, IsMissing, IsRebuildable, TakesOut, TellsDeclared, Undeclares};
 ghost use Rattle.index.specs.Layout.{HasIndexRows};
 ghost use Rattle.index.specs.Meaning.{Declarations, Documents};
 ghost use Rattle.index.specs.Steps.{AreFit};
@@ -65,7 +66,8 @@ fn rows_of_index_in<S: Alter>(
     name: &[u8],
 ) -> Result<Vec<Row>, Error>
     ensures same_reference { tx.new.conn.ghost_name ≡ tx.old.conn.ghost_name }
-    ensures reads { ReadsInside S.Store HasIndexRows tx.old.conn.now tx.new.conn.now (λ trees rows. rows.items ≡ map shown_declaration (filter (is_declaration_of db.now design.now name.now) (trees decls_tree))) result }
+    ensures reads { ReadsInside S.Store HasIndexRows tx.old.conn.now tx.new.conn.now
+        (λ trees rows. rows.items ≡ map shown_declaration (filter (is_declaration_of db.now design.now name.now) (trees decls_tree))) result }
 {
     query_in(
         tx,
@@ -85,7 +87,8 @@ pub(crate) fn clear_index<S: Alter>(
 ) -> Result<(), IndexFault>
     ensures same_reference { tx.new.conn.ghost_name ≡ tx.old.conn.ghost_name }
     ensures clears { ClearsIndex S.Store db.now design.now name.now (option_map (λ paths. paths.items) fields.now) tx.old.conn.now tx.new.conn.now result }
-    ensures err { (declares : Declarations) (sees : Documents) → IfErr result (IsRefused (AreFit S.Store (IsRebuildable declares sees db.now) tx.old.conn.now tx.new.conn.now)) }
+    ensures err { (declares : Declarations) (sees : Documents)
+        → IfErr result (IsRefused (AreFit S.Store (IsRebuildable declares sees db.now) tx.old.conn.now tx.new.conn.now)) }
 {
     let found = find_stored(alloc, tx, db, design, name)?;
     if is_declared_so(&found, fields) {
@@ -107,9 +110,11 @@ pub(crate) fn declare_missing<S: Alter>(
     fresh: &mut Vec<Declaration>,
 ) -> Result<(), IndexFault>
     ensures same_reference { tx.new.conn.ghost_name ≡ tx.old.conn.ghost_name }
-    ensures declares { DeclaresMissing S.Store db.now design.now name.now (option_map (λ paths. paths.items) fields.now) (map declared fresh.old.items) (map declared fresh.new.items) tx.old.conn.now tx.new.conn.now result }
+    ensures declares { DeclaresMissing S.Store db.now design.now name.now (option_map (λ paths. paths.items) fields.now)
+        (map declared fresh.old.items) (map declared fresh.new.items) tx.old.conn.now tx.new.conn.now result }
     ensures err { (declares : Declarations) (sees : Documents) (f : List ℕ → Option (List (List ℕ))) (left : List (List ℕ))
-        → IfErr result (IsRefused (AreFit S.Store (ArePartly declares sees db.now design.now f (name.now ∷ left) (map declared fresh.old.items)) tx.old.conn.now tx.new.conn.now)) }
+        → IfErr result (IsRefused
+        (AreFit S.Store (ArePartly declares sees db.now design.now f (name.now ∷ left) (map declared fresh.old.items)) tx.old.conn.now tx.new.conn.now)) }
 {
     match fields {
         Some(fields) => declare_wanted(alloc, tx, db, design, name, fields, fresh),
@@ -128,9 +133,11 @@ fn declare_wanted<S: Alter>(
     fresh: &mut Vec<Declaration>,
 ) -> Result<(), IndexFault>
     ensures same_reference { tx.new.conn.ghost_name ≡ tx.old.conn.ghost_name }
-    ensures declares { DeclaresMissing S.Store db.now design.now name.now (Some fields.now) (map declared fresh.old.items) (map declared fresh.new.items) tx.old.conn.now tx.new.conn.now result }
+    ensures declares { DeclaresMissing S.Store db.now design.now name.now (Some fields.now) (map declared fresh.old.items)
+        (map declared fresh.new.items) tx.old.conn.now tx.new.conn.now result }
     ensures err { (declares : Declarations) (sees : Documents) (f : List ℕ → Option (List (List ℕ))) (left : List (List ℕ))
-        → IfErr result (IsRefused (AreFit S.Store (ArePartly declares sees db.now design.now f (name.now ∷ left) (map declared fresh.old.items)) tx.old.conn.now tx.new.conn.now)) }
+        → IfErr result (IsRefused
+        (AreFit S.Store (ArePartly declares sees db.now design.now f (name.now ∷ left) (map declared fresh.old.items)) tx.old.conn.now tx.new.conn.now)) }
 {
     let found = find_stored(alloc, tx, db, design, name)?;
     match found {
@@ -150,7 +157,8 @@ fn add_fresh<S: Alter>(
     fresh: &mut Vec<Declaration>,
 ) -> Result<(), IndexFault>
     ensures same_reference { tx.new.conn.ghost_name ≡ tx.old.conn.ghost_name }
-    ensures adds { AddsFresh S.Store db.now design.now name.now fields.now (map declared fresh.old.items) (map declared fresh.new.items) tx.old.conn.now tx.new.conn.now result }
+    ensures adds { AddsFresh S.Store db.now design.now name.now fields.now (map declared fresh.old.items)
+        (map declared fresh.new.items) tx.old.conn.now tx.new.conn.now result }
     ensures err { IfErr result (IsRefused (AreFit S.Store (IsMissing db.now design.now name.now) tx.old.conn.now tx.new.conn.now)) }
 {
     let declaration = declare(alloc, tx, db, design, name, fields)?;

@@ -19,7 +19,8 @@ pub fn insert_entry<S: Alter>(
     id: &[u8],
 ) -> Result<(), Error>
     ensures same_reference { tx.new.conn.ghost_name ≡ tx.old.conn.ghost_name }
-    ensures alters { Alters S.Store entries_tree AreEntryRows (λ rows. with_cells rows (entry_cells declaration.now key.now id.now)) tx.old.conn.now tx.new.conn.now result }
+    ensures alters { Alters S.Store entries_tree AreEntryRows
+        (λ rows. with_cells rows (entry_cells declaration.now key.now id.now)) tx.old.conn.now tx.new.conn.now result }
 {
     change(
         tx,
@@ -36,7 +37,8 @@ pub fn delete_entry<S: Alter>(
     id: &[u8],
 ) -> Result<(), Error>
     ensures same_reference { tx.new.conn.ghost_name ≡ tx.old.conn.ghost_name }
-    ensures alters { Alters S.Store entries_tree AreEntryRows (λ rows. filter (λ r. not (is_entry_of declaration.now key.now id.now r)) rows) tx.old.conn.now tx.new.conn.now result }
+    ensures alters { Alters S.Store entries_tree AreEntryRows
+        (λ rows. filter (λ r. not (is_entry_of declaration.now key.now id.now r)) rows) tx.old.conn.now tx.new.conn.now result }
 {
     change(
         tx,
@@ -48,7 +50,8 @@ pub fn delete_entry<S: Alter>(
 /// Takes out all entries of an index.
 pub fn clear_entries<S: Alter>(tx: &mut Transaction<'_, S>, declaration: &i64) -> Result<(), Error>
     ensures same_reference { tx.new.conn.ghost_name ≡ tx.old.conn.ghost_name }
-    ensures alters { Alters S.Store entries_tree AreEntryRows (λ rows. filter (λ r. not (is_entry_in declaration.now r)) rows) tx.old.conn.now tx.new.conn.now result }
+    ensures alters { Alters S.Store entries_tree AreEntryRows
+        (λ rows. filter (λ r. not (is_entry_in declaration.now r)) rows) tx.old.conn.now tx.new.conn.now result }
 {
     change(
         tx,
@@ -68,7 +71,8 @@ pub fn rows_up<S: Alter>(
     most: &i64,
     skip: &i64,
 ) -> Result<Vec<Row>, Error>
-    ensures { Reads S.Store HasIndexRows conn.old conn.new (λ trees rows. rows.items ≡ range_of false declaration.now low.now high.now most.now skip.now (trees entries_tree)) result }
+    ensures { Reads S.Store HasIndexRows conn.old conn.new
+        (λ trees rows. rows.items ≡ range_of false declaration.now low.now high.now most.now skip.now (trees entries_tree)) result }
 {
     query(
         conn,
@@ -86,7 +90,8 @@ pub fn rows_down<S: Alter>(
     most: &i64,
     skip: &i64,
 ) -> Result<Vec<Row>, Error>
-    ensures { Reads S.Store HasIndexRows conn.old conn.new (λ trees rows. rows.items ≡ range_of true declaration.now low.now high.now most.now skip.now (trees entries_tree)) result }
+    ensures { Reads S.Store HasIndexRows conn.old conn.new
+        (λ trees rows. rows.items ≡ range_of true declaration.now low.now high.now most.now skip.now (trees entries_tree)) result }
 {
     query(
         conn,
@@ -103,7 +108,8 @@ pub fn count_rows<S: Alter>(
     low: &[u8],
     high: &[u8],
 ) -> Result<Vec<Row>, Error>
-    ensures { Reads S.Store HasIndexRows conn.old conn.new (λ trees rows. rows.items ≡ shown_count (count_of declaration.now low.now high.now (trees entries_tree)) ∷ []) result }
+    ensures { Reads S.Store HasIndexRows conn.old conn.new
+        (λ trees rows. rows.items ≡ shown_count (count_of declaration.now low.now high.now (trees entries_tree)) ∷ []) result }
 {
     query(
         conn,

@@ -4,7 +4,7 @@ ghost use Rattle.std.specs.Prelude.{◌≡◌, ◌||◌, IfErr, List, map, ⊤, 
 ghost use Rattle.sqlite_value.specs.Order as order;
 ghost use Rattle.index.specs.Calls.{IsRefused};
 ghost use Rattle.index.specs.Filling.{AreBare, Fills};
-ghost use Rattle.index.specs.Gathering.{AreToGather, GathersRange, GathersRow, GathersRows, IsToGather, IsToGatherRange, entry_of};
+ghost use Rattle.index.specs.inner.Gathering.{AreToGather, GathersRange, GathersRow, GathersRows, IsToGather, IsToGatherRange, entry_of};
 ghost use Rattle.index.specs.Indexed.{Entries};
 ghost use Rattle.index.specs.Shown.{declared};
 ghost use Rattle.index.specs.Steps.{AreFit};
@@ -33,7 +33,8 @@ pub fn fill_indexes<S: Alter>(
 ) -> Result<(), IndexFault>
     ensures same_reference { tx.new.conn.ghost_name ≡ tx.old.conn.ghost_name }
     ensures fills { Fills S.Store db.now (map declared declarations.now) tx.old.conn.now tx.new.conn.now result }
-    ensures err { (due : Entries) → IfErr result (IsRefused (AreFit S.Store (AreBare db.now (map declared declarations.now) due) tx.old.conn.now tx.new.conn.now)) }
+    ensures err { (due : Entries)
+        → IfErr result (IsRefused (AreFit S.Store (AreBare db.now (map declared declarations.now) due) tx.old.conn.now tx.new.conn.now)) }
 {
     if declarations.is_empty() {
         return Ok(());
@@ -52,7 +53,8 @@ fn fill_all<S: Alter>(
 ) -> Result<(), IndexFault>
     ensures same_reference { tx.new.conn.ghost_name ≡ tx.old.conn.ghost_name }
     ensures fills { Fills S.Store db.now (map declared declarations.now) tx.old.conn.now tx.new.conn.now result }
-    ensures err { (due : Entries) → IfErr result (IsRefused (AreFit S.Store (AreBare db.now (map declared declarations.now) due) tx.old.conn.now tx.new.conn.now)) }
+    ensures err { (due : Entries)
+        → IfErr result (IsRefused (AreFit S.Store (AreBare db.now (map declared declarations.now) due) tx.old.conn.now tx.new.conn.now)) }
 {
     let mut gathered = Gathered::new(alloc);
     gather_range(alloc, tx, db, declarations, b"", b"_d", &mut gathered)?;
@@ -81,9 +83,12 @@ fn gather_range<S: Alter>(
     gathered: &mut Gathered,
 ) -> Result<(), IndexFault>
     ensures same_reference { tx.new.conn.ghost_name ≡ tx.old.conn.ghost_name }
-    ensures gathers { GathersRange S.Store db.now (map declared declarations.now) low.now high.now (map entry_of gathered.old.entries.items) (map entry_of gathered.new.entries.items) tx.old.conn.now tx.new.conn.now result }
+    ensures gathers { GathersRange S.Store db.now (map declared declarations.now) low.now high.now (map entry_of gathered.old.entries.items)
+        (map entry_of gathered.new.entries.items) tx.old.conn.now tx.new.conn.now result }
     ensures err { (left : List ℕ → Bool) (due : Entries)
-        → IfErr result (IsRefused (AreFit S.Store (IsToGatherRange db.now (map declared declarations.now) low.now high.now left (map entry_of gathered.old.entries.items) due) tx.old.conn.now tx.new.conn.now)) }
+        → IfErr result (IsRefused
+        (AreFit S.Store (IsToGatherRange db.now (map declared declarations.now) low.now high.now left
+        (map entry_of gathered.old.entries.items) due) tx.old.conn.now tx.new.conn.now)) }
 {
     let mut from = Vec::from_slice(alloc, low)?;
     for _part in 0..u64::MAX {
@@ -108,9 +113,12 @@ fn gather_part<S: Alter>(
     gathered: &mut Gathered,
 ) -> Result<(), IndexFault>
     ensures same_reference { tx.new.conn.ghost_name ≡ tx.old.conn.ghost_name }
-    ensures gathers { GathersRange S.Store db.now (map declared declarations.now) low.now high.now (map entry_of gathered.old.entries.items) (map entry_of gathered.new.entries.items) tx.old.conn.now tx.new.conn.now result }
+    ensures gathers { GathersRange S.Store db.now (map declared declarations.now) low.now high.now (map entry_of gathered.old.entries.items)
+        (map entry_of gathered.new.entries.items) tx.old.conn.now tx.new.conn.now result }
     ensures err { (left : List ℕ → Bool) (due : Entries)
-        → IfErr result (IsRefused (AreFit S.Store (IsToGatherRange db.now (map declared declarations.now) low.now high.now left (map entry_of gathered.old.entries.items) due) tx.old.conn.now tx.new.conn.now)) }
+        → IfErr result (IsRefused
+        (AreFit S.Store (IsToGatherRange db.now (map declared declarations.now) low.now high.now left
+        (map entry_of gathered.old.entries.items) due) tx.old.conn.now tx.new.conn.now)) }
 {
     let rows = rows_between(tx, db, low, high)?;
     gather_rows(alloc, tx, db, declarations, &rows, gathered)
@@ -127,9 +135,12 @@ fn gather_rows<S: Alter>(
     gathered: &mut Gathered,
 ) -> Result<(), IndexFault>
     ensures same_reference { tx.new.conn.ghost_name ≡ tx.old.conn.ghost_name }
-    ensures gathers { GathersRows S.Store db.now (map declared declarations.now) rows.now (map entry_of gathered.old.entries.items) (map entry_of gathered.new.entries.items) tx.old.conn.now tx.new.conn.now result }
+    ensures gathers { GathersRows S.Store db.now (map declared declarations.now) rows.now (map entry_of gathered.old.entries.items)
+        (map entry_of gathered.new.entries.items) tx.old.conn.now tx.new.conn.now result }
     ensures err { (docs : List order.Row) (due : Entries)
-        → IfErr result (IsRefused (AreFit S.Store (AreToGather db.now (map declared declarations.now) rows.now docs (map entry_of gathered.old.entries.items) due) tx.old.conn.now tx.new.conn.now)) }
+        → IfErr result (IsRefused
+        (AreFit S.Store (AreToGather db.now (map declared declarations.now) rows.now docs (map entry_of gathered.old.entries.items) due)
+        tx.old.conn.now tx.new.conn.now)) }
 {
     for row in rows {
         gather_row(alloc, tx, db, declarations, row, gathered)?;
@@ -148,9 +159,12 @@ fn gather_row<S: Alter>(
     gathered: &mut Gathered,
 ) -> Result<(), IndexFault>
     ensures same_reference { tx.new.conn.ghost_name ≡ tx.old.conn.ghost_name }
-    ensures gathers { GathersRow S.Store db.now (map declared declarations.now) row.now (map entry_of gathered.old.entries.items) (map entry_of gathered.new.entries.items) tx.old.conn.now tx.new.conn.now result }
+    ensures gathers { GathersRow S.Store db.now (map declared declarations.now) row.now (map entry_of gathered.old.entries.items)
+        (map entry_of gathered.new.entries.items) tx.old.conn.now tx.new.conn.now result }
     ensures err { (d : order.Row) (due : Entries)
-        → IfErr result (IsRefused (AreFit S.Store (IsToGather db.now (map declared declarations.now) row.now d (map entry_of gathered.old.entries.items) due) tx.old.conn.now tx.new.conn.now)) }
+        → IfErr result (IsRefused
+        (AreFit S.Store (IsToGather db.now (map declared declarations.now) row.now d (map entry_of gathered.old.entries.items) due)
+        tx.old.conn.now tx.new.conn.now)) }
 {
     let listed = read_listed(alloc, row)?;
     if is_unseen(&listed) {

@@ -28,7 +28,8 @@ pub fn find_decl<S: Alter>(
     name: &[u8],
 ) -> Result<Option<Declaration>, IndexFault>
     ensures ok { HasCleanDisk (state S.Store conn.new) → HasIndexRows (state S.Store conn.old).now
-        → IfOk result (λ found. option_map declared found ≡ option_map declared_at (find (is_declaration_of db.now design.now name.now) ((state S.Store conn.old).now.trees decls_tree))) }
+        → IfOk result (λ found. option_map declared found ≡ option_map declared_at
+        (find (is_declaration_of db.now design.now name.now) ((state S.Store conn.old).now.trees decls_tree))) }
     ensures err { IfErr result (IsRefused (IsSound S.Store conn.old conn.new)) }
     ensures served { IsServed S.Store conn.old conn.new result }
     ensures stands { Stands S.Store conn.old conn.new result }

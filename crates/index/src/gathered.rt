@@ -31,7 +31,7 @@ pub(crate) struct Gathered {
 
 impl Gathered {
     ghost use Rattle.std.specs.Prelude.{IsSorted};
-    ghost use Rattle.index.specs.Gathering.{entry_of, entry_order};
+    ghost use Rattle.index.specs.inner.Gathering.{entry_of, entry_order};
 
     /// Begins with no entries.
     pub(crate) fn new(alloc: Global) -> Gathered

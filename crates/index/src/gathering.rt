@@ -2,7 +2,7 @@
 
 ghost use Rattle.std.specs.Prelude.{◌≡◌, ◌++◌, IfErr, IfOk, OnOk, Some, map};
 ghost use Rattle.couch_json.specs.View.{view};
-ghost use Rattle.index.specs.Gathering.{entries_of, entry_if, entry_of};
+ghost use Rattle.index.specs.inner.Gathering.{entries_of, entry_if, entry_of};
 ghost use Rattle.index.specs.Meaning.{key_if_seen};
 ghost use Rattle.index.specs.Shown.{declared};
 
@@ -20,7 +20,9 @@ pub(crate) fn gather_keys(
     seen: &Json,
     gathered: &mut Gathered,
 ) -> Got<()>
-    ensures { OnOk result (map entry_of gathered.new.entries.items ≡ map entry_of gathered.old.entries.items ++ entries_of (map declared declarations.now) id.now (Some (view seen.now))) }
+    ensures { OnOk result
+        (map entry_of gathered.new.entries.items ≡ map entry_of gathered.old.entries.items ++ entries_of (map declared declarations.now) id.now
+        (Some (view seen.now))) }
 {
     for declaration in declarations {
         gather_key(alloc, declaration, id, seen, gathered)?;
@@ -36,7 +38,9 @@ fn gather_key(
     seen: &Json,
     gathered: &mut Gathered,
 ) -> Got<()>
-    ensures { OnOk result (map entry_of gathered.new.entries.items ≡ map entry_of gathered.old.entries.items ++ entry_if (declared declaration.now) id.now (key_if_seen (declared declaration.now).fields (Some (view seen.now)))) }
+    ensures { OnOk result
+        (map entry_of gathered.new.entries.items ≡ map entry_of gathered.old.entries.items ++ entry_if (declared declaration.now) id.now
+        (key_if_seen (declared declaration.now).fields (Some (view seen.now)))) }
 {
     let Some(key) = find_key(alloc, &declaration.fields, Some(seen))? else {
         return Ok(());

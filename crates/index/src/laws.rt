@@ -32,13 +32,15 @@ pub fn entries_of_indexes()
         → (n : ℤ) (k id : List ℕ) → has_entry (trees entries_tree) n k id ≡ true → IsEntryOf declares sees trees n k id }
     ensures whole { (declares : Declarations) (sees : Documents) (trees : Trees) → AreIndexed declares sees trees
         → (db : ℤ) (design name : List ℕ) (fields : List (List ℕ)) → declares db design name ≡ Some fields
-        → (n : ℤ) × IsDeclaredAs trees n db design name fields × ((k id : List ℕ) → key_if_seen fields (sees db id) ≡ Some k → has_entry (trees entries_tree) n k id ≡ true) }
+        → (n : ℤ) × IsDeclaredAs trees n db design name fields
+        × ((k id : List ℕ) → key_if_seen fields (sees db id) ≡ Some k → has_entry (trees entries_tree) n k id ≡ true) }
 {}
 
 /// Index rows are those of whatever declares the same and sees the same.
 pub fn the_same_is_said()
     ensures { (declares others : Declarations) (sees seen : Documents) (trees : Trees) → AreIndexed declares sees trees
-        → ((db : ℤ) (design name : List ℕ) → declares db design name ≡ others db design name) → ((db : ℤ) (id : List ℕ) → sees db id ≡ seen db id) → AreIndexed others seen trees }
+        → ((db : ℤ) (design name : List ℕ) → declares db design name ≡ others db design name) → ((db : ℤ) (id : List ℕ) → sees db id ≡ seen db id)
+        → AreIndexed others seen trees }
 {}
 
 /// Tables with the same revisions and the same index rows are indexed alike.
@@ -50,21 +52,26 @@ pub fn the_same_rows()
 /// that is.
 pub fn nothing_declared()
     ensures { (declares : Declarations) (sees seen : Documents) (db : ℤ) (trees : Trees) → AreIndexed declares sees trees
-        → ((design name : List ℕ) → declares db design name ≡ None) → ((d : ℤ) (id : List ℕ) → d ≢ db → sees d id ≡ seen d id) → AreIndexed declares seen trees }
+        → ((design name : List ℕ) → declares db design name ≡ None) → ((d : ℤ) (id : List ℕ) → d ≢ db → sees d id ≡ seen d id)
+        → AreIndexed declares seen trees }
 {}
 
 /// The entries of an index that is declared are those of its rows, as a page lists them.
 pub fn entries_are_the_rows_of_an_index()
-    ensures { (db : Database) (r d : Row) (design name : List ℕ) → IsStore db → IsIndexed db.trees → find (is_declaration_of (number_of r) design name) (db.trees decls_tree) ≡ Some d
+    ensures { (db : Database) (r d : Row) (design name : List ℕ) → IsStore db → IsIndexed db.trees
+        → find (is_declaration_of (number_of r) design name) (db.trees decls_tree) ≡ Some d
         → AreEntriesAt (number_of d) (index_rows (fields_of d) (database_of db.trees r)) (db.trees entries_tree) }
 {}
 
 /// What is read of the entries between the bounds of a range is what a page has of them: behind as many
 /// as are left out, the first, as many as are asked for. There are as many as the range has rows.
 pub fn entries_between_bounds_are_the_rows_of_a_range()
-    ensures read { (n : ℤ) (places : List IndexPlace) (rows : List Row) → AreEntriesAt n places rows → (range : KeyRange) (low high : List ℕ) → IsLowBound range low → IsHighBound range high
-        → (most skip : ℕ) (read : List IndexPlace) → AllByRecursion (λ p. IsLawful p.key) read → map spot_of read ≡ map spot_shown (range_of range.descending n low high (pos most) (pos skip) rows)
+    ensures read { (n : ℤ) (places : List IndexPlace) (rows : List Row) → AreEntriesAt n places rows → (range : KeyRange) (low high : List ℕ)
+        → IsLowBound range low → IsHighBound range high
+        → (most skip : ℕ) (read : List IndexPlace) → AllByRecursion (λ p. IsLawful p.key) read
+        → map spot_of read ≡ map spot_shown (range_of range.descending n low high (pos most) (pos skip) rows)
         → read ≡ take most (drop skip (key_rows_within range places)) }
-    ensures count { (n : ℤ) (places : List IndexPlace) (rows : List Row) → AreEntriesAt n places rows → (range : KeyRange) (low high : List ℕ) → IsLowBound range low → IsHighBound range high
+    ensures count { (n : ℤ) (places : List IndexPlace) (rows : List Row) → AreEntriesAt n places rows → (range : KeyRange) (low high : List ℕ)
+        → IsLowBound range low → IsHighBound range high
         → count_of n low high rows ≡ length (key_rows_within range places) }
 {}

@@ -1,7 +1,7 @@
 //! Putting in the entries that are gathered.
 
 ghost use Rattle.std.specs.Prelude.{◌≡◌, [], map, OnOk};
-ghost use Rattle.index.specs.Gathering.{PutsEntries, entry_of};
+ghost use Rattle.index.specs.inner.Gathering.{PutsEntries, entry_of};
 
 use crate::entries::insert_entry;
 use crate::gathered::{Gathered, NewEntry};
@@ -13,7 +13,8 @@ pub(crate) fn put_full<S: Alter>(
     gathered: &mut Gathered,
 ) -> Result<(), Error>
     ensures same_reference { tx.new.conn.ghost_name ≡ tx.old.conn.ghost_name }
-    ensures puts { PutsEntries S.Store (map entry_of gathered.old.entries.items) (map entry_of gathered.new.entries.items) tx.old.conn.now tx.new.conn.now result }
+    ensures puts { PutsEntries S.Store (map entry_of gathered.old.entries.items)
+        (map entry_of gathered.new.entries.items) tx.old.conn.now tx.new.conn.now result }
 {
     if !gathered.is_full() {
         return Ok(());
@@ -28,7 +29,8 @@ pub(crate) fn put_gathered<S: Alter>(
     gathered: &mut Gathered,
 ) -> Result<(), Error>
     ensures same_reference { tx.new.conn.ghost_name ≡ tx.old.conn.ghost_name }
-    ensures puts { PutsEntries S.Store (map entry_of gathered.old.entries.items) (map entry_of gathered.new.entries.items) tx.old.conn.now tx.new.conn.now result }
+    ensures puts { PutsEntries S.Store (map entry_of gathered.old.entries.items)
+        (map entry_of gathered.new.entries.items) tx.old.conn.now tx.new.conn.now result }
     ensures forgets { OnOk result (gathered.new.entries.items ≡ []) }
 {
     gathered.sort();

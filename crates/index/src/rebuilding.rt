@@ -10,7 +10,8 @@ ghost use Rattle.tables.specs.Schema.{decls_tree};
 ghost use Rattle.index.specs.Calls.{IsRefused};
 ghost use Rattle.index.specs.Declaring.{ArePartly, ClearsIndex, DeclaresMissing, IsRebuildable};
 ghost use Rattle.index.specs.Meaning.{Declarations, Documents, declared_if};
-ghost use Rattle.index.specs.Rebuilding.{ClearsDesign, ClearsNames, DeclaresDesign, DeclaresNames, IsToDeclare, Rebuilds, declared_names, has_good_indexes, is_of_design, names_of, shown_name};
+ghost use Rattle.index.specs.Rebuilding.{ClearsDesign, ClearsNames, DeclaresDesign, DeclaresNames, IsToDeclare, Rebuilds};
+ghost use Rattle.index.specs.Rebuilding.{declared_names, has_good_indexes, is_of_design, names_of, shown_name};
 ghost use Rattle.index.specs.Layout.{HasIndexRows};
 ghost use Rattle.index.specs.Rows.{shown_declaration};
 ghost use Rattle.index.specs.Shown.{IsShownDeclaration, declared};
@@ -40,7 +41,8 @@ pub fn rebuild<S: Alter>(
 ) -> Result<(), IndexFault>
     ensures same_reference { tx.new.conn.ghost_name ≡ tx.old.conn.ghost_name }
     ensures rebuilds { Rebuilds S.Store db.now design.now (option_map (λ v. view v.now) body.entry) tx.old.conn.now tx.new.conn.now result }
-    ensures err { (declares : Declarations) (sees : Documents) → IfErr result (IsRefused (WasFit S.Store (IsRebuildable declares sees db.now) tx.old.conn.now tx.new.conn.now)) }
+    ensures err { (declares : Declarations) (sees : Documents)
+        → IfErr result (IsRefused (WasFit S.Store (IsRebuildable declares sees db.now) tx.old.conn.now tx.new.conn.now)) }
 {
     clear_design(alloc, tx, db, design, body)?;
     let mut fresh = Vec::new(alloc);
@@ -59,7 +61,8 @@ pub fn clear_design<S: Alter>(
     ensures same_reference { tx.new.conn.ghost_name ≡ tx.old.conn.ghost_name }
     ensures clears { ClearsDesign S.Store db.now design.now (option_map (λ v. view v.now) body.entry) tx.old.conn.now tx.new.conn.now result }
     ensures served { IsServed S.Store tx.old.conn.now tx.new.conn.now result }
-    ensures err { (declares : Declarations) (sees : Documents) → IfErr result (IsRefused (WasFit S.Store (IsRebuildable declares sees db.now) tx.old.conn.now tx.new.conn.now)) }
+    ensures err { (declares : Declarations) (sees : Documents)
+        → IfErr result (IsRefused (WasFit S.Store (IsRebuildable declares sees db.now) tx.old.conn.now tx.new.conn.now)) }
 {
     let rows = rows_of_design(tx, db, design)?;
     let stored = list_stored(alloc, rows)?;
@@ -78,9 +81,12 @@ pub fn declare_design<S: Alter>(
     fresh: &mut Vec<Declaration>,
 ) -> Result<(), IndexFault>
     ensures same_reference { tx.new.conn.ghost_name ≡ tx.old.conn.ghost_name }
-    ensures declares { DeclaresDesign S.Store db.now design.now (option_map (λ v. view v.now) body.entry) (map declared fresh.old.items) (map declared fresh.new.items) tx.old.conn.now tx.new.conn.now result }
+    ensures declares { DeclaresDesign S.Store db.now design.now (option_map (λ v. view v.now) body.entry) (map declared fresh.old.items)
+        (map declared fresh.new.items) tx.old.conn.now tx.new.conn.now result }
     ensures err { (declares : Declarations) (sees : Documents)
-        → IfErr result (IsRefused (AreFit S.Store (IsToDeclare declares sees db.now design.now (declared_if (option_map (λ v. view v.now) body.entry)) (map declared fresh.old.items)) tx.old.conn.now tx.new.conn.now)) }
+        → IfErr result (IsRefused
+        (AreFit S.Store (IsToDeclare declares sees db.now design.now (declared_if (option_map (λ v. view v.now) body.entry))
+        (map declared fresh.old.items)) tx.old.conn.now tx.new.conn.now)) }
 {
     let names = list_declared(alloc, body)?;
     let good = check_declared(alloc, body)?;
@@ -95,7 +101,8 @@ fn rows_of_design<S: Alter>(
     design: &[u8],
 ) -> Result<Vec<Row>, Error>
     ensures same_reference { tx.new.conn.ghost_name ≡ tx.old.conn.ghost_name }
-    ensures reads { ReadsInside S.Store HasIndexRows tx.old.conn.now tx.new.conn.now (λ trees rows. rows.items ≡ map shown_declaration (filter (is_of_design db.now design.now) (trees decls_tree))) result }
+    ensures reads { ReadsInside S.Store HasIndexRows tx.old.conn.now tx.new.conn.now
+        (λ trees rows. rows.items ≡ map shown_declaration (filter (is_of_design db.now design.now) (trees decls_tree))) result }
 {
     query_in(
         tx,
@@ -184,8 +191,10 @@ fn clear_names<S: Alter>(
 ) -> Result<(), IndexFault>
     requires { good ≡ has_good_indexes (option_map (λ v. view v.now) body) }
     ensures same_reference { tx.new.conn.ghost_name ≡ tx.old.conn.ghost_name }
-    ensures clears { ClearsNames S.Store db.now design.now (option_map (λ v. view v.now) body.entry) (map (λ name. name.items) names.now) tx.old.conn.now tx.new.conn.now result }
-    ensures err { (declares : Declarations) (sees : Documents) → IfErr result (IsRefused (AreFit S.Store (IsRebuildable declares sees db.now) tx.old.conn.now tx.new.conn.now)) }
+    ensures clears { ClearsNames S.Store db.now design.now (option_map (λ v. view v.now) body.entry)
+        (map (λ name. name.items) names.now) tx.old.conn.now tx.new.conn.now result }
+    ensures err { (declares : Declarations) (sees : Documents)
+        → IfErr result (IsRefused (AreFit S.Store (IsRebuildable declares sees db.now) tx.old.conn.now tx.new.conn.now)) }
 {
     for name in names {
         clear_name(alloc, tx, db, design, body, good, name)?;
@@ -205,8 +214,10 @@ fn clear_name<S: Alter>(
 ) -> Result<(), IndexFault>
     requires { good ≡ has_good_indexes (option_map (λ v. view v.now) body) }
     ensures same_reference { tx.new.conn.ghost_name ≡ tx.old.conn.ghost_name }
-    ensures clears { ClearsIndex S.Store db.now design.now name.now (declared_if (option_map (λ v. view v.now) body.entry) name.now) tx.old.conn.now tx.new.conn.now result }
-    ensures err { (declares : Declarations) (sees : Documents) → IfErr result (IsRefused (AreFit S.Store (IsRebuildable declares sees db.now) tx.old.conn.now tx.new.conn.now)) }
+    ensures clears { ClearsIndex S.Store db.now design.now name.now
+        (declared_if (option_map (λ v. view v.now) body.entry) name.now) tx.old.conn.now tx.new.conn.now result }
+    ensures err { (declares : Declarations) (sees : Documents)
+        → IfErr result (IsRefused (AreFit S.Store (IsRebuildable declares sees db.now) tx.old.conn.now tx.new.conn.now)) }
 {
     let fields = read_declared(alloc, body, good, name)?;
     clear_index(alloc, tx, db, design, name, &fields)
@@ -226,9 +237,12 @@ fn declare_names<S: Alter>(
 ) -> Result<(), IndexFault>
     requires { good ≡ has_good_indexes (option_map (λ v. view v.now) body) }
     ensures same_reference { tx.new.conn.ghost_name ≡ tx.old.conn.ghost_name }
-    ensures declares { DeclaresNames S.Store db.now design.now (option_map (λ v. view v.now) body.entry) (map (λ name. name.items) names.now) (map declared fresh.old.items) (map declared fresh.new.items) tx.old.conn.now tx.new.conn.now result }
+    ensures declares { DeclaresNames S.Store db.now design.now (option_map (λ v. view v.now) body.entry) (map (λ name. name.items) names.now)
+        (map declared fresh.old.items) (map declared fresh.new.items) tx.old.conn.now tx.new.conn.now result }
     ensures err { (declares : Declarations) (sees : Documents)
-        → IfErr result (IsRefused (AreFit S.Store (ArePartly declares sees db.now design.now (declared_if (option_map (λ v. view v.now) body.entry)) (map (λ name. name.items) names.now) (map declared fresh.old.items)) tx.old.conn.now tx.new.conn.now)) }
+        → IfErr result (IsRefused
+        (AreFit S.Store (ArePartly declares sees db.now design.now (declared_if (option_map (λ v. view v.now) body.entry))
+        (map (λ name. name.items) names.now) (map declared fresh.old.items)) tx.old.conn.now tx.new.conn.now)) }
 {
     for name in names {
         declare_name(alloc, tx, db, design, body, good, name, fresh)?;
@@ -249,9 +263,11 @@ fn declare_name<S: Alter>(
 ) -> Result<(), IndexFault>
     requires { good ≡ has_good_indexes (option_map (λ v. view v.now) body) }
     ensures same_reference { tx.new.conn.ghost_name ≡ tx.old.conn.ghost_name }
-    ensures declares { DeclaresMissing S.Store db.now design.now name.now (declared_if (option_map (λ v. view v.now) body.entry) name.now) (map declared fresh.old.items) (map declared fresh.new.items) tx.old.conn.now tx.new.conn.now result }
+    ensures declares { DeclaresMissing S.Store db.now design.now name.now (declared_if (option_map (λ v. view v.now) body.entry) name.now)
+        (map declared fresh.old.items) (map declared fresh.new.items) tx.old.conn.now tx.new.conn.now result }
     ensures err { (declares : Declarations) (sees : Documents) (f : List ℕ → Option (List (List ℕ))) (left : List (List ℕ))
-        → IfErr result (IsRefused (AreFit S.Store (ArePartly declares sees db.now design.now f (name.now ∷ left) (map declared fresh.old.items)) tx.old.conn.now tx.new.conn.now)) }
+        → IfErr result (IsRefused
+        (AreFit S.Store (ArePartly declares sees db.now design.now f (name.now ∷ left) (map declared fresh.old.items)) tx.old.conn.now tx.new.conn.now)) }
 {
     let fields = read_declared(alloc, body, good, name)?;
     declare_missing(alloc, tx, db, design, name, &fields, fresh)

@@ -34,7 +34,8 @@ pub fn refresh<S: Alter>(
     after: Option<&Json>,
 ) -> Result<(), IndexFault>
     ensures same_reference { tx.new.conn.ghost_name ≡ tx.old.conn.ghost_name }
-    ensures refreshes { Refreshes S.Store db.now id.now (option_map (λ v. view v.now) before.entry) (option_map (λ v. view v.now) after.entry) tx.old.conn.now tx.new.conn.now result }
+    ensures refreshes { Refreshes S.Store db.now id.now (option_map (λ v. view v.now) before.entry)
+        (option_map (λ v. view v.now) after.entry) tx.old.conn.now tx.new.conn.now result }
     ensures err { IfErr result (IsRefused (IsSound S.Store tx.old.conn.now tx.new.conn.now)) }
     ensures goes_on { tx.old.conn.now.schema ≡ schema → StaysOpen S.Store tx.old.conn.now tx.new.conn.now result }
     ensures looks { LooksInside S.Store tx.old.conn.now tx.new.conn.now }
@@ -85,7 +86,8 @@ pub fn refresh_indexes<S: Alter>(
     after: Option<&Json>,
 ) -> Result<(), IndexFault>
     ensures same_reference { tx.new.conn.ghost_name ≡ tx.old.conn.ghost_name }
-    ensures follows { FollowsAll S.Store db.now (map declared declarations.now) id.now (option_map (λ v. view v.now) before.entry) (option_map (λ v. view v.now) after.entry) tx.old.conn.now tx.new.conn.now result }
+    ensures follows { FollowsAll S.Store db.now (map declared declarations.now) id.now (option_map (λ v. view v.now) before.entry)
+        (option_map (λ v. view v.now) after.entry) tx.old.conn.now tx.new.conn.now result }
     ensures err { IfErr result (IsRefused ⊤) }
     ensures goes_on { StaysOpen S.Store tx.old.conn.now tx.new.conn.now result }
     ensures proceeds { Proceeds S.Store tx.old.conn.now tx.new.conn.now }
@@ -106,7 +108,8 @@ pub(crate) fn refresh_index<S: Alter>(
     after: Option<&Json>,
 ) -> Result<(), IndexFault>
     ensures same_reference { tx.new.conn.ghost_name ≡ tx.old.conn.ghost_name }
-    ensures replaces { ReplacesKey S.Store (declared declaration.now).number id.now (key_if_seen (declared declaration.now).fields (option_map (λ v. view v.now) before.entry))
+    ensures replaces { ReplacesKey S.Store (declared declaration.now).number id.now
+        (key_if_seen (declared declaration.now).fields (option_map (λ v. view v.now) before.entry))
         (key_if_seen (declared declaration.now).fields (option_map (λ v. view v.now) after.entry)) tx.old.conn.now tx.new.conn.now result }
     ensures err { IfErr result (IsRefused ⊤) }
     ensures keeps { KeepsSchema S.Store tx.old.conn.now tx.new.conn.now result }
@@ -128,7 +131,8 @@ fn replace_entry<S: Alter>(
     new: &Option<Vec<u8>>,
 ) -> Result<(), Error>
     ensures same_reference { tx.new.conn.ghost_name ≡ tx.old.conn.ghost_name }
-    ensures replaces { ReplacesKey S.Store declaration.now id.now (option_map (λ bytes. bytes.items) old.now) (option_map (λ bytes. bytes.items) new.now) tx.old.conn.now tx.new.conn.now result }
+    ensures replaces { ReplacesKey S.Store declaration.now id.now (option_map (λ bytes. bytes.items) old.now)
+        (option_map (λ bytes. bytes.items) new.now) tx.old.conn.now tx.new.conn.now result }
     ensures keeps { KeepsSchema S.Store tx.old.conn.now tx.new.conn.now result }
     ensures goes_on { StaysOpen S.Store tx.old.conn.now tx.new.conn.now result }
     ensures proceeds { Proceeds S.Store tx.old.conn.now tx.new.conn.now }

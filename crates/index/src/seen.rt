@@ -11,7 +11,7 @@ ghost use Rattle.tables.specs.Rows.{listed_document};
 ghost use Rattle.tables.specs.Schema.{docs_tree};
 ghost use Rattle.tables.specs.Shown.{IsShownRevision, held_shown};
 ghost use Rattle.index.specs.Calls.{FindsLive, IsRefused};
-ghost use Rattle.index.specs.Seen.{HasLive, IsCut, IsListedFrom, IsSoundLive, ShowsLive, documents_between, ids_between};
+ghost use Rattle.index.specs.inner.Seen.{HasLive, IsCut, IsListedFrom, IsSoundLive, ShowsLive, documents_between, ids_between};
 
 use crate::fault::IndexFault;
 use couch_json::Json;
@@ -78,7 +78,8 @@ fn bound_rows<S: Alter>(
     skip: &i64,
 ) -> Result<Vec<Row>, Error>
     ensures same_reference { tx.new.conn.ghost_name ≡ tx.old.conn.ghost_name }
-    ensures reads { ReadsInside S.Store IsStore tx.old.conn.now tx.new.conn.now (λ trees rows. rows.items ≡ ids_between db.now low.now high.now most.now skip.now (trees docs_tree)) result }
+    ensures reads { ReadsInside S.Store IsStore tx.old.conn.now tx.new.conn.now
+        (λ trees rows. rows.items ≡ ids_between db.now low.now high.now most.now skip.now (trees docs_tree)) result }
 {
     query_in(
         tx,
@@ -96,7 +97,8 @@ pub(crate) fn rows_between<S: Alter>(
     high: &[u8],
 ) -> Result<Vec<Row>, Error>
     ensures same_reference { tx.new.conn.ghost_name ≡ tx.old.conn.ghost_name }
-    ensures reads { ReadsInside S.Store IsStore tx.old.conn.now tx.new.conn.now (λ trees rows. rows.items ≡ map listed_document (documents_between db.now low.now high.now (trees docs_tree))) result }
+    ensures reads { ReadsInside S.Store IsStore tx.old.conn.now tx.new.conn.now
+        (λ trees rows. rows.items ≡ map listed_document (documents_between db.now low.now high.now (trees docs_tree))) result }
 {
     query_in(
         tx,

@@ -22,9 +22,9 @@ use Rattle.tree.specs.DocumentId.{is_design_id}
 use Rattle.transactions.proofs.Committing.{further, length-writings_in, may_in_turn}
 use Rattle.transactions.proofs.IndexRests.{database_indexed}
 use Rattle.transactions.proofs.IndexSteps.{all_indexed, database_still, none_postponed, plain_followed}
-use Rattle.transactions.specs.Following.{HasPlaceFor}
+use Rattle.transactions.specs.inner.Following.{HasPlaceFor}
 use Rattle.transactions.specs.Indexing.{AreAllIndexes, IsIndexedStore}
-use Rattle.transactions.specs.Placed.{ArePlain, IsAhead, IsPlacedWrite, with_databases}
+use Rattle.transactions.specs.inner.Placed.{ArePlain, IsAhead, IsPlacedWrite, with_databases}
 
 -- ---- the rows of databases
 

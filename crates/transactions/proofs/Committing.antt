@@ -12,9 +12,9 @@ use Rattle.store.specs.declared.write.Write.{Write}
 use Rattle.tables.proofs.DocumentWriteNews.{storable_addition}
 use Rattle.tables.proofs.DocumentWrites.{acceptable_in_turn, one_more_written}
 use Rattle.tables.proofs.Lookups.{database_there}
-use Rattle.transactions.specs.Following.{HasPlaceFor, Serves}
+use Rattle.transactions.specs.inner.Following.{HasPlaceFor, Serves}
 use Rattle.transactions.specs.Indexing.{IsFollowed, MayBeWritten, write_in}
-use Rattle.transactions.specs.Placed.{IsPlacedWrite}
+use Rattle.transactions.specs.inner.Placed.{IsPlacedWrite}
 use Rattle.transactions.proofs.IndexSteps.{written_still}
 use Rattle.transactions.specs.declared.commit_fault.CommitFault.TheVariants as write
 use Rattle.transactions.proofs.Following.{serves_itself}

@@ -8,8 +8,8 @@ use Rattle.tables.specs.Layout.{AreDocumentRows}
 use Rattle.std.specs.List.{list_any}
 use Rattle.std.specs.Prelude.{is_some}
 use Rattle.transactions.proofs.WinningRows.{has_row}
-use Rattle.transactions.specs.Following.{Serves}
-use Rattle.transactions.specs.Placed.{IsPlacedWrite}
+use Rattle.transactions.specs.inner.Following.{Serves}
+use Rattle.transactions.specs.inner.Placed.{IsPlacedWrite}
 use Rattle.tree.specs.History.{winner}
 
 -- the statements of a write are that write, but for the one that moves the sequence, where the history serves in the place of that of the rows

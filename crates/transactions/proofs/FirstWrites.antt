@@ -9,7 +9,7 @@ use Rattle.tables.proofs.FirstPath.{first_held, first_wins}
 use Rattle.tree.proofs.Shown.{inside}
 use Rattle.tree.specs.History.{is_deleted, line, onward, parent_of, winner}
 use Rattle.tree.specs.Write.{Write}
-use Rattle.transactions.specs.Following.{HasPlaceFor}
+use Rattle.transactions.specs.inner.Following.{HasPlaceFor}
 
 behind_nothing : (o : Option Revision) → behind finite.empty o ≡ []
 behind_nothing None = refl

@@ -21,7 +21,7 @@ use Rattle.tree.specs.declared.marked_rev.MarkedRev.{MarkedRev}
 use Rattle.tree.specs.declared.placement.Placed.TheVariants.{Added, Known}
 use Rattle.tree.specs.declared.placement.TreeFault.TheVariants.{BadPath, OtherParent}
 use Rattle.tree.specs.declared.entry.Held.{Held}
-use Rattle.transactions.specs.Following.{AreParentsKnown, HasPlaceFor, IsFollower, Serves}
+use Rattle.transactions.specs.inner.Following.{AreParentsKnown, HasPlaceFor, IsFollower, Serves}
 
 none_of : {X : Type 0} (o : Option X) → is_some o ≡ false → o ≡ None
 none_of None is = refl

@@ -18,6 +18,10 @@ use Rattle.tree.specs.Outline.{bare, outline_of}
 use Rattle.tree.proofs.Outlines.{find_bare, get_outline}
 use Rattle.tree.proofs.Revisions.{same}
 
+-- no two rows are of one revision
+abbrev pub AreApart : List Row → Type 0
+AreApart rows = IsAscending (λ a b. db_of a ≡ db_of b → id_of a ≡ id_of b → revision_of a ≢ revision_of b) rows
+
 -- the rows of a revision, as they are shown
 abbrev at : Revision → Row → Bool
 at q s = eq_by_cmp revision_cmp q (revision_shown s)
@@ -27,7 +31,7 @@ module _ (show : Row → Row) (value : Row → Entry) (named : (r : Row) → rev
   abbrev entry_as_shown : Row → Revision × Entry
   entry_as_shown s = (revision_shown s, value s)
 
-  one_shown : (db : ℤ) (id : List ℕ) (rows : List Row) → IsAscending (λ a b. db_of a ≡ db_of b → id_of a ≡ id_of b → revision_of a ≢ revision_of b) rows → (q : Revision) → HasOneAtMost (at q) (map show (filter (is_of db id) rows))
+  one_shown : (db : ℤ) (id : List ℕ) (rows : List Row) → AreApart rows → (q : Revision) → HasOneAtMost (at q) (map show (filter (is_of db id) rows))
   one_shown db id rows h q =
       ascending-map (λ a b. at q a ≡ true → at q b ≡ true → ⊥) show (filter (is_of db id) rows)
       (ascending_within (is_of db id) (λ a b. at q (show a) ≡ true → at q (show b) ≡ true → ⊥) rows
@@ -56,11 +60,11 @@ module _ (show : Row → Row) (value : Row → Entry) (named : (r : Row) → rev
   named_values : (rows : List Row) → map as_shown rows ≡ map as_named rows
   named_values rows = map_same as_shown as_named (λ r i. (named r i, value (show r))) rows
 
-  found : (trees : Trees) (db : ℤ) (id : List ℕ) (rows : List Row) → IsLaid trees → IsPermutation (map show (filter (is_of db id) (trees revs_tree))) rows → (q : Revision)
+  found : (trees : Trees) (db : ℤ) (id : List ℕ) (rows : List Row) → AreApart (trees revs_tree) → IsPermutation (map show (filter (is_of db id) (trees revs_tree))) rows → (q : Revision)
       → finite.find revision_cmp q (map entry_as_shown rows) ≡ finite.find revision_cmp q (map as_named (filter (is_of db id) (trees revs_tree)))
-  found trees db id rows l same q =
+  found trees db id rows apart same q =
       let F = filter (is_of db id) (trees revs_tree) in
-      shown_at q rows ∙ ap (λ k. option_map value (slice_get k 0)) (same_order q (map show F) rows (one_shown db id (trees revs_tree) l.revisions_apart q) same)
+      shown_at q rows ∙ ap (λ k. option_map value (slice_get k 0)) (same_order q (map show F) rows (one_shown db id (trees revs_tree) apart q) same)
       ∙ sym (shown_at q (map show F)) ∙ ap (finite.find revision_cmp q) (map-map entry_as_shown show F ∙ named_values F)
 
 abbrev known_entry : Row → Revision × Entry
@@ -69,10 +73,13 @@ known_entry r = (revision_of r, entry_of r)
 kept : (trees : Trees) (db : ℤ) (id : List ℕ) (q : Revision) → finite.get (history_in (trees revs_tree) db id) q ≡ finite.find revision_cmp q (map known_entry (filter (is_of db id) (trees revs_tree)))
 kept trees db id q = finite.get-from_entries revision_cmp_total (map known_entry (filter (is_of db id) (trees revs_tree))) q
 
-pub history_made : (trees : Trees) (db : ℤ) (id : List ℕ) (rows : List Row) → IsLaid trees → IsPermutation (map shown_revision (filter (is_of db id) (trees revs_tree))) rows → history_shown rows ≡ history_in (trees revs_tree) db id
-history_made trees db id rows l same =
+pub history_apart : (trees : Trees) (db : ℤ) (id : List ℕ) (rows : List Row) → AreApart (trees revs_tree) → IsPermutation (map shown_revision (filter (is_of db id) (trees revs_tree))) rows → history_shown rows ≡ history_in (trees revs_tree) db id
+history_apart trees db id rows apart same =
     rows_make (history_in (trees revs_tree) db id) (map entry_shown rows)
-    (λ q. found shown_revision (λ s. row_of (parent_shown s) (held_shown s)) (λ r. refl) trees db id rows l same q ∙ sym (kept trees db id q))
+    (λ q. found shown_revision (λ s. row_of (parent_shown s) (held_shown s)) (λ r. refl) trees db id rows apart same q ∙ sym (kept trees db id q))
+
+pub history_made : (trees : Trees) (db : ℤ) (id : List ℕ) (rows : List Row) → IsLaid trees → IsPermutation (map shown_revision (filter (is_of db id) (trees revs_tree))) rows → history_shown rows ≡ history_in (trees revs_tree) db id
+history_made trees db id rows l same = history_apart trees db id rows l.revisions_apart same
 
 abbrev known_node : Row → Revision × Entry
 known_node r = (revision_of r, (node_shown (shown_outline r)).1)
@@ -93,7 +100,7 @@ pub outline_made : (trees : Trees) (db : ℤ) (id : List ℕ) (rows : List Row) 
 outline_made trees db id rows l same =
     let F = filter (is_of db id) (trees revs_tree) in
     rows_make (outline_of (history_in (trees revs_tree) db id)) (map node_shown rows) (λ q.
-    found shown_outline (λ s. (node_shown s).1) (λ r. refl) trees db id rows l same q
+    found shown_outline (λ s. (node_shown s).1) (λ r. refl) trees db id rows l.revisions_apart same q
     ∙ ap (finite.find revision_cmp q) (map_same known_node bare_entry (λ r i. (revision_of r, bare_is r i)) F ∙ sym (map-map (λ (e : Revision × Entry). (e.0, bare e.1)) known_entry F))
     ∙ find_bare q (map known_entry F) ∙ ap (option_map bare) (sym (kept trees db id q)) ∙ sym (get_outline (history_in (trees revs_tree) db id) q))
 

@@ -1,5 +1,5 @@
 -- Changes that index rows need not follow, and the removal of a database, which they follow.
-use Rattle.transactions.proofs.Common.{Bool, Changes, Clears, Database, List, None, Option, Row, ap, arith, dbs_tree, docs_tree, entry_of, false, filter, history_in, is_in, is_of, locals_tree, map, not, refl, Replaces, revision_of, revs_tree, schema, sym, true, ℕ, ℤ, ◌∙◌, ◌≡◌, ◌≢◌}
+use Rattle.transactions.proofs.Common.{Bool, Changes, Clears, Database, HasCleanDisk, Held, IsStore, KeepsCommit, List, None, Option, Row, ap, arith, dbs_tree, docs_tree, entry_of, false, filter, history_in, is_in, is_of, locals_tree, map, not, refl, Replaces, revision_of, revs_tree, schema, state, sym, true, ℕ, ℤ, ◌∙◌, ◌≡◌, ◌≢◌}
 use Rattle.std.specs.Prelude.{◌&&◌, bytes_eq, if◌then◌else◌, option_and_then, option_map}
 use Rattle.std.specs.FinMap.{empty, from_entries}
 use Rattle.std.specs.Ordering.{int_eq}
@@ -24,6 +24,9 @@ use Rattle.tables.proofs.RowMaps.{filter_apart, passing}
 use Rattle.tables.specs.Rows.{db_of, id_of}
 use Rattle.tables.specs.Schema.{decls_tree, entries_tree}
 use Rattle.transactions.proofs.IndexSteps.{indexed_still, same_tables}
+use Rattle.sqlite.proofs.InsideLemmas.{keeps_then}
+use Rattle.sqlite_trees.specs.declared.store.Store.{Ghosts}
+use Rattle.tables.specs.Calls.{AsksInside, LooksInside, Proceeds}
 
 -- ---- other tables
 
@@ -136,3 +139,14 @@ refused_of sound other index.Damaged f h = λ o. h (f o)
 -- the rows of indexes of what is left are laid out
 pub remaining_rows : (db : ℤ) (a b : Database) → Remaining db a b → IsIndexed a.trees → HasIndexRows b
 remaining_rows db a b h was = let still = remaining_indexed db a b h was in record { schema_is = h.schema_is; decls = still.decls; entries = still.entries.laid }
+
+-- what is left behind the first of the two statements
+module _ {S : Type 0} (g : Ghosts S) (db : ℤ) (first between last : Held S) (asks : AsksInside g between last) (clears : HasCleanDisk (state g between) → IsStore (state g first).now → Clears db (state g first).now (state g between).now) where
+  pub cleared_clean : HasCleanDisk (state g last) → HasCleanDisk (state g between)
+  cleared_clean clean = omega (arith, asks.survives.clean, clean)
+
+  pub rows_left : HasCleanDisk (state g last) → IsStore (state g first).now → Remaining db (state g first).now (state g between).now
+  rows_left clean store = remaining db (state g first).now (state g between).now store.schema_is (clears (cleared_clean clean) store)
+
+  pub clear_kept : Proceeds g first between → LooksInside g between last → HasCleanDisk (state g last) → IsStore (state g first).now → KeepsCommit (state g first) (state g last)
+  clear_kept proceeds looks clean store = keeps_then (state g first) (state g between) (state g last) (proceeds.kept (cleared_clean clean)) ((looks (rows_left clean store).schema_is).kept clean)

@@ -1,12 +1,11 @@
 -- Tables of which the index rows alone have changed; and what one write leaves of what is declared and of what queries see.
-use Rattle.transactions.proofs.Common.{AllByRecursion, Bool, HasWritten, HistoryContent, IsStore, List, None, Option, Row, Some, Trees, ap, arith, bytes_eq-Decides, database_of, dbs_tree, docs_tree, false, filter, history_in, length, number_of, refl, revs_tree, schema, slice_get, subst, sym, true, ℕ, ℤ, ◌∙◌, ◌≡◌, ◌≢◌}
+use Rattle.transactions.proofs.Common.{Bool, HasWritten, HistoryContent, IsStore, List, None, Option, Row, Some, Trees, ap, arith, bytes_eq-Decides, database_of, dbs_tree, docs_tree, false, filter, history_in, length, number_of, refl, revs_tree, schema, slice_get, subst, sym, true, ℕ, ℤ, ◌∙◌, ◌≡◌, ◌≢◌}
 use Rattle.std.specs.Prelude.{◌&&◌, bytes_eq, if◌then◌else◌}
 use Rattle.std.specs.Ordering.{int_eq}
 use Rattle.couch_json.specs.Value.{Value}
 use Rattle.sqlite.specs.Effect as sqlite
-use Rattle.sqlite_schema.specs.declared.schema.Schema.{Schema}
 use Rattle.store.specs.Database.{DocumentWrite}
-use Rattle.std.proofs.Common.{Bor, Global, IfOk, Vec, ap₂}
+use Rattle.std.proofs.Common.{Bor, IfOk, ap₂}
 use Rattle.tree.specs.DocumentId.{is_design_id}
 use Rattle.store.specs.Indexes.{index_fields_of, queried_document, winning_body}
 use Rattle.index.specs.Calls.{ChangesIndexes, ChangesOnly, HasEntries}
@@ -16,7 +15,6 @@ use Rattle.std.proofs.lemmas.List.{nil_from_length}
 use Rattle.std.proofs.lemmas.Bool.Decides.{nat_tests}
 use Rattle.index.specs.Rows.{declared_by, design_of, fields_of, has_entry, index_name_of, is_at_home, is_declaration_of}
 use Rattle.index.specs.Shown.{Declared, declared_at}
-use Rattle.index.specs.declared.declaration.Declaration.{Declaration}
 use Rattle.index.proofs.Going.{declarations_stay, refreshed}
 use Rattle.sqlite_keyed.proofs.ListLemmas.{all_weaker}
 use Rattle.store.specs.Writing.{Addition}
@@ -28,11 +26,12 @@ use Rattle.std.specs.Prelude.{map, option_copied, option_map}
 use Rattle.couch_json.specs.View.{view}
 use Rattle.couch_json.specs.declared.value.Json.{Json}
 use Rattle.index.specs.Meaning.{Declarations, Documents, declared_if, declares_in, sees_in, with_declared, with_seen}
+use Rattle.index.proofs.Rebuilt.{same_beside, store_rebuilt}
 use Rattle.index.proofs.Alike.{alike, unseen}
 use Rattle.tables.proofs.Common.{Decides-int_eq, and_parts, same_int}
 use Rattle.tables.proofs.DocumentWriteHistories.{history_others}
 use Rattle.tables.proofs.DocumentWriteSteps.{revisions_changed}
-use Rattle.tables.proofs.Rests.{AreSame, contents_same, leaves, store_of}
+use Rattle.tables.proofs.Rests.{AreSame, contents_same, leaves}
 use Rattle.tables.specs.Edits.{IsWrite, history_before, new_entries}
 use Rattle.tables.specs.Rows.{documents_in, is_named, length_of, locals_in, security_of}
 use Rattle.tables.specs.Edits.{row_after}
@@ -41,18 +40,10 @@ use Rattle.tables.specs.Schema.{decls_tree, entries_tree}
 -- ---- tables of which the index rows alone have changed
 
 pub same_tables : (old new : sqlite.Database) → old.schema ≡ schema → ChangesIndexes old new → AreSame old.trees new.trees
-same_tables old new is h =
-    let others = subst (λ (s : Schema). AllByRecursion (λ t. t.tree ≢ decls_tree → t.tree ≢ entries_tree → new.trees t.tree ≡ old.trees t.tree) s.tables) is h.others in
-    record {
-      meta = others.0 (omega arith) (omega arith);
-      dbs = others.1.0 (omega arith) (omega arith);
-      docs = others.1.1.0 (omega arith) (omega arith);
-      revs = others.1.1.1.0 (omega arith) (omega arith);
-      locals = others.1.1.1.1.0 (omega arith) (omega arith);
-    }
+same_tables old new is h = same_beside old new is h
 
 pub store_still : (old new : sqlite.Database) → IsStore old → ChangesIndexes old new → IsStore new
-store_still old new is h = store_of old.trees new (h.schema ∙ is.schema_is) (same_tables old new is.schema_is h) is.laid
+store_still old new is h = store_rebuilt old new is h
 
 pub database_still : (a b : Trees) (r : Row) → AreSame a b → database_of b r ≡ database_of a r
 database_still a b r same =

@@ -12,6 +12,11 @@ pub mod SameWinner
 pub mod Postponed
 pub mod Following
 pub mod Redeclared
+pub mod CatchingUp
+pub mod DesignTurns
+pub mod StoredDesigns
+pub mod NextWrites
+pub mod Undone
 pub mod DocumentWriting
 pub mod Committing
 pub mod Ahead

@@ -1,8 +1,8 @@
 -- The rows of the databases that a commit doesn't write.
-use Rattle.transactions.proofs.Common.{AllByRecursion, Bool, Changes, Database, List, Row, Some, Trees, [], ap, bytes_eq-Decides, cond, dbs_tree, false, filter, has_number, map, not, number_of, pos, refl, rows_at_sequence, schema, slice_get, subst, sym, true, ℕ, ℤ, ◌+◌, ◌∙◌, ◌∷◌, ◌≡◌, ◌≢◌}
+use Rattle.transactions.proofs.Common.{AllByRecursion, Bool, Changes, Database, List, Row, [], ap, bytes_eq-Decides, cond, dbs_tree, false, filter, has_number, map, not, number_of, pos, refl, rows_at_sequence, schema, subst, sym, true, ℕ, ℤ, ◌+◌, ◌∙◌, ◌∷◌, ◌≡◌, ◌≢◌}
 use Rattle.std.proofs.lemmas.Bool.{false_from_ne_true}
 use Rattle.std.specs.Ordering.{int_eq}
-use Rattle.std.specs.Prelude.{◌&&◌, bytes_eq, if◌then◌else◌}
+use Rattle.std.specs.Prelude.{◌&&◌, if◌then◌else◌}
 use Rattle.sqlite_keyed.proofs.ListLemmas.{all_weaker}
 use Rattle.sqlite_trees.proofs.ListLemmas.{filter_same as filter_on}
 use Rattle.index.specs.Calls.{ChangesIndexes}
@@ -16,7 +16,7 @@ use Rattle.transactions.proofs.Ahead.{placed_dbs}
 use Rattle.transactions.proofs.IndexSteps.{same_tables}
 use Rattle.transactions.specs.Commits.{KeepsOthers}
 use Rattle.transactions.specs.Indexing.{IsFollowed}
-use Rattle.transactions.specs.Placed.{IsPlacedWrite}
+use Rattle.transactions.specs.inner.Placed.{IsPlacedWrite}
 
 -- the row has another number
 abbrev is_other : ℤ → Row → Bool

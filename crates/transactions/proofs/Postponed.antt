@@ -1,5 +1,5 @@
 -- Design documents of a commit whose indexes follow them at its end.
-use Rattle.transactions.proofs.Common.{Bool, Database, IsStore, List, Option, Some, [], ap, bytes_eq-Decides, false, history_in, is_eq-slice_cmp, length, refl, revs_tree, schema, subst, sym, true, ℕ, ℤ, ◌∙◌, ◌∷◌, ◌≡◌, ◌≢◌}
+use Rattle.transactions.proofs.Common.{Bool, Database, IsStore, List, Option, Some, [], ap, bytes_eq-Decides, false, history_in, is_eq-slice_cmp, length, refl, revs_tree, subst, sym, true, ℕ, ℤ, ◌∙◌, ◌∷◌, ◌≡◌, ◌≢◌}
 use Rattle.std.specs.Prelude.{◌&&◌, ◌||◌, bytes_eq, if◌then◌else◌}
 use Rattle.std.specs.List.{list_any}
 use Rattle.std.specs.BTreeSet.{insert_key}
@@ -15,15 +15,14 @@ use Rattle.index.proofs.Designs.{none_fresh}
 use Rattle.index.proofs.Rebuilt.{indexes_itself, indexes_then, rebuildable}
 use Rattle.index.specs.Calls.{ChangesIndexes}
 use Rattle.index.specs.Declaring.{IsRebuildable, IsRebuilt}
-use Rattle.index.specs.Indexed.{AreIndexed}
 use Rattle.index.specs.Meaning.{Declarations, Documents, declared_if, declares_in, sees_in, with_declared}
-use Rattle.index.specs.Rebuilding.{AreLeftUnfilled, AreUnfilled, IsDesignCleared, IsToDeclare}
+use Rattle.index.specs.Rebuilding.{AreLeftUnfilled, IsDesignCleared, IsToDeclare}
 use Rattle.index.specs.Rows.{declared_by}
 use Rattle.index.specs.Shown.{Declared}
 use Rattle.transactions.proofs.IndexSteps.{all_indexed, declared_by_winner, same_place, same_tables}
 use Rattle.std.proofs.lemmas.List.{nil_from_length}
 use Rattle.transactions.specs.Indexing.{IsIndexedBut, IsIndexedStoreBut, IsWithId, is_postponed}
-use Rattle.transactions.specs.Postponing.{AreClearedAsStored, AreDeclaredAsStored, AreToDeclare, IsCaughtUp, IsClearedAsStored, IsDeclaredAsStored, IsToDeclareAsStored, stored_fields}
+use Rattle.transactions.specs.inner.Postponing.{AreClearedAsStored, AreDeclaredAsStored, AreToDeclare, IsCaughtUp, IsClearedAsStored, IsDeclaredAsStored, IsToDeclareAsStored, stored_fields}
 
 -- ---- one id more
 

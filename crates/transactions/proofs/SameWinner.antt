@@ -16,7 +16,6 @@ use Rattle.store.specs.Pages.{live_rev_by}
 use Rattle.tables.proofs.DocumentWriteSteps.{written}
 use Rattle.tables.proofs.Laid.{winner_known}
 use Rattle.tables.specs.Edits.{history_before, new_entries, with_revisions}
-use Rattle.tables.specs.Layout.{IsStore}
 use Rattle.tree.proofs.Contents.{find-append, or}
 use Rattle.tree.specs.DocumentId.{is_design_id}
 use Rattle.tree.specs.History.{held_of, is_deleted, winner}

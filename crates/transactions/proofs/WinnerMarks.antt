@@ -1,5 +1,5 @@
 -- The row of the winner's revision holds something, under the mark that the document's row has.
-use Rattle.transactions.proofs.Common.{None, Some, AllByRecursion, Bool, Damaged, IsLaid, List, Option, Revision, Row, StoreFault, Trees, [], all-filter, all_map, ap, cond, filter, history_in, map, option_map, refl, revs_tree, shown_revision, slice_get, subst, sym, true, false, ℕ, ℤ, ◌∙◌, ◌∷◌, ◌≡◌}
+use Rattle.transactions.proofs.Common.{None, Some, AllByRecursion, Bool, Damaged, IsLaid, List, Option, Revision, Row, StoreFault, Trees, [], all-filter, all_map, ap, filter, history_in, map, option_map, refl, revs_tree, shown_revision, slice_get, subst, sym, true, false, ℕ, ℤ, ◌∙◌, ◌∷◌, ◌≡◌}
 use Rattle.std.specs.FinMap as finite
 use Rattle.std.specs.Prelude.{if◌then◌else◌, is_some, option_and_then}
 use Rattle.couch_json.specs.Value as json

@@ -26,7 +26,7 @@ use Rattle.tree.specs.Revision.{revision_cmp}
 use Rattle.tree.specs.contracts.marked_rev.MarkedRev as marked_rev
 use Rattle.tree.specs.declared.entry.Entry.{Entry}
 use Rattle.tree.specs.declared.marked_rev.MarkedRev.{MarkedRev}
-use Rattle.transactions.specs.Following.{AreParentsKnown}
+use Rattle.transactions.specs.inner.Following.{AreParentsKnown}
 use Rattle.transactions.specs.Reading.{winner_shown}
 
 pub winner_set : IsSet (Option (Option MarkedRev))

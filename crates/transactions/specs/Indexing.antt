@@ -28,8 +28,8 @@ use Rattle.store.specs.declared.fault.StoreFault.TheVariants.{Memory, Damaged}
 use Rattle.tree.specs.DocumentId.{is_design_id}
 use Rattle.tree.specs.Outline.{marked_winner}
 use Rattle.tree.specs.declared.marked_rev.MarkedRev.{MarkedRev}
-use Rattle.transactions.specs.Following.{HasPlaceFor}
-use Rattle.transactions.specs.Inserting.{IsLawfulAddition}
+use Rattle.transactions.specs.inner.Following.{HasPlaceFor}
+use Rattle.transactions.specs.inner.Inserting.{IsLawfulAddition}
 use Rattle.transactions.specs.Sequences.{Clears}
 use Rattle.transactions.specs.declared.commit_fault.CommitFault.{CommitFault}
 use Rattle.transactions.specs.declared.commit_fault.CommitFault.TheVariants as fault

@@ -1,11 +1,7 @@
 pub mod Reading
 pub mod Endings
 pub mod Sequences
-pub mod Inserting
-pub mod Following
 pub mod Commits
-pub mod Histories
 pub mod Indexing
-pub mod Postponing
-pub mod Placed
 pub mod Renewing
+pub mod inner

@@ -44,7 +44,8 @@ pub fn add_database<S: Alter>(
 ) -> Result<(), Error>
     requires { conn.old.in_transaction ≡ false }
     ensures ok { HasCleanDisk (state S.Store conn.new) → IsStore (state S.Store conn.old).now
-        → OnOk result (Changes dbs_tree (with_cells ((state S.Store conn.old).now.trees dbs_tree) (database_cells name.now security.now (pos 0))) (state S.Store conn.old).now (state S.Store conn.new).now) }
+        → OnOk result (Changes dbs_tree (with_cells ((state S.Store conn.old).now.trees dbs_tree) (database_cells name.now security.now (pos 0)))
+        (state S.Store conn.old).now (state S.Store conn.new).now) }
     ensures turns { Turns S.Store conn.old conn.new }
     ensures done { IsDone S.Store conn.old conn.new result }
     ensures undone { IsUndone S.Store conn.old conn.new result }
@@ -62,7 +63,8 @@ pub fn change_security<S: Alter>(
 ) -> Result<(), Error>
     requires { conn.old.in_transaction ≡ false }
     ensures ok { HasCleanDisk (state S.Store conn.new) → IsStore (state S.Store conn.old).now
-        → OnOk result (Changes dbs_tree (rows_with_security number.now security.now ((state S.Store conn.old).now.trees dbs_tree)) (state S.Store conn.old).now (state S.Store conn.new).now) }
+        → OnOk result (Changes dbs_tree (rows_with_security number.now security.now ((state S.Store conn.old).now.trees dbs_tree))
+        (state S.Store conn.old).now (state S.Store conn.new).now) }
     ensures turns { Turns S.Store conn.old conn.new }
     ensures done { IsDone S.Store conn.old conn.new result }
     ensures undone { IsUndone S.Store conn.old conn.new result }

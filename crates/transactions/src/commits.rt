@@ -15,11 +15,11 @@ ghost use Rattle.tables.specs.Layout.{IsStore};
 ghost use Rattle.tables.specs.Rows.{database_of, history_in, length_of, number_of};
 ghost use Rattle.tables.specs.Schema.{revs_tree};
 ghost use Rattle.transactions.specs.Commits.{AreDue, IsSound, IsUnwritten, KeepsOthers, history_with};
-ghost use Rattle.transactions.specs.Histories.{AreStored, IsHeldOpen, IsWith, IsWithin};
-ghost use Rattle.transactions.specs.Following.{HasPlaceFor, Serves};
-ghost use Rattle.transactions.specs.Inserting.{IsLawfulAddition};
+ghost use Rattle.transactions.specs.inner.Histories.{AreStored, IsHeldOpen, IsWith, IsWithin};
+ghost use Rattle.transactions.specs.inner.Following.{HasPlaceFor, Serves};
+ghost use Rattle.transactions.specs.inner.Inserting.{IsLawfulAddition};
 ghost use Rattle.transactions.specs.Endings.{IsDone, IsUndone, Turns};
-ghost use Rattle.transactions.specs.Placed.{ArePlain, IsPlacedWrite};
+ghost use Rattle.transactions.specs.inner.Placed.{ArePlain, IsPlacedWrite};
 ghost use Rattle.transactions.specs.Reading.{HasBest};
 ghost use Rattle.transactions.specs.Indexing.{AreAllIndexes, AreKnownIndexes, IsIndexedStore, IsSoundIndexed};
 ghost use Rattle.index.specs.Indexed.{IsIndexed};
@@ -60,7 +60,8 @@ pub fn commit_writes<S: Alter>(
         → AreKnownIndexes indexes db.now (state S.Store conn.old).now.trees
         → (due : AreDue (additions writes.now) name db.now sequence (state S.Store conn.old).now.trees)
         → IfOk result (λ all. HasWritten (writings_in (database_of (state S.Store conn.old).now.trees due.row) (additions writes.now)) name due.row
-        (state S.Store conn.old).now (state S.Store conn.new).now × IsIndexed (state S.Store conn.new).now.trees × AreAllIndexes (map declared all.items) db.now (state S.Store conn.new).now.trees) }
+        (state S.Store conn.old).now (state S.Store conn.new).now × IsIndexed (state S.Store conn.new).now.trees
+        × AreAllIndexes (map declared all.items) db.now (state S.Store conn.new).now.trees) }
     ensures others { (name : List ℕ) → HasCleanDisk (state S.Store conn.new) → IsIndexedStore (state S.Store conn.old).now
         → AreKnownIndexes indexes db.now (state S.Store conn.old).now.trees
         → AreDue (additions writes.now) name db.now sequence (state S.Store conn.old).now.trees
@@ -93,16 +94,20 @@ fn write_document<S: Alter>(
     ensures ok { HasCleanDisk (state S.Store tx.new.conn.now) → IsStore (state S.Store tx.old.conn.now).now
         → AreStored histories.old (history_in ((state S.Store tx.old.conn.now).now.trees revs_tree) db.now)
         → HasPlaceFor (history_in ((state S.Store tx.old.conn.now).now.trees revs_tree) db.now (addition_of write.now).id) (addition_of write.now)
-        → OnOk result (IsPlacedWrite db.now sequence.now (written_in (history_in ((state S.Store tx.old.conn.now).now.trees revs_tree) db.now (addition_of write.now).id) (addition_of write.now))
+        → OnOk result (IsPlacedWrite db.now sequence.now
+        (written_in (history_in ((state S.Store tx.old.conn.now).now.trees revs_tree) db.now (addition_of write.now).id) (addition_of write.now))
         (state S.Store tx.old.conn.now).now (state S.Store tx.new.conn.now).now) }
     ensures after { HasCleanDisk (state S.Store tx.new.conn.now) → IsStore (state S.Store tx.old.conn.now).now
         → AreStored histories.old (history_in ((state S.Store tx.old.conn.now).now.trees revs_tree) db.now)
         → OnOk result (IsWithin histories.old (addition_of write.now).id
-        (with_addition (history_in ((state S.Store tx.old.conn.now).now.trees revs_tree) db.now (addition_of write.now).id) (addition_of write.now)) histories.new) }
+        (with_addition (history_in ((state S.Store tx.old.conn.now).now.trees revs_tree) db.now (addition_of write.now).id) (addition_of write.now))
+        histories.new) }
     ensures lawful { OnOk result (IsLawfulAddition (addition_of write.now)) }
-    ensures inside { HasCleanDisk (state S.Store tx.new.conn.now) → OnOk result (IsTrue (state S.Store tx.new.conn.now).is_open × ((state S.Store tx.new.conn.now).in_transaction ≡ true)) }
+    ensures inside { HasCleanDisk (state S.Store tx.new.conn.now)
+        → OnOk result (IsTrue (state S.Store tx.new.conn.now).is_open × ((state S.Store tx.new.conn.now).in_transaction ≡ true)) }
     ensures err { IfErr result (IsUnwritten (IsHeldOpen histories.old (state S.Store tx.old.conn.now)
-        × IsSound S.Store (λ trees. AreStored histories.old (history_in (trees revs_tree) db.now) × HasBest (history_with trees db.now (addition_of write.now))) tx.old.conn.now tx.new.conn.now)) }
+        × IsSound S.Store (λ trees. AreStored histories.old (history_in (trees revs_tree) db.now)
+        × HasBest (history_with trees db.now (addition_of write.now))) tx.old.conn.now tx.new.conn.now)) }
     ensures looks { LooksInside S.Store tx.old.conn.now tx.new.conn.now }
     ensures asks { AsksInside S.Store tx.old.conn.now tx.new.conn.now }
 {
@@ -131,16 +136,20 @@ pub(crate) fn write_next<S: Alter>(
         → AreStored histories.old (history_in ((state S.Store tx.old.conn.now).now.trees revs_tree) db.now)
         → HasPlaceFor (history_in ((state S.Store tx.old.conn.now).now.trees revs_tree) (number_of r) (addition_of write.now).id) (addition_of write.now)
         → db.now ≡ number_of r → sequence.now ≡ pos (length_of r + 1)
-        → OnOk result (IsWrite r (written_in (history_in ((state S.Store tx.old.conn.now).now.trees revs_tree) (number_of r) (addition_of write.now).id) (addition_of write.now))
+        → OnOk result (IsWrite r
+        (written_in (history_in ((state S.Store tx.old.conn.now).now.trees revs_tree) (number_of r) (addition_of write.now).id) (addition_of write.now))
         (state S.Store tx.old.conn.now).now (state S.Store tx.new.conn.now).now) }
     ensures after { HasCleanDisk (state S.Store tx.new.conn.now) → IsStore (state S.Store tx.old.conn.now).now
         → AreStored histories.old (history_in ((state S.Store tx.old.conn.now).now.trees revs_tree) db.now)
         → OnOk result (IsWithin histories.old (addition_of write.now).id
-        (with_addition (history_in ((state S.Store tx.old.conn.now).now.trees revs_tree) db.now (addition_of write.now).id) (addition_of write.now)) histories.new) }
+        (with_addition (history_in ((state S.Store tx.old.conn.now).now.trees revs_tree) db.now (addition_of write.now).id) (addition_of write.now))
+        histories.new) }
     ensures lawful { OnOk result (IsLawfulAddition (addition_of write.now)) }
-    ensures inside { HasCleanDisk (state S.Store tx.new.conn.now) → OnOk result (IsTrue (state S.Store tx.new.conn.now).is_open × ((state S.Store tx.new.conn.now).in_transaction ≡ true)) }
+    ensures inside { HasCleanDisk (state S.Store tx.new.conn.now)
+        → OnOk result (IsTrue (state S.Store tx.new.conn.now).is_open × ((state S.Store tx.new.conn.now).in_transaction ≡ true)) }
     ensures err { IfErr result (IsUnwritten (IsHeldOpen histories.old (state S.Store tx.old.conn.now)
-        × IsSound S.Store (λ trees. AreStored histories.old (history_in (trees revs_tree) db.now) × HasBest (history_with trees db.now (addition_of write.now))) tx.old.conn.now tx.new.conn.now)) }
+        × IsSound S.Store (λ trees. AreStored histories.old (history_in (trees revs_tree) db.now)
+        × HasBest (history_with trees db.now (addition_of write.now))) tx.old.conn.now tx.new.conn.now)) }
     ensures looks { LooksInside S.Store tx.old.conn.now tx.new.conn.now }
     ensures asks { AsksInside S.Store tx.old.conn.now tx.new.conn.now }
 {
@@ -162,7 +171,8 @@ fn read_document<S: Alter>(
     ensures ok { HasCleanDisk (state S.Store tx.new.conn.now) → IsStore (state S.Store tx.old.conn.now).now
         → IfOk result (λ history. history ≡ history_in ((state S.Store tx.old.conn.now).now.trees revs_tree) db.now id.now) }
     ensures agrees { IfOk result (λ history. winner.now ≡ marked_winner history) }
-    ensures err { IfErr result (IsUnwritten (IsSound S.Store (λ trees. winner.now ≡ marked_winner (history_in (trees revs_tree) db.now id.now)) tx.old.conn.now tx.new.conn.now)) }
+    ensures err { IfErr result
+        (IsUnwritten (IsSound S.Store (λ trees. winner.now ≡ marked_winner (history_in (trees revs_tree) db.now id.now)) tx.old.conn.now tx.new.conn.now)) }
     ensures stands { Stands S.Store tx.old.conn.now tx.new.conn.now result }
     ensures served { IsServed S.Store tx.old.conn.now tx.new.conn.now result }
     ensures looks { LooksInside S.Store tx.old.conn.now tx.new.conn.now }
@@ -187,7 +197,8 @@ fn read_followed<S: Alter>(
         → IfOk result (λ read. read.0 ≡ marked_winner (history_in ((state S.Store tx.old.conn.now).now.trees revs_tree) db.now (addition_of write.now).id)) }
     ensures ok { HasCleanDisk (state S.Store tx.new.conn.now) → IsStore (state S.Store tx.old.conn.now).now
         → HasPlaceFor (history_in ((state S.Store tx.old.conn.now).now.trees revs_tree) db.now (addition_of write.now).id) (addition_of write.now)
-        → IfOk result (λ read. IfSome read.1 (Serves (addition_of write.now) (history_in ((state S.Store tx.old.conn.now).now.trees revs_tree) db.now (addition_of write.now).id))) }
+        → IfOk result (λ read. IfSome read.1
+        (Serves (addition_of write.now) (history_in ((state S.Store tx.old.conn.now).now.trees revs_tree) db.now (addition_of write.now).id))) }
     ensures has_best { HasCleanDisk (state S.Store tx.new.conn.now) → IsStore (state S.Store tx.old.conn.now).now
         → HasBest (history_with (state S.Store tx.old.conn.now).now.trees db.now (addition_of write.now))
         → IfOk result (λ read. IfSome read.1 (λ history. HasBest (with_addition history (addition_of write.now)))) }
@@ -235,7 +246,8 @@ fn write_known<S: Alter>(
     ensures same_reference { tx.new.conn.ghost_name ≡ tx.old.conn.ghost_name }
     ensures ok { HasCleanDisk (state S.Store tx.new.conn.now) → IsStore (state S.Store tx.old.conn.now).now
         → Serves (addition_of write.now) (history_in ((state S.Store tx.old.conn.now).now.trees revs_tree) db.now (addition_of write.now).id) history
-        → OnOk result (IsPlacedWrite db.now sequence.now (written_in (history_in ((state S.Store tx.old.conn.now).now.trees revs_tree) db.now (addition_of write.now).id) (addition_of write.now))
+        → OnOk result (IsPlacedWrite db.now sequence.now
+        (written_in (history_in ((state S.Store tx.old.conn.now).now.trees revs_tree) db.now (addition_of write.now).id) (addition_of write.now))
         (state S.Store tx.old.conn.now).now (state S.Store tx.new.conn.now).now) }
     ensures after { IfOk result (λ after. after ≡ with_addition history (addition_of write.now)) }
     ensures err { IfErr result (IsUnwritten (HasBest (with_addition history (addition_of write.now)))) }
@@ -263,7 +275,8 @@ fn write_served<S: Alter>(
     ensures ok { HasCleanDisk (state S.Store tx.new.conn.now) → IsStore (state S.Store tx.old.conn.now).now
         → HasPlaceFor (history_in ((state S.Store tx.old.conn.now).now.trees revs_tree) db.now (addition_of write.now).id) (addition_of write.now)
         → Serves (addition_of write.now) (history_in ((state S.Store tx.old.conn.now).now.trees revs_tree) db.now (addition_of write.now).id) history
-        → OnOk result (IsPlacedWrite db.now sequence.now (written_in (history_in ((state S.Store tx.old.conn.now).now.trees revs_tree) db.now (addition_of write.now).id) (addition_of write.now))
+        → OnOk result (IsPlacedWrite db.now sequence.now
+        (written_in (history_in ((state S.Store tx.old.conn.now).now.trees revs_tree) db.now (addition_of write.now).id) (addition_of write.now))
         (state S.Store tx.old.conn.now).now (state S.Store tx.new.conn.now).now) }
     ensures err { IfErr result (IsUnwritten (HasBest (with_addition history (addition_of write.now)))) }
     ensures lawful { OnOk result (IsLawfulAddition (addition_of write.now)) }
@@ -288,13 +301,18 @@ fn write_read<S: Alter>(
 ) -> Result<History, CommitFault>
     ensures same_reference { tx.new.conn.ghost_name ≡ tx.old.conn.ghost_name }
     ensures ok { HasCleanDisk (state S.Store tx.new.conn.now) → IsStore (state S.Store tx.old.conn.now).now
-        → OnOk result (IsPlacedWrite db.now sequence.now (written_in (history_in ((state S.Store tx.old.conn.now).now.trees revs_tree) db.now (addition_of write.now).id) (addition_of write.now))
+        → OnOk result (IsPlacedWrite db.now sequence.now
+        (written_in (history_in ((state S.Store tx.old.conn.now).now.trees revs_tree) db.now (addition_of write.now).id) (addition_of write.now))
         (state S.Store tx.old.conn.now).now (state S.Store tx.new.conn.now).now) }
     ensures after { HasCleanDisk (state S.Store tx.new.conn.now) → IsStore (state S.Store tx.old.conn.now).now
-        → IfOk result (λ after. after ≡ with_addition (history_in ((state S.Store tx.old.conn.now).now.trees revs_tree) db.now (addition_of write.now).id) (addition_of write.now)) }
+        → IfOk result (λ after. after ≡ with_addition
+        (history_in ((state S.Store tx.old.conn.now).now.trees revs_tree) db.now (addition_of write.now).id) (addition_of write.now)) }
     ensures lawful { OnOk result (IsLawfulAddition (addition_of write.now)) }
-    ensures inside { HasCleanDisk (state S.Store tx.new.conn.now) → OnOk result (IsTrue (state S.Store tx.new.conn.now).is_open × ((state S.Store tx.new.conn.now).in_transaction ≡ true)) }
-    ensures err { IfErr result (IsUnwritten (IsSound S.Store (λ trees. (winner.now ≡ marked_winner (history_in (trees revs_tree) db.now (addition_of write.now).id)) × HasBest (history_with trees db.now (addition_of write.now))) tx.old.conn.now tx.new.conn.now)) }
+    ensures inside { HasCleanDisk (state S.Store tx.new.conn.now)
+        → OnOk result (IsTrue (state S.Store tx.new.conn.now).is_open × ((state S.Store tx.new.conn.now).in_transaction ≡ true)) }
+    ensures err { IfErr result
+        (IsUnwritten (IsSound S.Store (λ trees. (winner.now ≡ marked_winner (history_in (trees revs_tree) db.now (addition_of write.now).id))
+        × HasBest (history_with trees db.now (addition_of write.now))) tx.old.conn.now tx.new.conn.now)) }
     ensures looks { LooksInside S.Store tx.old.conn.now tx.new.conn.now }
     ensures asks { AsksInside S.Store tx.old.conn.now tx.new.conn.now }
 {
@@ -314,13 +332,18 @@ fn write_unread<S: Alter>(
     ensures same_reference { tx.new.conn.ghost_name ≡ tx.old.conn.ghost_name }
     ensures ok { HasCleanDisk (state S.Store tx.new.conn.now) → IsStore (state S.Store tx.old.conn.now).now
         → HasPlaceFor (history_in ((state S.Store tx.old.conn.now).now.trees revs_tree) db.now (addition_of write.now).id) (addition_of write.now)
-        → OnOk result (IsPlacedWrite db.now sequence.now (written_in (history_in ((state S.Store tx.old.conn.now).now.trees revs_tree) db.now (addition_of write.now).id) (addition_of write.now))
+        → OnOk result (IsPlacedWrite db.now sequence.now
+        (written_in (history_in ((state S.Store tx.old.conn.now).now.trees revs_tree) db.now (addition_of write.now).id) (addition_of write.now))
         (state S.Store tx.old.conn.now).now (state S.Store tx.new.conn.now).now) }
     ensures after { HasCleanDisk (state S.Store tx.new.conn.now) → IsStore (state S.Store tx.old.conn.now).now
-        → IfOk result (λ found. IfSome found (λ after. after ≡ with_addition (history_in ((state S.Store tx.old.conn.now).now.trees revs_tree) db.now (addition_of write.now).id) (addition_of write.now))) }
+        → IfOk result (λ found. IfSome found
+        (λ after. after ≡ with_addition (history_in ((state S.Store tx.old.conn.now).now.trees revs_tree) db.now (addition_of write.now).id)
+        (addition_of write.now))) }
     ensures lawful { OnOk result (IsLawfulAddition (addition_of write.now)) }
-    ensures inside { HasCleanDisk (state S.Store tx.new.conn.now) → OnOk result (IsTrue (state S.Store tx.new.conn.now).is_open × ((state S.Store tx.new.conn.now).in_transaction ≡ true)) }
-    ensures err { IfErr result (IsUnwritten (IsSound S.Store (λ trees. HasBest (history_with trees db.now (addition_of write.now))) tx.old.conn.now tx.new.conn.now)) }
+    ensures inside { HasCleanDisk (state S.Store tx.new.conn.now)
+        → OnOk result (IsTrue (state S.Store tx.new.conn.now).is_open × ((state S.Store tx.new.conn.now).in_transaction ≡ true)) }
+    ensures err { IfErr result
+        (IsUnwritten (IsSound S.Store (λ trees. HasBest (history_with trees db.now (addition_of write.now))) tx.old.conn.now tx.new.conn.now)) }
     ensures looks { LooksInside S.Store tx.old.conn.now tx.new.conn.now }
     ensures asks { AsksInside S.Store tx.old.conn.now tx.new.conn.now }
 {
@@ -372,13 +395,15 @@ fn write_each<S: Alter>(
         → AreAllIndexes (map declared indexes.items) db.now (state S.Store tx.old.conn.now).now.trees
         → (due : AreDue (additions writes.now) name db.now sequence (state S.Store tx.old.conn.now).now.trees)
         → IfOk result (λ all. HasWritten (writings_in (database_of (state S.Store tx.old.conn.now).now.trees due.row) (additions writes.now)) name due.row
-        (state S.Store tx.old.conn.now).now (state S.Store tx.new.conn.now).now × IsIndexed (state S.Store tx.new.conn.now).now.trees × AreAllIndexes (map declared all.items) db.now (state S.Store tx.new.conn.now).now.trees) }
+        (state S.Store tx.old.conn.now).now (state S.Store tx.new.conn.now).now × IsIndexed (state S.Store tx.new.conn.now).now.trees
+        × AreAllIndexes (map declared all.items) db.now (state S.Store tx.new.conn.now).now.trees) }
     ensures others { (name : List ℕ) → HasCleanDisk (state S.Store tx.new.conn.now) → IsIndexedStore (state S.Store tx.old.conn.now).now
         → AreAllIndexes (map declared indexes.items) db.now (state S.Store tx.old.conn.now).now.trees
         → AreDue (additions writes.now) name db.now sequence (state S.Store tx.old.conn.now).now.trees
         → OnOk result (KeepsOthers db.now (state S.Store tx.old.conn.now).now (state S.Store tx.new.conn.now).now) }
     ensures err { (name : List ℕ) → IfErr result (IsUnwritten (IsSoundIndexed S.Store
-        (λ d. AreAllIndexes (map declared indexes.items) db.now d.trees × AreDue (additions writes.now) name db.now sequence d.trees) tx.old.conn.now tx.new.conn.now)) }
+        (λ d. AreAllIndexes (map declared indexes.items) db.now d.trees × AreDue (additions writes.now) name db.now sequence d.trees) tx.old.conn.now
+        tx.new.conn.now)) }
     ensures kept { (name : List ℕ) → HasCleanDisk (state S.Store tx.new.conn.now) → IsIndexedStore (state S.Store tx.old.conn.now).now
         → AreAllIndexes (map declared indexes.items) db.now (state S.Store tx.old.conn.now).now.trees
         → AreDue (additions writes.now) name db.now sequence (state S.Store tx.old.conn.now).now.trees
@@ -435,7 +460,8 @@ fn write_plain<S: Alter>(
         → AreAllIndexes [] db.now (state S.Store tx.old.conn.now).now.trees → ArePlain (additions writes.now)
         → (due : AreDue (additions writes.now) name db.now sequence (state S.Store tx.old.conn.now).now.trees)
         → OnOk result (HasWritten (writings_in (database_of (state S.Store tx.old.conn.now).now.trees due.row) (additions writes.now)) name due.row
-        (state S.Store tx.old.conn.now).now (state S.Store tx.new.conn.now).now × IsIndexed (state S.Store tx.new.conn.now).now.trees × AreAllIndexes [] db.now (state S.Store tx.new.conn.now).now.trees) }
+        (state S.Store tx.old.conn.now).now (state S.Store tx.new.conn.now).now × IsIndexed (state S.Store tx.new.conn.now).now.trees
+        × AreAllIndexes [] db.now (state S.Store tx.new.conn.now).now.trees) }
     ensures others { (name : List ℕ) → HasCleanDisk (state S.Store tx.new.conn.now) → IsIndexedStore (state S.Store tx.old.conn.now).now
         → AreAllIndexes [] db.now (state S.Store tx.old.conn.now).now.trees → ArePlain (additions writes.now)
         → AreDue (additions writes.now) name db.now sequence (state S.Store tx.old.conn.now).now.trees
@@ -477,13 +503,15 @@ fn write_bulk<S: Alter>(
         → AreAllIndexes (map declared indexes.items) db.now (state S.Store tx.old.conn.now).now.trees
         → (due : AreDue (additions writes.now) name db.now sequence (state S.Store tx.old.conn.now).now.trees)
         → IfOk result (λ all. HasWritten (writings_in (database_of (state S.Store tx.old.conn.now).now.trees due.row) (additions writes.now)) name due.row
-        (state S.Store tx.old.conn.now).now (state S.Store tx.new.conn.now).now × IsIndexed (state S.Store tx.new.conn.now).now.trees × AreAllIndexes (map declared all.items) db.now (state S.Store tx.new.conn.now).now.trees) }
+        (state S.Store tx.old.conn.now).now (state S.Store tx.new.conn.now).now × IsIndexed (state S.Store tx.new.conn.now).now.trees
+        × AreAllIndexes (map declared all.items) db.now (state S.Store tx.new.conn.now).now.trees) }
     ensures others { (name : List ℕ) → HasCleanDisk (state S.Store tx.new.conn.now) → IsIndexedStore (state S.Store tx.old.conn.now).now
         → AreAllIndexes (map declared indexes.items) db.now (state S.Store tx.old.conn.now).now.trees
         → AreDue (additions writes.now) name db.now sequence (state S.Store tx.old.conn.now).now.trees
         → OnOk result (KeepsOthers db.now (state S.Store tx.old.conn.now).now (state S.Store tx.new.conn.now).now) }
     ensures err { (name : List ℕ) → IfErr result (IsUnwritten (IsSoundIndexed S.Store
-        (λ d. AreAllIndexes (map declared indexes.items) db.now d.trees × AreDue (additions writes.now) name db.now sequence d.trees) tx.old.conn.now tx.new.conn.now)) }
+        (λ d. AreAllIndexes (map declared indexes.items) db.now d.trees × AreDue (additions writes.now) name db.now sequence d.trees) tx.old.conn.now
+        tx.new.conn.now)) }
     ensures kept { (name : List ℕ) → HasCleanDisk (state S.Store tx.new.conn.now) → IsIndexedStore (state S.Store tx.old.conn.now).now
         → AreAllIndexes (map declared indexes.items) db.now (state S.Store tx.old.conn.now).now.trees
         → AreDue (additions writes.now) name db.now sequence (state S.Store tx.old.conn.now).now.trees
@@ -517,7 +545,8 @@ fn write_all<S: Alter>(
         → AreKnownIndexes indexes db.now (state S.Store tx.old.conn.now).now.trees
         → (due : AreDue (additions writes.now) name db.now sequence (state S.Store tx.old.conn.now).now.trees)
         → IfOk result (λ all. HasWritten (writings_in (database_of (state S.Store tx.old.conn.now).now.trees due.row) (additions writes.now)) name due.row
-        (state S.Store tx.old.conn.now).now (state S.Store tx.new.conn.now).now × IsIndexed (state S.Store tx.new.conn.now).now.trees × AreAllIndexes (map declared all.items) db.now (state S.Store tx.new.conn.now).now.trees) }
+        (state S.Store tx.old.conn.now).now (state S.Store tx.new.conn.now).now × IsIndexed (state S.Store tx.new.conn.now).now.trees
+        × AreAllIndexes (map declared all.items) db.now (state S.Store tx.new.conn.now).now.trees) }
     ensures others { (name : List ℕ) → HasCleanDisk (state S.Store tx.new.conn.now) → IsIndexedStore (state S.Store tx.old.conn.now).now
         → AreKnownIndexes indexes db.now (state S.Store tx.old.conn.now).now.trees
         → AreDue (additions writes.now) name db.now sequence (state S.Store tx.old.conn.now).now.trees

@@ -21,9 +21,9 @@ ghost use Rattle.tree.specs.Nodes.{entries_before};
 ghost use Rattle.tree.specs.Revision.{is_revision};
 ghost use Rattle.tree.specs.Write.{head};
 ghost use Rattle.transactions.specs.Commits.{IsUnwritten};
-ghost use Rattle.transactions.specs.Following.{HasPlaceFor, Serves};
-ghost use Rattle.transactions.specs.Inserting.{InsertsAll, IsBest, IsLawfulAddition, IsPlaced, entries_of, unknown_in};
-ghost use Rattle.transactions.specs.Placed.{IsPlacedWrite};
+ghost use Rattle.transactions.specs.inner.Following.{HasPlaceFor, Serves};
+ghost use Rattle.transactions.specs.inner.Inserting.{InsertsAll, IsBest, IsLawfulAddition, IsPlaced, entries_of, unknown_in};
+ghost use Rattle.transactions.specs.inner.Placed.{IsPlacedWrite};
 ghost use Rattle.transactions.specs.Reading.{HasBest, IsMissed};
 
 use crate::commit_fault::CommitFault;
@@ -49,7 +49,8 @@ pub(crate) fn add_write<S: Alter>(
     ensures same_reference { tx.new.conn.ghost_name ≡ tx.old.conn.ghost_name }
     ensures ok { HasCleanDisk (state S.Store tx.new.conn.now) → IsStore (state S.Store tx.old.conn.now).now
         → Serves (addition_of write.now) (history_in ((state S.Store tx.old.conn.now).now.trees revs_tree) db.now (addition_of write.now).id) history.old
-        → OnOk result (IsPlacedWrite db.now sequence.now (written_in (history_in ((state S.Store tx.old.conn.now).now.trees revs_tree) db.now (addition_of write.now).id) (addition_of write.now))
+        → OnOk result (IsPlacedWrite db.now sequence.now
+        (written_in (history_in ((state S.Store tx.old.conn.now).now.trees revs_tree) db.now (addition_of write.now).id) (addition_of write.now))
         (state S.Store tx.old.conn.now).now (state S.Store tx.new.conn.now).now) }
     ensures after { OnOk result (history.new ≡ with_addition history.old (addition_of write.now)) }
     ensures err { IfErr result (IsUnwritten (HasBest (with_addition history.old (addition_of write.now)))) }
@@ -81,7 +82,8 @@ pub(crate) fn add_first<S: Alter>(
     ensures ok { HasCleanDisk (state S.Store tx.new.conn.now) → IsStore (state S.Store tx.old.conn.now).now
         → Serves (addition_of write.now) (history_in ((state S.Store tx.old.conn.now).now.trees revs_tree) db.now (addition_of write.now).id) history.now
         → history.now ≡ map.empty → HasPlaceFor map.empty (addition_of write.now)
-        → OnOk result (IsPlacedWrite db.now sequence.now (written_in (history_in ((state S.Store tx.old.conn.now).now.trees revs_tree) db.now (addition_of write.now).id) (addition_of write.now))
+        → OnOk result (IsPlacedWrite db.now sequence.now
+        (written_in (history_in ((state S.Store tx.old.conn.now).now.trees revs_tree) db.now (addition_of write.now).id) (addition_of write.now))
         (state S.Store tx.old.conn.now).now (state S.Store tx.new.conn.now).now) }
     ensures err { IfErr result (IsUnwritten (HasBest (with_addition map.empty (addition_of write.now)))) }
     ensures lawful { OnOk result (IsLawfulAddition (addition_of write.now)) }
@@ -98,7 +100,9 @@ pub(crate) fn add_first<S: Alter>(
 /// Returns the text of the newest revision of a write, which is the best where it is the first write of
 /// its document.
 fn newest_of(alloc: Global, write: &Write) -> Result<String, HistoryFault>
-    ensures ok { IfOk result (λ text. HasPlaceFor map.empty (addition_of write.now) → IsBest (with_addition map.empty (addition_of write.now)) (string_bytes text) write.now.deleted) }
+    ensures ok { IfOk result
+        (λ text. HasPlaceFor map.empty (addition_of write.now)
+        → IsBest (with_addition map.empty (addition_of write.now)) (string_bytes text) write.now.deleted) }
     ensures err { IfErr result (IsMissed (with_addition map.empty (addition_of write.now))) }
 {
     let Some(rev) = write.path.first() else {
@@ -118,7 +122,8 @@ fn insert_passed<S: Alter>(
     parent: &Option<Rev>,
 ) -> Result<(), Error>
     ensures same_reference { tx.new.conn.ghost_name ≡ tx.old.conn.ghost_name }
-    ensures ok { InsertsAll S.Store (unknown_in history.now ((rev.now, record { parent = parent.now; held = None }) ∷ [])) db.now id.now tx.old.conn.now tx.new.conn.now result }
+    ensures ok { InsertsAll S.Store
+        (unknown_in history.now ((rev.now, record { parent = parent.now; held = None }) ∷ [])) db.now id.now tx.old.conn.now tx.new.conn.now result }
     ensures proceeds { Proceeds S.Store tx.old.conn.now tx.new.conn.now }
 {
     if history.knows(rev) {
@@ -181,7 +186,9 @@ fn insert_newest<S: Alter>(
 ) -> Result<(), Error>
     ensures same_reference { tx.new.conn.ghost_name ≡ tx.old.conn.ghost_name }
     ensures ok { (v : Value) → body.now ≡ canonical v
-        → InsertsAll S.Store (unknown_in history.now ((rev.now, record { parent = parent.now; held = Some (record { deleted = deleted; body = v }) }) ∷ [])) db.now id.now tx.old.conn.now tx.new.conn.now result }
+        → InsertsAll S.Store (unknown_in history.now
+        ((rev.now, record { parent = parent.now; held = Some (record { deleted = deleted; body = v }) }) ∷ [])) db.now id.now tx.old.conn.now
+        tx.new.conn.now result }
     ensures proceeds { Proceeds S.Store tx.old.conn.now tx.new.conn.now }
 {
     if history.knows(rev) {
@@ -215,7 +222,8 @@ fn insert_path<S: Alter>(
 ) -> Result<(), Error>
     ensures same_reference { tx.new.conn.ghost_name ≡ tx.old.conn.ghost_name }
     ensures ok { (v : Value) → body.now ≡ canonical v
-        → InsertsAll S.Store (unknown_in history.now (entries_before (Some (record { deleted = deleted; body = v })) path.now parent.now)) db.now id.now tx.old.conn.now tx.new.conn.now result }
+        → InsertsAll S.Store (unknown_in history.now (entries_before (Some (record { deleted = deleted; body = v })) path.now parent.now)) db.now
+        id.now tx.old.conn.now tx.new.conn.now result }
     ensures proceeds { Proceeds S.Store tx.old.conn.now tx.new.conn.now }
 {
     let Some(newest) = path.first() else {
@@ -245,7 +253,8 @@ fn insert_revisions<S: Alter>(
     write: &Write,
 ) -> Result<(), CommitFault>
     ensures same_reference { tx.new.conn.ghost_name ≡ tx.old.conn.ghost_name }
-    ensures ok { InsertsAll S.Store (unknown_in history.now (entries_of history.now (addition_of write.now))) db.now (addition_of write.now).id tx.old.conn.now tx.new.conn.now result }
+    ensures ok { InsertsAll S.Store (unknown_in history.now (entries_of history.now (addition_of write.now))) db.now
+        (addition_of write.now).id tx.old.conn.now tx.new.conn.now result }
     ensures err { IfErr result (IsUnwritten ⊤) }
     ensures lawful { OnOk result (IsLawfulAddition (addition_of write.now)) }
     ensures proceeds { Proceeds S.Store tx.old.conn.now tx.new.conn.now }
@@ -279,7 +288,8 @@ fn place_document<S: Alter>(
     is_new: bool,
 ) -> Result<(), Error>
     ensures same_reference { tx.new.conn.ghost_name ≡ tx.old.conn.ghost_name }
-    ensures ok { HasCleanDisk (state S.Store tx.new.conn.now) → tx.old.conn.now.schema ≡ schema → AreDocumentRows ((state S.Store tx.old.conn.now).now.trees docs_tree)
+    ensures ok { HasCleanDisk (state S.Store tx.new.conn.now) → tx.old.conn.now.schema ≡ schema
+        → AreDocumentRows ((state S.Store tx.old.conn.now).now.trees docs_tree)
         → list_any (is_of db.now id.now) ((state S.Store tx.old.conn.now).now.trees docs_tree) ≡ not is_new
         → OnOk result (IsPlaced db.now id.now sequence.now winner.now deleted (state S.Store tx.old.conn.now).now (state S.Store tx.new.conn.now).now) }
     ensures inside { Stays S.Store tx.old.conn.now tx.new.conn.now result }

@@ -12,10 +12,11 @@ ghost use Rattle.tables.specs.Schema.{decls_tree, revs_tree, schema};
 ghost use Rattle.tree.specs.DocumentId.{is_design_id};
 ghost use Rattle.index.specs.Shown.{declared};
 ghost use Rattle.transactions.specs.Commits.{IsUnwritten, history_with};
-ghost use Rattle.transactions.specs.Histories.{AreStored, IsHeldOpen, IsWithin};
+ghost use Rattle.transactions.specs.inner.Histories.{AreStored, IsHeldOpen, IsWithin};
 ghost use Rattle.std.specs.Prelude.{⊤};
-ghost use Rattle.transactions.specs.Indexing.{IsRemoved, AreAllIndexes, AreKnownIndexes, IsFollowed, IsIndexedStore, IsIndexedStoreBut, IsLeft, IsSoundBut, IsSoundIndexed, MayBeWritten, write_in};
-ghost use Rattle.transactions.specs.Inserting.{IsLawfulAddition};
+ghost use Rattle.transactions.specs.Indexing.{IsRemoved, AreAllIndexes, AreKnownIndexes, IsFollowed, IsIndexedStore};
+ghost use Rattle.transactions.specs.Indexing.{IsIndexedStoreBut, IsLeft, IsSoundBut, IsSoundIndexed, MayBeWritten, write_in};
+ghost use Rattle.transactions.specs.inner.Inserting.{IsLawfulAddition};
 ghost use Rattle.transactions.specs.Reading.{HasBest};
 ghost use Rattle.index.specs.Declaring.{IsRebuildable};
 ghost use Rattle.index.specs.Steps.{Steps, WasFit};
@@ -50,12 +51,14 @@ pub(crate) fn write_seen<S: Alter>(
         → AreAllIndexes (map declared indexes.now) db.now (state S.Store tx.old.conn.now).now.trees → is_design_id (addition_of write.now).id ≡ false
         → AreStored histories.old (history_in ((state S.Store tx.old.conn.now).now.trees revs_tree) db.now)
         → (due : MayBeWritten db.now sequence.now (addition_of write.now) (state S.Store tx.old.conn.now).now)
-        → OnOk result (IsFollowed db.now ids due.row (write_in (state S.Store tx.old.conn.now).now.trees due.row (addition_of write.now)) (state S.Store tx.old.conn.now).now (state S.Store tx.new.conn.now).now
+        → OnOk result (IsFollowed db.now ids due.row (write_in (state S.Store tx.old.conn.now).now.trees due.row (addition_of write.now))
+        (state S.Store tx.old.conn.now).now (state S.Store tx.new.conn.now).now
         × AreAllIndexes (map declared indexes.now) db.now (state S.Store tx.new.conn.now).now.trees) }
     ensures after { HasCleanDisk (state S.Store tx.new.conn.now) → IsStore (state S.Store tx.old.conn.now).now
         → AreStored histories.old (history_in ((state S.Store tx.old.conn.now).now.trees revs_tree) db.now)
         → OnOk result (IsWithin histories.old (addition_of write.now).id
-        (with_addition (history_in ((state S.Store tx.old.conn.now).now.trees revs_tree) db.now (addition_of write.now).id) (addition_of write.now)) histories.new) }
+        (with_addition (history_in ((state S.Store tx.old.conn.now).now.trees revs_tree) db.now (addition_of write.now).id) (addition_of write.now))
+        histories.new) }
     ensures lawful { OnOk result (IsLawfulAddition (addition_of write.now)) }
     ensures inside { HasCleanDisk (state S.Store tx.new.conn.now) → IsStore (state S.Store tx.old.conn.now).now
         → AreStored histories.old (history_in ((state S.Store tx.old.conn.now).now.trees revs_tree) db.now)
@@ -63,7 +66,8 @@ pub(crate) fn write_seen<S: Alter>(
         → OnOk result (IsTrue (state S.Store tx.new.conn.now).is_open × ((state S.Store tx.new.conn.now).in_transaction ≡ true)) }
     ensures served { IsServed S.Store tx.old.conn.now tx.new.conn.now result }
     ensures err { (ids : List (List ℕ)) → IfErr result (IsUnwritten (IsHeldOpen histories.old (state S.Store tx.old.conn.now)
-        × IsSoundBut S.Store db.now ids (λ db'. AreStored histories.old (history_in (db'.trees revs_tree) db.now) × HasBest (history_with db'.trees db.now (addition_of write.now))
+        × IsSoundBut S.Store db.now ids
+        (λ db'. AreStored histories.old (history_in (db'.trees revs_tree) db.now) × HasBest (history_with db'.trees db.now (addition_of write.now))
         × MayBeWritten db.now sequence.now (addition_of write.now) db') tx.old.conn.now tx.new.conn.now)) }
     ensures kept { HasCleanDisk (state S.Store tx.new.conn.now) → IsStore (state S.Store tx.old.conn.now).now
         → AreStored histories.old (history_in ((state S.Store tx.old.conn.now).now.trees revs_tree) db.now)
@@ -87,8 +91,10 @@ pub(crate) fn redeclare<S: Alter>(
     id: &DocId,
 ) -> Result<(), CommitFault>
     ensures same_reference { tx.new.conn.ghost_name ≡ tx.old.conn.ghost_name }
-    ensures steps { (declares : Declarations) (sees : Documents) → is_design_id id.now ≡ true → Steps S.Store (IsRebuildable declares sees db.now) (IsRedeclared declares sees db.now id.now) tx.old.conn.now tx.new.conn.now result }
-    ensures err { (declares : Declarations) (sees : Documents) → IfErr result (IsUnwritten (WasFit S.Store (IsRebuildable declares sees db.now) tx.old.conn.now tx.new.conn.now)) }
+    ensures steps { (declares : Declarations) (sees : Documents) → is_design_id id.now ≡ true
+        → Steps S.Store (IsRebuildable declares sees db.now) (IsRedeclared declares sees db.now id.now) tx.old.conn.now tx.new.conn.now result }
+    ensures err { (declares : Declarations) (sees : Documents)
+        → IfErr result (IsUnwritten (WasFit S.Store (IsRebuildable declares sees db.now) tx.old.conn.now tx.new.conn.now)) }
     ensures asks { AsksInside S.Store tx.old.conn.now tx.new.conn.now }
 {
     let history = find_winning(alloc, tx, db, id)?;
@@ -112,12 +118,15 @@ pub(crate) fn write_design<S: Alter>(
         → is_design_id (addition_of write.now).id ≡ true
         → AreStored histories.old (history_in ((state S.Store tx.old.conn.now).now.trees revs_tree) db.now)
         → (due : MayBeWritten db.now sequence.now (addition_of write.now) (state S.Store tx.old.conn.now).now)
-        → OnOk result (IsFollowed db.now postponed.new.keys due.row (write_in (state S.Store tx.old.conn.now).now.trees due.row (addition_of write.now)) (state S.Store tx.old.conn.now).now (state S.Store tx.new.conn.now).now
+        → OnOk result (IsFollowed db.now postponed.new.keys due.row
+        (write_in (state S.Store tx.old.conn.now).now.trees due.row (addition_of write.now)) (state S.Store tx.old.conn.now).now
+        (state S.Store tx.new.conn.now).now
         × ((state S.Store tx.new.conn.now).now.trees decls_tree ≡ (state S.Store tx.old.conn.now).now.trees decls_tree)) }
     ensures after { HasCleanDisk (state S.Store tx.new.conn.now) → IsStore (state S.Store tx.old.conn.now).now
         → AreStored histories.old (history_in ((state S.Store tx.old.conn.now).now.trees revs_tree) db.now)
         → OnOk result (IsWithin histories.old (addition_of write.now).id
-        (with_addition (history_in ((state S.Store tx.old.conn.now).now.trees revs_tree) db.now (addition_of write.now).id) (addition_of write.now)) histories.new) }
+        (with_addition (history_in ((state S.Store tx.old.conn.now).now.trees revs_tree) db.now (addition_of write.now).id) (addition_of write.now))
+        histories.new) }
     ensures lawful { OnOk result (IsLawfulAddition (addition_of write.now)) }
     ensures inside { HasCleanDisk (state S.Store tx.new.conn.now) → IsStore (state S.Store tx.old.conn.now).now
         → AreStored histories.old (history_in ((state S.Store tx.old.conn.now).now.trees revs_tree) db.now)
@@ -125,7 +134,8 @@ pub(crate) fn write_design<S: Alter>(
         → OnOk result (IsTrue (state S.Store tx.new.conn.now).is_open × ((state S.Store tx.new.conn.now).in_transaction ≡ true)) }
     ensures served { IsServed S.Store tx.old.conn.now tx.new.conn.now result }
     ensures err { (ids : List (List ℕ)) → IfErr result (IsUnwritten (IsHeldOpen histories.old (state S.Store tx.old.conn.now)
-        × IsSoundBut S.Store db.now ids (λ db'. AreStored histories.old (history_in (db'.trees revs_tree) db.now) × HasBest (history_with db'.trees db.now (addition_of write.now))
+        × IsSoundBut S.Store db.now ids
+        (λ db'. AreStored histories.old (history_in (db'.trees revs_tree) db.now) × HasBest (history_with db'.trees db.now (addition_of write.now))
         × MayBeWritten db.now sequence.now (addition_of write.now) db') tx.old.conn.now tx.new.conn.now)) }
     ensures kept { HasCleanDisk (state S.Store tx.new.conn.now) → IsStore (state S.Store tx.old.conn.now).now
         → AreStored histories.old (history_in ((state S.Store tx.old.conn.now).now.trees revs_tree) db.now)
@@ -154,12 +164,14 @@ fn write_queried<S: Alter>(
         → AreAllIndexes (map declared indexes.now) db.now (state S.Store tx.old.conn.now).now.trees → is_design_id (addition_of write.now).id ≡ false
         → AreStored histories.old (history_in ((state S.Store tx.old.conn.now).now.trees revs_tree) db.now)
         → (due : MayBeWritten db.now sequence.now (addition_of write.now) (state S.Store tx.old.conn.now).now)
-        → OnOk result (IsFollowed db.now ids due.row (write_in (state S.Store tx.old.conn.now).now.trees due.row (addition_of write.now)) (state S.Store tx.old.conn.now).now (state S.Store tx.new.conn.now).now
+        → OnOk result (IsFollowed db.now ids due.row (write_in (state S.Store tx.old.conn.now).now.trees due.row (addition_of write.now))
+        (state S.Store tx.old.conn.now).now (state S.Store tx.new.conn.now).now
         × AreAllIndexes (map declared indexes.now) db.now (state S.Store tx.new.conn.now).now.trees) }
     ensures after { HasCleanDisk (state S.Store tx.new.conn.now) → IsStore (state S.Store tx.old.conn.now).now
         → AreStored histories.old (history_in ((state S.Store tx.old.conn.now).now.trees revs_tree) db.now)
         → OnOk result (IsWithin histories.old (addition_of write.now).id
-        (with_addition (history_in ((state S.Store tx.old.conn.now).now.trees revs_tree) db.now (addition_of write.now).id) (addition_of write.now)) histories.new) }
+        (with_addition (history_in ((state S.Store tx.old.conn.now).now.trees revs_tree) db.now (addition_of write.now).id) (addition_of write.now))
+        histories.new) }
     ensures lawful { OnOk result (IsLawfulAddition (addition_of write.now)) }
     ensures inside { HasCleanDisk (state S.Store tx.new.conn.now) → IsStore (state S.Store tx.old.conn.now).now
         → AreStored histories.old (history_in ((state S.Store tx.old.conn.now).now.trees revs_tree) db.now)
@@ -167,7 +179,8 @@ fn write_queried<S: Alter>(
         → OnOk result (IsTrue (state S.Store tx.new.conn.now).is_open × ((state S.Store tx.new.conn.now).in_transaction ≡ true)) }
     ensures served { IsServed S.Store tx.old.conn.now tx.new.conn.now result }
     ensures err { (ids : List (List ℕ)) → IfErr result (IsUnwritten (IsHeldOpen histories.old (state S.Store tx.old.conn.now)
-        × IsSoundBut S.Store db.now ids (λ db'. AreStored histories.old (history_in (db'.trees revs_tree) db.now) × HasBest (history_with db'.trees db.now (addition_of write.now))
+        × IsSoundBut S.Store db.now ids
+        (λ db'. AreStored histories.old (history_in (db'.trees revs_tree) db.now) × HasBest (history_with db'.trees db.now (addition_of write.now))
         × MayBeWritten db.now sequence.now (addition_of write.now) db') tx.old.conn.now tx.new.conn.now)) }
     ensures kept { HasCleanDisk (state S.Store tx.new.conn.now) → IsStore (state S.Store tx.old.conn.now).now
         → AreStored histories.old (history_in ((state S.Store tx.old.conn.now).now.trees revs_tree) db.now)
@@ -193,7 +206,8 @@ pub(crate) fn list_unknown<S: Alter>(
         → AreKnownIndexes known db.now (state S.Store tx.old.conn.now).now.trees
         → IfOk result (λ all. AreAllIndexes (map declared all.items) db.now (state S.Store tx.old.conn.now).now.trees) }
     ensures err { IfErr result (IsUnwritten (IsSoundIndexed S.Store (λ _. ⊤) tx.old.conn.now tx.new.conn.now)) }
-    ensures stays { HasCleanDisk (state S.Store tx.new.conn.now) → tx.old.conn.now.schema ≡ schema → OnOk result (IsLeft (state S.Store tx.old.conn.now) (state S.Store tx.new.conn.now)) }
+    ensures stays { HasCleanDisk (state S.Store tx.new.conn.now) → tx.old.conn.now.schema ≡ schema
+        → OnOk result (IsLeft (state S.Store tx.old.conn.now) (state S.Store tx.new.conn.now)) }
     ensures looks { LooksInside S.Store tx.old.conn.now tx.new.conn.now }
     ensures asks { AsksInside S.Store tx.old.conn.now tx.new.conn.now }
 {
@@ -220,12 +234,15 @@ pub(crate) fn write_indexed<S: Alter>(
         → AreAllIndexes (map declared indexes.now) db.now (state S.Store tx.old.conn.now).now.trees
         → AreStored histories.old (history_in ((state S.Store tx.old.conn.now).now.trees revs_tree) db.now)
         → (due : MayBeWritten db.now sequence.now (addition_of write.now) (state S.Store tx.old.conn.now).now)
-        → OnOk result (IsFollowed db.now postponed.new.keys due.row (write_in (state S.Store tx.old.conn.now).now.trees due.row (addition_of write.now)) (state S.Store tx.old.conn.now).now (state S.Store tx.new.conn.now).now
+        → OnOk result (IsFollowed db.now postponed.new.keys due.row
+        (write_in (state S.Store tx.old.conn.now).now.trees due.row (addition_of write.now)) (state S.Store tx.old.conn.now).now
+        (state S.Store tx.new.conn.now).now
         × AreAllIndexes (map declared indexes.now) db.now (state S.Store tx.new.conn.now).now.trees) }
     ensures after { HasCleanDisk (state S.Store tx.new.conn.now) → IsStore (state S.Store tx.old.conn.now).now
         → AreStored histories.old (history_in ((state S.Store tx.old.conn.now).now.trees revs_tree) db.now)
         → OnOk result (IsWithin histories.old (addition_of write.now).id
-        (with_addition (history_in ((state S.Store tx.old.conn.now).now.trees revs_tree) db.now (addition_of write.now).id) (addition_of write.now)) histories.new) }
+        (with_addition (history_in ((state S.Store tx.old.conn.now).now.trees revs_tree) db.now (addition_of write.now).id) (addition_of write.now))
+        histories.new) }
     ensures lawful { OnOk result (IsLawfulAddition (addition_of write.now)) }
     ensures inside { HasCleanDisk (state S.Store tx.new.conn.now) → IsStore (state S.Store tx.old.conn.now).now
         → AreStored histories.old (history_in ((state S.Store tx.old.conn.now).now.trees revs_tree) db.now)
@@ -233,7 +250,8 @@ pub(crate) fn write_indexed<S: Alter>(
         → OnOk result (IsTrue (state S.Store tx.new.conn.now).is_open × ((state S.Store tx.new.conn.now).in_transaction ≡ true)) }
     ensures served { IsServed S.Store tx.old.conn.now tx.new.conn.now result }
     ensures err { (ids : List (List ℕ)) → IfErr result (IsUnwritten (IsHeldOpen histories.old (state S.Store tx.old.conn.now)
-        × IsSoundBut S.Store db.now ids (λ db'. AreStored histories.old (history_in (db'.trees revs_tree) db.now) × HasBest (history_with db'.trees db.now (addition_of write.now))
+        × IsSoundBut S.Store db.now ids
+        (λ db'. AreStored histories.old (history_in (db'.trees revs_tree) db.now) × HasBest (history_with db'.trees db.now (addition_of write.now))
         × MayBeWritten db.now sequence.now (addition_of write.now) db') tx.old.conn.now tx.new.conn.now)) }
     ensures kept { HasCleanDisk (state S.Store tx.new.conn.now) → IsStore (state S.Store tx.old.conn.now).now
         → AreStored histories.old (history_in ((state S.Store tx.old.conn.now).now.trees revs_tree) db.now)

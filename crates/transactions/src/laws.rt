@@ -14,12 +14,15 @@ ghost use Rattle.transactions.specs.Sequences.{Clears, Replaces};
 /// document is replaced.
 pub fn index_rows_stay()
     ensures databases { (rows : List Row) (a b : Database) → a.schema ≡ schema → Changes dbs_tree rows a b → IsIndexed a.trees → IsIndexed b.trees }
-    ensures locals { (db : ℤ) (id : List ℕ) (number : ℕ) (body : List ℕ) (a b : Database) → a.schema ≡ schema → Replaces db id number body a b → IsIndexed a.trees → IsIndexed b.trees }
+    ensures locals { (db : ℤ) (id : List ℕ) (number : ℕ) (body : List ℕ) (a b : Database) → a.schema ≡ schema → Replaces db id number body a b
+        → IsIndexed a.trees → IsIndexed b.trees }
 {}
 
 /// After the rows of a database are taken out its index rows are those of before; and when its indexes
 /// are taken out too, all are those of what is left.
 pub fn index_rows_of_a_removal()
-    ensures cleared { (db : ℤ) (a b : Database) → a.schema ≡ schema → Clears db a b → IsIndexed a.trees → AreIndexed (declares_in a.trees) (sees_in a.trees) b.trees }
-    ensures dropped { (db : ℤ) (a b c : Database) → a.schema ≡ schema → Clears db a b → IsDropped (declares_in a.trees) (sees_in a.trees) db b c → IsIndexed c.trees }
+    ensures cleared { (db : ℤ) (a b : Database) → a.schema ≡ schema → Clears db a b → IsIndexed a.trees
+        → AreIndexed (declares_in a.trees) (sees_in a.trees) b.trees }
+    ensures dropped { (db : ℤ) (a b c : Database) → a.schema ≡ schema → Clears db a b → IsDropped (declares_in a.trees) (sees_in a.trees) db b c
+        → IsIndexed c.trees }
 {}

@@ -13,7 +13,8 @@ ghost use Rattle.index.specs.Steps.{AreFit, Steps};
 ghost use Rattle.transactions.specs.Commits.{IsSound, IsUnwritten};
 ghost use Rattle.std.specs.Prelude.{⊤};
 ghost use Rattle.transactions.specs.Indexing.{AreAllIndexes, IsIndexedStoreBut, IsNoted, IsWithId};
-ghost use Rattle.transactions.specs.Postponing.{AreClearedAsStored, AreDeclaredAsStored, AreToDeclare, IsCaughtUp, IsClearedAsStored, IsDeclaredAsStored, IsToDeclareAsStored};
+ghost use Rattle.transactions.specs.inner.Postponing.{AreClearedAsStored, AreDeclaredAsStored, AreToDeclare, IsCaughtUp};
+ghost use Rattle.transactions.specs.inner.Postponing.{IsClearedAsStored, IsDeclaredAsStored, IsToDeclareAsStored};
 
 use crate::commit_fault::CommitFault;
 use crate::indexing::list_unknown;
@@ -71,7 +72,8 @@ fn clear_stored<S: Alter>(
     ensures same_reference { tx.new.conn.ghost_name ≡ tx.old.conn.ghost_name }
     ensures clears { (declares : Declarations) (sees : Documents)
         → Steps S.Store (IsRebuildable declares sees db.now) (IsClearedAsStored declares sees db.now id.now) tx.old.conn.now tx.new.conn.now result }
-    ensures err { (declares : Declarations) (sees : Documents) → IfErr result (IsUnwritten (AreFit S.Store (IsRebuildable declares sees db.now) tx.old.conn.now tx.new.conn.now)) }
+    ensures err { (declares : Declarations) (sees : Documents)
+        → IfErr result (IsUnwritten (AreFit S.Store (IsRebuildable declares sees db.now) tx.old.conn.now tx.new.conn.now)) }
 {
     let history = find_winning(alloc, tx, db, id)?;
     let body = find_winning_body(&history);
@@ -93,7 +95,8 @@ fn declare_stored<S: Alter>(
         → Steps S.Store (IsToDeclareAsStored declares sees db.now id.now (map declared fresh.old.items))
         (IsDeclaredAsStored declares sees db.now id.now (map declared fresh.new.items)) tx.old.conn.now tx.new.conn.now result }
     ensures err { (declares : Declarations) (sees : Documents)
-        → IfErr result (IsUnwritten (AreFit S.Store (IsToDeclareAsStored declares sees db.now id.now (map declared fresh.old.items)) tx.old.conn.now tx.new.conn.now)) }
+        → IfErr result (IsUnwritten
+        (AreFit S.Store (IsToDeclareAsStored declares sees db.now id.now (map declared fresh.old.items)) tx.old.conn.now tx.new.conn.now)) }
 {
     let history = find_winning(alloc, tx, db, id)?;
     let body = find_winning_body(&history);
@@ -110,7 +113,8 @@ fn clear_all_stored<S: Alter>(
 ) -> Result<(), CommitFault>
     ensures same_reference { tx.new.conn.ghost_name ≡ tx.old.conn.ghost_name }
     ensures clears { (declares : Declarations) (sees : Documents)
-        → Steps S.Store (IsRebuildable declares sees db.now) (AreClearedAsStored declares sees db.now designs.now.keys []) tx.old.conn.now tx.new.conn.now result }
+        → Steps S.Store (IsRebuildable declares sees db.now)
+        (AreClearedAsStored declares sees db.now designs.now.keys []) tx.old.conn.now tx.new.conn.now result }
     ensures err { (declares : Declarations) (sees : Documents)
         → IfErr result (IsUnwritten (AreFit S.Store (IsRebuildable declares sees db.now) tx.old.conn.now tx.new.conn.now)) }
 {
@@ -134,7 +138,8 @@ fn declare_all_stored<S: Alter>(
         → Steps S.Store (AreToDeclare sees db.now designs.now.keys (map declared fresh.old.items))
         (AreDeclaredAsStored sees db.now designs.now.keys [] (map declared fresh.new.items)) tx.old.conn.now tx.new.conn.now result }
     ensures err { (sees : Documents)
-        → IfErr result (IsUnwritten (AreFit S.Store (AreToDeclare sees db.now designs.now.keys (map declared fresh.old.items)) tx.old.conn.now tx.new.conn.now)) }
+        → IfErr result (IsUnwritten
+        (AreFit S.Store (AreToDeclare sees db.now designs.now.keys (map declared fresh.old.items)) tx.old.conn.now tx.new.conn.now)) }
 {
     for id in designs {
         declare_stored(alloc, tx, db, id, fresh)?;
@@ -173,9 +178,12 @@ pub(crate) fn catch_up<S: Alter>(
     ensures same_reference { tx.new.conn.ghost_name ≡ tx.old.conn.ghost_name }
     ensures ok { HasCleanDisk (state S.Store tx.new.conn.now) → IsIndexedStoreBut db.now postponed.now.keys (state S.Store tx.old.conn.now).now
         → AreAllIndexes (map declared indexes.items) db.now (state S.Store tx.old.conn.now).now.trees
-        → IfOk result (λ all. IsCaughtUp (state S.Store tx.old.conn.now).now (state S.Store tx.new.conn.now).now × AreAllIndexes (map declared all.items) db.now (state S.Store tx.new.conn.now).now.trees) }
-    ensures err { IfErr result (IsUnwritten (postponed.now.keys ≢ [] → AreFit S.Store (IsIndexedStoreBut db.now postponed.now.keys) tx.old.conn.now tx.new.conn.now)) }
-    ensures kept { HasCleanDisk (state S.Store tx.new.conn.now) → tx.old.conn.now.schema ≡ schema → KeepsCommit (state S.Store tx.old.conn.now) (state S.Store tx.new.conn.now) }
+        → IfOk result (λ all. IsCaughtUp (state S.Store tx.old.conn.now).now (state S.Store tx.new.conn.now).now
+        × AreAllIndexes (map declared all.items) db.now (state S.Store tx.new.conn.now).now.trees) }
+    ensures err { IfErr result
+        (IsUnwritten (postponed.now.keys ≢ [] → AreFit S.Store (IsIndexedStoreBut db.now postponed.now.keys) tx.old.conn.now tx.new.conn.now)) }
+    ensures kept { HasCleanDisk (state S.Store tx.new.conn.now) → tx.old.conn.now.schema ≡ schema
+        → KeepsCommit (state S.Store tx.old.conn.now) (state S.Store tx.new.conn.now) }
     ensures inside { HasCleanDisk (state S.Store tx.new.conn.now) → tx.old.conn.now.schema ≡ schema
         → (postponed.now.keys ≢ [] → IsTrue (state S.Store tx.old.conn.now).is_open) → (state S.Store tx.old.conn.now).in_transaction ≡ true
         → OnOk result ((state S.Store tx.new.conn.now).in_transaction ≡ true) }

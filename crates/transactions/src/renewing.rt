@@ -97,8 +97,10 @@ fn redeclare_row<S: Alter>(
     row: &Row,
 ) -> Result<(), CommitFault>
     ensures same_reference { tx.new.conn.ghost_name ≡ tx.old.conn.ghost_name }
-    ensures steps { (d : order.Row) (left : List order.Row) → Steps S.Store (IsToRedeclare row.now d left) (AreRedeclared left) tx.old.conn.now tx.new.conn.now result }
-    ensures err { (d : order.Row) (left : List order.Row) → IfErr result (IsUnwritten (AreFit S.Store (IsToRedeclare row.now d left) tx.old.conn.now tx.new.conn.now)) }
+    ensures steps { (d : order.Row) (left : List order.Row)
+        → Steps S.Store (IsToRedeclare row.now d left) (AreRedeclared left) tx.old.conn.now tx.new.conn.now result }
+    ensures err { (d : order.Row) (left : List order.Row)
+        → IfErr result (IsUnwritten (AreFit S.Store (IsToRedeclare row.now d left) tx.old.conn.now tx.new.conn.now)) }
 {
     let named = read_named(alloc, row)?;
     if named.id.is_design() {

@@ -102,7 +102,9 @@ pub(crate) fn check_winner<S: Alter>(
     winner: &MarkedRev,
 ) -> Result<(), CommitFault>
     ensures same_reference { tx.new.conn.ghost_name ≡ tx.old.conn.ghost_name }
-    ensures err { IfErr result (IsUnwritten (IsSound S.Store (λ trees. marked_winner (history_in (trees revs_tree) db.now id.now) ≡ Some winner.now) tx.old.conn.now tx.new.conn.now)) }
+    ensures err { IfErr result
+        (IsUnwritten (IsSound S.Store
+        (λ trees. marked_winner (history_in (trees revs_tree) db.now id.now) ≡ Some winner.now) tx.old.conn.now tx.new.conn.now)) }
     ensures stands { Stands S.Store tx.old.conn.now tx.new.conn.now result }
     ensures served { IsServed S.Store tx.old.conn.now tx.new.conn.now result }
     ensures looks { LooksInside S.Store tx.old.conn.now tx.new.conn.now }

@@ -8,7 +8,7 @@ ghost use Rattle.store.specs.Writing.{addition_of};
 ghost use Rattle.tables.specs.Listings.{IsListedDocument};
 ghost use Rattle.tree.specs.History.{HistoryContent, winner as tree_winner, with_new};
 ghost use Rattle.tree.specs.Outline.{marked_winner};
-ghost use Rattle.transactions.specs.Following.{AreParentsKnown, HasPlaceFor, IsFollower, Serves};
+ghost use Rattle.transactions.specs.inner.Following.{AreParentsKnown, HasPlaceFor, IsFollower, Serves};
 ghost use Rattle.transactions.specs.Reading.{HasBest, IsRead, winner_shown};
 
 use couch_json::Got;
@@ -82,7 +82,8 @@ pub(crate) fn history_for(
     winner: Option<MarkedRev>,
     write: &Write,
 ) -> Got<Option<History>>
-    ensures serves { (h : HistoryContent) → winner ≡ marked_winner h → (winner ≡ None → h ≡ map.empty) → AreParentsKnown h → HasPlaceFor h (addition_of write.now)
+    ensures serves { (h : HistoryContent) → winner ≡ marked_winner h → (winner ≡ None → h ≡ map.empty) → AreParentsKnown h
+        → HasPlaceFor h (addition_of write.now)
         → IfOk result (λ found. IfSome found (Serves (addition_of write.now) h)) }
     ensures has_best { (h : HistoryContent) → (winner ≡ None → h ≡ map.empty) → HasBest (with_addition h (addition_of write.now))
         → IfOk result (λ found. IfSome found (λ history. HasBest (with_addition history (addition_of write.now)))) }

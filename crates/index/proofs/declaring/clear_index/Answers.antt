@@ -37,9 +37,6 @@ returns-then-is_declared_so-clause-clears g c declares sees =
 
 pub returns-in_err-take_out-clause-clears : goal.returns-in_err-take_out-clause-clears
 returns-in_err-take_out-clause-clears g c declares sees =
-    let a = c.args.tx.now.conn.now in
-    let b = c.find_stored.new.tx.conn.now in
-    let m = c.take_out.new.tx.conn.now in
     let db = c.args.db.now in
     let design = c.args.design.now in
     let name = c.args.name.now in
@@ -48,12 +45,12 @@ returns-in_err-take_out-clause-clears g c declares sees =
     let e = c.in_ok-found.ensures in
     let why = c.in_err-take_out.field-0.0 in
     let is : c.from_residual-in_err-take_out.result ≡ Err (fault.Sqlite why) = search rules in
-    steps_stop g.S.Store {X = Unit {0}} (IsRebuildable declares sees db) (λ p q. ⊤) (IsCleared declares sees db design name fields) a m why (fault.Sqlite why) c.from_residual-in_err-take_out.result is
-    (steps_then g.S.Store {E = IndexFault} (IsRebuildable declares sees db) (IsFoundIn declares sees db design name found) (λ p q. q ≡ p) (IsRebuilt (with_index declares db design name None) sees) (λ p q. ⊤) a b m c.in_ok-found.found (Err why)
-    (steps_read g.S.Store (IsRebuildable declares sees db) a b (Ok c.in_ok-found.found) e.stands e.looks e.asks (λ fit. fit.store.schema_is))
+    steps_stop g.S.Store {X = Unit {0}} (IsRebuildable declares sees db) (λ p q. ⊤) (IsCleared declares sees db design name fields) c.args.tx.now.conn.now c.take_out.new.tx.conn.now why (fault.Sqlite why) c.from_residual-in_err-take_out.result is
+    (steps_then g.S.Store {E = IndexFault} (IsRebuildable declares sees db) (IsFoundIn declares sees db design name found) (λ p q. q ≡ p) (IsRebuilt (with_index declares db design name None) sees) (λ p q. ⊤) c.args.tx.now.conn.now c.find_stored.new.tx.conn.now c.take_out.new.tx.conn.now c.in_ok-found.found (Err why)
+    (steps_read g.S.Store (IsRebuildable declares sees db) c.args.tx.now.conn.now c.find_stored.new.tx.conn.now (Ok c.in_ok-found.found) e.stands e.looks e.asks (λ fit. fit.store.schema_is))
     (c.in_err-take_out.ensures.takes declares sees)
     (λ was fit same.
-    let rows : HasIndexRows (state g.S.Store a).now = record { schema_is = fit.store.schema_is; decls = fit.indexed.decls; entries = fit.indexed.entries.laid } in
+    let rows : HasIndexRows (state g.S.Store c.args.tx.now.conn.now).now = record { schema_is = fit.store.schema_is; decls = fit.indexed.decls; entries = fit.indexed.entries.laid } in
     subst (IsFoundIn declares sees db design name found) (sym same) (record { fit = fit; found_is = e.finds was rows }))
     (λ was fit same got. tt))
 

@@ -82,15 +82,14 @@ returns-in-None-clause-err g c declares sees f left =
     let design = c.args.design.now in
     let name = c.args.name.now in
     let before = map declared c.args.fresh.now.items in
-    let e = c.in_ok-found.ensures in
     let F = ArePartly declares sees db design f (name ∷ left) before in
     let there : c.in_ok-found.found ≡ None = search rules in
     if_err c.add_fresh.result
     (λ why h. refused_then g.S.Store {E = IndexFault} F (IsMissing db design name) (λ p q. q ≡ p) a b m c.in_ok-found.found why
-    (steps_read g.S.Store F a b (Ok c.in_ok-found.found) e.stands e.looks e.asks (λ fit. fit.store.schema_is)) (c.add_fresh.ensures.adds declares sees (λ n. Some c.args.fields.now) left refl).asks
+    (steps_read g.S.Store F a b (Ok c.in_ok-found.found) c.in_ok-found.ensures.stands c.in_ok-found.ensures.looks c.in_ok-found.ensures.asks (λ fit. fit.store.schema_is)) (c.add_fresh.ensures.adds declares sees (λ n. Some c.args.fields.now) left refl).asks
     (λ was fit same.
     let rows = rows_fit declares sees db design name f left before old fit in
     let none : declared_by (old.trees decls_tree) db design name ≡ None =
-    sym (found_by declares db design name (option_map declared c.in_ok-found.found) (old.trees decls_tree) (e.finds was rows)) ∙ ap (λ o. option_map (λ (x : Declared). x.fields) (option_map declared o)) there in
+    sym (found_by declares db design name (option_map declared c.in_ok-found.found) (old.trees decls_tree) (c.in_ok-found.ensures.finds was rows)) ∙ ap (λ o. option_map (λ (x : Declared). x.fields) (option_map declared o)) there in
     subst (IsMissing db design name) (sym same) (record { rows = rows; none = none })) h)
     c.add_fresh.ensures.err

@@ -16,29 +16,27 @@ loop-declaration-init g c =
 
 pub loop-declaration-preserved : goal.loop-declaration-preserved
 loop-declaration-preserved g c =
-    let inv = c.loop-declaration.invariant in
     let old = state g.S.Store c.args.tx.now.conn.now in
     let mid = state g.S.Store c.loop-declaration.tx.conn.now in
     let new = state g.S.Store c.clear_entries.new.tx.conn.now in
     let e = c.in_ok-clear_entries.ensures in
     let ds = c.args.declarations.now in
     let i = c.loop-declaration.declaration-index in
-    let d = c.declaration-item.result in
     let number : Declared → ℤ = λ x. x.number in
     let before : List ℤ = map number (map declared (take i ds)) in
-    let cut : map number (map declared (take (i + 1) ds)) ≡ before ++ (declared d).number ∷ [] =
-    ap (λ l. map number (map declared l)) (take_more ds i d c.loop-declaration-test.true ∙ (λ j. take i ds ++ sym c.declaration-item.is j ∷ []))
-    ∙ ap (map number) (map-append declared (take i ds) (d ∷ [])) ∙ map-append number (map declared (take i ds)) (declared d ∷ []) in
+    let cut : map number (map declared (take (i + 1) ds)) ≡ before ++ (declared c.declaration-item.result).number ∷ [] =
+    ap (λ l. map number (map declared l)) (take_more ds i c.declaration-item.result c.loop-declaration-test.true ∙ (λ j. take i ds ++ sym c.declaration-item.is j ∷ []))
+    ∙ ap (map number) (map-append declared (take i ds) (c.declaration-item.result ∷ [])) ∙ map-append number (map declared (take i ds)) (declared c.declaration-item.result ∷ []) in
     record {
-      same = e.same_reference ∙ inv.same;
-      proceeds = proceeds_then old mid new inv.proceeds e.alters.proceeds;
+      same = e.same_reference ∙ c.loop-declaration.invariant.same;
+      proceeds = proceeds_then old mid new c.loop-declaration.invariant.proceeds e.alters.proceeds;
       goes_on = λ clean up inside. let it = e.alters.inside clean in (it.is_open, it.inside);
       so_far = λ clean has due h.
           let was : HasCleanDisk mid = omega (arith, e.alters.proceeds.survives.clean, clean) in
-          let so = inv.so_far was has due h in
+          let so = c.loop-declaration.invariant.so_far was has due h in
           let change = e.alters.ok clean (so.only.schema ∙ has) so.entries.laid in
           subst (λ ns. HasEntries (without_numbers due ns) old.now new.now) (sym cut)
-          (has_after _ old.now mid.now new.now so.only (has_changed (without_numbers due (before ++ (declared d).number ∷ [])) _ mid.now new.now (clears_one due before (declared d).number (mid.now.trees entries_tree) so.entries) change));
+          (has_after _ old.now mid.now new.now so.only (has_changed (without_numbers due (before ++ (declared c.declaration-item.result).number ∷ [])) _ mid.now new.now (clears_one due before (declared c.declaration-item.result).number (mid.now.trees entries_tree) so.entries) change));
     }
 
 pub returns-clause-clears : goal.returns-clause-clears

@@ -1,12 +1,13 @@
 use Rattle.index.proofs.Common.{Err, IndexFault, List, Ok, ap, declared, entries_tree, map, refl, rules, state, subst, sym, ⊤, ◌||◌, ◌∙◌, ◌≡◌, ℕ}
+use Rattle.index.proofs.GatherSteps.{next_gathered, part_failed, part_refused, range_ended}
 use Rattle.index.proofs.Going.{only_itself}
-use Rattle.index.proofs.Refusals.{refused_as, refused_then}
+use Rattle.index.proofs.Refusals.{refused_as}
 use Rattle.index.proofs.ShownDeclarations.{refused_of}
-use Rattle.index.proofs.StepLemmas.{steps_none, steps_so, steps_stop}
-use Rattle.index.proofs.ToGather.{bound_read, next_inside, next_part, part_gathered, range_done}
+use Rattle.index.proofs.StepLemmas.{steps_none, steps_stop}
+use Rattle.index.proofs.ToGather.{bound_read, next_inside}
 use Rattle.index.specs.Filling.{numbers_of}
-use Rattle.index.specs.Gathering.{HasEntriesBeside, IsToGatherRange, entry_of, without_documents}
-use Rattle.index.specs.Seen.{IsCut}
+use Rattle.index.specs.inner.Gathering.{HasEntriesBeside, IsToGatherRange, entry_of, without_documents}
+use Rattle.index.specs.inner.Seen.{IsCut}
 use Rattle.index.specs.Steps.{AreFit, Steps}
 use Rattle.tables.specs.Listings.{is_between}
 use Rattle.index.proofs.filling.gather_range.Goals as goal
@@ -32,31 +33,16 @@ loop-part-init g c =
 pub loop-part-preserved : goal.loop-part-preserved
 loop-part-preserved g c =
     let inv = c.loop-part.invariant in
-    let first = c.args.tx.now.conn.now in
-    let second = c.loop-part.tx.conn.now in
-    let third = c.find_bound.new.tx.conn.now in
-    let xs = map declared c.args.declarations.now in
-    let db = c.args.db.now in
-    let low = c.args.low.now in
-    let high = c.args.high.now in
-    let before = map entry_of c.args.gathered.now.entries.items in
-    let now = map entry_of c.loop-part.gathered.entries.items in
-    let from : List ℕ = c.loop-part.from.items in
-    let fourth = c.gather_part.new.tx.conn.now in
-    let after = map entry_of c.gather_part.new.gathered.entries.items in
-    let bound : List ℕ = c.in_ok-bound.bound.items in
     let found = c.in_ok-bound.ensures in
-    let cut : IsCut from high bound = subst (λ f. IsCut f high bound) c.deref.ensures.value found.within in
     record {
       same = c.in_ok-gather_part.ensures.same_reference ∙ found.same_reference ∙ inv.same;
-      inside = next_inside low high from bound inv.inside cut;
+      inside = next_inside c.args.low.now c.args.high.now c.loop-part.from.items c.in_ok-bound.bound.items inv.inside (subst (λ f. IsCut f c.args.high.now c.in_ok-bound.bound.items) c.deref.ensures.value found.within);
       so_far = λ left due.
-          let behind = λ (id : List ℕ). is_between bound high id || left id in
-          part_gathered g.S.Store db xs low high from bound left before now due first second third {E = IndexFault} after fourth c.in_ok-bound.bound (Ok tt) inv.inside cut
-          (bound_read g.S.Store db xs low high from bound left before now due first second third {E = IndexFault} {D = IndexFault} tt (Ok c.in_ok-bound.bound) (inv.so_far left due) found.stands found.looks found.asks)
-          (subst (λ f. Steps g.S.Store (IsToGatherRange db xs f bound behind now due) (HasEntriesBeside (without_documents due (numbers_of xs) behind) after) third fourth (Ok tt)) c.deref-in-loop-part.ensures.value
-          (subst (λ h. Steps g.S.Store (IsToGatherRange db xs c.deref-in-loop-part.result.now h behind now due) (HasEntriesBeside (without_documents due (numbers_of xs) behind) after) third fourth (Ok tt)) c.deref-in-loop-part-2.ensures.value
-          (c.in_ok-gather_part.ensures.gathers behind due)));
+          next_gathered g.S.Store c.args.db.now (map declared c.args.declarations.now) c.args.low.now c.args.high.now c.loop-part.from.items c.in_ok-bound.bound.items left (map entry_of c.args.gathered.now.entries.items) (map entry_of c.loop-part.gathered.entries.items) (map entry_of c.gather_part.new.gathered.entries.items) due
+          c.args.tx.now.conn.now c.find_bound.new.tx.conn.now c.gather_part.new.tx.conn.now c.in_ok-bound.bound inv.inside (subst (λ f. IsCut f c.args.high.now c.in_ok-bound.bound.items) c.deref.ensures.value found.within)
+          (bound_read g.S.Store c.args.db.now (map declared c.args.declarations.now) c.args.low.now c.args.high.now c.loop-part.from.items c.in_ok-bound.bound.items left (map entry_of c.args.gathered.now.entries.items) (map entry_of c.loop-part.gathered.entries.items) due c.args.tx.now.conn.now c.loop-part.tx.conn.now c.find_bound.new.tx.conn.now {E = IndexFault} {D = IndexFault} tt (Ok c.in_ok-bound.bound) (inv.so_far left due) found.stands found.looks found.asks)
+          c.deref-in-loop-part.result.now c.deref-in-loop-part.ensures.value c.deref-in-loop-part-2.result.now c.deref-in-loop-part-2.ensures.value
+          (Ok tt) (c.in_ok-gather_part.ensures.gathers (λ id. is_between c.in_ok-bound.bound.items c.args.high.now id || left id) due);
     }
 
 pub returns-in_err-bound-clause-gathers : goal.returns-in_err-bound-clause-gathers
@@ -89,101 +75,33 @@ returns-in_err-bound-clause-err g c left due =
 
 pub returns-in_err-gather_part-clause-gathers : goal.returns-in_err-gather_part-clause-gathers
 returns-in_err-gather_part-clause-gathers g c left due =
-    let inv = c.loop-part.invariant in
-    let first = c.args.tx.now.conn.now in
-    let second = c.loop-part.tx.conn.now in
-    let third = c.find_bound.new.tx.conn.now in
-    let xs = map declared c.args.declarations.now in
-    let db = c.args.db.now in
-    let low = c.args.low.now in
-    let high = c.args.high.now in
-    let before = map entry_of c.args.gathered.now.entries.items in
-    let now = map entry_of c.loop-part.gathered.entries.items in
-    let from : List ℕ = c.loop-part.from.items in
-    let fourth = c.gather_part.new.tx.conn.now in
-    let after = map entry_of c.gather_part.new.gathered.entries.items in
-    let bound : List ℕ = c.in_ok-bound.bound.items in
     let found = c.in_ok-bound.ensures in
-    let cut : IsCut from high bound = subst (λ f. IsCut f high bound) c.deref.ensures.value found.within in
-    let behind = λ (id : List ℕ). is_between bound high id || left id in
-    let why = c.in_err-gather_part.field-0.0 in
-    let is : c.from_residual-in_err-gather_part.result ≡ Err why = search rules in
-    steps_stop g.S.Store {X = Unit {0}} (IsToGatherRange db xs low high left before due) (HasEntriesBeside (without_documents due (numbers_of xs) behind) after) (HasEntriesBeside (without_documents due (numbers_of xs) left) after) first fourth why why c.from_residual-in_err-gather_part.result is
-    (part_gathered g.S.Store db xs low high from bound left before now due first second third {E = IndexFault} after fourth c.in_ok-bound.bound (Err why) inv.inside cut
-    (bound_read g.S.Store db xs low high from bound left before now due first second third {E = IndexFault} {D = IndexFault} tt (Ok c.in_ok-bound.bound) (inv.so_far left due) found.stands found.looks found.asks)
-    (subst (λ f. Steps {X = Unit {0}} g.S.Store (IsToGatherRange db xs f bound behind now due) (HasEntriesBeside (without_documents due (numbers_of xs) behind) after) third fourth (Err why)) c.deref-in-loop-part.ensures.value
-    (subst (λ h. Steps {X = Unit {0}} g.S.Store (IsToGatherRange db xs c.deref-in-loop-part.result.now h behind now due) (HasEntriesBeside (without_documents due (numbers_of xs) behind) after) third fourth (Err why)) c.deref-in-loop-part-2.ensures.value
-    (c.in_err-gather_part.ensures.gathers behind due))))
+    part_failed g.S.Store c.args.db.now (map declared c.args.declarations.now) c.args.low.now c.args.high.now c.loop-part.from.items c.in_ok-bound.bound.items left (map entry_of c.args.gathered.now.entries.items) (map entry_of c.loop-part.gathered.entries.items) (map entry_of c.gather_part.new.gathered.entries.items) due
+    c.args.tx.now.conn.now c.find_bound.new.tx.conn.now c.gather_part.new.tx.conn.now c.in_ok-bound.bound c.loop-part.invariant.inside (subst (λ f. IsCut f c.args.high.now c.in_ok-bound.bound.items) c.deref.ensures.value found.within)
+    (bound_read g.S.Store c.args.db.now (map declared c.args.declarations.now) c.args.low.now c.args.high.now c.loop-part.from.items c.in_ok-bound.bound.items left (map entry_of c.args.gathered.now.entries.items) (map entry_of c.loop-part.gathered.entries.items) due c.args.tx.now.conn.now c.loop-part.tx.conn.now c.find_bound.new.tx.conn.now {E = IndexFault} {D = IndexFault} tt (Ok c.in_ok-bound.bound) (c.loop-part.invariant.so_far left due) found.stands found.looks found.asks)
+    c.deref-in-loop-part.result.now c.deref-in-loop-part.ensures.value c.deref-in-loop-part-2.result.now c.deref-in-loop-part-2.ensures.value
+    c.in_err-gather_part.field-0.0 c.from_residual-in_err-gather_part.result (search rules) (c.in_err-gather_part.ensures.gathers (λ id. is_between c.in_ok-bound.bound.items c.args.high.now id || left id) due)
 
 pub returns-in_err-gather_part-clause-err : goal.returns-in_err-gather_part-clause-err
 returns-in_err-gather_part-clause-err g c left due =
-    let inv = c.loop-part.invariant in
-    let first = c.args.tx.now.conn.now in
-    let second = c.loop-part.tx.conn.now in
-    let third = c.find_bound.new.tx.conn.now in
-    let xs = map declared c.args.declarations.now in
-    let db = c.args.db.now in
-    let low = c.args.low.now in
-    let high = c.args.high.now in
-    let before = map entry_of c.args.gathered.now.entries.items in
-    let now = map entry_of c.loop-part.gathered.entries.items in
-    let from : List ℕ = c.loop-part.from.items in
-    let fourth = c.gather_part.new.tx.conn.now in
-    let after = map entry_of c.gather_part.new.gathered.entries.items in
-    let bound : List ℕ = c.in_ok-bound.bound.items in
     let found = c.in_ok-bound.ensures in
-    let cut : IsCut from high bound = subst (λ f. IsCut f high bound) c.deref.ensures.value found.within in
-    let behind = λ (id : List ℕ). is_between bound high id || left id in
-    let F = IsToGatherRange db xs low high left before due in
-    let why = c.in_err-gather_part.field-0.0 in
-    let is : c.from_residual-in_err-gather_part.result ≡ Err why = search rules in
-    let f = c.in_err-gather_part.ensures in
-    refused_as (AreFit g.S.Store F first fourth) c.from_residual-in_err-gather_part.result why is
-    (refused_then g.S.Store F (IsToGatherRange db xs c.deref-in-loop-part.result.now c.deref-in-loop-part-2.result.now behind now due) (HasEntriesBeside (without_documents due (numbers_of xs) (λ id. is_between from high id || left id)) now) first third fourth c.in_ok-bound.bound why
-    (bound_read g.S.Store db xs low high from bound left before now due first second third {E = IndexFault} {D = IndexFault} tt (Ok c.in_ok-bound.bound) (inv.so_far left due) found.stands found.looks found.asks)
-    (f.gathers behind due).asks
-    (λ was fit made. subst (λ f. IsToGatherRange db xs f c.deref-in-loop-part-2.result.now behind now due (state g.S.Store third).now) (sym c.deref-in-loop-part.ensures.value)
-    (subst (λ h. IsToGatherRange db xs from h behind now due (state g.S.Store third).now) (sym c.deref-in-loop-part-2.ensures.value)
-    (next_part db xs low high from bound left before now due (state g.S.Store first).now (state g.S.Store third).now fit inv.inside cut made)))
-    (f.err behind due))
+    let rest = λ (id : List ℕ). is_between c.in_ok-bound.bound.items c.args.high.now id || left id in
+    part_refused g.S.Store c.args.db.now (map declared c.args.declarations.now) c.args.low.now c.args.high.now c.loop-part.from.items c.in_ok-bound.bound.items left (map entry_of c.args.gathered.now.entries.items) (map entry_of c.loop-part.gathered.entries.items) (map entry_of c.gather_part.new.gathered.entries.items) due
+    c.args.tx.now.conn.now c.find_bound.new.tx.conn.now c.gather_part.new.tx.conn.now c.in_ok-bound.bound c.loop-part.invariant.inside (subst (λ f. IsCut f c.args.high.now c.in_ok-bound.bound.items) c.deref.ensures.value found.within)
+    (bound_read g.S.Store c.args.db.now (map declared c.args.declarations.now) c.args.low.now c.args.high.now c.loop-part.from.items c.in_ok-bound.bound.items left (map entry_of c.args.gathered.now.entries.items) (map entry_of c.loop-part.gathered.entries.items) due c.args.tx.now.conn.now c.loop-part.tx.conn.now c.find_bound.new.tx.conn.now {E = IndexFault} {D = IndexFault} tt (Ok c.in_ok-bound.bound) (c.loop-part.invariant.so_far left due) found.stands found.looks found.asks)
+    c.deref-in-loop-part.result.now c.deref-in-loop-part.ensures.value c.deref-in-loop-part-2.result.now c.deref-in-loop-part-2.ensures.value
+    c.in_err-gather_part.field-0.0 c.from_residual-in_err-gather_part.result (search rules) (c.in_err-gather_part.ensures.gathers rest due).asks (c.in_err-gather_part.ensures.err rest due)
 
 pub returns-then-eq-clause-gathers : goal.returns-then-eq-clause-gathers
 returns-then-eq-clause-gathers g c left due =
-    let inv = c.loop-part.invariant in
-    let first = c.args.tx.now.conn.now in
-    let second = c.loop-part.tx.conn.now in
-    let third = c.find_bound.new.tx.conn.now in
-    let xs = map declared c.args.declarations.now in
-    let db = c.args.db.now in
-    let low = c.args.low.now in
-    let high = c.args.high.now in
-    let before = map entry_of c.args.gathered.now.entries.items in
-    let now = map entry_of c.loop-part.gathered.entries.items in
-    let from : List ℕ = c.loop-part.from.items in
-    let fourth = c.gather_part.new.tx.conn.now in
-    let after = map entry_of c.gather_part.new.gathered.entries.items in
-    let bound : List ℕ = c.in_ok-bound.bound.items in
     let found = c.in_ok-bound.ensures in
-    let cut : IsCut from high bound = subst (λ f. IsCut f high bound) c.deref.ensures.value found.within in
-    let behind = λ (id : List ℕ). is_between bound high id || left id in
-    let end : bound ≡ high = search rules in
-    steps_so g.S.Store (IsToGatherRange db xs low high left before due) (HasEntriesBeside (without_documents due (numbers_of xs) behind) after) (HasEntriesBeside (without_documents due (numbers_of xs) left) after) first fourth (Ok tt)
-    (part_gathered g.S.Store db xs low high from bound left before now due first second third {E = IndexFault} after fourth c.in_ok-bound.bound (Ok tt) inv.inside cut
-    (bound_read g.S.Store db xs low high from bound left before now due first second third {E = IndexFault} {D = IndexFault} tt (Ok c.in_ok-bound.bound) (inv.so_far left due) found.stands found.looks found.asks)
-    (subst (λ f. Steps g.S.Store (IsToGatherRange db xs f bound behind now due) (HasEntriesBeside (without_documents due (numbers_of xs) behind) after) third fourth (Ok tt)) c.deref-in-loop-part.ensures.value
-    (subst (λ h. Steps g.S.Store (IsToGatherRange db xs c.deref-in-loop-part.result.now h behind now due) (HasEntriesBeside (without_documents due (numbers_of xs) behind) after) third fourth (Ok tt)) c.deref-in-loop-part-2.ensures.value
-    (c.in_ok-gather_part.ensures.gathers behind due))))
-    (λ fit made. range_done due (numbers_of xs) high bound left after (state g.S.Store first).now (state g.S.Store fourth).now end made)
+    range_ended g.S.Store c.args.db.now (map declared c.args.declarations.now) c.args.low.now c.args.high.now c.loop-part.from.items c.in_ok-bound.bound.items left (map entry_of c.args.gathered.now.entries.items) (map entry_of c.loop-part.gathered.entries.items) (map entry_of c.gather_part.new.gathered.entries.items) due
+    c.args.tx.now.conn.now c.find_bound.new.tx.conn.now c.gather_part.new.tx.conn.now c.in_ok-bound.bound c.loop-part.invariant.inside (subst (λ f. IsCut f c.args.high.now c.in_ok-bound.bound.items) c.deref.ensures.value found.within)
+    (bound_read g.S.Store c.args.db.now (map declared c.args.declarations.now) c.args.low.now c.args.high.now c.loop-part.from.items c.in_ok-bound.bound.items left (map entry_of c.args.gathered.now.entries.items) (map entry_of c.loop-part.gathered.entries.items) due c.args.tx.now.conn.now c.loop-part.tx.conn.now c.find_bound.new.tx.conn.now {E = IndexFault} {D = IndexFault} tt (Ok c.in_ok-bound.bound) (c.loop-part.invariant.so_far left due) found.stands found.looks found.asks)
+    c.deref-in-loop-part.result.now c.deref-in-loop-part.ensures.value c.deref-in-loop-part-2.result.now c.deref-in-loop-part-2.ensures.value
+    (search rules) (c.in_ok-gather_part.ensures.gathers (λ id. is_between c.in_ok-bound.bound.items c.args.high.now id || left id) due)
 
 pub returns-clause-gathers : goal.returns-clause-gathers
 returns-clause-gathers g c left due =
-    let first = c.args.tx.now.conn.now in
-    let second = c.loop-part.tx.conn.now in
-    let xs = map declared c.args.declarations.now in
-    let low = c.args.low.now in
-    let high = c.args.high.now in
-    let before = map entry_of c.args.gathered.now.entries.items in
-    let now = map entry_of c.loop-part.gathered.entries.items in
-    let from : List ℕ = c.loop-part.from.items in
     let p = c.loop-part.invariant.so_far left due in
     record { ok = λ clean fit. tt; keeps = λ clean has. tt; kept = p.kept; goes_on = λ clean has up within. tt; asks = p.asks }

@@ -1,6 +1,6 @@
 use Rattle.index.proofs.Common.{Entries, Bool, IndexFault, List, Ok, declared, map, true, ◌||◌, ◌≡◌, ℕ}
 use Rattle.index.specs.Filling.{numbers_of}
-use Rattle.index.specs.Gathering.{HasEntriesBeside, IsToGatherRange, entry_of, without_documents}
+use Rattle.index.specs.inner.Gathering.{HasEntriesBeside, IsToGatherRange, entry_of, without_documents}
 use Rattle.index.specs.Steps.{Steps}
 use Rattle.tables.specs.Listings.{is_between}
 use Rattle.index.proofs.filling.gather_range.Given as goal

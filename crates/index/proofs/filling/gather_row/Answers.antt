@@ -5,8 +5,8 @@ use Rattle.index.proofs.Filled.{unseen_missing, unseen_of}
 use Rattle.index.proofs.Going.{only_itself}
 use Rattle.index.proofs.Refusals.{listed_one, refused_as}
 use Rattle.index.proofs.ShownDeclarations.{refused_of}
-use Rattle.index.specs.Gathering.{AreEntriesBeside, HasEntriesBeside, IsToGather, entries_of, entry_of}
-use Rattle.index.specs.Seen.{IsSoundLive}
+use Rattle.index.specs.inner.Gathering.{AreEntriesBeside, HasEntriesBeside, IsToGather, entries_of, entry_of}
+use Rattle.index.specs.inner.Seen.{IsSoundLive}
 use Rattle.index.specs.Steps.{AreFit}
 use Rattle.tables.specs.Listings.{IsListedDocument}
 use Rattle.index.proofs.StepLemmas.{steps_none, steps_read, steps_then}

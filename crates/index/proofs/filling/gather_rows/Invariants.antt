@@ -1,6 +1,6 @@
 use Rattle.index.proofs.Common.{Entries, IndexFault, List, Ok, Row, declared, drop, map, ◌≡◌}
 use Rattle.index.specs.Filling.{numbers_of, without_ids}
-use Rattle.index.specs.Gathering.{AreToGather, HasEntriesBeside, entry_of}
+use Rattle.index.specs.inner.Gathering.{AreToGather, HasEntriesBeside, entry_of}
 use Rattle.index.specs.Steps.{Steps}
 use Rattle.tables.specs.Rows.{id_of}
 use Rattle.index.proofs.filling.gather_rows.Given as goal

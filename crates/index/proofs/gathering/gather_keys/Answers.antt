@@ -1,6 +1,6 @@
 use Rattle.index.proofs.Common.{Some, ap, arith, declared, drop, length, map, refl, sym, ◌++◌, ◌+◌, ◌∙◌, ◌∷◌, ◌≡◌, key_if_seen}
 use Rattle.couch_json.specs.View.{view}
-use Rattle.index.specs.Gathering.{entries_of, entry_if, entry_of}
+use Rattle.index.specs.inner.Gathering.{entries_of, entry_if, entry_of}
 use Rattle.std.proofs.Common.{◌≤◌}
 use Rattle.std.proofs.lemmas.List.{append-nil, append_assoc, drop_all, drop_more}
 use Rattle.index.proofs.gathering.gather_keys.Goals as goal

@@ -1,6 +1,6 @@
 use Rattle.index.proofs.Common.{Some, declared, drop, map, ◌++◌, ◌≡◌}
 use Rattle.couch_json.specs.View.{view}
-use Rattle.index.specs.Gathering.{entries_of, entry_of}
+use Rattle.index.specs.inner.Gathering.{entries_of, entry_of}
 use Rattle.index.proofs.gathering.gather_keys.Given as goal
 
 -- with those of the indexes that come next the entries are those of all

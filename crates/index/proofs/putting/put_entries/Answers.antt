@@ -2,7 +2,7 @@ use Rattle.index.proofs.Common.{AreEntryRows, Changes, Err, Error, List, Ok, [],
 use Rattle.index.proofs.Beside.{put_next}
 use Rattle.index.proofs.Going.{only_itself}
 use Rattle.index.proofs.StepLemmas.{steps_alter, steps_none, steps_so, steps_stop, steps_then}
-use Rattle.index.specs.Gathering.{AreToPut, HasEntriesBeside, entry_of}
+use Rattle.index.specs.inner.Gathering.{AreToPut, HasEntriesBeside, entry_of}
 use Rattle.std.proofs.Common.{◌≤◌}
 use Rattle.std.proofs.lemmas.List.{drop_all}
 use Rattle.index.proofs.putting.put_entries.Goals as goal
@@ -43,10 +43,7 @@ loop-entry-preserved g c =
 
 pub returns-in_err-insert_entry-clause-puts : goal.returns-in_err-insert_entry-clause-puts
 returns-in_err-insert_entry-clause-puts g c due =
-    let inv = c.loop-entry.invariant in
-    let first = c.args.tx.now.conn.now in
     let second = c.loop-entry.tx.conn.now in
-    let third = c.insert_entry.new.tx.conn.now in
     let es = c.args.entries.now in
     let i = c.loop-entry.entry-index in
     let x = c.entry-item.result in
@@ -55,11 +52,11 @@ returns-in_err-insert_entry-clause-puts g c due =
     let now = map entry_of (drop i es) in
     let fault = c.in_err-insert_entry.field-0.0 in
     let is : c.from_residual.result ≡ Err fault = search rules in
-    steps_stop g.S.Store {X = Unit {0}} (AreToPut due (map entry_of es)) (λ p q. ⊤) (HasEntriesBeside due []) first third fault fault c.from_residual.result is
+    steps_stop g.S.Store {X = Unit {0}} (AreToPut due (map entry_of es)) (λ p q. ⊤) (HasEntriesBeside due []) c.args.tx.now.conn.now c.insert_entry.new.tx.conn.now fault fault c.from_residual.result is
     (steps_then g.S.Store {E = Error} (AreToPut due (map entry_of es)) (AreToPut due now) (HasEntriesBeside due now) (λ p q. Changes entries_tree (with_cells (p.trees entries_tree) (entry_cells x.declaration k id)) p q)
-    (λ p q. ⊤) first second third tt (Err fault)
-    (inv.so_far due)
-    (steps_alter g.S.Store (AreToPut due now) entries_tree AreEntryRows (λ rows. with_cells rows (entry_cells x.declaration k id)) second third (Err fault) c.in_err-insert_entry.ensures.alters (λ fit. (fit.schema_is, fit.entries.laid)))
+    (λ p q. ⊤) c.args.tx.now.conn.now second c.insert_entry.new.tx.conn.now tt (Err fault)
+    (c.loop-entry.invariant.so_far due)
+    (steps_alter g.S.Store (AreToPut due now) entries_tree AreEntryRows (λ rows. with_cells rows (entry_cells x.declaration k id)) second c.insert_entry.new.tx.conn.now (Err fault) c.in_err-insert_entry.ensures.alters (λ fit. (fit.schema_is, fit.entries.laid)))
     (λ was fit made. record { schema_is = made.only.schema ∙ fit.schema_is; entries = made.entries }) (λ was fit made change. tt))
 
 pub returns-clause-puts : goal.returns-clause-puts

@@ -1,5 +1,5 @@
 use Rattle.index.proofs.Common.{Entries, Error, Ok, drop, map, ◌≡◌}
-use Rattle.index.specs.Gathering.{AreToPut, HasEntriesBeside, entry_of}
+use Rattle.index.specs.inner.Gathering.{AreToPut, HasEntriesBeside, entry_of}
 use Rattle.index.specs.Steps.{Steps}
 use Rattle.index.proofs.putting.put_entries.Given as goal
 

@@ -1,7 +1,7 @@
 use Rattle.index.proofs.Common.{Ok, entries_tree, map, state}
 use Rattle.index.proofs.Going.{only_itself}
 use Rattle.index.proofs.StepLemmas.{steps_none}
-use Rattle.index.specs.Gathering.{AreToPut, HasEntriesBeside, entry_of}
+use Rattle.index.specs.inner.Gathering.{AreToPut, HasEntriesBeside, entry_of}
 use Rattle.index.proofs.putting.put_full.Goals as goal
 
 pub returns-then-not-is_full-clause-puts : goal.returns-then-not-is_full-clause-puts

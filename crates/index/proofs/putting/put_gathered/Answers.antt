@@ -2,7 +2,7 @@ use Rattle.index.proofs.Common.{Err, Ok, [], entries_tree, map, rules, state, su
 use Rattle.std.specs.Prelude.{IsPermutation}
 use Rattle.index.proofs.Beside.{beside_sorted}
 use Rattle.index.proofs.StepLemmas.{steps_stop, steps_weaker}
-use Rattle.index.specs.Gathering.{AreToPut, HasEntriesBeside, entry_of}
+use Rattle.index.specs.inner.Gathering.{AreToPut, HasEntriesBeside, entry_of}
 use Rattle.std.proofs.lemmas.List.Sorted.{IsPermutation-map}
 use Rattle.index.proofs.putting.put_gathered.Goals as goal
 

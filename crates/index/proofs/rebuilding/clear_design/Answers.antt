@@ -1,4 +1,4 @@
-use Rattle.index.proofs.Common.{AllByRecursion, Err, Error, HasCleanDisk, HasIndexRows, IsShownDeclaration, IsTrue, List, None, Ok, OnOk, Result, ap, arith, decls_tree, map, option_map, rules, state, subst, sym, ℕ, ◌∙◌, ◌≡◌}
+use Rattle.index.proofs.Common.{AllByRecursion, Err, Error, HasCleanDisk, HasIndexRows, IsShownDeclaration, IsTrue, List, None, Ok, OnOk, Result, ap, arith, map, option_map, rules, state, subst, sym, ℕ, ◌∙◌, ◌≡◌}
 use Rattle.couch_json.specs.Value.{Value}
 use Rattle.couch_json.specs.View.{view}
 use Rattle.index.proofs.Designs.{design_cleared, stored_names}

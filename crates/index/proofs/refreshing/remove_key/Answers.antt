@@ -7,10 +7,8 @@ pub returns-in-Some-clause-replaces : goal.returns-in-Some-clause-replaces
 returns-in-Some-clause-replaces g c clean has due h was =
     let old = state g.S.Store c.args.tx.now.conn.now in
     let new = state g.S.Store c.delete_entry.new.tx.conn.now in
-    let d = c.args.declaration.now in
-    let id = c.args.id.now in
     let key : List ℕ = c.deref.result.now in
     let is : option_map {U = List ℕ} (λ bytes. bytes.items) c.args.key.now ≡ Some key = search rules in
     on_ok c.delete_entry.result
-    (λ change. has_changed (with_key due d id None) _ old.now new.now (entry_removed due d id key (old.now.trees entries_tree) h (λ k. was k ∙ ap (λ o. is_key o k) is)) change)
+    (λ change. has_changed (with_key due c.args.declaration.now c.args.id.now None) _ old.now new.now (entry_removed due c.args.declaration.now c.args.id.now key (old.now.trees entries_tree) h (λ k. was k ∙ ap (λ o. is_key o k) is)) change)
     (c.delete_entry.ensures.alters.ok clean has h.laid)

@@ -2,7 +2,7 @@ use Rattle.index.proofs.Common.{AllByRecursion, List, ap, filter, map, state, su
 use Rattle.index.proofs.Going.{if_err, if_ok}
 use Rattle.index.proofs.SeenDocuments.{live_is, revision_intact, winner_live, winner_seen}
 use Rattle.index.proofs.ShownDeclarations.{refused_of}
-use Rattle.index.specs.Seen.{HasLive, shown_by_rows}
+use Rattle.index.specs.inner.Seen.{HasLive, shown_by_rows}
 use Rattle.couch_json.specs.View.{view}
 use Rattle.store.specs.Indexes.{queried_document}
 use Rattle.tables.specs.Rows.{history_in, id_of, is_revision_of, shown_revision}

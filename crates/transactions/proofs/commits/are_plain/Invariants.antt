@@ -1,5 +1,5 @@
 use Rattle.transactions.proofs.Common.{additions, drop}
-use Rattle.transactions.specs.Placed.{ArePlain}
+use Rattle.transactions.specs.inner.Placed.{ArePlain}
 use Rattle.transactions.proofs.commits.are_plain.Given as goal
 
 -- all writes are plain if and only if those that are left are

@@ -1,8 +1,8 @@
-use Rattle.transactions.proofs.Lemmas.{CommitFault, Database, Err, HasBest, HasCleanDisk, HistoryContent, IfErr, IsSound, IsStore, IsUnwritten, Result, addition_of, ap, arith, history_in, never_written, parents_laid, revs_tree, rules, state, subst, sym, unwritten_of, with_addition, ⊤, ◌∙◌, ◌≡◌}
+use Rattle.transactions.proofs.Lemmas.{CommitFault, Database, Err, HasBest, HasCleanDisk, HistoryContent, IfErr, IsSound, IsStore, IsUnwritten, Result, addition_of, arith, history_in, never_written, parents_laid, revs_tree, rules, state, subst, sym, unwritten_of, with_addition, ⊤, ◌∙◌, ◌≡◌}
 use Rattle.transactions.proofs.Common.{Option, Some, Trees}
 use Rattle.std.specs.Prelude.{IfSome}
 use Rattle.tree.specs.Outline.{marked_winner}
-use Rattle.transactions.specs.Following.{Serves}
+use Rattle.transactions.specs.inner.Following.{Serves}
 use Rattle.tree.specs.declared.marked_rev.MarkedRev.{MarkedRev}
 use Rattle.transactions.proofs.commits.read_followed.Goals as goal
 

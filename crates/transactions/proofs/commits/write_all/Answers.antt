@@ -22,7 +22,6 @@ returns-in_err-known-clause-err g c name =
 
 pub returns-clause-ok : goal.returns-clause-ok
 returns-clause-ok g c name clean was every due =
-    let old = state g.S.Store c.args.tx.now.conn.now in
     let mid = state g.S.Store c.list_unknown.new.tx.conn.now in
     let new = state g.S.Store c.write_bulk.new.tx.conn.now in
     let db = c.args.db.now in
@@ -61,17 +60,15 @@ returns-clause-err g c name =
 
 pub returns-clause-kept : goal.returns-clause-kept
 returns-clause-kept g c name clean was every due =
-    let old = state g.S.Store c.args.tx.now.conn.now in
     let mid = state g.S.Store c.list_unknown.new.tx.conn.now in
     let new = state g.S.Store c.write_bulk.new.tx.conn.now in
     let db = c.args.db.now in
     let all = additions c.args.writes.now in
-    let find = c.in_ok-known.ensures in
     let e = c.write_bulk.ensures in
     let mid-clean : HasCleanDisk mid = omega (arith, e.asks.survives.clean, clean) in
-    keeps_then old mid new ((find.looks was.store.schema_is).kept mid-clean)
-    (subst (λ (d : Database). IsIndexedStore d → AreAllIndexes (map declared c.in_ok-known.known.items) db d.trees → AreDue all name db c.args.sequence d.trees → KeepsCommit mid new) (find.stays mid-clean was.store.schema_is).now_is
-    (e.kept name clean) was (find.ok mid-clean was every) due)
+    keeps_then (state g.S.Store c.args.tx.now.conn.now) mid new ((c.in_ok-known.ensures.looks was.store.schema_is).kept mid-clean)
+    (subst (λ (d : Database). IsIndexedStore d → AreAllIndexes (map declared c.in_ok-known.known.items) db d.trees → AreDue all name db c.args.sequence d.trees → KeepsCommit mid new) (c.in_ok-known.ensures.stays mid-clean was.store.schema_is).now_is
+    (e.kept name clean) was (c.in_ok-known.ensures.ok mid-clean was every) due)
 
 pub returns-clause-inside : goal.returns-clause-inside
 returns-clause-inside g c name clean was every due within =
@@ -93,11 +90,9 @@ returns-clause-asks g c =
 pub returns-clause-others : goal.returns-clause-others
 returns-clause-others g c name clean was every due =
     let mid = state g.S.Store c.list_unknown.new.tx.conn.now in
-    let new = state g.S.Store c.write_bulk.new.tx.conn.now in
     let db = c.args.db.now in
     let all = additions c.args.writes.now in
-    let find = c.in_ok-known.ensures in
     let e = c.write_bulk.ensures in
     let mid-clean : HasCleanDisk mid = omega (arith, e.asks.survives.clean, clean) in
-    subst (λ (d : Database). IsIndexedStore d → AreAllIndexes (map declared c.in_ok-known.known.items) db d.trees → AreDue all name db c.args.sequence d.trees → OnOk c.write_bulk.result (KeepsOthers db d new.now))
-    (find.stays mid-clean was.store.schema_is).now_is (e.others name clean) was (find.ok mid-clean was every) due
+    subst (λ (d : Database). IsIndexedStore d → AreAllIndexes (map declared c.in_ok-known.known.items) db d.trees → AreDue all name db c.args.sequence d.trees → OnOk c.write_bulk.result (KeepsOthers db d (state g.S.Store c.write_bulk.new.tx.conn.now).now))
+    (c.in_ok-known.ensures.stays mid-clean was.store.schema_is).now_is (e.others name clean) was (c.in_ok-known.ensures.ok mid-clean was every) due

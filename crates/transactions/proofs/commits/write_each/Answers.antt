@@ -1,11 +1,11 @@
-use Rattle.transactions.proofs.Lemmas.{AreDue, AreStored, CommitFault, Err, HasBest, Database, HasCleanDisk, HasWritten, IfErr, IsHeldOpen, IsUnwritten, Result, addition_of, additions, ap, arith, asks_itself, asks_then, best_in_turn, database_of, further_followed, history_in, history_with, keeps_itself, keeps_then, map, may_in_turn, none_held, none_written, refl, revs_tree, rules, state, stored_further, subst, sym, take_all, to_z-of_z, unwritten_of, w64, writings_in, ◌∙◌, ◌≡◌}
+use Rattle.transactions.proofs.Lemmas.{AreDue, AreStored, CommitFault, Err, HasBest, HasCleanDisk, HasWritten, IfErr, IsHeldOpen, IsUnwritten, Result, addition_of, additions, ap, arith, asks_itself, asks_then, best_in_turn, database_of, further_followed, history_in, history_with, keeps_itself, keeps_then, map, may_in_turn, none_held, none_written, refl, revs_tree, rules, state, stored_further, subst, sym, take_all, to_z-of_z, unwritten_of, w64, writings_in, ◌∙◌, ◌≡◌}
 use Rattle.std.proofs.Common.{of_z, to_z}
 use Rattle.std.proofs.Common.{Global, Vec}
 use Rattle.index.proofs.Going.{if_err, if_ok}
 use Rattle.index.specs.Steps.{AreFit}
 use Rattle.std.proofs.lemmas.List.{nil_from_length}
 use Rattle.transactions.proofs.Common.{List, [], ℕ, ◌≢◌}
-use Rattle.transactions.specs.Postponing.{IsCaughtUp}
+use Rattle.transactions.specs.inner.Postponing.{IsCaughtUp}
 use Rattle.index.specs.Shown.{declared}
 use Rattle.index.specs.declared.declaration.Declaration.{Declaration}
 use Rattle.transactions.proofs.IndexSteps.{none_postponed, on_some, written_still}

@@ -1,6 +1,6 @@
 use Rattle.transactions.proofs.Lemmas.{HasCleanDisk, addition_of, arith, history_in, revs_tree, state, subst, sym}
 use Rattle.transactions.proofs.DocumentWriting.{dbs_fit, moved_write, schema_placed}
-use Rattle.transactions.specs.Following.{HasPlaceFor}
+use Rattle.transactions.specs.inner.Following.{HasPlaceFor}
 use Rattle.transactions.proofs.commits.write_next.Goals as goal
 
 pub returns-clause-ok : goal.returns-clause-ok

@@ -4,7 +4,7 @@ use Rattle.tables.proofs.Tables.{databases_laid}
 use Rattle.transactions.proofs.OtherRows.{others_moved, others_placed}
 use Rattle.transactions.proofs.Ahead.{last_ahead, next_ahead, place_ahead, start_ahead, still_store}
 use Rattle.transactions.specs.Indexing.{AreAllIndexes, IsSoundIndexed}
-use Rattle.transactions.specs.Placed.{IsAhead, with_databases}
+use Rattle.transactions.specs.inner.Placed.{IsAhead, with_databases}
 use Rattle.transactions.proofs.commits.write_plain.Goals as goal
 
 pub loop-i-init : goal.loop-i-init
@@ -64,7 +64,6 @@ loop-i-preserved g c =
 
 pub returns-in_err-write_document-clause-err : goal.returns-in_err-write_document-clause-err
 returns-in_err-write_document-clause-err g c name plain =
-    let inv = c.loop-i.invariant in
     let first = c.args.tx.now.conn.now in
     let last = c.loop-i.tx.conn.now in
     let now = c.write_document.new.tx.conn.now in
@@ -85,14 +84,14 @@ returns-in_err-write_document-clause-err g c name plain =
     (λ it.
     let mid-clean : HasCleanDisk mid = omega (arith, e.asks.survives.clean, it.0) in (
       (λ id h is.
-          let up = inv.held mid-clean id h is in
+          let up = c.loop-i.invariant.held mid-clean id h is in
           let had = it.1 up in
-          (inv.so_far name mid-clean had.0 had.1.0 plain had.1.1).3 up),
+          (c.loop-i.invariant.so_far name mid-clean had.0 had.1.0 plain had.1.1).3 up),
       (
         it.0,
         λ up.
-            let had = it.1 (inv.asks.was_open mid-clean up) in
-            let far = inv.so_far name mid-clean had.0 had.1.0 plain had.1.1 in (
+            let had = it.1 (c.loop-i.invariant.asks.was_open mid-clean up) in
+            let far = c.loop-i.invariant.so_far name mid-clean had.0 had.1.0 plain had.1.1 in (
               still_store ws i name db c.args.sequence old.now mid.now c.loop-i-test.true c.requires.room had.1.1 far.0,
               (far.2, best_in_turn ws i w name db c.args.sequence old.now (with_databases far.0.back mid.now) c.loop-i-test.true c.index-writes-i.is had.1.1 far.0.written),
             ),

@@ -2,7 +2,7 @@ use Rattle.transactions.proofs.Common.{AreDue, AreStored, HasCleanDisk, IsHeldOp
 use Rattle.tables.specs.Calls.{AsksInside}
 use Rattle.transactions.specs.Commits.{KeepsOthers}
 use Rattle.transactions.specs.Indexing.{AreAllIndexes, IsIndexedStore}
-use Rattle.transactions.specs.Placed.{ArePlain, IsAhead}
+use Rattle.transactions.specs.inner.Placed.{ArePlain, IsAhead}
 use Rattle.transactions.proofs.commits.write_plain.Given as goal
 
 -- The same transaction, and the writes so far are done in a database that stands ahead of them, with nothing committed; the histories that

@@ -2,7 +2,7 @@ use Rattle.transactions.proofs.Lemmas.{HistoryContent, addition_of, ap, history_
 use Rattle.transactions.proofs.Common.{None, Option, Revision, Some, false, option_map, refl}
 use Rattle.std.specs.FinMap as finite
 use Rattle.std.specs.Prelude.{is_some}
-use Rattle.transactions.specs.Following.{HasPlaceFor}
+use Rattle.transactions.specs.inner.Following.{HasPlaceFor}
 use Rattle.tree.specs.History.{winner}
 use Rattle.tree.specs.Outline.{marked_revision, marked_winner}
 use Rattle.transactions.proofs.commits.write_served.Goals as goal

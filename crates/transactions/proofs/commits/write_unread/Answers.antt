@@ -1,8 +1,8 @@
 use Rattle.transactions.proofs.Lemmas.{CommitFault, Database, Err, HasBest, HasCleanDisk, HistoryContent, IfErr, IsSound, IsStore, IsUnwritten, Result, addition_of, arith, document_written, history_in, history_with, revs_tree, rules, state, subst, sym, unwritten_of, with_addition, written_in, ◌≡◌}
 use Rattle.transactions.proofs.Common.{Option, Trees}
 use Rattle.std.specs.Prelude.{IfSome}
-use Rattle.transactions.specs.Following.{HasPlaceFor, Serves}
-use Rattle.transactions.specs.Placed.{IsPlacedWrite}
+use Rattle.transactions.specs.inner.Following.{HasPlaceFor, Serves}
+use Rattle.transactions.specs.inner.Placed.{IsPlacedWrite}
 use Rattle.tree.specs.Outline.{marked_winner}
 use Rattle.transactions.proofs.commits.write_unread.Goals as goal
 
@@ -45,13 +45,12 @@ pub returns-in_ok-write_read-in-None-clause-ok : goal.returns-in_ok-write_read-i
 returns-in_ok-write_read-in-None-clause-ok g c clean store place =
     let old = state g.S.Store c.args.tx.now.conn.now in
     let mid = state g.S.Store c.read_followed.new.tx.conn.now in
-    let new = state g.S.Store c.write_read.new.tx.conn.now in
     let db = c.args.db.now in
     let a = addition_of c.args.write.now in
     let e = c.in_ok-write_read-in-None.ensures in
     let was : HasCleanDisk mid = omega (arith, e.asks.survives.clean, clean) in
     let same : mid.now ≡ old.now = (c.in_ok-winner.ensures.stands store.schema_is was).0.now_is in
-    let Is : Database → Type 0 = λ d. IsStore d → IsPlacedWrite db c.args.sequence.now (written_in (history_in (d.trees revs_tree) db a.id) a) d new.now in
+    let Is : Database → Type 0 = λ d. IsStore d → IsPlacedWrite db c.args.sequence.now (written_in (history_in (d.trees revs_tree) db a.id) a) d (state g.S.Store c.write_read.new.tx.conn.now).now in
     subst Is same (e.ok clean) store
 
 pub returns-in_ok-write_read-in-None-clause-after : goal.returns-in_ok-write_read-in-None-clause-after

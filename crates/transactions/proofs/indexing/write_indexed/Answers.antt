@@ -1,4 +1,4 @@
-use Rattle.transactions.proofs.Lemmas.{addition_of, ap, map, state, sym, ◌∙◌, ◌≡◌}
+use Rattle.transactions.proofs.Lemmas.{addition_of, ap, map, sym, ◌∙◌, ◌≡◌}
 use Rattle.transactions.proofs.Common.{false, filter, true}
 use Rattle.index.proofs.Going.{on_ok}
 use Rattle.index.specs.Rows.{is_at_home}

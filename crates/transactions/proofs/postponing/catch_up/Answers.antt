@@ -1,6 +1,6 @@
-use Rattle.transactions.proofs.Lemmas.{CommitFault, Database, Err, HasCleanDisk, IfErr, IsTrue, IsUnwritten, Result, ap, arith, asks_itself, asks_then, keeps_itself, keeps_then, map, refl, rules, state, subst, sym, unwritten_of, ⊤, ◌∙◌, ◌≡◌}
-use Rattle.transactions.proofs.Common.{List, Ok, OnOk, [], false, true, ℕ, ◌≢◌}
-use Rattle.std.proofs.Common.{Global, IfOk, Vec}
+use Rattle.transactions.proofs.Lemmas.{CommitFault, Database, Err, HasCleanDisk, IfErr, IsUnwritten, Result, arith, asks_itself, asks_then, keeps_itself, keeps_then, map, rules, state, subst, sym, unwritten_of, ⊤, ◌∙◌, ◌≡◌}
+use Rattle.transactions.proofs.Common.{List, [], false, true, ℕ, ◌≢◌}
+use Rattle.std.proofs.Common.{Global, Vec}
 use Rattle.index.proofs.Going.{if_err, on_ok}
 use Rattle.index.specs.Shown.{declared}
 use Rattle.index.specs.Steps.{AreFit}
@@ -8,7 +8,7 @@ use Rattle.index.specs.declared.declaration.Declaration.{Declaration}
 use Rattle.transactions.proofs.IndexSteps.{if_both, store_still}
 use Rattle.transactions.proofs.Postponed.{none_waited, some_waited}
 use Rattle.transactions.specs.Indexing.{AreAllIndexes, IsIndexedStoreBut, IsLeft, IsSoundIndexed}
-use Rattle.transactions.specs.Postponing.{IsCaughtUp}
+use Rattle.transactions.specs.inner.Postponing.{IsCaughtUp}
 use Rattle.transactions.proofs.postponing.catch_up.Goals as goal
 
 pub returns-then-is_empty-clause-ok : goal.returns-then-is_empty-clause-ok

@@ -4,7 +4,7 @@ use Rattle.std.specs.Prelude.{bytes_eq}
 use Rattle.index.specs.Declaring.{IsRebuildable}
 use Rattle.index.specs.Meaning.{Declarations, Documents}
 use Rattle.index.specs.Steps.{Steps}
-use Rattle.transactions.specs.Postponing.{AreClearedAsStored}
+use Rattle.transactions.specs.inner.Postponing.{AreClearedAsStored}
 use Rattle.transactions.proofs.postponing.clear_all_stored.Given as goal
 
 -- the same transaction; those that come next are some of all, and the others have no index that is not as it is stored

@@ -4,7 +4,7 @@ use Rattle.std.specs.Prelude.{bytes_eq}
 use Rattle.index.specs.Meaning.{Documents}
 use Rattle.index.specs.Shown.{declared}
 use Rattle.index.specs.Steps.{Steps}
-use Rattle.transactions.specs.Postponing.{AreDeclaredAsStored, AreToDeclare}
+use Rattle.transactions.specs.inner.Postponing.{AreDeclaredAsStored, AreToDeclare}
 use Rattle.transactions.proofs.postponing.declare_all_stored.Given as goal
 
 -- the same transaction; those that come next are some of all, and the others declare what is stored

@@ -1,135 +1,62 @@
-use Rattle.transactions.proofs.Lemmas.{CommitFault, Database, Err, HasCleanDisk, HistoryContent, IfErr, IsSound, IsUnwritten, Result, ap, arith, asks_then, history_in, map, revs_tree, rules, state, subst, sym, unwritten_of, ⊤, ◌∙◌, ◌≡◌}
-use Rattle.transactions.proofs.Common.{List, Ok, Option, option_map, ℕ}
-use Rattle.transactions.proofs.IndexRests.{refused_of}
-use Rattle.transactions.proofs.Postponed.{left_as, to_declare_as}
-use Rattle.transactions.proofs.Redeclared.{unwritten_as}
-use Rattle.transactions.specs.Indexing.{of_index_fault}
-use Rattle.transactions.specs.Postponing.{IsDeclaredAsStored, IsToDeclareAsStored, stored_fields}
+use Rattle.transactions.proofs.Lemmas.{HistoryContent, map, rules, state, ◌∙◌, ◌≡◌}
+use Rattle.transactions.proofs.Common.{option_map}
+use Rattle.transactions.proofs.StoredDesigns.{change_failed, change_refused, changed, declared_as_read, reading_failed, reading_refused, to_declare_as_read}
+use Rattle.transactions.specs.inner.Postponing.{IsDeclaredAsStored, IsToDeclareAsStored}
 use Rattle.couch_json.specs.Value.{Value}
 use Rattle.couch_json.specs.View.{view}
-use Rattle.index.proofs.StepLemmas.{steps_read, steps_stop, steps_then}
-use Rattle.index.specs.Meaning.{declared_if}
-use Rattle.index.specs.Steps.{AreFit}
-use Rattle.store.proofs.Winnings.{body_alone}
-use Rattle.store.specs.Indexes.{winning_body}
-use Rattle.index.specs.Meaning.{with_declared}
+use Rattle.index.specs.Meaning.{declared_if, with_declared}
 use Rattle.index.specs.Rebuilding.{AreLeftUnfilled, IsToDeclare}
 use Rattle.index.specs.Shown.{declared}
-use Rattle.transactions.proofs.Redeclared.{unwritten_then}
+use Rattle.index.specs.Steps.{AreFit}
 use Rattle.transactions.proofs.postponing.declare_stored.Goals as goal
 
 pub returns-in_err-history-clause-declares : goal.returns-in_err-history-clause-declares
 returns-in_err-history-clause-declares g c declares sees =
-    let first = c.args.tx.now.conn.now in
-    let last = c.find_winning.new.tx.conn.now in
     let before = map declared c.args.fresh.now.items in
-    let F : Database → Type 0 = IsToDeclareAsStored declares sees c.args.db.now c.args.id.now before in
     let e = c.in_err-history.ensures in
-    let fault = c.in_err-history.field-0.0 in
-    let is : c.from_residual.result ≡ Err fault = search rules in
-    steps_stop g.S.Store {X = HistoryContent} F (λ p q. q ≡ p) (IsDeclaredAsStored declares sees c.args.db.now c.args.id.now before) first last fault fault c.from_residual.result is
-    (steps_read g.S.Store F first last (Err fault) e.stands e.looks e.asks (λ fit. fit.unfilled.store.schema_is))
+    reading_failed g.S.Store (IsToDeclareAsStored declares sees c.args.db.now c.args.id.now before) (λ d fit. fit.unfilled.store) c.args.tx.now.conn.now c.find_winning.new.tx.conn.now HistoryContent
+    (IsDeclaredAsStored declares sees c.args.db.now c.args.id.now before) c.in_err-history.field-0.0 c.from_residual.result (search rules) e.stands e.looks e.asks
 
 pub returns-in_err-history-clause-err : goal.returns-in_err-history-clause-err
 returns-in_err-history-clause-err g c declares sees =
-    let first = c.args.tx.now.conn.now in
-    let last = c.find_winning.new.tx.conn.now in
-    let F : Database → Type 0 = IsToDeclareAsStored declares sees c.args.db.now c.args.id.now (map declared c.args.fresh.now.items) in
-    let fault = c.in_err-history.field-0.0 in
-    let is : c.from_residual.result ≡ Err fault = search rules in
-    unwritten_as (AreFit g.S.Store F first last) c.from_residual.result fault is
-    (unwritten_of (IsSound g.S.Store (λ _. ⊤) first last) (AreFit g.S.Store F first last) fault (λ it. (it.0, λ up. (it.1.unfilled.store, tt))) c.in_err-history.ensures.err)
+    reading_refused g.S.Store (IsToDeclareAsStored declares sees c.args.db.now c.args.id.now (map declared c.args.fresh.now.items)) (λ d fit. fit.unfilled.store) c.args.tx.now.conn.now c.find_winning.new.tx.conn.now
+    c.in_err-history.field-0.0 c.from_residual.result (search rules) c.in_err-history.ensures.err
 
 pub returns-in_err-declare_design-clause-declares : goal.returns-in_err-declare_design-clause-declares
 returns-in_err-declare_design-clause-declares g c declares sees =
-    let first = c.args.tx.now.conn.now in
-    let between = c.find_winning.new.tx.conn.now in
-    let last = c.declare_design.new.tx.conn.now in
-    let old = (state g.S.Store first).now in
-    let mid = (state g.S.Store between).now in
-    let end = (state g.S.Store last).now in
-    let db = c.args.db.now in
-    let id = c.args.id.now in
     let find = c.in_ok-history.ensures in
     let before = map declared c.args.fresh.now.items in
-    let F : Database → Type 0 = IsToDeclareAsStored declares sees db id before in
     let body = option_map {U = Value} (λ v. view v.now) c.find_winning_body-body.result in
-    let f = declared_if (option_map {U = Value} (λ v. view v.now) c.find_winning_body-body.result) in
-    let bytes : List ℕ = c.as_bytes.result.now in
-    let named : bytes ≡ id = c.as_bytes.ensures.value ∙ c.as_str.ensures.text in
-    let h : HistoryContent = history_in (old.trees revs_tree) db id in
-    let F' : Database → Type 0 = IsToDeclare declares sees db bytes f before in
-    let says : HasCleanDisk (state g.S.Store between) → F old → (n : List ℕ) → f n ≡ stored_fields db id old n =
-    λ was fit n. ap (λ (b : Option Value). declared_if b n) (c.find_winning_body-body.ensures ∙ ap winning_body (find.ok was fit.unfilled.store) ∙ body_alone h) in
-    let next : HasCleanDisk (state g.S.Store between) → F old → mid ≡ old → F' mid =
-    λ was fit same. subst F' (sym same) (to_declare_as declares sees db bytes id f (stored_fields db id old) named (says was fit) before old fit) in
-    let after = map declared c.declare_design.new.fresh.items in
-    let fault = c.in_err-declare_design.field-0.0 in
-    let is : c.from_residual-in_err-declare_design.result ≡ Err (of_index_fault fault) = search rules in
-    steps_stop g.S.Store {X = Unit {0}} F (λ p q. ⊤) (IsDeclaredAsStored declares sees db id after) first last fault (of_index_fault fault) c.from_residual-in_err-declare_design.result is
-    (steps_then g.S.Store {E = CommitFault} F F' (λ p q. q ≡ p) _ (λ p q. ⊤) first between last c.in_ok-history.history (Err fault)
-    (steps_read g.S.Store F first between (Ok c.in_ok-history.history) find.stands find.looks find.asks (λ fit. fit.unfilled.store.schema_is)) (c.in_err-declare_design.ensures.declares declares sees)
-    next (λ was fit same got. tt))
+    let next =
+    to_declare_as_read g.S.Store declares sees c.args.db.now c.as_bytes.result.now c.args.id.now (c.as_bytes.ensures.value ∙ c.as_str.ensures.text) body c.args.tx.now.conn.now c.find_winning.new.tx.conn.now c.in_ok-history.history c.find_winning_body-body.ensures find.ok before in
+    change_failed g.S.Store (IsToDeclareAsStored declares sees c.args.db.now c.args.id.now before) (λ d fit. fit.unfilled.store) c.args.tx.now.conn.now c.find_winning.new.tx.conn.now c.in_ok-history.history find.stands find.looks find.asks
+    c.declare_design.new.tx.conn.now (IsToDeclare declares sees c.args.db.now c.as_bytes.result.now (declared_if body) before) next _
+    (IsDeclaredAsStored declares sees c.args.db.now c.args.id.now (map declared c.declare_design.new.fresh.items)) c.in_err-declare_design.field-0.0 c.from_residual-in_err-declare_design.result (search rules)
+    (c.in_err-declare_design.ensures.declares declares sees)
 
 pub returns-in_err-declare_design-clause-err : goal.returns-in_err-declare_design-clause-err
 returns-in_err-declare_design-clause-err g c declares sees =
-    let first = c.args.tx.now.conn.now in
-    let between = c.find_winning.new.tx.conn.now in
-    let last = c.declare_design.new.tx.conn.now in
-    let old = (state g.S.Store first).now in
-    let mid = (state g.S.Store between).now in
-    let end = (state g.S.Store last).now in
-    let db = c.args.db.now in
-    let id = c.args.id.now in
     let find = c.in_ok-history.ensures in
     let before = map declared c.args.fresh.now.items in
-    let F : Database → Type 0 = IsToDeclareAsStored declares sees db id before in
     let body = option_map {U = Value} (λ v. view v.now) c.find_winning_body-body.result in
-    let f = declared_if (option_map {U = Value} (λ v. view v.now) c.find_winning_body-body.result) in
-    let bytes : List ℕ = c.as_bytes.result.now in
-    let named : bytes ≡ id = c.as_bytes.ensures.value ∙ c.as_str.ensures.text in
-    let h : HistoryContent = history_in (old.trees revs_tree) db id in
-    let F' : Database → Type 0 = IsToDeclare declares sees db bytes f before in
-    let says : HasCleanDisk (state g.S.Store between) → F old → (n : List ℕ) → f n ≡ stored_fields db id old n =
-    λ was fit n. ap (λ (b : Option Value). declared_if b n) (c.find_winning_body-body.ensures ∙ ap winning_body (find.ok was fit.unfilled.store) ∙ body_alone h) in
-    let next : HasCleanDisk (state g.S.Store between) → F old → mid ≡ old → F' mid =
-    λ was fit same. subst F' (sym same) (to_declare_as declares sees db bytes id f (stored_fields db id old) named (says was fit) before old fit) in
-    let fault = c.in_err-declare_design.field-0.0 in
+    let F' = IsToDeclare declares sees c.args.db.now c.as_bytes.result.now (declared_if body) before in
     let e = c.in_err-declare_design.ensures in
-    let is : c.from_residual-in_err-declare_design.result ≡ Err (of_index_fault fault) = search rules in
-    unwritten_as (AreFit g.S.Store F first last) c.from_residual-in_err-declare_design.result (of_index_fault fault) is
-    (refused_of (AreFit g.S.Store F' between last) (AreFit g.S.Store F first last) fault
-    (λ it.
-    let was : HasCleanDisk (state g.S.Store between) = omega (arith, (e.declares declares sees).asks.survives.clean, it.0) in
-    (it.0, next was it.1 (find.stands it.1.unfilled.store.schema_is was).0.now_is)) (e.err declares sees))
+    change_refused g.S.Store (IsToDeclareAsStored declares sees c.args.db.now c.args.id.now before) (λ d fit. fit.unfilled.store) c.args.tx.now.conn.now c.find_winning.new.tx.conn.now c.in_ok-history.history find.stands find.looks find.asks
+    c.declare_design.new.tx.conn.now F'
+    (to_declare_as_read g.S.Store declares sees c.args.db.now c.as_bytes.result.now c.args.id.now (c.as_bytes.ensures.value ∙ c.as_str.ensures.text) body c.args.tx.now.conn.now c.find_winning.new.tx.conn.now c.in_ok-history.history c.find_winning_body-body.ensures find.ok before)
+    (AreFit g.S.Store F' c.find_winning.new.tx.conn.now c.declare_design.new.tx.conn.now) (λ it. it) c.in_err-declare_design.field-0.0 c.from_residual-in_err-declare_design.result (search rules) (e.declares declares sees).asks
+    (e.err declares sees)
 
 pub returns-clause-declares : goal.returns-clause-declares
 returns-clause-declares g c declares sees =
-    let first = c.args.tx.now.conn.now in
-    let between = c.find_winning.new.tx.conn.now in
-    let last = c.declare_design.new.tx.conn.now in
-    let old = (state g.S.Store first).now in
-    let mid = (state g.S.Store between).now in
-    let end = (state g.S.Store last).now in
-    let db = c.args.db.now in
-    let id = c.args.id.now in
     let find = c.in_ok-history.ensures in
     let before = map declared c.args.fresh.now.items in
-    let F : Database → Type 0 = IsToDeclareAsStored declares sees db id before in
-    let body = option_map {U = Value} (λ v. view v.now) c.find_winning_body-body.result in
-    let f = declared_if (option_map {U = Value} (λ v. view v.now) c.find_winning_body-body.result) in
-    let bytes : List ℕ = c.as_bytes.result.now in
-    let named : bytes ≡ id = c.as_bytes.ensures.value ∙ c.as_str.ensures.text in
-    let h : HistoryContent = history_in (old.trees revs_tree) db id in
-    let F' : Database → Type 0 = IsToDeclare declares sees db bytes f before in
-    let says : HasCleanDisk (state g.S.Store between) → F old → (n : List ℕ) → f n ≡ stored_fields db id old n =
-    λ was fit n. ap (λ (b : Option Value). declared_if b n) (c.find_winning_body-body.ensures ∙ ap winning_body (find.ok was fit.unfilled.store) ∙ body_alone h) in
-    let next : HasCleanDisk (state g.S.Store between) → F old → mid ≡ old → F' mid =
-    λ was fit same. subst F' (sym same) (to_declare_as declares sees db bytes id f (stored_fields db id old) named (says was fit) before old fit) in
     let after = map declared c.declare_design.new.fresh.items in
-    let made =
-    steps_then g.S.Store {E = CommitFault} F F' (λ p q. q ≡ p) (AreLeftUnfilled (with_declared declares db bytes f) sees db after) (IsDeclaredAsStored declares sees db id after) first between last c.in_ok-history.history (Ok tt)
-    (steps_read g.S.Store F first between (Ok c.in_ok-history.history) find.stands find.looks find.asks (λ fit. fit.unfilled.store.schema_is)) (c.in_ok-declare_design.ensures.declares declares sees)
-    next
-    (λ was fit same got. left_as declares sees db bytes id f (stored_fields db id old) named (says was fit) after old end (subst (λ p. AreLeftUnfilled (with_declared declares db bytes f) sees db after p end) same got)) in
-    record { ok = made.ok; keeps = made.keeps; kept = made.kept; goes_on = made.goes_on; asks = made.asks }
+    let body = option_map {U = Value} (λ v. view v.now) c.find_winning_body-body.result in
+    let bytes = c.as_bytes.result.now in
+    let named : bytes ≡ c.args.id.now = c.as_bytes.ensures.value ∙ c.as_str.ensures.text in
+    changed g.S.Store (IsToDeclareAsStored declares sees c.args.db.now c.args.id.now before) (λ d fit. fit.unfilled.store) c.args.tx.now.conn.now c.find_winning.new.tx.conn.now c.in_ok-history.history find.stands find.looks find.asks
+    c.declare_design.new.tx.conn.now (IsToDeclare declares sees c.args.db.now bytes (declared_if body) before)
+    (to_declare_as_read g.S.Store declares sees c.args.db.now bytes c.args.id.now named body c.args.tx.now.conn.now c.find_winning.new.tx.conn.now c.in_ok-history.history c.find_winning_body-body.ensures find.ok before)
+    (AreLeftUnfilled (with_declared declares c.args.db.now bytes (declared_if body)) sees c.args.db.now after) (IsDeclaredAsStored declares sees c.args.db.now c.args.id.now after) (c.in_ok-declare_design.ensures.declares declares sees)
+    (declared_as_read g.S.Store declares sees c.args.db.now bytes c.args.id.now named body c.args.tx.now.conn.now c.find_winning.new.tx.conn.now c.in_ok-history.history c.find_winning_body-body.ensures find.ok before after (state g.S.Store c.declare_design.new.tx.conn.now).now)

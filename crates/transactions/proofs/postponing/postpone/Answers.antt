@@ -1,4 +1,4 @@
-use Rattle.transactions.proofs.Lemmas.{subst, sym, ◌∙◌, ◌≡◌, ap}
+use Rattle.transactions.proofs.Lemmas.{subst, sym, ◌∙◌, ap}
 use Rattle.transactions.proofs.Common.{slice_cmp}
 use Rattle.std.specs.BTreeSet.{insert_key}
 use Rattle.std.specs.Ordering.{nat_cmp}

@@ -1,6 +1,6 @@
 use Rattle.transactions.specs.Commits.{IsSound}
 use Rattle.transactions.proofs.Lemmas.{ap, rules, ⊤, state, subst, sym, ◌∙◌, ◌≡◌}
-use Rattle.transactions.proofs.Common.{Err, List, Ok, db_of, false, id_of, refl, true, ℕ, ◌∷◌}
+use Rattle.transactions.proofs.Common.{Err, List, db_of, false, id_of, refl, true, ℕ, ◌∷◌}
 use Rattle.transactions.proofs.Redeclared.{named_one, redeclared, skipped, unwritten_as}
 use Rattle.transactions.proofs.Committing.{unwritten_of}
 use Rattle.transactions.specs.Indexing.{IsRedeclared}

@@ -1,4 +1,4 @@
-use Rattle.transactions.proofs.Lemmas.{CommitFault, Err, IfErr, IsSound, IsUnwritten, Result, ap, filter, inside, lost, map, revision_found, revision_intact, revs_tree, rules, shown_revision, slice_get, state, subst, sym, ⊤, ◌∙◌, ◌≡◌}
+use Rattle.transactions.proofs.Lemmas.{IsSound, ap, filter, inside, lost, map, revision_found, revision_intact, revs_tree, rules, shown_revision, slice_get, state, sym, ⊤, ◌∙◌, ◌≡◌}
 use Rattle.transactions.proofs.Common.{List, Option, Revision, ℕ}
 use Rattle.std.specs.Prelude.{option_map}
 use Rattle.sqlite_value.specs.Order.{Row}
@@ -6,6 +6,7 @@ use Rattle.tables.specs.Rows.{is_revision_of}
 use Rattle.tree.specs.declared.entry.Entry.{Entry}
 use Rattle.transactions.specs.Reading.{known_shown}
 use Rattle.transactions.specs.declared.commit_fault.CommitFault.TheVariants as write
+use Rattle.transactions.proofs.Redeclared.{unwritten_as}
 use Rattle.transactions.proofs.seeing.find_revision.Goals as goal
 
 pub returns-in_err-first_revision-clause-err : goal.returns-in_err-first_revision-clause-err
@@ -14,9 +15,8 @@ returns-in_err-first_revision-clause-err g c =
     let trees = (state g.S.Store old).now.trees in
     let fault = c.in_err-first_revision.field-0.0 in
     let sound : Type 0 = IsSound g.S.Store (λ _. ⊤) old c.one_revision_rows_in.new.tx.conn.now in
-    let is : c.from_residual-in_err-first_revision.result ≡ Err (write.Store fault) = search rules in
     let said = option_map known_shown (slice_get c.deref.result.now 0) in
-    subst (λ (r : Result (Option Entry) CommitFault). IfErr r (IsUnwritten sound)) (sym is)
+    unwritten_as sound c.from_residual-in_err-first_revision.result (write.Store fault) (search rules)
     (lost said _ sound fault c.in_err-first_revision.ensures
     (λ it.
     let store = (it.1 (c.in_ok-rows.ensures.reads.served it.0)).0 in

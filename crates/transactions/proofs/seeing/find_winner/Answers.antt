@@ -1,4 +1,4 @@
-use Rattle.transactions.proofs.Lemmas.{CommitFault, Err, IfErr, IsSound, IsUnwritten, Result, ap, documents_intact, filter, inside, is_of, lost, map, rules, slice_get, state, subst, sym, winner_found, ⊤, ◌∙◌, ◌≡◌}
+use Rattle.transactions.proofs.Lemmas.{IsSound, ap, documents_intact, filter, inside, is_of, lost, map, rules, slice_get, state, sym, winner_found, ⊤, ◌∙◌, ◌≡◌}
 use Rattle.transactions.proofs.Common.{List, Option, ℕ}
 use Rattle.std.specs.Prelude.{option_and_then}
 use Rattle.sqlite_value.specs.Order.{Row}
@@ -7,6 +7,7 @@ use Rattle.tables.specs.Schema.{docs_tree}
 use Rattle.tree.specs.declared.marked_rev.MarkedRev.{MarkedRev}
 use Rattle.transactions.specs.Reading.{winner_shown}
 use Rattle.transactions.specs.declared.commit_fault.CommitFault.TheVariants as write
+use Rattle.transactions.proofs.Redeclared.{unwritten_as}
 use Rattle.transactions.proofs.seeing.find_winner.Goals as goal
 
 pub returns-in_err-first_winner-clause-err : goal.returns-in_err-first_winner-clause-err
@@ -17,9 +18,8 @@ returns-in_err-first_winner-clause-err g c =
     let id = c.as_bytes.result.now in
     let fault = c.in_err-first_winner.field-0.0 in
     let sound : Type 0 = IsSound g.S.Store (λ _. ⊤) old c.document_rows_in.new.tx.conn.now in
-    let is : c.from_residual-in_err-first_winner.result ≡ Err (write.Store fault) = search rules in
     let said = option_and_then winner_shown (slice_get c.deref.result.now 0) in
-    subst (λ (r : Result (Option MarkedRev) CommitFault). IfErr r (IsUnwritten sound)) (sym is)
+    unwritten_as sound c.from_residual-in_err-first_winner.result (write.Store fault) (search rules)
     (lost said _ sound fault c.in_err-first_winner.ensures
     (λ it.
     let store = (it.1 (c.in_ok-rows.ensures.reads.served it.0)).0 in

@@ -1,4 +1,4 @@
-use Rattle.transactions.proofs.Lemmas.{CommitFault, Err, IfErr, IsSound, IsUnwritten, Result, ap, filter, history_in, lost_of, map, outlines_intact, revs_tree, rules, state, subst, sym, winner_has_mark, ◌∙◌, ◌≡◌}
+use Rattle.transactions.proofs.Lemmas.{CommitFault, Err, IfErr, IsSound, IsUnwritten, Result, filter, history_in, lost_of, map, outlines_intact, revs_tree, rules, state, subst, sym, winner_has_mark, ◌∙◌, ◌≡◌}
 use Rattle.transactions.proofs.Common.{AllByRecursion, List, Revision, Row, Some, Trees, ℕ}
 use Rattle.tables.specs.Rows.{is_revision_of, shown_outline}
 use Rattle.tables.specs.Shown.{IsShownOutline}

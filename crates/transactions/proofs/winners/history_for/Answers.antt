@@ -1,6 +1,6 @@
 use Rattle.transactions.proofs.Common.{None, Some, ap, HasBest, HistoryContent, addition_of, rules, subst, sym, with_addition, ◌<◌, ◌∙◌, ◌≡◌}
 use Rattle.transactions.proofs.Following.{marked_is, single_has_best, single_wins, winner_serves}
-use Rattle.transactions.specs.Following.{IsFollower, Serves}
+use Rattle.transactions.specs.inner.Following.{IsFollower, Serves}
 use Rattle.tree.specs.History.{winner}
 use Rattle.transactions.proofs.winners.history_for.Goals as goal
 

@@ -6,7 +6,7 @@ use Rattle.store.specs.Writing.{Addition, written_in}
 use Rattle.tree.specs.History.{HistoryContent, is_known, parent_of, placement, winner}
 use Rattle.tree.specs.Revision.{Revision}
 use Rattle.tree.specs.declared.placement.Placed.TheVariants.{Added}
-use Rattle.transactions.specs.Inserting.{IsBest, entries_of, unknown_in}
+use Rattle.transactions.specs.inner.Inserting.{IsBest, entries_of, unknown_in}
 
 -- the history has a place for the path of the write, whose revision is new
 abbrev pub HasPlaceFor : HistoryContent → Addition → Type 0

@@ -7,7 +7,7 @@ use Rattle.store.specs.Indexes.{winning_body}
 use Rattle.tables.specs.Rows.{history_in}
 use Rattle.tables.specs.Schema.{decls_tree, revs_tree}
 use Rattle.index.specs.Calls.{ChangesIndexes}
-use Rattle.index.specs.Declaring.{IsRebuildable, IsRebuilt}
+use Rattle.index.specs.Declaring.{IsRebuilt}
 use Rattle.index.specs.Indexed.{IsIndexed}
 use Rattle.index.specs.Meaning.{Declarations, Documents, declared_if, with_declared}
 use Rattle.index.specs.Rebuilding.{AreLeftUnfilled, AreUnfilled, IsDesignCleared, IsToDeclare}
