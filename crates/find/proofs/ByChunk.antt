@@ -5,8 +5,8 @@ use Rattle.std.proofs.lemmas.Bool.Decides.{nat_tests}
 use Rattle.std.proofs.lemmas.List.{drop-drop, take-append-drop}
 use Rattle.std.specs.Prelude.{nat_lt}
 use Rattle.couch_json.specs.Value.{Value}
-use Rattle.find.specs.Matching.{completion}
-use Rattle.find.specs.Sources.{ids_unless}
+use Rattle.find.specs.inner.Matching.{completion}
+use Rattle.find.specs.inner.Sources.{ids_unless}
 use Rattle.find.specs.declared.part.Part.{Part}
 
 -- ---- one chunk

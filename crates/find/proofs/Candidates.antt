@@ -21,12 +21,12 @@ use Rattle.store.specs.declared.listing.IdRow.{IdRow}
 use Rattle.find.proofs.Covered.{HasMatches, covered}
 use Rattle.find.proofs.Finding.{every_row, found_sorted, rows_of_page}
 use Rattle.find.proofs.Indexed.{put_matches}
-use Rattle.find.specs.Candidates.{put_candidates}
+use Rattle.find.specs.inner.Candidates.{put_candidates}
 use Rattle.find.specs.Found.{found_documents}
 use Rattle.find.specs.IndexRead.{index_asked}
-use Rattle.find.specs.Matching.{if_matches, match_in}
-use Rattle.find.specs.Planning.{Covers, MayServe, has_key_within}
-use Rattle.find.specs.Sources.{ids_in, ids_of_places}
+use Rattle.find.specs.inner.Matching.{if_matches, match_in}
+use Rattle.find.specs.inner.Planning.{Covers, MayServe, has_key_within}
+use Rattle.find.specs.inner.Sources.{ids_in, ids_of_places}
 use Rattle.find.specs.declared.plan.Plan.{Plan}
 use Rattle.find.specs.declared.source.Source.TheVariants.{Documents, Index}
 use Rattle.find.specs.declared.query.Query.{Query}

@@ -15,8 +15,8 @@ use Rattle.store.specs.Indexes.{IndexPlace, field_values, place_order, put_at_va
 use Rattle.store.specs.PlaceOrder.{place_order_total}
 use Rattle.find.proofs.Filtered.{below}
 use Rattle.find.proofs.Indexed.{sorted_put}
-use Rattle.find.specs.Candidates.{put_candidates}
-use Rattle.find.specs.Matching.{match_in}
+use Rattle.find.specs.inner.Candidates.{put_candidates}
+use Rattle.find.specs.inner.Matching.{match_in}
 
 -- ---- sorted entries
 

@@ -27,8 +27,8 @@ use Rattle.find.proofs.Indexed.{AreOf, filter_index, index_by_id, index_of, matc
 use Rattle.store.proofs.Directed.{filter-directed, options-directed}
 use Rattle.find.specs.Answers.{Finds}
 use Rattle.find.specs.Found.{found_documents, sorted_documents}
-use Rattle.find.specs.Matching.{match_in, matches_at}
-use Rattle.find.specs.Sources.{ids_in}
+use Rattle.find.specs.inner.Matching.{match_in, matches_at}
+use Rattle.find.specs.inner.Sources.{ids_in}
 use Rattle.find.specs.declared.source.Source.TheVariants.{Documents}
 use Rattle.find.specs.declared.query.Query.{Query}
 

@@ -17,7 +17,7 @@ use Rattle.selector.specs.declared.bounds.Bounds.TheVariants.{Range}
 use Rattle.selector.specs.declared.bounds.Edge.{Edge}
 use Rattle.store.proofs.FieldValues.{all_fields, before_all}
 use Rattle.store.specs.Indexes.{field_values}
-use Rattle.find.specs.Planning.{AreFixed}
+use Rattle.find.specs.inner.Planning.{AreFixed}
 use Rattle.find.specs.declared.query.Query.{Query}
 
 tied : (o : Ordering) → is_eq o ≡ true → o ≡ Equal

@@ -24,12 +24,12 @@ use Rattle.find.proofs.Candidates.{found_by_index, ids_at, ids_of_index, index_c
 use Rattle.find.proofs.Covered.{HasMatches, IsMatch, covered, from_all}
 use Rattle.find.proofs.Filtered.{HasKeys, put_front}
 use Rattle.find.proofs.Indexed.{after_put}
-use Rattle.find.specs.Candidates.{put_candidates}
+use Rattle.find.specs.inner.Candidates.{put_candidates}
 use Rattle.find.specs.Found.{found_documents}
 use Rattle.find.specs.IndexRead.{index_asked}
-use Rattle.find.specs.Matching.{match_in, matches_at}
-use Rattle.find.specs.Planning.{AreFixed, Covers, IsInOrder, MayServe, has_key_within}
-use Rattle.find.specs.Sources.{ids_in}
+use Rattle.find.specs.inner.Matching.{match_in, matches_at}
+use Rattle.find.specs.inner.Planning.{AreFixed, Covers, IsInOrder, MayServe, has_key_within}
+use Rattle.find.specs.inner.Sources.{ids_in}
 use Rattle.find.specs.declared.plan.Plan.{Plan}
 use Rattle.find.specs.declared.query.Query.{Query}
 use Rattle.find.specs.declared.source.Source.TheVariants.{Index}

@@ -25,7 +25,7 @@ use Rattle.store.specs.Pages.{live_rev, live_rows, with_row}
 use Rattle.store.specs.declared.listing.IdRow.{IdRow}
 use Rattle.find.proofs.Filtered.{HasKeys, filter-put, keys_put, put_front}
 use Rattle.store.proofs.Directed.{reverse-cons}
-use Rattle.find.specs.Matching.{if_matches, match_in, matches_at}
+use Rattle.find.specs.inner.Matching.{if_matches, match_in, matches_at}
 
 -- ---- an index of documents that match
 

@@ -24,7 +24,7 @@ use Rattle.store.specs.declared.index_page.CutSide.{CutSide}
 use Rattle.store.specs.declared.index_page.CutSide.TheVariants.{AfterPrefix, Before}
 use Rattle.store.specs.declared.index_page.KeyCut.{KeyCut}
 use Rattle.store.specs.declared.index_page.KeyRange.{KeyRange}
-use Rattle.find.specs.Planning.{AreThere, Covers, IsThere, has_key_within}
+use Rattle.find.specs.inner.Planning.{AreThere, Covers, IsThere, has_key_within}
 use Rattle.find.specs.declared.query.Query.{Query}
 
 -- ---- cuts at one value

@@ -16,3 +16,5 @@ mod ByChunk
 mod InOrder
 mod FixedFields
 mod Takings
+mod Behind
+mod Live

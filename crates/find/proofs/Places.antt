@@ -16,8 +16,8 @@ use Rattle.store.specs.Indexes.{IndexPlace, field_values, place_order, put_at_va
 use Rattle.store.specs.Pages.{in_direction}
 use Rattle.find.proofs.ByChunk.{none_left}
 use Rattle.find.proofs.Covered.{from_all}
-use Rattle.find.specs.Candidates.{put_candidates, put_place, put_place_at, put_places}
-use Rattle.find.specs.Matching.{completion, match_in, matches_at}
+use Rattle.find.specs.inner.Candidates.{put_candidates, put_place, put_place_at, put_places}
+use Rattle.find.specs.inner.Matching.{completion, match_in, matches_at}
 use Rattle.find.specs.declared.part.Part.{Part}
 use Rattle.find.specs.declared.query.Query.{Query}
 

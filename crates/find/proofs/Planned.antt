@@ -6,7 +6,7 @@ use Rattle.store.specs.Database.{Database, history_at}
 use Rattle.store.specs.Indexes.{index_fields_of}
 use Rattle.store.specs.Winning.{winner_alone}
 use Rattle.find.specs.IndexRead.{index_asked}
-use Rattle.find.specs.Planning.{MayServe, MayServeBy}
+use Rattle.find.specs.inner.Planning.{MayServe, MayServeBy}
 use Rattle.find.specs.declared.plan.Plan.{Plan}
 use Rattle.find.specs.declared.query.Query.{Query}
 

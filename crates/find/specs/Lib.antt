@@ -1,10 +1,7 @@
 pub mod Answers
 pub mod Found
-pub mod Matching
 pub mod Queries
 pub mod Reading
 pub mod IndexRead
 pub mod Indexes
-pub mod Candidates
-pub mod Planning
-pub mod Sources
+pub mod inner

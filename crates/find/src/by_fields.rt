@@ -9,10 +9,11 @@ ghost use Rattle.store.specs.Calls.{OnlyReads};
 ghost use Rattle.store.specs.Database.{Database};
 ghost use Rattle.store.specs.Pages.{in_direction};
 ghost use Rattle.read.specs.Answers.{Stops};
-ghost use Rattle.find.specs.Candidates.{put_candidates, put_place, put_places};
-ghost use Rattle.find.specs.Matching.{match_in};
-ghost use Rattle.find.specs.Sources.{chunks_left, ids_in, ids_left};
+ghost use Rattle.find.specs.inner.Candidates.{put_candidates, put_place, put_places};
+ghost use Rattle.find.specs.inner.Matching.{match_in};
+ghost use Rattle.find.specs.inner.Sources.{AreCandidates, IsCandidate, candidate_at, chunks_left, ids_in, ids_left, ids_of};
 
+use crate::candidate::Candidate;
 use crate::chunks::{Chunks, take_chunk};
 use crate::in_order::put_matches;
 use crate::matching::read_match;
@@ -43,8 +44,8 @@ pub(crate) fn find_sorted<S: Store>(
     ensures reads { OnlyReads S.Store store.old store.new }
 {
     let places = sort_matches(alloc, store, db, query, source)?;
-    let ids = list_ids(alloc, places, query.descending)?;
-    let wanted = leave_out(&ids, query.skip);
+    let candidates = list_candidates(alloc, places, query.descending)?;
+    let wanted = leave_out(&candidates, query.skip);
     let mut part = Part::new(alloc, 0, query.limit)?;
     put_matches(alloc, store, db, wanted, query, &mut part)?;
     Ok(part.documents)
@@ -85,52 +86,62 @@ fn sort_chunk<S: Store>(
     requires { chunks.old.is_done ≡ false }
     ensures there { S.is_honest store.new → OnOk result (is_some (map.get (S.contents store.old) db.now) ≡ true) }
     ensures ok { S.is_honest store.new → OnOk result ((d : Database) → map.get (S.contents store.old) db.now ≡ Some d
-        → put_places query.now.sort query.now.selector d (ids_left source.now chunks.new d) places.new.keys ≡ put_places query.now.sort query.now.selector d (ids_left source.now chunks.old d) places.old.keys) }
+        → put_places query.now.sort query.now.selector d
+        (ids_left source.now chunks.new d) places.new.keys ≡ put_places query.now.sort query.now.selector d
+        (ids_left source.now chunks.old d) places.old.keys) }
     ensures onward { OnOk result (chunks_left chunks.new < chunks_left chunks.old) }
     ensures stops { IfErr result (Stops S.Store store.old store.new (map.get (S.contents store.old) db.now ≡ None)) }
     ensures reads { OnlyReads S.Store store.old store.new }
 {
-    let ids = take_chunk(alloc, store, db, source, chunks)?;
-    sort_ids(alloc, store, db, &ids, query, places)?;
+    let candidates = take_chunk(alloc, store, db, source, chunks)?;
+    sort_candidates(alloc, store, db, &candidates, query, places)?;
     Ok(())
 }
 
-/// Puts in the places of the documents of these ids that match.
-fn sort_ids<S: Store>(
+/// Puts in the places of the candidates that match.
+fn sort_candidates<S: Store>(
     alloc: Global,
     store: &mut S,
     db: &DbName,
-    ids: &[DocId],
+    candidates: &[Candidate],
     query: &Query,
     places: &mut BTreeSet<KeyRow>,
 ) -> Result<(), ReadFault>
+    requires { S.is_honest store.old → (d : Database) → map.get (S.contents store.old) db.now ≡ Some d → AreCandidates d candidates.now }
     ensures ok { S.is_honest store.new → OnOk result ((d : Database) → map.get (S.contents store.old) db.now ≡ Some d
-        → places.new.keys ≡ put_places query.now.sort query.now.selector d ids.now places.old.keys) }
+        → places.new.keys ≡ put_places query.now.sort query.now.selector d (ids_of candidates.now) places.old.keys) }
     ensures stops { IfErr result (Stops S.Store store.old store.new (map.get (S.contents store.old) db.now ≡ None)) }
     ensures reads { OnlyReads S.Store store.old store.new }
 {
-    for id in ids {
-        put_match(alloc, store, db, id, query, places)?;
+    for candidate in candidates {
+        put_match(alloc, store, db, candidate, query, places)?;
     }
     Ok(())
 }
 
-/// Puts in the place of a document, if it matches and has one.
+/// Puts in the place of a candidate, if it matches and has one.
 fn put_match<S: Store>(
     alloc: Global,
     store: &mut S,
     db: &DbName,
-    id: &DocId,
+    candidate: &Candidate,
     query: &Query,
     places: &mut BTreeSet<KeyRow>,
 ) -> Result<(), ReadFault>
+    requires { S.is_honest store.old → (d : Database) → map.get (S.contents store.old) db.now ≡ Some d → IsCandidate d candidate.now }
     ensures ok { S.is_honest store.new → OnOk result ((d : Database) → map.get (S.contents store.old) db.now ≡ Some d
-        → places.new.keys ≡ put_place query.now.sort id.now (match_in query.now.selector d id.now) places.old.keys) }
+        → places.new.keys ≡ put_place query.now.sort candidate.now.id (match_in query.now.selector d candidate.now.id) places.old.keys) }
     ensures stops { IfErr result (Stops S.Store store.old store.new (map.get (S.contents store.old) db.now ≡ None)) }
     ensures reads { OnlyReads S.Store store.old store.new }
 {
-    if let Some(document) = read_match(alloc, store, db, id, &query.selector)? {
-        put_place(alloc, query.sort.as_slice(), id, &document, places)?;
+    if let Some(document) = read_match(alloc, store, db, candidate, &query.selector)? {
+        put_place(
+            alloc,
+            query.sort.as_slice(),
+            &candidate.id,
+            &document,
+            places,
+        )?;
     }
     Ok(())
 }
@@ -159,31 +170,32 @@ fn make_key(values: Vec<Json>) -> IndexKey
     IndexKey::new(Json::Array(values))
 }
 
-/// Returns the ids without the first ones.
-fn leave_out(ids: &[DocId], skip: u64) -> &[DocId]
-    ensures { result.now ≡ drop skip ids.now }
+/// Returns the candidates without the first ones.
+fn leave_out(candidates: &[Candidate], skip: u64) -> &[Candidate]
+    ensures { result.now ≡ drop skip candidates.now }
 {
-    if skip < ids.len() as u64 {
-        &ids[skip as usize..]
+    if skip < candidates.len() as u64 {
+        &candidates[skip as usize..]
     } else {
         &[]
     }
 }
 
-/// Lists the ids of these places, in this direction.
-fn list_ids(alloc: Global, places: BTreeSet<KeyRow>, descending: bool) -> Got<Vec<DocId>>
-    ensures { IfOk result (λ ids. ids.items ≡ in_direction descending (each (λ p. p.id) places.keys)) }
+/// Lists the documents at these places, in this direction.
+fn list_candidates(alloc: Global, places: BTreeSet<KeyRow>, descending: bool) -> Got<Vec<Candidate>>
+    ensures { IfOk result (λ candidates. candidates.items ≡ in_direction descending (each candidate_at (each (λ p. p.id) places.keys))) }
 {
-    Ok(reverse_if(copy_ids(alloc, places)?, descending))
+    Ok(reverse_if(copy_candidates(alloc, places)?, descending))
 }
 
-/// Copies the ids of these places, in their order.
-fn copy_ids(alloc: Global, places: BTreeSet<KeyRow>) -> Got<Vec<DocId>>
-    ensures { IfOk result (λ ids. ids.items ≡ each (λ p. p.id) places.keys) }
+/// Copies the ids of these places as candidates, in their order.
+fn copy_candidates(alloc: Global, places: BTreeSet<KeyRow>) -> Got<Vec<Candidate>>
+    ensures { IfOk result (λ candidates. candidates.items ≡ each candidate_at (each (λ p. p.id) places.keys)) }
 {
-    let mut ids = Vec::with_capacity(alloc, places.len())?;
+    let mut candidates = Vec::with_capacity(alloc, places.len())?;
     for place in places {
-        ids.push(place.id().copy(alloc)?)?;
+        let id = place.id().copy(alloc)?;
+        candidates.push(Candidate { id, rev: None })?;
     }
-    Ok(ids)
+    Ok(candidates)
 }

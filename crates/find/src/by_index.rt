@@ -4,7 +4,7 @@ ghost use Rattle.std.specs.Prelude.{◌≡◌, IfOk, IfErr, None};
 ghost use Rattle.std.specs.FinMap as map;
 ghost use Rattle.store.specs.Calls.{OnlyReads};
 ghost use Rattle.read.specs.Answers.{Stops};
-ghost use Rattle.find.specs.Planning.{IsFound};
+ghost use Rattle.find.specs.inner.Planning.{IsFound};
 
 use crate::by_fields::find_sorted;
 use crate::choosing::choose_index;

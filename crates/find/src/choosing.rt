@@ -7,7 +7,7 @@ ghost use Rattle.std.specs.FinMap as map;
 ghost use Rattle.store.specs.Calls.{OnlyReads};
 ghost use Rattle.store.specs.Database.{Database};
 ghost use Rattle.read.specs.Answers.{Stops};
-ghost use Rattle.find.specs.Planning.{IsReadIn};
+ghost use Rattle.find.specs.inner.Planning.{IsReadIn};
 
 use crate::fixed::only_value;
 use crate::query::Query;

@@ -10,7 +10,7 @@ ghost use Rattle.selector.specs.Bounds.{contain};
 ghost use Rattle.selector.specs.Truth.{selector_matches};
 ghost use Rattle.selector.specs.declared.bounds.Bounds.TheVariants.{Range};
 ghost use Rattle.store.specs.declared.index_page.CutSide.TheVariants.{After, Before};
-ghost use Rattle.find.specs.Planning.{AreFixed};
+ghost use Rattle.find.specs.inner.Planning.{AreFixed};
 
 use crate::query::Query;
 use couch_json::{FieldPath, Got, Json, collate};

@@ -19,6 +19,7 @@ pub fn found_documents()
 /// second, in the direction of its sort: by the values at the fields of the sort, and by id where these
 /// tie. Without a sort they go by id. No id stands there twice.
 pub fn order_of_found_documents()
-    ensures ordered { (query : Query) (db : Database) → AllPairs (λ v w. is_before query.descending (place_of query.sort v) (place_of query.sort w) ≡ true) (found_documents query db) }
+    ensures ordered { (query : Query) (db : Database)
+        → AllPairs (λ v w. is_before query.descending (place_of query.sort v) (place_of query.sort w) ≡ true) (found_documents query db) }
     ensures once { (query : Query) (db : Database) → AllPairs (λ v w. id_of v ≢ id_of w) (found_documents query db) }
 {}

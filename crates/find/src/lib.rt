@@ -11,6 +11,7 @@
 
 mod by_fields;
 mod by_index;
+mod candidate;
 mod choosing;
 mod chunks;
 mod documents;
@@ -25,6 +26,7 @@ mod plan;
 mod planning;
 mod query;
 mod ranges;
+mod reached;
 mod scan;
 mod sort;
 mod sort_fields;

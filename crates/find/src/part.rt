@@ -1,7 +1,7 @@
 ghost use Rattle.std.specs.Prelude.{◌≡◌, ◌∷◌, IfOk, List, OnOk, drop, nat_eq, take};
 ghost use Rattle.couch_json.specs.Value.{Value};
 ghost use Rattle.couch_json.specs.View.{view};
-ghost use Rattle.find.specs.Matching.{completion};
+ghost use Rattle.find.specs.inner.Matching.{completion};
 
 use couch_json::{ArrayText, Got, Json, JsonText};
 use std::alloc::Global;

@@ -2,7 +2,7 @@
 
 ghost use Rattle.std.specs.Prelude.{◌≡◌, IfOk, IfSome, true};
 ghost use Rattle.find.specs.IndexRead.{index_asked};
-ghost use Rattle.find.specs.Planning.{IsInOrder, MayServeBy};
+ghost use Rattle.find.specs.inner.Planning.{IsInOrder, MayServeBy};
 
 use crate::choosing::Chosen;
 use crate::index::Index;

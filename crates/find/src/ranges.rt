@@ -7,7 +7,7 @@ ghost use Rattle.couch_json.specs.View.{view};
 ghost use Rattle.selector.specs.Bounds.{contain, is_above as is_over, is_below};
 ghost use Rattle.store.specs.KeyPages.{is_above, is_key_within};
 ghost use Rattle.store.specs.declared.index_page.CutSide.TheVariants.{AfterPrefix, Before};
-ghost use Rattle.find.specs.Planning.{AreThere, Covers, IsInOrder, IsThere};
+ghost use Rattle.find.specs.inner.Planning.{AreThere, Covers, IsInOrder, IsThere};
 
 use crate::fixed::{fixed_values, range_at};
 use crate::plan::PlannedRows;

@@ -2,7 +2,8 @@
 
 ghost use Rattle.std.specs.Prelude.{◌≡◌, bytes_eq, option_map};
 ghost use Rattle.couch_json.specs.View.{items_view, members_view, view};
-ghost use Rattle.find.specs.Queries.{direction_text, entry_in, goes_down, is_descending, path_in, sole_member, sort_entries, sort_field, sort_fields, sort_fields_of};
+ghost use Rattle.find.specs.Queries.{direction_text, entry_in, goes_down, is_descending, path_in, sole_member};
+ghost use Rattle.find.specs.Queries.{sort_entries, sort_field, sort_fields, sort_fields_of};
 ghost use Rattle.find.specs.Reading.{Reads};
 
 use crate::fault::QueryFault;

@@ -3,8 +3,8 @@ use Rattle.std.specs.FinMap as finite
 use Rattle.std.specs.Prelude.{is_some}
 use Rattle.store.specs.Calls.{OnlyReads}
 use Rattle.store.specs.Database.{Database}
-use Rattle.find.specs.Candidates.{put_places}
-use Rattle.find.specs.Sources.{chunks_left, ids_in, ids_left}
+use Rattle.find.specs.inner.Candidates.{put_places}
+use Rattle.find.specs.inner.Sources.{chunks_left, ids_in, ids_left}
 use Rattle.find.proofs.by_fields.sort_matches.Given as goal
 
 -- what is sorted, with the places of the ids that are left put in, is what all ids give

@@ -6,9 +6,9 @@ use Rattle.find.proofs.Candidates.{found_by_index}
 use Rattle.find.proofs.InOrder.{found_in_order}
 use Rattle.find.proofs.Planned.{served_by}
 use Rattle.find.proofs.Serving.{found_planned}
-use Rattle.find.specs.Candidates.{put_candidates}
-use Rattle.find.specs.Matching.{matches_at}
-use Rattle.find.specs.Sources.{ids_in}
+use Rattle.find.specs.inner.Candidates.{put_candidates}
+use Rattle.find.specs.inner.Matching.{matches_at}
+use Rattle.find.specs.inner.Sources.{ids_in}
 use Rattle.find.specs.declared.source.Source.TheVariants.{Index}
 use Rattle.find.proofs.by_index.find_by_index.Goals as goal
 

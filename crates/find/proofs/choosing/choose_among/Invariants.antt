@@ -3,7 +3,7 @@ use Rattle.std.specs.FinMap as finite
 use Rattle.std.specs.Prelude.{IfSome}
 use Rattle.store.specs.Calls.{OnlyReads}
 use Rattle.store.specs.Database.{Database}
-use Rattle.find.specs.Planning.{IsReadIn}
+use Rattle.find.specs.inner.Planning.{IsReadIn}
 use Rattle.find.proofs.choosing.choose_among.Given as goal
 
 abbrev pub invariant-loop-row : goal.invariant-loop-row

@@ -3,8 +3,8 @@ use Rattle.std.specs.FinMap as finite
 use Rattle.std.specs.Prelude.{is_some}
 use Rattle.store.specs.Calls.{OnlyReads}
 use Rattle.store.specs.Database.{Database}
-use Rattle.find.specs.Matching.{completion, matches_at}
-use Rattle.find.specs.Sources.{chunks_left, ids_in, ids_left}
+use Rattle.find.specs.inner.Matching.{completion, matches_at}
+use Rattle.find.specs.inner.Sources.{chunks_left, ids_in, ids_left}
 use Rattle.find.proofs.in_order.find_in_order.Given as goal
 
 -- the part, completed with the matches of the ids that are left, is that of all ids

@@ -1,6 +1,6 @@
 use Rattle.std.proofs.Common.{◌≡◌, true, sym, ap, subst, ◌∙◌}
 use Rattle.store.specs.Indexes.{index_fields_of}
-use Rattle.find.specs.Planning.{Covers, IsInOrder}
+use Rattle.find.specs.inner.Planning.{Covers, IsInOrder}
 use Rattle.find.proofs.planning.plan_by.Goals as goal
 
 pub returns-clause-serves : goal.returns-clause-serves

@@ -1,5 +1,5 @@
 use Rattle.std.proofs.Common.{drop}
-use Rattle.find.specs.Planning.{AreThere}
+use Rattle.find.specs.inner.Planning.{AreThere}
 use Rattle.find.proofs.ranges.are_there.Given as goal
 
 -- where the fields to come are there too, all are

@@ -1,5 +1,5 @@
 use Rattle.std.proofs.Common.{◌≡◌, true, rules, sym, subst}
-use Rattle.find.specs.Planning.{AreThere, Covers}
+use Rattle.find.specs.inner.Planning.{AreThere, Covers}
 use Rattle.find.proofs.KeyRanges.{first_covers, first_of}
 use Rattle.find.proofs.ranges.range_of.Goals as goal
 

@@ -5,10 +5,10 @@ use Rattle.store.specs.Pages.{in_direction}
 use Rattle.store.proofs.PageStructs.{no_length}
 use Rattle.find.proofs.Candidates.{all_documents, found_among}
 use Rattle.find.proofs.Finding.{finds_by, found_by_id}
-use Rattle.find.specs.Candidates.{put_candidates}
+use Rattle.find.specs.inner.Candidates.{put_candidates}
 use Rattle.find.specs.Found.{found_documents}
-use Rattle.find.specs.Matching.{matches_at}
-use Rattle.find.specs.Sources.{ids_in}
+use Rattle.find.specs.inner.Matching.{matches_at}
+use Rattle.find.specs.inner.Sources.{ids_in}
 use Rattle.find.specs.declared.source.Source.TheVariants.{Documents}
 use Rattle.find.proofs.scan.find_by_scan.Goals as goal
 

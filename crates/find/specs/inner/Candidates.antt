@@ -5,7 +5,7 @@ use Rattle.std.specs.BTreeSet.{insert_key}
 use Rattle.couch_json.specs.Value.{Items, Value, array}
 use Rattle.store.specs.Database.{Database}
 use Rattle.store.specs.Indexes.{IndexPlace, field_values, place_order, put_in_index}
-use Rattle.find.specs.Matching.{match_in}
+use Rattle.find.specs.inner.Matching.{match_in}
 
 -- those of these ids that match, put at their places in an index of these fields
 abbrev pub put_candidates : List (List ℕ) → Value → Database → List (List ℕ) → List (IndexPlace × Value) → List (IndexPlace × Value)
