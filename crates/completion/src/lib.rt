@@ -1,4 +1,0 @@
-//! What a run of a network promises of a replication pass.
-#![tactic(auto)]
-
-pub mod laws;

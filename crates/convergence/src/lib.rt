@@ -1,4 +1,0 @@
-//! Two replication passes in opposite directions make two databases one.
-#![tactic(auto)]
-
-pub mod laws;

@@ -1,0 +1,310 @@
+-- What an accepted write brings: a plain body, and revisions that can be written.
+use Rattle.std.proofs.Common.{◌≡◌, ◌≢◌, ◌≤◌, ◌<◌, ◌+◌, ◌==◌, ◌&&◌, ◌⊎◌, ⊎_elim, inl, inr, ℕ, zero, suc, Bool, true, false, cond, not, List, [], ◌∷◌, ◌++◌, Option, Some, None, option_map, option_and_then, codes, nat_le, le-leb, leb-true, eq-eqb, refl, sym, ap, ◌∙◌, subst, arith}
+use Rattle.std.specs.Prelude.{IsTrue, MatchOption, is_some, slice_index}
+use Rattle.std.specs.List.{AllByRecursion}
+use Rattle.std.proofs.lemmas.Bool.{false≢true}
+use Rattle.std.specs.FinMap.{find, get}
+use Rattle.std.specs.Ordering.{eq_by_cmp}
+use Rattle.std.specs.Int.{to_le_bytes, w32}
+use Rattle.couch_json.specs.Canonical.{canonical}
+use Rattle.couch_json.specs.Parts.{has_only, items_in, text_in}
+use Rattle.couch_json.specs.Value.{Items, Members, Value, array, item, member, member_of, no_items, no_members, null, object, text, truth, whole}
+use Rattle.hex.specs.Hex.{IsBytes, encode_lower}
+use Rattle.md5.specs.Md5.{digest_bytes, md5}
+use Rattle.md5.proofs.StandardFacts.{length-md5}
+use Rattle.tree.specs.History.{HistoryContent, IsBetter, held_of, is_deleted, is_known, is_leaf, path_entries, winner, with_write, write_entries}
+use Rattle.tree.specs.NextRevision.{edit_value, next_revision, number_before}
+use Rattle.tree.specs.Revision.{Revision, greatest_number, is_hash, is_revision, revision_cmp, revision_of, revision_read}
+use Rattle.tree.specs.Write.{StandsIn, Write, head, held_by}
+use Rattle.tree.specs.declared.entry.Entry.{Entry}
+use Rattle.tree.specs.declared.entry.Held.{Held}
+use Rattle.tree.proofs.Behind.{stands_known}
+use Rattle.tree.proofs.Contents.{entry_after_write, entry_kept}
+use Rattle.tree.proofs.EditText.{hash_of_bytes}
+use Rattle.tree.proofs.Leaves.{leaf_is_childless, winner_is_best}
+use Rattle.tree.proofs.RevisionText.{parts, read_gives}
+use Rattle.tree.proofs.Shown.{entry_of_known, found_stands, inside}
+use Rattle.store.specs.Database.{Database, DocumentWrite, IsKnownAt, history_at, with_one}
+use Rattle.write.specs.Admission.{base, edit_of, edit_path, extended_leaf, named_revision, revision_after, with_named_revision}
+use Rattle.write.specs.Document.{Ancestry, ancestry_alone, ancestry_by, body_for, body_in, count, fits_id, is_special, mark_in, onto, path_of, revision_in, revisions_in, sent_in, sent_with, without_special, words_in}
+use Rattle.write.specs.Terms.{Terms}
+use Rattle.write.proofs.Outcomes.{IsEdit, IsReplicated}
+use Rattle.replication.specs.Sound.{AreWritable, IsReplicable, are_plain, is_plain}
+use Rattle.replication.proofs.Replicas.{after_write}
+use Rattle.replication.proofs.Sayings.{along, given_path, kept_body, newest_given, said_of, suited}
+use Rattle.replication.proofs.Writings.{held_in, held_known}
+
+-- ---- one write
+
+-- its body is plain, and each revision of its path can be written, or was known
+pub record IsClean (db : Database) (w : DocumentWrite) : Type 0 where
+  pub body : is_plain w.write.body ≡ true
+  pub path : (s : Revision) → StandsIn w.write.path s → IsKnownAt db w.id s ⊎ IsTrue (is_revision s)
+
+abbrev pub AreClean : Database → List DocumentWrite → Type 0
+AreClean db [] = Unit {0}
+AreClean db (w ∷ ws) = IsClean db w × AreClean (with_one db w) ws
+
+said_of_entry : (path : List Revision) (d : Option Held) (s : Revision) (e : Entry) (g : Held) → find revision_cmp s (path_entries d path) ≡ Some e → e.held ≡ Some g → d ≡ Some g
+said_of_entry [] d s e g found held = absurd cc
+said_of_entry (r ∷ path) d s e g found held = by (λ k. said_of_entry path None s e g k held) (eq_by_cmp revision_cmp s r) found
+  where
+    one : Entry
+    one = record { parent = head path; held = d }
+
+    none : (let x : Option Held = None in x) ≡ Some g → d ≡ Some g
+    none k = absurd cc
+
+    by : (find revision_cmp s (path_entries None path) ≡ Some e → (let x : Option Held = None in x) ≡ Some g) → (b : Bool)
+        → cond b (Some one) (find revision_cmp s (path_entries None path)) ≡ Some e → d ≡ Some g
+    by below true k = ap (λ (x : Entry). x.held) (inside one e k) ∙ held
+    by below false k = none (below k)
+
+-- what is known after a write was known, or stands in its path
+known_or_stands : (h : HistoryContent) (w : Write) (s : Revision) → is_known (with_write h w) s ≡ true → (is_known h s ≡ true) ⊎ StandsIn w.path s
+known_or_stands h w s known = by (is_known h s) refl
+  where
+    by : (b : Bool) → is_known h s ≡ b → (is_known h s ≡ true) ⊎ StandsIn w.path s
+    by true is = inl is
+    by false is =
+        inr (found_stands w.path (Some (held_by w)) s
+        (ap (λ (b : Bool). is_some (cond b (get h s) (find revision_cmp s (write_entries w)))) (sym is) ∙ ap is_some (sym (entry_after_write h w s)) ∙ known))
+
+held_or_brought : (h : HistoryContent) (w : Write) (s : Revision) (d : Held) → held_of (with_write h w) s ≡ Some d → (held_of h s ≡ Some d) ⊎ (held_by w ≡ d)
+held_or_brought h w s d e = by (is_known h s) refl
+  where
+    by : (b : Bool) → is_known h s ≡ b → (held_of h s ≡ Some d) ⊎ (held_by w ≡ d)
+    by true is = inl (ap held_in (sym (entry_kept h w s is)) ∙ e)
+    by false is =
+        let x = entry_of_known (with_write h w) s (held_known (with_write h w) s d e) in
+        let found : find revision_cmp s (write_entries w) ≡ Some x.0 =
+        ap (λ (b : Bool). cond b (get h s) (find revision_cmp s (write_entries w))) (sym is) ∙ sym (entry_after_write h w s) ∙ x.1 in
+        inr (inside (held_by w) d (said_of_entry w.path (Some (held_by w)) s x.0 d found (ap held_in (sym x.1) ∙ e)))
+
+-- what a clean write leaves can be written
+pub one_writable : (db : Database) (w : DocumentWrite) → AreWritable db → IsClean db w → AreWritable (with_one db w)
+one_writable db w h k id r =
+    after_write (λ x. is_known x r ≡ true → IsTrue (is_revision r)) db w id (λ e. h id r e)
+    (λ same e. ⊎_elim (λ old. h id r old) (λ in_path. ⊎_elim (λ old. h w.id r old) (λ good. good) (k.path r in_path)) (known_or_stands (history_at db id) w.write r e))
+
+pub one_stays : (db : Database) (w : DocumentWrite) → IsReplicable db → IsClean db w → IsReplicable (with_one db w)
+one_stays db w h k = record {
+  plain = λ id r d.
+      after_write (λ x. held_of x r ≡ Some d → is_plain d.body ≡ true) db w id (λ e. h.plain id r d e)
+      (λ same e. ⊎_elim (λ old. h.plain id r d old) (λ new. ap (λ (x : Held). is_plain x.body) (sym new) ∙ k.body) (held_or_brought (history_at db id) w.write r d e));
+  writable = one_writable db w h.writable k;
+}
+
+-- ---- bodies
+
+pub without_plain : (ms : Members) → are_plain (without_special ms) ≡ true
+without_plain no_members = refl
+without_plain (member name v ms) = by (is_special name) refl (without_plain ms)
+  where
+    by : (b : Bool) → is_special name ≡ b → are_plain (without_special ms) ≡ true → are_plain (cond b (without_special ms) (member name v (without_special ms))) ≡ true
+    by true is rest = rest
+    by false is rest = ap (λ (b : Bool). not b && are_plain (without_special ms)) is ∙ rest
+
+body_plain : (document body : Value) → body_in document ≡ Some body → is_plain body ≡ true
+body_plain null body e = absurd cc
+body_plain (truth b) body e = absurd cc
+body_plain (whole n) body e = absurd cc
+body_plain (text s) body e = absurd cc
+body_plain (array vs) body e = absurd cc
+body_plain (object ms) body e = ap is_plain (kept_body _ (object (without_special ms)) body e) ∙ without_plain ms
+
+pub sent_plain : (id : List ℕ) (document : Value) (rev : Option Revision) (deleted : Bool) (body : Value) → sent_in id document ≡ Some (sent_with (rev, deleted) body) → is_plain body ≡ true
+sent_plain id document rev deleted body e =
+    let s = said_of sent_with (words_in id document) (body_for id document) (sent_with (rev, deleted) body) e in
+    ap is_plain (along sent_with (λ x. x.body) (sent_with (rev, deleted) body) (sent_with s.words_said s.body_said) s.is) ∙ body_plain document s.body_said (suited id (body_in document) s.body_said s.body_is)
+
+record Then {A B : Type 0} (o : Option A) (f : A → Option B) (b : B) : Type 0 where
+  first : A
+  is : o ≡ Some first
+  then : f first ≡ Some b
+
+then_of : {A B : Type 0} (o : Option A) (f : A → Option B) (b : B) → option_and_then f o ≡ Some b → Then o f b
+then_of None f b e = absurd cc
+then_of (Some a) f b e = record { first = a; is = refl; then = e }
+
+record Mapped {A B : Type 0} (o : Option A) (f : A → B) (b : B) : Type 0 where
+  first : A
+  is : o ≡ Some first
+  made : f first ≡ b
+
+mapped_of : {A B : Type 0} (o : Option A) (f : A → B) (b : B) → option_map f o ≡ Some b → Mapped o f b
+mapped_of None f b e = absurd cc
+mapped_of (Some a) f b e = record { first = a; is = refl; made = inside (f a) b e }
+
+edit_plain : (id : List ℕ) (query : Option Revision) (document : Value) (rev : Option Revision) (deleted : Bool) (body : Value) → edit_of id query document ≡ Some (sent_with (rev, deleted) body) → is_plain body ≡ true
+edit_plain id query document rev deleted body e =
+    let k = then_of (sent_in id document) (λ sent. with_named_revision query sent) (sent_with (rev, deleted) body) e in
+    let m = mapped_of (named_revision query k.first.rev) _ (sent_with (rev, deleted) body) k.then in
+    ap is_plain (sym (along sent_with (λ x. x.body) _ (sent_with (rev, deleted) body) m.made)) ∙ sent_plain id document k.first.rev k.first.deleted k.first.body k.is
+
+-- ---- revisions of edits
+
+are_bytes : (xs : List ℕ) → AllByRecursion (λ b. b < 256) xs → IsBytes xs
+are_bytes [] h i = omega arith
+are_bytes (x ∷ xs) h zero = h.0
+are_bytes (x ∷ xs) h (suc i) = are_bytes xs h.1 i
+
+joined_bytes : (xs ys : List ℕ) → AllByRecursion (λ b. b < 256) xs → AllByRecursion (λ b. b < 256) ys → AllByRecursion (λ b. b < 256) (xs ++ ys)
+joined_bytes [] ys h k = k
+joined_bytes (x ∷ xs) ys h k = (h.0, joined_bytes xs ys h.1 k)
+
+word_bytes : (n : ℕ) → AllByRecursion (λ b. b < 256) (to_le_bytes w32 n)
+word_bytes n = (omega arith, (omega arith, (omega arith, (omega arith, tt))))
+
+digest_parts : (h : List ℕ) (n : ℕ) → AllByRecursion (λ b. b < 256) (digest_bytes h n)
+unfolding digest_bytes
+digest_parts h zero = tt
+digest_parts h (suc n) = joined_bytes (digest_bytes h n) (to_le_bytes w32 (slice_index h n)) (digest_parts h n) (word_bytes (slice_index h n))
+
+bytes_of_digest : (m : List ℕ) → IsBytes (md5 m)
+unfolding md5
+bytes_of_digest m = are_bytes _ (digest_parts _ 4)
+
+-- an edit that follows no revision of the greatest number makes one that can be written
+next_good : (parent : Option Revision) (deleted : Bool) (body : Value) → number_before parent < greatest_number → IsTrue (is_revision (next_revision parent deleted body))
+next_good parent deleted body low =
+    let digest = md5 (canonical (edit_value parent deleted body)) in
+    let hash : is_hash (encode_lower digest) ≡ true = hash_of_bytes digest (length-md5 (canonical (edit_value parent deleted body))) (bytes_of_digest (canonical (edit_value parent deleted body))) in
+    let first : nat_le 1 (number_before parent + 1) ≡ true = le-leb 1 (number_before parent + 1) (omega arith) in
+    let last : nat_le (number_before parent + 1) greatest_number ≡ true = le-leb (number_before parent + 1) greatest_number (omega (arith, low)) in
+    rw (first, last, hash) refl
+
+-- what an edit follows is known
+best_known : (h : HistoryContent) (o : Option Revision) → MatchOption o ((r : Revision) → IsTrue (is_leaf h r) → ⊥) (λ w. IsTrue (is_leaf h w) × ((s : Revision) → IsTrue (is_leaf h s) → (s ≡ w) ⊎ IsBetter h w s))
+    → (r : Revision) → extended_leaf h o ≡ Some (Some r) → is_known h r ≡ true
+best_known h None best r e = absurd (let k : (let x : Option Revision = None in x) ≡ Some r = inside None (Some r) e in cc)
+best_known h (Some w) best r e = by (is_deleted (held_of h w)) e
+  where
+    by : (b : Bool) → cond b (Some (Some w)) None ≡ Some (Some r) → is_known h r ≡ true
+    by true k =
+        let same : w ≡ r = inside w r (inside (Some w) (Some r) k) in
+        ap (is_known h) (sym same) ∙ ((leaf_is_childless h w).0 best.0).0
+    by false k = absurd cc
+
+base_known : (h : HistoryContent) (named : Option Revision) (r : Revision) → base h named ≡ Some (Some r) → is_known h r ≡ true
+base_known h None r e = best_known h (winner h) (winner_is_best h) r e
+base_known h (Some s) r e = by (is_leaf h s) refl e
+  where
+    by : (b : Bool) → is_leaf h s ≡ b → cond b (Some (Some s)) None ≡ Some (Some r) → is_known h r ≡ true
+    by true leaf k =
+        let same : s ≡ r = inside s r (inside (Some s) (Some r) k) in
+        ap (is_known h) (sym same) ∙ ((leaf_is_childless h s).0 leaf).0
+    by false leaf k = absurd cc
+
+-- a revision that can be written, and is not of the greatest number, can be followed
+follow_low : (parent : Option Revision) → ((r : Revision) → parent ≡ Some r → IsTrue (is_revision r)) → number_before parent ≢ greatest_number → number_before parent < greatest_number
+follow_low None good apart = omega arith
+follow_low (Some r) good apart =
+    let k = parts (nat_le 1 r.number && nat_le r.number greatest_number) (is_hash r.hash) (good r refl) in
+    let l = parts (nat_le 1 r.number) (nat_le r.number greatest_number) k.0 in
+    let most : r.number ≤ greatest_number = leb-true r.number greatest_number l.1 in
+    less r.number most apart
+  where
+    less : (n : ℕ) → n ≤ greatest_number → n ≢ greatest_number → n < greatest_number
+    less n le ne = grind (arith, le, ne)
+
+next_known : (rev : Option Revision) (deleted : Bool) (body : Value) (parent : Option Revision) (r : Revision) → revision_after (sent_with (rev, deleted) body) parent ≡ Some r
+    → (number_before parent ≢ greatest_number) × (next_revision parent deleted body ≡ r)
+next_known rev deleted body parent r e = by (number_before parent == greatest_number) refl e
+  where
+    by : (b : Bool) → (number_before parent == greatest_number) ≡ b → cond b None (Some (next_revision parent deleted body)) ≡ Some r
+        → (number_before parent ≢ greatest_number) × (next_revision parent deleted body ≡ r)
+    by true is k = absurd cc
+    by false is k = (λ same. false≢true (sym is ∙ eq-eqb (number_before parent) greatest_number same), inside (next_revision parent deleted body) r k)
+
+pub edit_clean : (terms : Terms) (db : Database) (id : List ℕ) (query : Option Revision) (document : Value) (w : DocumentWrite) → AreWritable db
+    → IsEdit terms id (history_at db id) query document w → IsClean db w
+edit_clean terms db id query document w writable k =
+    let h = history_at db id in
+    let next = next_known k.sent.rev k.sent.deleted k.sent.body k.parent k.rev k.makes in
+    let good : IsTrue (is_revision k.rev) =
+    subst (λ (r : Revision). IsTrue (is_revision r)) next.1
+    (next_good k.parent k.sent.deleted k.sent.body
+    (follow_low k.parent (λ r is. writable id r (base_known h k.sent.rev r (k.follows ∙ ap (λ (o : Option Revision). Some o) is))) next.0)) in
+    let path : (s : Revision) → StandsIn (edit_path h k.parent k.rev) s → IsKnownAt db id s ⊎ IsTrue (is_revision s) =
+    λ s i. ⊎_elim (λ e. inr (subst (λ (r : Revision). IsTrue (is_revision r)) e good)) (λ j. inl (stands_known h k.parent s j)) i in
+    subst (IsClean db) (sym k.is) (record { body = edit_plain id query document k.sent.rev k.sent.deleted k.sent.body k.says; path = path })
+
+-- ---- revisions of replicated documents
+
+read_good : (rev : Option Value) (r : Revision) → revision_in rev ≡ Some (Some r) → IsTrue (is_revision r)
+read_good None r e = absurd (let k : (let x : Option Revision = None in x) ≡ Some r = inside None (Some r) e in cc)
+read_good (Some v) r e = by (text_in v) e
+  where
+    by : (o : Option (List ℕ)) → option_and_then (λ t. option_map (λ x. Some x) (revision_read t)) o ≡ Some (Some r) → IsTrue (is_revision r)
+    by None k = absurd cc
+    by (Some t) k = read (revision_read t) refl k
+      where
+        read : (o : Option Revision) → revision_read t ≡ o → option_map (λ x. Some x) o ≡ Some (Some r) → IsTrue (is_revision r)
+        read None is l = absurd cc
+        read (Some x) is l = let same : x ≡ r = inside x r (inside (Some x) (Some r) l) in subst (λ (y : Revision). IsTrue (is_revision y)) same (read_gives t x is).0
+
+rev_of : (fits : Bool) (rev : Option (Option Revision)) (mark : Option Bool) (words : Option Revision × Bool)
+    → cond fits (option_and_then (λ r. option_map (λ deleted. (r, deleted)) mark) rev) None ≡ Some words → rev ≡ Some words.0
+rev_of false rev mark words e = absurd cc
+rev_of true None mark words e = absurd cc
+rev_of true (Some r) None words e = absurd cc
+rev_of true (Some r) (Some d) words e = let pair : Option Revision × Bool = (r, d) in let k : pair ≡ words = inside pair words e in ap (λ (x : Option Revision × Bool). Some x.0) k
+
+sent_rev_good : (id : List ℕ) (document : Value) (said : Option Revision) (deleted : Bool) (body : Value) (r : Revision) → sent_in id document ≡ Some (sent_with (said, deleted) body) → said ≡ Some r
+    → IsTrue (is_revision r)
+sent_rev_good id document said deleted body r e is =
+    let s = said_of sent_with (words_in id document) (body_for id document) (sent_with (said, deleted) body) e in
+    let rev = rev_of (fits_id id (member_of document (codes "_id"))) (revision_in (member_of document (codes "_rev"))) (mark_in (member_of document (codes "_deleted"))) s.words_said s.words_are in
+    read_good (member_of document (codes "_rev")) r (rev ∙ ap (λ (o : Option Revision). Some o) (sym (along sent_with (λ x. x.rev) (sent_with (said, deleted) body) (sent_with s.words_said s.body_said) s.is) ∙ is))
+
+made_good : (n : ℕ) (o : Option (List ℕ)) (r : Revision) → option_and_then (λ hash. revision_of n hash) o ≡ Some r → IsTrue (is_revision r)
+made_good n None r e = absurd cc
+made_good n (Some hash) r e = by (is_revision made) refl e
+  where
+    made : Revision
+    made = record { number = n; hash = hash }
+
+    by : (b : Bool) → is_revision made ≡ b → cond b (Some made) None ≡ Some r → IsTrue (is_revision r)
+    by true is k = subst (λ (x : Revision). IsTrue (is_revision x)) (inside made r k) is
+    by false is k = absurd cc
+
+path_good : (vs : Items) (path : List Revision) → path_of vs ≡ Some path → (s : Revision) → StandsIn path s → IsTrue (is_revision s)
+path_good no_items path e s i = absurd (subst (λ (p : List Revision). StandsIn p s) (sym (inside [] path e)) i)
+path_good (item v vs) path e s i = by (option_and_then (λ hash. revision_of (suc (count vs)) hash) (text_in v)) refl (path_of vs) (λ p is. path_good vs p is) refl e
+  where
+    by : (o : Option Revision) → option_and_then (λ hash. revision_of (suc (count vs)) hash) (text_in v) ≡ o → (rest : Option (List Revision))
+        → ((p : List Revision) → path_of vs ≡ Some p → (r : Revision) → StandsIn p r → IsTrue (is_revision r)) → path_of vs ≡ rest → onto o rest ≡ Some path → IsTrue (is_revision s)
+    by None is rest below rest_is k = absurd cc
+    by (Some q) is None below rest_is k = absurd cc
+    by (Some q) is (Some p) below rest_is k =
+        ⊎_elim
+        (λ same. subst (λ (x : Revision). IsTrue (is_revision x)) same (made_good (suc (count vs)) (text_in v) q is))
+        (λ j. below p rest_is s j)
+        (subst (λ (x : List Revision). StandsIn x s) (sym (inside (q ∷ p) path k)) i)
+
+items_good : (o : Option Items) (path : List Revision) → option_and_then (λ vs. path_of vs) o ≡ Some path → (s : Revision) → StandsIn path s → IsTrue (is_revision s)
+items_good None path e s i = absurd cc
+items_good (Some vs) path e s i = path_good vs path e s i
+
+given_good : (m : Value) (said : Ancestry) → revisions_in m ≡ Some said → (s : Revision) → StandsIn said.path s → IsTrue (is_revision s)
+given_good m said e s i =
+    items_good (option_and_then (λ x. items_in x) (member_of m (codes "ids"))) said.path (given_path (has_only (codes "start" ∷ codes "ids" ∷ []) m) m said e) s i
+
+alone_good : (rev : Option Revision) (ancestry : Ancestry) → ((r : Revision) → rev ≡ Some r → IsTrue (is_revision r)) → option_map ancestry_alone rev ≡ Some ancestry
+    → (s : Revision) → StandsIn ancestry.path s → IsTrue (is_revision s)
+alone_good None ancestry good e s i = absurd cc
+alone_good (Some r) ancestry good e s i =
+    ⊎_elim (λ same. subst (λ (x : Revision). IsTrue (is_revision x)) same (good r refl)) (λ j. absurd j)
+    (subst (λ (x : Ancestry). StandsIn x.path s) (sym (inside (ancestry_alone r) ancestry e)) i)
+
+ancestry_good : (m : Option Value) (rev : Option Revision) (ancestry : Ancestry) → ((r : Revision) → rev ≡ Some r → IsTrue (is_revision r))
+    → ancestry_by (option_map revisions_in m) rev ≡ Some ancestry → (s : Revision) → StandsIn ancestry.path s → IsTrue (is_revision s)
+ancestry_good None rev ancestry good e s i = alone_good rev ancestry good e s i
+ancestry_good (Some m) rev ancestry good e s i = given_good m ancestry (newest_given rev (revisions_in m) ancestry e) s i
+
+pub replicated_clean : (terms : Terms) (db : Database) (id : List ℕ) (document : Value) (w : DocumentWrite) → IsReplicated terms id (history_at db id) document (Some w) → IsClean db w
+replicated_clean terms db id document w k =
+    let path : (s : Revision) → StandsIn k.ancestry.path s → IsKnownAt db id s ⊎ IsTrue (is_revision s) =
+    λ s i. inr (ancestry_good (member_of document (codes "_revisions")) k.sent.rev k.ancestry (λ r is. sent_rev_good id document k.sent.rev k.sent.deleted k.sent.body r k.says is) k.leads s i) in
+    subst (IsClean db) (sym k.taken.1) (record { body = sent_plain id document k.sent.rev k.sent.deleted k.sent.body k.says; path = path })

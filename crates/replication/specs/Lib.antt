@@ -1,0 +1,17 @@
+pub mod Runs
+pub mod Parted
+pub mod Requests
+pub mod Finished
+pub mod Courses
+pub mod Reported
+pub mod Agreement
+pub mod Sound
+pub mod Appended
+pub mod Crossing
+pub mod Converged
+pub mod Written
+pub mod Replicable
+pub mod Networks
+pub mod Ways
+pub mod Groups
+pub mod CaughtUp
